@@ -1,2 +1,29 @@
-//! To come.
+//! The model of the issuer: its types, and the definitions of its book that every contract cites.
+//!
+//! A *record* is an accepted input with its stamp. A *row* of the *book* is an entry with the number of its record.
+//! What a record does to the book, and what is told, are definitions in `specs/`.
 #![tactic(auto)]
+
+mod account;
+mod call;
+mod currency;
+mod decision;
+mod entry;
+mod input;
+mod mccs;
+mod setting;
+mod token;
+mod txn;
+
+pub use account::{Account, Part};
+pub use call::{CallId, CallState, Failure, How, Method, Notice, Opened};
+pub use currency::Currency;
+pub use decision::{Answer, Judged, Reason, Reply, Verdict};
+pub use entry::{Entry, Row};
+pub use input::{Input, Outcome, Record};
+pub use mccs::Mccs;
+pub use setting::{
+    Association, CardState, Control, Funding, Moved, Product, Scope, Set, UserState, Window,
+};
+pub use token::Token;
+pub use txn::{Txn, UsageRow};

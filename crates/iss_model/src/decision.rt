@@ -1,0 +1,81 @@
+//! Decisions on events, and the answers to inputs that make no record.
+use crate::{CallId, CardState, How, Record, Token, UserState};
+
+/// Why an event was declined.
+#[derive(Clone, Copy)]
+pub enum Reason {
+    Exists,
+    Limit,
+    UserUnknown,
+    ProductUnknown,
+    CardUnknown,
+    GroupUnknown,
+    ControlFixed,
+    SetFixed,
+    MoveCard(CardState, CardState),
+    MoveUser(UserState, UserState),
+    CardState,
+    UserState,
+    Currency,
+    TxnUnknown,
+    TxnClosed,
+    TxnPending,
+    /// The control that the purchase would breach.
+    Control(Token),
+    InsufficientFunds,
+    GatewayDeclined,
+    GatewayConnection,
+    GatewayTimeout,
+    GatewayApplication,
+    GatewaySwitch,
+    /// The Commando Mode set that didn't allow so much.
+    StandInLimit(Token),
+    Reversed,
+    Cleared,
+    Expired,
+    RefundOver,
+}
+
+#[derive(Clone, Copy)]
+pub enum Verdict {
+    Done,
+    Approved,
+    Declined(Reason),
+}
+
+/// What is told of an event.
+#[derive(Clone, Copy)]
+pub enum Reply {
+    Decided(Verdict),
+    /// Its gateway call is open.
+    Pending,
+}
+
+/// What an input is told that makes no record of its own.
+#[derive(Clone, Copy)]
+pub enum Answer {
+    /// The event stands with the same contents.
+    Repeat(Token, Reply),
+    /// The event stands with other contents, by that record.
+    Conflict(Token, u32),
+    /// The call was closed before.
+    Late(CallId, How),
+    UnknownCall(CallId),
+    /// The notice was acknowledged before.
+    Already(u32),
+    UnknownNotice(u32),
+    /// A time at which nothing is due.
+    Idle,
+    /// The record doesn't fit the device, in bytes.
+    Full { free: u64, need: u64 },
+}
+
+/// What judging an input gives.
+#[derive(Drop)]
+pub enum Judged {
+    /// The input's own record.
+    New(Record),
+    /// The time record that goes before the answer of an input that isn't new.
+    Clock(Record),
+    Told(Answer),
+}

@@ -1,0 +1,309 @@
+//! What comes in: an input, and the record of one that was accepted.
+ghost use Rattle.std.specs.Prelude.{◌≡◌, IfOk};
+
+use crate::{Association, CallId, Currency, Funding, Mccs, Moved, Scope, Token, Window};
+use std::alloc::AllocError;
+
+/// An accepted input with its stamp, in milliseconds since 1970.
+#[derive(Drop)]
+pub struct Record {
+    pub at: u64,
+    pub input: Input,
+}
+
+/// How the gateway answered a call.
+#[derive(Clone, Copy, Debug, PartialEq, Eq)]
+pub enum Outcome {
+    Funded,
+    Refused,
+    /// It couldn't be reached, or its channel ended early.
+    Connection,
+    /// It answered something that is no answer.
+    Application,
+}
+
+/// A card network event, a setting, a gateway's answer, an acknowledgement or a time.
+/// `token` names the event. Amounts are in the currency's minor units.
+#[derive(Drop)]
+pub enum Input {
+    User {
+        token: Token,
+        user: Token,
+    },
+    Card {
+        token: Token,
+        card: Token,
+        user: Token,
+        product: Token,
+        active: bool,
+    },
+    Move {
+        token: Token,
+        who: Moved,
+    },
+    Product {
+        token: Token,
+        product: Token,
+        currency: Currency,
+        funding: Funding,
+        timeout_ms: u64,
+        hold_ms: u64,
+    },
+    Group {
+        token: Token,
+        group: Token,
+        mccs: Mccs,
+    },
+    Control {
+        token: Token,
+        control: Token,
+        currency: Currency,
+        window: Window,
+        amount_limit: Option<u64>,
+        usage_limit: Option<u32>,
+        association: Association,
+        scope: Scope,
+        active: bool,
+    },
+    Set {
+        token: Token,
+        set: Token,
+        product: Token,
+        currency: Currency,
+        connection: bool,
+        timeout: bool,
+        application: bool,
+        max: u64,
+        day_limit: u64,
+        active: bool,
+    },
+    Switch {
+        token: Token,
+        product: Token,
+        on: bool,
+    },
+    Load {
+        token: Token,
+        user: Token,
+        currency: Currency,
+        amount: u64,
+    },
+    Authorization {
+        token: Token,
+        card: Token,
+        currency: Currency,
+        amount: u64,
+        mcc: u16,
+        mid: Token,
+    },
+    Increment {
+        token: Token,
+        txn: Token,
+        currency: Currency,
+        amount: u64,
+    },
+    Reversal {
+        token: Token,
+        txn: Token,
+        currency: Currency,
+        amount: u64,
+    },
+    Clearing {
+        token: Token,
+        txn: Token,
+        currency: Currency,
+        amount: u64,
+        last: bool,
+    },
+    Refund {
+        token: Token,
+        txn: Token,
+        currency: Currency,
+        amount: u64,
+    },
+    Answer {
+        call: CallId,
+        outcome: Outcome,
+    },
+    Ack {
+        notice: u32,
+    },
+    Time,
+}
+
+impl Clone for Input {
+    fn clone(&self) -> Result<Input, AllocError>
+        ensures { IfOk result (λ copy. copy ≡ self.now) }
+    {
+        Ok(match self {
+            Input::User { token, user } => Input::User {
+                token: *token,
+                user: *user,
+            },
+            Input::Card {
+                token,
+                card,
+                user,
+                product,
+                active,
+            } => Input::Card {
+                token: *token,
+                card: *card,
+                user: *user,
+                product: *product,
+                active: *active,
+            },
+            Input::Move { token, who } => Input::Move {
+                token: *token,
+                who: *who,
+            },
+            Input::Product {
+                token,
+                product,
+                currency,
+                funding,
+                timeout_ms,
+                hold_ms,
+            } => Input::Product {
+                token: *token,
+                product: *product,
+                currency: *currency,
+                funding: *funding,
+                timeout_ms: *timeout_ms,
+                hold_ms: *hold_ms,
+            },
+            Input::Group { token, group, mccs } => Input::Group {
+                token: *token,
+                group: *group,
+                mccs: mccs.clone()?,
+            },
+            Input::Control {
+                token,
+                control,
+                currency,
+                window,
+                amount_limit,
+                usage_limit,
+                association,
+                scope,
+                active,
+            } => Input::Control {
+                token: *token,
+                control: *control,
+                currency: *currency,
+                window: *window,
+                amount_limit: *amount_limit,
+                usage_limit: *usage_limit,
+                association: *association,
+                scope: *scope,
+                active: *active,
+            },
+            Input::Set {
+                token,
+                set,
+                product,
+                currency,
+                connection,
+                timeout,
+                application,
+                max,
+                day_limit,
+                active,
+            } => Input::Set {
+                token: *token,
+                set: *set,
+                product: *product,
+                currency: *currency,
+                connection: *connection,
+                timeout: *timeout,
+                application: *application,
+                max: *max,
+                day_limit: *day_limit,
+                active: *active,
+            },
+            Input::Switch { token, product, on } => Input::Switch {
+                token: *token,
+                product: *product,
+                on: *on,
+            },
+            Input::Load {
+                token,
+                user,
+                currency,
+                amount,
+            } => Input::Load {
+                token: *token,
+                user: *user,
+                currency: *currency,
+                amount: *amount,
+            },
+            Input::Authorization {
+                token,
+                card,
+                currency,
+                amount,
+                mcc,
+                mid,
+            } => Input::Authorization {
+                token: *token,
+                card: *card,
+                currency: *currency,
+                amount: *amount,
+                mcc: *mcc,
+                mid: *mid,
+            },
+            Input::Increment {
+                token,
+                txn,
+                currency,
+                amount,
+            } => Input::Increment {
+                token: *token,
+                txn: *txn,
+                currency: *currency,
+                amount: *amount,
+            },
+            Input::Reversal {
+                token,
+                txn,
+                currency,
+                amount,
+            } => Input::Reversal {
+                token: *token,
+                txn: *txn,
+                currency: *currency,
+                amount: *amount,
+            },
+            Input::Clearing {
+                token,
+                txn,
+                currency,
+                amount,
+                last,
+            } => Input::Clearing {
+                token: *token,
+                txn: *txn,
+                currency: *currency,
+                amount: *amount,
+                last: *last,
+            },
+            Input::Refund {
+                token,
+                txn,
+                currency,
+                amount,
+            } => Input::Refund {
+                token: *token,
+                txn: *txn,
+                currency: *currency,
+                amount: *amount,
+            },
+            Input::Answer { call, outcome } => Input::Answer {
+                call: *call,
+                outcome: *outcome,
+            },
+            Input::Ack { notice } => Input::Ack { notice: *notice },
+            Input::Time => Input::Time,
+        })
+    }
+}

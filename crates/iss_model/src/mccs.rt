@@ -1,0 +1,43 @@
+//! The codes of a merchant group.
+ghost use Rattle.std.specs.Prelude.{◌≡◌, IfOk};
+
+use std::alloc::AllocError;
+use std::marker::Model;
+
+/// Merchant category codes, rising and none twice. Contracts see their list.
+#[derive(Drop)]
+pub struct Mccs {
+    codes: Vec<u16>,
+}
+
+impl Model for Mccs {
+    ghost use Rattle.std.specs.Prelude.{List, ℕ};
+
+    ghost Value = { List ℕ };
+
+    ghost view = { λ m. m.codes.items };
+}
+
+impl Mccs {
+    /// The codes of a list that rises.
+    pub fn from_rising(codes: Vec<u16>) -> Mccs
+        ensures { result ≡ codes.items }
+    {
+        Mccs { codes }
+    }
+
+    pub fn as_slice(&self) -> &[u16]
+        ensures { result.now ≡ self.now }
+    {
+        &self.codes
+    }
+}
+
+impl Clone for Mccs {
+    fn clone(&self) -> Result<Mccs, AllocError>
+        ensures { IfOk result (λ copy. copy ≡ self.now) }
+    {
+        let codes = self.codes.clone()?;
+        Ok(Mccs { codes })
+    }
+}
