@@ -1,22 +1,27 @@
 -- All that the rules ask of what stands.
-use Rattle.std.specs.Prelude.{ℕ, ℤ, ◌-ℤ◌, List, find, Option, Some, None}
+use Rattle.std.specs.Prelude.{ℕ, ◌+◌, ℤ, pos, negsuc, ◌-ℤ◌, Bool, ◌&&◌, nat_le, List, find, filter, length, Option, Some, None}
 use Rattle.std.specs.Str.{bytes_eq}
 use Rattle.iss_model.specs.declared.currency.Currency.{Currency}
 use Rattle.iss_model.specs.declared.account.Account.{Account}
 use Rattle.iss_model.specs.declared.account.Account.TheVariants as account
+use Rattle.iss_model.specs.declared.account.Part.{Part}
 use Rattle.iss_model.specs.declared.setting.User.{User}
 use Rattle.iss_model.specs.declared.setting.Card.{Card}
 use Rattle.iss_model.specs.declared.setting.Product.{Product}
+use Rattle.iss_model.specs.declared.setting.Set.{Set}
+use Rattle.iss_model.specs.declared.call.Notice.{Notice}
 use Rattle.iss_model.specs.declared.decision.Verdict.{Verdict}
 use Rattle.iss_model.specs.declared.decision.Reply.{Reply}
 use Rattle.iss_model.specs.declared.decision.Reply.TheVariants.{Decided, Pending}
 use Rattle.iss_model.specs.declared.input.Input.{Input}
 use Rattle.iss_model.specs.declared.entry.Entry.{Entry}
 use Rattle.iss_model.specs.declared.entry.Entry.TheVariants as entry
-use Rattle.iss_model.specs.Sums.{account_key, user_key}
+use Rattle.iss_model.specs.Sums.{account_key, user_key, part_key, stood_key}
 use Rattle.iss_model.specs.Inputs.{is_event}
+use Rattle.iss_model.specs.Limits.{Group, ControlNow}
+use Rattle.iss_model.specs.Happenings.{TxnNow, CallNow, txn_named, call_numbered, is_asked}
 
--- an accepted input with the number of its record
+-- an accepted event with the number of its record
 pub record Accepted : Type 0 where
   pub number : ℕ
   pub input : Input
@@ -26,7 +31,7 @@ pub record Decision : Type 0 where
   pub event : List ℕ
   pub verdict : Verdict
 
--- What stands: the time, the number of records, what was accepted and decided, what was set, and the sums by key.
+-- What stands: the time, the number of records, what was accepted and decided, what was set, what happened, and the sums by key.
 pub record Facts : Type 0 where
   pub now : ℕ
   pub count : ℕ
@@ -35,8 +40,21 @@ pub record Facts : Type 0 where
   pub users : List User
   pub cards : List Card
   pub products : List Product
+  pub switched : List (List ℕ)
+  pub groups : List Group
+  pub controls : List ControlNow
+  pub sets : List Set
+  pub txns : List TxnNow
+  pub calls : List CallNow
+  pub notices_made : ℕ
+  pub pending : List Notice
   pub balances : List ℕ → ℤ
   pub holds : List ℕ → ℤ
+  pub parts : List ℕ → ℤ
+  pub cleared : List ℕ → ℤ
+  pub refunded : List ℕ → ℤ
+  pub paid : List ℕ → ℤ
+  pub stood : List ℕ → ℤ
 
 abbrev pub decision_of : Entry → Option Decision
 decision_of (entry.Decided event verdict) = Some (record { event = event; verdict = verdict })
@@ -64,3 +82,38 @@ held_in f user currency = f.holds (user_key user currency)
 -- what a user can still spend in a currency
 abbrev pub available_in : Facts → List ℕ → Currency → ℤ
 available_in f user currency = balance_in f (account.User user currency) -ℤ held_in f user currency
+
+-- a sum as an amount: none where it is negative
+abbrev pub not_below : ℤ → ℕ
+not_below (pos n) = n
+not_below (negsuc n) = 0
+
+-- a part of what a transaction holds
+abbrev pub part_in : Facts → List ℕ → Part → ℕ
+part_in f txn part = not_below (f.parts (part_key txn part))
+
+-- what stood in for a product and user on the day of a stamp
+abbrev pub stood_in : Facts → List ℕ → List ℕ → ℕ → ℤ
+stood_in f product user at = f.stood (stood_key product user at)
+
+abbrev pub txn_in : Facts → List ℕ → Option TxnNow
+txn_in f token = txn_named token f.txns
+
+abbrev pub call_in : Facts → ℕ → Option CallNow
+call_in f number = call_numbered number f.calls
+
+-- the asked calls of a transaction, by number
+abbrev pub asked_of : Facts → List ℕ → List CallNow
+asked_of f txn = filter (λ c. is_asked c && bytes_eq c.opened.txn txn) f.calls
+
+-- notices are numbered from 1, in the order in which they are made
+abbrev pub next_notice : Facts → ℕ
+next_notice f = f.notices_made + 1
+
+-- calls are numbered from 1, in the order in which they are opened
+abbrev pub next_call : Facts → ℕ
+next_call f = length f.calls + 1
+
+-- there is a notice of this number
+abbrev pub is_notice : Facts → ℕ → Bool
+is_notice f number = nat_le 1 number && nat_le number f.notices_made

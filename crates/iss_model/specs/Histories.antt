@@ -1,12 +1,15 @@
 -- The book of a history: what the records in a row make, and every fact a sum or a filter over all of it.
-use Rattle.std.specs.Prelude.{◌≡◌, ℕ, ◌+◌, ◌≤◌, max, List, [], ◌∷◌, ◌++◌, length, map, fold}
+use Rattle.std.specs.Prelude.{◌≡◌, ℕ, ◌+◌, ◌≤◌, max, List, [], ◌∷◌, ◌++◌, length, map, filter, fold, is_some}
 use Rattle.std.specs.List.{filter_map}
 use Rattle.iss_model.specs.declared.input.Record.{Record}
 use Rattle.iss_model.specs.declared.entry.Entry.{Entry}
 use Rattle.iss_model.specs.declared.entry.Row.{Row}
 use Rattle.iss_model.specs.declared.decision.Judged.TheVariants as judged
-use Rattle.iss_model.specs.Sums.{sum_at, balance_changes, held_changes}
-use Rattle.iss_model.specs.Settings.{users_of, cards_of, products_of}
+use Rattle.iss_model.specs.Sums.{sum_at, balance_changes, held_changes, part_changes, txn_changes, cleared_by, refunded_by, paid_by, stood_changes}
+use Rattle.iss_model.specs.Inputs.{event_token}
+use Rattle.iss_model.specs.Settings.{users_of, cards_of, products_of, switched_of}
+use Rattle.iss_model.specs.Limits.{groups_of, controls_of, sets_of}
+use Rattle.iss_model.specs.Happenings.{txns_of, calls_of, notices_of, pending_of}
 use Rattle.iss_model.specs.Facts.{Facts, Accepted, decision_of}
 use Rattle.iss_model.specs.Keeper.{Keeper}
 use Rattle.iss_model.specs.Stepping.{step}
@@ -29,18 +32,35 @@ abbrev pub accepted_from : ℕ → List Record → List Accepted
 accepted_from n [] = []
 accepted_from n (r ∷ rs) = record { number = n; input = r.input } ∷ accepted_from (n + 1) rs
 
+-- the accepted events with the numbers of their records
+abbrev pub events_of : List Record → List Accepted
+events_of rs = filter (λ a. is_some (event_token a.input)) (accepted_from 1 rs)
+
 abbrev pub history_facts : History → Facts
 history_facts h =
     record {
       now = time_of h.records;
       count = length h.records;
-      accepted = accepted_from 1 h.records;
+      accepted = events_of h.records;
       decisions = filter_map (λ row. decision_of row.entry) h.rows;
       users = users_of h.rows;
       cards = cards_of h.rows;
       products = products_of h.rows;
+      switched = switched_of h.rows;
+      groups = groups_of h.rows;
+      controls = controls_of h.rows;
+      sets = sets_of h.rows;
+      txns = txns_of h.rows;
+      calls = calls_of h.rows;
+      notices_made = length (notices_of h.rows);
+      pending = pending_of h.rows;
       balances = λ key. sum_at balance_changes key h.rows;
       holds = λ key. sum_at held_changes key h.rows;
+      parts = λ key. sum_at part_changes key h.rows;
+      cleared = λ key. sum_at (txn_changes cleared_by) key h.rows;
+      refunded = λ key. sum_at (txn_changes refunded_by) key h.rows;
+      paid = λ key. sum_at (txn_changes paid_by) key h.rows;
+      stood = λ key. sum_at stood_changes key h.rows;
     }
 
 -- entries as rows of the record of this number

@@ -1,6 +1,24 @@
 -- What an input is about, whatever the book.
-use Rattle.std.specs.Prelude.{ℕ, Bool, false, List, [], ◌∷◌, ◌++◌, length, Option, Some, None, if◌then◌else◌}
+use Rattle.std.specs.Prelude.{ℕ, ◌+◌, Bool, true, false, List, [], ◌∷◌, ◌++◌, length, map, Option, Some, None, if◌then◌else◌}
+use Rattle.std.specs.List.{flat_map}
 use Rattle.std.specs.Str.{bytes_eq}
+use Rattle.iss_model.specs.declared.currency.Currency.{Currency}
+use Rattle.iss_model.specs.declared.setting.Funding.{Funding}
+use Rattle.iss_model.specs.declared.setting.Funding.TheVariants as funding
+use Rattle.iss_model.specs.declared.setting.Window.{Window}
+use Rattle.iss_model.specs.declared.setting.Window.TheVariants as window
+use Rattle.iss_model.specs.declared.setting.CardState.{CardState}
+use Rattle.iss_model.specs.declared.setting.CardState.TheVariants as card_state
+use Rattle.iss_model.specs.declared.setting.UserState.{UserState}
+use Rattle.iss_model.specs.declared.setting.UserState.TheVariants as user_state
+use Rattle.iss_model.specs.declared.setting.Moved.{Moved}
+use Rattle.iss_model.specs.declared.setting.Moved.TheVariants as moved
+use Rattle.iss_model.specs.declared.setting.Association.{Association}
+use Rattle.iss_model.specs.declared.setting.Association.TheVariants as association
+use Rattle.iss_model.specs.declared.setting.Scope.{Scope}
+use Rattle.iss_model.specs.declared.setting.Scope.TheVariants as scope
+use Rattle.iss_model.specs.declared.input.Outcome.{Outcome}
+use Rattle.iss_model.specs.declared.input.Outcome.TheVariants as outcome
 use Rattle.iss_model.specs.declared.input.Input.{Input}
 use Rattle.iss_model.specs.declared.input.Input.TheVariants as input
 use Rattle.iss_model.specs.Currencies.{iso_number}
@@ -32,26 +50,80 @@ spelled text = length text ∷ text
 abbrev pub flag : Bool → List ℕ
 flag b = if b then 1 ∷ [] else 0 ∷ []
 
+-- a number that may be left out
+abbrev pub optional : Option ℕ → List ℕ
+optional None = 0 ∷ []
+optional (Some n) = 1 ∷ n ∷ []
+
+abbrev pub funding_number : Funding → ℕ
+funding_number funding.Account = 1
+funding_number funding.Gateway = 2
+
+abbrev pub window_number : Window → ℕ
+window_number window.Transaction = 1
+window_number window.Day = 2
+window_number window.Week = 3
+window_number window.Month = 4
+window_number window.Lifetime = 5
+
+abbrev pub card_state_number : CardState → ℕ
+card_state_number card_state.Unactivated = 1
+card_state_number card_state.Active = 2
+card_state_number card_state.Suspended = 3
+card_state_number card_state.Terminated = 4
+
+abbrev pub user_state_number : UserState → ℕ
+user_state_number user_state.Active = 2
+user_state_number user_state.Suspended = 3
+user_state_number user_state.Closed = 5
+
+abbrev pub outcome_number : Outcome → ℕ
+outcome_number outcome.Funded = 1
+outcome_number outcome.Refused = 2
+outcome_number outcome.Connection = 3
+outcome_number outcome.Application = 4
+
+-- who is moved, and to which state
+abbrev pub moved_contents : Moved → List ℕ
+moved_contents (moved.Card card to) = 1 ∷ spelled card ++ card_state_number to ∷ []
+moved_contents (moved.User user to) = 2 ∷ spelled user ++ user_state_number to ∷ []
+
+abbrev pub association_contents : Association → List ℕ
+association_contents association.Anybody = 0 ∷ []
+association_contents (association.User user) = 1 ∷ spelled user
+association_contents (association.Product product) = 2 ∷ spelled product
+
+abbrev pub scope_contents : Scope → List ℕ
+scope_contents scope.All = 0 ∷ []
+scope_contents (scope.Mcc mcc) = 1 ∷ mcc ∷ []
+scope_contents (scope.Group group) = 2 ∷ spelled group
+scope_contents (scope.Mid mid) = 3 ∷ spelled mid
+
 -- All that an input says, as one list: its kind, then its fields. Two inputs say the same exactly where these lists are equal.
--- The four kinds that are built have theirs.
 abbrev pub contents : Input → List ℕ
 contents (input.User token user) = 1 ∷ spelled token ++ spelled user
 contents (input.Card token card user product active) = 2 ∷ spelled token ++ spelled card ++ spelled user ++ spelled product ++ flag active
+contents (input.Move token who) = 3 ∷ spelled token ++ moved_contents who
+contents (input.Product token product currency funding timeout_ms hold_ms) =
+    4 ∷ spelled token ++ spelled product ++ iso_number currency ∷ funding_number funding ∷ timeout_ms ∷ hold_ms ∷ []
+contents (input.Group token group mccs) = 5 ∷ spelled token ++ spelled group ++ spelled mccs
+contents (input.Control token control currency window amount_limit usage_limit association scope active) =
+    6 ∷ spelled token ++ spelled control ++ iso_number currency ∷ window_number window ∷ optional amount_limit ++ optional usage_limit
+    ++ association_contents association ++ scope_contents scope ++ flag active
+contents (input.Set token set product currency connection timeout application max day_limit active) =
+    7 ∷ spelled token ++ spelled set ++ spelled product ++ iso_number currency ∷ flag connection ++ flag timeout ++ flag application
+    ++ max ∷ day_limit ∷ flag active
+contents (input.Switch token product on) = 8 ∷ spelled token ++ spelled product ++ flag on
 contents (input.Load token user currency amount) = 9 ∷ spelled token ++ spelled user ++ iso_number currency ∷ amount ∷ []
 contents (input.Authorization token card currency amount mcc mid) =
     10 ∷ spelled token ++ spelled card ++ iso_number currency ∷ amount ∷ mcc ∷ [] ++ spelled mid
-contents (input.Move token who) = 3 ∷ []
-contents (input.Product token product currency funding timeout_ms hold_ms) = 4 ∷ []
-contents (input.Group token group mccs) = 5 ∷ []
-contents (input.Control token control currency window amount_limit usage_limit association scope active) = 6 ∷ []
-contents (input.Set token set product currency connection timeout application max day_limit active) = 7 ∷ []
-contents (input.Switch token product on) = 8 ∷ []
-contents (input.Increment token txn currency amount) = 11 ∷ []
-contents (input.Reversal token txn currency amount) = 12 ∷ []
-contents (input.Clearing token txn currency amount last) = 13 ∷ []
-contents (input.Refund token txn currency amount) = 14 ∷ []
-contents (input.Answer call outcome) = 15 ∷ []
-contents (input.Ack notice) = 16 ∷ []
+contents (input.Increment token txn currency amount) = 11 ∷ spelled token ++ spelled txn ++ iso_number currency ∷ amount ∷ []
+contents (input.Reversal token txn currency amount) = 12 ∷ spelled token ++ spelled txn ++ iso_number currency ∷ amount ∷ []
+contents (input.Clearing token txn currency amount last) =
+    13 ∷ spelled token ++ spelled txn ++ iso_number currency ∷ amount ∷ flag last
+contents (input.Refund token txn currency amount) = 14 ∷ spelled token ++ spelled txn ++ iso_number currency ∷ amount ∷ []
+contents (input.Answer call outcome) = 15 ∷ call.0 ∷ outcome_number outcome ∷ []
+contents (input.Ack notice) = 16 ∷ notice ∷ []
 contents input.Time = 17 ∷ []
 
 -- equal in all their fields

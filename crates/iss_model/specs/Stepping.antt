@@ -1,12 +1,7 @@
--- What a record does: the entries that it makes.
-use Rattle.std.specs.Prelude.{ℕ, ◌+◌, pos, List, [], ◌∷◌, Option, Some, None}
+-- What a record does: the entries of what is due at its stamp, and then those of its input.
+use Rattle.std.specs.Prelude.{ℕ, List, [], ◌∷◌, fold, Option, Some, None, option_map}
 use Rattle.iss_model.specs.declared.currency.Currency.{Currency}
 use Rattle.iss_model.specs.declared.account.Account.TheVariants as account
-use Rattle.iss_model.specs.declared.account.Part.TheVariants as part
-use Rattle.iss_model.specs.declared.setting.Card.{Card}
-use Rattle.iss_model.specs.declared.setting.Product.{Product}
-use Rattle.iss_model.specs.declared.txn.Txn.{Txn}
-use Rattle.iss_model.specs.declared.txn.UsageRow.{UsageRow}
 use Rattle.iss_model.specs.declared.decision.Reason.{Reason}
 use Rattle.iss_model.specs.declared.decision.Verdict.TheVariants as verdict
 use Rattle.iss_model.specs.declared.input.Input.{Input}
@@ -14,9 +9,12 @@ use Rattle.iss_model.specs.declared.input.Input.TheVariants as input
 use Rattle.iss_model.specs.declared.input.Record.{Record}
 use Rattle.iss_model.specs.declared.entry.Entry.{Entry}
 use Rattle.iss_model.specs.declared.entry.Entry.TheVariants as entry
-use Rattle.iss_model.specs.Facts.{Facts}
-use Rattle.iss_model.specs.Settings.{card_named, product_named}
-use Rattle.iss_model.specs.Reasons.{user_reason, card_reason, load_reason, authorization_reason}
+use Rattle.iss_model.specs.Facts.{Facts, txn_in}
+use Rattle.iss_model.specs.Asks.{Ask}
+use Rattle.iss_model.specs.Reasons.{user_reason, card_reason, move_reason, product_reason, group_reason, control_reason, set_reason, switch_reason, load_reason}
+use Rattle.iss_model.specs.AskReasons.{txn_asked, first_ask, further_ask, authorization_reason, increment_reason, reversal_reason, clearing_reason, refund_reason}
+use Rattle.iss_model.specs.Cardwork.{authorized, incremented, reversed, cleared, refunded, answered}
+use Rattle.iss_model.specs.Due.{DueItem, due_items, thing_entries}
 use Rattle.iss_model.specs.Keeper.{Keeper, Growth, grow}
 
 -- an event with a reason is declined with it and makes nothing else; one without makes these entries
@@ -33,88 +31,64 @@ abbrev pub loaded : List ℕ → List ℕ → Currency → ℕ → List Entry
 loaded token user currency amount =
     entry.Post (account.Programme currency) (account.User user currency) amount None ∷ entry.Decided token verdict.Done ∷ []
 
--- the transaction that an authorisation begins: named by the event, and let go when the product's holds are
-abbrev pub txn_begun : Facts → Card → Product → List ℕ → Currency → ℕ → List ℕ → ℕ → Txn
-txn_begun f card product token currency mcc mid at =
-    record {
-      token = token;
-      card = card.name;
-      user = card.user;
-      product = card.product;
-      currency = currency;
-      funding = product.funding;
-      mcc = mcc;
-      mid = mid;
-      origin = f.count;
-      at = at;
-      expires = at + product.hold_ms;
-    }
+-- an authorisation as an ask, where its card and product are known
+abbrev pub authorization_ask : Facts → List ℕ → List ℕ → Currency → ℕ → ℕ → List ℕ → ℕ → Option Ask
+authorization_ask f token card currency amount mcc mid at =
+    option_map (first_ask token amount at) (txn_asked f token card currency mcc mid at)
 
--- what an ask of a transaction adds to what controls count
-abbrev pub usage_of : Txn → ℕ → ℕ → ℕ → UsageRow
-usage_of t amount count at =
-    record {
-      txn = t.token;
-      origin = t.origin;
-      user = t.user;
-      product = t.product;
-      currency = t.currency;
-      mcc = t.mcc;
-      mid = t.mid;
-      amount = pos amount;
-      count = pos count;
-      at = at;
-    }
+-- an increment as an ask, where its transaction is known
+abbrev pub increment_ask : Facts → List ℕ → List ℕ → ℕ → ℕ → Option Ask
+increment_ask f token txn amount at = option_map (λ now. further_ask token amount at now.txn) (txn_in f txn)
 
--- the user's own balance is held, and the event approved
-abbrev pub funded_by_account : Txn → List ℕ → ℕ → List Entry
-funded_by_account t token amount =
-    entry.Hold t.token t.user t.currency part.S (pos amount) ∷ entry.Decided token verdict.Approved ∷ []
-
--- an authorisation without a reason begins its transaction, counts as use and is funded
-abbrev pub authorized : Txn → ℕ → ℕ → List Entry
-authorized t amount at = entry.Began t ∷ entry.Usage (usage_of t amount 1 at) ∷ funded_by_account t t.token amount
-
--- the entries of an authorisation without a reason on a card of this product
-abbrev pub of_product : Option Product → Facts → Card → List ℕ → Currency → ℕ → ℕ → List ℕ → ℕ → List Entry
-of_product None f card token currency amount mcc mid at = []
-of_product (Some product) f card token currency amount mcc mid at =
-    authorized (txn_begun f card product token currency mcc mid at) amount at
-
--- the entries of an authorisation without a reason on this card
-abbrev pub authorized_on : Option Card → Facts → List ℕ → Currency → ℕ → ℕ → List ℕ → ℕ → List Entry
-authorized_on None f token currency amount mcc mid at = []
-authorized_on (Some card) f token currency amount mcc mid at =
-    of_product (product_named card.product f.products) f card token currency amount mcc mid at
-
--- the entries of an input at a moment; kinds that are not built make none
+-- the entries of an input at a moment
 abbrev pub entries_of : Input → ℕ → Facts → List Entry
 entries_of (input.User token user) at f = unless_declined (user_reason f user) token (set_by (input.User token user) token)
 entries_of (input.Card token card user product active) at f =
     unless_declined (card_reason f card user product) token (set_by (input.Card token card user product active) token)
-entries_of (input.Move token who) at f = []
-entries_of (input.Product token product currency funding timeout_ms hold_ms) at f = []
-entries_of (input.Group token group mccs) at f = []
-entries_of (input.Control token control currency window amount_limit usage_limit association scope active) at f = []
-entries_of (input.Set token set product currency connection timeout application max day_limit active) at f = []
-entries_of (input.Switch token product on) at f = []
+entries_of (input.Move token who) at f = unless_declined (move_reason f who) token (set_by (input.Move token who) token)
+entries_of (input.Product token product currency funding timeout_ms hold_ms) at f =
+    unless_declined (product_reason f product) token
+    (set_by (input.Product token product currency funding timeout_ms hold_ms) token)
+entries_of (input.Group token group mccs) at f =
+    unless_declined (group_reason f group) token (set_by (input.Group token group mccs) token)
+entries_of (input.Control token control currency window amount_limit usage_limit association scope active) at f =
+    unless_declined (control_reason f control currency window association scope) token
+    (set_by (input.Control token control currency window amount_limit usage_limit association scope active) token)
+entries_of (input.Set token set product currency connection timeout application max day_limit active) at f =
+    unless_declined (set_reason f set product currency) token
+    (set_by (input.Set token set product currency connection timeout application max day_limit active) token)
+entries_of (input.Switch token product on) at f =
+    unless_declined (switch_reason f product) token (set_by (input.Switch token product on) token)
 entries_of (input.Load token user currency amount) at f =
     unless_declined (load_reason f user) token (loaded token user currency amount)
 entries_of (input.Authorization token card currency amount mcc mid) at f =
-    unless_declined (authorization_reason f card currency amount) token
-    (authorized_on (card_named card f.cards) f token currency amount mcc mid at)
-entries_of (input.Increment token txn currency amount) at f = []
-entries_of (input.Reversal token txn currency amount) at f = []
-entries_of (input.Clearing token txn currency amount last) at f = []
-entries_of (input.Refund token txn currency amount) at f = []
-entries_of (input.Answer call outcome) at f = []
-entries_of (input.Ack notice) at f = []
+    let ask = authorization_ask f token card currency amount mcc mid at in
+    unless_declined (authorization_reason f card currency ask) token (authorized f ask)
+entries_of (input.Increment token txn currency amount) at f =
+    let ask = increment_ask f token txn amount at in
+    unless_declined (increment_reason f (txn_in f txn) currency ask) token (incremented f ask)
+entries_of (input.Reversal token txn currency amount) at f =
+    unless_declined (reversal_reason (txn_in f txn) currency) token (reversed f token amount (txn_in f txn))
+entries_of (input.Clearing token txn currency amount last) at f =
+    unless_declined (clearing_reason (txn_in f txn) currency) token (cleared f token amount last at (txn_in f txn))
+entries_of (input.Refund token txn currency amount) at f =
+    unless_declined (refund_reason f (txn_in f txn) currency amount) token (refunded f token amount (txn_in f txn))
+entries_of (input.Answer call outcome) at f = answered call outcome at f
+entries_of (input.Ack notice) at f = entry.Acked notice ∷ []
 entries_of input.Time at f = []
 
 -- a record's own entries
 abbrev pub own_entries : Record → Facts → List Entry
 own_entries r f = entries_of r.input r.at f
 
--- A record is taken up, and then makes its entries. Nothing falls due yet: each stamp is 0.
+-- a due item is settled at a moment
+abbrev pub settle : {W : Type 0} → Keeper W → ℕ → Growth W → DueItem → Growth W
+settle k at g item = grow k g (thing_entries item.thing at)
+
+-- what stands when all that is due at a moment is settled
+abbrev pub after_due : {W : Type 0} → Keeper W → W → ℕ → Growth W
+after_due k w at = fold (settle k at) (record { world = w; entries = [] }) (due_items (k.facts w) at)
+
+-- A record is taken up, settles what is due at its stamp, and then makes its own entries.
 unfoldable pub step : {W : Type 0} → Keeper W → W → Record → Growth W
-step k w r = grow k (record { world = k.take_up w r; entries = [] }) (own_entries r)
+step k w r = grow k (after_due k (k.take_up w r) r.at) (own_entries r)

@@ -1,13 +1,17 @@
 -- Every sum of the book is one over all its rows: each entry changes some things by some amount.
-use Rattle.std.specs.Prelude.{ℕ, ℤ, pos, neg_ℤ, ◌+ℤ◌, List, [], ◌∷◌, ◌++◌, fold, if◌then◌else◌}
+use Rattle.std.specs.Prelude.{ℕ, ℤ, pos, negsuc, neg_ℤ, ◌+ℤ◌, List, [], ◌∷◌, ◌++◌, fold, Option, Some, None, if◌then◌else◌}
 use Rattle.std.specs.Str.{bytes_eq}
 use Rattle.iss_model.specs.declared.currency.Currency.{Currency}
 use Rattle.iss_model.specs.declared.account.Account.{Account}
 use Rattle.iss_model.specs.declared.account.Account.TheVariants as account
+use Rattle.iss_model.specs.declared.account.Part.{Part}
+use Rattle.iss_model.specs.declared.account.Part.TheVariants as part
+use Rattle.iss_model.specs.declared.setting.Window.TheVariants as window
 use Rattle.iss_model.specs.declared.entry.Row.{Row}
 use Rattle.iss_model.specs.declared.entry.Entry.{Entry}
 use Rattle.iss_model.specs.declared.entry.Entry.TheVariants as entry
 use Rattle.iss_model.specs.Currencies.{iso_number}
+use Rattle.iss_model.specs.Calendar.{window_at}
 
 -- the key of the thing that is changed, and by how much
 pub record Change : Type 0 where
@@ -43,3 +47,53 @@ user_key user currency = user ++ 0 ∷ iso_number currency ∷ []
 abbrev pub held_changes : Entry → List Change
 held_changes (entry.Hold txn user currency part amount) = record { key = user_key user currency; by = amount } ∷ []
 held_changes _ = []
+
+abbrev pub part_number : Part → ℕ
+part_number part.G = 1
+part_number part.P = 2
+part_number part.S = 3
+
+-- a part of a transaction's hold
+abbrev pub part_key : List ℕ → Part → List ℕ
+part_key txn part = part_number part ∷ txn
+
+-- a hold changes a part of what its transaction holds
+abbrev pub part_changes : Entry → List Change
+part_changes (entry.Hold txn user currency part amount) = record { key = part_key txn part; by = amount } ∷ []
+part_changes _ = []
+
+-- a post for a transaction changes one of its sums by what the post is worth there
+abbrev pub txn_changes : (Account → Account → ℕ → ℤ) → Entry → List Change
+txn_changes worth (entry.Post from to amount (Some txn)) = record { key = txn; by = worth from to amount } ∷ []
+txn_changes worth _ = []
+
+-- what is cleared goes from a user to the network
+abbrev pub cleared_by : Account → Account → ℕ → ℤ
+cleared_by (account.User user c) (account.Network d) amount = pos amount
+cleared_by _ _ amount = pos 0
+
+-- what is refunded comes back from the network to a user
+abbrev pub refunded_by : Account → Account → ℕ → ℤ
+refunded_by (account.Network c) (account.User user d) amount = pos amount
+refunded_by _ _ amount = pos 0
+
+-- what the programme has paid to a user, less what it got back
+abbrev pub paid_by : Account → Account → ℕ → ℤ
+paid_by (account.Programme c) (account.User user d) amount = pos amount
+paid_by (account.User user c) (account.Programme d) amount = neg_ℤ (pos amount)
+paid_by _ _ amount = pos 0
+
+-- a whole number as a part of a key
+abbrev pub int_key : ℤ → List ℕ
+int_key (pos n) = 0 ∷ n ∷ []
+int_key (negsuc n) = 1 ∷ n ∷ []
+
+-- a product's user on a day of UTC
+abbrev pub stood_key : List ℕ → List ℕ → ℕ → List ℕ
+stood_key product user at = product ++ 0 ∷ user ++ 0 ∷ int_key (window_at window.Day at (pos 0))
+
+-- standing in changes what stood in for a product and user on that day
+abbrev pub stood_changes : Entry → List Change
+stood_changes (entry.Stood set product user amount at) =
+    record { key = stood_key product user at; by = pos amount } ∷ []
+stood_changes _ = []

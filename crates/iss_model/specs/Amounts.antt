@@ -1,0 +1,84 @@
+-- Amounts of money: how one is read and written, always in a currency of ISO 4217 and with exactly its decimals.
+use Rattle.std.specs.Prelude.{ℕ, zero, suc, ◌+◌, ◌-◌, ◌*◌, ◌/◌, ◌%◌, Bool, not, ◌&&◌, ◌||◌, ◌==◌, nat_le, nat_lt, ℤ, pos, int_lt, unsigned_abs, List, [], ◌∷◌, ◌++◌, length, take, drop, slice_index, fold, decimal, Option, Some, None, if◌then◌else◌}
+use Rattle.std.specs.List.{list_all}
+use Rattle.iss_model.specs.declared.currency.Currency.{Currency}
+use Rattle.iss_model.specs.Currencies.{decimals_of, unit_of}
+
+-- an ASCII digit
+abbrev pub is_digit : ℕ → Bool
+is_digit byte = nat_le 48 byte && nat_le byte 57
+
+-- the number that decimal digits spell
+abbrev pub digits_value : List ℕ → ℕ
+digits_value digits = fold (λ value digit. 10 * value + (digit - 48)) 0 digits
+
+-- digits without a zero in front, save a lone zero
+abbrev pub is_whole_text : List ℕ → Bool
+is_whole_text text = nat_lt 0 (length text) && list_all is_digit text && (length text == 1 || not (slice_index text 0 == 48))
+
+-- where the point of an amount with so many decimals stands
+abbrev pub point_place : List ℕ → ℕ → ℕ
+point_place text decimals = length text - (decimals + 1)
+
+-- whole units, and for a currency with decimals a point and exactly that many digits
+abbrev pub is_amount_text : List ℕ → ℕ → Bool
+is_amount_text text decimals =
+    if decimals == 0 then is_whole_text text
+    else is_whole_text (take (point_place text decimals) text)
+    && slice_index text (point_place text decimals) == 46
+    && list_all is_digit (drop (point_place text decimals + 1) text)
+
+-- the digits of an amount's text without its point
+abbrev pub amount_digits : List ℕ → ℕ → List ℕ
+amount_digits text decimals =
+    if decimals == 0 then text else take (point_place text decimals) text ++ drop (point_place text decimals + 1) text
+
+-- the number, where it lies between these two
+abbrev pub if_between : ℕ → ℕ → ℕ → Option ℕ
+if_between low high n = if nat_le low n && nat_le n high then Some n else None
+
+-- an amount of an event is 1 to 1000000000 minor units
+abbrev pub if_amount : ℕ → Option ℕ
+if_amount n = if_between 1 1000000000 n
+
+-- an amount of a limit is 0 to 1000000000000 minor units
+abbrev pub if_limit : ℕ → Option ℕ
+if_limit n = if_between 0 1000000000000 n
+
+-- the minor units of a text that is well formed in its currency
+abbrev pub minor_units : (ℕ → Option ℕ) → List ℕ → Currency → Option ℕ
+minor_units in_range text c =
+    if is_amount_text text (decimals_of c) then in_range (digits_value (amount_digits text (decimals_of c))) else None
+
+-- an event's amount, read from a text
+abbrev pub amount_read : List ℕ → Currency → Option ℕ
+amount_read text c = minor_units if_amount text c
+
+-- a limit, read from a text
+abbrev pub limit_read : List ℕ → Currency → Option ℕ
+limit_read text c = minor_units if_limit text c
+
+-- an event's amount, given as a number of whole units
+abbrev pub whole_amount_read : ℕ → Currency → Option ℕ
+whole_amount_read n c = if_amount (n * unit_of c)
+
+-- a limit, given as a number of whole units
+abbrev pub whole_limit_read : ℕ → Currency → Option ℕ
+whole_limit_read n c = if_limit (n * unit_of c)
+
+-- the last digits of a number, so many of them, with zeros in front where it has fewer
+abbrev pub last_digits : ℕ → ℕ → List ℕ
+last_digits zero n = []
+last_digits (suc places) n = last_digits places (n / 10) ++ (48 + n % 10) ∷ []
+
+-- a point and the decimals, where the currency has some
+abbrev pub decimals_text : ℕ → ℕ → List ℕ
+decimals_text zero n = []
+decimals_text (suc places) n = 46 ∷ last_digits (suc places) n
+
+-- an amount as text: a minus sign where it is negative, the whole units, and exactly the currency's decimals
+abbrev pub amount_text : ℤ → Currency → List ℕ
+amount_text amount c =
+    (if int_lt amount (pos 0) then 45 ∷ [] else [])
+    ++ decimal (unsigned_abs amount / unit_of c)
+    ++ decimals_text (decimals_of c) (unsigned_abs amount)
