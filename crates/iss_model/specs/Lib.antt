@@ -5,6 +5,8 @@ pub mod Amounts
 pub mod Calendar
 pub mod CallTokens
 pub mod Wordings
+pub mod GatewayTexts
+pub mod AnswerLines
 pub mod Sums
 pub mod Inputs
 pub mod Settings
@@ -22,4 +24,5 @@ pub mod Due
 pub mod Stepping
 pub mod Judging
 pub mod Histories
+pub mod Sayings
 pub mod Transcripts

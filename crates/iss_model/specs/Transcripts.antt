@@ -1,18 +1,14 @@
 -- What a run is told to write: for each line its texts, on what stood before it.
-use Rattle.std.specs.Prelude.{ℕ, List, [], ◌∷◌, ◌++◌, length, map, codes, Option, unwrap_or}
+use Rattle.std.specs.Prelude.{ℕ, List, [], ◌∷◌, ◌++◌, length, map, Option, unwrap_or}
 use Rattle.std.specs.List.{flat_map}
 use Rattle.iss_model.specs.declared.input.Input.{Input}
 use Rattle.iss_model.specs.declared.entry.Entry.{Entry}
-use Rattle.iss_model.specs.declared.entry.Entry.TheVariants as entry
-use Rattle.iss_model.specs.declared.decision.Answer.{Answer}
-use Rattle.iss_model.specs.declared.decision.Judged.{Judged}
-use Rattle.iss_model.specs.declared.decision.Judged.TheVariants as judged
 use Rattle.iss_model.specs.declared.decision.Reply.TheVariants as reply
-use Rattle.iss_model.specs.Wordings.{reply_line, fault_line}
-use Rattle.iss_model.specs.Keeper.{Growth}
-use Rattle.iss_model.specs.Stepping.{step}
-use Rattle.iss_model.specs.Judging.{judge}
-use Rattle.iss_model.specs.Histories.{History, history_keeper}
+use Rattle.iss_model.specs.Wordings.{reply_line}
+use Rattle.iss_model.specs.GatewayTexts.{request_text, notice_text}
+use Rattle.iss_model.specs.AnswerLines.{answer_text, acked_line, time_line}
+use Rattle.iss_model.specs.Histories.{History}
+use Rattle.iss_model.specs.Sayings.{Said, decided, asked, noticed, acked, timed, told, said_by, Reaction, reaction}
 
 -- a line as it was read: an input with the stamp that it gives, or the text of its fault
 pub data Reading : Type 0 where
@@ -32,27 +28,26 @@ pub record Told : Type 0 where
 abbrev pub at_level : ℕ → List (List ℕ) → List Text
 at_level level texts = map (λ bytes. record { level = level; bytes = bytes }) texts
 
--- the text that an entry goes out with, where it has one: a decision has its reply line
+-- what is said, as a line, at instance 0
+abbrev pub said_text : Said → List ℕ
+said_text (decided event verdict) = reply_line event (reply.Decided verdict)
+said_text (asked opened) = request_text 0 opened ++ 10 ∷ []
+said_text (noticed notice) = notice_text 0 notice ++ 10 ∷ []
+said_text (acked notice) = acked_line notice
+said_text timed = time_line
+said_text (told answer) = answer_text answer
+
+-- the texts that an entry goes out with
 abbrev pub entry_texts : Entry → List (List ℕ)
-entry_texts (entry.Decided token verdict) = reply_line token (reply.Decided verdict) ∷ []
-entry_texts _ = []
+entry_texts e = map said_text (said_by e)
 
--- What an input is told that makes no record. An event that stands is not told more yet than that this is not built.
-abbrev pub answer_text : Answer → List ℕ
-answer_text a = fault_line (codes "NOT_BUILT")
+-- what is said of an input as texts, at the level that counts its record
+abbrev pub told_by_reaction : Reaction → Told
+told_by_reaction r = record { history = r.history; texts = at_level (length r.history.records) (map said_text r.said) }
 
--- the texts of a record's entries, at the level that counts the record itself
-abbrev pub told_of_growth : Growth History → List Text
-told_of_growth g = at_level (length g.world.records) (flat_map entry_texts g.entries)
-
-abbrev pub told_as : History → Judged → Told
-told_as h (judged.New r) = let g = step history_keeper h r in record { history = g.world; texts = told_of_growth g }
-told_as h (judged.Clock r) = let g = step history_keeper h r in record { history = g.world; texts = told_of_growth g }
-told_as h (judged.Told a) = record { history = h; texts = at_level (length h.records) (answer_text a ∷ []) }
-
--- a line told on a history: its fault, or what judging its input gives
+-- a line told on a history: its fault, or what is said of its input
 abbrev pub after_line : History → Reading → Told
-after_line h (sound i at) = told_as h (judge history_keeper h i (unwrap_or at 0))
+after_line h (sound i at) = told_by_reaction (reaction h i (unwrap_or at 0))
 after_line h (faulty text) = record { history = h; texts = at_level (length h.records) (text ∷ []) }
 
 -- the texts of the lines, one after the other

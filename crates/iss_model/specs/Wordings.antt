@@ -42,6 +42,9 @@ line_of ms = object_text ms ++ 10 ∷ []
 abbrev pub with_text : List ℕ → List ℕ → Member
 with_text name text = record { name = name; value = worded text }
 
+abbrev pub with_number : List ℕ → ℕ → Member
+with_number name n = record { name = name; value = counted n }
+
 abbrev pub card_state_text : CardState → List ℕ
 card_state_text card.Unactivated = codes "UNACTIVATED"
 card_state_text card.Active = codes "ACTIVE"
