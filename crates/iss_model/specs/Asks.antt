@@ -8,10 +8,13 @@ use Rattle.iss_model.specs.declared.currency.Currency.{Currency}
 use Rattle.iss_model.specs.declared.setting.Card.{Card}
 use Rattle.iss_model.specs.declared.setting.Product.{Product}
 use Rattle.iss_model.specs.declared.setting.Control.{Control}
+use Rattle.iss_model.specs.declared.setting.Window.{Window}
+use Rattle.iss_model.specs.declared.setting.Window.TheVariants as window
 use Rattle.iss_model.specs.declared.txn.Txn.{Txn}
 use Rattle.iss_model.specs.declared.txn.UsageRow.{UsageRow}
+use Rattle.iss_model.specs.declared.txn.Used.{Used}
 use Rattle.iss_model.specs.Settings.{product_named, card_named}
-use Rattle.iss_model.specs.Limits.{ControlPut, ControlNow, counts, span_key}
+use Rattle.iss_model.specs.Limits.{ControlPut, ControlNow, control_offset, counts, window_key, span_key}
 use Rattle.iss_model.specs.Happenings.{TxnNow, CallNow}
 use Rattle.iss_model.specs.Facts.{Facts, txn_in}
 
@@ -106,3 +109,20 @@ declines f ask c =
 -- the name of the first control that declines an ask
 abbrev pub breach : Facts → Ask → Option (List ℕ)
 breach f ask = option_map (λ c. c.control.name) (find (declines f ask) f.controls)
+
+-- what a control has counted in a span
+abbrev pub used_at : ControlNow → List ℕ → Used
+used_at c key = record { amount = c.amounts key; count = c.times key }
+
+-- What a control has counted of a user in the window of a stamp. A control of single transactions has counted nothing where none is asked of.
+abbrev pub used_by : ControlNow → Window → List ℕ → ℕ → Used
+used_by c window.Transaction user at = record { amount = pos 0; count = pos 0 }
+used_by c window.Day user at = used_at c (window_key window.Day (control_offset c.control) user at)
+used_by c window.Week user at = used_at c (window_key window.Week (control_offset c.control) user at)
+used_by c window.Month user at = used_at c (window_key window.Month (control_offset c.control) user at)
+used_by c window.Lifetime user at = used_at c (window_key window.Lifetime (control_offset c.control) user at)
+
+-- what the control of a name has counted, where there is one
+abbrev pub used_in : Facts → List ℕ → List ℕ → ℕ → Option Used
+used_in f name user at =
+    option_map (λ c. used_by c c.control.window user at) (find (λ c. bytes_eq c.control.name name) f.controls)

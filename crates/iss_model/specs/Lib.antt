@@ -26,3 +26,9 @@ pub mod Judging
 pub mod Histories
 pub mod Sayings
 pub mod Transcripts
+pub mod Scripts
+pub mod WorkedPurchases
+pub mod WorkedControls
+pub mod WorkedCalls
+pub mod WorkedStandIns
+pub mod WorkedDay

@@ -14,6 +14,7 @@ mod mccs;
 mod setting;
 mod token;
 mod txn;
+mod worked;
 
 pub use account::{Account, Part};
 pub use call::{CallId, CallState, Failure, How, Method, Notice, Opened};
@@ -27,4 +28,5 @@ pub use setting::{
     Window,
 };
 pub use token::Token;
-pub use txn::{Txn, UsageRow};
+pub use txn::{Txn, UsageRow, Used};
+pub use worked::worked_scripts;

@@ -40,3 +40,11 @@ pub struct UsageRow {
     /// In milliseconds since 1970.
     pub at: u64,
 }
+
+/// What a control has counted of a user in a window.
+#[derive(Clone, Copy)]
+pub struct Used {
+    /// In minor units.
+    pub amount: i64,
+    pub count: i64,
+}
