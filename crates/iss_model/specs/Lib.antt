@@ -32,3 +32,4 @@ pub mod WorkedControls
 pub mod WorkedCalls
 pub mod WorkedStandIns
 pub mod WorkedDay
+pub mod WorkedTexts

@@ -19,7 +19,9 @@ use Rattle.iss_model.specs.declared.decision.Verdict.TheVariants as verdict
 use Rattle.iss_model.specs.declared.decision.Reply.{Reply}
 use Rattle.iss_model.specs.declared.decision.Reply.TheVariants as reply
 use Rattle.iss_model.specs.declared.decision.Answer.TheVariants as answer
+use Rattle.iss_model.specs.declared.txn.Used.{Used}
 use Rattle.iss_model.specs.Facts.{Facts, balance_in, held_in}
+use Rattle.iss_model.specs.Asks.{used_in}
 use Rattle.iss_model.specs.Happenings.{is_asked}
 use Rattle.iss_model.specs.Histories.{History, nothing_yet, history_facts}
 use Rattle.iss_model.specs.Sayings.{Said, decided, asked, noticed, acked, timed, told, Reaction, reaction}
@@ -92,6 +94,11 @@ Plays s =
     (said_of nothing_yet s.steps ≡ map (λ step. step.said) s.steps)
     × (map (λ sheet. sheet_of f sheet.currency) s.sheets ≡ s.sheets)
     × (tally_of f ≡ s.tally)
+
+-- what the control of a name has counted of user u1 when a script is over
+abbrev pub used_after : Script → List ℕ → Option Used
+used_after s control =
+    let f = history_facts (history_after nothing_yet s.steps) in used_in f control (codes "u1") f.now
 
 -- an account owes an amount
 abbrev pub owes : ℕ → ℤ

@@ -29,4 +29,4 @@ pub use setting::{
 };
 pub use token::Token;
 pub use txn::{Txn, UsageRow, Used};
-pub use worked::worked_scripts;
+pub use worked::{worked_amounts, worked_scripts, worked_texts, worked_use, worked_windows};

@@ -1,5 +1,13 @@
 //! Worked scripts: the checker computes each of them from the rules of the book.
-ghost use Rattle.iss_model.specs.Scripts.{Plays};
+ghost use Rattle.std.specs.Prelude.{◌≡◌, pos, neg_ℤ, Some, None, codes, option_map};
+ghost use Rattle.iss_model.specs.declared.currency.Currency.TheVariants.{Usd, Jpy, Kwd};
+ghost use Rattle.iss_model.specs.declared.setting.Window.TheVariants.{Day, Week, Month, Lifetime};
+ghost use Rattle.iss_model.specs.Currencies.{iso_number, currency_of};
+ghost use Rattle.iss_model.specs.Amounts.{amount_text, amount_read, whole_amount_read, limit_read};
+ghost use Rattle.iss_model.specs.Calendar.{window_at};
+ghost use Rattle.iss_model.specs.CallTokens.{call_uuid, uuid_text};
+ghost use Rattle.iss_model.specs.Scripts.{Plays, used_after};
+ghost use Rattle.iss_model.specs.WorkedTexts.{RequestLine, IncrementRequestLine, VoidLine, StandInNoticeLine, CaptureNoticeLine, RefundNoticeLine, DoneEventLine, ApprovedEventLine, DeclinedByAControlLine, DeclinedMoveLine, LateAnswerLine, TimedOutCallLine, AbandonedCallLine, UnknownCallLine, AcknowledgedLine, AcknowledgedBeforeLine, IdleLine, TimeLine};
 ghost use Rattle.iss_model.specs.WorkedPurchases.{purchase_of_all, purchase_of_more, repeated_purchase, changed_purchase, raised_reversed_cleared, refunded_once, before_expiry, after_expiry, cleared_after_expiry, states_of_a_card, loads_in_three_currencies, greatest_load};
 ghost use Rattle.iss_model.specs.WorkedControls.{limit_of_a_day, next_day, next_week, next_month, lifetime, group_of_merchants, purchase_before_the_control, limit_of_a_transaction};
 ghost use Rattle.iss_model.specs.WorkedCalls.{funded_by_the_gateway, refused_by_the_gateway, open_call, refused_call, answer_in_time, answer_too_late, reversed_while_pending, cleared_in_parts, refund_of_too_much, cleared_for_less, cleared_the_next_day};
@@ -43,4 +51,81 @@ pub fn worked_scripts()
     ensures stand_in { Plays stand_in }
     ensures gateway_switched_off { Plays gateway_switched_off }
     ensures a_day { Plays a_day }
+{}
+
+/// How amounts are read and written, by currency.
+#[tactic(auto, unfolding(crate::specs::WorkedTexts::digits))]
+pub fn worked_amounts()
+    ensures below_one { amount_text (neg_ℤ (pos 5)) Usd ≡ codes "-0.05" }
+    ensures three_decimals { amount_text (pos 1234) Kwd ≡ codes "1.234" }
+    ensures no_decimals { amount_text (pos 0) Jpy ≡ codes "0" }
+    ensures yen { amount_read (codes "1500") Jpy ≡ Some 1500 }
+    ensures yen_have_no_decimals { amount_read (codes "1500.00") Jpy ≡ None }
+    ensures dinars { amount_read (codes "1.234") Kwd ≡ Some 1234 }
+    ensures whole_dollars { whole_amount_read 10 Usd ≡ Some 1000 }
+    ensures whole_yen { whole_amount_read 10 Jpy ≡ Some 10 }
+    ensures whole_dinars { whole_amount_read 10 Kwd ≡ Some 10000 }
+    ensures one_decimal { amount_read (codes "10.5") Usd ≡ None }
+    ensures nothing { amount_read (codes "0.00") Usd ≡ None }
+    ensures zero_in_front { amount_read (codes "010.00") Usd ≡ None }
+    ensures too_much { amount_read (codes "10000000.01") Usd ≡ None }
+    ensures greatest { amount_read (codes "10000000.00") Usd ≡ Some 1000000000 }
+    ensures limit_of_nothing { limit_read (codes "0.00") Usd ≡ Some 0 }
+    ensures greatest_limit { limit_read (codes "10000000000.00") Usd ≡ Some 1000000000000 }
+    ensures too_great_a_limit { limit_read (codes "10000000000.01") Usd ≡ None }
+    ensures numeric_code { option_map iso_number (currency_of (codes "AUD")) ≡ Some 36 }
+{}
+
+/// The windows of stamps around the borders of days, weeks and months, in UTC and at offsets in minutes.
+pub fn worked_windows()
+    ensures first_month { window_at Month 0 (pos 0) ≡ pos 23641 }
+    ensures last_of_a_week { window_at Week 259199999 (pos 0) ≡ pos 0 }
+    ensures first_of_a_week { window_at Week 259200000 (pos 0) ≡ pos 1 }
+    ensures last_of_a_day { window_at Day 86399999 (pos 0) ≡ pos 0 }
+    ensures first_of_a_day { window_at Day 86400000 (pos 0) ≡ pos 1 }
+    ensures last_of_a_month { window_at Month 2678399999 (pos 0) ≡ pos 23641 }
+    ensures first_of_a_month { window_at Month 2678400000 (pos 0) ≡ pos 23642 }
+    ensures day_before_1970 { window_at Day 0 (neg_ℤ (pos 300)) ≡ neg_ℤ (pos 1) }
+    ensures month_before_1970 { window_at Month 0 (neg_ℤ (pos 300)) ≡ pos 23640 }
+    ensures last_of_a_day_in_india { window_at Day 66599999 (pos 330) ≡ pos 0 }
+    ensures first_of_a_day_in_india { window_at Day 66600000 (pos 330) ≡ pos 1 }
+    ensures last_of_a_week_in_new_york { window_at Week 277199999 (neg_ℤ (pos 300)) ≡ pos 0 }
+    ensures first_of_a_week_in_new_york { window_at Week 277200000 (neg_ℤ (pos 300)) ≡ pos 1 }
+    ensures last_of_a_month_in_the_west { window_at Month 2721599999 (neg_ℤ (pos 720)) ≡ pos 23641 }
+    ensures first_of_a_month_in_the_west { window_at Month 2721600000 (neg_ℤ (pos 720)) ≡ pos 23642 }
+    ensures leap_day { window_at Month 951782400000 (pos 0) ≡ pos 24002 }
+    ensures day_after_a_leap_day { window_at Month 951868800000 (pos 0) ≡ pos 24003 }
+    ensures no_leap_day_in_2100 { window_at Month 4107542400000 (pos 0) ≡ pos 25203 }
+    ensures greatest_stamp { window_at Month 253370764799999 (pos 0) ≡ pos 119988 }
+    ensures lifetime { window_at Lifetime 253370764799999 (pos 840) ≡ pos 0 }
+{}
+
+/// What goes out, as text.
+#[tactic(auto, unfolding(crate::specs::Wordings::reply_line, crate::specs::Wordings::reason_text, crate::specs::GatewayTexts::request_text, crate::specs::GatewayTexts::notice_text, crate::specs::AnswerLines::answer_text, crate::specs::AnswerLines::acked_line, crate::specs::AnswerLines::time_line, crate::specs::WorkedTexts::digits))]
+pub fn worked_texts()
+    ensures call_token { uuid_text (call_uuid 7 1) ≡ codes "00000000-0007-8000-8000-000000000001" }
+    ensures request { RequestLine }
+    ensures increment_request { IncrementRequestLine }
+    ensures void { VoidLine }
+    ensures stand_in_notice { StandInNoticeLine }
+    ensures capture_notice { CaptureNoticeLine }
+    ensures refund_notice { RefundNoticeLine }
+    ensures done_event { DoneEventLine }
+    ensures approved_event { ApprovedEventLine }
+    ensures declined_by_a_control { DeclinedByAControlLine }
+    ensures declined_move { DeclinedMoveLine }
+    ensures late_answer { LateAnswerLine }
+    ensures timed_out_call { TimedOutCallLine }
+    ensures abandoned_call { AbandonedCallLine }
+    ensures unknown_call { UnknownCallLine }
+    ensures acknowledged { AcknowledgedLine }
+    ensures acknowledged_before { AcknowledgedBeforeLine }
+    ensures idle { IdleLine }
+    ensures time { TimeLine }
+{}
+
+/// What a control has counted after a day of purchases.
+#[tactic(auto, unfolding(crate::specs::Stepping::step, crate::specs::Judging::judge))]
+pub fn worked_use()
+    ensures use_of_a_day { option_map (λ used. used.amount) (used_after a_day (codes "v1")) ≡ Some (pos 14170) }
 {}
