@@ -1,7 +1,6 @@
 -- Why a card event is declined: the first of its reasons that holds.
-use Rattle.std.specs.Prelude.{ℕ, ℤ, pos, ◌+ℤ◌, Bool, true, false, not, ◌&&◌, List, [], ◌∷◌, find, Option, Some, None, is_some, is_none, unwrap_or, option_and_then, option_map, int_lt, if◌then◌else◌}
+use Rattle.std.specs.Prelude.{ℕ, pos, ◌+ℤ◌, Bool, true, false, not, ◌&&◌, List, [], ◌∷◌, Option, is_some, is_none, unwrap_or, option_and_then, option_map, int_lt}
 use Rattle.std.specs.List.{list_any}
-use Rattle.std.specs.Str.{bytes_eq}
 use Rattle.iss_model.specs.declared.currency.Currency.{Currency}
 use Rattle.iss_model.specs.declared.setting.Funding.{Funding}
 use Rattle.iss_model.specs.declared.setting.Funding.TheVariants as funding
@@ -11,8 +10,8 @@ use Rattle.iss_model.specs.declared.decision.Reason.{Reason}
 use Rattle.iss_model.specs.declared.decision.Reason.TheVariants as reason
 use Rattle.iss_model.specs.Currencies.{same_currency}
 use Rattle.iss_model.specs.Settings.{card_named, product_named, is_active_user, is_active_card}
-use Rattle.iss_model.specs.Happenings.{TxnNow, CallNow}
-use Rattle.iss_model.specs.Facts.{Facts, available_in, txn_in, asked_of}
+use Rattle.iss_model.specs.Happenings.{TxnNow}
+use Rattle.iss_model.specs.Facts.{Facts, available_in, asked_of}
 use Rattle.iss_model.specs.Asks.{Ask, breach, txn_begun, is_authorization}
 use Rattle.iss_model.specs.Reasons.{first_reason, is_some_with, user_is}
 

@@ -1,5 +1,5 @@
 -- An ask: an authorisation or increment as it wants money, the use that it adds, and the control that it breaches.
-use Rattle.std.specs.Prelude.{ℕ, ◌+◌, ℤ, pos, neg_ℤ, ◌+ℤ◌, Bool, true, false, ◌&&◌, ◌||◌, ◌==◌, List, find, Option, Some, None, option_map, int_lt, if◌then◌else◌}
+use Rattle.std.specs.Prelude.{ℕ, ◌+◌, ℤ, pos, neg_ℤ, ◌+ℤ◌, Bool, true, false, ◌&&◌, ◌||◌, List, find, Option, Some, None, option_map, int_lt, if◌then◌else◌}
 use Rattle.std.specs.Str.{bytes_eq}
 use Rattle.iss_model.specs.declared.call.Method.{Method}
 use Rattle.iss_model.specs.declared.call.Method.TheVariants as method
@@ -7,16 +7,13 @@ use Rattle.iss_model.specs.declared.call.Opened.{Opened}
 use Rattle.iss_model.specs.declared.currency.Currency.{Currency}
 use Rattle.iss_model.specs.declared.setting.Card.{Card}
 use Rattle.iss_model.specs.declared.setting.Product.{Product}
-use Rattle.iss_model.specs.declared.setting.Control.{Control}
 use Rattle.iss_model.specs.declared.setting.Window.{Window}
 use Rattle.iss_model.specs.declared.setting.Window.TheVariants as window
 use Rattle.iss_model.specs.declared.txn.Txn.{Txn}
 use Rattle.iss_model.specs.declared.txn.UsageRow.{UsageRow}
 use Rattle.iss_model.specs.declared.txn.Used.{Used}
-use Rattle.iss_model.specs.Settings.{product_named, card_named}
-use Rattle.iss_model.specs.Limits.{ControlPut, ControlNow, control_offset, counts, window_key, span_key}
-use Rattle.iss_model.specs.Happenings.{TxnNow, CallNow}
-use Rattle.iss_model.specs.Facts.{Facts, txn_in}
+use Rattle.iss_model.specs.Limits.{ControlNow, control_offset, counts, window_key, span_key}
+use Rattle.iss_model.specs.Facts.{Facts}
 
 -- an event that asks for an amount for a transaction at a stamp: its first ask is its authorisation, each later one an increment
 pub record Ask : Type 0 where

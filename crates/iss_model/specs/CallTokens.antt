@@ -1,5 +1,5 @@
 -- The token of a gateway call: a UUID of RFC 9562.
-use Rattle.std.specs.Prelude.{ℕ, ◌+◌, ◌-◌, ◌*◌, ◌/◌, ◌%◌, ◌^◌, nat_lt, List, [], ◌∷◌, ◌++◌, slice_range, flat_map, if◌then◌else◌}
+use Rattle.std.specs.Prelude.{ℕ, ◌+◌, ◌/◌, ◌%◌, ◌^◌, nat_lt, List, [], ◌∷◌, ◌++◌, slice_range, flat_map, if◌then◌else◌}
 use Rattle.std.specs.Int.{bytes_high_first}
 
 -- the UUID of a call: version 8, with the instance in its first 48 bits, zeros in the 12 bits behind the version, and the call's number in the last 62

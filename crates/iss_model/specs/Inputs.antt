@@ -1,8 +1,6 @@
 -- What an input is about, whatever the book.
-use Rattle.std.specs.Prelude.{ℕ, ◌+◌, Bool, true, false, List, [], ◌∷◌, ◌++◌, length, map, Option, Some, None, if◌then◌else◌}
-use Rattle.std.specs.List.{flat_map}
+use Rattle.std.specs.Prelude.{ℕ, Bool, false, List, [], ◌∷◌, ◌++◌, length, Option, Some, None, if◌then◌else◌}
 use Rattle.std.specs.Str.{bytes_eq}
-use Rattle.iss_model.specs.declared.currency.Currency.{Currency}
 use Rattle.iss_model.specs.declared.setting.Funding.{Funding}
 use Rattle.iss_model.specs.declared.setting.Funding.TheVariants as funding
 use Rattle.iss_model.specs.declared.setting.Window.{Window}

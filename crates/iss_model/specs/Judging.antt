@@ -1,16 +1,15 @@
 -- Whether an input makes a record, and what it is told where it makes none.
-use Rattle.std.specs.Prelude.{ℕ, max, Bool, true, false, ◌||◌, ◌==◌, List, Option, Some, None, is_some, if◌then◌else◌}
+use Rattle.std.specs.Prelude.{ℕ, max, Bool, true, false, ◌||◌, ◌==◌, List, Option, Some, None, if◌then◌else◌}
 use Rattle.std.specs.List.{list_any}
 use Rattle.iss_model.specs.declared.call.CallId.{CallId}
 use Rattle.iss_model.specs.declared.call.How.{How}
-use Rattle.iss_model.specs.declared.call.Notice.{Notice}
 use Rattle.iss_model.specs.declared.decision.Answer.{Answer}
 use Rattle.iss_model.specs.declared.decision.Answer.TheVariants as answer
 use Rattle.iss_model.specs.declared.decision.Judged.{Judged}
 use Rattle.iss_model.specs.declared.decision.Judged.TheVariants as judged
 use Rattle.iss_model.specs.declared.input.Input.{Input}
 use Rattle.iss_model.specs.declared.input.Input.TheVariants as input
-use Rattle.iss_model.specs.Inputs.{event_token, same_contents}
+use Rattle.iss_model.specs.Inputs.{same_contents}
 use Rattle.iss_model.specs.Happenings.{CallNow}
 use Rattle.iss_model.specs.Facts.{Facts, Accepted, event_in, reply_in, call_in, is_notice}
 use Rattle.iss_model.specs.Due.{due_items, is_quiet}

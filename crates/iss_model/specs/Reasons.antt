@@ -1,5 +1,5 @@
 -- Why a setting or a load is declined: the first of its reasons that holds.
-use Rattle.std.specs.Prelude.{ℕ, Bool, true, false, not, ◌&&◌, ◌||◌, ◌==◌, nat_le, List, [], ◌∷◌, length, find, Option, Some, None, is_some, is_none, if◌then◌else◌}
+use Rattle.std.specs.Prelude.{ℕ, Bool, false, not, ◌&&◌, ◌==◌, nat_le, List, [], ◌∷◌, length, find, Option, Some, None, is_some, is_none, if◌then◌else◌}
 use Rattle.std.specs.Str.{bytes_eq}
 use Rattle.iss_model.specs.declared.currency.Currency.{Currency}
 use Rattle.iss_model.specs.declared.setting.CardState.{CardState}
@@ -13,7 +13,6 @@ use Rattle.iss_model.specs.declared.setting.Scope.{Scope}
 use Rattle.iss_model.specs.declared.setting.Scope.TheVariants as scope
 use Rattle.iss_model.specs.declared.setting.User.{User}
 use Rattle.iss_model.specs.declared.setting.Card.{Card}
-use Rattle.iss_model.specs.declared.setting.Product.{Product}
 use Rattle.iss_model.specs.declared.setting.Control.{Control}
 use Rattle.iss_model.specs.declared.setting.Set.{Set}
 use Rattle.iss_model.specs.declared.decision.Reason.{Reason}

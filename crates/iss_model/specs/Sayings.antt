@@ -12,7 +12,6 @@ use Rattle.iss_model.specs.declared.decision.Verdict.{Verdict}
 use Rattle.iss_model.specs.declared.decision.Answer.{Answer}
 use Rattle.iss_model.specs.declared.decision.Judged.{Judged}
 use Rattle.iss_model.specs.declared.decision.Judged.TheVariants as judged
-use Rattle.iss_model.specs.Keeper.{Growth}
 use Rattle.iss_model.specs.Stepping.{step}
 use Rattle.iss_model.specs.Judging.{judge}
 use Rattle.iss_model.specs.Histories.{History, history_keeper}

@@ -1,5 +1,5 @@
 -- Worked scripts: inputs one after the other, what is said of each, and what stands then. Most are of one user, u1, whose card is c1.
-use Rattle.std.specs.Prelude.{◌≡◌, ℕ, ◌+◌, ℤ, pos, neg_ℤ, Bool, true, false, List, [], ◌∷◌, ◌++◌, length, filter, map, codes, Option, Some, None}
+use Rattle.std.specs.Prelude.{◌≡◌, ℕ, ◌+◌, ℤ, pos, neg_ℤ, true, false, List, [], ◌∷◌, length, filter, map, codes, Option, Some, None}
 use Prim.Native.String.{String}
 use Rattle.iss_model.specs.declared.currency.Currency.{Currency}
 use Rattle.iss_model.specs.declared.currency.Currency.TheVariants.{Usd}
@@ -17,14 +17,13 @@ use Rattle.iss_model.specs.declared.input.Input.TheVariants as input
 use Rattle.iss_model.specs.declared.decision.Reason.{Reason}
 use Rattle.iss_model.specs.declared.decision.Verdict.TheVariants as verdict
 use Rattle.iss_model.specs.declared.decision.Reply.{Reply}
-use Rattle.iss_model.specs.declared.decision.Reply.TheVariants as reply
 use Rattle.iss_model.specs.declared.decision.Answer.TheVariants as answer
 use Rattle.iss_model.specs.declared.txn.Used.{Used}
 use Rattle.iss_model.specs.Facts.{Facts, balance_in, held_in}
 use Rattle.iss_model.specs.Asks.{used_in}
 use Rattle.iss_model.specs.Happenings.{is_asked}
 use Rattle.iss_model.specs.Histories.{History, nothing_yet, history_facts}
-use Rattle.iss_model.specs.Sayings.{Said, decided, asked, noticed, acked, timed, told, Reaction, reaction}
+use Rattle.iss_model.specs.Sayings.{Said, decided, asked, noticed, told, reaction}
 
 -- an input, the stamp that its line gives, or 0, and what is said of it
 pub record Step : Type 0 where

@@ -1,5 +1,5 @@
 -- Commando Mode: whether the programme stands in for a gateway that doesn't decide.
-use Rattle.std.specs.Prelude.{ℕ, ℤ, pos, ◌+ℤ◌, int_le, Bool, true, ◌&&◌, nat_le, List, find, Option, Some, None, if◌then◌else◌}
+use Rattle.std.specs.Prelude.{ℕ, pos, ◌+ℤ◌, int_le, Bool, true, ◌&&◌, nat_le, find, Option, Some, None, if◌then◌else◌}
 use Rattle.std.specs.Str.{bytes_eq}
 use Rattle.iss_model.specs.declared.call.Failure.{Failure}
 use Rattle.iss_model.specs.declared.call.Failure.TheVariants as failure
