@@ -4,6 +4,7 @@ pub mod Wordings
 pub mod Currencies
 pub mod Sums
 pub mod Inputs
+pub mod Forms
 pub mod Settings
 pub mod Facts
 pub mod Reasons
