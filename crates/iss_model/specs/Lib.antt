@@ -9,6 +9,7 @@ pub mod GatewayTexts
 pub mod AnswerLines
 pub mod Sums
 pub mod Inputs
+pub mod Forms
 pub mod Settings
 pub mod Limits
 pub mod Happenings

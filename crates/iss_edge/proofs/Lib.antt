@@ -1,0 +1,2 @@
+pub mod Tolds
+mod Memories
