@@ -2,6 +2,7 @@
 use Rattle.std.specs.Prelude.{ℕ, zero, suc, ◌+◌, ◌-◌, ◌*◌, ◌/◌, ◌%◌, Bool, not, ◌&&◌, ◌||◌, ◌==◌, nat_le, nat_lt, ℤ, pos, int_lt, unsigned_abs, List, [], ◌∷◌, ◌++◌, length, take, drop, slice_index, fold, decimal, Option, Some, None, if◌then◌else◌}
 use Rattle.std.specs.List.{list_all}
 use Rattle.iss_model.specs.declared.currency.Currency.{Currency}
+use Rattle.iss_model.specs.Forms.{is_amount, is_limit}
 use Rattle.iss_model.specs.Currencies.{decimals_of, unit_of}
 
 -- an ASCII digit
@@ -33,38 +34,30 @@ abbrev pub amount_digits : List ℕ → ℕ → List ℕ
 amount_digits text decimals =
     if decimals == 0 then text else take (point_place text decimals) text ++ drop (point_place text decimals + 1) text
 
--- the number, where it lies between these two
-abbrev pub if_between : ℕ → ℕ → ℕ → Option ℕ
-if_between low high n = if nat_le low n && nat_le n high then Some n else None
+-- the number, where it is of this form
+abbrev pub if_form : (ℕ → Bool) → ℕ → Option ℕ
+if_form form n = if form n then Some n else None
 
--- an amount of an event is 1 to 1000000000 minor units
-abbrev pub if_amount : ℕ → Option ℕ
-if_amount n = if_between 1 1000000000 n
-
--- an amount of a limit is 0 to 1000000000000 minor units
-abbrev pub if_limit : ℕ → Option ℕ
-if_limit n = if_between 0 1000000000000 n
-
--- the minor units of a text that is well formed in its currency
-abbrev pub minor_units : (ℕ → Option ℕ) → List ℕ → Currency → Option ℕ
-minor_units in_range text c =
-    if is_amount_text text (decimals_of c) then in_range (digits_value (amount_digits text (decimals_of c))) else None
+-- the minor units of a text that is well formed in its currency, where they are of this form
+abbrev pub minor_units : (ℕ → Bool) → List ℕ → Currency → Option ℕ
+minor_units form text c =
+    if is_amount_text text (decimals_of c) then if_form form (digits_value (amount_digits text (decimals_of c))) else None
 
 -- an event's amount, read from a text
 abbrev pub amount_read : List ℕ → Currency → Option ℕ
-amount_read text c = minor_units if_amount text c
+amount_read text c = minor_units is_amount text c
 
 -- a limit, read from a text
 abbrev pub limit_read : List ℕ → Currency → Option ℕ
-limit_read text c = minor_units if_limit text c
+limit_read text c = minor_units is_limit text c
 
 -- an event's amount, given as a number of whole units
 abbrev pub whole_amount_read : ℕ → Currency → Option ℕ
-whole_amount_read n c = if_amount (n * unit_of c)
+whole_amount_read n c = if_form is_amount (n * unit_of c)
 
 -- a limit, given as a number of whole units
 abbrev pub whole_limit_read : ℕ → Currency → Option ℕ
-whole_limit_read n c = if_limit (n * unit_of c)
+whole_limit_read n c = if_form is_limit (n * unit_of c)
 
 -- the last digits of a number, so many of them, with zeros in front where it has fewer
 abbrev pub last_digits : ℕ → ℕ → List ℕ

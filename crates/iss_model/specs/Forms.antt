@@ -1,5 +1,9 @@
 -- The forms that the fields of an input meet, whatever the book.
-use Rattle.std.specs.Prelude.{ℕ, Bool, true, ◌&&◌, nat_le, Option, Some, None}
+use Rattle.std.specs.Prelude.{ℕ, ◌+◌, Bool, true, ◌&&◌, ◌||◌, nat_le, List, [], ◌∷◌, length, Option, Some, None, is_some, is_none}
+use Rattle.iss_model.specs.declared.setting.Window.{Window}
+use Rattle.iss_model.specs.declared.setting.Window.TheVariants as window
+use Rattle.iss_model.specs.declared.setting.Scope.{Scope}
+use Rattle.iss_model.specs.declared.setting.Scope.TheVariants as scope
 use Rattle.iss_model.specs.declared.input.Input.{Input}
 use Rattle.iss_model.specs.declared.input.Input.TheVariants as input
 
@@ -19,22 +23,80 @@ abbrev pub is_stamp_or_none : Option ℕ → Bool
 is_stamp_or_none None = true
 is_stamp_or_none (Some at) = is_stamp at
 
--- each field is of its form; the kinds that are not built have no form yet
+-- 0 to 1000000000000 minor units
+abbrev pub is_limit : ℕ → Bool
+is_limit n = nat_le n 1000000000000
+
+-- how often a control may let a purchase through
+abbrev pub is_usage_limit : ℕ → Bool
+is_usage_limit n = nat_le n 1000000
+
+-- a number that is there is of its form
+abbrev pub is_none_or : (ℕ → Bool) → Option ℕ → Bool
+is_none_or form None = true
+is_none_or form (Some n) = form n
+
+-- a product's time for an answer: up to a minute, in milliseconds
+abbrev pub is_timeout : ℕ → Bool
+is_timeout n = nat_le 1 n && nat_le n 60000
+
+-- how long a product holds: a day to 31 days, in milliseconds
+abbrev pub is_hold_time : ℕ → Bool
+is_hold_time n = nat_le 86400000 n && nat_le n 2678400000
+
+-- the number of a call or notice
+abbrev pub is_number : ℕ → Bool
+is_number n = nat_le 1 n && nat_le n 4294967295
+
+-- merchant category codes that rise from this one on, none twice
+abbrev pub are_rising : ℕ → List ℕ → Bool
+are_rising low [] = true
+are_rising low (mcc ∷ mccs) = nat_le low mcc && is_mcc mcc && are_rising (mcc + 1) mccs
+
+-- 1 to 1000 merchant category codes
+abbrev pub are_mccs : List ℕ → Bool
+are_mccs mccs = nat_le 1 (length mccs) && nat_le (length mccs) 1000 && are_rising 0 mccs
+
+-- a control of single transactions counts no purchases
+abbrev pub may_count : Window → Option ℕ → Bool
+may_count window.Transaction usage_limit = is_none usage_limit
+may_count window.Day usage_limit = true
+may_count window.Week usage_limit = true
+may_count window.Month usage_limit = true
+may_count window.Lifetime usage_limit = true
+
+-- a control has an amount limit or a usage limit, or both
+abbrev pub are_limits : Window → Option ℕ → Option ℕ → Bool
+are_limits window amount_limit usage_limit =
+    is_none_or is_limit amount_limit
+    && is_none_or is_usage_limit usage_limit
+    && (is_some amount_limit || is_some usage_limit)
+    && may_count window usage_limit
+
+abbrev pub is_scope : Scope → Bool
+is_scope scope.All = true
+is_scope (scope.Mcc mcc) = is_mcc mcc
+is_scope (scope.Group group) = true
+is_scope (scope.Mid mid) = true
+
+-- each field of an input is of its form; that a name is a token, its type says
 abbrev pub is_in_form : Input → Bool
 is_in_form (input.User token user) = true
 is_in_form (input.Card token card user product active) = true
+is_in_form (input.Move token who) = true
+is_in_form (input.Product token product currency funding timeout_ms hold_ms) = is_timeout timeout_ms && is_hold_time hold_ms
+is_in_form (input.Group token group mccs) = are_mccs mccs
+is_in_form (input.Control token control currency window amount_limit usage_limit association scope active) =
+    are_limits window amount_limit usage_limit && is_scope scope
+is_in_form (input.Set token set product currency connection timeout application max day_limit active) =
+    is_limit max && is_limit day_limit
+is_in_form (input.Switch token product on) = true
 is_in_form (input.Load token user currency amount) = is_amount amount
 is_in_form (input.Authorization token card currency amount mcc mid) = is_amount amount && is_mcc mcc
-is_in_form (input.Move token who) = true
-is_in_form (input.Product token product currency funding timeout_ms hold_ms) = true
-is_in_form (input.Group token group mccs) = true
-is_in_form (input.Control token control currency window amount_limit usage_limit association scope active) = true
-is_in_form (input.Set token set product currency connection timeout application max day_limit active) = true
-is_in_form (input.Switch token product on) = true
 is_in_form (input.Increment token txn currency amount) = is_amount amount
 is_in_form (input.Reversal token txn currency amount) = is_amount amount
 is_in_form (input.Clearing token txn currency amount last) = is_amount amount
 is_in_form (input.Refund token txn currency amount) = is_amount amount
-is_in_form (input.Answer call outcome) = true
-is_in_form (input.Ack notice) = true
+is_in_form (input.Answer call outcome) = is_number call.0
+is_in_form (input.Ack notice) = is_number notice
 is_in_form input.Time = true
