@@ -33,4 +33,7 @@ pub mod WorkedControls
 pub mod WorkedCalls
 pub mod WorkedStandIns
 pub mod WorkedDay
+pub mod WorkedDue
+pub mod WorkedSettings
+pub mod WorkedRefunds
 pub mod WorkedTexts

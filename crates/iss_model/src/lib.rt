@@ -29,4 +29,6 @@ pub use setting::{
 };
 pub use token::Token;
 pub use txn::{Txn, UsageRow, Used};
-pub use worked::{worked_amounts, worked_scripts, worked_texts, worked_use, worked_windows};
+pub use worked::{
+    worked_amounts, worked_limit, worked_scripts, worked_texts, worked_use, worked_windows,
+};

@@ -1,11 +1,13 @@
 //! Worked scripts: the checker computes each of them from the rules of the book.
-ghost use Rattle.std.specs.Prelude.{◌≡◌, pos, neg_ℤ, Some, None, codes, option_map};
+ghost use Rattle.std.specs.Prelude.{◌≡◌, pos, neg_ℤ, true, false, Some, None, codes, option_map, replicate};
 ghost use Rattle.iss_model.specs.declared.currency.Currency.TheVariants.{Usd, Jpy, Kwd};
 ghost use Rattle.iss_model.specs.declared.setting.Window.TheVariants.{Day, Week, Month, Lifetime};
 ghost use Rattle.iss_model.specs.Currencies.{iso_number, currency_of};
 ghost use Rattle.iss_model.specs.Amounts.{amount_text, amount_read, whole_amount_read, limit_read};
 ghost use Rattle.iss_model.specs.Calendar.{window_at};
 ghost use Rattle.iss_model.specs.CallTokens.{call_uuid, uuid_text};
+ghost use Rattle.iss_model.specs.Settings.{default_product};
+ghost use Rattle.iss_model.specs.Reasons.{is_full};
 ghost use Rattle.iss_model.specs.Scripts.{Plays, used_after};
 ghost use Rattle.iss_model.specs.WorkedTexts.{RequestLine, IncrementRequestLine, VoidLine, StandInNoticeLine, CaptureNoticeLine, RefundNoticeLine, DoneEventLine, ApprovedEventLine, DeclinedByAControlLine, DeclinedMoveLine, LateAnswerLine, TimedOutCallLine, AbandonedCallLine, UnknownCallLine, AcknowledgedLine, AcknowledgedBeforeLine, IdleLine, TimeLine};
 ghost use Rattle.iss_model.specs.WorkedPurchases.{purchase_of_all, purchase_of_more, repeated_purchase, changed_purchase, raised_reversed_cleared, refunded_once, before_expiry, after_expiry, cleared_after_expiry, states_of_a_card, loads_in_three_currencies, greatest_load};
@@ -13,6 +15,9 @@ ghost use Rattle.iss_model.specs.WorkedControls.{limit_of_a_day, next_day, next_
 ghost use Rattle.iss_model.specs.WorkedCalls.{funded_by_the_gateway, refused_by_the_gateway, open_call, refused_call, answer_in_time, answer_too_late, reversed_while_pending, cleared_in_parts, refund_of_too_much, cleared_for_less, cleared_the_next_day};
 ghost use Rattle.iss_model.specs.WorkedStandIns.{stand_in, gateway_switched_off};
 ghost use Rattle.iss_model.specs.WorkedDay.{a_day};
+ghost use Rattle.iss_model.specs.WorkedDue.{clearing_of_a_pending_purchase, repeat_at_the_deadline, early_acknowledgement, two_timeouts_and_an_expiry, expired_call, raised_by_the_gateway};
+ghost use Rattle.iss_model.specs.WorkedSettings.{states_of_a_user, settings_declined, control_at_rest, use_given_back};
+ghost use Rattle.iss_model.specs.WorkedRefunds.{refund_of_a_stand_in, partly_released_stand_in, switched_off_without_a_set};
 
 /// Each script is told just what its steps say, and its balances, calls, notices and records stand then.
 #[tactic(auto, unfolding(crate::specs::Stepping::step, crate::specs::Judging::judge))]
@@ -51,6 +56,19 @@ pub fn worked_scripts()
     ensures stand_in { Plays stand_in }
     ensures gateway_switched_off { Plays gateway_switched_off }
     ensures a_day { Plays a_day }
+    ensures clearing_of_a_pending_purchase { Plays clearing_of_a_pending_purchase }
+    ensures repeat_at_the_deadline { Plays repeat_at_the_deadline }
+    ensures early_acknowledgement { Plays early_acknowledgement }
+    ensures two_timeouts_and_an_expiry { Plays two_timeouts_and_an_expiry }
+    ensures expired_call { Plays expired_call }
+    ensures raised_by_the_gateway { Plays raised_by_the_gateway }
+    ensures states_of_a_user { Plays states_of_a_user }
+    ensures settings_declined { Plays settings_declined }
+    ensures control_at_rest { Plays control_at_rest }
+    ensures use_given_back { Plays use_given_back }
+    ensures refund_of_a_stand_in { Plays refund_of_a_stand_in }
+    ensures partly_released_stand_in { Plays partly_released_stand_in }
+    ensures switched_off_without_a_set { Plays switched_off_without_a_set }
 {}
 
 /// How amounts are read and written, by currency.
@@ -74,6 +92,12 @@ pub fn worked_amounts()
     ensures greatest_limit { limit_read (codes "10000000000.00") Usd ≡ Some 1000000000000 }
     ensures too_great_a_limit { limit_read (codes "10000000000.01") Usd ≡ None }
     ensures numeric_code { option_map iso_number (currency_of (codes "AUD")) ≡ Some 36 }
+{}
+
+/// There may be 256 products, the built-in one among them.
+pub fn worked_limit()
+    ensures one_fits { is_full (replicate 255 default_product) ≡ false }
+    ensures none_fits { is_full (replicate 256 default_product) ≡ true }
 {}
 
 /// The windows of stamps around the borders of days, weeks and months, in UTC and at offsets in minutes.
