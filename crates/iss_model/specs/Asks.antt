@@ -12,7 +12,7 @@ use Rattle.iss_model.specs.declared.setting.Window.TheVariants as window
 use Rattle.iss_model.specs.declared.txn.Txn.{Txn}
 use Rattle.iss_model.specs.declared.txn.UsageRow.{UsageRow}
 use Rattle.iss_model.specs.declared.txn.Used.{Used}
-use Rattle.iss_model.specs.Limits.{ControlNow, control_offset, counts, window_key, span_key}
+use Rattle.iss_model.specs.Controls.{ControlNow, control_offset, counts, window_key, span_key}
 use Rattle.iss_model.specs.Facts.{Facts}
 
 -- an event that asks for an amount for a transaction at a stamp: its first ask is its authorisation, each later one an increment

@@ -18,8 +18,8 @@ use Rattle.iss_model.specs.declared.entry.Entry.{Entry}
 use Rattle.iss_model.specs.declared.entry.Entry.TheVariants as entry
 use Rattle.iss_model.specs.Sums.{account_key, user_key, part_key, stood_key}
 use Rattle.iss_model.specs.Inputs.{is_event}
-use Rattle.iss_model.specs.Limits.{Group, ControlNow}
-use Rattle.iss_model.specs.Happenings.{TxnNow, CallNow, txn_named, call_numbered, is_asked}
+use Rattle.iss_model.specs.Controls.{Group, ControlNow}
+use Rattle.iss_model.specs.Activity.{TxnNow, CallNow, txn_named, call_numbered, is_asked}
 
 -- an accepted event with the number of its record
 pub record Accepted : Type 0 where

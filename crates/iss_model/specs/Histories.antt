@@ -8,8 +8,8 @@ use Rattle.iss_model.specs.declared.decision.Judged.TheVariants as judged
 use Rattle.iss_model.specs.Sums.{sum_at, balance_changes, held_changes, part_changes, txn_changes, cleared_by, refunded_by, paid_by, stood_changes}
 use Rattle.iss_model.specs.Inputs.{event_token}
 use Rattle.iss_model.specs.Settings.{users_of, cards_of, products_of, switched_of}
-use Rattle.iss_model.specs.Limits.{groups_of, controls_of, sets_of}
-use Rattle.iss_model.specs.Happenings.{txns_of, calls_of, notices_of, pending_of}
+use Rattle.iss_model.specs.Controls.{groups_of, controls_of, sets_of}
+use Rattle.iss_model.specs.Activity.{txns_of, calls_of, notices_of, pending_of}
 use Rattle.iss_model.specs.Facts.{Facts, Accepted, decision_of}
 use Rattle.iss_model.specs.Keeper.{Keeper}
 use Rattle.iss_model.specs.Stepping.{step}

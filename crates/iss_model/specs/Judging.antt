@@ -10,7 +10,7 @@ use Rattle.iss_model.specs.declared.decision.Judged.TheVariants as judged
 use Rattle.iss_model.specs.declared.input.Input.{Input}
 use Rattle.iss_model.specs.declared.input.Input.TheVariants as input
 use Rattle.iss_model.specs.Inputs.{same_contents}
-use Rattle.iss_model.specs.Happenings.{CallNow}
+use Rattle.iss_model.specs.Activity.{CallNow}
 use Rattle.iss_model.specs.Facts.{Facts, Accepted, event_in, reply_in, call_in, is_notice}
 use Rattle.iss_model.specs.Due.{due_items, is_quiet}
 use Rattle.iss_model.specs.Keeper.{Keeper}

@@ -18,10 +18,10 @@ use Rattle.iss_model.specs.declared.decision.Reason.TheVariants as reason
 use Rattle.iss_model.specs.declared.decision.Verdict.TheVariants as verdict
 use Rattle.iss_model.specs.declared.entry.Entry.{Entry}
 use Rattle.iss_model.specs.declared.entry.Entry.TheVariants as entry
-use Rattle.iss_model.specs.Happenings.{CallNow}
+use Rattle.iss_model.specs.Activity.{CallNow}
 use Rattle.iss_model.specs.Facts.{Facts, part_in, asked_of}
 use Rattle.iss_model.specs.Asks.{Ask, usage_of, call_ask, ask_given_back}
-use Rattle.iss_model.specs.AskReasons.{is_account_funded}
+use Rattle.iss_model.specs.CardReasons.{is_account_funded}
 use Rattle.iss_model.specs.StandIns.{Stand, allowed, over_limit, uncovered, stand}
 
 -- entries of an amount, where it isn't 0

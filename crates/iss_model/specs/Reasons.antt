@@ -20,7 +20,7 @@ use Rattle.iss_model.specs.declared.decision.Reason.TheVariants as reason
 use Rattle.iss_model.specs.Currencies.{same_currency}
 use Rattle.iss_model.specs.Inputs.{window_number, association_contents, scope_contents}
 use Rattle.iss_model.specs.Settings.{user_named, card_named, product_named, is_closed_user, card_may_move, user_may_move}
-use Rattle.iss_model.specs.Limits.{ControlNow, group_named}
+use Rattle.iss_model.specs.Controls.{ControlNow, group_named}
 use Rattle.iss_model.specs.Facts.{Facts}
 
 -- the first reason whose test holds

@@ -21,7 +21,7 @@ use Rattle.iss_model.specs.declared.decision.Answer.TheVariants as answer
 use Rattle.iss_model.specs.declared.txn.Used.{Used}
 use Rattle.iss_model.specs.Facts.{Facts, balance_in, held_in}
 use Rattle.iss_model.specs.Asks.{used_in}
-use Rattle.iss_model.specs.Happenings.{is_asked}
+use Rattle.iss_model.specs.Activity.{is_asked}
 use Rattle.iss_model.specs.Histories.{History, nothing_yet, history_facts}
 use Rattle.iss_model.specs.Sayings.{Said, decided, asked, noticed, told, reaction}
 
