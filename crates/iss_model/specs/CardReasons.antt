@@ -15,6 +15,7 @@ use Rattle.iss_model.specs.Facts.{Facts, available_in, asked_of}
 use Rattle.iss_model.specs.Asks.{Ask, breach, txn_begun, is_authorization}
 use Rattle.iss_model.specs.Reasons.{first_reason, is_some_with, user_is}
 
+-- purchases are paid from the user's own balance
 abbrev pub is_account_funded : Funding → Bool
 is_account_funded funding.Account = true
 is_account_funded funding.Gateway = false

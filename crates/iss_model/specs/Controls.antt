@@ -39,6 +39,7 @@ group_made _ = None
 abbrev pub groups_of : List Row → List Group
 groups_of rows = filter_map (λ row. group_made row.entry) rows
 
+-- the group of this name
 abbrev pub group_named : List ℕ → List Group → Option Group
 group_named name groups = find (λ group. bytes_eq group.name name) groups
 

@@ -22,10 +22,12 @@ pub record DueItem : Type 0 where
   pub number : ℕ
   pub thing : DueThing
 
+-- a call is due at its deadline
 abbrev pub due_call : CallNow → DueItem
 due_call c =
     record { since = c.opened.deadline; rank = 0; number = c.opened.call.0; thing = call_due c.opened.call.0 }
 
+-- a transaction is due at its expiry
 abbrev pub due_txn : TxnNow → DueItem
 due_txn t = record { since = t.txn.expires; rank = 1; number = t.txn.origin; thing = txn_due t.txn.token }
 

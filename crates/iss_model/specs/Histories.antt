@@ -20,6 +20,7 @@ pub record History : Type 0 where
   pub records : List Record
   pub rows : List Row
 
+-- the history without a record
 abbrev pub nothing_yet : History
 nothing_yet = record { records = []; rows = [] }
 
@@ -36,6 +37,7 @@ accepted_from n (r ∷ rs) = record { number = n; input = r.input } ∷ accepted
 abbrev pub events_of : List Record → List Accepted
 events_of rs = filter (λ a. is_some (event_token a.input)) (accepted_from 1 rs)
 
+-- the facts of a history: each a sum or a filter over all its rows, or all its records
 abbrev pub history_facts : History → Facts
 history_facts h =
     record {
@@ -85,6 +87,7 @@ pub record Follows (h : History) (r : Record) : Type 0 where
   pub stamp : time_of h.records ≤ r.at
   pub is_new : judge history_keeper h r.input r.at ≡ judged.New r
 
+-- each record follows on those before it, behind this history
 abbrev pub IsLegalAfter : History → List Record → Type 0
 IsLegalAfter h [] = Unit {0}
 IsLegalAfter h (r ∷ rs) = Follows h r × IsLegalAfter (step history_keeper h r).world rs

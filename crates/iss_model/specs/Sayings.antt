@@ -55,6 +55,7 @@ answer_left (judged.New r) = []
 answer_left (judged.Clock r) = []
 answer_left (judged.Told a) = told a ∷ []
 
+-- what judging comes to, as a reaction
 abbrev pub reaction_as : History → Input → ℕ → Judged → Reaction
 reaction_as h i stamp (judged.New r) =
     let reaction = reaction_to_record h r in
