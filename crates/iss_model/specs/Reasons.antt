@@ -1,5 +1,5 @@
 -- Why a setting or a load is declined: the first of its reasons that holds.
-use Rattle.std.specs.Prelude.{ℕ, Bool, false, not, ◌&&◌, ◌==◌, nat_le, List, [], ◌∷◌, length, find, Option, Some, None, is_some, is_none, if◌then◌else◌}
+use Rattle.std.specs.Prelude.{ℕ, Bool, false, not, ◌&&◌, ◌==◌, nat_le, List, [], ◌∷◌, length, Option, Some, None, is_some, is_none, if◌then◌else◌}
 use Rattle.std.specs.Str.{bytes_eq}
 use Rattle.iss_model.specs.declared.currency.Currency.{Currency}
 use Rattle.iss_model.specs.declared.setting.CardState.{CardState}
@@ -20,7 +20,7 @@ use Rattle.iss_model.specs.declared.decision.Reason.TheVariants as reason
 use Rattle.iss_model.specs.Currencies.{same_currency}
 use Rattle.iss_model.specs.Inputs.{window_number, association_contents, scope_contents}
 use Rattle.iss_model.specs.Settings.{user_named, card_named, product_named, is_closed_user, card_may_move, user_may_move}
-use Rattle.iss_model.specs.Controls.{ControlNow, group_named}
+use Rattle.iss_model.specs.Controls.{ControlNow, group_named, control_named, set_named}
 use Rattle.iss_model.specs.Facts.{Facts}
 
 -- the first reason whose test holds
@@ -94,10 +94,6 @@ group_reason f group =
     ∷ []
     )
 
--- the control of this name
-abbrev pub control_named : List ℕ → List ControlNow → Option ControlNow
-control_named name controls = find (λ c. bytes_eq c.control.name name) controls
-
 -- what a control that stands may not change: its currency, window, association and scope
 abbrev pub is_same_control : Control → Currency → Window → Association → Scope → Bool
 is_same_control c currency window association scope =
@@ -142,10 +138,6 @@ put_control_reason None f currency window association scope =
 abbrev pub control_reason : Facts → List ℕ → Currency → Window → Association → Scope → Option Reason
 control_reason f control currency window association scope =
     put_control_reason (control_named control f.controls) f currency window association scope
-
--- the set of this name
-abbrev pub set_named : List ℕ → List Set → Option Set
-set_named name sets = find (λ s. bytes_eq s.name name) sets
 
 -- a set that stands keeps its product and its currency; a new one is of a known product, in its currency, and fits in
 abbrev pub put_set_reason : Option Set → Facts → List ℕ → Currency → Option Reason
