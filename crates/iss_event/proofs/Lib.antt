@@ -1,0 +1,3 @@
+pub mod AmountLemmas
+pub mod ObjectLemmas
+pub mod PlainTexts
