@@ -11,10 +11,6 @@ pub object_of_read : (bytes : List ℕ) (d : Data) → IsUtf8 bytes → read byt
 unfolding object_of
 object_of_read bytes d text is object = rw (is_utf8-from_IsUtf8 bytes text, is, object)
 
-pub object_of_other : (bytes : List ℕ) (d : Data) → IsUtf8 bytes → read bytes ≡ Some d → is_some (as_object d) ≡ false → object_of bytes ≡ None
-unfolding object_of
-object_of_other bytes d text is other = rw (is_utf8-from_IsUtf8 bytes text, is, other)
-
 refused_at : (b : Bool) (bytes : List ℕ) → is_utf8 bytes ≡ b → (IsUtf8 bytes → read bytes ≡ None) → object_of bytes ≡ None
 unfolding object_of
 refused_at true bytes text refused = let none : read bytes ≡ None = refused (IsUtf8-from_is_utf8 bytes text) in rw (text, none)

@@ -20,17 +20,17 @@ pub(crate) fn amount_of_text(text: &[u8]) -> Option<u64>
     }
     let whole = number_from(0, units)?;
     let cents = number_from(whole, &text[point + 1..])?;
-    if_amount(cents)
+    checked_amount(cents)
 }
 
 /// The amount of so many whole dollars.
 pub(crate) fn amount_of_units(units: u64) -> Option<u64>
     ensures { result ≡ amount_of_units units }
 {
-    if_amount(units.checked_mul(100)?)
+    checked_amount(units.checked_mul(100)?)
 }
 
-fn if_amount(cents: u64) -> Option<u64>
+fn checked_amount(cents: u64) -> Option<u64>
     ensures { result ≡ if_amount cents }
 {
     (1..=GREATEST).contains(&cents).then_some(cents)

@@ -13,7 +13,7 @@ use serde_json::Value;
 use std::alloc::Global;
 
 /// The most bytes that a line may have.
-const LONGEST: usize = 16384;
+const LONGEST_LINE: usize = 16384;
 
 /// What a line says, without the line feed that ends it. For now each fault of its form is `NotBuilt`.
 #[tactic(auto, unfolding(crate::specs::Readings::line_read))]
@@ -30,7 +30,7 @@ pub fn read_line(alloc: Global, line: &[u8], mode: Mode) -> Result<Line, LineFau
 fn read_exactly(alloc: Global, line: &[u8], mode: Mode) -> Result<Line, LineFault>
     ensures { Reads (exact_line mode line.now) result }
 {
-    if line.len() > LONGEST {
+    if line.len() > LONGEST_LINE {
         return Err(LineFault::Form(FormFault::Long));
     }
     match object_of(alloc, line) {
