@@ -1,3 +1,4 @@
 pub mod AmountLemmas
+pub mod InForm
 pub mod ObjectLemmas
 pub mod PlainTexts

@@ -1,6 +1,7 @@
 -- Amounts in USD, in cents.
-use Rattle.std.specs.Prelude.{ℕ, ◌+◌, ◌-◌, ◌*◌, ◌==◌, ◌&&◌, Bool, true, false, not, nat_le, List, [], ◌∷◌, length, take, drop, slice_index, Option, Some, None, option_and_then, if◌then◌else◌}
+use Rattle.std.specs.Prelude.{ℕ, ◌+◌, ◌-◌, ◌*◌, ◌==◌, Bool, true, false, not, nat_le, List, [], ◌∷◌, length, take, drop, slice_index, Option, Some, None, option_and_then, if◌then◌else◌}
 use Rattle.std.specs.Char.{is_ascii_digit}
+use Rattle.iss_model.specs.Forms.{is_amount}
 
 -- the number that digits spell, behind a number that stands before them
 abbrev pub digits_from : ℕ → List ℕ → Option ℕ
@@ -19,7 +20,7 @@ if_below_limit n = if nat_le n 1000000000 then Some n else None
 
 -- the number, where it is an amount
 abbrev pub if_amount : ℕ → Option ℕ
-if_amount n = if nat_le 1 n && nat_le n 1000000000 then Some n else None
+if_amount n = if is_amount n then Some n else None
 
 -- the digits before the place of the point, and then those behind it
 abbrev pub digits_around : ℕ → List ℕ → Option ℕ

@@ -16,6 +16,7 @@ use Rattle.iss_event.specs.Names.{name_text}
 use Rattle.iss_event.specs.Kinds.{kind_of_text, kind_in}
 use Rattle.iss_event.specs.Amounts.{digits_from, amount_of_text, amount_of_units}
 
+-- the value, where it isn't null
 abbrev pub unless_null : Data → Option Data
 unless_null d = if is_some (as_null d) then None else Some d
 
@@ -27,6 +28,7 @@ field name d = option_and_then unless_null (get (name_text name) d)
 unfoldable pub required : {A : Type 0} → (Data → Option A) → Name → Data → Result A FormFault
 required form name d = ok_or (option_and_then form (field name d)) (Field name)
 
+-- what was found in that form, or a value where nothing was
 abbrev pub found_or : {A : Type 0} → (Data → Option A) → A → Name → Option Data → Result A FormFault
 found_or form absent name None = Ok absent
 found_or form absent name (Some found) = ok_or (form found) (Field name)
@@ -37,6 +39,7 @@ optional_or form absent name d = found_or form absent name (field name d)
 
 -- ---- forms
 
+-- the text, where it is a token
 abbrev pub if_token : List ℕ → Option (List ℕ)
 if_token text = if is_token text then Some text else None
 
@@ -48,6 +51,7 @@ token_of d = option_and_then if_token (as_str d)
 unfoldable pub kind_of : Mode → Data → Option Kind
 kind_of mode d = option_and_then (kind_in mode) (option_and_then kind_of_text (as_str d))
 
+-- the currency of that code of ISO 4217
 unfoldable pub currency_of_text : List ℕ → Option Currency
 currency_of_text text =
     if bytes_eq text (codes "USD") then Some Usd
@@ -63,6 +67,7 @@ currency_of_text text =
 unfoldable pub currency_of : Data → Option Currency
 currency_of d = option_and_then currency_of_text (as_str d)
 
+-- the amount that a text spells, or of so many whole dollars where there is no text
 abbrev pub text_or_units : Option (List ℕ) → Option ℕ → Option ℕ
 text_or_units (Some text) units = amount_of_text text
 text_or_units None units = option_and_then amount_of_units units

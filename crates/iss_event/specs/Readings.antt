@@ -22,6 +22,7 @@ abbrev pub has_stamp : Mode → Data → Bool
 has_stamp Lines d = is_some (field name.At d)
 has_stamp Client d = false
 
+-- there is a currency, and not USD
 abbrev pub is_other : Option Currency → Bool
 is_other None = false
 is_other (Some Usd) = false
@@ -31,7 +32,7 @@ is_other (Some _) = true
 abbrev pub has_other_currency : Data → Bool
 has_other_currency d = is_other (option_and_then currency_of (field name.Currency d))
 
--- a line of this kind that isn't taken yet: another kind than four, one with a stamp, or money that isn't in USD
+-- the line isn't taken yet: it has a stamp, or money that isn't in USD, or is of another kind than these four
 abbrev pub not_built : Mode → Kind → Data → Bool
 not_built mode User d = has_stamp mode d
 not_built mode Card d = has_stamp mode d
@@ -51,6 +52,7 @@ object_line mode d = do
   kind ← required (kind_of mode) name.Kind d
   kind_line mode d kind
 
+-- what an object says, where there is one
 abbrev pub found_line : Mode → Option Data → Result Line FormFault
 found_line mode None = Err Json
 found_line mode (Some d) = object_line mode d
@@ -59,11 +61,12 @@ found_line mode (Some d) = object_line mode d
 unfoldable pub exact_line : Mode → List ℕ → Result Line FormFault
 exact_line mode line = if nat_lt 16384 (length line) then Err Long else found_line mode (object_of line)
 
+-- each fault is told as one of a line that isn't taken yet
 abbrev pub faults_not_built : Result Line FormFault → Result Line FormFault
 faults_not_built (Ok said) = Ok said
 faults_not_built (Err fault) = Err NotBuilt
 
--- what a line is taken to say: for now a line that has any fault is told that it isn't taken yet
+-- what a line is taken to say, for now without a fault of its own
 unfoldable pub line_read : Mode → List ℕ → Result Line FormFault
 line_read mode line = faults_not_built (exact_line mode line)
 

@@ -17,12 +17,14 @@ abbrev pub ◌>>=◌ : {A B : Type 0} → Result A FormFault → (A → Result B
 Ok x >>= f = f x
 Err fault >>= f = Err fault
 
+-- a user is made
 unfoldable pub user_row : Data → Result Input FormFault
 user_row d = do
   token ← required token_of Token d
   user ← required token_of User d
   Ok (input.User token user)
 
+-- a card is made, of the product `default` and active where the line doesn't say otherwise
 unfoldable pub card_row : Data → Result Input FormFault
 card_row d = do
   token ← required token_of Token d
@@ -32,6 +34,7 @@ card_row d = do
   active ← optional_or as_bool true Active d
   Ok (input.Card token card user product active)
 
+-- a user's money comes in
 unfoldable pub load_row : Data → Result Input FormFault
 load_row d = do
   token ← required token_of Token d
@@ -40,6 +43,7 @@ load_row d = do
   amount ← required amount_of Amount d
   Ok (input.Load token user currency amount)
 
+-- a merchant asks whether a card may pay
 unfoldable pub authorization_row : Data → Result Input FormFault
 authorization_row d = do
   token ← required token_of Token d

@@ -1,6 +1,7 @@
 //! Reading a line.
-ghost use Rattle.std.specs.Prelude.{◌≡◌};
+ghost use Rattle.std.specs.Prelude.{◌≡◌, IfOk, IsTrue};
 ghost use Rattle.serde_json.specs.View.{view};
+ghost use Rattle.iss_model.specs.Forms.{is_in_form, is_stamp_or_none};
 ghost use Rattle.iss_event.specs.Readings.{Reads, line_read, exact_line, object_line, not_built, has_stamp, has_other_currency};
 
 use crate::fields::{currency_of, field, required_kind};
@@ -16,9 +17,11 @@ use std::alloc::Global;
 const LONGEST_LINE: usize = 16384;
 
 /// What a line says, without the line feed that ends it. For now each fault of its form is `NotBuilt`.
-#[tactic(auto, unfolding(crate::specs::Readings::line_read))]
+#[tactic(auto, using(crate::proofs::InForm::read_input_in_form, crate::proofs::InForm::read_stamp_in_form), unfolding(crate::specs::Readings::line_read))]
 pub fn read_line(alloc: Global, line: &[u8], mode: Mode) -> Result<Line, LineFault>
-    ensures { Reads (line_read mode line.now) result }
+    ensures read { Reads (line_read mode line.now) result }
+    ensures input_form { IfOk result (λ said. IsTrue (is_in_form said.input)) }
+    ensures stamp_form { IfOk result (λ said. IsTrue (is_stamp_or_none said.at)) }
 {
     match read_exactly(alloc, line, mode) {
         Err(LineFault::Form(_)) => Err(LineFault::Form(FormFault::NotBuilt)),

@@ -15,10 +15,7 @@ fn token(text: &str) -> Result<Token, Fail> {
 
 #[test]
 fn reads_a_user(rt: HostRuntime) -> Result<(), Fail> {
-    let input = read(
-        rt.alloc(),
-        "{\"type\":\"user\",\"token\":\"t1\",\"user\":\"u1\"}",
-    )?;
+    let input = read(rt.alloc(), r#"{"type":"user","token":"t1","user":"u1"}"#)?;
     let right = match input {
         Input::User { token, user } => token.as_str() == "t1" && user.as_str() == "u1",
         _ => false,
@@ -29,8 +26,7 @@ fn reads_a_user(rt: HostRuntime) -> Result<(), Fail> {
 
 #[test]
 fn reads_a_card(rt: HostRuntime) -> Result<(), Fail> {
-    let text =
-        "{\"type\":\"card\",\"token\":\"t2\",\"card\":\"c1\",\"user\":\"u1\",\"active\":null}";
+    let text = r#"{"type":"card","token":"t2","card":"c1","user":"u1","active":null}"#;
     let right = match read(rt.alloc(), text)? {
         Input::Card {
             product,
@@ -45,8 +41,7 @@ fn reads_a_card(rt: HostRuntime) -> Result<(), Fail> {
 
 #[test]
 fn reads_a_load(rt: HostRuntime) -> Result<(), Fail> {
-    let text =
-        "{\"type\":\"load\",\"token\":\"t3\",\"user\":\"u1\",\"currency\":\"USD\",\"amount\":10}";
+    let text = r#"{"type":"load","token":"t3","user":"u1","currency":"USD","amount":10}"#;
     let right = match read(rt.alloc(), text)? {
         Input::Load {
             currency,
@@ -62,7 +57,7 @@ fn reads_a_load(rt: HostRuntime) -> Result<(), Fail> {
 #[test]
 fn reads_an_authorization(rt: HostRuntime) -> Result<(), Fail> {
     let text =
-        "{\"type\":\"authorization\",\"token\":\"a1\",\"card\":\"c1\",\"currency\":\"USD\",\"amount\":\"50.01\",\"mcc\":\"0411\",\"mid\":\"m1\"}";
+        r#"{"type":"authorization","token":"a1","card":"c1","currency":"USD","amount":"50.01","mcc":"0411","mid":"m1"}"#;
     let right = match read(rt.alloc(), text)? {
         Input::Authorization { amount, mcc, .. } => amount == 5001 && mcc == 411,
         _ => false,
