@@ -1,2 +1,10 @@
-//! To come.
+//! The outside of the processor: its channels of bytes and its device, behind one trait, and an implementation in memory.
 #![tactic(auto)]
+
+mod bytes;
+mod edge;
+mod outside;
+
+pub use bytes::Bytes;
+pub use edge::Edge;
+pub use outside::{Action, Answered, Arrival, Channel, Failed, Script};

@@ -1,0 +1,50 @@
+use Rattle.std.specs.Prelude.{◌≡◌, ℕ, ◌↔◌, ◌⊎◌, true, false, List, [], ◌∷◌, ◌++◌, Some, None, Result, Ok, Err, take}
+use Rattle.iss_edge.specs.declared.outside.Channel.{Channel}
+use Rattle.iss_edge.specs.declared.outside.Failed.{Failed}
+use Rattle.iss_edge.specs.declared.outside.Action.{Action}
+use Rattle.iss_edge.specs.declared.outside.Action.TheVariants.{Emit}
+use Rattle.iss_edge.specs.declared.outside.Answered.{Answered}
+use Rattle.iss_edge.specs.declared.outside.Answered.TheVariants.{Took}
+use Rattle.iss_edge.specs.World.{World}
+
+-- nothing of what is told has changed
+pub record Same (a b : World) : Type 0 where
+  pub device : b.device ≡ a.device
+  pub left : b.left ≡ a.left
+  pub trace : b.trace ≡ a.trace
+
+-- the first `count` bytes of the buffer were the next of the channel, none exactly at its end, and all else is the same
+pub record Takes (ch : Channel) (count : ℕ) (buffer : List ℕ) (a b : World) : Type 0 where
+  pub device : b.device ≡ a.device
+  pub bytes : a.left ch.0 ≡ take count buffer ++ b.left ch.0
+  pub others : (c : ℕ) → (c ≡ ch.0 → ⊥) → b.left c ≡ a.left c
+  pub ends : (count ≡ 0) ↔ (a.left ch.0 ≡ [])
+  pub trace : b.trace ≡ a.trace
+
+-- the bytes went out on the channel by one action, and all else is the same
+pub record Emits (ch : Channel) (bytes : List ℕ) (a b : World) : Type 0 where
+  pub device : b.device ≡ a.device
+  pub left : b.left ≡ a.left
+  pub trace : b.trace ≡ a.trace ++ Emit ch bytes true ∷ []
+
+-- one failed action was added, by which a front of the bytes went out on the channel
+pub record SendsFront (ch : Channel) (bytes : List ℕ) (before now : List Action) : Type 0 where
+  pub front : List ℕ
+  pub back : List ℕ
+  pub cut : bytes ≡ front ++ back
+  pub added : now ≡ before ++ Emit ch front false ∷ []
+
+-- the bytes did not all go out: no action was added, or a failed one with a front of them, and all else is the same
+pub record EmitsPart (ch : Channel) (bytes : List ℕ) (a b : World) : Type 0 where
+  pub device : b.device ≡ a.device
+  pub left : b.left ≡ a.left
+  pub trace : (b.trace ≡ a.trace) ⊎ SendsFront ch bytes a.trace b.trace
+
+-- the heard list has one item more
+abbrev pub Hears : Answered → List Answered → List Answered → Type 0
+Hears item before now = now ≡ before ++ item ∷ []
+
+-- what is heard of a call that takes: the bytes that it put into the buffer, or that it failed
+abbrev pub taken : Channel → List ℕ → Result ℕ Failed → Answered
+taken ch buffer (Ok count) = Took ch (Some (take count buffer))
+taken ch buffer (Err e) = Took ch None

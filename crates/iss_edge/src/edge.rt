@@ -1,0 +1,53 @@
+//! The outside as a trait: what a call on it does, said by what an implementation tells.
+
+ghost use Rattle.std.specs.Prelude.{◌≡◌, ℕ, ◌<◌, ◌≤◌, List, Option, length, is_ok, IfOk, IfSome, OnOk, OnErr};
+ghost use Rattle.iss_edge.specs.declared.outside.Answered.{Answered};
+ghost use Rattle.iss_edge.specs.declared.outside.Answered.TheVariants.{Emitted};
+ghost use Rattle.iss_edge.specs.World.{World, Told, Faults, HasCause};
+ghost use Rattle.iss_edge.specs.Calls.{Same, Takes, Emits, EmitsPart, Hears, taken};
+
+use crate::{Channel, Failed};
+
+/// All that the processor reads and does outside of its memory.
+///
+/// An implementation tells what it knows of the outside, or nothing. A call's clauses speak of what is told after it,
+/// which was then told before it too.
+pub trait Edge {
+    /// The device, the bytes that are still to come and all that was done so far.
+    ghost told: { Self → Option World };
+
+    /// What the calls answered so far, in order.
+    ghost heard: { Self → Option (List Answered) };
+
+    /// How often calls have failed so far, by kind.
+    ghost faults: { Self → Faults };
+
+    /// The device's length in bytes.
+    ghost extent: { Self → ℕ };
+
+    /// Takes the next bytes of channel 0 into the front of `buf`, which is not empty, and answers how many. It answers 0
+    /// only where the channel's bytes have ended. Where it fails, what `buf` holds is open.
+    fn take(&mut self, ch: Channel, buf: &mut [u8]) -> Result<usize, Failed>
+        requires channel { ch.0 ≡ 0 }
+        requires room { 0 < length buf.old }
+        ensures bound { IfOk result (λ count. count ≤ length buf.new) }
+        ensures taken { IfOk result
+            (λ count. Told (Takes ch count buf.new) (told self.old) (told self.new)) }
+        ensures unchanged { OnErr result (Told Same (told self.old) (told self.new)) }
+        ensures cause { HasCause (λ f. f.input) (faults self.old) (faults self.new) result }
+        ensures heard { Told (Hears (taken ch buf.new result)) (heard self.old) (heard self.new) }
+        ensures kept { extent self.new ≡ extent self.old };
+
+    /// Sends the bytes out on channel 0. Where it fails, a front of them may have gone out.
+    fn emit(&mut self, ch: Channel, bytes: &[u8]) -> Result<(), Failed>
+        requires channel { ch.0 ≡ 0 }
+        ensures emitted { OnOk result (Told (Emits ch bytes.now) (told self.old) (told self.new)) }
+        ensures part { OnErr result
+            (Told (EmitsPart ch bytes.now) (told self.old) (told self.new)) }
+        ensures cause { HasCause (λ f. f.output) (faults self.old) (faults self.new) result }
+        ensures heard { Told (Hears (Emitted ch (is_ok result))) (heard self.old) (heard self.new) }
+        ensures kept { extent self.new ≡ extent self.old };
+
+    /// The device that is told has the length that is told.
+    ghost sized: { (edge : Self) → IfSome (told edge) (λ world. length world.device ≡ extent edge) };
+}
