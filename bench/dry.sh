@@ -1,0 +1,67 @@
+#!/usr/bin/env bash
+# Lines per second and peak memory of `build/issuer dry`.
+#
+# The first two lines are a user and a card. Of each ten after them, one loads 1.00 and nine authorise 0.01, which the
+# funds allow. The time is from the first line given to the last reply read, and the memory is then the peak so far.
+set -eu -o pipefail
+cd "$(dirname "$0")/.."
+
+limit=30
+room=$(mktemp -d)
+trap 'rm -rf "$room"' EXIT
+mkfifo "$room/in" "$room/out"
+
+# lines COUNT: the input.
+lines() {
+    awk -v count="$1" 'BEGIN {
+        print "{\"type\":\"user\",\"token\":\"u\",\"user\":\"u1\"}"
+        print "{\"type\":\"card\",\"token\":\"c\",\"card\":\"c1\",\"user\":\"u1\"}"
+        for (i = 0; i < count - 2; i++) {
+            if (i % 10 == 0) {
+                printf "{\"type\":\"load\",\"token\":\"l%d\",\"user\":\"u1\",\"currency\":\"USD\",\"amount\":\"1.00\"}\n", i
+            } else {
+                printf "{\"type\":\"authorization\",\"token\":\"a%d\",\"card\":\"c1\",\"currency\":\"USD\",\"amount\":\"0.01\",\"mcc\":\"5411\",\"mid\":\"m1\"}\n", i
+            }
+        }
+    }'
+}
+
+# measure COUNT: one line of the table. The input stays open until the memory is read.
+measure() {
+    local count=$1 start end peak replies late=0
+    lines "$count" >"$room/lines"
+    build/issuer dry <"$room/in" >"$room/out" &
+    local issuer=$!
+    exec 3>"$room/in" 4<"$room/out"
+    start=$EPOCHREALTIME
+    cat "$room/lines" >&3 2>/dev/null &
+    local feeder=$!
+    timeout "$limit" head -n "$count" <&4 >"$room/replies" || late=$?
+    end=$EPOCHREALTIME
+    peak=$(awk '/^VmHWM/ { printf "%.1f", $2 / 1024 }' "/proc/$issuer/status" 2>/dev/null) || peak=-
+    if [ "$late" = 0 ]; then
+        exec 3>&-
+        wait "$feeder" "$issuer"
+    else
+        kill "$issuer" "$feeder" 2>/dev/null || true
+        exec 3>&-
+        wait "$issuer" "$feeder" 2>/dev/null || true
+    fi
+    exec 4<&-
+    replies=$(wc -l <"$room/replies")
+    if [ "$late" = 0 ] && [ "$replies" = "$count" ]; then
+        awk -v count="$count" -v start="$start" -v end="$end" -v peak="$peak" 'BEGIN {
+            printf "%8d %10.3f %12.0f %10s\n", count, end - start, count / (end - start), peak
+        }'
+    elif [ "$late" = 124 ]; then
+        printf '%8d %10s %12s %10s\n' "$count" "over $limit" stopped "$peak"
+    else
+        echo "bench: $replies replies to $count lines" >&2
+        exit 1
+    fi
+}
+
+printf '%8s %10s %12s %10s\n' lines seconds lines/second 'peak MiB'
+for count in 2000 20000 200000; do
+    measure "$count"
+done
