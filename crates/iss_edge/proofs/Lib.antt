@@ -1,1 +1,2 @@
 pub mod Tolds
+mod Memories

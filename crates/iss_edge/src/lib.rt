@@ -3,8 +3,10 @@
 
 mod bytes;
 mod edge;
+mod memory;
 mod outside;
 
 pub use bytes::Bytes;
 pub use edge::Edge;
+pub use memory::MemoryEdge;
 pub use outside::{Action, Answered, Arrival, Channel, Failed, Script};

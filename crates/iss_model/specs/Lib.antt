@@ -1,3 +1,15 @@
 pub mod Padding
 pub mod Tokens
 pub mod Wordings
+pub mod Currencies
+pub mod Sums
+pub mod Inputs
+pub mod Forms
+pub mod Settings
+pub mod Facts
+pub mod Reasons
+pub mod Keeper
+pub mod Stepping
+pub mod Judging
+pub mod Histories
+pub mod Transcripts

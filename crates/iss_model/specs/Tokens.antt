@@ -1,5 +1,5 @@
 -- What a token is, and how it is kept.
-use Rattle.std.specs.Prelude.{◌≡◌, ℕ, Bool, List, length, take, IsTrue, ◌==◌, ◌&&◌, ◌||◌, nat_le}
+use Rattle.std.specs.Prelude.{ℕ, Bool, List, length, take, IsTrue, ◌==◌, ◌&&◌, ◌||◌, nat_le}
 use Rattle.std.specs.List.{list_all}
 use Rattle.iss_model.specs.Padding.{IsPadded}
 

@@ -7,7 +7,6 @@ use Rattle.iss_model.specs.declared.setting.UserState.{UserState}
 use Rattle.iss_model.specs.declared.setting.UserState.TheVariants as user
 use Rattle.iss_model.specs.declared.decision.Reason.{Reason}
 use Rattle.iss_model.specs.declared.decision.Reason.TheVariants as reason
-use Rattle.iss_model.specs.declared.decision.Verdict.{Verdict}
 use Rattle.iss_model.specs.declared.decision.Verdict.TheVariants.{Done, Approved, Declined}
 use Rattle.iss_model.specs.declared.decision.Reply.{Reply}
 use Rattle.iss_model.specs.declared.decision.Reply.TheVariants.{Decided, Pending}

@@ -23,7 +23,8 @@ pub use entry::{Entry, Row};
 pub use input::{Input, Outcome, Record};
 pub use mccs::Mccs;
 pub use setting::{
-    Association, CardState, Control, Funding, Moved, Product, Scope, Set, UserState, Window,
+    Association, Card, CardState, Control, Funding, Moved, Product, Scope, Set, User, UserState,
+    Window,
 };
 pub use token::Token;
 pub use txn::{Txn, UsageRow};

@@ -62,6 +62,23 @@ pub enum Scope {
     Mid(Token),
 }
 
+/// A user as it stands.
+#[derive(Clone, Copy)]
+pub struct User {
+    pub name: Token,
+    pub state: UserState,
+}
+
+/// A card as it stands.
+#[derive(Clone, Copy)]
+pub struct Card {
+    pub name: Token,
+    pub user: Token,
+    pub product: Token,
+    pub state: CardState,
+}
+
+/// A card product.
 #[derive(Clone, Copy)]
 pub struct Product {
     pub name: Token,

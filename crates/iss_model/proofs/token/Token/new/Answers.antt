@@ -1,4 +1,4 @@
-use Rattle.std.proofs.Common.{◌≡◌, ℕ, ◌+◌, ◌-◌, ◌≤◌, List, ◌++◌, length, drop, take, replicate, IsTrue, Bool, sym, ap, subst, ◌∙◌, arith, rules, length-append, length-drop}
+use Rattle.std.proofs.Common.{◌≡◌, ℕ, ◌≤◌, List, length, drop, replicate, IsTrue, sym, ap, subst, ◌∙◌, arith, rules, length-append, length-drop}
 use Rattle.std.proofs.lemmas.List.{drop_at, drop-replicate, take_at}
 use Rattle.iss_model.specs.Tokens.{is_token}
 use Rattle.iss_model.proofs.token.Token.new.Goals as goal

@@ -1,0 +1,9 @@
+use Rattle.std.proofs.Common.{drop}
+use Rattle.iss_edge.proofs.Memories.{memory_emits_part}
+use Rattle.iss_edge.specs.Memory.{alone_on_input}
+use Rattle.iss_edge.proofs.memory.MemoryEdgeEdge.emit.Goals as goal
+
+pub returns-then-fails_now-clause-part : goal.returns-then-fails_now-clause-part
+returns-then-fails_now-clause-part c =
+    let m = c.args.self.now in
+    memory_emits_part c.note.result c.args.ch c.min.result c.args.bytes.now m.device.items (alone_on_input (drop m.at m.input.items)) m.trace.items c.note.new.trace.items c.note.ensures.ok c.note.ensures.err

@@ -1,0 +1,15 @@
+use Rattle.std.specs.Prelude.{ℕ, ◌==◌, Bool, true, false, List, [], Option, Some, None, if◌then◌else◌}
+use Rattle.iss_edge.specs.World.{Faults}
+
+-- the bytes that are to come, where channel 0 alone has some
+abbrev pub alone_on_input : List ℕ → ℕ → List ℕ
+alone_on_input bytes ch = if ch == 0 then bytes else []
+
+-- a value that is told as long as the test holds
+abbrev pub told_while : {A : Type 0} → Bool → A → Option A
+told_while true x = Some x
+told_while false x = None
+
+-- the counts where no call can fail but those on input and output
+abbrev pub stream_faults : ℕ → ℕ → Faults
+stream_faults input output = record { disk = 0; input = input; output = output; peer = 0; link = 0 }

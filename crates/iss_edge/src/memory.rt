@@ -1,0 +1,321 @@
+//! An outside in memory.
+
+ghost use Rattle.std.specs.Prelude.{◌≡◌, ◌+◌, ◌-◌, ◌^◌, ◌≤◌, ◌↔◌, ◌++◌, ◌∷◌, [], true, min, take, drop, length, vec_len, IsTrue, Contains, Some, IfOk, OnOk, OnErr, IsSomeAnd, IfSome};
+ghost use Rattle.std.proofs.Common.{sym};
+ghost use Rattle.iss_edge.specs.World.{Told, Rose};
+ghost use Rattle.iss_edge.specs.Calls.{Hears};
+ghost use Rattle.iss_edge.specs.Memory.{alone_on_input, told_while, stream_faults};
+ghost use Rattle.iss_edge.specs.declared.outside.Action.TheVariants.{Emit};
+ghost use Rattle.iss_edge.specs.declared.outside.Answered.TheVariants.{Took, Emitted};
+
+use crate::{Action, Answered, Bytes, Channel, Edge, Failed, Script};
+use std::alloc::{AllocError, Global};
+
+/// How many bytes go out in an emit that is to fail.
+const FRONT: usize = 3;
+
+/// An outside in memory, which tells everything.
+#[derive(Drop)]
+pub struct MemoryEdge {
+    alloc: Global,
+    device: Vec<u8>,
+    input: Vec<u8>,
+    /// How many bytes of the input were taken.
+    at: usize,
+    script: Vec<Script>,
+    fails: Vec<u64>,
+    /// How many calls that may fail were made.
+    calls: u64,
+    trace: Vec<Action>,
+    heard: Vec<Answered>,
+    /// Whether each answer so far was noted.
+    tells: bool,
+    input_faults: u64,
+    output_faults: u64,
+    ghost within: { at ≤ vec_len input },
+}
+
+impl MemoryEdge {
+    /// An outside with this device and these bytes to come on channel 0. Of its calls that may fail, those fail whose
+    /// numbers, counted from 1, are among `fails`. The script is what waits will bring.
+    pub fn new(
+        alloc: Global,
+        device: Vec<u8>,
+        input: Vec<u8>,
+        script: Vec<Script>,
+        fails: Vec<u64>,
+    ) -> Result<MemoryEdge, AllocError>
+        ensures told { IfOk result (λ m. ⟦<MemoryEdge as Edge>⟧.told m
+            ≡ Some (record { device = device.items; left = alone_on_input input.items; trace = [] })) }
+        ensures heard { IfOk result (λ m. ⟦<MemoryEdge as Edge>⟧.heard m ≡ Some []) }
+        ensures faults { IfOk result (λ m. ⟦<MemoryEdge as Edge>⟧.faults m ≡ stream_faults 0 0) }
+        ensures extent { IfOk result (λ m. ⟦<MemoryEdge as Edge>⟧.extent m ≡ vec_len device) }
+    {
+        Ok(MemoryEdge {
+            alloc,
+            device,
+            input,
+            at: 0,
+            script,
+            fails,
+            calls: 0,
+            trace: Vec::new(alloc),
+            heard: Vec::new(alloc),
+            tells: true,
+            input_faults: 0,
+            output_faults: 0,
+        })
+    }
+
+    /// All that was done so far, in order.
+    pub fn trace(&self) -> &[Action]
+        ensures { IsSomeAnd (⟦<MemoryEdge as Edge>⟧.told self.now) (λ world. result.now ≡ world.trace) }
+    {
+        self.trace.as_slice()
+    }
+
+    /// What the calls answered so far, in order, as long as each answer could be noted.
+    pub fn heard(&self) -> &[Answered]
+        ensures { IfSome (⟦<MemoryEdge as Edge>⟧.heard self.now) (λ items. result.now ≡ items) }
+    {
+        self.heard.as_slice()
+    }
+
+    /// The device's bytes.
+    pub fn device(&self) -> &[u8]
+        ensures { IsSomeAnd (⟦<MemoryEdge as Edge>⟧.told self.now) (λ world. result.now ≡ world.device) }
+    {
+        self.device.as_slice()
+    }
+}
+
+impl Edge for MemoryEdge {
+    ghost told = { λ m. Some (record {
+      device = m.device.items;
+      left = alone_on_input (drop m.at m.input.items);
+      trace = m.trace.items;
+    }) };
+
+    ghost heard = { λ m. told_while m.tells m.heard.items };
+
+    ghost faults = { λ m. stream_faults m.input_faults m.output_faults };
+
+    ghost extent = { λ m. vec_len m.device };
+
+    fn take(&mut self, ch: Channel, buf: &mut [u8]) -> Result<usize, Failed> {
+        if fails_now(&mut self.calls, self.fails.as_slice()) {
+            let item = Answered::Took { ch, bytes: None };
+            return Err(fail(
+                &mut self.input_faults,
+                &mut self.heard,
+                &mut self.tells,
+                item,
+            ));
+        }
+        let count = copy_next(self.input.as_slice(), self.at, buf);
+        if hear_bytes(self.alloc, &mut self.heard, ch, &buf[..count]).is_err() {
+            let item = Answered::Took { ch, bytes: None };
+            return Err(fail(
+                &mut self.input_faults,
+                &mut self.heard,
+                &mut self.tells,
+                item,
+            ));
+        }
+        self.at += count;
+        Ok(count)
+    }
+
+    fn emit(&mut self, ch: Channel, bytes: &[u8]) -> Result<(), Failed> {
+        if fails_now(&mut self.calls, self.fails.as_slice()) {
+            let item = Answered::Emitted { ch, ok: false };
+            let front = &bytes[..bytes.len().min(FRONT)];
+            let _ = note(self.alloc, &mut self.trace, ch, front, false);
+            return Err(fail(
+                &mut self.output_faults,
+                &mut self.heard,
+                &mut self.tells,
+                item,
+            ));
+        }
+        if send(self.alloc, &mut self.trace, &mut self.heard, ch, bytes).is_err() {
+            let item = Answered::Emitted { ch, ok: false };
+            return Err(fail(
+                &mut self.output_faults,
+                &mut self.heard,
+                &mut self.tells,
+                item,
+            ));
+        }
+        Ok(())
+    }
+
+    ghost sized = { λ m. sym m.device.ok.0 };
+}
+
+/// Counts a call that may fail, and says whether it is one of those that are to.
+fn fails_now(calls: &mut u64, fails: &[u64]) -> bool
+    ensures counted { calls.new ≡ min (calls.old + 1) (2 ^ 64 - 1) }
+    ensures named { IsTrue result ↔ Contains fails.now calls.new }
+{
+    *calls = calls.saturating_add(1);
+    let number = *calls;
+    fails.contains(&number)
+}
+
+/// Copies the input from this place on into the front of the buffer, as much as fits, and answers how much.
+fn copy_next(input: &[u8], at: usize, buf: &mut [u8]) -> usize
+    requires { at ≤ length input.now }
+    ensures count { result ≡ min (length buf.old) (length input.now - at) }
+    ensures bytes { take result buf.new ≡ take result (drop at input.now) }
+{
+    let rest = &input[at..];
+    let count = buf.len().min(rest.len());
+    buf[..count].copy_from_slice(&rest[..count]);
+    count
+}
+
+/// Notes in the heard list what was taken.
+fn hear_bytes(
+    alloc: Global,
+    heard: &mut Vec<Answered>,
+    ch: Channel,
+    bytes: &[u8],
+) -> Result<(), AllocError>
+    ensures ok { OnOk result (heard.new.items ≡ heard.old.items ++ Took ch (Some bytes.now) ∷ []) }
+    ensures err { OnErr result (heard.new.items ≡ heard.old.items) }
+{
+    let taken = Bytes::from(Vec::from_slice(alloc, bytes)?);
+    heard.push(Answered::Took {
+        ch,
+        bytes: Some(taken),
+    })?;
+    Ok(())
+}
+
+/// Notes in the trace that these bytes went out.
+fn note(
+    alloc: Global,
+    trace: &mut Vec<Action>,
+    ch: Channel,
+    bytes: &[u8],
+    ok: bool,
+) -> Result<(), AllocError>
+    ensures ok { OnOk result (trace.new.items ≡ trace.old.items ++ Emit ch bytes.now ok ∷ []) }
+    ensures err { OnErr result (trace.new.items ≡ trace.old.items) }
+{
+    let sent = Bytes::from(Vec::from_slice(alloc, bytes)?);
+    trace.push(Action::Emit {
+        ch,
+        bytes: sent,
+        ok,
+    })?;
+    Ok(())
+}
+
+/// Notes an emit that succeeds in both lists, or in neither.
+fn send(
+    alloc: Global,
+    trace: &mut Vec<Action>,
+    heard: &mut Vec<Answered>,
+    ch: Channel,
+    bytes: &[u8],
+) -> Result<(), AllocError>
+    ensures sent { OnOk result (trace.new.items ≡ trace.old.items ++ Emit ch bytes.now true ∷ []) }
+    ensures heard { OnOk result (heard.new.items ≡ heard.old.items ++ Emitted ch true ∷ []) }
+    ensures unsent { OnErr result (trace.new.items ≡ trace.old.items) }
+    ensures unheard { OnErr result (heard.new.items ≡ heard.old.items) }
+{
+    heard.reserve(1)?;
+    note(alloc, trace, ch, bytes, true)?;
+    heard.push(Answered::Emitted { ch, ok: true })?;
+    Ok(())
+}
+
+/// Counts a call that failed and notes its answer, or tells no more of what was heard.
+fn fail(count: &mut u64, heard: &mut Vec<Answered>, tells: &mut bool, item: Answered) -> Failed
+    ensures later { count.old ≤ count.new }
+    ensures counted { Rose count.old count.new }
+    ensures heard { Told (Hears item) (told_while tells.old heard.old.items)
+        (told_while tells.new heard.new.items) }
+{
+    *count = count.saturating_add(1);
+    if heard.push(item).is_err() {
+        *tells = false;
+    }
+    Failed
+}
+
+#[cfg(test)]
+mod tests {
+    use super::*;
+    use std::test::Fail;
+
+    fn is_emit(action: &Action, sent: &[u8], went: bool) -> bool {
+        match action {
+            Action::Emit { ch, bytes, ok } => ch.0 == 0 && bytes.as_slice() == sent && *ok == went,
+            _ => false,
+        }
+    }
+
+    fn is_taken(answer: &Answered, wanted: &[u8]) -> bool {
+        match answer {
+            Answered::Took {
+                ch,
+                bytes: Some(bytes),
+            } => ch.0 == 0 && bytes.as_slice() == wanted,
+            _ => false,
+        }
+    }
+
+    fn is_emitted(answer: &Answered, went: bool) -> bool {
+        match answer {
+            Answered::Emitted { ch, ok } => ch.0 == 0 && *ok == went,
+            _ => false,
+        }
+    }
+
+    fn is_untaken(answer: &Answered) -> bool {
+        matches!(
+            answer,
+            Answered::Took {
+                ch: Channel(0),
+                bytes: None
+            }
+        )
+    }
+
+    #[test]
+    fn takes_and_emits(rt: HostRuntime) -> Result<(), Fail> {
+        let alloc = rt.alloc();
+        let device = Vec::from_slice(alloc, b"disk")?;
+        let input = Vec::from_slice(alloc, b"hello")?;
+        let fails = Vec::from_slice(alloc, &[3, 5])?;
+        let mut edge = MemoryEdge::new(alloc, device, input, Vec::new(alloc), fails)?;
+        let mut buf = [0; 4];
+
+        assert!(rt; matches!(edge.take(Channel(0), &mut buf), Ok(4)));
+        assert_eq!(rt; buf, *b"hell");
+        assert!(rt; edge.emit(Channel(0), b"whole").is_ok());
+        assert!(rt; edge.emit(Channel(0), b"broken").is_err());
+        assert!(rt; matches!(edge.take(Channel(0), &mut buf), Ok(1)));
+        assert_eq!(rt; buf[0], b'o');
+        assert!(rt; edge.take(Channel(0), &mut buf).is_err());
+        assert!(rt; matches!(edge.take(Channel(0), &mut buf), Ok(0)));
+
+        assert_eq!(rt; edge.device(), b"disk".as_slice());
+        let trace = edge.trace();
+        assert_eq!(rt; trace.len(), 2);
+        assert!(rt; is_emit(&trace[0], b"whole", true));
+        assert!(rt; is_emit(&trace[1], b"bro", false));
+        let heard = edge.heard();
+        assert_eq!(rt; heard.len(), 6);
+        assert!(rt; is_taken(&heard[0], b"hell"));
+        assert!(rt; is_emitted(&heard[1], true));
+        assert!(rt; is_emitted(&heard[2], false));
+        assert!(rt; is_taken(&heard[3], b"o"));
+        assert!(rt; is_untaken(&heard[4]));
+        assert!(rt; is_taken(&heard[5], b""));
+        Ok(())
+    }
+}
