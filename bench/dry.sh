@@ -28,35 +28,36 @@ lines() {
 
 # measure COUNT: one line of the table. The input stays open until the memory is read.
 measure() {
-    local count=$1 start end peak replies late=0
+    local count=$1 issuer feeder start end peak late=0
     lines "$count" >"$room/lines"
     build/issuer dry <"$room/in" >"$room/out" &
-    local issuer=$!
+    issuer=$!
     exec 3>"$room/in" 4<"$room/out"
     start=$EPOCHREALTIME
     cat "$room/lines" >&3 2>/dev/null &
-    local feeder=$!
+    feeder=$!
     timeout "$limit" head -n "$count" <&4 >"$room/replies" || late=$?
     end=$EPOCHREALTIME
     peak=$(awk '/^VmHWM/ { printf "%.1f", $2 / 1024 }' "/proc/$issuer/status" 2>/dev/null) || peak=-
-    if [ "$late" = 0 ]; then
-        exec 3>&-
-        wait "$feeder" "$issuer"
-    else
-        kill "$issuer" "$feeder" 2>/dev/null || true
-        exec 3>&-
-        wait "$issuer" "$feeder" 2>/dev/null || true
-    fi
-    exec 4<&-
+    [ "$late" = 0 ] || kill "$issuer" "$feeder" 2>/dev/null || true
+    exec 3>&- 4<&-
+    wait "$issuer" "$feeder" 2>/dev/null || true
+    show "$count" "$late" "$start" "$end" "$peak"
+}
+
+# show COUNT LATE START END PEAK: the line of the table, where each line of input had its reply or time ran out.
+show() {
+    local replies
     replies=$(wc -l <"$room/replies")
-    if [ "$late" = 0 ] && [ "$replies" = "$count" ]; then
-        awk -v count="$count" -v start="$start" -v end="$end" -v peak="$peak" 'BEGIN {
-            printf "%8d %10.3f %12.0f %10s\n", count, end - start, count / (end - start), peak
+    if [ "$2" != 0 ]; then
+        printf '%8d %10s %12s %10s\n' "$1" "over $limit" stopped "$5"
+    elif [ "$replies" = "$1" ]; then
+        awk -v count="$1" -v start="$3" -v end="$4" -v peak="$5" 'BEGIN {
+            seconds = end - start
+            printf "%8d %10.3f %12.0f %10s\n", count, seconds, count / seconds, peak
         }'
-    elif [ "$late" = 124 ]; then
-        printf '%8d %10s %12s %10s\n' "$count" "over $limit" stopped "$peak"
     else
-        echo "bench: $replies replies to $count lines" >&2
+        echo "bench: $replies replies to $1 lines" >&2
         exit 1
     fi
 }
