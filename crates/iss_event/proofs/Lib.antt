@@ -1,0 +1,4 @@
+pub mod AmountLemmas
+pub mod InForm
+pub mod ObjectLemmas
+pub mod PlainTexts
