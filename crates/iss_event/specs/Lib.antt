@@ -8,3 +8,4 @@ pub mod Plain
 pub mod Readings
 pub mod Reasons
 pub mod Rows
+pub mod Taken

@@ -66,5 +66,5 @@ reaction_as h i stamp (judged.Clock r) =
 reaction_as h i stamp (judged.Told a) = record { history = h; said = told a ∷ [] }
 
 -- an input at a stamp, on a history
-abbrev pub reaction : History → Input → ℕ → Reaction
+unfoldable pub reaction : History → Input → ℕ → Reaction
 reaction h i stamp = reaction_as h i stamp (judge history_keeper h i stamp)

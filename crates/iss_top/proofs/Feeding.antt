@@ -1,5 +1,5 @@
 -- How the text to come shortens with each byte of the input.
-use Rattle.std.proofs.Common.{◌≡◌, ℕ, ◌+◌, ◌-◌, ◌*◌, ◌<◌, ◌≤◌, Bool, true, false, cond, ◌&&◌, nat_eq, nat_lt, List, [], ◌∷◌, ◌++◌, length, take, unwrap_or, Err, refl, sym, ap, ◌∙◌, append-nil, append_assoc, arith, length-append}
+use Rattle.std.proofs.Common.{◌≡◌, ℕ, ◌+◌, ◌-◌, ◌*◌, ◌<◌, ◌≤◌, Bool, true, false, cond, ◌&&◌, nat_eq, nat_lt, List, [], ◌∷◌, ◌++◌, length, take, fold, unwrap_or, Err, refl, sym, ap, ◌∙◌, append-nil, append_assoc, arith, length-append}
 use Rattle.std.proofs.lemmas.List.{length-take}
 use Rattle.std.proofs.lemmas.List.Folds.{list_all-append}
 use Rattle.std.proofs.lemmas.Bool.Decides.{nat_tests}
@@ -8,8 +8,13 @@ use Rattle.iss_model.specs.declared.decision.Judged.{Judged}
 use Rattle.iss_model.specs.declared.decision.Judged.TheVariants as judged
 use Rattle.iss_model.specs.Stepping.{step}
 use Rattle.iss_model.specs.Judging.{judge}
-use Rattle.iss_model.specs.Histories.{History, history_keeper}
-use Rattle.iss_model.specs.Transcripts.{Reading, sound, faulty, told_as, after_line, bytes_of}
+use Rattle.iss_model.specs.Histories.{History, history_facts, history_keeper}
+use Rattle.iss_model.specs.Transcripts.{Reading, sound, faulty, after_line, bytes_of}
+use Rattle.iss_model.specs.Sayings.{reaction, reaction_as}
+use Rattle.iss_model.specs.Keeper.{Growth}
+use Rattle.iss_model.specs.Due.{DueItem, due_items}
+use Rattle.iss_model.specs.declared.input.Input.{Input}
+use Rattle.iss_model.specs.Stepping.{settle}
 use Rattle.iss_event.specs.declared.line.Mode.TheVariants.{Lines}
 use Rattle.iss_event.specs.declared.line.FormFault.TheVariants.{NotBuilt}
 use Rattle.iss_event.specs.Readings.{exact_line, line_read}
@@ -145,15 +150,29 @@ length-kept_as line b false false =
 pub length-kept : (line : List ℕ) (b : ℕ) → length (kept_with line b) ≤ length line + 1
 length-kept line b = length-kept_as line b (nat_lt (length line) 16385) (is_blank_byte b)
 
--- a line makes at most one record
-judged_count : (h : History) (j : Judged) → length (told_as h j).history.records ≤ length h.records + 1
+-- what falls due makes rows and no record
+due_records : (at : ℕ) (items : List DueItem) (g : Growth History) → (fold (settle history_keeper at) g items).world.records ≡ g.world.records
+due_records at [] g = refl
+due_records at (item ∷ items) g = due_records at items (settle history_keeper at g item)
+
+step_records : (h : History) (r : Record) → (step history_keeper h r).world.records ≡ h.records ++ r ∷ []
 unfolding step
-judged_count h (judged.New r) = omega (arith, length-append {A = Record} h.records (r ∷ []))
-judged_count h (judged.Clock r) = omega (arith, length-append {A = Record} h.records (r ∷ []))
-judged_count h (judged.Told a) = omega arith
+step_records h r =
+    let taken = history_keeper.take_up h r in
+    due_records r.at (due_items (history_facts taken) r.at) (record { world = taken; entries = [] })
+
+step_count : (h : History) (r : Record) → length (step history_keeper h r).world.records ≤ length h.records + 1
+step_count h r = rw (step_records h r) (omega (arith, length-append {A = Record} h.records (r ∷ [])))
+
+-- a line makes at most one record
+judged_count : (h : History) (i : Input) (at : ℕ) (j : Judged) → length (reaction_as h i at j).history.records ≤ length h.records + 1
+judged_count h i at (judged.New r) = step_count h r
+judged_count h i at (judged.Clock r) = step_count h r
+judged_count h i at (judged.Told a) = omega arith
 
 read_count : (h : History) (r : Reading) → length (after_line h r).history.records ≤ length h.records + 1
-read_count h (sound i at) = judged_count h (judge history_keeper h i (unwrap_or at 0))
+unfolding reaction
+read_count h (sound i at) = judged_count h i (unwrap_or at 0) (judge history_keeper h i (unwrap_or at 0))
 read_count h (faulty text) = omega arith
 
 next_count_as : (h : History) (line : List ℕ) (blank : Bool) → length (cond blank h (told_of h line).history).records ≤ length h.records + 1

@@ -1,3 +1,4 @@
+pub mod Early
 pub mod Keys
 pub mod Added
 pub mod Events

@@ -1,6 +1,7 @@
 //! What a line is told.
-ghost use Rattle.std.specs.Prelude.{◌≡◌, ◌+◌, ◌^◌, ◌<◌, length, IfOk, OnOk, IsTrue};
-ghost use Rattle.iss_model.specs.Forms.{is_in_form, is_stamp_or_none};
+ghost use Rattle.std.specs.Prelude.{◌≡◌, ◌+◌, ◌^◌, ◌<◌, length, true, None, IfOk, OnOk, IsTrue};
+ghost use Rattle.iss_model.specs.Forms.{is_in_form};
+ghost use Rattle.iss_event.specs.Taken.{is_taken};
 ghost use Rattle.iss_model.specs.Transcripts.{sound, after_line, bytes_of};
 ghost use Rattle.iss_top.specs.Dry.{told_of};
 
@@ -25,7 +26,8 @@ pub(crate) fn answer(alloc: Global, book: &mut Book, line: &[u8]) -> Result<Vec<
 fn decide(alloc: Global, book: &mut Book, said: Line) -> Result<Vec<u8>, AllocError>
     requires room { length book.old.records + 1 < 2 ^ 32 }
     requires input_form { IsTrue (is_in_form said.input) }
-    requires stamp_form { IsTrue (is_stamp_or_none said.at) }
+    requires early { is_taken said.input ≡ true }
+    requires start { said.at ≡ None }
     ensures history { OnOk result (book.new ≡ (after_line book.old (sound said.input said.at)).history) }
     ensures texts { IfOk result (λ text. text.items
         ≡ bytes_of (after_line book.old (sound said.input said.at)).texts) }

@@ -1,18 +1,21 @@
 //! The book in its plainest form: the records and the rows, as lists.
-ghost use Rattle.std.specs.Prelude.{◌≡◌, ◌+◌, ◌-◌, ◌^◌, ◌<◌, ◌++◌, [], ◌∷◌, is_some, length, max, IfOk, OnOk, IsTrue};
+ghost use Rattle.std.specs.Prelude.{◌≡◌, ◌+◌, ◌-◌, ◌^◌, ◌<◌, ◌++◌, [], ◌∷◌, is_some, length, max, true, IfOk, OnOk, OnErr, IsTrue};
 ghost use Rattle.std.specs.List.{list_any};
 ghost use Rattle.iss_model.specs.Inputs.{event_token, is_event};
 ghost use Rattle.iss_model.specs.Settings.{user_named, card_named, product_named, users_of, cards_of, products_of, is_active_user, is_active_card};
-ghost use Rattle.iss_model.specs.Reasons.{user_reason, card_reason, load_reason, authorization_reason, user_is, lacks_funds, is_account_funded, is_in_currency};
-ghost use Rattle.iss_model.specs.Stepping.{entries_of, txn_begun, step};
-ghost use Rattle.iss_model.specs.Forms.{is_in_form, is_amount, is_stamp};
+ghost use Rattle.iss_model.specs.CardReasons.{is_account_funded, is_in_currency};
+ghost use Rattle.iss_model.specs.Asks.{txn_begun};
+ghost use Rattle.iss_model.specs.declared.input.Input.TheVariants as input;
+ghost use Rattle.iss_event.specs.Taken.{is_taken};
+ghost use Rattle.iss_top.specs.Early.{all_early, IsEarly, is_known, is_short, purchase_reason};
+ghost use Rattle.iss_model.specs.Reasons.{user_reason, card_reason, load_reason, user_is};
+ghost use Rattle.iss_model.specs.Stepping.{entries_of, step};
+ghost use Rattle.iss_model.specs.Forms.{is_in_form, is_amount};
 ghost use Rattle.iss_top.specs.Purchases.{purchase_entries};
-ghost use Rattle.iss_model.specs.Judging.{refusal};
 ghost use Rattle.iss_model.specs.Histories.{history_facts, history_keeper, time_of, numbered};
-ghost use Rattle.iss_model.specs.Transcripts.{bytes_of, told_of_growth};
 ghost use Rattle.iss_top.specs.Dry.{entries_text};
 
-use crate::entries::{Purchase, authorized, declined, load_entries, setting_entries};
+use crate::entries::{Purchase, declined, load_entries, purchased, setting_entries};
 use crate::rows;
 use iss_event::reply_line;
 use iss_model::{
@@ -36,11 +39,9 @@ impl Model for Book {
 
     ghost view = { λ b. record { records = b.records.items; rows = b.rows.items } };
 
-    ghost use Rattle.std.specs.Prelude.{IsTrue};
-    ghost use Rattle.iss_model.specs.Forms.{is_stamp};
-    ghost use Rattle.iss_model.specs.Histories.{time_of};
+    ghost use Rattle.iss_top.specs.Early.{IsEarly};
 
-    ghost invariant = { λ b. IsTrue (is_stamp (time_of b.records.items)) };
+    ghost invariant = { λ b. IsEarly (record { records = b.records.items; rows = b.rows.items }) };
 }
 
 impl Book {
@@ -58,15 +59,16 @@ impl Book {
     /// The greatest stamp of a record, or 0.
     pub(crate) fn now(&self) -> u64
         ensures value { result ≡ time_of self.now.records }
-        ensures stamp { IsTrue (is_stamp result) }
+        ensures start { result ≡ 0 }
     {
         time_of(&self.records)
     }
 
     /// Whether the input is an event that stands.
-    #[tactic(auto, using(crate::proofs::Events::refusal_of_event, crate::proofs::Events::refusal_of_other))]
+    #[tactic(auto, using(crate::proofs::Events::known_event))]
     pub(crate) fn stands(&self, input: &Input) -> bool
-        ensures { result ≡ is_some (refusal (history_facts self.now) input.now) }
+        ensures known { result ≡ is_known (history_facts self.now) (event_token input.now) }
+        ensures early { IsEarly self.now }
     {
         match event_token(input) {
             Some(token) => has_event(&self.records, &token),
@@ -74,12 +76,14 @@ impl Book {
         }
     }
 
+    #[tactic(auto, using(crate::proofs::Early::early_users))]
     fn user(&self, name: &Token) -> Option<User>
         ensures { result ≡ user_named name.now (users_of self.now.rows) }
     {
         rows::user_named(&self.rows, name)
     }
 
+    #[tactic(auto, using(crate::proofs::Early::early_cards))]
     fn card(&self, name: &Token) -> Option<Card>
         ensures { result ≡ card_named name.now (cards_of self.now.rows) }
     {
@@ -87,7 +91,6 @@ impl Book {
     }
 
     /// Takes up the record of an input, makes its entries and answers their texts.
-    #[tactic(auto, using(crate::proofs::Tellings::bytes_of_growth), unfolding(iss_model::specs::Stepping::step))]
     pub(crate) fn step(
         &mut self,
         alloc: Global,
@@ -96,10 +99,11 @@ impl Book {
     ) -> Result<Vec<u8>, AllocError>
         requires room { length self.old.records + 1 < 2 ^ 32 }
         requires form { IsTrue (is_in_form input) }
-        requires stamp { IsTrue (is_stamp at) }
+        requires early { is_taken input ≡ true }
+        requires start { at ≡ 0 }
         ensures grown { OnOk result (self.new ≡ (step history_keeper self.old (record { at = at; input = input })).world) }
         ensures texts { IfOk result (λ text. text.items
-            ≡ bytes_of (told_of_growth (step history_keeper self.old (record { at = at; input = input })))) }
+            ≡ entries_text (step history_keeper self.old (record { at = at; input = input })).entries) }
     {
         self.take_up(input.clone()?, at)?;
         let entries = self.entries(alloc, &input, at)?;
@@ -109,15 +113,17 @@ impl Book {
     }
 
     fn take_up(&mut self, input: Input, at: u64) -> Result<(), AllocError>
-        requires { IsTrue (is_stamp at) }
-        ensures { OnOk result (self.new ≡ history_keeper.take_up self.old (record { at = at; input = input })) }
+        requires { at ≡ 0 }
+        ensures value { OnOk result (self.new ≡ history_keeper.take_up self.old (record { at = at; input = input })) }
+        ensures early { OnOk result (IsEarly self.new) }
     {
         self.records.push(Record { at, input })?;
         Ok(())
     }
 
     fn add(&mut self, alloc: Global, entries: Vec<Entry>) -> Result<(), AllocError>
-        requires { length self.old.records < 2 ^ 32 }
+        requires room { length self.old.records < 2 ^ 32 }
+        requires early { all_early entries.items ≡ true }
         ensures { OnOk result (self.new ≡ history_keeper.add self.old entries.items) }
     {
         let number = self.records.len() as u32;
@@ -128,8 +134,10 @@ impl Book {
     fn entries(&self, alloc: Global, input: &Input, at: u64) -> Result<Vec<Entry>, AllocError>
         requires room { length self.now.records < 2 ^ 32 }
         requires form { IsTrue (is_in_form input.now) }
-        requires stamp { IsTrue (is_stamp at) }
-        ensures { IfOk result (λ entries. entries.items ≡ entries_of input.now at (history_facts self.now)) }
+        requires early { is_taken input.now ≡ true }
+        requires start { at ≡ 0 }
+        ensures value { IfOk result (λ entries. entries.items ≡ entries_of input.now at (history_facts self.now)) }
+        ensures early { IfOk result (λ entries. all_early entries.items ≡ true) }
     {
         match input {
             Input::User { token, user } => {
@@ -175,7 +183,7 @@ impl Book {
                     mid: *mid,
                     at,
                 };
-                self.purchase_entries(alloc, &purchase)
+                self.authorization_entries(alloc, &purchase)
             }
             Input::Move { .. }
             | Input::Product { .. }
@@ -193,13 +201,30 @@ impl Book {
         }
     }
 
+    fn authorization_entries(
+        &self,
+        alloc: Global,
+        purchase: &Purchase,
+    ) -> Result<Vec<Entry>, AllocError>
+        requires room { length self.now.records < 2 ^ 32 }
+        requires amount { IsTrue (is_amount purchase.now.amount) }
+        requires start { purchase.now.at ≡ 0 }
+        ensures value { IfOk result (λ entries. entries.items ≡ entries_of (input.Authorization purchase.now.token
+            purchase.now.card purchase.now.currency purchase.now.amount purchase.now.mcc purchase.now.mid)
+            purchase.now.at (history_facts self.now)) }
+        ensures early { IfOk result (λ entries. all_early entries.items ≡ true) }
+    {
+        let _rows = &self.rows;
+        self.purchase_entries(alloc, purchase)
+    }
+
     fn purchase_entries(&self, alloc: Global, purchase: &Purchase) -> Result<Vec<Entry>, AllocError>
         requires room { length self.now.records < 2 ^ 32 }
         requires amount { IsTrue (is_amount purchase.now.amount) }
-        requires stamp { IsTrue (is_stamp purchase.now.at) }
+        requires start { purchase.now.at ≡ 0 }
         ensures { IfOk result (λ entries. entries.items ≡ purchase_entries purchase.now (history_facts self.now)) }
     {
-        if let Some(why) = self.authorization_reason(
+        if let Some(why) = self.purchase_reason(
             &purchase.card,
             purchase.currency,
             purchase.amount,
@@ -213,7 +238,7 @@ impl Book {
             return Ok(Vec::new(alloc));
         };
         let txn = self.txn_begun(purchase, &card, &product);
-        authorized(alloc, &txn, purchase.amount, purchase.at)
+        purchased(alloc, &txn, purchase.amount, purchase.at)
     }
 
     /// The transaction of a purchase whose record was taken up last.
@@ -239,9 +264,11 @@ impl Book {
     }
 
     /// For now there is no product but `default`.
+    #[tactic(auto, using(crate::proofs::Early::early_products))]
     fn product(&self, name: &Token) -> Option<Product>
         ensures { result ≡ product_named name.now (products_of self.now.rows) }
     {
+        let _rows = &self.rows;
         rows::default_named(name)
     }
 
@@ -281,8 +308,8 @@ impl Book {
         }
     }
 
-    fn authorization_reason(&self, card: &Token, currency: Currency, amount: u64) -> Option<Reason>
-        ensures { result ≡ authorization_reason (history_facts self.now) card.now currency amount }
+    fn purchase_reason(&self, card: &Token, currency: Currency, amount: u64) -> Option<Reason>
+        ensures { result ≡ purchase_reason (history_facts self.now) card.now currency amount }
     {
         let Some(card) = self.card(card) else {
             return Some(Reason::CardUnknown);
@@ -296,7 +323,7 @@ impl Book {
         if !self.is_in_currency(&card, currency) {
             return Some(Reason::Currency);
         }
-        if self.lacks_funds(&card, currency, amount) {
+        if self.is_short(&card, currency, amount) {
             return Some(Reason::InsufficientFunds);
         }
         None
@@ -320,8 +347,8 @@ impl Book {
         }
     }
 
-    fn lacks_funds(&self, card: &Card, currency: Currency, amount: u64) -> bool
-        ensures { result ≡ lacks_funds (history_facts self.now) currency amount card.now }
+    fn is_short(&self, card: &Card, currency: Currency, amount: u64) -> bool
+        ensures { result ≡ is_short (history_facts self.now) currency amount card.now }
     {
         match self.product(&card.product) {
             Some(product) => {
@@ -351,8 +378,9 @@ fn is_account_funded(funding: Funding) -> bool
     matches!(funding, Funding::Account)
 }
 
-/// The texts of entries in a row.
+/// The texts of entries in a row: of those that the first book has, decisions alone go out.
 fn entries_text(alloc: Global, entries: &[Entry]) -> Result<Vec<u8>, AllocError>
+    requires { all_early entries.now ≡ true }
     ensures { IfOk result (λ text. text.items ≡ entries_text entries.now) }
 {
     let mut text = Vec::new(alloc);
@@ -380,7 +408,8 @@ fn append_rows(
     number: u32,
     entries: Vec<Entry>,
 ) -> Result<(), AllocError>
-    ensures { OnOk result (rows.new.items ≡ rows.old.items ++ numbered number entries.items) }
+    ensures added { OnOk result (rows.new.items ≡ rows.old.items ++ numbered number entries.items) }
+    ensures unchanged { OnErr result (rows.new.items ≡ rows.old.items) }
 {
     let mut added = numbered(alloc, number, entries)?;
     rows.append(&mut added)

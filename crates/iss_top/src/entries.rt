@@ -1,6 +1,7 @@
 //! The entries of the inputs that are built.
 ghost use Rattle.std.specs.Prelude.{◌≡◌, ◌<◌, ◌^◌, [], IfOk, Some};
-ghost use Rattle.iss_model.specs.Stepping.{unless_declined, set_by, loaded, authorized};
+ghost use Rattle.iss_model.specs.Stepping.{unless_declined, set_by, loaded};
+ghost use Rattle.iss_top.specs.Early.{purchased};
 
 use iss_model::{Account, Currency, Entry, Input, Part, Reason, Token, Txn, UsageRow, Verdict};
 use std::alloc::{AllocError, Global};
@@ -73,14 +74,14 @@ pub(crate) fn load_entries(
     }
 }
 
-pub(crate) fn authorized(
+pub(crate) fn purchased(
     alloc: Global,
     txn: &Txn,
     amount: u64,
     at: u64,
 ) -> Result<Vec<Entry>, AllocError>
     requires { amount < 2 ^ 63 }
-    ensures { IfOk result (λ entries. entries.items ≡ authorized txn.now amount at) }
+    ensures { IfOk result (λ entries. entries.items ≡ purchased txn.now amount at) }
 {
     let usage = UsageRow {
         txn: txn.token,

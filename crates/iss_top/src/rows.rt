@@ -7,7 +7,8 @@ ghost use Rattle.iss_model.specs.Sums.{changed_at, sum_at, balance_changes, held
 ghost use Rattle.iss_model.specs.Currencies.{iso_number, same_currency};
 ghost use Rattle.std.specs.Prelude.{List, if◌then◌else◌};
 ghost use Rattle.iss_model.specs.declared.entry.Row.{Row};
-ghost use Rattle.iss_model.specs.Settings.{user_made, card_made, user_named, card_named, users_of, cards_of, products_of, product_named, default_product};
+ghost use Rattle.iss_model.specs.Settings.{user_made, card_made, user_named, card_named, product_named, default_product};
+ghost use Rattle.iss_top.specs.Early.{users_made, cards_made};
 
 use iss_model::{
     Account, Card, CardState, Currency, Entry, Funding, Input, Product, Record, Row, Token, User,
@@ -16,7 +17,7 @@ use iss_model::{
 
 /// The user of that name.
 pub(crate) fn user_named(rows: &[Row], name: &Token) -> Option<User>
-    ensures { result ≡ user_named name.now (users_of rows.now) }
+    ensures { result ≡ user_named name.now (users_made rows.now) }
 {
     rows.iter()
         .filter_map(|row| user_made(&row.entry))
@@ -37,7 +38,7 @@ fn user_made(entry: &Entry) -> Option<User>
 
 /// The card of that name.
 pub(crate) fn card_named(rows: &[Row], name: &Token) -> Option<Card>
-    ensures { result ≡ card_named name.now (cards_of rows.now) }
+    ensures { result ≡ card_named name.now (cards_made rows.now) }
 {
     rows.iter()
         .filter_map(|row| card_made(&row.entry))

@@ -1,4 +1,5 @@
 use Rattle.std.proofs.Common.{rules}
+use Rattle.iss_event.proofs.TakenLines.{taken_line}
 use Rattle.iss_top.proofs.Tellings.{answer_faulty, answer_sound, bytes_of_one}
 use Rattle.iss_top.proofs.answer.answer.Goals as goal
 
@@ -19,3 +20,9 @@ pub returns-in-Err-Form-clause-texts : goal.returns-in-Err-Form-clause-texts
 returns-in-Err-Form-clause-texts c =
     let read = rw c.in-Err-Form.field-0-is at c.in-Err-Form.ensures.read in
     rw (answer_faulty c.args.book.now c.args.line.now c.in-Err-Form.fault read, bytes_of_one) c.form_line.ensures
+
+pub decide-requires-clause-early : goal.decide-requires-clause-early
+decide-requires-clause-early c = (taken_line c.args.line.now c.in-Ok.said c.in-Ok.ensures.read).0
+
+pub decide-requires-clause-start : goal.decide-requires-clause-start
+decide-requires-clause-start c = (taken_line c.args.line.now c.in-Ok.said c.in-Ok.ensures.read).1
