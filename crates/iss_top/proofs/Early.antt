@@ -1,17 +1,14 @@
 -- In the first book nothing is due, and no control, call, move or product but the built-in one stands.
-use Rattle.std.proofs.Common.{◌≡◌, ℕ, zero, suc, ◌+◌, ◌<◌, ◌≤◌, max, Bool, true, false, not, cond, ◌&&◌, nat_eq, nat_lt, nat_le, List, [], ◌∷◌, ◌++◌, map, filter, fold, Option, Some, None, ℤ, pos, refl, sym, ap, ◌∙◌, arith, length, get_or}
-use Rattle.std.specs.Prelude.{is_some, is_none, find, option_map, option_and_then, int_lt, if◌then◌else◌, Result, Ok, Err, OnOk, OnErr}
-use Rattle.std.specs.List.{filter_map, list_all, cons_option}
+use Rattle.std.proofs.Common.{◌≡◌, ℕ, ◌+◌, ◌<◌, max, Bool, true, false, not, cond, ◌&&◌, nat_eq, nat_lt, nat_le, List, [], ◌∷◌, ◌++◌, map, filter, fold, Option, Some, None, pos, refl, sym, ap, ◌∙◌, arith, length, get_or}
+use Rattle.std.specs.Prelude.{is_none, find, option_map, option_and_then, int_lt, Result, Ok, Err, OnOk, OnErr}
+use Rattle.std.specs.List.{filter_map, cons_option}
 use Rattle.std.proofs.lemmas.Bool.{and_parts}
 use Rattle.std.proofs.lemmas.Bool.Decides.{nat_tests}
 use Rattle.iss_model.specs.declared.currency.Currency.{Currency}
-use Rattle.iss_model.specs.declared.account.Account.TheVariants as account
 use Rattle.iss_model.specs.declared.account.Part.TheVariants as part
-use Rattle.iss_model.specs.declared.setting.User.{User}
 use Rattle.iss_model.specs.declared.setting.Card.{Card}
 use Rattle.iss_model.specs.declared.setting.Product.{Product}
 use Rattle.iss_model.specs.declared.setting.Moved.TheVariants as moved
-use Rattle.iss_model.specs.declared.setting.Funding.TheVariants as funding
 use Rattle.iss_model.specs.declared.setting.UserState.{UserState}
 use Rattle.iss_model.specs.declared.setting.CardState.{CardState}
 use Rattle.iss_model.specs.declared.txn.Txn.{Txn}
@@ -25,8 +22,8 @@ use Rattle.iss_model.specs.declared.entry.Entry.TheVariants as entry
 use Rattle.iss_model.specs.declared.decision.Reason.{Reason}
 use Rattle.iss_model.specs.declared.decision.Reason.TheVariants as reason
 use Rattle.iss_model.specs.declared.decision.Verdict.TheVariants as verdict
-use Rattle.iss_model.specs.Settings.{latest, user_made, user_moved, user_now, users_of, user_named, card_made, card_moved, card_now, cards_of, card_named, product_made, products_of, product_named, default_product, is_active_user, is_active_card}
-use Rattle.iss_model.specs.Controls.{ControlPut, ControlNow, control_put, control_now, control_puts_of, controls_of, counting, firsts}
+use Rattle.iss_model.specs.Settings.{latest, user_made, user_moved, user_now, users_of, card_made, card_moved, card_now, cards_of, card_named, product_made, products_of, product_named, default_product, is_active_user, is_active_card}
+use Rattle.iss_model.specs.Controls.{ControlPut, ControlNow, control_put, control_now, controls_of, counting, firsts}
 use Rattle.iss_model.specs.Activity.{TxnNow, CallNow, txn_began, txn_now, txns_of, call_opened, call_now, calls_of, is_asked}
 use Rattle.iss_model.specs.Facts.{Facts, available_in}
 use Rattle.iss_model.specs.Asks.{Ask, breach, declines, txn_begun, usage_of}
@@ -37,10 +34,10 @@ use Rattle.iss_model.specs.Pieces.{held}
 use Rattle.iss_model.specs.CardEntries.{authorized, gateway_asked}
 use Rattle.iss_model.specs.Due.{DueItem, due_call, due_txn, due_items, placed, is_quiet}
 use Rattle.iss_model.specs.Judging.{judge, judged_at, judged_on}
-use Rattle.iss_model.specs.Keeper.{Keeper, Growth, grow}
+use Rattle.iss_model.specs.Keeper.{Growth, grow}
 use Rattle.iss_model.specs.Stepping.{step, after_due, settle, own_entries, authorization_ask, entries_of, unless_declined, set_by, loaded}
 use Rattle.iss_event.specs.Taken.{is_taken}
-use Rattle.iss_top.specs.Early.{is_early_entry, all_early, are_early, IsEarly, is_known, users_made, cards_made, is_short, purchase_reason, purchased}
+use Rattle.iss_top.specs.Early.{is_early_entry, all_early, are_early, IsEarly, users_made, cards_made, is_short, purchase_reason, purchased}
 use Rattle.std.specs.Str.{bytes_eq}
 use Rattle.std.proofs.lemmas.List.Folds.{list_all-append}
 use Rattle.std.proofs.lemmas.List.Sums.{fold-append, AllPass-from_list_all}

@@ -6,7 +6,7 @@ use Rattle.iss_model.specs.declared.decision.Answer.{Answer}
 use Rattle.iss_model.specs.declared.input.Input.{Input}
 use Rattle.iss_model.specs.declared.input.Input.TheVariants as input
 use Rattle.iss_model.specs.declared.input.Record.{Record}
-use Rattle.iss_model.specs.Inputs.{is_event, is_text, event_token, same_contents}
+use Rattle.iss_model.specs.Inputs.{is_event, is_text, event_token}
 use Rattle.iss_model.specs.Facts.{Facts, Accepted, event_in}
 use Rattle.iss_model.specs.Histories.{History, history_facts, accepted_from}
 use Rattle.iss_event.specs.Taken.{is_taken}
