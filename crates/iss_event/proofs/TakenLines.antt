@@ -15,7 +15,7 @@ use Rattle.iss_model.specs.declared.input.Input.TheVariants as input
 use Rattle.iss_event.specs.declared.name.Name.TheVariants as name
 use Rattle.iss_event.specs.declared.line.FormFault.TheVariants.{NotBuilt, Long}
 use Rattle.iss_event.specs.Fields.{required, optional_or, token_of, currency_of, amount_of, mcc_of, kind_of}
-use Rattle.iss_event.specs.Rows.{◌>>=◌, user_row, card_row, load_row, authorization_row, row}
+use Rattle.iss_event.specs.Rows.{◌>>=◌, user_row, card_row, load_row, authorization_row}
 use Rattle.iss_event.specs.Objects.{object_of}
 use Rattle.iss_event.specs.Readings.{not_built, kind_line, object_line, found_line, exact_line, faults_not_built, line_read}
 use Rattle.iss_event.specs.Taken.{is_taken}
