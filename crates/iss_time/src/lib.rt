@@ -1,0 +1,6 @@
+//! Windows of time: the days, weeks and months over which controls add up, in UTC.
+#![tactic(auto)]
+
+mod windows;
+
+pub use windows::window;
