@@ -5,7 +5,8 @@ use Rattle.jiff_core.specs.Calendar.{days_of_months, days_in_month, days_from_ci
 use Rattle.jiff_core.proofs.CalendarLemmas.{days_of_months_table, days_of_months_more, days_from_civil-day_count, day_count-epoch, day_count-lt_year, day_of_year_bound}
 use Rattle.jiff_core.proofs.MarchLemmas.{leap_day, days_in_year-leap_day}
 use Rattle.jiff_core.proofs.SignedLemmas.{signed_arith}
-use Rattle.iss_model.specs.Calendar.{days_before_year, year_of_day, month_starts, month_in_year, month_number, month_of}
+use Rattle.iss_model.specs.Calendar.{days_before_year, year_of_day, month_starts, month_in_year, month_number, month_of, day_at}
+use Rattle.iss_time.specs.CivilMonths.{HasMonthOfDate}
 use Rattle.iss_time.proofs.Years.{next_year, days_before, year_of}
 
 -- how many months have begun, where there are so many leap days
@@ -107,3 +108,7 @@ month_of_date (pos y) (pos n) m d date e low =
     let short : p < 365 + leap_day (pos y) = omega (arith, day_of_year_bound (pos y) m d date, days_in_year-leap_day (pos y)) in
     let year : year_of_day (n + 719528) ≡ y = year_of y (n + 719528) (omega arith) (omega (arith, next_year y)) in
     ap pos (number_of (n + 719528) y p m year (omega arith) (month_begun y m d date.1.0 date.1.1 first date.2.1))
+
+-- a stamp falls in the month of its date
+pub month_of_stamp : (at : ℕ) → HasMonthOfDate at
+month_of_stamp at year month day date e = month_of_date year (day_at at (pos 0)) month day date e (omega (arith, signed_arith))

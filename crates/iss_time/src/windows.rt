@@ -1,18 +1,25 @@
 //! The window that a stamp falls in.
-ghost use Rattle.std.specs.Prelude.{◌≡◌, ◌≤◌, pos, ◌+ℤ◌, ◌*ℤ◌, ◌≤ℤ◌};
+ghost use Rattle.std.specs.Prelude.{◌≡◌, IsTrue, pos, ◌+ℤ◌, ◌*ℤ◌, ◌≤ℤ◌};
+ghost use Rattle.iss_model.specs.Forms.{is_stamp};
 ghost use Rattle.iss_model.specs.Calendar.{day_at, month_of, window_at};
+ghost use Rattle.iss_time.specs.CivilMonths.{HasMonthOfDate};
 
 use iss_model::Window;
 use jiff::civil::Date;
 
 const MILLISECONDS_PER_DAY: i64 = 86_400_000;
 
-/// The number of the window of this kind that the stamp falls in. Stamps of one window have one number, and later windows greater ones.
+/// The day of the greatest stamp, 31 December 9998.
+const LAST_DAY: i64 = 2_932_531;
+
+/// The number of the window of this kind that the stamp falls in, in UTC. A window of one transaction, and a lifetime, have the number 0.
 ///
-/// `at` is in milliseconds since 1 January 1970 UTC. A day's number counts from that day, a week's from the week that it lies in, beginning on Sundays, and a month's from January of the year 0, which is 1.
+/// `at` is in milliseconds since 1 January 1970. Days are numbered from that one; weeks begin on Sundays and are numbered from the one that it lies in; months are numbered as 12 times the year, plus the month.
+#[tactic(auto, using(crate::proofs::Months::month_of_stamp))]
 pub fn window(kind: Window, at: u64) -> i64
-    requires { at ≤ 253370764799999 }
-    ensures { result ≡ window_at kind at (pos 0) }
+    requires { IsTrue (is_stamp at) }
+    ensures number { result ≡ window_at kind at (pos 0) }
+    ensures month_of_date { HasMonthOfDate at }
 {
     match kind {
         Window::Transaction | Window::Lifetime => 0,
@@ -24,10 +31,10 @@ pub fn window(kind: Window, at: u64) -> i64
 
 /// The number of the stamp's day, from 1 January 1970.
 fn day(at: u64) -> i64
-    requires { at ≤ 253370764799999 }
+    requires { IsTrue (is_stamp at) }
     ensures number { result ≡ day_at at (pos 0) }
     ensures low { pos 0 ≤ℤ result }
-    ensures high { result ≤ℤ pos 2932531 }
+    ensures high { result ≤ℤ LAST_DAY }
 {
     (at as i64).div_euclid(MILLISECONDS_PER_DAY)
 }
@@ -35,7 +42,7 @@ fn day(at: u64) -> i64
 /// The number of the month that the day lies in.
 fn month(day: i64) -> i64
     requires low { pos 0 ≤ℤ day }
-    requires high { day ≤ℤ pos 2932531 }
+    requires high { day ≤ℤ LAST_DAY }
     ensures { result ≡ month_of day }
 {
     let date = Date::from_plain(jiff_core::civil::Date::from_unix_epoch_day(day).unwrap());

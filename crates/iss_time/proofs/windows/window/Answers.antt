@@ -4,8 +4,8 @@ use Rattle.iss_model.specs.Calendar.{day_at}
 use Rattle.iss_time.proofs.MonthWindows.{month_window}
 use Rattle.iss_time.proofs.windows.window.Goals as goal
 
-pub returns-in-Month : goal.returns-in-Month
-returns-in-Month c =
+pub returns-in-Month-clause-number : goal.returns-in-Month-clause-number
+returns-in-Month-clause-number c =
     let day_fits : FitsSigned w64 c.day-in-Month.result = omega (arith, ints) in
     let fits : FitsSigned w64 c.month.result = search rules in
     let day : to_z w64 (of_z w64 c.day-in-Month.result) ≡ day_at c.args.at (pos 0) = to_z-of_z w64 c.day-in-Month.result day_fits ∙ c.day-in-Month.ensures.number in
