@@ -1,12 +1,13 @@
 //! Currencies by their alphabetic codes, and their minor units.
-ghost use Rattle.std.specs.Prelude.{◌≡◌};
+ghost use Rattle.std.specs.Prelude.{◌≡◌, Some, IfSome};
 ghost use Rattle.iss_model.specs.Currencies.{currency_code, currency_of, decimals_of, unit_of};
 
 use iss_model::Currency;
 
 /// The currency of an alphabetic code such as `USD`, in capitals.
 pub fn from_code(text: &[u8]) -> Option<Currency>
-    ensures { result ≡ currency_of text.now }
+    ensures currency { result ≡ currency_of text.now }
+    ensures code_again { IfSome result (λ c. currency_code c ≡ text.now) }
 {
     match text {
         b"USD" => Some(Currency::Usd),
@@ -22,7 +23,8 @@ pub fn from_code(text: &[u8]) -> Option<Currency>
 
 /// The alphabetic code, in ASCII.
 pub fn code(currency: Currency) -> [u8; 3]
-    ensures { result ≡ currency_code currency }
+    ensures code { result ≡ currency_code currency }
+    ensures currency_again { currency_of result ≡ Some currency }
 {
     match currency {
         Currency::Usd => *b"USD",
