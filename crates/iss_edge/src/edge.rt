@@ -26,7 +26,7 @@ pub trait Edge {
     ghost extent: { Self → ℕ };
 
     /// Takes the next bytes of channel 0 into the front of `buf`, which is not empty, and answers how many. It answers 0
-    /// only where the channel's bytes have ended. Where it fails, what `buf` holds is open.
+    /// exactly at the end of the channel's bytes. Where it fails, it took none, and what `buf` holds is open.
     fn take(&mut self, ch: Channel, buf: &mut [u8]) -> Result<usize, Failed>
         requires channel { ch.0 ≡ 0 }
         requires room { 0 < length buf.old }

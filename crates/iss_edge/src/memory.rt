@@ -1,6 +1,6 @@
 //! An outside in memory.
 
-ghost use Rattle.std.specs.Prelude.{◌≡◌, ◌+◌, ◌-◌, ◌^◌, ◌≤◌, ◌↔◌, ◌++◌, ◌∷◌, [], true, min, take, drop, length, vec_len, IsTrue, Contains, Some, IfOk, OnOk, OnErr, IsSomeAnd, IfSome};
+ghost use Rattle.std.specs.Prelude.{◌≡◌, ◌+◌, ◌-◌, ◌^◌, ◌≤◌, ◌↔◌, ◌++◌, ◌∷◌, [], true, false, min, take, drop, length, vec_len, IsTrue, Contains, Some, IfOk, OnOk, OnErr, IsSomeAnd, IfSome};
 ghost use Rattle.std.proofs.Common.{sym};
 ghost use Rattle.iss_edge.specs.World.{Told, Rose};
 ghost use Rattle.iss_edge.specs.Calls.{Hears};
@@ -27,12 +27,17 @@ pub struct MemoryEdge {
     /// How many calls that may fail were made.
     calls: u64,
     trace: Vec<Action>,
-    heard: Vec<Answered>,
-    /// Whether each answer so far was noted.
-    tells: bool,
+    heard: Heard,
     input_faults: u64,
     output_faults: u64,
     ghost within: { at ≤ vec_len input },
+}
+
+/// What the calls answered, and whether each answer could be noted.
+#[derive(Drop)]
+struct Heard {
+    answers: Vec<Answered>,
+    whole: bool,
 }
 
 impl MemoryEdge {
@@ -60,8 +65,10 @@ impl MemoryEdge {
             fails,
             calls: 0,
             trace: Vec::new(alloc),
-            heard: Vec::new(alloc),
-            tells: true,
+            heard: Heard {
+                answers: Vec::new(alloc),
+                whole: true,
+            },
             input_faults: 0,
             output_faults: 0,
         })
@@ -78,7 +85,7 @@ impl MemoryEdge {
     pub fn heard(&self) -> &[Answered]
         ensures { IfSome (⟦<MemoryEdge as Edge>⟧.heard self.now) (λ items. result.now ≡ items) }
     {
-        self.heard.as_slice()
+        self.heard.answers.as_slice()
     }
 
     /// The device's bytes.
@@ -96,7 +103,7 @@ impl Edge for MemoryEdge {
       trace = m.trace.items;
     }) };
 
-    ghost heard = { λ m. told_while m.tells m.heard.items };
+    ghost heard = { λ m. told_while m.heard.whole m.heard.answers.items };
 
     ghost faults = { λ m. stream_faults m.input_faults m.output_faults };
 
@@ -104,23 +111,13 @@ impl Edge for MemoryEdge {
 
     fn take(&mut self, ch: Channel, buf: &mut [u8]) -> Result<usize, Failed> {
         if fails_now(&mut self.calls, self.fails.as_slice()) {
-            let item = Answered::Took { ch, bytes: None };
-            return Err(fail(
-                &mut self.input_faults,
-                &mut self.heard,
-                &mut self.tells,
-                item,
-            ));
+            let answer = Answered::Took { ch, bytes: None };
+            return Err(fail(&mut self.input_faults, &mut self.heard, answer));
         }
         let count = copy_next(self.input.as_slice(), self.at, buf);
-        if hear_bytes(self.alloc, &mut self.heard, ch, &buf[..count]).is_err() {
-            let item = Answered::Took { ch, bytes: None };
-            return Err(fail(
-                &mut self.input_faults,
-                &mut self.heard,
-                &mut self.tells,
-                item,
-            ));
+        if hear_bytes(self.alloc, &mut self.heard.answers, ch, &buf[..count]).is_err() {
+            let answer = Answered::Took { ch, bytes: None };
+            return Err(fail(&mut self.input_faults, &mut self.heard, answer));
         }
         self.at += count;
         Ok(count)
@@ -128,24 +125,14 @@ impl Edge for MemoryEdge {
 
     fn emit(&mut self, ch: Channel, bytes: &[u8]) -> Result<(), Failed> {
         if fails_now(&mut self.calls, self.fails.as_slice()) {
-            let item = Answered::Emitted { ch, ok: false };
-            let front = &bytes[..bytes.len().min(FRONT)];
-            let _ = note(self.alloc, &mut self.trace, ch, front, false);
-            return Err(fail(
-                &mut self.output_faults,
-                &mut self.heard,
-                &mut self.tells,
-                item,
-            ));
+            let answer = Answered::Emitted { ch, ok: false };
+            let _ = send_front(self.alloc, &mut self.trace, ch, bytes);
+            return Err(fail(&mut self.output_faults, &mut self.heard, answer));
         }
-        if send(self.alloc, &mut self.trace, &mut self.heard, ch, bytes).is_err() {
-            let item = Answered::Emitted { ch, ok: false };
-            return Err(fail(
-                &mut self.output_faults,
-                &mut self.heard,
-                &mut self.tells,
-                item,
-            ));
+        let answers = &mut self.heard.answers;
+        if send(self.alloc, &mut self.trace, answers, ch, bytes).is_err() {
+            let answer = Answered::Emitted { ch, ok: false };
+            return Err(fail(&mut self.output_faults, &mut self.heard, answer));
         }
         Ok(())
     }
@@ -159,8 +146,7 @@ fn fails_now(calls: &mut u64, fails: &[u64]) -> bool
     ensures named { IsTrue result ↔ Contains fails.now calls.new }
 {
     *calls = calls.saturating_add(1);
-    let number = *calls;
-    fails.contains(&number)
+    fails.contains(calls)
 }
 
 /// Copies the input from this place on into the front of the buffer, as much as fits, and answers how much.
@@ -213,6 +199,20 @@ fn note(
     Ok(())
 }
 
+/// Notes in the trace an emit that fails once its first bytes went out.
+fn send_front(
+    alloc: Global,
+    trace: &mut Vec<Action>,
+    ch: Channel,
+    bytes: &[u8],
+) -> Result<(), AllocError>
+    ensures ok { OnOk result
+        (trace.new.items ≡ trace.old.items ++ Emit ch (take FRONT bytes.now) false ∷ []) }
+    ensures err { OnErr result (trace.new.items ≡ trace.old.items) }
+{
+    note(alloc, trace, ch, &bytes[..bytes.len().min(FRONT)], false)
+}
+
 /// Notes an emit that succeeds in both lists, or in neither.
 fn send(
     alloc: Global,
@@ -226,22 +226,23 @@ fn send(
     ensures unsent { OnErr result (trace.new.items ≡ trace.old.items) }
     ensures unheard { OnErr result (heard.new.items ≡ heard.old.items) }
 {
+    // With room for the answer, nothing can fail once the action is noted.
     heard.reserve(1)?;
     note(alloc, trace, ch, bytes, true)?;
     heard.push(Answered::Emitted { ch, ok: true })?;
     Ok(())
 }
 
-/// Counts a call that failed and notes its answer, or tells no more of what was heard.
-fn fail(count: &mut u64, heard: &mut Vec<Answered>, tells: &mut bool, item: Answered) -> Failed
+/// Counts a call that failed and notes its answer.
+fn fail(count: &mut u64, heard: &mut Heard, answer: Answered) -> Failed
     ensures later { count.old ≤ count.new }
     ensures counted { Rose count.old count.new }
-    ensures heard { Told (Hears item) (told_while tells.old heard.old.items)
-        (told_while tells.new heard.new.items) }
+    ensures heard { Told (Hears answer) (told_while heard.old.whole heard.old.answers.items)
+        (told_while heard.new.whole heard.new.answers.items) }
 {
     *count = count.saturating_add(1);
-    if heard.push(item).is_err() {
-        *tells = false;
+    if heard.answers.push(answer).is_err() {
+        heard.whole = false;
     }
     Failed
 }

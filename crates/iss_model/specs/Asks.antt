@@ -1,6 +1,5 @@
 -- An ask: an authorisation or increment as it wants money, the use that it adds, and the control that it breaches.
 use Rattle.std.specs.Prelude.{ℕ, ◌+◌, ℤ, pos, neg_ℤ, ◌+ℤ◌, Bool, true, false, ◌&&◌, ◌||◌, List, find, Option, Some, None, option_map, int_lt, if◌then◌else◌}
-use Rattle.std.specs.Str.{bytes_eq}
 use Rattle.iss_model.specs.declared.call.Method.{Method}
 use Rattle.iss_model.specs.declared.call.Method.TheVariants as method
 use Rattle.iss_model.specs.declared.call.Opened.{Opened}
@@ -12,7 +11,7 @@ use Rattle.iss_model.specs.declared.setting.Window.TheVariants as window
 use Rattle.iss_model.specs.declared.txn.Txn.{Txn}
 use Rattle.iss_model.specs.declared.txn.UsageRow.{UsageRow}
 use Rattle.iss_model.specs.declared.txn.Used.{Used}
-use Rattle.iss_model.specs.Limits.{ControlNow, control_offset, counts, window_key, span_key}
+use Rattle.iss_model.specs.Controls.{ControlNow, control_offset, counts, window_key, span_key, control_named}
 use Rattle.iss_model.specs.Facts.{Facts}
 
 -- an event that asks for an amount for a transaction at a stamp: its first ask is its authorisation, each later one an increment
@@ -122,4 +121,4 @@ used_by c window.Lifetime user at = used_at c (window_key window.Lifetime (contr
 -- what the control of a name has counted, where there is one
 abbrev pub used_in : Facts → List ℕ → List ℕ → ℕ → Option Used
 used_in f name user at =
-    option_map (λ c. used_by c c.control.window user at) (find (λ c. bytes_eq c.control.name name) f.controls)
+    option_map (λ c. used_by c c.control.window user at) (control_named name f.controls)

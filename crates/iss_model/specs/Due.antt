@@ -5,10 +5,10 @@ use Rattle.iss_model.specs.declared.call.Failure.TheVariants as failure
 use Rattle.iss_model.specs.declared.txn.Txn.{Txn}
 use Rattle.iss_model.specs.declared.decision.Reason.TheVariants as reason
 use Rattle.iss_model.specs.declared.entry.Entry.{Entry}
-use Rattle.iss_model.specs.Happenings.{TxnNow, CallNow, is_asked}
+use Rattle.iss_model.specs.Activity.{TxnNow, CallNow, is_asked}
 use Rattle.iss_model.specs.Facts.{Facts, txn_in, call_in, next_notice}
 use Rattle.iss_model.specs.Pieces.{only_where, only_gateway, parts_held, in_all, noticed, after_abandoned, ended}
-use Rattle.iss_model.specs.Cardwork.{call_failed, of_asked}
+use Rattle.iss_model.specs.CardEntries.{call_failed, of_asked}
 
 -- what is due, by name: a call's number, or a transaction's token
 pub data DueThing : Type 0 where
@@ -22,10 +22,12 @@ pub record DueItem : Type 0 where
   pub number : ℕ
   pub thing : DueThing
 
+-- a call is due at its deadline
 abbrev pub due_call : CallNow → DueItem
 due_call c =
     record { since = c.opened.deadline; rank = 0; number = c.opened.call.0; thing = call_due c.opened.call.0 }
 
+-- a transaction is due at its expiry
 abbrev pub due_txn : TxnNow → DueItem
 due_txn t = record { since = t.txn.expires; rank = 1; number = t.txn.origin; thing = txn_due t.txn.token }
 

@@ -18,8 +18,8 @@ use Rattle.iss_model.specs.declared.entry.Entry.{Entry}
 use Rattle.iss_model.specs.declared.entry.Entry.TheVariants as entry
 use Rattle.iss_model.specs.Sums.{account_key, user_key, part_key, stood_key}
 use Rattle.iss_model.specs.Inputs.{is_event}
-use Rattle.iss_model.specs.Limits.{Group, ControlNow}
-use Rattle.iss_model.specs.Happenings.{TxnNow, CallNow, txn_named, call_numbered, is_asked}
+use Rattle.iss_model.specs.Controls.{Group, ControlNow}
+use Rattle.iss_model.specs.Activity.{TxnNow, CallNow, txn_named, call_numbered, is_asked}
 
 -- an accepted event with the number of its record
 pub record Accepted : Type 0 where
@@ -56,6 +56,7 @@ pub record Facts : Type 0 where
   pub paid : List ℕ → ℤ
   pub stood : List ℕ → ℤ
 
+-- the decision that an entry makes
 abbrev pub decision_of : Entry → Option Decision
 decision_of (entry.Decided event verdict) = Some (record { event = event; verdict = verdict })
 decision_of _ = None
@@ -64,6 +65,7 @@ decision_of _ = None
 abbrev pub event_in : Facts → List ℕ → Option Accepted
 event_in f token = find (λ a. is_event token a.input) f.accepted
 
+-- what is told of an event that was decided, or not yet
 abbrev pub replied : Option Decision → Reply
 replied None = Pending
 replied (Some d) = Decided d.verdict
@@ -72,6 +74,7 @@ replied (Some d) = Decided d.verdict
 abbrev pub reply_in : Facts → List ℕ → Reply
 reply_in f token = replied (find (λ d. bytes_eq d.event token) f.decisions)
 
+-- the balance of an account
 abbrev pub balance_in : Facts → Account → ℤ
 balance_in f a = f.balances (account_key a)
 
@@ -96,9 +99,11 @@ part_in f txn part = not_below (f.parts (part_key txn part))
 abbrev pub stood_in : Facts → List ℕ → List ℕ → ℕ → ℤ
 stood_in f product user at = f.stood (stood_key product user at)
 
+-- the transaction of this token
 abbrev pub txn_in : Facts → List ℕ → Option TxnNow
 txn_in f token = txn_named token f.txns
 
+-- the call of this number
 abbrev pub call_in : Facts → ℕ → Option CallNow
 call_in f number = call_numbered number f.calls
 

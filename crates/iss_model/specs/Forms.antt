@@ -19,6 +19,7 @@ is_mcc n = nat_le n 9999
 abbrev pub is_stamp : ℕ → Bool
 is_stamp at = nat_le at 253370764799999
 
+-- a stamp that may be left out
 abbrev pub is_stamp_or_none : Option ℕ → Bool
 is_stamp_or_none None = true
 is_stamp_or_none (Some at) = is_stamp at
@@ -73,6 +74,7 @@ are_limits window amount_limit usage_limit =
     && (is_some amount_limit || is_some usage_limit)
     && may_count window usage_limit
 
+-- a scope names a code of four digits, where it names one
 abbrev pub is_scope : Scope → Bool
 is_scope scope.All = true
 is_scope (scope.Mcc mcc) = is_mcc mcc

@@ -8,8 +8,8 @@ use Rattle.iss_model.specs.declared.decision.Judged.TheVariants as judged
 use Rattle.iss_model.specs.Sums.{sum_at, balance_changes, held_changes, part_changes, txn_changes, cleared_by, refunded_by, paid_by, stood_changes}
 use Rattle.iss_model.specs.Inputs.{event_token}
 use Rattle.iss_model.specs.Settings.{users_of, cards_of, products_of, switched_of}
-use Rattle.iss_model.specs.Limits.{groups_of, controls_of, sets_of}
-use Rattle.iss_model.specs.Happenings.{txns_of, calls_of, notices_of, pending_of}
+use Rattle.iss_model.specs.Controls.{groups_of, controls_of, sets_of}
+use Rattle.iss_model.specs.Activity.{txns_of, calls_of, notices_of, pending_of}
 use Rattle.iss_model.specs.Facts.{Facts, Accepted, decision_of}
 use Rattle.iss_model.specs.Keeper.{Keeper}
 use Rattle.iss_model.specs.Stepping.{step}
@@ -20,6 +20,7 @@ pub record History : Type 0 where
   pub records : List Record
   pub rows : List Row
 
+-- the history without a record
 abbrev pub nothing_yet : History
 nothing_yet = record { records = []; rows = [] }
 
@@ -36,6 +37,7 @@ accepted_from n (r ∷ rs) = record { number = n; input = r.input } ∷ accepted
 abbrev pub events_of : List Record → List Accepted
 events_of rs = filter (λ a. is_some (event_token a.input)) (accepted_from 1 rs)
 
+-- the facts of a history: each a sum or a filter over all its rows, or all its records
 abbrev pub history_facts : History → Facts
 history_facts h =
     record {
@@ -85,6 +87,7 @@ pub record Follows (h : History) (r : Record) : Type 0 where
   pub stamp : time_of h.records ≤ r.at
   pub is_new : judge history_keeper h r.input r.at ≡ judged.New r
 
+-- each record follows on those before it, behind this history
 abbrev pub IsLegalAfter : History → List Record → Type 0
 IsLegalAfter h [] = Unit {0}
 IsLegalAfter h (r ∷ rs) = Follows h r × IsLegalAfter (step history_keeper h r).world rs

@@ -45,6 +45,7 @@ event_token input.Time = None
 abbrev pub spelled : List ℕ → List ℕ
 spelled text = length text ∷ text
 
+-- true or false
 abbrev pub flag : Bool → List ℕ
 flag b = if b then 1 ∷ [] else 0 ∷ []
 
@@ -53,10 +54,12 @@ abbrev pub optional : Option ℕ → List ℕ
 optional None = 0 ∷ []
 optional (Some n) = 1 ∷ n ∷ []
 
+-- who funds, as a number
 abbrev pub funding_number : Funding → ℕ
 funding_number funding.Account = 1
 funding_number funding.Gateway = 2
 
+-- a window, as a number
 abbrev pub window_number : Window → ℕ
 window_number window.Transaction = 1
 window_number window.Day = 2
@@ -64,17 +67,20 @@ window_number window.Week = 3
 window_number window.Month = 4
 window_number window.Lifetime = 5
 
+-- a card's state, as a number
 abbrev pub card_state_number : CardState → ℕ
 card_state_number card_state.Unactivated = 1
 card_state_number card_state.Active = 2
 card_state_number card_state.Suspended = 3
 card_state_number card_state.Terminated = 4
 
+-- a user's state, as a number
 abbrev pub user_state_number : UserState → ℕ
 user_state_number user_state.Active = 2
 user_state_number user_state.Suspended = 3
 user_state_number user_state.Closed = 5
 
+-- a gateway's outcome, as a number
 abbrev pub outcome_number : Outcome → ℕ
 outcome_number outcome.Funded = 1
 outcome_number outcome.Refused = 2
@@ -86,11 +92,13 @@ abbrev pub moved_contents : Moved → List ℕ
 moved_contents (moved.Card card to) = 1 ∷ spelled card ++ card_state_number to ∷ []
 moved_contents (moved.User user to) = 2 ∷ spelled user ++ user_state_number to ∷ []
 
+-- whose purchases a control counts
 abbrev pub association_contents : Association → List ℕ
 association_contents association.Anybody = 0 ∷ []
 association_contents (association.User user) = 1 ∷ spelled user
 association_contents (association.Product product) = 2 ∷ spelled product
 
+-- at which merchants a control counts
 abbrev pub scope_contents : Scope → List ℕ
 scope_contents scope.All = 0 ∷ []
 scope_contents (scope.Mcc mcc) = 1 ∷ mcc ∷ []
@@ -128,6 +136,7 @@ contents input.Time = 17 ∷ []
 abbrev pub same_contents : Input → Input → Bool
 same_contents a b = bytes_eq (contents a) (contents b)
 
+-- it is this text
 abbrev pub is_text : List ℕ → Option (List ℕ) → Bool
 is_text text None = false
 is_text text (Some other) = bytes_eq other text

@@ -10,7 +10,7 @@ use Rattle.iss_model.specs.declared.decision.Judged.TheVariants as judged
 use Rattle.iss_model.specs.declared.input.Input.{Input}
 use Rattle.iss_model.specs.declared.input.Input.TheVariants as input
 use Rattle.iss_model.specs.Inputs.{same_contents}
-use Rattle.iss_model.specs.Happenings.{CallNow}
+use Rattle.iss_model.specs.Activity.{CallNow}
 use Rattle.iss_model.specs.Facts.{Facts, Accepted, event_in, reply_in, call_in, is_notice}
 use Rattle.iss_model.specs.Due.{due_items, is_quiet}
 use Rattle.iss_model.specs.Keeper.{Keeper}
@@ -23,6 +23,7 @@ told_by f i token (Some first) =
     if same_contents first.input i then Some (answer.Repeat token (reply_in f token))
     else Some (answer.Conflict token first.number)
 
+-- what an event is told, by the first record of its token
 abbrev pub event_answer : Facts → Input → List ℕ → Option Answer
 event_answer f i token = told_by f i token (event_in f token)
 
@@ -91,6 +92,7 @@ judged_as (Some a) quiet i at =
 abbrev pub judged_on : Bool → Facts → Facts → Input → ℕ → Judged
 judged_on quiet before after i at = judged_as (refusal quiet before after i) quiet i at
 
+-- an input judged at a moment, on what stands before and after what is due then
 abbrev pub judged_at : {W : Type 0} → Keeper W → W → Input → ℕ → Judged
 judged_at k w i at =
     judged_on (is_quiet (due_items (k.facts w) at)) (k.facts w) (k.facts (after_due k w at).world) i at

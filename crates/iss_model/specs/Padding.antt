@@ -9,9 +9,11 @@ pub record IsPadded (bytes : List ℕ) (len : ℕ) : Type 0 where
   pub fits : len ≤ 36
   pub tail : drop len bytes ≡ replicate (36 - len) 0
 
+-- the text has the length that is kept
 pub padded_len : (bytes : List ℕ) (len : ℕ) → IsPadded bytes len → length (take len bytes) ≡ len
 padded_len bytes len h = omega (arith, length-take len bytes, h.size, h.fits)
 
+-- the text and zeros behind it are the 36 bytes again
 pub padded_back : (bytes : List ℕ) (len : ℕ) → IsPadded bytes len → take len bytes ++ replicate (36 - length (take len bytes)) 0 ≡ bytes
 padded_back bytes len h =
     ap (λ n. take len bytes ++ replicate (36 - n) 0) (padded_len bytes len h)

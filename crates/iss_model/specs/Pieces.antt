@@ -18,10 +18,10 @@ use Rattle.iss_model.specs.declared.decision.Reason.TheVariants as reason
 use Rattle.iss_model.specs.declared.decision.Verdict.TheVariants as verdict
 use Rattle.iss_model.specs.declared.entry.Entry.{Entry}
 use Rattle.iss_model.specs.declared.entry.Entry.TheVariants as entry
-use Rattle.iss_model.specs.Happenings.{CallNow}
+use Rattle.iss_model.specs.Activity.{CallNow}
 use Rattle.iss_model.specs.Facts.{Facts, part_in, asked_of}
 use Rattle.iss_model.specs.Asks.{Ask, usage_of, call_ask, ask_given_back}
-use Rattle.iss_model.specs.AskReasons.{is_account_funded}
+use Rattle.iss_model.specs.CardReasons.{is_account_funded}
 use Rattle.iss_model.specs.StandIns.{Stand, allowed, over_limit, uncovered, stand}
 
 -- entries of an amount, where it isn't 0
@@ -44,6 +44,7 @@ held t part amount = only_where amount (entry.Hold t.token t.user t.currency par
 abbrev pub let_go : Txn → Part → ℕ → List Entry
 let_go t part amount = only_where amount (entry.Hold t.token t.user t.currency part (neg_ℤ (pos amount)) ∷ [])
 
+-- the account of a transaction's user
 abbrev pub user_account : Txn → Account
 user_account t = account.User t.user t.currency
 
@@ -58,6 +59,7 @@ abbrev pub parts_held : Facts → Txn → Parts
 parts_held f t =
     record { g = part_in f t.token part.G; p = part_in f t.token part.P; s = part_in f t.token part.S }
 
+-- the three parts together
 abbrev pub in_all : Parts → ℕ
 in_all parts = parts.g + parts.p + parts.s
 
@@ -168,6 +170,7 @@ stood_in_by number ask at s =
     ∷ entry.Decided ask.event verdict.Approved
     ∷ []
 
+-- what the sets say, as entries: the first notice has this number
 abbrev pub stood_as : Stand → ℕ → Ask → Failure → ℕ → List Entry
 stood_as (allowed s) number ask why at = stood_in_by number ask at s
 stood_as (over_limit s) number ask why at = ask_declined ask (reason.StandInLimit s.name)

@@ -1,5 +1,5 @@
 -- Why a setting or a load is declined: the first of its reasons that holds.
-use Rattle.std.specs.Prelude.{ℕ, Bool, false, not, ◌&&◌, ◌==◌, nat_le, List, [], ◌∷◌, length, find, Option, Some, None, is_some, is_none, if◌then◌else◌}
+use Rattle.std.specs.Prelude.{ℕ, Bool, false, not, ◌&&◌, ◌==◌, nat_le, List, [], ◌∷◌, length, Option, Some, None, is_some, is_none, if◌then◌else◌}
 use Rattle.std.specs.Str.{bytes_eq}
 use Rattle.iss_model.specs.declared.currency.Currency.{Currency}
 use Rattle.iss_model.specs.declared.setting.CardState.{CardState}
@@ -20,7 +20,7 @@ use Rattle.iss_model.specs.declared.decision.Reason.TheVariants as reason
 use Rattle.iss_model.specs.Currencies.{same_currency}
 use Rattle.iss_model.specs.Inputs.{window_number, association_contents, scope_contents}
 use Rattle.iss_model.specs.Settings.{user_named, card_named, product_named, is_closed_user, card_may_move, user_may_move}
-use Rattle.iss_model.specs.Limits.{ControlNow, group_named}
+use Rattle.iss_model.specs.Controls.{ControlNow, group_named, control_named, set_named}
 use Rattle.iss_model.specs.Facts.{Facts}
 
 -- the first reason whose test holds
@@ -45,9 +45,11 @@ is_full xs = nat_le most_things (length xs)
 abbrev pub user_is : (UserState → Bool) → Facts → List ℕ → Bool
 user_is test f user = is_some_with (λ u. test u.state) (user_named user f.users)
 
+-- why a new user is declined
 abbrev pub user_reason : Facts → List ℕ → Option Reason
 user_reason f user = first_reason ((is_some (user_named user f.users), reason.Exists) ∷ [])
 
+-- why a new card is declined
 abbrev pub card_reason : Facts → List ℕ → List ℕ → List ℕ → Option Reason
 card_reason f card user product =
     first_reason (
@@ -69,10 +71,12 @@ user_move_reason None to = Some reason.UserUnknown
 user_move_reason (Some user) to =
     first_reason ((not (user_may_move user.state to), reason.MoveUser user.state to) ∷ [])
 
+-- why a move is declined
 abbrev pub move_reason : Facts → Moved → Option Reason
 move_reason f (moved.Card card to) = card_move_reason (card_named card f.cards) to
 move_reason f (moved.User user to) = user_move_reason (user_named user f.users) to
 
+-- why a new product is declined
 abbrev pub product_reason : Facts → List ℕ → Option Reason
 product_reason f product =
     first_reason (
@@ -81,6 +85,7 @@ product_reason f product =
     ∷ []
     )
 
+-- why a new group is declined
 abbrev pub group_reason : Facts → List ℕ → Option Reason
 group_reason f group =
     first_reason (
@@ -88,9 +93,6 @@ group_reason f group =
     ∷ (is_full f.groups, reason.Limit)
     ∷ []
     )
-
-abbrev pub control_named : List ℕ → List ControlNow → Option ControlNow
-control_named name controls = find (λ c. bytes_eq c.control.name name) controls
 
 -- what a control that stands may not change: its currency, window, association and scope
 abbrev pub is_same_control : Control → Currency → Window → Association → Scope → Bool
@@ -132,12 +134,10 @@ put_control_reason None f currency window association scope =
     ∷ []
     )
 
+-- why a control is declined
 abbrev pub control_reason : Facts → List ℕ → Currency → Window → Association → Scope → Option Reason
 control_reason f control currency window association scope =
     put_control_reason (control_named control f.controls) f currency window association scope
-
-abbrev pub set_named : List ℕ → List Set → Option Set
-set_named name sets = find (λ s. bytes_eq s.name name) sets
 
 -- a set that stands keeps its product and its currency; a new one is of a known product, in its currency, and fits in
 abbrev pub put_set_reason : Option Set → Facts → List ℕ → Currency → Option Reason
@@ -152,12 +152,15 @@ put_set_reason None f product currency =
     ∷ []
     )
 
+-- why a set is declined
 abbrev pub set_reason : Facts → List ℕ → List ℕ → Currency → Option Reason
 set_reason f set product currency = put_set_reason (set_named set f.sets) f product currency
 
+-- why a switch is declined
 abbrev pub switch_reason : Facts → List ℕ → Option Reason
 switch_reason f product = first_reason ((is_none (product_named product f.products), reason.ProductUnknown) ∷ [])
 
+-- why a load is declined
 abbrev pub load_reason : Facts → List ℕ → Option Reason
 load_reason f user =
     first_reason (

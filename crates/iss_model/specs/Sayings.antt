@@ -55,6 +55,7 @@ answer_left (judged.New r) = []
 answer_left (judged.Clock r) = []
 answer_left (judged.Told a) = told a ∷ []
 
+-- what judging comes to, as a reaction
 abbrev pub reaction_as : History → Input → ℕ → Judged → Reaction
 reaction_as h i stamp (judged.New r) =
     let reaction = reaction_to_record h r in
@@ -65,5 +66,5 @@ reaction_as h i stamp (judged.Clock r) =
 reaction_as h i stamp (judged.Told a) = record { history = h; said = told a ∷ [] }
 
 -- an input at a stamp, on a history
-abbrev pub reaction : History → Input → ℕ → Reaction
+unfoldable pub reaction : History → Input → ℕ → Reaction
 reaction h i stamp = reaction_as h i stamp (judge history_keeper h i stamp)

@@ -21,7 +21,7 @@ use Rattle.iss_model.specs.declared.decision.Answer.TheVariants as answer
 use Rattle.iss_model.specs.declared.txn.Used.{Used}
 use Rattle.iss_model.specs.Facts.{Facts, balance_in, held_in}
 use Rattle.iss_model.specs.Asks.{used_in}
-use Rattle.iss_model.specs.Happenings.{is_asked}
+use Rattle.iss_model.specs.Activity.{is_asked}
 use Rattle.iss_model.specs.Histories.{History, nothing_yet, history_facts}
 use Rattle.iss_model.specs.Sayings.{Said, decided, asked, noticed, told, reaction}
 
@@ -82,6 +82,7 @@ sheet_of f c =
       held = held_in f (codes "u1") c;
     }
 
+-- the open calls, the pending notices and the records, counted
 abbrev pub tally_of : Facts → Tally
 tally_of f =
     record { calls = length (filter is_asked f.calls); notices = length f.pending; records = f.count }
@@ -149,21 +150,27 @@ purchase_at mcc token amount = input.Authorization (codes token) (codes "c1") Us
 abbrev pub purchase : String → ℕ → Input
 purchase token amount = purchase_at 5411 token amount
 
+-- an increment of a transaction in US dollars
 abbrev pub increment : String → String → ℕ → Input
 increment token txn amount = input.Increment (codes token) (codes txn) Usd amount
 
+-- a reversal of a transaction in US dollars
 abbrev pub reversal : String → String → ℕ → Input
 reversal token txn amount = input.Reversal (codes token) (codes txn) Usd amount
 
+-- a clearing of a transaction in US dollars, with more to come
 abbrev pub clearing : String → String → ℕ → Input
 clearing token txn amount = input.Clearing (codes token) (codes txn) Usd amount false
 
+-- the last clearing of a transaction in US dollars
 abbrev pub final_clearing : String → String → ℕ → Input
 final_clearing token txn amount = input.Clearing (codes token) (codes txn) Usd amount true
 
+-- a refund of a transaction in US dollars
 abbrev pub refund : String → String → ℕ → Input
 refund token txn amount = input.Refund (codes token) (codes txn) Usd amount
 
+-- a call by its number
 abbrev pub call_number : ℕ → CallId
 call_number n = record { 0 = n }
 

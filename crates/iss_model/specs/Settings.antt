@@ -39,9 +39,11 @@ user_now rows user = record user { state = latest user.state (filter_map (λ row
 abbrev pub users_of : List Row → List User
 users_of rows = map (user_now rows) (filter_map (λ row. user_made row.entry) rows)
 
+-- the user of this name
 abbrev pub user_named : List ℕ → List User → Option User
 user_named name users = find (λ user. bytes_eq user.name name) users
 
+-- a card begins active, or waits to be activated
 abbrev pub first_card_state : Bool → CardState
 first_card_state active = if active then card_state.Active else card_state.Unactivated
 
@@ -64,6 +66,7 @@ card_now rows card = record card { state = latest card.state (filter_map (λ row
 abbrev pub cards_of : List Row → List Card
 cards_of rows = map (card_now rows) (filter_map (λ row. card_made row.entry) rows)
 
+-- the card of this name
 abbrev pub card_named : List ℕ → List Card → Option Card
 card_named name cards = find (λ card. bytes_eq card.name name) cards
 
@@ -82,6 +85,7 @@ product_made _ = None
 abbrev pub products_of : List Row → List Product
 products_of rows = default_product ∷ filter_map (λ row. product_made row.entry) rows
 
+-- the product of this name
 abbrev pub product_named : List ℕ → List Product → Option Product
 product_named name products = find (λ product. bytes_eq product.name name) products
 
@@ -102,17 +106,19 @@ switched_of rows = filter (is_switched rows) (map (λ product. product.name) (pr
 abbrev pub is_named_in : List (List ℕ) → List ℕ → Bool
 is_named_in names name = list_any (λ other. bytes_eq other name) names
 
--- the states as tests
+-- a user may buy
 abbrev pub is_active_user : UserState → Bool
 is_active_user user_state.Active = true
 is_active_user user_state.Suspended = false
 is_active_user user_state.Closed = false
 
+-- a user is closed for good
 abbrev pub is_closed_user : UserState → Bool
 is_closed_user user_state.Active = false
 is_closed_user user_state.Suspended = false
 is_closed_user user_state.Closed = true
 
+-- a card may be used
 abbrev pub is_active_card : CardState → Bool
 is_active_card card_state.Unactivated = false
 is_active_card card_state.Active = true

@@ -26,6 +26,7 @@ allows f s ask at =
     nat_le ask.amount s.max
     && int_le (stood_in f ask.txn.product ask.txn.user at +ℤ pos ask.amount) (pos s.day_limit)
 
+-- what the set that was found says, where one was found
 abbrev pub stand_by : Facts → Ask → ℕ → Option Set → Stand
 stand_by f ask at None = uncovered
 stand_by f ask at (Some s) = if allows f s ask at then allowed s else over_limit s

@@ -12,8 +12,8 @@ use Rattle.iss_model.specs.declared.entry.Entry.TheVariants as entry
 use Rattle.iss_model.specs.Facts.{Facts, txn_in}
 use Rattle.iss_model.specs.Asks.{Ask}
 use Rattle.iss_model.specs.Reasons.{user_reason, card_reason, move_reason, product_reason, group_reason, control_reason, set_reason, switch_reason, load_reason}
-use Rattle.iss_model.specs.AskReasons.{txn_asked, first_ask, further_ask, authorization_reason, increment_reason, reversal_reason, clearing_reason, refund_reason}
-use Rattle.iss_model.specs.Cardwork.{authorized, incremented, reversed, cleared, refunded, answered}
+use Rattle.iss_model.specs.CardReasons.{txn_asked, first_ask, further_ask, authorization_reason, increment_reason, reversal_reason, clearing_reason, refund_reason}
+use Rattle.iss_model.specs.CardEntries.{authorized, incremented, reversed, cleared, refunded, answered}
 use Rattle.iss_model.specs.Due.{DueItem, due_items, thing_entries}
 use Rattle.iss_model.specs.Keeper.{Keeper, Growth, grow}
 

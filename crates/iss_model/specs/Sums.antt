@@ -40,6 +40,7 @@ balance_changes (entry.Post from to amount txn) =
     record { key = account_key to; by = pos amount } ∷ record { key = account_key from; by = neg_ℤ (pos amount) } ∷ []
 balance_changes _ = []
 
+-- a user's name and a currency
 abbrev pub user_key : List ℕ → Currency → List ℕ
 user_key user currency = user ++ 0 ∷ iso_number currency ∷ []
 
@@ -48,6 +49,7 @@ abbrev pub held_changes : Entry → List Change
 held_changes (entry.Hold txn user currency part amount) = record { key = user_key user currency; by = amount } ∷ []
 held_changes _ = []
 
+-- a part of a hold, as a number
 abbrev pub part_number : Part → ℕ
 part_number part.G = 1
 part_number part.P = 2

@@ -25,6 +25,7 @@ pub record Told : Type 0 where
   pub history : History
   pub texts : List Text
 
+-- texts that are all due to go at one level
 abbrev pub at_level : ℕ → List (List ℕ) → List Text
 at_level level texts = map (λ bytes. record { level = level; bytes = bytes }) texts
 

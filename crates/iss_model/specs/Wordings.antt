@@ -21,13 +21,16 @@ pub record Member : Type 0 where
   pub name : List ℕ
   pub value : Value
 
+-- a text in quotation marks
 abbrev pub in_quotes : List ℕ → List ℕ
 in_quotes text = 34 ∷ text ++ 34 ∷ []
 
+-- the text of a value
 abbrev pub value_text : Value → List ℕ
 value_text (worded text) = in_quotes text
 value_text (counted n) = decimal n
 
+-- a name in quotation marks, a colon and the value
 abbrev pub member_text : Member → List ℕ
 member_text m = in_quotes m.name ++ 58 ∷ value_text m.value
 
@@ -39,18 +42,22 @@ object_text ms = 123 ∷ join_with_byte 44 (map member_text ms) ++ 125 ∷ []
 abbrev pub line_of : List Member → List ℕ
 line_of ms = object_text ms ++ 10 ∷ []
 
+-- a member whose value is a text
 abbrev pub with_text : List ℕ → List ℕ → Member
 with_text name text = record { name = name; value = worded text }
 
+-- a member whose value is a whole number
 abbrev pub with_number : List ℕ → ℕ → Member
 with_number name n = record { name = name; value = counted n }
 
+-- a card's state, by its name
 abbrev pub card_state_text : CardState → List ℕ
 card_state_text card.Unactivated = codes "UNACTIVATED"
 card_state_text card.Active = codes "ACTIVE"
 card_state_text card.Suspended = codes "SUSPENDED"
 card_state_text card.Terminated = codes "TERMINATED"
 
+-- a user's state, by its name
 abbrev pub user_state_text : UserState → List ℕ
 user_state_text user.Active = codes "ACTIVE"
 user_state_text user.Suspended = codes "SUSPENDED"

@@ -20,7 +20,7 @@ ghost use Rattle.iss_model.specs.WorkedSettings.{states_of_a_user, settings_decl
 ghost use Rattle.iss_model.specs.WorkedRefunds.{refund_of_a_stand_in, partly_released_stand_in, switched_off_without_a_set};
 
 /// Each script is told just what its steps say, and its balances, calls, notices and records stand then.
-#[tactic(auto, unfolding(crate::specs::Stepping::step, crate::specs::Judging::judge))]
+#[tactic(auto, unfolding(crate::specs::Stepping::step, crate::specs::Judging::judge, crate::specs::Sayings::reaction))]
 pub fn worked_scripts()
     ensures purchase_of_all { Plays purchase_of_all }
     ensures purchase_of_more { Plays purchase_of_more }
@@ -149,7 +149,7 @@ pub fn worked_texts()
 {}
 
 /// What a control has counted after a day of purchases.
-#[tactic(auto, unfolding(crate::specs::Stepping::step, crate::specs::Judging::judge))]
+#[tactic(auto, unfolding(crate::specs::Stepping::step, crate::specs::Judging::judge, crate::specs::Sayings::reaction))]
 pub fn worked_use()
     ensures use_of_a_day { option_map (λ used. used.amount) (used_after a_day (codes "v1")) ≡ Some (pos 14170) }
 {}

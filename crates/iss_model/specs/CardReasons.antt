@@ -10,11 +10,12 @@ use Rattle.iss_model.specs.declared.decision.Reason.{Reason}
 use Rattle.iss_model.specs.declared.decision.Reason.TheVariants as reason
 use Rattle.iss_model.specs.Currencies.{same_currency}
 use Rattle.iss_model.specs.Settings.{card_named, product_named, is_active_user, is_active_card}
-use Rattle.iss_model.specs.Happenings.{TxnNow}
+use Rattle.iss_model.specs.Activity.{TxnNow}
 use Rattle.iss_model.specs.Facts.{Facts, available_in, asked_of}
 use Rattle.iss_model.specs.Asks.{Ask, breach, txn_begun, is_authorization}
 use Rattle.iss_model.specs.Reasons.{first_reason, is_some_with, user_is}
 
+-- purchases are paid from the user's own balance
 abbrev pub is_account_funded : Funding → Bool
 is_account_funded funding.Account = true
 is_account_funded funding.Gateway = false

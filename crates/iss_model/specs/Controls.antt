@@ -39,6 +39,7 @@ group_made _ = None
 abbrev pub groups_of : List Row → List Group
 groups_of rows = filter_map (λ row. group_made row.entry) rows
 
+-- the group of this name
 abbrev pub group_named : List ℕ → List Group → Option Group
 group_named name groups = find (λ group. bytes_eq group.name name) groups
 
@@ -177,3 +178,11 @@ counting rows put =
 -- the controls of the book, in the order of their first rows, with what they have counted
 abbrev pub controls_of : List Row → List ControlNow
 controls_of rows = map (counting rows) (control_puts_of rows)
+
+-- the control of this name
+abbrev pub control_named : List ℕ → List ControlNow → Option ControlNow
+control_named name controls = find (λ c. bytes_eq c.control.name name) controls
+
+-- the set of this name
+abbrev pub set_named : List ℕ → List Set → Option Set
+set_named name sets = find (λ s. bytes_eq s.name name) sets

@@ -1,4 +1,4 @@
--- What the card events and the gateway's answers make, where they aren't declined.
+-- The entries of card events and of the gateway's answers, where they aren't declined.
 use Rattle.std.specs.Prelude.{ℕ, ◌+◌, ◌-◌, min, ◌==◌, pos, ◌-ℤ◌, Bool, ◌&&◌, ◌||◌, List, [], ◌∷◌, ◌++◌, Option, Some, None, if◌then◌else◌}
 use Rattle.iss_model.specs.declared.account.Account.TheVariants as account
 use Rattle.iss_model.specs.declared.account.Part.TheVariants as part
@@ -18,10 +18,10 @@ use Rattle.iss_model.specs.declared.input.Outcome.TheVariants as outcome
 use Rattle.iss_model.specs.declared.entry.Entry.{Entry}
 use Rattle.iss_model.specs.declared.entry.Entry.TheVariants as entry
 use Rattle.iss_model.specs.Settings.{product_named, is_named_in}
-use Rattle.iss_model.specs.Happenings.{TxnNow, CallNow, is_asked}
+use Rattle.iss_model.specs.Activity.{TxnNow, CallNow, is_asked}
 use Rattle.iss_model.specs.Facts.{Facts, txn_in, call_in, next_notice, next_call, not_below}
 use Rattle.iss_model.specs.Asks.{Ask, usage_of, ask_usage, call_ask}
-use Rattle.iss_model.specs.AskReasons.{is_account_funded}
+use Rattle.iss_model.specs.CardReasons.{is_account_funded}
 use Rattle.iss_model.specs.Pieces.{only_where, only_gateway, posted, held, let_go, user_account, Parts, parts_held, in_all, left_of, taken_to_clear, released, noticed, voided, abandoned, after_abandoned, ended, ask_declined, ask_funded, stood_in}
 
 -- the method of a call for an ask
@@ -150,14 +150,16 @@ answered_as outcome.Refused f o t at =
 answered_as outcome.Connection f o t at = call_failed f o t failure.Connection at
 answered_as outcome.Application f o t at = call_failed f o t failure.Application at
 
--- entries of a call that is asked, with its transaction
+-- entries for a transaction, where it is known
+abbrev pub of_txn : (Txn → List Entry) → Option TxnNow → List Entry
+of_txn make None = []
+of_txn make (Some now) = make now.txn
+
+-- entries of a call that is asked, with its transaction; a call that isn't makes none
 abbrev pub of_asked : (Opened → Txn → List Entry) → Option CallNow → Facts → List Entry
 of_asked make None f = []
 of_asked make (Some c) f = if is_asked c then of_txn (make c.opened) (txn_in f c.opened.txn) else []
-  where
-    of_txn : (Txn → List Entry) → Option TxnNow → List Entry
-    of_txn make None = []
-    of_txn make (Some now) = make now.txn
 
+-- the entries of the gateway's answer to a call that is asked
 abbrev pub answered : CallId → Outcome → ℕ → Facts → List Entry
 answered call outcome at f = of_asked (λ o t. answered_as outcome f o t at) (call_in f call.0) f

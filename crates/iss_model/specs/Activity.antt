@@ -33,6 +33,7 @@ txn_now rows txn = record { txn = txn; live = not (list_any (λ row. ends_txn tx
 abbrev pub txns_of : List Row → List TxnNow
 txns_of rows = map (txn_now rows) (filter_map (λ row. txn_began row.entry) rows)
 
+-- the transaction of this token
 abbrev pub txn_named : List ℕ → List TxnNow → Option TxnNow
 txn_named token txns = find (λ t. bytes_eq t.txn.token token) txns
 
@@ -60,6 +61,7 @@ call_now rows opened =
 abbrev pub calls_of : List Row → List CallNow
 calls_of rows = map (call_now rows) (filter_map (λ row. call_opened row.entry) rows)
 
+-- the call of this number
 abbrev pub call_numbered : ℕ → List CallNow → Option CallNow
 call_numbered number calls = find (λ c. c.opened.call.0 == number) calls
 

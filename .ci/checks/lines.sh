@@ -1,0 +1,25 @@
+#!/usr/bin/env bash
+# Where lines begin and end: no input, blank lines, and a last line without a line feed.
+. "$(dirname "$0")/../program.sh"
+
+replies=crates/iss_cli/stdout
+
+# answered WHAT FILE: on this input the program writes what the file holds.
+answered() {
+    issue dry >"$room/out"
+    ended "$1" 0 ''
+    wrote "$1" "$2"
+}
+
+answered 'the first example' $replies <examples/first.jsonl
+answered 'no input' /dev/null </dev/null
+printf '\n \n\t\r\n\n  \t' >"$room/blank"
+answered 'blank lines alone' /dev/null <"$room/blank"
+
+while IFS= read -r line; do
+    printf '\n \t\r\n%s\r\n\n' "$line"
+done <examples/first.jsonl >"$room/between"
+answered 'blank lines between' $replies <"$room/between"
+
+head -c -1 examples/first.jsonl >"$room/unended"
+answered 'a last line without a line feed' $replies <"$room/unended"

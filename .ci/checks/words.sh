@@ -1,0 +1,27 @@
+#!/usr/bin/env bash
+# Words that are no command: status 2, the usage line, and nothing read or written.
+. "$(dirname "$0")/../program.sh"
+
+usage='issuer: usage: dry, format DEVICE SIZE INSTANCE, replay DEVICE, balances DEVICE, serve DEVICE PORT GATEWAYPORT TURNS, drill N'
+
+# refused WORDS..: the program takes none of these words.
+refused() {
+    local what="the words '$*'"
+    { issue "$@" && cat >"$room/left"; } <examples/first.jsonl >"$room/out"
+    ended "$what" 2 "$usage"
+    wrote "$what" /dev/null
+    cmp -s examples/first.jsonl "$room/left" || fail "$what: it read its input"
+}
+
+refused
+refused pay
+refused replay
+refused replay a b
+refused serve d 80 81 0
+refused drill 0
+refused dry -x
+refused dry dry
+refused ''
+refused dry ''
+refused $'dr\xff'
+refused dry $'\xff'

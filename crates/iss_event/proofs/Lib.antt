@@ -1,0 +1,5 @@
+pub mod AmountLemmas
+pub mod InForm
+pub mod ObjectLemmas
+pub mod PlainTexts
+pub mod TakenLines

@@ -1,0 +1,36 @@
+-- The types of line.
+use Rattle.std.specs.Prelude.{ℕ, List, codes, Option, Some, None, if◌then◌else◌}
+use Rattle.std.specs.Str.{bytes_eq}
+use Rattle.iss_event.specs.declared.kind.Kind.{Kind}
+use Rattle.iss_event.specs.declared.kind.Kind.TheVariants as kind
+use Rattle.iss_event.specs.declared.line.Mode.{Mode}
+use Rattle.iss_event.specs.declared.line.Mode.TheVariants.{Client}
+
+-- the kind that a text names
+unfoldable pub kind_of_text : List ℕ → Option Kind
+kind_of_text text =
+    if bytes_eq text (codes "user") then Some kind.User
+    else if bytes_eq text (codes "card") then Some kind.Card
+    else if bytes_eq text (codes "move") then Some kind.Move
+    else if bytes_eq text (codes "product") then Some kind.Product
+    else if bytes_eq text (codes "group") then Some kind.Group
+    else if bytes_eq text (codes "control") then Some kind.Control
+    else if bytes_eq text (codes "set") then Some kind.Set
+    else if bytes_eq text (codes "switch") then Some kind.Switch
+    else if bytes_eq text (codes "load") then Some kind.Load
+    else if bytes_eq text (codes "authorization") then Some kind.Authorization
+    else if bytes_eq text (codes "increment") then Some kind.Increment
+    else if bytes_eq text (codes "reversal") then Some kind.Reversal
+    else if bytes_eq text (codes "clearing") then Some kind.Clearing
+    else if bytes_eq text (codes "refund") then Some kind.Refund
+    else if bytes_eq text (codes "answer") then Some kind.Answer
+    else if bytes_eq text (codes "ack") then Some kind.Ack
+    else if bytes_eq text (codes "time") then Some kind.Time
+    else None
+
+-- the kind, where a line from there may be of it: no client says what a gateway answered or that time went by
+abbrev pub kind_in : Mode → Kind → Option Kind
+kind_in Client kind.Answer = None
+kind_in Client kind.Ack = None
+kind_in Client kind.Time = None
+kind_in mode k = Some k

@@ -1,0 +1,11 @@
+pub mod Amounts
+pub mod Fields
+pub mod FormLines
+pub mod Kinds
+pub mod Names
+pub mod Objects
+pub mod Plain
+pub mod Readings
+pub mod Reasons
+pub mod Rows
+pub mod Taken

@@ -1,0 +1,77 @@
+-- What a line says.
+use Rattle.std.specs.Prelude.{◌≡◌, ℕ, ◌||◌, List, length, Bool, true, false, nat_lt, Option, Some, None, is_some, option_and_then, Result, Ok, Err, if◌then◌else◌}
+use Rattle.serde_json.specs.Data.{Data}
+use Rattle.iss_model.specs.declared.currency.Currency.{Currency}
+use Rattle.iss_model.specs.declared.currency.Currency.TheVariants.{Usd}
+use Rattle.iss_event.specs.declared.name.Name.TheVariants as name
+use Rattle.iss_event.specs.declared.kind.Kind.{Kind}
+use Rattle.iss_event.specs.declared.kind.Kind.TheVariants.{User, Card, Load, Authorization}
+use Rattle.iss_event.specs.declared.line.Mode.{Mode}
+use Rattle.iss_event.specs.declared.line.Mode.TheVariants.{Lines, Client}
+use Rattle.iss_event.specs.declared.line.Line.{Line}
+use Rattle.iss_event.specs.declared.line.FormFault.{FormFault}
+use Rattle.iss_event.specs.declared.line.FormFault.TheVariants.{Long, Json, NotBuilt}
+use Rattle.iss_event.specs.declared.line.LineFault.{LineFault}
+use Rattle.iss_event.specs.declared.line.LineFault.TheVariants.{Form, OutOfMemory}
+use Rattle.iss_event.specs.Objects.{object_of}
+use Rattle.iss_event.specs.Fields.{field, required, kind_of, currency_of}
+use Rattle.iss_event.specs.Rows.{◌>>=◌, row}
+
+-- the line says when it happened; a client's member `at` says nothing
+abbrev pub has_stamp : Mode → Data → Bool
+has_stamp Lines d = is_some (field name.At d)
+has_stamp Client d = false
+
+-- there is a currency, and not USD
+abbrev pub is_other : Option Currency → Bool
+is_other None = false
+is_other (Some Usd) = false
+is_other (Some _) = true
+
+-- the line names a currency other than USD
+abbrev pub has_other_currency : Data → Bool
+has_other_currency d = is_other (option_and_then currency_of (field name.Currency d))
+
+-- the line isn't taken yet: it has a stamp, or money that isn't in USD, or is of another kind than these four
+abbrev pub not_built : Mode → Kind → Data → Bool
+not_built mode User d = has_stamp mode d
+not_built mode Card d = has_stamp mode d
+not_built mode Load d = has_stamp mode d || has_other_currency d
+not_built mode Authorization d = has_stamp mode d || has_other_currency d
+not_built mode _ d = true
+
+-- what an object of this kind says
+abbrev pub kind_line : Mode → Data → Kind → Result Line FormFault
+kind_line mode d kind = if not_built mode kind d then Err NotBuilt else do
+  said ← row kind d
+  Ok (record { input = said; at = None })
+
+-- what an object says, or its first fault
+unfoldable pub object_line : Mode → Data → Result Line FormFault
+object_line mode d = do
+  kind ← required (kind_of mode) name.Kind d
+  kind_line mode d kind
+
+-- what an object says, where there is one
+abbrev pub found_line : Mode → Option Data → Result Line FormFault
+found_line mode None = Err Json
+found_line mode (Some d) = object_line mode d
+
+-- what a line says, or its first fault
+unfoldable pub exact_line : Mode → List ℕ → Result Line FormFault
+exact_line mode line = if nat_lt 16384 (length line) then Err Long else found_line mode (object_of line)
+
+-- each fault is told as one of a line that isn't taken yet
+abbrev pub faults_not_built : Result Line FormFault → Result Line FormFault
+faults_not_built (Ok said) = Ok said
+faults_not_built (Err fault) = Err NotBuilt
+
+-- what a line is taken to say, for now without a fault of its own
+unfoldable pub line_read : Mode → List ℕ → Result Line FormFault
+line_read mode line = faults_not_built (exact_line mode line)
+
+-- reading gave this, unless memory was wanted, which may happen at any line
+abbrev pub Reads : Result Line FormFault → Result Line LineFault → Type 0
+Reads said (Ok line) = said ≡ Ok line
+Reads said (Err (Form fault)) = said ≡ Err fault
+Reads said (Err OutOfMemory) = Unit {0}

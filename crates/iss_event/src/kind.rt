@@ -1,0 +1,64 @@
+//! The types of line.
+ghost use Rattle.std.specs.Prelude.{◌≡◌};
+ghost use Rattle.iss_event.specs.Kinds.{kind_of_text, kind_in};
+
+use crate::Mode;
+
+/// What a line is about, by its field `type`.
+#[derive(Clone, Copy)]
+pub(crate) enum Kind {
+    User,
+    Card,
+    Move,
+    Product,
+    Group,
+    Control,
+    Set,
+    Switch,
+    Load,
+    Authorization,
+    Increment,
+    Reversal,
+    Clearing,
+    Refund,
+    Answer,
+    Ack,
+    Time,
+}
+
+/// The kind that a text names.
+#[tactic(auto, unfolding(crate::specs::Kinds::kind_of_text))]
+pub(crate) fn kind_of_text(text: &str) -> Option<Kind>
+    ensures { result ≡ kind_of_text text.now }
+{
+    match text {
+        "user" => Some(Kind::User),
+        "card" => Some(Kind::Card),
+        "move" => Some(Kind::Move),
+        "product" => Some(Kind::Product),
+        "group" => Some(Kind::Group),
+        "control" => Some(Kind::Control),
+        "set" => Some(Kind::Set),
+        "switch" => Some(Kind::Switch),
+        "load" => Some(Kind::Load),
+        "authorization" => Some(Kind::Authorization),
+        "increment" => Some(Kind::Increment),
+        "reversal" => Some(Kind::Reversal),
+        "clearing" => Some(Kind::Clearing),
+        "refund" => Some(Kind::Refund),
+        "answer" => Some(Kind::Answer),
+        "ack" => Some(Kind::Ack),
+        "time" => Some(Kind::Time),
+        _ => None,
+    }
+}
+
+/// The kind, where a line from there may be of it.
+pub(crate) fn kind_in(mode: Mode, kind: Kind) -> Option<Kind>
+    ensures { result ≡ kind_in mode kind }
+{
+    match (mode, kind) {
+        (Mode::Client, Kind::Answer | Kind::Ack | Kind::Time) => None,
+        _ => Some(kind),
+    }
+}

@@ -1,0 +1,24 @@
+//! Event lines: what a line of input says, and the lines that are told.
+//!
+//! A line is one JSON object. What its bytes mean, and which fault is told of a line that isn't good, are definitions
+//! in `specs/`, apart from the code.
+#![tactic(auto)]
+
+mod amount;
+mod fields;
+mod kind;
+mod line;
+mod name;
+mod object;
+mod reading;
+mod reason;
+mod rows;
+mod writing;
+
+pub use line::{FormFault, Line, LineFault, Mode};
+pub use name::Name;
+pub use reading::read_line;
+pub use writing::{form_line, reply_line};
+
+#[cfg(test)]
+mod tests;

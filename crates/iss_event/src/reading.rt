@@ -1,0 +1,84 @@
+//! Reading a line.
+ghost use Rattle.std.specs.Prelude.{◌≡◌, IfOk, IsTrue};
+ghost use Rattle.serde_json.specs.View.{view};
+ghost use Rattle.iss_model.specs.Forms.{is_in_form, is_stamp_or_none};
+ghost use Rattle.iss_event.specs.Readings.{Reads, line_read, exact_line, object_line, not_built, has_stamp, has_other_currency};
+
+use crate::fields::{currency_of, field, required_kind};
+use crate::kind::Kind;
+use crate::object::object_of;
+use crate::rows::row;
+use crate::{FormFault, Line, LineFault, Mode, Name};
+use iss_model::Currency;
+use serde_json::Value;
+use std::alloc::Global;
+
+/// The most bytes that a line may have.
+const LONGEST_LINE: usize = 16384;
+
+/// What a line says, without the line feed that ends it. For now each fault of its form is `NotBuilt`.
+#[tactic(auto, using(crate::proofs::InForm::read_input_in_form, crate::proofs::InForm::read_stamp_in_form), unfolding(crate::specs::Readings::line_read))]
+pub fn read_line(alloc: Global, line: &[u8], mode: Mode) -> Result<Line, LineFault>
+    ensures read { Reads (line_read mode line.now) result }
+    ensures input_form { IfOk result (λ said. IsTrue (is_in_form said.input)) }
+    ensures stamp_form { IfOk result (λ said. IsTrue (is_stamp_or_none said.at)) }
+{
+    match read_exactly(alloc, line, mode) {
+        Err(LineFault::Form(_)) => Err(LineFault::Form(FormFault::NotBuilt)),
+        read => read,
+    }
+}
+
+#[tactic(auto, unfolding(crate::specs::Readings::exact_line))]
+fn read_exactly(alloc: Global, line: &[u8], mode: Mode) -> Result<Line, LineFault>
+    ensures { Reads (exact_line mode line.now) result }
+{
+    if line.len() > LONGEST_LINE {
+        return Err(LineFault::Form(FormFault::Long));
+    }
+    match object_of(alloc, line) {
+        Ok(Some(object)) => read_object(mode, &object).map_err(LineFault::Form),
+        Ok(None) => Err(LineFault::Form(FormFault::Json)),
+        Err(_) => Err(LineFault::OutOfMemory),
+    }
+}
+
+#[tactic(auto, unfolding(crate::specs::Readings::object_line))]
+fn read_object(mode: Mode, line: &Value) -> Result<Line, FormFault>
+    ensures { result ≡ object_line mode (view line.now) }
+{
+    let kind = required_kind(line, mode)?;
+    if is_not_built(mode, kind, line) {
+        return Err(FormFault::NotBuilt);
+    }
+    let input = row(kind, line)?;
+    Ok(Line { input, at: None })
+}
+
+fn is_not_built(mode: Mode, kind: Kind, line: &Value) -> bool
+    ensures { result ≡ not_built mode kind (view line.now) }
+{
+    match kind {
+        Kind::User | Kind::Card => has_stamp(mode, line),
+        Kind::Load | Kind::Authorization => has_stamp(mode, line) || has_other_currency(line),
+        _ => true,
+    }
+}
+
+fn has_stamp(mode: Mode, line: &Value) -> bool
+    ensures { result ≡ has_stamp mode (view line.now) }
+{
+    match mode {
+        Mode::Lines => field(line, Name::At).is_some(),
+        Mode::Client => false,
+    }
+}
+
+fn has_other_currency(line: &Value) -> bool
+    ensures { result ≡ has_other_currency (view line.now) }
+{
+    match field(line, Name::Currency).and_then(currency_of) {
+        None | Some(Currency::Usd) => false,
+        Some(_) => true,
+    }
+}

@@ -1,0 +1,115 @@
+//! The lines that are told.
+ghost use Rattle.std.specs.Prelude.{◌≡◌, [], ◌∷◌, ◌++◌, false, IfOk, OnOk, IsTrue, codes, string_bytes};
+ghost use Rattle.serde_json.specs.View.{view};
+ghost use Rattle.serde_json.specs.Written.{has_float, compact_text};
+ghost use Rattle.iss_model.specs.Wordings.{reply_members, reply_line, fault_line, line_of, with_text};
+ghost use Rattle.iss_event.specs.FormLines.{fault_members, field_members, form_text};
+ghost use Rattle.iss_event.specs.Names.{name_text};
+ghost use Rattle.iss_event.specs.Plain.{object_data, is_plain};
+ghost use Rattle.iss_event.specs.Reasons.{reply_is_plain};
+
+use crate::reason::reason_text;
+use crate::{FormFault, Name};
+use iss_model::{Reason, Reply, Token, Verdict};
+use serde_json::{Value, json};
+use std::alloc::{AllocError, Global};
+
+/// The line that tells what became of an event, with its line feed.
+pub fn reply_line(alloc: Global, event: &Token, reply: &Reply) -> Result<Vec<u8>, AllocError>
+    ensures { IfOk result (λ line. line.items ≡ reply_line event.now reply.now) }
+{
+    let value = reply_value(alloc, event.as_str(), reply)?;
+    line_of(alloc, &value)
+}
+
+/// The line that tells of a fault of form, with its line feed.
+#[tactic(auto, unfolding(crate::specs::FormLines::form_text))]
+pub fn form_line(alloc: Global, fault: &FormFault) -> Result<Vec<u8>, AllocError>
+    ensures { IfOk result (λ line. line.items ≡ form_text fault.now) }
+{
+    match fault {
+        FormFault::Long => fault_line(alloc, "LONG"),
+        FormFault::Json => fault_line(alloc, "JSON"),
+        FormFault::Field(name) => field_line(alloc, *name),
+        FormFault::NotBuilt => fault_line(alloc, "NOT_BUILT"),
+    }
+}
+
+fn fault_line(alloc: Global, fault: &str) -> Result<Vec<u8>, AllocError>
+    requires { IsTrue (is_plain fault.now) }
+    ensures { IfOk result (λ line. line.items ≡ fault_line fault.now) }
+{
+    let value = fault_value(alloc, fault)?;
+    line_of(alloc, &value)
+}
+
+fn field_line(alloc: Global, name: Name) -> Result<Vec<u8>, AllocError>
+    ensures { IfOk result (λ line. line.items ≡ line_of (field_members name)) }
+{
+    let value = field_value(alloc, name)?;
+    line_of(alloc, &value)
+}
+
+fn fault_value(alloc: Global, fault: &str) -> Result<Value, AllocError>
+    ensures { IfOk result (λ value. view value ≡ object_data (fault_members fault.now)) }
+{
+    json!(in alloc; {"fault": fault, "reply": "form"})
+}
+
+fn field_value(alloc: Global, name: Name) -> Result<Value, AllocError>
+    ensures data { IfOk result (λ value. view value ≡ object_data (field_members name)) }
+    ensures plain { OnOk result (IsTrue (is_plain (name_text name))) }
+{
+    let field = name.text();
+    json!(in alloc; {"fault": "FIELD", "field": field, "reply": "form"})
+}
+
+fn reply_value(alloc: Global, event: &str, reply: &Reply) -> Result<Value, AllocError>
+    ensures data { IfOk result (λ value. view value
+        ≡ object_data (reply_members event.now reply.now)) }
+    ensures plain { OnOk result (IsTrue (reply_is_plain reply.now)) }
+{
+    match reply {
+        Reply::Decided(Verdict::Done) => undetailed(alloc, event, "done"),
+        Reply::Decided(Verdict::Approved) => undetailed(alloc, event, "approved"),
+        Reply::Decided(Verdict::Declined(reason)) => declined(alloc, event, reason),
+        Reply::Pending => undetailed(alloc, event, "pending"),
+    }
+}
+
+fn undetailed(alloc: Global, event: &str, reply: &str) -> Result<Value, AllocError>
+    ensures { IfOk result (λ value. view value
+        ≡ object_data (with_text (codes "event") event.now
+        ∷ with_text (codes "reply") reply.now ∷ [])) }
+{
+    json!(in alloc; {"event": event, "reply": reply})
+}
+
+fn declined(alloc: Global, event: &str, reason: &Reason) -> Result<Value, AllocError>
+    ensures data { IfOk result (λ value. view value
+        ≡ object_data (reply_members event.now (Reply.Decided (Verdict.Declined reason.now)))) }
+    ensures plain { OnOk result (IsTrue (reply_is_plain
+        (Reply.Decided (Verdict.Declined reason.now)))) }
+{
+    let reason = reason_text(alloc, reason)?;
+    declined_for(alloc, event, reason.as_str())
+}
+
+fn declined_for(alloc: Global, event: &str, reason: &str) -> Result<Value, AllocError>
+    ensures { IfOk result (λ value. view value
+        ≡ object_data (with_text (codes "event") event.now
+        ∷ with_text (codes "reason") reason.now
+        ∷ with_text (codes "reply") (codes "declined") ∷ [])) }
+{
+    json!(in alloc; {"event": event, "reason": reason, "reply": "declined"})
+}
+
+/// A value's text and a line feed.
+fn line_of(alloc: Global, value: &Value) -> Result<Vec<u8>, AllocError>
+    requires { has_float (view value.now) ≡ false }
+    ensures { IfOk result (λ line. line.items ≡ compact_text (view value.now) ++ 10 ∷ []) }
+{
+    let mut line = value.to_vec(alloc)?;
+    line.push(b'\n')?;
+    Ok(line)
+}

@@ -1,0 +1,33 @@
+-- What holds of a run by its words.
+use Rattle.std.proofs.Common.{ℕ, inl, inr, List, [], length, Option, Result, Ok, Err, refl, ap, arith, length-append}
+use Rattle.iss_edge.specs.World.{World, Told, Faults}
+use Rattle.iss_edge.proofs.Tolds.{told_map, told_self}
+use Rattle.iss_model.specs.Histories.{nothing_yet}
+use Rattle.iss_top.specs.declared.stop.Stop.{Stop}
+use Rattle.iss_top.specs.declared.stop.Stop.TheVariants as stop
+use Rattle.iss_top.specs.Statuses.{status_of}
+use Rattle.iss_top.specs.Progress.{text_to_come}
+use Rattle.iss_top.specs.Runs.{DryRun, IsCaused, EndsWell}
+use Rattle.iss_top.proofs.Saying.{sends_nothing}
+use Rattle.iss_top.proofs.Running.{ends_early}
+
+-- where nothing is done, nothing is taken and nothing is said
+nothing_done : (a : World) → DryRun 2 a a
+nothing_done a =
+    ends_early 2 [] [] a a (λ e. cc) (λ e. cc) (record { bytes = refl; others = λ c other. refl; sends = sends_nothing a }) (omega arith)
+    (record { back = text_to_come nothing_yet [] (a.left 0); cut = refl })
+
+pub told_nothing_done : (x : Option World) → Told (DryRun 2) x x
+told_nothing_done x = told_self (DryRun 2) x nothing_done
+
+ends_well : (ended : Result (Unit {0}) Stop) (before now : Faults) (a b : World) → IsCaused before now ended → DryRun (status_of ended) a b → EndsWell before now (status_of ended) a b
+ends_well (Ok done) before now a b caused run input output short = inl refl
+ends_well (Err stop.Input) before now a b caused run input output short = absurd (input caused.cause)
+ends_well (Err stop.Output) before now a b caused run input output short = absurd (output caused.cause)
+ends_well (Err stop.Memory) before now a b caused run input output short = inr refl
+ends_well (Err stop.InputLong) before now a b caused run input output short =
+    absurd (omega (arith, short, run.long.0 refl, ap (λ (l : List ℕ). length l) run.passes.bytes, length-append {A = ℕ} run.took (b.left 0)))
+
+pub told_ends_well : (ended : Result (Unit {0}) Stop) (before now : Faults) (x y : Option World) → IsCaused before now ended → Told (DryRun (status_of ended)) x y → Told (EndsWell before now (status_of ended)) x y
+told_ends_well ended before now x y caused run =
+    told_map (DryRun (status_of ended)) (EndsWell before now (status_of ended)) x y (λ a b. ends_well ended before now a b caused) run

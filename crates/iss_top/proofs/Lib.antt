@@ -1,0 +1,12 @@
+pub mod Early
+pub mod Keys
+pub mod Added
+pub mod Events
+pub mod Tellings
+pub mod Feeding
+pub mod Saying
+pub mod Fed
+pub mod ToldFed
+pub mod Running
+pub mod ToldRuns
+pub mod Commands

@@ -1,0 +1,15 @@
+use Rattle.std.proofs.Common.{◌+◌, ◌-◌, ◌*◌, ◌≤◌, length}
+use Rattle.iss_edge.specs.World.{Told, Later}
+use Rattle.iss_top.specs.Runs.{IsOnItsWay}
+use Rattle.iss_top.proofs.dry.dry.Given as goal
+
+abbrev pub invariant-input : goal.invariant-input
+invariant-input g l = record {
+  limit : l.taken ≤ 4294967296;
+  room : 2 * length l.book.records + length l.line ≤ l.taken;
+  told : Told (IsOnItsWay l.taken l.book l.line) (g.E.Edge.told l.initial.edge) (g.E.Edge.told l.edge);
+  later : Later (g.E.Edge.faults l.initial.edge) (g.E.Edge.faults l.edge);
+}
+
+abbrev pub decreases-input : goal.decreases-input
+decreases-input g l = 4294967296 - l.taken

@@ -1,0 +1,39 @@
+-- What a dry run writes: the transcript of its lines, from the empty history.
+use Rattle.std.specs.Prelude.{ℕ, List, map, Result, Ok, Err}
+use Rattle.std.specs.List.{concat, flat_map}
+use Rattle.iss_model.specs.declared.entry.Entry.{Entry}
+use Rattle.iss_model.specs.Histories.{History, nothing_yet}
+use Rattle.iss_model.specs.Transcripts.{Reading, sound, faulty, Text, Told, transcript, after_line, bytes_of, entry_texts}
+use Rattle.iss_event.specs.declared.line.Line.{Line}
+use Rattle.iss_event.specs.declared.line.Mode.TheVariants.{Lines}
+use Rattle.iss_event.specs.declared.line.FormFault.{FormFault}
+use Rattle.iss_event.specs.Readings.{line_read}
+use Rattle.iss_event.specs.FormLines.{form_text}
+use Rattle.iss_top.specs.Lines.{lines_of}
+
+abbrev pub as_reading : Result Line FormFault → Reading
+as_reading (Ok said) = sound said.input said.at
+as_reading (Err fault) = faulty (form_text fault)
+
+-- a line as it is read from standard input
+unfoldable pub reading_of : List ℕ → Reading
+reading_of line = as_reading (line_read Lines line)
+
+-- the texts that the lines of these bytes are told, in order
+abbrev pub dry_texts : List ℕ → List Text
+dry_texts input = transcript nothing_yet (map reading_of (lines_of input))
+
+-- all that is to go out
+abbrev pub dry_output : List ℕ → List ℕ
+dry_output input = bytes_of (dry_texts input)
+
+-- what is told of a line that is not blank, and what then stands
+abbrev pub told_of : History → List ℕ → Told
+told_of h line = after_line h (reading_of line)
+
+-- the text of an entry, where it has one
+abbrev pub entry_text : Entry → List ℕ
+entry_text entry = concat (entry_texts entry)
+
+abbrev pub entries_text : List Entry → List ℕ
+entries_text entries = flat_map entry_text entries

@@ -1,0 +1,32 @@
+-- The lines of a list of bytes.
+use Rattle.std.specs.Prelude.{ℕ, ◌-◌, Bool, not, ◌==◌, ◌||◌, nat_lt, List, [], ◌∷◌, ◌++◌, length, take, filter, if◌then◌else◌}
+use Rattle.std.specs.List.{list_all}
+
+-- a space, a tab or a carriage return
+abbrev pub is_blank_byte : ℕ → Bool
+is_blank_byte b = b == 32 || b == 9 || b == 13
+
+abbrev pub is_blank : List ℕ → Bool
+is_blank line = list_all is_blank_byte line
+
+-- these bytes in front of the first part
+abbrev pub onto_first : List ℕ → List (List ℕ) → List (List ℕ)
+onto_first front [] = front ∷ []
+onto_first front (part ∷ parts) = (front ++ part) ∷ parts
+
+-- the bytes up to each line feed, and those behind the last one
+abbrev pub parts_of : List ℕ → List (List ℕ)
+parts_of [] = [] ∷ []
+parts_of (b ∷ bs) = if b == 10 then [] ∷ parts_of bs else onto_first (b ∷ []) (parts_of bs)
+
+-- the parts that are not blank
+abbrev pub lines_of : List ℕ → List (List ℕ)
+lines_of bytes = filter (λ part. not (is_blank part)) (parts_of bytes)
+
+-- What a buffer keeps of a line with one more byte. A line of more than 16384 bytes is told the same whatever it holds, so once it has more,
+-- a blank is left out and any other byte takes the place of the last.
+abbrev pub kept_with : List ℕ → ℕ → List ℕ
+kept_with line b =
+    if nat_lt (length line) 16385 then line ++ b ∷ []
+    else if is_blank_byte b then line
+    else take (length line - 1) line ++ b ∷ []

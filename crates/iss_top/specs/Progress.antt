@@ -1,0 +1,86 @@
+-- A dry run on its way: what was told so far, and what the rest of the input will be told.
+use Rattle.std.specs.Prelude.{◌≡◌, ℕ, List, [], ◌∷◌, ◌++◌, Bool, false, ◌==◌, IsTrue, IfErr, Result, if◌then◌else◌}
+use Rattle.std.specs.List.{list_all}
+use Rattle.iss_edge.specs.declared.outside.Action.{Action}
+use Rattle.iss_edge.specs.declared.outside.Action.TheVariants.{Write, Sync, Emit, Dial, Close}
+use Rattle.iss_edge.specs.World.{World, Faults, Later, Rose, sent_on}
+use Rattle.iss_model.specs.Histories.{History}
+use Rattle.iss_model.specs.Transcripts.{bytes_of}
+use Rattle.iss_top.specs.declared.stop.Stop.{Stop}
+use Rattle.iss_top.specs.declared.stop.Stop.TheVariants as stop
+use Rattle.iss_top.specs.Lines.{is_blank, onto_first, parts_of}
+use Rattle.iss_top.specs.Dry.{told_of}
+
+-- what a line is told: nothing where it is blank
+unfoldable pub line_text : History → List ℕ → List ℕ
+line_text h line = if is_blank line then [] else bytes_of (told_of h line).texts
+
+-- what stands after a line
+unfoldable pub line_next : History → List ℕ → History
+line_next h line = if is_blank line then h else (told_of h line).history
+
+-- what lines in a row are told
+abbrev pub lines_text : History → List (List ℕ) → List ℕ
+lines_text h [] = []
+lines_text h (line ∷ lines) = line_text h line ++ lines_text (line_next h line) lines
+
+-- what is still to be told where these bytes of a line came already, and the rest is to come
+unfoldable pub text_to_come : History → List ℕ → List ℕ → List ℕ
+text_to_come h line rest = lines_text h (onto_first line (parts_of rest))
+
+-- sends bytes on channel 0
+abbrev pub is_output : Action → Bool
+is_output (Write at bytes ok) = false
+is_output (Sync ok) = false
+is_output (Emit ch bytes ok) = ch.0 == 0
+is_output (Dial ch) = false
+is_output (Close ch) = false
+
+-- the device is as it was, and what was done are emits on channel 0 of this text
+pub record Sends (text : List ℕ) (a b : World) : Type 0 where
+  pub device : b.device ≡ a.device
+  pub actions : List Action
+  pub grew : b.trace ≡ a.trace ++ actions
+  pub outputs : IsTrue (list_all is_output actions)
+  pub sent : sent_on 0 actions ≡ text
+
+-- nothing was done but that this text went out on channel 0
+pub record Says (text : List ℕ) (a b : World) : Type 0 where
+  pub left : b.left ≡ a.left
+  pub sends : Sends text a b
+
+-- nothing was done but that a front of this text went out on channel 0
+pub record SaysFront (text : List ℕ) (a b : World) : Type 0 where
+  pub front : List ℕ
+  pub back : List ℕ
+  pub cut : text ≡ front ++ back
+  pub says : Says front a b
+
+-- a piece of input was taken in: what it is told went out, and the rest of the input is still to be told
+pub record Fed (h : History) (line piece : List ℕ) (h' : History) (line' : List ℕ) (a b : World) : Type 0 where
+  pub text : List ℕ
+  pub says : Says text a b
+  pub onward : (rest : List ℕ) → text_to_come h line (piece ++ rest) ≡ text ++ text_to_come h' line' rest
+
+-- what is still to be told where this text came first
+pub record Begins (text whole : List ℕ) : Type 0 where
+  pub back : List ℕ
+  pub cut : whole ≡ text ++ back
+
+-- a piece of input was taken in in part: what went out is the front of what is to be told, whatever comes behind the piece
+pub record FedPart (h : History) (line piece : List ℕ) (a b : World) : Type 0 where
+  pub text : List ℕ
+  pub says : Says text a b
+  pub onward : (rest : List ℕ) → Begins text (text_to_come h line (piece ++ rest))
+
+-- why telling a line may end early: an emit failed, or memory was wanted
+abbrev pub TellingCause : Faults → Faults → Stop → Type 0
+TellingCause before now stop.Input = ⊥
+TellingCause before now stop.Output = Rose before.output now.output
+TellingCause before now stop.Memory = Unit {0}
+TellingCause before now stop.InputLong = ⊥
+
+-- no count has fallen, and telling ended early for a cause
+pub record IsTelling {A : Type 0} (before now : Faults) (result : Result A Stop) : Type 0 where
+  pub later : Later before now
+  pub cause : IfErr result (TellingCause before now)

@@ -1,0 +1,51 @@
+-- What a run does, whatever status it ends with.
+use Rattle.std.specs.Prelude.{◌≡◌, ℕ, ◌≤◌, ◌↔◌, ◌⊎◌, List, [], ◌++◌, length, IfErr, Result}
+use Rattle.iss_edge.specs.World.{World, Faults, Later, Rose}
+use Rattle.iss_model.specs.Histories.{History, nothing_yet}
+use Rattle.iss_top.specs.declared.stop.Stop.{Stop}
+use Rattle.iss_top.specs.declared.stop.Stop.TheVariants as stop
+use Rattle.iss_top.specs.Dry.{dry_output}
+use Rattle.iss_top.specs.Progress.{text_to_come, Sends, Begins}
+
+-- these bytes were taken from channel 0, this text went out on it, and nothing else was done
+pub record Passes (took text : List ℕ) (a b : World) : Type 0 where
+  pub bytes : a.left 0 ≡ took ++ b.left 0
+  pub others : (c : ℕ) → (c ≡ 0 → ⊥) → b.left c ≡ a.left c
+  pub sends : Sends text a b
+
+-- so many bytes were taken, all lines that ended in them were told, and of the rest the line that began
+pub record IsOnItsWay (taken : ℕ) (h : History) (line : List ℕ) (a b : World) : Type 0 where
+  pub took : List ℕ
+  pub text : List ℕ
+  pub passes : Passes took text a b
+  pub count : length took ≡ taken
+  pub onward : (rest : List ℕ) → text_to_come nothing_yet [] (took ++ rest) ≡ text ++ text_to_come h line rest
+
+-- What a dry run with this status did. What went out is a front of what its input is to be told, and all of it at status 0, where the input was read to its end.
+-- Status 8 comes exactly where 4294967296 bytes were taken and another came.
+pub record DryRun (status : ℕ) (a b : World) : Type 0 where
+  pub took : List ℕ
+  pub text : List ℕ
+  pub passes : Passes took text a b
+  pub front : Begins text (dry_output (a.left 0))
+  pub whole : status ≡ 0 → (text ≡ dry_output (a.left 0)) × (b.left 0 ≡ [])
+  pub long : (status ≡ 8) ↔ (length took ≡ 4294967297)
+  pub bound : length took ≤ 4294967297
+
+-- why a run may end early
+abbrev pub RunCause : Faults → Faults → Stop → Type 0
+RunCause before now stop.Input = Rose before.input now.input
+RunCause before now stop.Output = Rose before.output now.output
+RunCause before now stop.Memory = Unit {0}
+RunCause before now stop.InputLong = Unit {0}
+
+-- no count has fallen, and the run ended early for a cause
+pub record IsCaused {A : Type 0} (before now : Faults) (result : Result A Stop) : Type 0 where
+  pub later : Later before now
+  pub cause : IfErr result (RunCause before now)
+
+-- where no count on input or output rose, and the input has at most 4294967296 bytes, the status is 0 or 7
+abbrev pub EndsWell : Faults → Faults → ℕ → World → World → Type 0
+EndsWell before now status a b =
+    (Rose before.input now.input → ⊥) → (Rose before.output now.output → ⊥) → length (a.left 0) ≤ 4294967296
+    → (status ≡ 0) ⊎ (status ≡ 7)

@@ -1,0 +1,73 @@
+//! A dry run: the lines of channel 0 are told what becomes of them, with no device.
+ghost use Rattle.std.specs.Prelude.{◌≡◌, ◌+◌, ◌<◌, ◌≤◌, length, IfOk, IfErr, OnErr};
+ghost use Rattle.iss_edge.specs.World.{Told, HasCause};
+ghost use Rattle.iss_edge.specs.Calls.{Takes, Same};
+ghost use Rattle.iss_top.specs.Statuses.{status_of};
+ghost use Rattle.iss_top.specs.Runs.{DryRun, IsCaused};
+
+use crate::book::Book;
+use crate::buffer::LineBuffer;
+use crate::feed::feed;
+use crate::stop::Stop;
+use crate::telling::tell_line;
+use iss_edge::{Channel, Edge};
+use std::alloc::Global;
+
+/// The most bytes of input that a run takes.
+const MOST: u64 = 4_294_967_296;
+
+/// The most bytes that are taken at once.
+const PIECE: usize = 4096;
+
+/// Reads lines to the end of the input and writes what they are told.
+pub(crate) fn dry<E: Edge>(alloc: Global, edge: &mut E) -> Result<(), Stop>
+    ensures ran { Told (DryRun (status_of result)) (E.told edge.old) (E.told edge.new) }
+    ensures caused { IsCaused (E.faults edge.old) (E.faults edge.new) result }
+{
+    let mut book = Book::new(alloc);
+    let mut line = LineBuffer::new(alloc);
+    let mut buffer = [0; PIECE];
+    let mut taken = 0;
+    'input: loop {
+        let count = take_piece(edge, &mut buffer, room_after(taken))?;
+        if count == 0 {
+            return tell_line(alloc, &mut book, line.as_slice(), edge);
+        }
+        taken += count as u64;
+        if taken > MOST {
+            return Err(Stop::InputLong);
+        }
+        feed(alloc, &mut book, &mut line, edge, &buffer[..count])?;
+    }
+}
+
+/// How many bytes to ask for where so many were taken. Behind the most there may be, one byte more is asked for, to see whether there is one.
+fn room_after(taken: u64) -> usize
+    requires { taken ≤ MOST }
+    ensures some { 0 < result }
+    ensures piece { result ≤ PIECE }
+    ensures within { taken < MOST → taken + result ≤ MOST }
+    ensures one_more { taken ≡ MOST → result ≡ 1 }
+{
+    if taken == MOST {
+        return 1;
+    }
+    (MOST - taken).min(PIECE as u64) as usize
+}
+
+/// Takes at most so many bytes into the front of the buffer.
+fn take_piece<E: Edge>(edge: &mut E, buffer: &mut [u8], room: usize) -> Result<usize, Stop>
+    requires some { 0 < room }
+    requires within { room ≤ length buffer.old }
+    ensures bound { IfOk result (λ count. count ≤ room) }
+    ensures taken { IfOk result (λ count.
+        Told (Takes (record { 0 = 0 }) count buffer.new) (E.told edge.old) (E.told edge.new)) }
+    ensures unchanged { OnErr result (Told Same (E.told edge.old) (E.told edge.new)) }
+    ensures stop { IfErr result (λ stop. stop ≡ Stop.Input) }
+    ensures cause { HasCause (λ f. f.input) (E.faults edge.old) (E.faults edge.new) result }
+{
+    match edge.take(Channel(0), &mut buffer[..room]) {
+        Ok(count) => Ok(count),
+        Err(_) => Err(Stop::Input),
+    }
+}

@@ -1,0 +1,15 @@
+//! The top call: all that the program does, over an outside that is given to it.
+#![tactic(auto)]
+
+mod answer;
+mod book;
+mod buffer;
+mod command;
+mod dry;
+mod entries;
+mod feed;
+mod rows;
+mod stop;
+mod telling;
+
+pub use command::run;
