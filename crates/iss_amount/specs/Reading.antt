@@ -1,0 +1,17 @@
+-- How the digits of an amount are read, a part at a time.
+use Rattle.std.specs.Prelude.{ℕ, ◌+◌, ◌-◌, ◌*◌, List, fold, Option, None, if◌then◌else◌}
+use Rattle.std.specs.List.{list_all}
+use Rattle.iss_model.specs.Forms.{is_limit}
+use Rattle.iss_model.specs.Amounts.{is_digit, digits_value, is_whole_text, if_form}
+
+-- the number that digits spell behind those of another number
+abbrev pub value_behind : ℕ → List ℕ → ℕ
+value_behind start digits = fold (λ value digit. 10 * value + (digit - 48)) start digits
+
+-- that number, where these are digits and it is a limit's
+abbrev pub limit_behind : ℕ → List ℕ → Option ℕ
+limit_behind start digits = if list_all is_digit digits then if_form is_limit (value_behind start digits) else None
+
+-- the number of a text of whole units, where it is a limit's
+abbrev pub limit_of_units : List ℕ → Option ℕ
+limit_of_units text = if is_whole_text text then if_form is_limit (digits_value text) else None

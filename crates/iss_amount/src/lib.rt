@@ -1,0 +1,14 @@
+//! Amounts of money: currencies of ISO 4217, and how an amount is read and written in each.
+//!
+//! An amount is a whole number of minor units: 1234 is `12.34` in USD and `1.234` in KWD.
+#![tactic(auto)]
+
+mod currency;
+mod reading;
+#[cfg(test)]
+mod tests;
+mod writing;
+
+pub use currency::{code, decimals, from_code};
+pub use reading::{read, read_limit, whole, whole_limit};
+pub use writing::write;

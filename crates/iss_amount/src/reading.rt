@@ -1,0 +1,111 @@
+//! Amounts read from text, and from whole numbers of units.
+ghost use Rattle.std.specs.Prelude.{◌≡◌, ◌&&◌, ◌||◌, ◌==◌, not, nat_lt, length, slice_index};
+ghost use Rattle.iss_model.specs.Forms.{is_amount, is_limit};
+ghost use Rattle.iss_model.specs.Amounts.{if_form, amount_read, limit_read, whole_amount_read, whole_limit_read};
+ghost use Rattle.iss_amount.specs.Reading.{limit_behind, limit_of_units};
+ghost use Rattle.iss_amount.specs.Laws.{IsWrittenAgain};
+
+use crate::currency::{decimals, unit};
+use iss_model::Currency;
+
+/// The greatest amount of an event, in minor units.
+const GREATEST_AMOUNT: u64 = 1_000_000_000;
+
+/// The greatest limit, in minor units.
+const GREATEST_LIMIT: u64 = 1_000_000_000_000;
+
+/// The minor units of an event's amount such as `10.00`: `None` where the text isn't well formed in the currency, or they aren't 1 to 10^9.
+#[tactic(auto, using(crate::proofs::RoundTrips::amount_written_again))]
+pub fn read(text: &[u8], currency: Currency) -> Option<u64>
+    ensures number { result ≡ amount_read text.now currency }
+    ensures written_again { IsWrittenAgain (amount_read text.now currency) text.now currency }
+{
+    let amount = read_limit(text, currency)?;
+    if_amount(amount)
+}
+
+/// The minor units of a limit such as `10.00`: `None` where the text isn't well formed in the currency, or they are above 10^12.
+#[tactic(auto, using(crate::proofs::RoundTrips::limit_written_again))]
+pub fn read_limit(text: &[u8], currency: Currency) -> Option<u64>
+    ensures number { result ≡ limit_read text.now currency }
+    ensures written_again { IsWrittenAgain (limit_read text.now currency) text.now currency }
+{
+    let places = usize::from(decimals(currency));
+    if places == 0 {
+        return read_units(text);
+    }
+    let point = text.len().saturating_sub(places + 1);
+    let units = read_units(&text[..point])?;
+    if text[point] != b'.' {
+        return None;
+    }
+    read_behind(units, &text[point + 1..])
+}
+
+/// The minor units of so many whole units: `None` where they aren't 1 to 10^9.
+pub fn whole(n: u64, currency: Currency) -> Option<u64>
+    ensures { result ≡ whole_amount_read n currency }
+{
+    let amount = n.checked_mul(unit(currency))?;
+    if_amount(amount)
+}
+
+/// The minor units of so many whole units: `None` where they are above 10^12.
+pub fn whole_limit(n: u64, currency: Currency) -> Option<u64>
+    ensures { result ≡ whole_limit_read n currency }
+{
+    let limit = n.checked_mul(unit(currency))?;
+    if_limit(limit)
+}
+
+fn if_amount(n: u64) -> Option<u64>
+    ensures { result ≡ if_form is_amount n }
+{
+    (1..=GREATEST_AMOUNT).contains(&n).then_some(n)
+}
+
+fn if_limit(n: u64) -> Option<u64>
+    ensures { result ≡ if_form is_limit n }
+{
+    (n <= GREATEST_LIMIT).then_some(n)
+}
+
+/// The number of a text of digits with no zero in front.
+fn read_units(text: &[u8]) -> Option<u64>
+    ensures { result ≡ limit_of_units text.now }
+{
+    if is_unpadded(text) {
+        read_behind(0, text)
+    } else {
+        None
+    }
+}
+
+fn is_unpadded(digits: &[u8]) -> bool
+    ensures { result ≡ (nat_lt 0 (length digits.now) && (length digits.now == 1 || not (slice_index digits.now 0 == 48))) }
+{
+    match digits {
+        [] => false,
+        [_] => true,
+        [first, ..] => *first != b'0',
+    }
+}
+
+/// The number that digits spell behind those of `start`, up to the greatest limit.
+#[tactic(auto, using(crate::proofs::Readings::stays_great))]
+fn read_behind(start: u64, digits: &[u8]) -> Option<u64>
+    ensures { result ≡ limit_behind start digits.now }
+{
+    let mut number = start;
+    for byte in digits {
+        // More digits never bring it down again.
+        if number > GREATEST_LIMIT {
+            return None;
+        }
+        if !byte.is_ascii_digit() {
+            return None;
+        }
+        number = 10 * number + u64::from(*byte - b'0');
+    }
+    if_limit(number)
+}

@@ -1,0 +1,51 @@
+//! Amounts written as text.
+ghost use Rattle.std.specs.Prelude.{◌≡◌, ◌<◌, ◌++◌, decimal, IfOk};
+ghost use Rattle.std.specs.String.{string_bytes};
+ghost use Rattle.iss_model.specs.Amounts.{amount_text, decimals_text};
+ghost use Rattle.iss_amount.specs.Laws.{IsReadAgain};
+
+use crate::currency::{decimals, unit};
+use iss_model::Currency;
+use std::alloc::{AllocError, Global};
+
+/// The text of an amount in minor units: a minus sign where it is negative, the whole units, and the currency's decimals.
+#[tactic(auto, using(crate::proofs::RoundTrips::read_again))]
+pub fn write(alloc: Global, amount: i64, currency: Currency) -> Result<String, AllocError>
+    ensures text { IfOk result (λ text. string_bytes text ≡ amount_text amount currency) }
+    ensures read_again { IsReadAgain amount currency }
+{
+    let sign = if amount < 0 { "-" } else { "" };
+    let size = amount.unsigned_abs();
+    let units = size / unit(currency);
+    let rest = size % unit(currency);
+    match decimals(currency) {
+        0 => with_no_decimals(alloc, sign, units),
+        2 => with_two_decimals(alloc, sign, units, rest),
+        _ => with_three_decimals(alloc, sign, units, rest),
+    }
+}
+
+fn with_no_decimals(alloc: Global, sign: &str, units: u64) -> Result<String, AllocError>
+    ensures { IfOk result (λ text. string_bytes text ≡ sign.now ++ decimal units) }
+{
+    format!(in alloc; "{sign}{units}")
+}
+
+fn with_two_decimals(alloc: Global, sign: &str, units: u64, rest: u64) -> Result<String, AllocError>
+    requires { rest < 100 }
+    ensures { IfOk result (λ text. string_bytes text ≡ sign.now ++ decimal units ++ decimals_text 2 rest) }
+{
+    format!(in alloc; "{sign}{units}.{rest:02}")
+}
+
+fn with_three_decimals(
+    alloc: Global,
+    sign: &str,
+    units: u64,
+    rest: u64,
+) -> Result<String, AllocError>
+    requires { rest < 1000 }
+    ensures { IfOk result (λ text. string_bytes text ≡ sign.now ++ decimal units ++ decimals_text 3 rest) }
+{
+    format!(in alloc; "{sign}{units}.{rest:03}")
+}
