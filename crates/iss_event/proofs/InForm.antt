@@ -22,7 +22,7 @@ use Rattle.iss_event.specs.Amounts.{digits_from, is_unpadded, if_amount, digits_
 use Rattle.iss_event.specs.Fields.{field, required, optional_or, token_of, currency_of, kind_of, text_or_units, amount_of, mcc_of_text, mcc_of}
 use Rattle.iss_event.specs.Objects.{object_of}
 use Rattle.iss_event.specs.Rows.{◌>>=◌, user_row, card_row, load_row, authorization_row, row}
-use Rattle.iss_event.specs.Readings.{not_built, kind_line, object_line, found_line, exact_line, Reads}
+use Rattle.iss_event.specs.Readings.{not_built, kind_line, object_line, found_line, line_read, Reads}
 use Rattle.iss_event.proofs.AmountLemmas.{four_digits}
 
 -- ---- amounts and codes
@@ -204,9 +204,9 @@ found_line-in_form : (mode : Mode) (o : Option Data) → IfOk (found_line mode o
 found_line-in_form mode None = tt
 found_line-in_form mode (Some d) = object_line-in_form mode d
 
-exact_line-in_form : (mode : Mode) (line : List ℕ) → IfOk (exact_line mode line) LineInForm
-unfolding exact_line
-exact_line-in_form mode line = if_built (nat_lt 16384 (length line)) Long (found_line mode (object_of line)) (found_line-in_form mode (object_of line))
+line_read-in_form : (mode : Mode) (line : List ℕ) → IfOk (line_read mode line) LineInForm
+unfolding line_read
+line_read-in_form mode line = if_built (nat_lt 16384 (length line)) Long (found_line mode (object_of line)) (found_line-in_form mode (object_of line))
 
 read_as : (said : Result Line FormFault) (r : Result Line LineFault) → Reads said r → IfOk said LineInForm → IfOk r LineInForm
 read_as said (Ok line) is h = subst (λ (s : Result Line FormFault). IfOk s LineInForm) is h
@@ -222,8 +222,8 @@ stamp_of (Ok line) h = h.1
 stamp_of (Err fault) h = tt
 
 -- what reading gave of a line is in form
-pub read_input_in_form : (mode : Mode) (line : List ℕ) (r : Result Line LineFault) → Reads (exact_line mode line) r → IfOk r (λ said. is_in_form said.input ≡ true)
-read_input_in_form mode line r is = input_of r (read_as (exact_line mode line) r is (exact_line-in_form mode line))
+pub read_input_in_form : (mode : Mode) (line : List ℕ) (r : Result Line LineFault) → Reads (line_read mode line) r → IfOk r (λ said. is_in_form said.input ≡ true)
+read_input_in_form mode line r is = input_of r (read_as (line_read mode line) r is (line_read-in_form mode line))
 
-pub read_stamp_in_form : (mode : Mode) (line : List ℕ) (r : Result Line LineFault) → Reads (exact_line mode line) r → IfOk r (λ said. is_stamp_or_none said.at ≡ true)
-read_stamp_in_form mode line r is = stamp_of r (read_as (exact_line mode line) r is (exact_line-in_form mode line))
+pub read_stamp_in_form : (mode : Mode) (line : List ℕ) (r : Result Line LineFault) → Reads (line_read mode line) r → IfOk r (λ said. is_stamp_or_none said.at ≡ true)
+read_stamp_in_form mode line r is = stamp_of r (read_as (line_read mode line) r is (line_read-in_form mode line))

@@ -57,18 +57,9 @@ abbrev pub found_line : Mode → Option Data → Result Line FormFault
 found_line mode None = Err Json
 found_line mode (Some d) = object_line mode d
 
--- what a line says, or its first fault
-unfoldable pub exact_line : Mode → List ℕ → Result Line FormFault
-exact_line mode line = if nat_lt 16384 (length line) then Err Long else found_line mode (object_of line)
-
--- each fault is told as one of a line that isn't taken yet
-abbrev pub faults_not_built : Result Line FormFault → Result Line FormFault
-faults_not_built (Ok said) = Ok said
-faults_not_built (Err fault) = Err NotBuilt
-
--- what a line is taken to say, for now without a fault of its own
+-- what a line says, or its first fault: too long, no JSON object, no such type, of a kind that isn't taken yet, or the first bad field
 unfoldable pub line_read : Mode → List ℕ → Result Line FormFault
-line_read mode line = faults_not_built (exact_line mode line)
+line_read mode line = if nat_lt 16384 (length line) then Err Long else found_line mode (object_of line)
 
 -- reading gave this, unless memory was wanted, which may happen at any line
 abbrev pub Reads : Result Line FormFault → Result Line LineFault → Type 0

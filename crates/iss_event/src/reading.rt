@@ -2,7 +2,7 @@
 ghost use Rattle.std.specs.Prelude.{◌≡◌, IfOk, IsTrue};
 ghost use Rattle.serde_json.specs.View.{view};
 ghost use Rattle.iss_model.specs.Forms.{is_in_form, is_stamp_or_none};
-ghost use Rattle.iss_event.specs.Readings.{Reads, line_read, exact_line, object_line, not_built, has_stamp, has_other_currency};
+ghost use Rattle.iss_event.specs.Readings.{Reads, line_read, object_line, not_built, has_stamp, has_other_currency};
 
 use crate::fields::{currency_of, field, required_kind};
 use crate::kind::Kind;
@@ -16,22 +16,20 @@ use std::alloc::Global;
 /// The most bytes that a line may have.
 const LONGEST_LINE: usize = 16384;
 
-/// What a line says, without the line feed that ends it. For now each fault of its form is `NotBuilt`.
-#[tactic(auto, using(crate::proofs::InForm::read_input_in_form, crate::proofs::InForm::read_stamp_in_form), unfolding(crate::specs::Readings::line_read))]
+/// What a line says, without the line feed that ends it, or its first fault: `Long`, `Json`, `Field(Kind)` where its
+/// type is bad, `NotBuilt` where it is of a kind that isn't taken yet, or the first bad field in the order of its type.
+#[tactic(auto, using(crate::proofs::InForm::read_input_in_form, crate::proofs::InForm::read_stamp_in_form))]
 pub fn read_line(alloc: Global, line: &[u8], mode: Mode) -> Result<Line, LineFault>
     ensures read { Reads (line_read mode line.now) result }
     ensures input_form { IfOk result (λ said. IsTrue (is_in_form said.input)) }
     ensures stamp_form { IfOk result (λ said. IsTrue (is_stamp_or_none said.at)) }
 {
-    match read_exactly(alloc, line, mode) {
-        Err(LineFault::Form(_)) => Err(LineFault::Form(FormFault::NotBuilt)),
-        read => read,
-    }
+    read(alloc, line, mode)
 }
 
-#[tactic(auto, unfolding(crate::specs::Readings::exact_line))]
-fn read_exactly(alloc: Global, line: &[u8], mode: Mode) -> Result<Line, LineFault>
-    ensures { Reads (exact_line mode line.now) result }
+#[tactic(auto, unfolding(crate::specs::Readings::line_read))]
+fn read(alloc: Global, line: &[u8], mode: Mode) -> Result<Line, LineFault>
+    ensures { Reads (line_read mode line.now) result }
 {
     if line.len() > LONGEST_LINE {
         return Err(LineFault::Form(FormFault::Long));

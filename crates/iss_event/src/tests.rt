@@ -97,3 +97,17 @@ fn tells_faults(rt: HostRuntime) -> Result<(), Fail> {
     );
     Ok(())
 }
+
+#[test]
+fn a_clients_line_says_neither_when_nor_what_a_gateway_answered(
+    rt: HostRuntime,
+) -> Result<(), Fail> {
+    let timed = br#"{"type":"time","at":5}"#;
+    let fault = read_line(rt.alloc(), timed, Mode::Client).err();
+    assert_eq!(rt; fault, Some(LineFault::Form(FormFault::Field(Name::Kind))));
+    let user = br#"{"type":"user","token":"t1","user":"u1","at":"then"}"#;
+    assert!(rt; read_line(rt.alloc(), user, Mode::Client).is_ok());
+    let fault = read_line(rt.alloc(), user, Mode::Lines).err();
+    assert_eq!(rt; fault, Some(LineFault::Form(FormFault::NotBuilt)));
+    Ok(())
+}

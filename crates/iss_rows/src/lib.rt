@@ -1,5 +1,9 @@
-//! Tests of the top call on worked scripts of lines, over an outside in memory.
+//! Tests of the top call on worked scripts and hostile lines, over an outside in memory.
 #![tactic(auto)]
 
 #[cfg(test)]
-mod dry;
+mod hostile;
+#[cfg(test)]
+mod scripts;
+#[cfg(test)]
+mod support;

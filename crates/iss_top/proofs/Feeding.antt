@@ -16,8 +16,8 @@ use Rattle.iss_model.specs.Due.{DueItem, due_items}
 use Rattle.iss_model.specs.declared.input.Input.{Input}
 use Rattle.iss_model.specs.Stepping.{settle}
 use Rattle.iss_event.specs.declared.line.Mode.TheVariants.{Lines}
-use Rattle.iss_event.specs.declared.line.FormFault.TheVariants.{NotBuilt}
-use Rattle.iss_event.specs.Readings.{exact_line, line_read}
+use Rattle.iss_event.specs.declared.line.FormFault.TheVariants.{Long}
+use Rattle.iss_event.specs.Readings.{line_read}
 use Rattle.iss_top.specs.Lines.{is_blank_byte, is_blank, onto_first, parts_of, kept_with}
 use Rattle.iss_top.specs.Dry.{reading_of, as_reading, told_of}
 use Rattle.iss_top.specs.Progress.{line_text, line_next, lines_text, text_to_come}
@@ -57,8 +57,8 @@ pub record IsAlike (line other : List ℕ) : Type 0 where
   pub long : 16384 < length line
   pub other_long : 16384 < length other
 
-long_reading : (line : List ℕ) → 16384 < length line → line_read Lines line ≡ Err NotBuilt
-unfolding line_read exact_line
+long_reading : (line : List ℕ) → 16384 < length line → line_read Lines line ≡ Err Long
+unfolding line_read
 long_reading line h =
     let is_long : nat_lt 16384 (length line) ≡ true = grind (arith, nat_tests) in
     rw is_long refl
