@@ -17,7 +17,7 @@ use Rattle.iss_event.specs.declared.line.FormFault.TheVariants.{NotBuilt, Long}
 use Rattle.iss_event.specs.Fields.{required, optional_or, token_of, currency_of, amount_of, mcc_of, kind_of}
 use Rattle.iss_event.specs.Rows.{◌>>=◌, user_row, card_row, load_row, authorization_row}
 use Rattle.iss_event.specs.Objects.{object_of}
-use Rattle.iss_event.specs.Readings.{not_built, kind_line, object_line, found_line, exact_line, faults_not_built, line_read}
+use Rattle.iss_event.specs.Readings.{not_built, kind_line, object_line, found_line, line_read}
 use Rattle.iss_event.specs.Taken.{is_taken}
 
 -- a row, where it is good, is of a kind that is taken
@@ -94,17 +94,9 @@ unfolding object_line
 first_found mode None = tt
 first_found mode (Some d) = first_then (required (kind_of mode) name.Kind d) (kind_line mode d) (first_kind mode d)
 
-first_exact : (mode : Mode) (line : List ℕ) → IsFirst (exact_line mode line)
-unfolding exact_line
-first_exact mode line = first_unless (nat_lt 16384 (length line)) Long _ (first_found mode (object_of line))
-
-first_kept : (r : Result Line FormFault) → IsFirst r → IsFirst (faults_not_built r)
-first_kept (Ok said) h = h
-first_kept (Err fault) h = tt
-
-first_read : (line : List ℕ) → IsFirst (line_read Lines line)
+first_read : (mode : Mode) (line : List ℕ) → IsFirst (line_read mode line)
 unfolding line_read
-first_read line = first_kept (exact_line Lines line) (first_exact Lines line)
+first_read mode line = first_unless (nat_lt 16384 (length line)) Long _ (first_found mode (object_of line))
 
 pub taken_line : (line : List ℕ) (said : Line) → line_read Lines line ≡ Ok said → (is_taken said.input ≡ true) × (said.at ≡ None)
-taken_line line said e = subst IsFirst e (first_read line)
+taken_line line said e = subst IsFirst e (first_read Lines line)
