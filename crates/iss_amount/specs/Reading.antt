@@ -1,8 +1,12 @@
 -- How the digits of an amount are read, a part at a time.
-use Rattle.std.specs.Prelude.{ℕ, ◌+◌, ◌-◌, ◌*◌, List, fold, Option, None, if◌then◌else◌}
+use Rattle.std.specs.Prelude.{ℕ, ◌+◌, ◌-◌, ◌*◌, Bool, not, ◌&&◌, ◌||◌, ◌==◌, nat_lt, List, length, slice_index, fold, Option, None, if◌then◌else◌}
 use Rattle.std.specs.List.{list_all}
 use Rattle.iss_model.specs.Forms.{is_limit}
 use Rattle.iss_model.specs.Amounts.{is_digit, digits_value, is_whole_text, if_form}
+
+-- there are digits, with no zero before another
+abbrev pub is_unpadded : List ℕ → Bool
+is_unpadded digits = nat_lt 0 (length digits) && (length digits == 1 || not (slice_index digits 0 == 48))
 
 -- the number that digits spell behind those of another number
 abbrev pub value_behind : ℕ → List ℕ → ℕ

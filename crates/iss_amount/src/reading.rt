@@ -1,8 +1,8 @@
 //! Amounts read from text, and from whole numbers of units.
-ghost use Rattle.std.specs.Prelude.{◌≡◌, ◌&&◌, ◌||◌, ◌==◌, not, nat_lt, length, slice_index};
+ghost use Rattle.std.specs.Prelude.{◌≡◌};
 ghost use Rattle.iss_model.specs.Forms.{is_amount, is_limit};
 ghost use Rattle.iss_model.specs.Amounts.{if_form, amount_read, limit_read, whole_amount_read, whole_limit_read};
-ghost use Rattle.iss_amount.specs.Reading.{limit_behind, limit_of_units};
+ghost use Rattle.iss_amount.specs.Reading.{is_unpadded, limit_behind, limit_of_units};
 ghost use Rattle.iss_amount.specs.Laws.{IsWrittenAgain};
 
 use crate::currency::{decimals, unit};
@@ -21,7 +21,7 @@ pub fn read(text: &[u8], currency: Currency) -> Option<u64>
     ensures written_again { IsWrittenAgain (amount_read text.now currency) text.now currency }
 {
     let amount = read_limit(text, currency)?;
-    if_amount(amount)
+    checked_amount(amount)
 }
 
 /// The minor units of a limit such as `10.00`: `None` where the text isn't well formed in the currency, or they are above 10^12.
@@ -43,28 +43,30 @@ pub fn read_limit(text: &[u8], currency: Currency) -> Option<u64>
 }
 
 /// The minor units of so many whole units: `None` where they aren't 1 to 10^9.
-pub fn whole(n: u64, currency: Currency) -> Option<u64>
-    ensures { result ≡ whole_amount_read n currency }
+pub fn whole(units: u64, currency: Currency) -> Option<u64>
+    ensures { result ≡ whole_amount_read units currency }
 {
-    let amount = n.checked_mul(unit(currency))?;
-    if_amount(amount)
+    let amount = units.checked_mul(unit(currency))?;
+    checked_amount(amount)
 }
 
 /// The minor units of so many whole units: `None` where they are above 10^12.
-pub fn whole_limit(n: u64, currency: Currency) -> Option<u64>
-    ensures { result ≡ whole_limit_read n currency }
+pub fn whole_limit(units: u64, currency: Currency) -> Option<u64>
+    ensures { result ≡ whole_limit_read units currency }
 {
-    let limit = n.checked_mul(unit(currency))?;
-    if_limit(limit)
+    let limit = units.checked_mul(unit(currency))?;
+    checked_limit(limit)
 }
 
-fn if_amount(n: u64) -> Option<u64>
+/// The number, where it is an amount of an event.
+fn checked_amount(n: u64) -> Option<u64>
     ensures { result ≡ if_form is_amount n }
 {
     (1..=GREATEST_AMOUNT).contains(&n).then_some(n)
 }
 
-fn if_limit(n: u64) -> Option<u64>
+/// The number, where it is a limit.
+fn checked_limit(n: u64) -> Option<u64>
     ensures { result ≡ if_form is_limit n }
 {
     (n <= GREATEST_LIMIT).then_some(n)
@@ -81,8 +83,9 @@ fn read_units(text: &[u8]) -> Option<u64>
     }
 }
 
+/// There are digits, with no zero before another.
 fn is_unpadded(digits: &[u8]) -> bool
-    ensures { result ≡ (nat_lt 0 (length digits.now) && (length digits.now == 1 || not (slice_index digits.now 0 == 48))) }
+    ensures { result ≡ is_unpadded digits.now }
 {
     match digits {
         [] => false,
@@ -107,5 +110,5 @@ fn read_behind(start: u64, digits: &[u8]) -> Option<u64>
         }
         number = 10 * number + u64::from(*byte - b'0');
     }
-    if_limit(number)
+    checked_limit(number)
 }

@@ -33,7 +33,8 @@ fn with_no_decimals(alloc: Global, sign: &str, units: u64) -> Result<String, All
 
 fn with_two_decimals(alloc: Global, sign: &str, units: u64, rest: u64) -> Result<String, AllocError>
     requires { rest < 100 }
-    ensures { IfOk result (λ text. string_bytes text ≡ sign.now ++ decimal units ++ decimals_text 2 rest) }
+    ensures { IfOk result
+        (λ text. string_bytes text ≡ sign.now ++ decimal units ++ decimals_text 2 rest) }
 {
     format!(in alloc; "{sign}{units}.{rest:02}")
 }
@@ -45,7 +46,8 @@ fn with_three_decimals(
     rest: u64,
 ) -> Result<String, AllocError>
     requires { rest < 1000 }
-    ensures { IfOk result (λ text. string_bytes text ≡ sign.now ++ decimal units ++ decimals_text 3 rest) }
+    ensures { IfOk result
+        (λ text. string_bytes text ≡ sign.now ++ decimal units ++ decimals_text 3 rest) }
 {
     format!(in alloc; "{sign}{units}.{rest:03}")
 }

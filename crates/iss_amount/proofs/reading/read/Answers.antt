@@ -4,4 +4,4 @@ use Rattle.iss_amount.proofs.reading.read.Goals as goal
 
 pub returns-clause-number : goal.returns-clause-number
 returns-clause-number c =
-    c.if_amount.ensures ∙ sym (amount_of_limit c.args.text.now c.args.currency c.in_ok-amount.amount (sym c.in_ok-amount.ensures.number))
+    c.checked_amount.ensures ∙ sym (amount_of_limit c.args.text.now c.args.currency c.in_ok-amount.amount (sym c.in_ok-amount.ensures.number))
