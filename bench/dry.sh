@@ -1,8 +1,9 @@
 #!/usr/bin/env bash
 # Lines per second and peak memory of `build/issuer dry`.
 #
-# The first two lines are a user and a card. Of each ten after them, one loads 1.00 and nine authorise 0.01, which the
-# funds allow. The time is from the first line given to the last reply read, and the memory is then the peak so far.
+# Purchases: the first two lines are a user and a card. Of each ten after them, one loads 1.00 and nine authorise 0.01,
+# which the funds allow. Repeats: one line, again and again. The time is from the first line given to the last reply
+# read, and the memory is then the peak so far.
 set -eu -o pipefail
 cd "$(dirname "$0")/.."
 
@@ -11,8 +12,8 @@ room=$(mktemp -d)
 trap 'rm -rf "$room"' EXIT
 mkfifo "$room/in" "$room/out"
 
-# lines COUNT: the input.
-lines() {
+# purchases COUNT: an input of so many lines.
+purchases() {
     awk -v count="$1" 'BEGIN {
         print "{\"type\":\"user\",\"token\":\"u\",\"user\":\"u1\"}"
         print "{\"type\":\"card\",\"token\":\"c\",\"card\":\"c1\",\"user\":\"u1\"}"
@@ -26,10 +27,15 @@ lines() {
     }'
 }
 
-# measure COUNT: one line of the table. The input stays open until the memory is read.
+# repeats COUNT: one line, so many times.
+repeats() {
+    yes '{"type":"user","token":"u","user":"u1"}' | head -n "$1" || true
+}
+
+# measure INPUT COUNT: one line of the table. The input stays open until the memory is read.
 measure() {
-    local count=$1 issuer feeder start end peak late=0
-    lines "$count" >"$room/lines"
+    local input=$1 count=$2 issuer feeder start end peak late=0
+    "$input" "$count" >"$room/lines"
     build/issuer dry <"$room/in" >"$room/out" &
     issuer=$!
     exec 3>"$room/in" 4<"$room/out"
@@ -42,27 +48,28 @@ measure() {
     [ "$late" = 0 ] || kill "$issuer" "$feeder" 2>/dev/null || true
     exec 3>&- 4<&-
     wait "$issuer" "$feeder" 2>/dev/null || true
-    show "$count" "$late" "$start" "$end" "$peak"
+    show "$input" "$count" "$late" "$start" "$end" "$peak"
 }
 
-# show COUNT LATE START END PEAK: the line of the table, where each line of input had its reply or time ran out.
+# show INPUT COUNT LATE START END PEAK: the line of the table, where each line had its reply or time ran out.
 show() {
     local replies
     replies=$(wc -l <"$room/replies")
-    if [ "$2" != 0 ]; then
-        printf '%8d %10s %12s %10s\n' "$1" "over $limit" stopped "$5"
-    elif [ "$replies" = "$1" ]; then
-        awk -v count="$1" -v start="$3" -v end="$4" -v peak="$5" 'BEGIN {
+    if [ "$3" != 0 ]; then
+        printf '%-9s %8d %10s %12s %10s\n' "$1" "$2" "over $limit" stopped "$6"
+    elif [ "$replies" = "$2" ]; then
+        awk -v input="$1" -v count="$2" -v start="$4" -v end="$5" -v peak="$6" 'BEGIN {
             seconds = end - start
-            printf "%8d %10.3f %12.0f %10s\n", count, seconds, count / seconds, peak
+            printf "%-9s %8d %10.3f %12.0f %10s\n", input, count, seconds, count / seconds, peak
         }'
     else
-        echo "bench: $replies replies to $1 lines" >&2
+        echo "bench: $replies replies to $2 lines" >&2
         exit 1
     fi
 }
 
-printf '%8s %10s %12s %10s\n' lines seconds lines/second 'peak MiB'
+printf '%-9s %8s %10s %12s %10s\n' input lines seconds lines/second 'peak MiB'
 for count in 2000 20000 200000; do
-    measure "$count"
+    measure purchases "$count"
 done
+measure repeats 200001

@@ -18,7 +18,7 @@ mod writing;
 pub use line::{FormFault, Line, LineFault, Mode};
 pub use name::Name;
 pub use reading::read_line;
-pub use writing::{form_line, reply_line};
+pub use writing::{form_line, reply_line, told_line};
 
 #[cfg(test)]
 mod tests;

@@ -1,5 +1,5 @@
-use crate::{FormFault, Line, LineFault, Mode, Name, form_line, read_line, reply_line};
-use iss_model::{Currency, Input, Reason, Reply, Token, Verdict};
+use crate::{FormFault, Line, LineFault, Mode, Name, form_line, read_line, reply_line, told_line};
+use iss_model::{Answer, Currency, Input, Reason, Reply, Token, Verdict};
 use std::alloc::Global;
 use std::test::Fail;
 
@@ -81,6 +81,16 @@ fn tells_replies(rt: HostRuntime) -> Result<(), Fail> {
     );
     let pending = reply_line(rt.alloc(), &event, &Reply::Pending)?;
     assert!(rt; pending.as_slice() == b"{\"event\":\"a1\",\"reply\":\"pending\"}\n".as_slice());
+    Ok(())
+}
+
+#[test]
+fn tells_a_conflict(rt: HostRuntime) -> Result<(), Fail> {
+    let conflict = told_line(rt.alloc(), &Answer::Conflict(token("a1")?, 4))?;
+    assert!(rt;
+        conflict.as_slice()
+            == b"{\"event\":\"a1\",\"record\":4,\"reply\":\"conflict\"}\n".as_slice()
+    );
     Ok(())
 }
 

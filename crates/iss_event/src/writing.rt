@@ -2,15 +2,17 @@
 ghost use Rattle.std.specs.Prelude.{◌≡◌, [], ◌∷◌, ◌++◌, false, IfOk, OnOk, IsTrue, codes, string_bytes};
 ghost use Rattle.serde_json.specs.View.{view};
 ghost use Rattle.serde_json.specs.Written.{has_float, compact_text};
-ghost use Rattle.iss_model.specs.Wordings.{reply_members, reply_line, fault_line, line_of, with_text};
+ghost use Rattle.iss_model.specs.AnswerLines.{answer_members, answer_text, how_text, reply_member};
+ghost use Rattle.iss_model.specs.Wordings.{reply_members, reply_line, fault_line, line_of, with_number, with_text};
+ghost use Rattle.iss_model.specs.declared.decision.Answer.TheVariants as answer;
 ghost use Rattle.iss_event.specs.FormLines.{fault_members, field_members, form_text};
 ghost use Rattle.iss_event.specs.Names.{name_text};
-ghost use Rattle.iss_event.specs.Plain.{object_data, is_plain};
+ghost use Rattle.iss_event.specs.Plain.{object_data, is_plain, are_plain};
 ghost use Rattle.iss_event.specs.Reasons.{reply_is_plain};
 
 use crate::reason::reason_text;
 use crate::{FormFault, Name};
-use iss_model::{Reason, Reply, Token, Verdict};
+use iss_model::{Answer, Failure, How, Reason, Reply, Token, Verdict};
 use serde_json::{Value, json};
 use std::alloc::{AllocError, Global};
 
@@ -18,7 +20,15 @@ use std::alloc::{AllocError, Global};
 pub fn reply_line(alloc: Global, event: &Token, reply: &Reply) -> Result<Vec<u8>, AllocError>
     ensures { IfOk result (λ line. line.items ≡ reply_line event.now reply.now) }
 {
-    let value = reply_value(alloc, event.as_str(), reply)?;
+    let value = event_value(alloc, event, reply)?;
+    line_of(alloc, &value)
+}
+
+/// The line that tells an input that makes no record what became of it, with its line feed.
+pub fn told_line(alloc: Global, answer: &Answer) -> Result<Vec<u8>, AllocError>
+    ensures { IfOk result (λ line. line.items ≡ answer_text answer.now) }
+{
+    let value = answer_value(alloc, answer)?;
     line_of(alloc, &value)
 }
 
@@ -64,6 +74,13 @@ fn field_value(alloc: Global, name: Name) -> Result<Value, AllocError>
     json!(in alloc; {"fault": "FIELD", "field": field, "reply": "form"})
 }
 
+fn event_value(alloc: Global, event: &Token, reply: &Reply) -> Result<Value, AllocError>
+    ensures data { IfOk result (λ value. view value ≡ object_data (reply_members event.now reply.now)) }
+    ensures plain { OnOk result (IsTrue (are_plain (reply_members event.now reply.now))) }
+{
+    reply_value(alloc, event.as_str(), reply)
+}
+
 fn reply_value(alloc: Global, event: &str, reply: &Reply) -> Result<Value, AllocError>
     ensures data { IfOk result (λ value. view value
         ≡ object_data (reply_members event.now reply.now)) }
@@ -102,6 +119,59 @@ fn declined_for(alloc: Global, event: &str, reason: &str) -> Result<Value, Alloc
         ∷ with_text (codes "reply") (codes "declined") ∷ [])) }
 {
     json!(in alloc; {"event": event, "reason": reason, "reply": "declined"})
+}
+
+fn answer_value(alloc: Global, answer: &Answer) -> Result<Value, AllocError>
+    ensures data { IfOk result (λ value. view value ≡ object_data (answer_members answer.now)) }
+    ensures plain { OnOk result (IsTrue (are_plain (answer_members answer.now))) }
+{
+    match answer {
+        Answer::Repeat(event, reply) => event_value(alloc, event, reply),
+        Answer::Conflict(event, number) => conflict_value(alloc, event, *number),
+        Answer::Late(call, how) => late_value(alloc, call.0, *how),
+        Answer::UnknownCall(call) => json!(in alloc; {"call": call.0, "reply": "unknown"}),
+        Answer::Already(notice) => json!(in alloc; {"notice": *notice, "reply": "already"}),
+        Answer::UnknownNotice(notice) => json!(in alloc; {"notice": *notice, "reply": "unknown"}),
+        Answer::Idle => json!(in alloc; {"reply": "idle"}),
+        Answer::Full { free, need } => {
+            json!(in alloc; {"free": *free, "need": *need, "reply": "full"})
+        }
+    }
+}
+
+#[tactic(auto, using(crate::proofs::PlainTexts::token_is_plain))]
+fn conflict_value(alloc: Global, event: &Token, number: u32) -> Result<Value, AllocError>
+    ensures data { IfOk result (λ value. view value
+        ≡ object_data (answer_members (answer.Conflict event.now number))) }
+    ensures plain { OnOk result (IsTrue (are_plain (answer_members (answer.Conflict event.now number)))) }
+{
+    let event = event.as_str();
+    json!(in alloc; {"event": event, "record": number, "reply": "conflict"})
+}
+
+fn late_value(alloc: Global, call: u32, how: How) -> Result<Value, AllocError>
+    ensures data { IfOk result (λ value. view value
+        ≡ object_data (with_number (codes "call") call
+        ∷ reply_member (codes "late") ∷ with_text (codes "state") (how_text how) ∷ [])) }
+    ensures plain { OnOk result (IsTrue (is_plain (how_text how))) }
+{
+    let state = how_text(how);
+    json!(in alloc; {"call": call, "reply": "late", "state": state})
+}
+
+fn how_text(how: How) -> &'static str
+    ensures value { result.now ≡ how_text how }
+    ensures plain { IsTrue (is_plain result.now) }
+{
+    match how {
+        How::Funded => "FUNDED",
+        How::Refused => "REFUSED",
+        How::Failed(Failure::Connection) => "CONNECTION",
+        How::Failed(Failure::Timeout) => "TIMEOUT",
+        How::Failed(Failure::Application) => "APPLICATION",
+        How::Failed(Failure::Switch) => "SWITCH",
+        How::Abandoned => "ABANDONED",
+    }
 }
 
 /// A value's text and a line feed.

@@ -5,7 +5,7 @@ use Rattle.iss_model.specs.declared.call.How.{How}
 use Rattle.iss_model.specs.declared.call.How.TheVariants as how
 use Rattle.iss_model.specs.declared.decision.Answer.{Answer}
 use Rattle.iss_model.specs.declared.decision.Answer.TheVariants as answer
-use Rattle.iss_model.specs.Wordings.{Member, with_text, with_number, line_of, fault_line}
+use Rattle.iss_model.specs.Wordings.{Member, with_text, with_number, line_of, reply_members}
 
 -- how a call was closed, as the state of a late answer
 abbrev pub how_text : How → List ℕ
@@ -21,19 +21,23 @@ how_text how.Abandoned = codes "ABANDONED"
 abbrev pub reply_member : List ℕ → Member
 reply_member kind = with_text (codes "reply") kind
 
--- The line of an answer. An event that stands is not told more yet than that this is not built.
+-- What an answer says. A repeat says the reply of its event, and a conflict the number of the record that stands.
+abbrev pub answer_members : Answer → List Member
+answer_members (answer.Repeat token reply) = reply_members token reply
+answer_members (answer.Conflict token number) =
+    with_text (codes "event") token ∷ with_number (codes "record") number ∷ reply_member (codes "conflict") ∷ []
+answer_members (answer.Late call how) =
+    with_number (codes "call") call.0 ∷ reply_member (codes "late") ∷ with_text (codes "state") (how_text how) ∷ []
+answer_members (answer.UnknownCall call) = with_number (codes "call") call.0 ∷ reply_member (codes "unknown") ∷ []
+answer_members (answer.Already notice) = with_number (codes "notice") notice ∷ reply_member (codes "already") ∷ []
+answer_members (answer.UnknownNotice notice) = with_number (codes "notice") notice ∷ reply_member (codes "unknown") ∷ []
+answer_members answer.Idle = reply_member (codes "idle") ∷ []
+answer_members (answer.Full free need) =
+    with_number (codes "free") free ∷ with_number (codes "need") need ∷ reply_member (codes "full") ∷ []
+
+-- the line of an answer
 unfoldable pub answer_text : Answer → List ℕ
-answer_text (answer.Repeat token reply) = fault_line (codes "NOT_BUILT")
-answer_text (answer.Conflict token number) = fault_line (codes "NOT_BUILT")
-answer_text (answer.Late call how) =
-    line_of (with_number (codes "call") call.0 ∷ reply_member (codes "late") ∷ with_text (codes "state") (how_text how) ∷ [])
-answer_text (answer.UnknownCall call) = line_of (with_number (codes "call") call.0 ∷ reply_member (codes "unknown") ∷ [])
-answer_text (answer.Already notice) = line_of (with_number (codes "notice") notice ∷ reply_member (codes "already") ∷ [])
-answer_text (answer.UnknownNotice notice) =
-    line_of (with_number (codes "notice") notice ∷ reply_member (codes "unknown") ∷ [])
-answer_text answer.Idle = line_of (reply_member (codes "idle") ∷ [])
-answer_text (answer.Full free need) =
-    line_of (with_number (codes "free") free ∷ with_number (codes "need") need ∷ reply_member (codes "full") ∷ [])
+answer_text a = line_of (answer_members a)
 
 -- the line of an acknowledgement that was taken
 unfoldable pub acked_line : ℕ → List ℕ

@@ -4,6 +4,8 @@
 #[cfg(test)]
 mod hostile;
 #[cfg(test)]
+mod repeats;
+#[cfg(test)]
 mod scripts;
 #[cfg(test)]
 mod support;

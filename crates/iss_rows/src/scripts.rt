@@ -29,10 +29,9 @@ const SHORT_REPLIES: &str = r#"{"event":"t1","reply":"done"}
 {"event":"a1","reason":"INSUFFICIENT_FUNDS","reply":"declined"}
 "#;
 
-/// Lines of kinds that are not taken yet, and an event that stands.
+/// Lines of kinds that are not taken yet, and lines that are no events.
 const NOT_BUILT_LINES: &str = r#"{"type":"user","token":"t1","user":"u1"}
 {"type":"load","token":"t3","user":"u1","currency":"USD","amount":"1.00","at":5}
-{"type":"user","token":"t1","user":"u1"}
 {"type":"user"}
 [
 {"type":"product","token":"p1","product":"g","currency":"USD","funding":"GATEWAY"}
@@ -41,7 +40,6 @@ const NOT_BUILT_LINES: &str = r#"{"type":"user","token":"t1","user":"u1"}
 "#;
 
 const NOT_BUILT_REPLIES: &str = r#"{"event":"t1","reply":"done"}
-{"fault":"NOT_BUILT","reply":"form"}
 {"fault":"NOT_BUILT","reply":"form"}
 {"fault":"FIELD","field":"token","reply":"form"}
 {"fault":"JSON","reply":"form"}

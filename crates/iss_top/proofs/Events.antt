@@ -1,50 +1,44 @@
--- An event stands exactly where some record is of it.
-use Rattle.std.proofs.Common.{◌≡◌, ℕ, ◌+◌, Bool, true, false, cond, ◌||◌, List, [], ◌∷◌, Option, Some, None, refl, ap, ◌∙◌, sym}
+-- The first record of an event, and what it is told by it.
+use Rattle.std.proofs.Common.{◌≡◌, ℕ, ◌+◌, Bool, true, false, cond, List, [], ◌∷◌, Option, Some, None, refl, ap, ◌∙◌, sym}
 use Rattle.std.specs.Prelude.{is_some, find, filter}
-use Rattle.std.specs.List.{list_any}
 use Rattle.iss_model.specs.declared.decision.Answer.{Answer}
 use Rattle.iss_model.specs.declared.input.Input.{Input}
 use Rattle.iss_model.specs.declared.input.Input.TheVariants as input
 use Rattle.iss_model.specs.declared.input.Record.{Record}
+use Rattle.iss_model.specs.declared.entry.Row.{Row}
 use Rattle.iss_model.specs.Inputs.{is_event, is_text, event_token}
 use Rattle.iss_model.specs.Facts.{Facts, Accepted, event_in}
 use Rattle.iss_model.specs.Histories.{History, history_facts, accepted_from}
-use Rattle.iss_event.specs.Taken.{is_taken}
-use Rattle.iss_top.specs.Early.{is_known}
 use Rattle.iss_model.specs.Judging.{told_by, event_answer, refusal}
-
-found_or_later : (b : Bool) (a : Accepted) (rest : Option Accepted) → is_some (cond b (Some a) rest) ≡ (b || is_some rest)
-found_or_later true a rest = refl
-found_or_later false a rest = refl
+use Rattle.iss_event.specs.Taken.{is_taken}
+use Rattle.iss_top.specs.Repeats.{event_from, told_by_rows}
 
 text_of_none : (token : List ℕ) (o : Option (List ℕ)) → is_some o ≡ false → is_text token o ≡ false
 text_of_none token None h = refl
 text_of_none token (Some other) h = cc
 
-kept_or_later : (token : List ℕ) (a : Accepted) (rest : List Accepted) (b : Bool) → is_some (event_token a.input) ≡ b
-    → is_some (find (λ (x : Accepted). is_event token x.input) (cond b (a ∷ rest) rest)) ≡ (is_event token a.input || is_some (find (λ (x : Accepted). is_event token x.input) rest))
-kept_or_later token a rest true e = found_or_later (is_event token a.input) a (find (λ (x : Accepted). is_event token x.input) rest)
-kept_or_later token a rest false e =
-    ap (λ (b : Bool). b || is_some (find (λ (x : Accepted). is_event token x.input) rest)) (sym (text_of_none token (event_token a.input) e))
+-- the first of the accepted, where one that is no event is left out
+found_or_later : (token : List ℕ) (a : Accepted) (rest : List Accepted) (b : Bool) → is_some (event_token a.input) ≡ b
+    → find (λ (x : Accepted). is_event token x.input) (cond b (a ∷ rest) rest)
+    ≡ cond (is_event token a.input) (Some a) (find (λ (x : Accepted). is_event token x.input) rest)
+found_or_later token a rest true e = refl
+found_or_later token a rest false e =
+    ap (λ (b : Bool). cond b (Some a) (find (λ (x : Accepted). is_event token x.input) rest)) (sym (text_of_none token (event_token a.input) e))
 
 abbrev events_from : ℕ → List Record → List Accepted
 events_from n records = filter (λ a. is_some (event_token a.input)) (accepted_from n records)
 
-accepted_event : (token : List ℕ) (n : ℕ) (records : List Record) → is_some (find (λ (a : Accepted). is_event token a.input) (events_from n records)) ≡ list_any (λ (r : Record). is_event token r.input) records
-accepted_event token n [] = refl
-accepted_event token n (r ∷ rs) =
-    kept_or_later token (record { number = n; input = r.input }) (events_from (n + 1) rs) _ refl
-    ∙ ap (λ (b : Bool). is_event token r.input || b) (accepted_event token (n + 1) rs)
+first_event : (token : List ℕ) (n : ℕ) (records : List Record) → find (λ (a : Accepted). is_event token a.input) (events_from n records) ≡ event_from n token records
+first_event token n [] = refl
+first_event token n (r ∷ rs) =
+    found_or_later token (record { number = n; input = r.input }) (events_from (n + 1) rs) _ refl
+    ∙ ap (λ (rest : Option Accepted). cond (is_event token r.input) (Some (record { number = n; input = r.input })) rest) (first_event token (n + 1) rs)
 
--- an event is known by its records
-pub known_event : (h : History) (token : List ℕ) → is_known (history_facts h) (Some token) ≡ list_any (λ (r : Record). is_event token r.input) h.records
-known_event h token = accepted_event token 1 h.records
+-- the first record of an event is the first one in the book that is of it
+pub event_in_records : (h : History) (token : List ℕ) → event_in (history_facts h) token ≡ event_from 1 token h.records
+event_in_records h token = first_event token 1 h.records
 
-either_answer : (b : Bool) (x y : Answer) → is_some (cond b (Some x) (Some y)) ≡ true
-either_answer true x y = refl
-either_answer false x y = refl
-
--- what an event is told, where it is one
+-- what an event is told, where the input is one
 abbrev pub event_told : Facts → Input → Option (List ℕ) → Option Answer
 event_told f i None = None
 event_told f i (Some token) = event_answer f i token
@@ -57,11 +51,14 @@ early_refusal quiet f (input.Load token user currency amount) h = refl
 early_refusal quiet f (input.Authorization token card currency amount mcc mid) h = refl
 early_refusal quiet f _ h = cc
 
-told_nothing : (f : Facts) (i : Input) (token : List ℕ) (first : Option Accepted) → is_some first ≡ false → told_by f i token first ≡ None
-told_nothing f i token None h = refl
-told_nothing f i token (Some first) h = cc
-
--- one that doesn't stand is told nothing
-pub unknown_told : (f : Facts) (i : Input) (token : Option (List ℕ)) → is_known f token ≡ false → event_told f i token ≡ None
-unknown_told f i None h = refl
-unknown_told f i (Some token) h = told_nothing f i token (event_in f token) h
+-- what an event is told by the records and rows of the book is what judging it gives
+pub answered_by_book : (h : History) (records : List Record) (rows : List Row) (i : Input) (token : List ℕ) (answer : Option Answer)
+    → record { records = records; rows = rows } ≡ h → is_taken i ≡ true → Some token ≡ event_token i
+    → answer ≡ told_by_rows rows i token (event_from 1 token records) → answer ≡ refusal true (history_facts h) (history_facts h) i
+answered_by_book h records rows i token answer view taken named told =
+    let facts : Facts = history_facts (record { records = records; rows = rows }) in
+    told
+    ∙ ap (told_by facts i token) (sym (event_in_records (record { records = records; rows = rows }) token))
+    ∙ ap (event_told facts i) named
+    ∙ sym (early_refusal true facts i taken)
+    ∙ ap (λ (h : History). refusal true (history_facts h) (history_facts h) i) view

@@ -2,6 +2,7 @@ pub mod Early
 pub mod Keys
 pub mod Added
 pub mod Events
+pub mod SameFields
 pub mod Tellings
 pub mod Feeding
 pub mod Saying

@@ -1,26 +1,20 @@
 -- What a line is told, from what reading and judging it gave.
-use Rattle.std.proofs.Common.{◌≡◌, ℕ, Bool, true, false, cond, List, [], ◌∷◌, ◌++◌, length, map, codes, Option, Some, None, Ok, Err, refl, sym, ap, ◌∙◌, append-nil, append_assoc}
-use Rattle.std.specs.Prelude.{is_some, Result, OnOk}
+use Rattle.std.proofs.Common.{◌≡◌, ℕ, true, List, [], ◌∷◌, ◌++◌, length, map, Option, Some, None, Ok, Err, refl, sym, ap, ◌∙◌, append-nil, append_assoc}
+use Rattle.std.specs.Prelude.{Result, OnOk}
 use Rattle.std.specs.List.{concat, flat_map}
 use Rattle.iss_model.specs.declared.input.Input.{Input}
 use Rattle.iss_model.specs.declared.input.Record.{Record}
 use Rattle.iss_model.specs.declared.entry.Entry.{Entry}
 use Rattle.iss_model.specs.declared.decision.Answer.{Answer}
-use Rattle.iss_model.specs.Wordings.{fault_line}
 use Rattle.iss_model.specs.declared.input.Input.TheVariants as input
-use Rattle.iss_model.specs.declared.decision.Answer.TheVariants as answer
-use Rattle.iss_model.specs.declared.decision.Reply.{Reply}
 use Rattle.iss_model.specs.declared.decision.Judged.{Judged}
 use Rattle.iss_model.specs.AnswerLines.{answer_text}
-use Rattle.iss_model.specs.Inputs.{event_token, same_contents}
-use Rattle.iss_model.specs.Facts.{Facts, Accepted, event_in, reply_in}
 use Rattle.iss_model.specs.Sayings.{Said, said_by, said_of_time, Reaction, reaction, reaction_as, reaction_to_record}
 use Rattle.iss_event.specs.Taken.{is_taken}
-use Rattle.iss_top.specs.Early.{IsEarly, is_known}
+use Rattle.iss_top.specs.Early.{IsEarly}
 use Rattle.iss_top.proofs.Early.{early_judge}
-use Rattle.iss_top.proofs.Events.{event_told, early_refusal, unknown_told}
 use Rattle.iss_model.specs.Stepping.{step}
-use Rattle.iss_model.specs.Judging.{judged_as, told_by}
+use Rattle.iss_model.specs.Judging.{judged_as, refusal}
 use Rattle.iss_model.specs.Histories.{History, history_facts, history_keeper}
 use Rattle.iss_model.specs.Transcripts.{sound, faulty, Told, told_by_reaction, after_line, at_level, bytes_of, said_text, entry_texts}
 use Rattle.iss_event.specs.declared.line.Line.{Line}
@@ -81,73 +75,53 @@ no_time _ h = refl
 abbrev made_by : History → Input → Reaction
 made_by h i = reaction_to_record h (record_of i)
 
-new_reaction : (h : History) → IsEarly h → (i : Input) → is_taken i ≡ true → is_known (history_facts h) (event_token i) ≡ false → reaction h i 0 ≡ made_by h i
+new_reaction : (h : History) → IsEarly h → (i : Input) → is_taken i ≡ true → refusal true (history_facts h) (history_facts h) i ≡ None → reaction h i 0 ≡ made_by h i
 unfolding reaction
 new_reaction h e i early unknown =
     ap (reaction_as h i 0) (early_judge h i e.rows e.start)
-    ∙ ap (λ (o : Option Answer). reaction_as h i 0 (judged_as o true i 0)) (early_refusal true (history_facts h) i early ∙ unknown_told (history_facts h) i (event_token i) unknown)
+    ∙ ap (λ (o : Option Answer). reaction_as h i 0 (judged_as o true i 0)) unknown
     ∙ ap (λ (said : List Said). record (made_by h i) { said = (made_by h i).said ++ said }) (no_time i early)
     ∙ ap (λ (said : List Said). record (made_by h i) { said = said }) (append-nil (made_by h i).said)
 
-pub judged_new : (h : History) → IsEarly h → (i : Input) → is_taken i ≡ true → is_known (history_facts h) (event_token i) ≡ false → after_line h (sound i None) ≡ told_by_reaction (made_by h i)
+pub judged_new : (h : History) → IsEarly h → (i : Input) → is_taken i ≡ true → refusal true (history_facts h) (history_facts h) i ≡ None → after_line h (sound i None) ≡ told_by_reaction (made_by h i)
 judged_new h e i early unknown = ap told_by_reaction (new_reaction h e i early unknown)
 
 -- a new input of the first book makes its record
-pub new_history : (h : History) → IsEarly h → (i : Input) → is_taken i ≡ true → is_known (history_facts h) (event_token i) ≡ false
+pub new_history : (h : History) → IsEarly h → (i : Input) → is_taken i ≡ true → refusal true (history_facts h) (history_facts h) i ≡ None
     → (after_line h (sound i None)).history ≡ (step history_keeper h (record_of i)).world
 new_history h e i early unknown = ap (λ (t : Told). t.history) (judged_new h e i early unknown)
 
 -- and is told what its entries send out
-pub new_texts : (h : History) → IsEarly h → (i : Input) → is_taken i ≡ true → is_known (history_facts h) (event_token i) ≡ false
+pub new_texts : (h : History) → IsEarly h → (i : Input) → is_taken i ≡ true → refusal true (history_facts h) (history_facts h) i ≡ None
     → bytes_of (after_line h (sound i None)).texts ≡ entries_text (step history_keeper h (record_of i)).entries
 new_texts h e i early unknown =
     ap (λ (t : Told). bytes_of t.texts) (judged_new h e i early unknown)
     ∙ bytes_of_said (length (made_by h i).history.records) (step history_keeper h (record_of i)).entries
 
--- an event that stands changes nothing, and is told that this is not built
-abbrev not_built : History → Told
-not_built h = record { history = h; texts = at_level (length h.records) (fault_line (codes "NOT_BUILT") ∷ []) }
-
-told_either : (h : History) (i : Input) (token : List ℕ) (b : Bool) (reply : Reply) (number : ℕ)
-    → told_by_reaction (reaction_as h i 0 (judged_as (cond b (Some (answer.Repeat token reply)) (Some (answer.Conflict token number))) true i 0)) ≡ not_built h
-unfolding answer_text
-told_either h i token true reply number = refl
-told_either h i token false reply number = refl
-
-told_first : (h : History) (f : Facts) (i : Input) (token : List ℕ) (first : Option Accepted) → is_some first ≡ true
-    → told_by_reaction (reaction_as h i 0 (judged_as (told_by f i token first) true i 0)) ≡ not_built h
-told_first h f i token None e = cc
-told_first h f i token (Some first) e = told_either h i token (same_contents first.input i) (reply_in f token) first.number
-
-told_known : (h : History) (i : Input) (token : Option (List ℕ)) → is_known (history_facts h) token ≡ true
-    → told_by_reaction (reaction_as h i 0 (judged_as (event_told (history_facts h) i token) true i 0)) ≡ not_built h
-told_known h i None e = cc
-told_known h i (Some token) e = told_first h (history_facts h) i token (event_in (history_facts h) token) e
-
-pub judged_told : (h : History) → IsEarly h → (i : Input) → is_taken i ≡ true → is_known (history_facts h) (event_token i) ≡ true
-    → after_line h (sound i None) ≡ record { history = h; texts = at_level (length h.records) (fault_line (codes "NOT_BUILT") ∷ []) }
+-- an event that stands changes nothing, and is told its answer
+answered : (h : History) → IsEarly h → (i : Input) (a : Answer) → refusal true (history_facts h) (history_facts h) i ≡ Some a
+    → after_line h (sound i None) ≡ record { history = h; texts = at_level (length h.records) (answer_text a ∷ []) }
 unfolding reaction
-judged_told h e i early known =
+answered h e i a told =
     ap (λ (j : Judged). told_by_reaction (reaction_as h i 0 j)) (early_judge h i e.rows e.start)
-    ∙ ap (λ (o : Option Answer). told_by_reaction (reaction_as h i 0 (judged_as o true i 0))) (early_refusal true (history_facts h) i early)
-    ∙ told_known h i (event_token i) known
+    ∙ ap (λ (o : Option Answer). told_by_reaction (reaction_as h i 0 (judged_as o true i 0))) told
 
--- the same with the stamps as they come in the code
-pub told_at : (h : History) → IsEarly h → (i : Input) (at : Option ℕ) → at ≡ None → is_taken i ≡ true → is_known (history_facts h) (event_token i) ≡ true
-    → after_line h (sound i at) ≡ record { history = h; texts = at_level (length h.records) (fault_line (codes "NOT_BUILT") ∷ []) }
-told_at h e i at none early known = ap (λ (at : Option ℕ). after_line h (sound i at)) none ∙ judged_told h e i early known
+-- the same with the stamp as it comes in the code
+told_at : (h : History) → IsEarly h → (i : Input) (at : Option ℕ) → at ≡ None → (a : Answer) → refusal true (history_facts h) (history_facts h) i ≡ Some a
+    → after_line h (sound i at) ≡ record { history = h; texts = at_level (length h.records) (answer_text a ∷ []) }
+told_at h e i at none a told = ap (λ (at : Option ℕ). after_line h (sound i at)) none ∙ answered h e i a told
 
 -- what a call of the code says, as what the line is told
-pub text_told : (h : History) → IsEarly h → (i : Input) (at : Option ℕ) → at ≡ None → is_taken i ≡ true → is_known (history_facts h) (event_token i) ≡ true
-    → (text : List ℕ) → text ≡ fault_line (codes "NOT_BUILT") → text ≡ bytes_of (after_line h (sound i at)).texts
-text_told h e i at none early known text said =
-    said ∙ sym (bytes_of_one (length h.records) (fault_line (codes "NOT_BUILT"))) ∙ ap (λ (t : Told). bytes_of t.texts) (sym (told_at h e i at none early known))
+pub text_told : (h : History) → IsEarly h → (i : Input) (at : Option ℕ) → at ≡ None → (a : Answer) → refusal true (history_facts h) (history_facts h) i ≡ Some a
+    → (text : List ℕ) → text ≡ answer_text a → text ≡ bytes_of (after_line h (sound i at)).texts
+text_told h e i at none a told text said =
+    said ∙ sym (bytes_of_one (length h.records) (answer_text a)) ∙ ap (λ (t : Told). bytes_of t.texts) (sym (told_at h e i at none a told))
 
-pub history_kept : (h : History) → IsEarly h → (i : Input) (at : Option ℕ) → at ≡ None → is_taken i ≡ true → is_known (history_facts h) (event_token i) ≡ true
+pub history_kept : (h : History) → IsEarly h → (i : Input) (at : Option ℕ) → at ≡ None → (a : Answer) → refusal true (history_facts h) (history_facts h) i ≡ Some a
     → h ≡ (after_line h (sound i at)).history
-history_kept h e i at none early known = ap (λ (t : Told). t.history) (sym (told_at h e i at none early known))
+history_kept h e i at none a told = ap (λ (t : Told). t.history) (sym (told_at h e i at none a told))
 
-pub history_grown : (h : History) → IsEarly h → (i : Input) (at : Option ℕ) (stamp : ℕ) → at ≡ None → stamp ≡ 0 → is_taken i ≡ true → is_known (history_facts h) (event_token i) ≡ false
+pub history_grown : (h : History) → IsEarly h → (i : Input) (at : Option ℕ) (stamp : ℕ) → at ≡ None → stamp ≡ 0 → is_taken i ≡ true → refusal true (history_facts h) (history_facts h) i ≡ None
     → (new : History) → new ≡ (step history_keeper h (record { at = stamp; input = i })).world → new ≡ (after_line h (sound i at)).history
 history_grown h e i at stamp none start early unknown new grown =
     grown
@@ -155,7 +129,7 @@ history_grown h e i at stamp none start early unknown new grown =
     ∙ sym (new_history h e i early unknown)
     ∙ ap (λ (at : Option ℕ). (after_line h (sound i at)).history) (sym none)
 
-pub text_made : (h : History) → IsEarly h → (i : Input) (at : Option ℕ) (stamp : ℕ) → at ≡ None → stamp ≡ 0 → is_taken i ≡ true → is_known (history_facts h) (event_token i) ≡ false
+pub text_made : (h : History) → IsEarly h → (i : Input) (at : Option ℕ) (stamp : ℕ) → at ≡ None → stamp ≡ 0 → is_taken i ≡ true → refusal true (history_facts h) (history_facts h) i ≡ None
     → (text : List ℕ) → text ≡ entries_text (step history_keeper h (record { at = stamp; input = i })).entries → text ≡ bytes_of (after_line h (sound i at)).texts
 text_made h e i at stamp none start early unknown text made =
     made
@@ -175,7 +149,3 @@ answer_sound h line said e = ap (after_line h) (reading_sound line said e)
 pub anyway : {A B : Type 0} (r : Result A B) (P : Type 0) → P → OnOk r P
 anyway (Ok x) P p = p
 anyway (Err x) P p = tt
-
-pub on_ok-weaker : {A B : Type 0} (r : Result A B) (P Q : Type 0) → (P → Q) → OnOk r P → OnOk r Q
-on_ok-weaker (Ok x) P Q f p = f p
-on_ok-weaker (Err x) P Q f p = tt

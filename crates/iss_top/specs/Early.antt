@@ -1,5 +1,5 @@
 -- The first book: users, cards of the built-in product, loads and purchases at stamp 0. No other kind of input is taken yet.
-use Rattle.std.specs.Prelude.{◌≡◌, ℕ, pos, Bool, true, false, not, ◌&&◌, nat_lt, int_lt, List, [], ◌∷◌, Option, Some, None, is_some, is_none}
+use Rattle.std.specs.Prelude.{◌≡◌, ℕ, pos, Bool, true, false, not, ◌&&◌, nat_lt, int_lt, List, [], ◌∷◌, Option, is_none}
 use Rattle.std.specs.List.{list_all, filter_map}
 use Rattle.iss_model.specs.declared.currency.Currency.{Currency}
 use Rattle.iss_model.specs.declared.account.Part.TheVariants as part
@@ -14,7 +14,7 @@ use Rattle.iss_model.specs.declared.decision.Reason.{Reason}
 use Rattle.iss_model.specs.declared.decision.Reason.TheVariants as reason
 use Rattle.iss_model.specs.declared.decision.Verdict.TheVariants as verdict
 use Rattle.iss_model.specs.Settings.{user_made, card_made, card_named, product_named, is_active_user, is_active_card}
-use Rattle.iss_model.specs.Facts.{Facts, event_in, available_in}
+use Rattle.iss_model.specs.Facts.{Facts, available_in}
 use Rattle.iss_model.specs.Asks.{usage_of}
 use Rattle.iss_model.specs.Reasons.{first_reason, is_some_with, user_is}
 use Rattle.iss_model.specs.CardReasons.{is_account_funded, is_in_currency}
@@ -43,11 +43,6 @@ are_early rows = list_all (λ row. is_early_entry row.entry) rows
 pub record IsEarly (h : History) : Type 0 where
   pub start : time_of h.records ≡ 0
   pub rows : are_early h.rows ≡ true
-
--- the event stands
-abbrev pub is_known : Facts → Option (List ℕ) → Bool
-is_known f None = false
-is_known f (Some token) = is_some (event_in f token)
 
 -- the users as they were made
 abbrev pub users_made : List Row → List User

@@ -3,6 +3,7 @@ pub mod Lines
 pub mod Dry
 pub mod Early
 pub mod Purchases
+pub mod Repeats
 pub mod Progress
 pub mod Runs
 pub mod Words

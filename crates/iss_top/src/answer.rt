@@ -6,7 +6,7 @@ ghost use Rattle.iss_model.specs.Transcripts.{sound, after_line, bytes_of};
 ghost use Rattle.iss_top.specs.Dry.{told_of};
 
 use crate::book::Book;
-use iss_event::{FormFault, Line, LineFault, Mode, form_line, read_line};
+use iss_event::{Line, LineFault, Mode, form_line, read_line, told_line};
 use std::alloc::{AllocError, Global};
 
 /// Takes a line that is not blank, and answers what it is told.
@@ -22,7 +22,7 @@ pub(crate) fn answer(alloc: Global, book: &mut Book, line: &[u8]) -> Result<Vec<
     }
 }
 
-/// Judges the input of a line. An event that stands is not told yet what became of it.
+/// Judges the input of a line: an event that stands is told what became of it, and a new one is a record.
 fn decide(alloc: Global, book: &mut Book, said: Line) -> Result<Vec<u8>, AllocError>
     requires room { length book.old.records + 1 < 2 ^ 32 }
     requires input_form { IsTrue (is_in_form said.input) }
@@ -32,9 +32,11 @@ fn decide(alloc: Global, book: &mut Book, said: Line) -> Result<Vec<u8>, AllocEr
     ensures texts { IfOk result (λ text. text.items
         ≡ bytes_of (after_line book.old (sound said.input said.at)).texts) }
 {
-    if book.stands(&said.input) {
-        return form_line(alloc, &FormFault::NotBuilt);
+    match book.answer_to(&said.input) {
+        Some(answer) => told_line(alloc, &answer),
+        None => {
+            let at = said.at.unwrap_or(0).max(book.now());
+            book.step(alloc, said.input, at)
+        }
     }
-    let at = said.at.unwrap_or(0).max(book.now());
-    book.step(alloc, said.input, at)
 }

@@ -1,13 +1,14 @@
 //! The book in its plainest form: the records and the rows, as lists.
-ghost use Rattle.std.specs.Prelude.{◌≡◌, ◌+◌, ◌-◌, ◌^◌, ◌<◌, ◌++◌, [], ◌∷◌, is_some, length, max, true, IfOk, OnOk, OnErr, IsTrue};
-ghost use Rattle.std.specs.List.{list_any};
+ghost use Rattle.std.specs.Prelude.{◌≡◌, ◌+◌, ◌-◌, ◌^◌, ◌<◌, ◌++◌, [], ◌∷◌, length, max, true, Some, IfOk, OnOk, OnErr, IsTrue};
 ghost use Rattle.iss_model.specs.Inputs.{event_token, is_event};
 ghost use Rattle.iss_model.specs.Settings.{user_named, card_named, product_named, users_of, cards_of, products_of, is_active_user, is_active_card};
 ghost use Rattle.iss_model.specs.CardReasons.{is_account_funded, is_in_currency};
 ghost use Rattle.iss_model.specs.Asks.{txn_begun};
 ghost use Rattle.iss_model.specs.declared.input.Input.TheVariants as input;
 ghost use Rattle.iss_event.specs.Taken.{is_taken};
-ghost use Rattle.iss_top.specs.Early.{all_early, IsEarly, is_known, is_short, purchase_reason};
+ghost use Rattle.iss_top.specs.Early.{all_early, IsEarly, is_short, purchase_reason};
+ghost use Rattle.iss_top.specs.Repeats.{event_from, told_by_rows};
+ghost use Rattle.iss_model.specs.Judging.{refusal};
 ghost use Rattle.iss_model.specs.Reasons.{user_reason, card_reason, load_reason, user_is};
 ghost use Rattle.iss_model.specs.Stepping.{entries_of, step};
 ghost use Rattle.iss_model.specs.Forms.{is_in_form, is_amount};
@@ -15,12 +16,13 @@ ghost use Rattle.iss_top.specs.Purchases.{purchase_entries};
 ghost use Rattle.iss_model.specs.Histories.{history_facts, history_keeper, time_of, numbered};
 ghost use Rattle.iss_top.specs.Dry.{entries_text};
 
+use crate::contents::same_contents;
 use crate::entries::{Purchase, declined, load_entries, purchased, setting_entries};
 use crate::rows;
 use iss_event::reply_line;
 use iss_model::{
-    Card, CardState, Currency, Entry, Funding, Input, Product, Reason, Record, Reply, Row, Token,
-    Txn, User, UserState,
+    Answer, Card, CardState, Currency, Entry, Funding, Input, Product, Reason, Record, Reply, Row,
+    Token, Txn, User, UserState,
 };
 use std::alloc::{AllocError, Global};
 use std::marker::Model;
@@ -64,15 +66,16 @@ impl Book {
         time_of(&self.records)
     }
 
-    /// Whether the input is an event that stands.
-    #[tactic(auto, using(crate::proofs::Events::known_event))]
-    pub(crate) fn stands(&self, input: &Input) -> bool
-        ensures known { result ≡ is_known (history_facts self.now) (event_token input.now) }
+    /// What the input is told where it is an event that stands.
+    pub(crate) fn answer_to(&self, input: &Input) -> Option<Answer>
+        requires room { length self.now.records < 2 ^ 32 }
+        requires early { is_taken input.now ≡ true }
+        ensures value { result ≡ refusal true (history_facts self.now) (history_facts self.now) input.now }
         ensures early { IsEarly self.now }
     {
         match event_token(input) {
-            Some(token) => has_event(&self.records, &token),
-            None => false,
+            Some(token) => event_answer(&self.records, &self.rows, input, &token),
+            None => None,
         }
     }
 
@@ -425,10 +428,31 @@ fn time_of(records: &[Record]) -> u64
     now
 }
 
-fn has_event(records: &[Record], token: &Token) -> bool
-    ensures { result ≡ list_any (λ r. is_event token.now r.input) records.now }
+/// What an event is told by the first record of its token.
+fn event_answer(records: &[Record], rows: &[Row], input: &Input, token: &Token) -> Option<Answer>
+    requires room { length records.now < 2 ^ 32 }
+    requires early { is_taken input.now ≡ true }
+    ensures { result ≡ told_by_rows rows.now input.now token.now (event_from 1 token.now records.now) }
 {
-    records.iter().any(|record| is_event(token, &record.input))
+    for (index, record) in records.iter().enumerate() {
+        if is_event(token, &record.input) {
+            return Some(told_by(rows, &record.input, index as u32 + 1, input, token));
+        }
+    }
+    None
+}
+
+/// A repeat of the first record's contents is told the reply, and any other the record's number.
+fn told_by(rows: &[Row], first: &Input, number: u32, input: &Input, token: &Token) -> Answer
+    requires { is_taken input.now ≡ true }
+    ensures { Some result ≡ told_by_rows rows.now input.now token.now
+        (Some (record { number = number; input = first.now })) }
+{
+    if same_contents(first, input) {
+        Answer::Repeat(*token, rows::reply(rows, token))
+    } else {
+        Answer::Conflict(*token, number)
+    }
 }
 
 fn is_event(token: &Token, input: &Input) -> bool

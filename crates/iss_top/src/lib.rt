@@ -5,6 +5,7 @@ mod answer;
 mod book;
 mod buffer;
 mod command;
+mod contents;
 mod dry;
 mod entries;
 mod feed;

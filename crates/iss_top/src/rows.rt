@@ -9,9 +9,10 @@ ghost use Rattle.std.specs.Prelude.{List, if◌then◌else◌};
 ghost use Rattle.iss_model.specs.declared.entry.Row.{Row};
 ghost use Rattle.iss_model.specs.Settings.{user_made, card_made, user_named, card_named, product_named, default_product};
 ghost use Rattle.iss_top.specs.Early.{users_made, cards_made};
+ghost use Rattle.iss_top.specs.Repeats.{reply_by};
 
 use iss_model::{
-    Account, Card, CardState, Currency, Entry, Funding, Input, Product, Record, Row, Token, User,
+    Account, Card, CardState, Currency, Entry, Funding, Input, Product, Reply, Row, Token, User,
     UserState,
 };
 
@@ -96,6 +97,20 @@ fn default_product() -> Product
         timeout_ms: 3000,
         hold_ms: 604_800_000,
     }
+}
+
+/// How an event was decided, or that it is pending.
+pub(crate) fn reply(rows: &[Row], token: &Token) -> Reply
+    ensures { result ≡ reply_by token.now rows.now }
+{
+    for row in rows {
+        if let Entry::Decided(event, verdict) = &row.entry {
+            if event == token {
+                return Reply::Decided(*verdict);
+            }
+        }
+    }
+    Reply::Pending
 }
 
 /// What posts have moved to an account less what they have moved from it.
