@@ -3,6 +3,7 @@ pub mod Keys
 pub mod Added
 pub mod Events
 pub mod SameFields
+pub mod SameInputs
 pub mod Tellings
 pub mod Feeding
 pub mod Saying

@@ -1,5 +1,5 @@
 //! Whether an event says the same as the first one of its token.
-ghost use Rattle.std.specs.Prelude.{◌≡◌, true};
+ghost use Rattle.std.specs.Prelude.{◌≡◌, ◌↔◌, true, IsTrue};
 ghost use Rattle.iss_model.specs.declared.input.Input.TheVariants as input;
 ghost use Rattle.iss_model.specs.Inputs.{same_contents};
 ghost use Rattle.iss_event.specs.Taken.{is_taken};
@@ -10,7 +10,8 @@ use iss_model::{Currency, Input, Token};
 /// Whether two inputs are equal in all their fields. The second is of a kind that is taken.
 pub(crate) fn same_contents(first: &Input, again: &Input) -> bool
     requires { is_taken again.now ≡ true }
-    ensures { result ≡ same_contents first.now again.now }
+    ensures value { result ≡ same_contents first.now again.now }
+    ensures equal { IsTrue result ↔ (first.now ≡ again.now) }
 {
     match again {
         Input::User { token, user } => is_user(first, token, user),
