@@ -1,1 +1,4 @@
 pub mod TokenTexts
+pub mod Keepers
+pub mod Names
+pub mod KeptSums

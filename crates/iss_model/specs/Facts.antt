@@ -21,9 +21,10 @@ use Rattle.iss_model.specs.Inputs.{is_event}
 use Rattle.iss_model.specs.Controls.{Group, ControlNow}
 use Rattle.iss_model.specs.Activity.{TxnNow, CallNow, txn_named, call_numbered, is_asked}
 
--- an accepted event with the number of its record
+-- an accepted event with the number and the stamp of its record
 pub record Accepted : Type 0 where
   pub number : ℕ
+  pub at : ℕ
   pub input : Input
 
 -- an event and how it was decided

@@ -31,7 +31,7 @@ time_of rs = fold (λ now r. max now r.at) 0 rs
 -- each record with its number, from the number n on
 abbrev pub accepted_from : ℕ → List Record → List Accepted
 accepted_from n [] = []
-accepted_from n (r ∷ rs) = record { number = n; input = r.input } ∷ accepted_from (n + 1) rs
+accepted_from n (r ∷ rs) = record { number = n; at = r.at; input = r.input } ∷ accepted_from (n + 1) rs
 
 -- the accepted events with the numbers of their records
 abbrev pub events_of : List Record → List Accepted

@@ -25,6 +25,9 @@ pub mod Due
 pub mod Stepping
 pub mod Judging
 pub mod Histories
+pub mod Kept
+pub mod Cores
+pub mod Laws
 pub mod Sayings
 pub mod Transcripts
 pub mod Scripts

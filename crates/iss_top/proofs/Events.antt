@@ -31,8 +31,8 @@ events_from n records = filter (λ a. is_some (event_token a.input)) (accepted_f
 first_event : (token : List ℕ) (n : ℕ) (records : List Record) → find (λ (a : Accepted). is_event token a.input) (events_from n records) ≡ event_from n token records
 first_event token n [] = refl
 first_event token n (r ∷ rs) =
-    found_or_later token (record { number = n; input = r.input }) (events_from (n + 1) rs) _ refl
-    ∙ ap (λ (rest : Option Accepted). cond (is_event token r.input) (Some (record { number = n; input = r.input })) rest) (first_event token (n + 1) rs)
+    found_or_later token (record { number = n; at = r.at; input = r.input }) (events_from (n + 1) rs) _ refl
+    ∙ ap (λ (rest : Option Accepted). cond (is_event token r.input) (Some (record { number = n; at = r.at; input = r.input })) rest) (first_event token (n + 1) rs)
 
 -- the first record of an event is the first one in the book that is of it
 pub event_in_records : (h : History) (token : List ℕ) → event_in (history_facts h) token ≡ event_from 1 token h.records

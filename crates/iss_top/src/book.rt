@@ -436,19 +436,19 @@ fn event_answer(records: &[Record], rows: &[Row], input: &Input, token: &Token) 
 {
     for (index, record) in records.iter().enumerate() {
         if is_event(token, &record.input) {
-            return Some(told_by(rows, &record.input, index as u32 + 1, input, token));
+            return Some(told_by(rows, record, index as u32 + 1, input, token));
         }
     }
     None
 }
 
 /// A repeat of the first record's contents is told the reply, and any other the record's number.
-fn told_by(rows: &[Row], first: &Input, number: u32, input: &Input, token: &Token) -> Answer
+fn told_by(rows: &[Row], first: &Record, number: u32, input: &Input, token: &Token) -> Answer
     requires { is_taken input.now ≡ true }
     ensures { Some result ≡ told_by_rows rows.now input.now token.now
-        (Some (record { number = number; input = first.now })) }
+        (Some (record { number = number; at = first.now.at; input = first.now.input })) }
 {
-    if same_contents(first, input) {
+    if same_contents(&first.input, input) {
         Answer::Repeat(*token, rows::reply(rows, token))
     } else {
         Answer::Conflict(*token, number)
