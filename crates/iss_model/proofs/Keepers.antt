@@ -1,5 +1,5 @@
 -- Steps keep what is good, and two keepers of which one shows the other make the same entries and judge alike.
-use Rattle.std.proofs.Common.{◌≡◌, ℕ, Bool, List, [], ◌∷◌, ◌++◌, max, fold, refl, sym, ap, subst, ◌∙◌, ap₂}
+use Rattle.std.proofs.Common.{◌≡◌, ℕ, List, [], ◌∷◌, ◌++◌, max, fold, refl, ap, ◌∙◌, ap₂}
 use Rattle.iss_model.specs.declared.entry.Entry.{Entry}
 use Rattle.iss_model.specs.declared.input.Input.{Input}
 use Rattle.iss_model.specs.declared.input.Record.{Record}
@@ -38,7 +38,7 @@ abbrev pub shown : {W V : Type 0} → (W → V) → Growth W → Growth V
 shown show g = record { world = show g.world; entries = g.entries }
 
 module _ {W V : Type 0} (m : Keeper W) (n : Keeper V) (show : W → V) (IsGood : W → Type 0) (Fit : Facts → List Entry → Type 0)
-  (kept : KeptBySteps m IsGood Fit) (shows : Shows m n show IsGood Fit) where
+    (kept : KeptBySteps m IsGood Fit) (shows : Shows m n show IsGood Fit) where
   pub grow-shown : (g : Growth W) (make : Facts → List Entry) → IsGood g.world → Fit (m.facts g.world) (make (m.facts g.world))
       → grow n (shown show g) make ≡ shown show (grow m g make)
   grow-shown g make good fit =

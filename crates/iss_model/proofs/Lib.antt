@@ -2,3 +2,17 @@ pub mod TokenTexts
 pub mod Keepers
 pub mod Names
 pub mod KeptSums
+pub mod Lists
+pub mod Standing
+pub mod Growing
+pub mod KeptLists
+pub mod Counting
+pub mod Entering
+pub mod StayStanding
+pub mod Fitting
+pub mod FitPieces
+pub mod BookAndState
+pub mod CoreOfBook
+pub mod Since
+pub mod JudgedAgain
+pub mod Records

@@ -66,17 +66,16 @@ control_put number (entry.Conf (input.Control token control currency window amou
     })
 control_put number _ = None
 
--- a control is its first row, with the limits and the activity of its last
+-- what may be replaced of a control: its limits and its activity
+abbrev pub control_replaced : Control → Control → Control
+control_replaced first last =
+    record first { amount_limit = last.amount_limit; usage_limit = last.usage_limit; active = last.active }
+
+-- a control is its first row, with what may be replaced of its last
 abbrev pub control_now : List ControlPut → ControlPut → ControlPut
 control_now puts first =
     let last = latest first (filter (λ put. bytes_eq put.control.name first.control.name) puts) in
-    record first {
-      control = record (first.control) {
-        amount_limit = last.control.amount_limit;
-        usage_limit = last.control.usage_limit;
-        active = last.control.active;
-      };
-    }
+    record first { control = control_replaced first.control last.control }
 
 -- the controls of the book as they stand, in the order of their first rows
 abbrev pub control_puts_of : List Row → List ControlPut
@@ -100,11 +99,21 @@ set_put (entry.Conf (input.Set token set product currency connection timeout app
     })
 set_put _ = None
 
--- a set is its last row, with the product and the currency of its first
+-- what may be replaced of a set: whether it covers each failure, its limits and its activity
+abbrev pub set_replaced : Set → Set → Set
+set_replaced first last =
+    record first {
+      connection = last.connection;
+      timeout = last.timeout;
+      application = last.application;
+      max = last.max;
+      day_limit = last.day_limit;
+      active = last.active;
+    }
+
+-- a set is its first row, with what may be replaced of its last
 abbrev pub set_now : List Set → Set → Set
-set_now puts first =
-    let last = latest first (filter (λ put. bytes_eq put.name first.name) puts) in
-    record last { product = first.product; currency = first.currency }
+set_now puts first = set_replaced first (latest first (filter (λ put. bytes_eq put.name first.name) puts))
 
 -- the sets of the book as they stand, in the order of their first rows
 abbrev pub sets_of : List Row → List Set

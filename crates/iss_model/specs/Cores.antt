@@ -1,8 +1,7 @@
 -- What a core keeps in place of the book, and what each entry does to it.
-use Rattle.std.specs.Prelude.{ℕ, ◌+◌, ◌==◌, max, Bool, true, false, not, ◌&&◌, List, [], ◌∷◌, ◌++◌, length, map, filter, fold, Option, Some, None, is_some, pos, if◌then◌else◌}
+use Rattle.std.specs.Prelude.{ℕ, ◌+◌, ◌==◌, max, Bool, false, not, ◌&&◌, List, [], ◌∷◌, ◌++◌, map, filter, fold, Option, Some, None, is_some, pos, if◌then◌else◌}
 use Rattle.std.specs.List.{list_any}
 use Rattle.std.specs.Str.{bytes_eq}
-use Rattle.iss_model.specs.declared.currency.Currency.{Currency}
 use Rattle.iss_model.specs.declared.account.Part.TheVariants as part
 use Rattle.iss_model.specs.declared.setting.CardState.{CardState}
 use Rattle.iss_model.specs.declared.setting.UserState.{UserState}
@@ -16,9 +15,7 @@ use Rattle.iss_model.specs.declared.setting.Set.{Set}
 use Rattle.iss_model.specs.declared.call.CallId.{CallId}
 use Rattle.iss_model.specs.declared.call.How.{How}
 use Rattle.iss_model.specs.declared.call.Notice.{Notice}
-use Rattle.iss_model.specs.declared.call.Opened.{Opened}
 use Rattle.iss_model.specs.declared.txn.Txn.{Txn}
-use Rattle.iss_model.specs.declared.txn.UsageRow.{UsageRow}
 use Rattle.iss_model.specs.declared.input.Input.{Input}
 use Rattle.iss_model.specs.declared.input.Input.TheVariants as input
 use Rattle.iss_model.specs.declared.input.Record.{Record}
@@ -28,7 +25,7 @@ use Rattle.iss_model.specs.Sums.{Change, balance_changes, user_key, held_changes
 use Rattle.iss_model.specs.Kept.{Kept, nothing_kept, kept_at, after_changes}
 use Rattle.iss_model.specs.Inputs.{event_token}
 use Rattle.iss_model.specs.Settings.{first_card_state, default_product, product_made}
-use Rattle.iss_model.specs.Controls.{Group, ControlPut, control_put, set_put, ControlNow, counted_changes}
+use Rattle.iss_model.specs.Controls.{Group, ControlPut, control_put, control_replaced, set_put, set_replaced, ControlNow, counted_changes}
 use Rattle.iss_model.specs.Activity.{TxnNow, CallNow, is_asked}
 use Rattle.iss_model.specs.Facts.{Facts, Accepted, Decision}
 use Rattle.iss_model.specs.Keeper.{Keeper}
@@ -147,18 +144,10 @@ product_after_switch name on p = if bytes_eq name p.product.name then record p {
 abbrev pub with_switch : List ProductNow → List ℕ → Bool → List ProductNow
 with_switch products name on = map (product_after_switch name on) products
 
--- a control that stands gets the limits and the activity of a later row
+-- the control of this name gets what may be replaced, another one stays as it is
 abbrev pub control_changed : ControlPut → ControlKept → ControlKept
 control_changed put c =
-    if bytes_eq put.control.name c.control.name then
-    record c {
-      control = record (c.control) {
-        amount_limit = put.control.amount_limit;
-        usage_limit = put.control.usage_limit;
-        active = put.control.active;
-      };
-    }
-    else c
+    if bytes_eq put.control.name c.control.name then record c { control = control_replaced c.control put.control } else c
 
 -- a control that is put changes the one of its name, or stands as the last one and has counted nothing
 abbrev pub with_control : List ControlKept → ControlPut → List ControlKept
@@ -175,10 +164,9 @@ control_noted groups e c =
       times = after_changes c.times (counted_changes (λ row. row.count) groups put e);
     }
 
--- a set that stands gets all of a later row but its product and its currency
+-- the set of this name gets what may be replaced, another one stays as it is
 abbrev pub set_changed : Set → Set → Set
-set_changed put s =
-    if bytes_eq put.name s.name then record put { product = s.product; currency = s.currency } else s
+set_changed put s = if bytes_eq put.name s.name then set_replaced s put else s
 
 -- a set that is put changes the one of its name, or stands as the last one
 abbrev pub with_set : List Set → Set → List Set
@@ -202,13 +190,13 @@ configured s (input.Group token group mccs) = record s { groups = s.groups ++ re
 configured s (input.Control token control currency window amount_limit usage_limit association scope active) =
     record s {
       controls = with_made with_control s.controls
-      (control_put s.count (entry.Conf (input.Control token control currency window amount_limit usage_limit association scope active)));
+          (control_put s.count (entry.Conf (input.Control token control currency window amount_limit usage_limit association scope active)));
     }
 configured s (input.Set token set product currency connection timeout application max day_limit active) =
     record s {
       stand_ins = record (s.stand_ins) {
         sets = with_made with_set s.stand_ins.sets
-        (set_put (entry.Conf (input.Set token set product currency connection timeout application max day_limit active)));
+            (set_put (entry.Conf (input.Set token set product currency connection timeout application max day_limit active)));
       };
     }
 configured s (input.Switch token product on) = record s { products = with_switch s.products product on }
@@ -235,7 +223,7 @@ with_txn h t =
       held = after_changes h.held (held_begun t);
     }
 
--- what a hold changes is changed
+-- what a hold changes of the parts and of what its user has held
 abbrev pub with_hold : Holdings → Entry → Holdings
 with_hold h e =
     record h { parts = after_changes h.parts (part_changes e); held = after_changes h.held (held_changes e) }
@@ -248,7 +236,7 @@ txn_after_end token t = if bytes_eq token t.txn.token then record t { live = fal
 abbrev pub with_end : Holdings → List ℕ → Holdings
 with_end h token = record h { txns = map (txn_after_end token) h.txns }
 
--- what a post changes of its transaction's sums is changed
+-- what a post changes of its transaction's sums
 abbrev pub with_post : TxnSums → Entry → TxnSums
 with_post sums e =
     record {

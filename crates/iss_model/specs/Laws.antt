@@ -1,7 +1,8 @@
 -- What a law between two keepers, and a law on every history, are.
-use Rattle.std.specs.Prelude.{◌≡◌, List, ◌∷◌, ℕ}
+use Rattle.std.specs.Prelude.{◌≡◌, List, ℕ, nat_lt, filter}
 use Rattle.iss_model.specs.declared.input.Record.{Record}
 use Rattle.iss_model.specs.declared.entry.Entry.{Entry}
+use Rattle.iss_model.specs.declared.entry.Row.{Row}
 use Rattle.iss_model.specs.Facts.{Facts}
 use Rattle.iss_model.specs.Due.{DueThing, thing_entries}
 use Rattle.iss_model.specs.Keeper.{Keeper}
@@ -19,3 +20,7 @@ pub record Shows {W V : Type 0} (m : Keeper W) (n : Keeper V) (show : W → V) (
   pub facts : (w : W) → IsGood w → n.facts (show w) ≡ m.facts w
   pub take_up : (w : W) (r : Record) → n.take_up (show w) r ≡ show (m.take_up w r)
   pub add : (w : W) (entries : List Entry) → IsGood w → Fit (m.facts w) entries → n.add (show w) entries ≡ show (m.add w entries)
+
+-- the rows of records later than this one
+abbrev pub rows_since : ℕ → List Row → List Row
+rows_since number rows = filter (λ row. nat_lt number row.number) rows

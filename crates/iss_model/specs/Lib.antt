@@ -27,6 +27,7 @@ pub mod Judging
 pub mod Histories
 pub mod Kept
 pub mod Cores
+pub mod Shown
 pub mod Laws
 pub mod Sayings
 pub mod Transcripts

@@ -1,5 +1,5 @@
 -- What a record does: the entries of what is due at its stamp, and then those of its input.
-use Rattle.std.specs.Prelude.{ℕ, List, [], ◌∷◌, fold, Option, Some, None, option_map}
+use Rattle.std.specs.Prelude.{ℕ, List, [], ◌∷◌, fold, Option, Some, None, option_map, if◌then◌else◌}
 use Rattle.iss_model.specs.declared.currency.Currency.{Currency}
 use Rattle.iss_model.specs.declared.account.Account.TheVariants as account
 use Rattle.iss_model.specs.declared.decision.Reason.{Reason}
@@ -9,7 +9,7 @@ use Rattle.iss_model.specs.declared.input.Input.TheVariants as input
 use Rattle.iss_model.specs.declared.input.Record.{Record}
 use Rattle.iss_model.specs.declared.entry.Entry.{Entry}
 use Rattle.iss_model.specs.declared.entry.Entry.TheVariants as entry
-use Rattle.iss_model.specs.Facts.{Facts, txn_in}
+use Rattle.iss_model.specs.Facts.{Facts, txn_in, is_notice}
 use Rattle.iss_model.specs.Asks.{Ask}
 use Rattle.iss_model.specs.Reasons.{user_reason, card_reason, move_reason, product_reason, group_reason, control_reason, set_reason, switch_reason, load_reason}
 use Rattle.iss_model.specs.CardReasons.{txn_asked, first_ask, further_ask, authorization_reason, increment_reason, reversal_reason, clearing_reason, refund_reason}
@@ -39,6 +39,10 @@ authorization_ask f token card currency amount mcc mid at =
 -- an increment as an ask, where its transaction is known
 abbrev pub increment_ask : Facts → List ℕ → List ℕ → ℕ → ℕ → Option Ask
 increment_ask f token txn amount at = option_map (λ now. further_ask token amount at now.txn) (txn_in f txn)
+
+-- a notice is acknowledged; one that was never made isn't
+abbrev pub acknowledged : Facts → ℕ → List Entry
+acknowledged f notice = if is_notice f notice then entry.Acked notice ∷ [] else []
 
 -- the entries of an input at a moment
 abbrev pub entries_of : Input → ℕ → Facts → List Entry
@@ -74,7 +78,7 @@ entries_of (input.Clearing token txn currency amount last) at f =
 entries_of (input.Refund token txn currency amount) at f =
     unless_declined (refund_reason f (txn_in f txn) currency amount) token (refunded f token amount (txn_in f txn))
 entries_of (input.Answer call outcome) at f = answered call outcome at f
-entries_of (input.Ack notice) at f = entry.Acked notice ∷ []
+entries_of (input.Ack notice) at f = acknowledged f notice
 entries_of input.Time at f = []
 
 -- a record's own entries

@@ -5,6 +5,7 @@
 #![tactic(auto)]
 
 mod account;
+mod agreement;
 mod call;
 mod currency;
 mod decision;
@@ -17,6 +18,10 @@ mod txn;
 mod worked;
 
 pub use account::{Account, Part};
+pub use agreement::{
+    controls_count_since_their_first_record, core_answers_as_its_book, core_keeps_the_book,
+    judging_is_stable,
+};
 pub use call::{CallId, CallState, Failure, How, Method, Notice, Opened};
 pub use currency::Currency;
 pub use decision::{Answer, Judged, Reason, Reply, Verdict};
