@@ -20,6 +20,7 @@ pub mod Reasons
 pub mod CardReasons
 pub mod Pieces
 pub mod CardEntries
+pub mod Built
 pub mod Keeper
 pub mod Due
 pub mod Stepping
