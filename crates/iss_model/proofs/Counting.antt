@@ -24,10 +24,10 @@ use Rattle.iss_model.specs.Controls.{Group, group_made, groups_of, ControlPut, c
 use Rattle.iss_model.specs.Cores.{ControlKept, control_changed, with_control, control_noted, with_made}
 use Rattle.iss_model.specs.Shown.{control_shown}
 use Rattle.iss_model.proofs.Names.{name-sym}
-use Rattle.iss_model.proofs.Lists.{map-alike, map-map}
+use Rattle.iss_model.proofs.Lists.{map-alike, map-map, map-where}
 use Rattle.iss_model.proofs.KeptSums.{kept-alike}
 use Rattle.iss_model.proofs.Standing.{Bounds, is_group_known, is_row_standing, is_standing}
-use Rattle.iss_model.proofs.Growing.{row_of, made-none, map-where, last_named, last_named-more, last_named-own}
+use Rattle.iss_model.proofs.Growing.{row_of, made-none, last_named, last_named-more, last_named-own}
 use Rattle.iss_model.proofs.KeptLists.{AreStanding, its_entry, put-again, put-first, any-map}
 
 pub kept-more : (f : Entry → List Change) (rows : List Row) (n : ℕ) (e : Entry) → kept_of f (rows ++ row_of n e) ≡ after_changes (kept_of f rows) (f e)
@@ -113,7 +113,7 @@ new_control b rows groups put standing now =
 
 -- a control that is put ----
 
-abbrev put_name : ControlPut → List ℕ
+abbrev pub put_name : ControlPut → List ℕ
 put_name put = put.control.name
 
 put_more : (groups : List Group) (rows : List Row) (x last p : ControlPut) (b : Bool)
@@ -166,7 +166,7 @@ abbrev pub controls_shown : List Row → List ControlKept
 controls_shown rows = map (control_shown rows) (control_puts_of rows)
 
 -- each row that puts a control
-abbrev puts_of : List Row → List ControlPut
+abbrev pub puts_of : List Row → List ControlPut
 puts_of rows = filter_map (λ row. control_put row.number row.entry) rows
 
 abbrev pub AreScopesKnown : List Row → Type 0

@@ -4,7 +4,6 @@ use Rattle.std.specs.Prelude.{Option, Some, None}
 use Rattle.std.specs.List.{list_all}
 use Rattle.std.specs.Str.{bytes_eq}
 use Rattle.std.proofs.lemmas.Bool.{and_parts}
-use Rattle.std.proofs.lemmas.Bool.Decides.{nat_tests}
 use Rattle.iss_model.specs.declared.account.Account.{Account}
 use Rattle.iss_model.specs.declared.account.Part.{Part}
 use Rattle.iss_model.specs.declared.call.CallId.{CallId}
@@ -28,6 +27,7 @@ use Rattle.iss_model.specs.Pieces.{posted, held, let_go, Parts, use_returned, re
 use Rattle.iss_model.specs.CardEntries.{gateway_asked, funding_sought, incremented, reversed, cleared_from, cleared_to_end, cleared_on, cleared, refunded, call_failed, answered_as, of_txn, of_asked, answered}
 use Rattle.iss_model.specs.Due.{DueThing, call_due, txn_due, expired, expired_if_live, thing_entries}
 use Rattle.iss_model.proofs.Lists.{find_passes}
+use Rattle.iss_model.proofs.StayStanding.{true_le}
 use Rattle.iss_model.proofs.Standing.{Bounds, IsFit, AreFit}
 
 pub fit-nil : (b : Bounds) → AreFit b []
@@ -61,9 +61,6 @@ pub record AreKnown (b : Bounds) (f : Facts) : Type 0 where
   pub notices : b.notices ≡ f.notices_made
   pub numbers : list_all (λ c. nat_le c.opened.call.0 b.calls) f.calls ≡ true
   pub txns : list_all (λ t. nat_le t.txn.origin b.count && is_named_in b.txns t.txn.token) f.txns ≡ true
-
-true_le : (a b : ℕ) → nat_le a b ≡ true → a ≤ b
-true_le a b h = grind (arith, nat_tests)
 
 fit-posted : (b : Bounds) (t : Txn) (from to : Account) (amount : ℕ) → AreFit b (posted t from to amount)
 fit-posted b t from to amount = search fits depth 20

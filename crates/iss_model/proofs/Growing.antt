@@ -89,23 +89,3 @@ module _ {P : Type 0} (name : P → List ℕ) where
       → firsts name (puts ++ p ∷ []) ≡ cond (list_any (λ k. bytes_eq (name k) (name p)) (firsts name puts)) (firsts name puts) (firsts name puts ++ p ∷ [])
   firsts-more puts p =
       fold-append (λ (kept : List P) (x : P). cond (list_any (λ (k : P). bytes_eq (name k) (name x)) kept) kept (kept ++ x ∷ [])) [] puts (p ∷ [])
-
-pub map-apart : {A B : Type 0} (q : A → Bool) (f g : A → B) → ((x : A) → q x ≡ false → f x ≡ g x) → (xs : List A) → list_any q xs ≡ false → map f xs ≡ map g xs
-map-apart q f g alike [] h = refl
-map-apart q f g alike (x ∷ xs) h =
-    let parts = neither (q x) (list_any q xs) h in
-    λ i. alike x parts.0 i ∷ map-apart q f g alike xs parts.1 i
-  where
-    neither : (a b : Bool) → (a || b) ≡ false → (a ≡ false) × (b ≡ false)
-    neither true b h = cc
-    neither false b h = (refl, h)
-
-pub map-where : {A B : Type 0} (q : A → Bool) (f g : A → B) → ((x : A) → q x ≡ true → f x ≡ g x) → (xs : List A) → list_all q xs ≡ true → map f xs ≡ map g xs
-map-where q f g alike [] h = refl
-map-where q f g alike (x ∷ xs) h =
-    let parts = both (q x) (list_all q xs) h in
-    λ i. alike x parts.0 i ∷ map-where q f g alike xs parts.1 i
-  where
-    both : (a b : Bool) → (a && b) ≡ true → (a ≡ true) × (b ≡ true)
-    both true b h = (refl, h)
-    both false b h = cc

@@ -32,9 +32,9 @@ use Rattle.iss_model.specs.Activity.{TxnNow, CallNow, txn_began, ends_txn, txn_n
 use Rattle.iss_model.specs.Cores.{ProductNow, user_after_move, card_after_move, with_product, with_switch, product_after_switch, with_made, with_set, set_changed, is_live, txn_after_end, with_closed, call_after_close, Outbox, with_notice, with_acked}
 use Rattle.iss_model.specs.Shown.{product_shown}
 use Rattle.iss_model.proofs.Names.{one_name, name-sym}
-use Rattle.iss_model.proofs.Lists.{map-alike, map-map, none_found, none_any}
+use Rattle.iss_model.proofs.Lists.{map-alike, map-map, none_found, none_any, map-apart}
 use Rattle.iss_model.proofs.Standing.{Bounds, is_user_made, is_card_made, is_product_made, is_begun, is_standing, is_row_standing}
-use Rattle.iss_model.proofs.Growing.{row_of, last-more, things-changed, things-same, things-made, made-none, last_named, last_named-more, last_named-own, firsts-more, map-apart}
+use Rattle.iss_model.proofs.Growing.{row_of, last-more, things-changed, things-same, things-made, made-none, last_named, last_named-more, last_named-own, firsts-more}
 
 -- what an entry makes is new
 abbrev pub IsNew : Bounds → List Row → Entry → Type 0

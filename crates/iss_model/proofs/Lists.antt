@@ -52,3 +52,21 @@ find_passes p q (y ∷ ys) x h e =
 -- a list that grew holds what it held
 pub any_grows : {A : Type 0} (p : A → Bool) (xs ys : List A) → list_any p xs ≡ true → list_any p (xs ++ ys) ≡ true
 any_grows p xs ys h = list_any-append p xs ys ∙ ap (λ (b : Bool). b || list_any p ys) h
+
+neither : (a b : Bool) → (a || b) ≡ false → (a ≡ false) × (b ≡ false)
+neither true b h = cc
+neither false b h = (refl, h)
+
+-- two functions that agree where a test fails, on a list of which none passes
+pub map-apart : {A B : Type 0} (q : A → Bool) (f g : A → B) → ((x : A) → q x ≡ false → f x ≡ g x) → (xs : List A) → list_any q xs ≡ false → map f xs ≡ map g xs
+map-apart q f g alike [] h = refl
+map-apart q f g alike (x ∷ xs) h =
+    let parts = neither (q x) (list_any q xs) h in
+    λ i. alike x parts.0 i ∷ map-apart q f g alike xs parts.1 i
+
+-- two functions that agree where a test passes, on a list of which all pass
+pub map-where : {A B : Type 0} (q : A → Bool) (f g : A → B) → ((x : A) → q x ≡ true → f x ≡ g x) → (xs : List A) → list_all q xs ≡ true → map f xs ≡ map g xs
+map-where q f g alike [] h = refl
+map-where q f g alike (x ∷ xs) h =
+    let parts = and_parts (q x) (list_all q xs) h in
+    λ i. alike x parts.0 i ∷ map-where q f g alike xs parts.1 i

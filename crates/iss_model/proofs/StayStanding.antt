@@ -31,7 +31,7 @@ use Rattle.iss_model.proofs.Lists.{all_weaker, any_grows}
 use Rattle.iss_model.proofs.Standing.{Bounds, IsSettable, is_product_made, is_group_known, is_standing, is_row_standing, IsStanding}
 use Rattle.iss_model.proofs.Growing.{row_of, made-none, last_named, last_named-more, last_named-own}
 use Rattle.iss_model.proofs.KeptLists.{put-again, put-first, any-map}
-use Rattle.iss_model.proofs.Counting.{AreScopesKnown}
+use Rattle.iss_model.proofs.Counting.{AreScopesKnown, put_name, puts_of}
 use Rattle.iss_model.proofs.Entering.{with_row}
 
 -- what stood goes on standing ----
@@ -114,12 +114,6 @@ is-some-find {A} p (x ∷ xs) = by (p x) (is-some-find p xs)
     by : (b : Bool) → is_some (find p xs) ≡ list_any p xs → is_some (cond b (Some x) (find p xs)) ≡ (b || list_any p xs)
     by true e = refl
     by false e = e
-
-abbrev put_name : ControlPut → List ℕ
-put_name put = put.control.name
-
-abbrev puts_of : List Row → List ControlPut
-puts_of rows = filter_map (λ row. control_put row.number row.entry) rows
 
 abbrev knows : List Group → ControlPut → Bool
 knows groups put = is_group_known groups put.control.scope
