@@ -10,6 +10,9 @@ pub mod AnswerLines
 pub mod Sums
 pub mod Inputs
 pub mod Forms
+pub mod Spelling
+pub mod Taking
+pub mod TakingRecords
 pub mod Settings
 pub mod Controls
 pub mod Activity
@@ -37,3 +40,4 @@ pub mod WorkedDue
 pub mod WorkedSettings
 pub mod WorkedRefunds
 pub mod WorkedTexts
+pub mod WorkedSpellings

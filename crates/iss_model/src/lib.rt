@@ -15,6 +15,7 @@ mod setting;
 mod token;
 mod txn;
 mod worked;
+mod worked_bytes;
 
 pub use account::{Account, Part};
 pub use call::{CallId, CallState, Failure, How, Method, Notice, Opened};
@@ -32,3 +33,4 @@ pub use txn::{Txn, UsageRow, Used};
 pub use worked::{
     worked_amounts, worked_limit, worked_scripts, worked_texts, worked_use, worked_windows,
 };
+pub use worked_bytes::worked_spellings;
