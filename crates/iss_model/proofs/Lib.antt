@@ -1,1 +1,4 @@
 pub mod TokenTexts
+pub mod NumberBytes
+pub mod TakenFields
+pub mod TakenParts

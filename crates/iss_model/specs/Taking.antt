@@ -91,28 +91,45 @@ of_number number things n = find (λ thing. number thing == n) things
 abbrev pub currency_numbered : ℕ → Option Currency
 currency_numbered n = of_number iso_number currencies n
 
+-- who may fund
+abbrev pub fundings : List Funding
+fundings = funding.Account ∷ funding.Gateway ∷ []
+
+-- all windows
+abbrev pub windows : List Window
+windows = window.Transaction ∷ window.Day ∷ window.Week ∷ window.Month ∷ window.Lifetime ∷ []
+
+-- all states of a card
+abbrev pub card_states : List CardState
+card_states = card_state.Unactivated ∷ card_state.Active ∷ card_state.Suspended ∷ card_state.Terminated ∷ []
+
+-- all states of a user
+abbrev pub user_states : List UserState
+user_states = user_state.Active ∷ user_state.Suspended ∷ user_state.Closed ∷ []
+
+-- all outcomes of a call
+abbrev pub outcomes : List Outcome
+outcomes = outcome.Funded ∷ outcome.Refused ∷ outcome.Connection ∷ outcome.Application ∷ []
+
 -- who funds, by number
 abbrev pub funding_numbered : ℕ → Option Funding
-funding_numbered n = of_number funding_number (funding.Account ∷ funding.Gateway ∷ []) n
+funding_numbered n = of_number funding_number fundings n
 
 -- a window by its number
 abbrev pub window_numbered : ℕ → Option Window
-window_numbered n =
-    of_number window_number (window.Transaction ∷ window.Day ∷ window.Week ∷ window.Month ∷ window.Lifetime ∷ []) n
+window_numbered n = of_number window_number windows n
 
 -- a card's state by its number
 abbrev pub card_state_numbered : ℕ → Option CardState
-card_state_numbered n =
-    of_number card_state_number (card_state.Unactivated ∷ card_state.Active ∷ card_state.Suspended ∷ card_state.Terminated ∷ []) n
+card_state_numbered n = of_number card_state_number card_states n
 
 -- a user's state by its number
 abbrev pub user_state_numbered : ℕ → Option UserState
-user_state_numbered n = of_number user_state_number (user_state.Active ∷ user_state.Suspended ∷ user_state.Closed ∷ []) n
+user_state_numbered n = of_number user_state_number user_states n
 
 -- a gateway's outcome by its number
 abbrev pub outcome_numbered : ℕ → Option Outcome
-outcome_numbered n =
-    of_number outcome_number (outcome.Funded ∷ outcome.Refused ∷ outcome.Connection ∷ outcome.Application ∷ []) n
+outcome_numbered n = of_number outcome_number outcomes n
 
 -- true or false by its number
 abbrev pub flag_numbered : ℕ → Option Bool
