@@ -2,3 +2,4 @@ pub mod TokenTexts
 pub mod NumberBytes
 pub mod TakenFields
 pub mod TakenParts
+pub mod TakenChoices
