@@ -3,3 +3,4 @@ pub mod NumberBytes
 pub mod TakenFields
 pub mod TakenParts
 pub mod TakenChoices
+pub mod TakenInputs

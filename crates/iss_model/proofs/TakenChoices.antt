@@ -15,8 +15,8 @@ use Rattle.iss_model.specs.Inputs.{spelled, moved_contents, association_contents
 use Rattle.iss_model.specs.Spelling.{scope_bytes, mcc_bytes, moved_token, association_tokens, scope_tokens}
 use Rattle.iss_model.specs.Taking.{◌>>=◌, take_byte, take_token, take_numbered, card_state_numbered, user_state_numbered, take_mcc, take_moved_card, take_moved_user, take_moved_by, take_moved, take_named, take_association_by, take_association, take_mcc_scope, take_scope_by, take_scope}
 use Rattle.iss_model.proofs.NumberBytes.{AreBytes}
-use Rattle.iss_model.proofs.TakenFields.{bind_some, IsSplit, IsField, split_on, byte_takes, byte_again, token}
-use Rattle.iss_model.proofs.TakenParts.{chosen, behind, card_state_field, user_state_field, mcc}
+use Rattle.iss_model.proofs.TakenFields.{bind_some, either_way, IsSplit, IsField, split_on, byte_takes, byte_again, token_field}
+use Rattle.iss_model.proofs.TakenParts.{behind, card_state_field, user_state_field, mcc_field}
 
 -- a byte in front of what is split
 byte_before : (byte : ℕ) (bytes text rest : List ℕ) → IsSplit bytes text rest → IsSplit (byte ∷ bytes) (byte ∷ text) rest
@@ -37,7 +37,7 @@ unfolding take_moved_card
 moved_card_takes bytes x fits e =
     let a = bind_some (take_token bytes) _ x e in
     let b = bind_some (take_numbered card_state_numbered a.0.1) _ x a.2 in
-    let ta = token.takes bytes a.0 fits a.1 in
+    let ta = token_field.takes bytes a.0 fits a.1 in
     let tb = card_state_field.takes a.0.1 b.0 ta.0.fits b.1 in
     subst (λ y. IsSplit (1 ∷ bytes) (moved_contents y.0) y.1 × (moved_form y.0 ≡ true)) (same_Some (moved.Card a.0.0 b.0.0, b.0.1) x b.2)
     (byte_before 1 bytes _ b.0.1 (split_on bytes _ a.0.1 _ b.0.1 ta.0 tb.0), ta.1)
@@ -47,29 +47,25 @@ unfolding take_moved_user
 moved_user_takes bytes x fits e =
     let a = bind_some (take_token bytes) _ x e in
     let b = bind_some (take_numbered user_state_numbered a.0.1) _ x a.2 in
-    let ta = token.takes bytes a.0 fits a.1 in
+    let ta = token_field.takes bytes a.0 fits a.1 in
     let tb = user_state_field.takes a.0.1 b.0 ta.0.fits b.1 in
     subst (λ y. IsSplit (2 ∷ bytes) (moved_contents y.0) y.1 × (moved_form y.0 ≡ true)) (same_Some (moved.User a.0.0 b.0.0, b.0.1) x b.2)
     (byte_before 2 bytes _ b.0.1 (split_on bytes _ a.0.1 _ b.0.1 ta.0 tb.0), ta.1)
 
 moved_by_takes : (byte : ℕ) (bytes : List ℕ) (x : Moved × List ℕ) → AreBytes bytes → take_moved_by byte bytes ≡ Some x → IsSplit (byte ∷ bytes) (moved_contents x.0) x.1 × (moved_form x.0 ≡ true)
 moved_by_takes byte bytes x fits e =
-    elim (chosen (nat_eq byte 1) (take_moved_card bytes) (cond (nat_eq byte 2) (take_moved_user bytes) None) (Some x) e) [
-      | inl p ↦ at_byte moved_contents moved_form byte 1 bytes x p.0 (moved_card_takes bytes x fits p.1)
-      | inr p ↦ elim (chosen (nat_eq byte 2) (take_moved_user bytes) None (Some x) p.1) [
-          | inl q ↦ at_byte moved_contents moved_form byte 2 bytes x q.0 (moved_user_takes bytes x fits q.1)
-          | inr q ↦ absurd cc
-        ]
-    ]
+    either_way _ _ _ (Some x) (λ is e. at_byte moved_contents moved_form byte 1 bytes x is (moved_card_takes bytes x fits e)) (
+    either_way _ _ _ (Some x) (λ is e. at_byte moved_contents moved_form byte 2 bytes x is (moved_user_takes bytes x fits e)) (
+    λ e. absurd cc)) e
 
 moved_again : (x : Moved) (rest : List ℕ) → moved_form x ≡ true → take_moved (moved_contents x ++ rest) ≡ Some (x, rest)
 unfolding take_moved take_moved_card take_moved_user take_byte
 moved_again (moved.Card card to) rest h =
     ap (λ t. take_moved (1 ∷ t)) (append_assoc (spelled card) (card_state_number to ∷ []) rest)
-    ∙ rw (token.again card ((card_state_number to ∷ []) ++ rest) h, card_state_field.again to rest refl) refl
+    ∙ rw (token_field.again card ((card_state_number to ∷ []) ++ rest) h, card_state_field.again to rest refl) refl
 moved_again (moved.User user to) rest h =
     ap (λ t. take_moved (2 ∷ t)) (append_assoc (spelled user) (user_state_number to ∷ []) rest)
-    ∙ rw (token.again user ((user_state_number to ∷ []) ++ rest) h, user_state_field.again to rest refl) refl
+    ∙ rw (token_field.again user ((user_state_number to ∷ []) ++ rest) h, user_state_field.again to rest refl) refl
 
 pub moved_field : IsField take_moved moved_contents moved_form
 unfolding take_moved
@@ -89,7 +85,7 @@ named_takes : {A : Type 0} (make : List ℕ → A) (text : A → List ℕ) (form
 unfolding take_named
 named_takes make text form byte is_text is_form bytes x fits e =
     let a = bind_some (take_token bytes) _ x e in
-    let ta = token.takes bytes a.0 fits a.1 in
+    let ta = token_field.takes bytes a.0 fits a.1 in
     subst (λ y. IsSplit (byte ∷ bytes) (text y.0) y.1 × (form y.0 ≡ true)) (same_Some (make a.0.0, a.0.1) x a.2)
     (rw (is_text a.0.0) (byte_before byte bytes _ a.0.1 ta.0), is_form a.0.0 ta.1)
 
@@ -103,25 +99,19 @@ one_token name h = rw h refl
 association_by_takes : (byte : ℕ) (bytes : List ℕ) (x : Association × List ℕ) → AreBytes bytes → take_association_by byte bytes ≡ Some x
     → IsSplit (byte ∷ bytes) (association_contents x.0) x.1 × (association_form x.0 ≡ true)
 association_by_takes byte bytes x fits e =
-    elim (chosen (nat_eq byte 0) (Some (association.Anybody, bytes)) (cond (nat_eq byte 1) (take_named association.User bytes) (cond (nat_eq byte 2) (take_named association.Product bytes) None)) (Some x) e) [
-      | inl p ↦ at_byte association_contents association_form byte 0 bytes x p.0
-        (subst (λ y. IsSplit (0 ∷ bytes) (association_contents y.0) y.1 × (association_form y.0 ≡ true)) (same_Some (association.Anybody, bytes) x p.1) (record { parts = refl; fits = fits }, refl))
-      | inr p ↦ elim (chosen (nat_eq byte 1) (take_named association.User bytes) (cond (nat_eq byte 2) (take_named association.Product bytes) None) (Some x) p.1) [
-          | inl q ↦ at_byte association_contents association_form byte 1 bytes x q.0
-            (named_takes association.User association_contents association_form 1 (λ name. refl) one_token bytes x fits q.1)
-          | inr q ↦ elim (chosen (nat_eq byte 2) (take_named association.Product bytes) None (Some x) q.1) [
-              | inl r ↦ at_byte association_contents association_form byte 2 bytes x r.0
-                (named_takes association.Product association_contents association_form 2 (λ name. refl) one_token bytes x fits r.1)
-              | inr r ↦ absurd cc
-            ]
-        ]
-    ]
+    either_way _ _ _ (Some x) (λ is e. at_byte association_contents association_form byte 0 bytes x is
+    (subst (λ y. IsSplit (0 ∷ bytes) (association_contents y.0) y.1 × (association_form y.0 ≡ true)) (same_Some (association.Anybody, bytes) x e) (record { parts = refl; fits = fits }, refl))) (
+    either_way _ _ _ (Some x) (λ is e. at_byte association_contents association_form byte 1 bytes x is
+    (named_takes association.User association_contents association_form 1 (λ name. refl) one_token bytes x fits e)) (
+    either_way _ _ _ (Some x) (λ is e. at_byte association_contents association_form byte 2 bytes x is
+    (named_takes association.Product association_contents association_form 2 (λ name. refl) one_token bytes x fits e)) (
+    λ e. absurd cc))) e
 
 association_again : (x : Association) (rest : List ℕ) → association_form x ≡ true → take_association (association_contents x ++ rest) ≡ Some (x, rest)
 unfolding take_association take_named take_byte
 association_again association.Anybody rest h = refl
-association_again (association.User user) rest h = rw (token.again user rest (and_parts (is_token user) true h).0) refl
-association_again (association.Product product) rest h = rw (token.again product rest (and_parts (is_token product) true h).0) refl
+association_again (association.User user) rest h = rw (token_field.again user rest (and_parts (is_token user) true h).0) refl
+association_again (association.Product product) rest h = rw (token_field.again product rest (and_parts (is_token product) true h).0) refl
 
 pub association_field : IsField take_association association_contents association_form
 unfolding take_association
@@ -143,36 +133,28 @@ mcc_scope_takes : (bytes : List ℕ) (x : Scope × List ℕ) → AreBytes bytes 
 unfolding take_mcc_scope
 mcc_scope_takes bytes x fits e =
     let a = bind_some (take_mcc bytes) _ x e in
-    let ta = mcc.takes bytes a.0 fits a.1 in
+    let ta = mcc_field.takes bytes a.0 fits a.1 in
     subst (λ y. IsSplit (1 ∷ bytes) (scope_bytes y.0) y.1 × (scope_form y.0 ≡ true)) (same_Some (scope.Mcc a.0.0, a.0.1) x a.2)
     (byte_before 1 bytes _ a.0.1 ta.0, rw ta.1 refl)
 
 scope_by_takes : (byte : ℕ) (bytes : List ℕ) (x : Scope × List ℕ) → AreBytes bytes → take_scope_by byte bytes ≡ Some x
     → IsSplit (byte ∷ bytes) (scope_bytes x.0) x.1 × (scope_form x.0 ≡ true)
 scope_by_takes byte bytes x fits e =
-    elim (chosen (nat_eq byte 0) (Some (scope.All, bytes)) (cond (nat_eq byte 1) (take_mcc_scope bytes) (cond (nat_eq byte 2) (take_named scope.Group bytes) (cond (nat_eq byte 3) (take_named scope.Mid bytes) None))) (Some x) e) [
-      | inl p ↦ at_byte scope_bytes scope_form byte 0 bytes x p.0
-        (subst (λ y. IsSplit (0 ∷ bytes) (scope_bytes y.0) y.1 × (scope_form y.0 ≡ true)) (same_Some (scope.All, bytes) x p.1) (record { parts = refl; fits = fits }, refl))
-      | inr p ↦ elim (chosen (nat_eq byte 1) (take_mcc_scope bytes) (cond (nat_eq byte 2) (take_named scope.Group bytes) (cond (nat_eq byte 3) (take_named scope.Mid bytes) None)) (Some x) p.1) [
-          | inl q ↦ at_byte scope_bytes scope_form byte 1 bytes x q.0 (mcc_scope_takes bytes x fits q.1)
-          | inr q ↦ elim (chosen (nat_eq byte 2) (take_named scope.Group bytes) (cond (nat_eq byte 3) (take_named scope.Mid bytes) None) (Some x) q.1) [
-              | inl r ↦ at_byte scope_bytes scope_form byte 2 bytes x r.0
-                (named_takes scope.Group scope_bytes scope_form 2 (λ name. refl) one_token bytes x fits r.1)
-              | inr r ↦ elim (chosen (nat_eq byte 3) (take_named scope.Mid bytes) None (Some x) r.1) [
-                  | inl s ↦ at_byte scope_bytes scope_form byte 3 bytes x s.0
-                    (named_takes scope.Mid scope_bytes scope_form 3 (λ name. refl) one_token bytes x fits s.1)
-                  | inr s ↦ absurd cc
-                ]
-            ]
-        ]
-    ]
+    either_way _ _ _ (Some x) (λ is e. at_byte scope_bytes scope_form byte 0 bytes x is
+    (subst (λ y. IsSplit (0 ∷ bytes) (scope_bytes y.0) y.1 × (scope_form y.0 ≡ true)) (same_Some (scope.All, bytes) x e) (record { parts = refl; fits = fits }, refl))) (
+    either_way _ _ _ (Some x) (λ is e. at_byte scope_bytes scope_form byte 1 bytes x is (mcc_scope_takes bytes x fits e)) (
+    either_way _ _ _ (Some x) (λ is e. at_byte scope_bytes scope_form byte 2 bytes x is
+    (named_takes scope.Group scope_bytes scope_form 2 (λ name. refl) one_token bytes x fits e)) (
+    either_way _ _ _ (Some x) (λ is e. at_byte scope_bytes scope_form byte 3 bytes x is
+    (named_takes scope.Mid scope_bytes scope_form 3 (λ name. refl) one_token bytes x fits e)) (
+    λ e. absurd cc)))) e
 
 scope_again : (x : Scope) (rest : List ℕ) → scope_form x ≡ true → take_scope (scope_bytes x ++ rest) ≡ Some (x, rest)
 unfolding take_scope take_mcc_scope take_named take_byte
 scope_again scope.All rest h = refl
-scope_again (scope.Mcc m) rest h = rw (mcc.again m rest (and_parts (is_scope (scope.Mcc m)) true h).0) refl
-scope_again (scope.Group group) rest h = rw (token.again group rest (and_parts (is_token group) true h).0) refl
-scope_again (scope.Mid mid) rest h = rw (token.again mid rest (and_parts (is_token mid) true h).0) refl
+scope_again (scope.Mcc m) rest h = rw (mcc_field.again m rest (and_parts (is_scope (scope.Mcc m)) true h).0) refl
+scope_again (scope.Group group) rest h = rw (token_field.again group rest (and_parts (is_token group) true h).0) refl
+scope_again (scope.Mid mid) rest h = rw (token_field.again mid rest (and_parts (is_token mid) true h).0) refl
 
 pub scope_field : IsField take_scope scope_bytes scope_form
 unfolding take_scope

@@ -25,6 +25,11 @@ pub not_failed : {A : Type 0} (b : Bool) (x y : A) → cond b None (Some x) ≡ 
 not_failed true x y e = absurd cc
 not_failed false x y e = (refl, same_Some x y e)
 
+-- what follows from a value, whichever way the test in front of it went
+pub either_way : {A P : Type 0} (b : Bool) (x y z : A) → (b ≡ true → x ≡ z → P) → (y ≡ z → P) → cond b x y ≡ z → P
+either_way true x y z first other e = first refl e
+either_way false x y z first other e = other e
+
 -- bytes are this text and then others
 pub record IsSplit (bytes text rest : List ℕ) : Type 0 where
   pub parts : bytes ≡ text ++ rest
@@ -99,9 +104,9 @@ formed width limit form wide below =
     }
 
 -- a token
-pub token : IsField take_token spelled is_token
+pub token_field : IsField take_token spelled is_token
 unfolding take_token
-token =
+token_field =
     record {
       takes = λ bytes x fits e.
       let n = bind_some (take_byte bytes) _ x e in

@@ -27,49 +27,41 @@ use Rattle.iss_model.specs.Tokens.{is_token}
 use Rattle.iss_model.specs.Currencies.{iso_number, currencies}
 use Rattle.iss_model.specs.Forms.{is_amount, is_limit, is_mcc, is_stamp, is_timeout, is_hold_time, is_number, is_usage_limit, is_none_or, are_rising, are_mccs, are_limits, may_count}
 use Rattle.iss_model.specs.Inputs.{spelled, flag, funding_number, window_number, card_state_number, user_state_number, outcome_number, moved_contents, association_contents}
-use Rattle.iss_model.specs.Spelling.{number_bytes, currency_bytes, mcc_bytes, mccs_bytes, limit_bytes, scope_bytes}
+use Rattle.iss_model.specs.Spelling.{number_bytes, currency_bytes, mcc_bytes, mccs_bytes, limit_bytes, limits_bytes, scope_bytes}
 use Rattle.iss_model.specs.Taking.{◌>>=◌, only, of_number, fundings, windows, card_states, user_states, outcomes, currency_numbered, funding_numbered, window_numbered, card_state_numbered, user_state_numbered, outcome_numbered, flag_numbered, take_byte, take_number, take_formed, take_stamp, take_amount, take_limit, take_mcc, take_id, take_token, take_numbered, take_flag, take_currency, take_some, take_optional_by, take_optional, take_codes, take_mccs}
 use Rattle.iss_model.specs.TakingRecords.{take_limits}
 use Rattle.iss_model.proofs.NumberBytes.{AreBytes, IsWide, wide_2, wide_4, wide_8}
-use Rattle.iss_model.proofs.TakenFields.{bind_some, passed, IsSplit, IsField, split_on, byte_takes, byte_again, number_takes, number_again, formed, numbered}
-
--- which way a test went
-pub chosen : {A : Type 0} (b : Bool) (x y z : A) → cond b x y ≡ z → ((b ≡ true) × (x ≡ z)) ⊎ ((b ≡ false) × (y ≡ z))
-chosen true x y z e = inl (refl, e)
-chosen false x y z e = inr (refl, e)
+use Rattle.iss_model.proofs.TakenFields.{bind_some, passed, either_way, IsSplit, IsField, split_on, byte_takes, byte_again, number_takes, number_again, formed, numbered}
 
 -- numbers of a form
 
-pub stamp : IsField take_stamp (number_bytes 8) is_stamp
-stamp = formed 8 _ is_stamp wide_8 (λ n h. omega (arith, leb-true _ _ h))
+pub stamp_field : IsField take_stamp (number_bytes 8) is_stamp
+stamp_field = formed 8 _ is_stamp wide_8 (λ n h. omega (arith, leb-true _ _ h))
 
-pub amount : IsField take_amount (number_bytes 8) is_amount
-amount = formed 8 _ is_amount wide_8 (λ n h. omega (arith, leb-true _ _ (and_parts (nat_le 1 n) (nat_le n 1000000000) h).1))
+pub amount_field : IsField take_amount (number_bytes 8) is_amount
+amount_field = formed 8 _ is_amount wide_8 (λ n h. omega (arith, leb-true _ _ (and_parts (nat_le 1 n) (nat_le n 1000000000) h).1))
 
-pub limit : IsField take_limit (number_bytes 8) is_limit
-limit = formed 8 _ is_limit wide_8 (λ n h. omega (arith, leb-true _ _ h))
+pub limit_field : IsField take_limit (number_bytes 8) is_limit
+limit_field = formed 8 _ is_limit wide_8 (λ n h. omega (arith, leb-true _ _ h))
 
-pub mcc : IsField take_mcc mcc_bytes is_mcc
-mcc = formed 2 _ is_mcc wide_2 (λ n h. omega (arith, leb-true _ _ h))
+pub mcc_field : IsField take_mcc mcc_bytes is_mcc
+mcc_field = formed 2 _ is_mcc wide_2 (λ n h. omega (arith, leb-true _ _ h))
 
-pub id : IsField take_id (number_bytes 4) is_number
-id = formed 4 _ is_number wide_4 (λ n h. omega (arith, leb-true _ _ (and_parts (nat_le 1 n) (nat_le n 4294967295) h).1))
+pub id_field : IsField take_id (number_bytes 4) is_number
+id_field = formed 4 _ is_number wide_4 (λ n h. omega (arith, leb-true _ _ (and_parts (nat_le 1 n) (nat_le n 4294967295) h).1))
 
-pub timeout : IsField (take_formed 4 is_timeout) (number_bytes 4) is_timeout
-timeout = formed 4 _ is_timeout wide_4 (λ n h. omega (arith, leb-true _ _ (and_parts (nat_le 1 n) (nat_le n 60000) h).1))
+pub timeout_field : IsField (take_formed 4 is_timeout) (number_bytes 4) is_timeout
+timeout_field = formed 4 _ is_timeout wide_4 (λ n h. omega (arith, leb-true _ _ (and_parts (nat_le 1 n) (nat_le n 60000) h).1))
 
-pub hold_time : IsField (take_formed 4 is_hold_time) (number_bytes 4) is_hold_time
-hold_time = formed 4 _ is_hold_time wide_4 (λ n h. omega (arith, leb-true _ _ (and_parts (nat_le 86400000 n) (nat_le n 2678400000) h).1))
+pub hold_time_field : IsField (take_formed 4 is_hold_time) (number_bytes 4) is_hold_time
+hold_time_field = formed 4 _ is_hold_time wide_4 (λ n h. omega (arith, leb-true _ _ (and_parts (nat_le 86400000 n) (nat_le n 2678400000) h).1))
 
 -- things by their numbers
 
 found : {A : Type 0} (number : A → ℕ) (things : List A) (n : ℕ) (x : A) → of_number number things n ≡ Some x → n ≡ number x
 found number [] n x e = absurd cc
 found number (thing ∷ things) n x e =
-    elim (chosen (nat_eq (number thing) n) (Some thing) (of_number number things n) (Some x) e) [
-      | inl p ↦ sym (eqb-true _ _ p.0) ∙ ap number (same_Some thing x p.1)
-      | inr p ↦ found number things n x p.1
-    ]
+    either_way _ _ _ (Some x) (λ is e. sym (eqb-true _ _ is) ∙ ap number (same_Some thing x e)) (found number things n x) e
 
 funding_there : (x : Funding) → funding_numbered (funding_number x) ≡ Some x
 funding_there funding.Account = refl
@@ -154,10 +146,8 @@ flag_there false rest = refl
 
 flag_back : (n : ℕ) (x : Bool) → flag_numbered n ≡ Some x → n ∷ [] ≡ flag x
 flag_back n x e =
-    elim (chosen (nat_eq n 0) (Some false) (cond (nat_eq n 1) (Some true) None) (Some x) e) [
-      | inl p ↦ ap (λ k. k ∷ []) (eqb-true _ _ p.0) ∙ ap flag (same_Some false x p.1)
-      | inr p ↦ let q = passed (nat_eq n 1) true x p.1 in ap (λ k. k ∷ []) (eqb-true _ _ q.0) ∙ ap flag q.1
-    ]
+    either_way _ _ _ (Some x) (λ is e. ap (λ k. k ∷ []) (eqb-true n 0 is) ∙ ap flag (same_Some false x e))
+    (λ e. let q = passed (nat_eq n 1) true x e in ap (λ k. k ∷ []) (eqb-true n 1 q.0) ∙ ap flag q.1) e
 
 pub flag_field : IsField take_flag flag (λ x. true)
 unfolding take_numbered
@@ -189,14 +179,11 @@ some_takes width most wide bytes x fits e =
 optional_by_takes : (width most : ℕ) → IsWide width most → (byte : ℕ) (bytes : List ℕ) (x : Option ℕ × List ℕ) → AreBytes bytes → take_optional_by width byte bytes ≡ Some x
     → IsSplit (byte ∷ bytes) (limit_bytes width x.0) x.1 × (is_below most x.0 ≡ true)
 optional_by_takes width most wide byte bytes x fits e =
-    elim (chosen (nat_eq byte 0) (Some (None, bytes)) (cond (nat_eq byte 1) (take_some width bytes) None) (Some x) e) [
-      | inl p ↦ subst (λ y. IsSplit (byte ∷ bytes) (limit_bytes width y.0) y.1 × (is_below most y.0 ≡ true)) (same_Some (None, bytes) x p.1)
-        (record { parts = ap (λ (k : ℕ). k ∷ bytes) (eqb-true _ _ p.0); fits = fits }, refl)
-      | inr p ↦ elim (chosen (nat_eq byte 1) (take_some width bytes) None (Some x) p.1) [
-          | inl q ↦ subst (λ (k : ℕ). IsSplit (k ∷ bytes) (limit_bytes width x.0) x.1 × (is_below most x.0 ≡ true)) (sym (eqb-true _ _ q.0)) (some_takes width most wide bytes x fits q.1)
-          | inr q ↦ absurd cc
-        ]
-    ]
+    either_way _ _ _ (Some x) (λ is e. subst (λ y. IsSplit (byte ∷ bytes) (limit_bytes width y.0) y.1 × (is_below most y.0 ≡ true)) (same_Some (None, bytes) x e)
+    (record { parts = ap (λ (k : ℕ). k ∷ bytes) (eqb-true byte 0 is); fits = fits }, refl)) (
+    either_way _ _ _ (Some x) (λ is e. subst (λ (k : ℕ). IsSplit (k ∷ bytes) (limit_bytes width x.0) x.1 × (is_below most x.0 ≡ true)) (sym (eqb-true byte 1 is))
+    (some_takes width most wide bytes x fits e)) (
+    λ e. absurd cc)) e
 
 optional_again : (width most : ℕ) → IsWide width most → (x : Option ℕ) (rest : List ℕ) → is_below most x ≡ true → take_optional width (limit_bytes width x ++ rest) ≡ Some (x, rest)
 unfolding take_optional take_byte
@@ -207,9 +194,9 @@ optional_again width most wide (Some n) rest h = rw (number_again width most wid
 pub behind : (bytes : List ℕ) (n : ℕ × List ℕ) (text rest : List ℕ) → IsSplit bytes (n.0 ∷ []) n.1 → IsSplit (n.0 ∷ n.1) text rest → IsSplit bytes text rest
 behind bytes n text rest a b = record { parts = a.parts ∙ b.parts; fits = b.fits }
 
-pub optional : (width most : ℕ) → IsWide width most → IsField (take_optional width) (limit_bytes width) (is_below most)
+pub optional_field : (width most : ℕ) → IsWide width most → IsField (take_optional width) (limit_bytes width) (is_below most)
 unfolding take_optional
-optional width most wide =
+optional_field width most wide =
     record {
       takes = λ bytes x fits e.
       let n = bind_some (take_byte bytes) _ x e in
@@ -236,27 +223,27 @@ limits_parts w a u h =
     let q = and_parts (is_none_or is_limit a && is_none_or is_usage_limit u) (is_some a || is_some u) p.0 in
     and_parts (is_none_or is_limit a) (is_none_or is_usage_limit u) q.0
 
-abbrev pub limits_bytes : Option ℕ × Option ℕ → List ℕ
-limits_bytes l = limit_bytes 8 l.0 ++ limit_bytes 4 l.1
+abbrev pub both_limits : Option ℕ × Option ℕ → List ℕ
+both_limits l = limits_bytes l.0 l.1
 
 abbrev pub have_form : Window → Option ℕ × Option ℕ → Bool
 have_form w l = are_limits w l.0 l.1
 
-pub limits : (w : Window) → IsField (take_limits w) limits_bytes (have_form w)
+pub limits_field : (w : Window) → IsField (take_limits w) both_limits (have_form w)
 unfolding take_limits
-limits w =
+limits_field w =
     record {
       takes = λ bytes x fits e.
       let a = bind_some (take_optional 8 bytes) _ x e in
       let u = bind_some (take_optional 4 a.0.1) _ x a.2 in
-      let ta = (optional 8 _ wide_8).takes bytes a.0 fits a.1 in
-      let tu = (optional 4 _ wide_4).takes a.0.1 u.0 ta.0.fits u.1 in
+      let ta = (optional_field 8 _ wide_8).takes bytes a.0 fits a.1 in
+      let tu = (optional_field 4 _ wide_4).takes a.0.1 u.0 ta.0.fits u.1 in
       let g = passed (are_limits w a.0.0 u.0.0) ((a.0.0, u.0.0), u.0.1) x u.2 in
-      subst (λ y. IsSplit bytes (limits_bytes y.0) y.1 × (have_form w y.0 ≡ true)) g.1 (split_on bytes _ a.0.1 _ u.0.1 ta.0 tu.0, g.0);
+      subst (λ y. IsSplit bytes (both_limits y.0) y.1 × (have_form w y.0 ≡ true)) g.1 (split_on bytes _ a.0.1 _ u.0.1 ta.0 tu.0, g.0);
       again = λ x rest h.
       let p = limits_parts w x.0 x.1 h in
       ap (take_limits w) (append_assoc (limit_bytes 8 x.0) (limit_bytes 4 x.1) rest)
-      ∙ rw ((optional 8 _ wide_8).again x.0 (limit_bytes 4 x.1 ++ rest) (limit_below x.0 p.0), (optional 4 _ wide_4).again x.1 rest (usage_below x.1 p.1), h) refl;
+      ∙ rw ((optional_field 8 _ wide_8).again x.0 (limit_bytes 4 x.1 ++ rest) (limit_below x.0 p.0), (optional_field 4 _ wide_4).again x.1 rest (usage_below x.1 p.1), h) refl;
     }
 
 -- the codes of a group
@@ -285,9 +272,9 @@ codes_again low (m ∷ codes) rest h =
     ap (take_codes (suc (length codes))) regrouped
     ∙ rw (number_again 2 _ wide_2 m (flat_map mcc_bytes codes ++ rest) small, codes_again (m + 1) codes rest p.1) refl
 
-pub mccs : IsField take_mccs mccs_bytes are_mccs
+pub mccs_field : IsField take_mccs mccs_bytes are_mccs
 unfolding take_mccs
-mccs =
+mccs_field =
     record {
       takes = λ bytes x fits e.
       let n = bind_some (take_number 2 bytes) _ x e in

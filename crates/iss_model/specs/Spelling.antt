@@ -38,6 +38,10 @@ abbrev pub limit_bytes : ℕ → Option ℕ → List ℕ
 limit_bytes width None = 0 ∷ []
 limit_bytes width (Some limit) = 1 ∷ number_bytes width limit
 
+-- the limits of a control
+abbrev pub limits_bytes : Option ℕ → Option ℕ → List ℕ
+limits_bytes amount_limit usage_limit = limit_bytes 8 amount_limit ++ limit_bytes 4 usage_limit
+
 -- at which merchants a control counts
 abbrev pub scope_bytes : Scope → List ℕ
 scope_bytes scope.All = 0 ∷ []
@@ -84,8 +88,8 @@ field_bytes (input.Product token product currency funding timeout_ms hold_ms) =
     ++ number_bytes 4 hold_ms
 field_bytes (input.Group token group mccs) = spelled token ++ spelled group ++ mccs_bytes mccs
 field_bytes (input.Control token control currency window amount_limit usage_limit association scope active) =
-    spelled token ++ spelled control ++ currency_bytes currency ++ (window_number window ∷ []) ++ limit_bytes 8 amount_limit
-    ++ limit_bytes 4 usage_limit ++ association_contents association ++ scope_bytes scope ++ flag active
+    spelled token ++ spelled control ++ currency_bytes currency ++ (window_number window ∷ []) ++ limits_bytes amount_limit usage_limit
+    ++ association_contents association ++ scope_bytes scope ++ flag active
 field_bytes (input.Set token set product currency connection timeout application max day_limit active) =
     spelled token ++ spelled set ++ spelled product ++ currency_bytes currency ++ flag connection ++ flag timeout ++ flag application
     ++ amount_bytes max ++ amount_bytes day_limit ++ flag active
