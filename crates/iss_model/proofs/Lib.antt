@@ -4,3 +4,6 @@ pub mod TakenFields
 pub mod TakenParts
 pub mod TakenChoices
 pub mod TakenInputs
+pub mod TakenAgain
+pub mod TakenRecords
+pub mod TakenLaws

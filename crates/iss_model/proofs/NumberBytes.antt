@@ -1,15 +1,11 @@
 -- Numbers of 2, 4 and 8 bytes: what is written is read again, and what is read is written so.
-use Rattle.std.proofs.Common.{◌≡◌, ℕ, ◌+◌, ◌*◌, ◌^◌, ◌<◌, ◌≤◌, List, [], ◌∷◌, ◌++◌, length, get_or, take, drop, refl, sym, ap, ◌∙◌, arith, inl, inr}
-use Rattle.std.specs.Int.{w16, w32, w64, from_be_bytes, to_be_bytes}
-use Rattle.std.proofs.lemmas.Nat.{be_bytes_2, be_bytes_4, be_bytes_8, from_be_bytes-to_be_bytes_2, from_be_bytes-to_be_bytes_4, from_be_bytes-to_be_bytes_8}
+use Rattle.std.proofs.Common.{◌≡◌, ℕ, ◌+◌, ◌*◌, ◌<◌, ◌≤◌, List, ◌++◌, length, take, drop, refl, ◌∙◌, arith, inl, inr}
+use Rattle.std.specs.Int.{w16, w32, w64, from_be_bytes}
+use Rattle.std.proofs.lemmas.Nat.{be_bytes_2, be_bytes_4, be_bytes_8, from_be_bytes-to_be_bytes_4, from_be_bytes-to_be_bytes_8}
 use Rattle.std.proofs.lemmas.List.{length-take, get_or-drop, get_or-take, get_or_past}
 use Rattle.std.proofs.lemmas.Bool.{cases_lt}
-use Rattle.iss_model.specs.Spelling.{number_bytes}
+use Rattle.iss_model.specs.Spelling.{AreBytes, number_bytes}
 use Rattle.iss_model.specs.Taking.{number_from}
-
--- each of these is a byte
-abbrev pub AreBytes : List ℕ → Type 0
-AreBytes bytes = (i : ℕ) → get_or bytes i 0 < 256
 
 pub bytes_behind : (n : ℕ) (bytes : List ℕ) → AreBytes bytes → AreBytes (drop n bytes)
 bytes_behind n bytes h i = rw get_or-drop (h (n + i))
@@ -58,15 +54,15 @@ wide_4 =
 front_8 : (bytes : List ℕ) → number_from 0 8 bytes ≡ from_be_bytes w64 (take 8 bytes)
 front_8 bytes =
     omega (
-    arith,
-    get_or-take 8 bytes 0 0 (omega arith),
-    get_or-take 8 bytes 1 0 (omega arith),
-    get_or-take 8 bytes 2 0 (omega arith),
-    get_or-take 8 bytes 3 0 (omega arith),
-    get_or-take 8 bytes 4 0 (omega arith),
-    get_or-take 8 bytes 5 0 (omega arith),
-    get_or-take 8 bytes 6 0 (omega arith),
-    get_or-take 8 bytes 7 0 (omega arith)
+      arith,
+      get_or-take 8 bytes 0 0 (omega arith),
+      get_or-take 8 bytes 1 0 (omega arith),
+      get_or-take 8 bytes 2 0 (omega arith),
+      get_or-take 8 bytes 3 0 (omega arith),
+      get_or-take 8 bytes 4 0 (omega arith),
+      get_or-take 8 bytes 5 0 (omega arith),
+      get_or-take 8 bytes 6 0 (omega arith),
+      get_or-take 8 bytes 7 0 (omega arith),
     )
 
 turned_8 : (a b c d e f g h : ℕ) → a + (b + (c + (d + (e + (f + (g + (h * 1 + 0))))))) ≡ a + b + c + d + e + f + g + h

@@ -1,5 +1,5 @@
 -- The fields that begin with a byte that says which they are: what is taken was spelled so, and what is spelled so is taken.
-use Rattle.std.proofs.Common.{◌≡◌, ℕ, Bool, true, false, ◌&&◌, cond, nat_eq, List, [], ◌∷◌, ◌++◌, Option, Some, None, refl, sym, ap, subst, ◌∙◌, append_assoc, inl, inr}
+use Rattle.std.proofs.Common.{◌≡◌, ℕ, Bool, true, ◌&&◌, nat_eq, List, [], ◌∷◌, ◌++◌, Some, refl, sym, ap, subst, ◌∙◌, append_assoc}
 use Rattle.std.specs.List.{list_all}
 use Rattle.std.proofs.lemmas.Bool.{eqb-true, and_parts}
 use Rattle.std.proofs.lemmas.Option.{same_Some}
@@ -12,10 +12,9 @@ use Rattle.iss_model.specs.declared.setting.Scope.TheVariants as scope
 use Rattle.iss_model.specs.Tokens.{is_token}
 use Rattle.iss_model.specs.Forms.{is_scope}
 use Rattle.iss_model.specs.Inputs.{spelled, moved_contents, association_contents, card_state_number, user_state_number}
-use Rattle.iss_model.specs.Spelling.{scope_bytes, mcc_bytes, moved_token, association_tokens, scope_tokens}
-use Rattle.iss_model.specs.Taking.{◌>>=◌, take_byte, take_token, take_numbered, card_state_numbered, user_state_numbered, take_mcc, take_moved_card, take_moved_user, take_moved_by, take_moved, take_named, take_association_by, take_association, take_mcc_scope, take_scope_by, take_scope}
-use Rattle.iss_model.proofs.NumberBytes.{AreBytes}
-use Rattle.iss_model.proofs.TakenFields.{bind_some, either_way, IsSplit, IsField, split_on, byte_takes, byte_again, token_field}
+use Rattle.iss_model.specs.Spelling.{AreBytes, scope_bytes, moved_token, association_tokens, scope_tokens}
+use Rattle.iss_model.specs.Taking.{take_byte, take_token, take_numbered, card_state_numbered, user_state_numbered, take_mcc, take_moved_card, take_moved_user, take_moved_by, take_moved, take_named, take_association_by, take_association, take_mcc_scope, take_scope_by, take_scope}
+use Rattle.iss_model.proofs.TakenFields.{bind_some, either_way, IsSplit, IsField, split_on, byte_takes, token_field}
 use Rattle.iss_model.proofs.TakenParts.{behind, card_state_field, user_state_field, mcc_field}
 
 -- a byte in front of what is split
@@ -72,10 +71,10 @@ unfolding take_moved
 moved_field =
     record {
       takes = λ bytes x fits e.
-      let n = bind_some (take_byte bytes) _ x e in
-      let a = byte_takes bytes n.0 fits n.1 in
-      let b = moved_by_takes n.0.0 n.0.1 x a.fits n.2 in
-      (behind bytes n.0 (moved_contents x.0) x.1 a b.0, b.1);
+          let n = bind_some (take_byte bytes) _ x e in
+          let a = byte_takes bytes n.0 fits n.1 in
+          let b = moved_by_takes n.0.0 n.0.1 x a.fits n.2 in
+          (behind bytes n.0 (moved_contents x.0) x.1 a b.0, b.1);
       again = moved_again;
     }
 
@@ -118,10 +117,10 @@ unfolding take_association
 association_field =
     record {
       takes = λ bytes x fits e.
-      let n = bind_some (take_byte bytes) _ x e in
-      let a = byte_takes bytes n.0 fits n.1 in
-      let b = association_by_takes n.0.0 n.0.1 x a.fits n.2 in
-      (behind bytes n.0 (association_contents x.0) x.1 a b.0, b.1);
+          let n = bind_some (take_byte bytes) _ x e in
+          let a = byte_takes bytes n.0 fits n.1 in
+          let b = association_by_takes n.0.0 n.0.1 x a.fits n.2 in
+          (behind bytes n.0 (association_contents x.0) x.1 a b.0, b.1);
       again = association_again;
     }
 
@@ -161,9 +160,9 @@ unfolding take_scope
 scope_field =
     record {
       takes = λ bytes x fits e.
-      let n = bind_some (take_byte bytes) _ x e in
-      let a = byte_takes bytes n.0 fits n.1 in
-      let b = scope_by_takes n.0.0 n.0.1 x a.fits n.2 in
-      (behind bytes n.0 (scope_bytes x.0) x.1 a b.0, b.1);
+          let n = bind_some (take_byte bytes) _ x e in
+          let a = byte_takes bytes n.0 fits n.1 in
+          let b = scope_by_takes n.0.0 n.0.1 x a.fits n.2 in
+          (behind bytes n.0 (scope_bytes x.0) x.1 a b.0, b.1);
       again = scope_again;
     }

@@ -1,14 +1,13 @@
 -- Each field that is taken was spelled so, and what is spelled so is taken, whatever follows it.
-use Rattle.std.proofs.Common.{◌≡◌, ℕ, zero, suc, ◌+◌, ◌^◌, ◌<◌, ◌≤◌, Bool, true, false, ◌&&◌, cond, ltb, nat_le, nat_eq, List, [], ◌∷◌, ◌++◌, length, get_or, take, drop, Option, Some, None, refl, sym, ap, subst, ◌∙◌, append_assoc, arith}
-use Rattle.std.proofs.lemmas.Bool.{ltb-false, le-ltb, leb-true, eqb-true, and_parts}
+use Rattle.std.proofs.Common.{◌≡◌, ℕ, suc, ◌<◌, ◌≤◌, Bool, true, false, cond, ltb, List, [], ◌∷◌, ◌++◌, length, take, drop, Option, Some, None, refl, sym, ap, subst, ◌∙◌, append_assoc, arith}
+use Rattle.std.proofs.lemmas.Bool.{ltb-false, le-ltb}
 use Rattle.std.proofs.lemmas.Option.{same_Some}
 use Rattle.std.proofs.lemmas.List.{take_at, drop_at, take-append-drop, length-append, length-take}
-use Rattle.std.specs.List.{list_all}
-use Rattle.iss_model.specs.Tokens.{is_token, is_token_byte}
-use Rattle.iss_model.specs.Inputs.{spelled, flag}
-use Rattle.iss_model.specs.Spelling.{number_bytes}
-use Rattle.iss_model.specs.Taking.{◌>>=◌, only, number_from, take_byte, take_bytes, take_number, take_formed, take_token, take_numbered, flag_numbered, take_flag}
-use Rattle.iss_model.proofs.NumberBytes.{AreBytes, bytes_behind, IsWide}
+use Rattle.iss_model.specs.Tokens.{is_token}
+use Rattle.iss_model.specs.Inputs.{spelled}
+use Rattle.iss_model.specs.Spelling.{AreBytes, number_bytes}
+use Rattle.iss_model.specs.Taking.{◌>>=◌, number_from, take_byte, take_bytes, take_number, take_formed, take_token, take_numbered}
+use Rattle.iss_model.proofs.NumberBytes.{bytes_behind, IsWide}
 
 -- a step that gave a value, and the next one on it
 pub bind_some : {A B : Type 0} (r : Option A) (f : A → Option B) (y : B) → (r >>= f) ≡ Some y → (x : A) × (r ≡ Some x) × (f x ≡ Some y)
@@ -96,10 +95,10 @@ unfolding take_formed
 formed width limit form wide below =
     record {
       takes = λ bytes x fits e.
-      let n = bind_some (take_number width bytes) _ x e in
-      let t = number_takes width limit wide bytes n.0 fits n.1 in
-      let g = passed (form n.0.0) n.0 x n.2 in
-      subst (λ (y : ℕ × List ℕ). IsSplit bytes (number_bytes width y.0) y.1 × (form y.0 ≡ true)) g.1 (t.0, g.0);
+          let n = bind_some (take_number width bytes) _ x e in
+          let t = number_takes width limit wide bytes n.0 fits n.1 in
+          let g = passed (form n.0.0) n.0 x n.2 in
+          subst (λ (y : ℕ × List ℕ). IsSplit bytes (number_bytes width y.0) y.1 × (form y.0 ≡ true)) g.1 (t.0, g.0);
       again = λ n rest h. rw (number_again width limit wide n rest (below n h), h) refl;
     }
 
@@ -109,14 +108,14 @@ unfolding take_token
 token_field =
     record {
       takes = λ bytes x fits e.
-      let n = bind_some (take_byte bytes) _ x e in
-      let a = byte_takes bytes n.0 fits n.1 in
-      let t = bind_some (take_bytes n.0.0 n.0.1) _ x n.2 in
-      let b = bytes_take n.0.0 n.0.1 t.0 a.fits t.1 in
-      let g = passed (is_token t.0.0) t.0 x t.2 in
-      let both = split_on bytes (n.0.0 ∷ []) n.0.1 t.0.0 t.0.1 a b.0 in
-      let whole : IsSplit bytes (spelled t.0.0) t.0.1 = subst (λ (k : ℕ). IsSplit bytes (k ∷ t.0.0) t.0.1) (sym b.1) both in
-      subst (λ (y : List ℕ × List ℕ). IsSplit bytes (spelled y.0) y.1 × (is_token y.0 ≡ true)) g.1 (whole, g.0);
+          let n = bind_some (take_byte bytes) _ x e in
+          let a = byte_takes bytes n.0 fits n.1 in
+          let t = bind_some (take_bytes n.0.0 n.0.1) _ x n.2 in
+          let b = bytes_take n.0.0 n.0.1 t.0 a.fits t.1 in
+          let g = passed (is_token t.0.0) t.0 x t.2 in
+          let both = split_on bytes (n.0.0 ∷ []) n.0.1 t.0.0 t.0.1 a b.0 in
+          let whole : IsSplit bytes (spelled t.0.0) t.0.1 = subst (λ (k : ℕ). IsSplit bytes (k ∷ t.0.0) t.0.1) (sym b.1) both in
+          subst (λ (y : List ℕ × List ℕ). IsSplit bytes (spelled y.0) y.1 × (is_token y.0 ≡ true)) g.1 (whole, g.0);
       again = λ text rest h. rw (byte_again (length text) (text ++ rest), bytes_again text rest, h) refl;
     }
 
@@ -127,10 +126,10 @@ unfolding take_numbered
 numbered number of_number there back =
     record {
       takes = λ bytes x fits e.
-      let n = bind_some (take_byte bytes) _ x e in
-      let a = byte_takes bytes n.0 fits n.1 in
-      let t = bind_some (of_number n.0.0) _ x n.2 in
-      let whole : IsSplit bytes (number t.0 ∷ []) n.0.1 = subst (λ (k : ℕ). IsSplit bytes (k ∷ []) n.0.1) (back n.0.0 t.0 t.1) a in
-      (subst (λ y. IsSplit bytes (number y.0 ∷ []) y.1) (same_Some (t.0, n.0.1) x t.2) whole, refl);
+          let n = bind_some (take_byte bytes) _ x e in
+          let a = byte_takes bytes n.0 fits n.1 in
+          let t = bind_some (of_number n.0.0) _ x n.2 in
+          let whole : IsSplit bytes (number t.0 ∷ []) n.0.1 = subst (λ (k : ℕ). IsSplit bytes (k ∷ []) n.0.1) (back n.0.0 t.0 t.1) a in
+          (subst (λ y. IsSplit bytes (number y.0 ∷ []) y.1) (same_Some (t.0, n.0.1) x t.2) whole, refl);
       again = λ x rest h. rw (byte_again (number x) rest, there x) refl;
     }

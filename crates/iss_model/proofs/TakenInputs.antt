@@ -1,5 +1,5 @@
 -- Each kind of input: what is taken was spelled so, and is of its form.
-use Rattle.std.proofs.Common.{◌≡◌, ℕ, Bool, true, ◌&&◌, nat_eq, List, [], ◌∷◌, ◌++◌, Option, Some, None, refl, sym, ap, subst, ◌∙◌, append_assoc}
+use Rattle.std.proofs.Common.{◌≡◌, ℕ, Bool, true, nat_eq, List, [], ◌++◌, Option, Some, refl, sym, subst, ◌∙◌}
 use Rattle.std.specs.List.{list_all}
 use Rattle.std.proofs.lemmas.Bool.{and_parts, eqb-true}
 use Rattle.std.proofs.lemmas.Option.{same_Some}
@@ -9,13 +9,12 @@ use Rattle.iss_model.specs.declared.input.Input.{Input}
 use Rattle.iss_model.specs.declared.input.Input.TheVariants as input
 use Rattle.iss_model.specs.Tokens.{is_token}
 use Rattle.iss_model.specs.Forms.{is_amount, is_scope}
-use Rattle.iss_model.specs.Spelling.{field_bytes, operation_bytes, kind_number, has_spelling, association_tokens, scope_tokens}
+use Rattle.iss_model.specs.Spelling.{AreBytes, field_bytes, operation_bytes, kind_number, has_spelling, association_tokens, scope_tokens}
 use Rattle.iss_model.specs.Taking.{◌>>=◌}
 use Rattle.iss_model.specs.TakingRecords.{take_user, take_card, take_move, take_product, take_group, take_control, take_set, take_switch, take_operation, take_authorization, take_clearing, take_answer, take_ack, take_fields}
-use Rattle.iss_model.proofs.NumberBytes.{AreBytes}
 use Rattle.iss_model.proofs.TakenFields.{bind_some, either_way, IsSplit, IsField, split_on, token_field}
 use Rattle.iss_model.proofs.TakenParts.{amount_field, limit_field, mcc_field, id_field, timeout_field, hold_time_field, funding_field, window_field, outcome_field, currency_field, flag_field, limits_field, mccs_field}
-use Rattle.iss_model.proofs.TakenChoices.{moved_field, association_field, association_form, scope_field, scope_form}
+use Rattle.iss_model.proofs.TakenChoices.{moved_field, association_field, scope_field}
 
 -- what was taken is an input of this kind, in form, and was spelled so
 pub record IsInput (number : ℕ) (bytes : List ℕ) (x : Input × List ℕ) : Type 0 where

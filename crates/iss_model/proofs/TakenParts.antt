@@ -1,8 +1,8 @@
 -- The fields that are more than one number or token: what is taken was spelled so, and what is spelled so is taken.
-use Rattle.std.proofs.Common.{◌≡◌, ℕ, zero, suc, ◌+◌, ◌<◌, ◌≤◌, Bool, true, false, ◌&&◌, cond, ltb, leb, eqb, nat_eq, nat_le, nat_lt, List, [], ◌∷◌, ◌++◌, length, Option, Some, None, refl, sym, ap, subst, ◌∙◌, append_assoc, arith, inl, inr}
-use Rattle.std.specs.Prelude.{◌⊎◌, ◌==◌, find, is_some, is_none, ◌||◌}
+use Rattle.std.proofs.Common.{◌≡◌, ℕ, zero, suc, ◌+◌, ◌<◌, Bool, true, false, ◌&&◌, ltb, nat_eq, nat_le, List, [], ◌∷◌, ◌++◌, length, Option, Some, None, refl, sym, ap, subst, ◌∙◌, append_assoc, arith}
+use Rattle.std.specs.Prelude.{is_some, ◌||◌}
 use Rattle.std.specs.List.{flat_map}
-use Rattle.std.proofs.lemmas.Bool.{leb-true, lt-ltb, ltb-true, eqb-true, and_parts, and_from}
+use Rattle.std.proofs.lemmas.Bool.{leb-true, lt-ltb, ltb-true, eqb-true, and_parts}
 use Rattle.std.proofs.lemmas.Option.{same_Some}
 use Rattle.std.proofs.lemmas.List.Concat.{flat_map-cons}
 use Rattle.iss_model.specs.declared.currency.Currency.{Currency}
@@ -15,23 +15,16 @@ use Rattle.iss_model.specs.declared.setting.CardState.{CardState}
 use Rattle.iss_model.specs.declared.setting.CardState.TheVariants as card_state
 use Rattle.iss_model.specs.declared.setting.UserState.{UserState}
 use Rattle.iss_model.specs.declared.setting.UserState.TheVariants as user_state
-use Rattle.iss_model.specs.declared.setting.Moved.{Moved}
-use Rattle.iss_model.specs.declared.setting.Moved.TheVariants as moved
-use Rattle.iss_model.specs.declared.setting.Association.{Association}
-use Rattle.iss_model.specs.declared.setting.Association.TheVariants as association
-use Rattle.iss_model.specs.declared.setting.Scope.{Scope}
-use Rattle.iss_model.specs.declared.setting.Scope.TheVariants as scope
 use Rattle.iss_model.specs.declared.input.Outcome.{Outcome}
 use Rattle.iss_model.specs.declared.input.Outcome.TheVariants as outcome
-use Rattle.iss_model.specs.Tokens.{is_token}
 use Rattle.iss_model.specs.Currencies.{iso_number, currencies}
 use Rattle.iss_model.specs.Forms.{is_amount, is_limit, is_mcc, is_stamp, is_timeout, is_hold_time, is_number, is_usage_limit, is_none_or, are_rising, are_mccs, are_limits, may_count}
-use Rattle.iss_model.specs.Inputs.{spelled, flag, funding_number, window_number, card_state_number, user_state_number, outcome_number, moved_contents, association_contents}
-use Rattle.iss_model.specs.Spelling.{number_bytes, currency_bytes, mcc_bytes, mccs_bytes, limit_bytes, limits_bytes, scope_bytes}
-use Rattle.iss_model.specs.Taking.{◌>>=◌, only, of_number, fundings, windows, card_states, user_states, outcomes, currency_numbered, funding_numbered, window_numbered, card_state_numbered, user_state_numbered, outcome_numbered, flag_numbered, take_byte, take_number, take_formed, take_stamp, take_amount, take_limit, take_mcc, take_id, take_token, take_numbered, take_flag, take_currency, take_some, take_optional_by, take_optional, take_codes, take_mccs}
+use Rattle.iss_model.specs.Inputs.{flag, funding_number, window_number, card_state_number, user_state_number, outcome_number}
+use Rattle.iss_model.specs.Spelling.{AreBytes, number_bytes, currency_bytes, mcc_bytes, mccs_bytes, limit_bytes, limits_bytes}
+use Rattle.iss_model.specs.Taking.{of_number, fundings, windows, card_states, user_states, outcomes, currency_numbered, funding_numbered, window_numbered, card_state_numbered, user_state_numbered, outcome_numbered, flag_numbered, take_byte, take_number, take_formed, take_stamp, take_amount, take_limit, take_mcc, take_id, take_numbered, take_flag, take_currency, take_some, take_optional_by, take_optional, take_codes, take_mccs}
 use Rattle.iss_model.specs.TakingRecords.{take_limits}
-use Rattle.iss_model.proofs.NumberBytes.{AreBytes, IsWide, wide_2, wide_4, wide_8}
-use Rattle.iss_model.proofs.TakenFields.{bind_some, passed, either_way, IsSplit, IsField, split_on, byte_takes, byte_again, number_takes, number_again, formed, numbered}
+use Rattle.iss_model.proofs.NumberBytes.{IsWide, wide_2, wide_4, wide_8}
+use Rattle.iss_model.proofs.TakenFields.{bind_some, passed, either_way, IsSplit, IsField, split_on, byte_takes, number_takes, number_again, formed, numbered}
 
 -- numbers of a form
 
@@ -129,11 +122,11 @@ unfolding take_currency
 currency_field =
     record {
       takes = λ bytes x fits e.
-      let n = bind_some (take_number 2 bytes) _ x e in
-      let a = number_takes 2 65536 wide_2 bytes n.0 fits n.1 in
-      let c = bind_some (currency_numbered n.0.0) _ x n.2 in
-      let whole : IsSplit bytes (currency_bytes c.0) n.0.1 = subst (λ (k : ℕ). IsSplit bytes (number_bytes 2 k) n.0.1) (found iso_number currencies n.0.0 c.0 c.1) a.0 in
-      (subst (λ y. IsSplit bytes (currency_bytes y.0) y.1) (same_Some (c.0, n.0.1) x c.2) whole, refl);
+          let n = bind_some (take_number 2 bytes) _ x e in
+          let a = number_takes 2 65536 wide_2 bytes n.0 fits n.1 in
+          let c = bind_some (currency_numbered n.0.0) _ x n.2 in
+          let whole : IsSplit bytes (currency_bytes c.0) n.0.1 = subst (λ (k : ℕ). IsSplit bytes (number_bytes 2 k) n.0.1) (found iso_number currencies n.0.0 c.0 c.1) a.0 in
+          (subst (λ y. IsSplit bytes (currency_bytes y.0) y.1) (same_Some (c.0, n.0.1) x c.2) whole, refl);
       again = λ x rest h. rw (number_again 2 65536 wide_2 (iso_number x) rest (iso_small x), currency_there x) refl;
     }
 
@@ -154,11 +147,11 @@ unfolding take_numbered
 flag_field =
     record {
       takes = λ bytes x fits e.
-      let n = bind_some (take_byte bytes) _ x e in
-      let a = byte_takes bytes n.0 fits n.1 in
-      let t = bind_some (flag_numbered n.0.0) _ x n.2 in
-      let whole : IsSplit bytes (flag t.0) n.0.1 = subst (λ text. IsSplit bytes text n.0.1) (flag_back n.0.0 t.0 t.1) a in
-      (subst (λ y. IsSplit bytes (flag y.0) y.1) (same_Some (t.0, n.0.1) x t.2) whole, refl);
+          let n = bind_some (take_byte bytes) _ x e in
+          let a = byte_takes bytes n.0 fits n.1 in
+          let t = bind_some (flag_numbered n.0.0) _ x n.2 in
+          let whole : IsSplit bytes (flag t.0) n.0.1 = subst (λ text. IsSplit bytes text n.0.1) (flag_back n.0.0 t.0 t.1) a in
+          (subst (λ y. IsSplit bytes (flag y.0) y.1) (same_Some (t.0, n.0.1) x t.2) whole, refl);
       again = λ x rest h. flag_there x rest;
     }
 
@@ -199,10 +192,10 @@ unfolding take_optional
 optional_field width most wide =
     record {
       takes = λ bytes x fits e.
-      let n = bind_some (take_byte bytes) _ x e in
-      let a = byte_takes bytes n.0 fits n.1 in
-      let b = optional_by_takes width most wide n.0.0 n.0.1 x a.fits n.2 in
-      (behind bytes n.0 (limit_bytes width x.0) x.1 a b.0, b.1);
+          let n = bind_some (take_byte bytes) _ x e in
+          let a = byte_takes bytes n.0 fits n.1 in
+          let b = optional_by_takes width most wide n.0.0 n.0.1 x a.fits n.2 in
+          (behind bytes n.0 (limit_bytes width x.0) x.1 a b.0, b.1);
       again = optional_again width most wide;
     }
 
@@ -234,16 +227,16 @@ unfolding take_limits
 limits_field w =
     record {
       takes = λ bytes x fits e.
-      let a = bind_some (take_optional 8 bytes) _ x e in
-      let u = bind_some (take_optional 4 a.0.1) _ x a.2 in
-      let ta = (optional_field 8 _ wide_8).takes bytes a.0 fits a.1 in
-      let tu = (optional_field 4 _ wide_4).takes a.0.1 u.0 ta.0.fits u.1 in
-      let g = passed (are_limits w a.0.0 u.0.0) ((a.0.0, u.0.0), u.0.1) x u.2 in
-      subst (λ y. IsSplit bytes (both_limits y.0) y.1 × (have_form w y.0 ≡ true)) g.1 (split_on bytes _ a.0.1 _ u.0.1 ta.0 tu.0, g.0);
+          let a = bind_some (take_optional 8 bytes) _ x e in
+          let u = bind_some (take_optional 4 a.0.1) _ x a.2 in
+          let ta = (optional_field 8 _ wide_8).takes bytes a.0 fits a.1 in
+          let tu = (optional_field 4 _ wide_4).takes a.0.1 u.0 ta.0.fits u.1 in
+          let g = passed (are_limits w a.0.0 u.0.0) ((a.0.0, u.0.0), u.0.1) x u.2 in
+          subst (λ y. IsSplit bytes (both_limits y.0) y.1 × (have_form w y.0 ≡ true)) g.1 (split_on bytes _ a.0.1 _ u.0.1 ta.0 tu.0, g.0);
       again = λ x rest h.
-      let p = limits_parts w x.0 x.1 h in
-      ap (take_limits w) (append_assoc (limit_bytes 8 x.0) (limit_bytes 4 x.1) rest)
-      ∙ rw ((optional_field 8 _ wide_8).again x.0 (limit_bytes 4 x.1 ++ rest) (limit_below x.0 p.0), (optional_field 4 _ wide_4).again x.1 rest (usage_below x.1 p.1), h) refl;
+          let p = limits_parts w x.0 x.1 h in
+          ap (take_limits w) (append_assoc (limit_bytes 8 x.0) (limit_bytes 4 x.1) rest)
+          ∙ rw ((optional_field 8 _ wide_8).again x.0 (limit_bytes 4 x.1 ++ rest) (limit_below x.0 p.0), (optional_field 4 _ wide_4).again x.1 rest (usage_below x.1 p.1), h) refl;
     }
 
 -- the codes of a group
@@ -277,18 +270,18 @@ unfolding take_mccs
 mccs_field =
     record {
       takes = λ bytes x fits e.
-      let n = bind_some (take_number 2 bytes) _ x e in
-      let c = bind_some (take_codes n.0.0 n.0.1) _ x n.2 in
-      let tn = number_takes 2 _ wide_2 bytes n.0 fits n.1 in
-      let tc = codes_take n.0.0 n.0.1 c.0 tn.0.fits c.1 in
-      let g = passed (are_mccs c.0.0) c.0 x c.2 in
-      let both = split_on bytes _ n.0.1 _ c.0.1 tn.0 tc.0 in
-      let whole : IsSplit bytes (mccs_bytes c.0.0) c.0.1 = subst (λ (k : ℕ). IsSplit bytes (number_bytes 2 k ++ flat_map mcc_bytes c.0.0) c.0.1) (sym tc.1) both in
-      subst (λ y. IsSplit bytes (mccs_bytes y.0) y.1 × (are_mccs y.0 ≡ true)) g.1 (whole, g.0);
+          let n = bind_some (take_number 2 bytes) _ x e in
+          let c = bind_some (take_codes n.0.0 n.0.1) _ x n.2 in
+          let tn = number_takes 2 _ wide_2 bytes n.0 fits n.1 in
+          let tc = codes_take n.0.0 n.0.1 c.0 tn.0.fits c.1 in
+          let g = passed (are_mccs c.0.0) c.0 x c.2 in
+          let both = split_on bytes _ n.0.1 _ c.0.1 tn.0 tc.0 in
+          let whole : IsSplit bytes (mccs_bytes c.0.0) c.0.1 = subst (λ (k : ℕ). IsSplit bytes (number_bytes 2 k ++ flat_map mcc_bytes c.0.0) c.0.1) (sym tc.1) both in
+          subst (λ y. IsSplit bytes (mccs_bytes y.0) y.1 × (are_mccs y.0 ≡ true)) g.1 (whole, g.0);
       again = λ x rest h.
-      let p = and_parts (nat_le 1 (length x) && nat_le (length x) 1000) (are_rising 0 x) h in
-      let q = and_parts (nat_le 1 (length x)) (nat_le (length x) 1000) p.0 in
-      let small : length x < 65536 = omega (arith, leb-true _ _ q.1) in
-      ap take_mccs (append_assoc (number_bytes 2 (length x)) (flat_map mcc_bytes x) rest)
-      ∙ rw (number_again 2 _ wide_2 (length x) (flat_map mcc_bytes x ++ rest) small, codes_again 0 x rest p.1, h) refl;
+          let p = and_parts (nat_le 1 (length x) && nat_le (length x) 1000) (are_rising 0 x) h in
+          let q = and_parts (nat_le 1 (length x)) (nat_le (length x) 1000) p.0 in
+          let small : length x < 65536 = omega (arith, leb-true _ _ q.1) in
+          ap take_mccs (append_assoc (number_bytes 2 (length x)) (flat_map mcc_bytes x) rest)
+          ∙ rw (number_again 2 _ wide_2 (length x) (flat_map mcc_bytes x ++ rest) small, codes_again 0 x rest p.1, h) refl;
     }

@@ -1,5 +1,5 @@
 -- The bytes of a record: its kind, its stamp, and its fields in a row. All numbers are big-endian.
-use Rattle.std.specs.Prelude.{ℕ, Bool, ◌&&◌, List, [], ◌∷◌, ◌++◌, length, Option, Some, None}
+use Rattle.std.specs.Prelude.{ℕ, Bool, ◌&&◌, List, [], ◌∷◌, ◌++◌, length, get_or, ◌<◌, Option, Some, None}
 use Rattle.std.specs.Int.{bytes_high_first}
 use Rattle.std.specs.List.{list_all, flat_map}
 use Rattle.iss_model.specs.declared.currency.Currency.{Currency}
@@ -16,6 +16,10 @@ use Rattle.iss_model.specs.Tokens.{is_token}
 use Rattle.iss_model.specs.Currencies.{iso_number}
 use Rattle.iss_model.specs.Forms.{is_stamp, is_in_form}
 use Rattle.iss_model.specs.Inputs.{spelled, flag, funding_number, window_number, outcome_number, moved_contents, association_contents}
+
+-- each of these numbers is a byte
+abbrev pub AreBytes : List ℕ → Type 0
+AreBytes bytes = (i : ℕ) → get_or bytes i 0 < 256
 
 -- a number in so many bytes, the highest first
 unfoldable pub number_bytes : ℕ → ℕ → List ℕ

@@ -12,6 +12,7 @@ mod entry;
 mod input;
 mod mccs;
 mod setting;
+mod spelled;
 mod token;
 mod txn;
 mod worked;
@@ -28,6 +29,7 @@ pub use setting::{
     Association, Card, CardState, Control, Funding, Moved, Product, Scope, Set, User, UserState,
     Window,
 };
+pub use spelled::{fields_are_read_again, records_are_read_again};
 pub use token::Token;
 pub use txn::{Txn, UsageRow, Used};
 pub use worked::{
