@@ -29,7 +29,9 @@ pub mod Stepping
 pub mod Judging
 pub mod Histories
 pub mod Sayings
+pub mod Rooms
 pub mod Transcripts
+pub mod Sessions
 pub mod Scripts
 pub mod WorkedPurchases
 pub mod WorkedControls
@@ -41,3 +43,4 @@ pub mod WorkedSettings
 pub mod WorkedRefunds
 pub mod WorkedTexts
 pub mod WorkedSpellings
+pub mod WorkedRuns

@@ -17,6 +17,7 @@ mod token;
 mod txn;
 mod worked;
 mod worked_bytes;
+mod worked_devices;
 
 pub use account::{Account, Part};
 pub use call::{CallId, CallState, Failure, How, Method, Notice, Opened};
@@ -36,3 +37,4 @@ pub use worked::{
     worked_amounts, worked_limit, worked_scripts, worked_texts, worked_use, worked_windows,
 };
 pub use worked_bytes::worked_spellings;
+pub use worked_devices::worked_runs;
