@@ -11,6 +11,7 @@ mod decision;
 mod entry;
 mod input;
 mod mccs;
+mod sessions;
 mod setting;
 mod spelled;
 mod token;
@@ -26,6 +27,7 @@ pub use decision::{Answer, Judged, Reason, Reply, Verdict};
 pub use entry::{Entry, Row};
 pub use input::{Input, Outcome, Record};
 pub use mccs::Mccs;
+pub use sessions::runs;
 pub use setting::{
     Association, Card, CardState, Control, Funding, Moved, Product, Scope, Set, User, UserState,
     Window,
