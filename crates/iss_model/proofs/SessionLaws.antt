@@ -1,6 +1,7 @@
 -- What a run makes of its lines: the records are legal, the history is theirs, and a dry run is a run without a device.
-use Rattle.std.proofs.Common.{◌≡◌, ℕ, ◌+◌, ◌≤◌, max, Bool, true, false, ◌||◌, cond, List, [], ◌∷◌, ◌++◌, length, map, fold, Option, Some, None, refl, sym, ap, subst, ◌∙◌, append_assoc}
+use Rattle.std.proofs.Common.{◌≡◌, ℕ, ◌+◌, ◌≤◌, max, Bool, true, false, ◌||◌, cond, List, [], ◌∷◌, ◌++◌, length, map, fold, Option, Some, None, refl, sym, ap, subst, ◌∙◌, append_assoc, arith}
 use Rattle.std.specs.Prelude.{option_to_list, option_map, unwrap_or}
+use Rattle.std.proofs.lemmas.List.{append-nil, length-append}
 use Rattle.std.proofs.lemmas.List.Sums.{fold-append}
 use Rattle.std.proofs.Math.Nat.{le-max_right, max-eq_left}
 use Rattle.iss_model.specs.declared.input.Input.{Input}
@@ -10,14 +11,15 @@ use Rattle.iss_model.specs.declared.decision.Answer.{Answer}
 use Rattle.iss_model.specs.declared.decision.Answer.TheVariants as answer
 use Rattle.iss_model.specs.declared.decision.Judged.{Judged}
 use Rattle.iss_model.specs.declared.decision.Judged.TheVariants as judged
-use Rattle.iss_model.specs.Due.{due_items, is_quiet}
-use Rattle.iss_model.specs.Stepping.{step, after_due}
+use Rattle.iss_model.specs.Due.{DueItem, due_items, is_quiet}
+use Rattle.iss_model.specs.Keeper.{Growth}
+use Rattle.iss_model.specs.Stepping.{step, settle, after_due}
 use Rattle.iss_model.specs.Judging.{refusal, time_answer, is_ack, judged_as, judged_at, judge}
 use Rattle.iss_model.specs.Histories.{History, nothing_yet, time_of, history_facts, history_keeper, Follows, IsLegalAfter}
 use Rattle.iss_model.specs.Sayings.{reaction_as, reaction}
 use Rattle.iss_model.specs.Transcripts.{Reading, sound, faulty, Text, at_level, said_text_at, transcript}
 use Rattle.iss_model.specs.Rooms.{Room, fits, judged_within, where_it_fits, record_made, room_left}
-use Rattle.iss_model.specs.Sessions.{Session, dry_session, outcome, judged_in, record_of_line, line_texts, session_after, accepted, transcript_of}
+use Rattle.iss_model.specs.Sessions.{Session, dry_session, outcome, judged_in, record_of_line, line_texts, session_after, accepted, transcript_of, RiseFrom}
 
 -- a test that leads to one of two records
 told_or_clock : (b : Bool) (a : Answer) (c r : Record) → cond b (judged.Told a) (judged.Clock c) ≡ judged.New r → ⊥
@@ -164,3 +166,57 @@ dry_lines h (faulty text ∷ lines) = ap (λ (t : List Text). (outcome (dry_afte
 pub dry_run : (lines : List Reading) → transcript_of dry_session lines ≡ transcript nothing_yet lines
 unfolding transcript_of
 dry_run lines = dry_lines nothing_yet lines
+
+-- ---- records and levels
+
+settled_records : (h : ℕ) (g : Growth History) (items : List DueItem) → (fold (settle history_keeper h) g items).world.records ≡ g.world.records
+settled_records at g [] = refl
+settled_records at g (item ∷ items) = settled_records at (settle history_keeper at g item) items
+
+-- a step puts its record behind the others
+step_records : (h : History) (r : Record) → (step history_keeper h r).world.records ≡ h.records ++ r ∷ []
+unfolding step
+step_records h r =
+    let taken = history_keeper.take_up h r in
+    settled_records r.at (record { world = taken; entries = [] }) (due_items (history_facts taken) r.at)
+
+reacted_records : (h : History) (i : Input) (stamp : ℕ) (j : Judged) → (reaction_as h i stamp j).history.records ≡ h.records ++ option_to_list (record_made j)
+reacted_records h i stamp (judged.New r) = step_records h r
+reacted_records h i stamp (judged.Clock r) = step_records h r
+reacted_records h i stamp (judged.Told a) = sym (append-nil h.records)
+
+pub records_after : (s : Session) (lines : List Reading) → (session_after s lines).history.records ≡ s.history.records ++ accepted s lines
+records_after s [] = sym (append-nil s.history.records)
+records_after s (sound i at ∷ lines) =
+    let made = option_to_list (record_of_line s (sound i at)) in
+    let s' = (outcome s (sound i at)).session in
+    records_after s' lines
+    ∙ ap (λ (rs : List Record). rs ++ accepted s' lines) (reacted_records s.history i (unwrap_or at 0) (judged_in s i (unwrap_or at 0)))
+    ∙ append_assoc s.history.records made (accepted s' lines)
+records_after s (faulty text ∷ lines) = records_after s lines
+
+rise_sooner : (low level high : ℕ) (texts : List Text) → low ≤ level → RiseFrom level high texts → RiseFrom low high texts
+rise_sooner low level high [] le rise = omega arith
+rise_sooner low level high (t ∷ ts) le rise = (omega (arith, rise.0), rise.1)
+
+rise_at : (low level high : ℕ) (texts : List (List ℕ)) (more : List Text) → low ≤ level → RiseFrom level high more → RiseFrom low high (at_level level texts ++ more)
+rise_at low level high [] more le rise = rise_sooner low level high more le rise
+rise_at low level high (t ∷ ts) more le rise = (le, rise_at level level high ts more (omega arith) rise)
+
+grown : (h : History) (i : Input) (stamp : ℕ) (j : Judged) → length h.records ≤ length (reaction_as h i stamp j).history.records
+grown h i stamp j =
+    rw (reacted_records h i stamp j) (omega (arith, length-append h.records (option_to_list (record_made j))))
+
+line_levels : (s : Session) (lines : List Reading) → RiseFrom (length s.history.records) (length (session_after s lines).history.records) (line_texts s lines)
+line_levels s [] = omega arith
+line_levels s (sound i at ∷ lines) =
+    let s' = (outcome s (sound i at)).session in
+    rise_at (length s.history.records) (length s'.history.records) (length (session_after s' lines).history.records) _ (line_texts s' lines)
+    (grown s.history i (unwrap_or at 0) (judged_in s i (unwrap_or at 0))) (line_levels s' lines)
+line_levels s (faulty text ∷ lines) = (omega arith, line_levels s lines)
+
+pub levels : (s : Session) (lines : List Reading) → RiseFrom (length s.history.records) (length (session_after s lines).history.records) (transcript_of s lines)
+unfolding transcript_of
+levels s lines =
+    let n = length s.history.records in
+    rise_at n n (length (session_after s lines).history.records) _ (line_texts s lines) (omega arith) (line_levels s lines)

@@ -1,5 +1,5 @@
 -- A run on a device: what it is told to write, line by line, while history and room move on. Without a device it is a dry run.
-use Rattle.std.specs.Prelude.{ℕ, List, [], ◌∷◌, ◌++◌, length, map, filter, Option, None, unwrap_or, option_to_list}
+use Rattle.std.specs.Prelude.{ℕ, ◌≤◌, List, [], ◌∷◌, ◌++◌, length, map, filter, Option, None, unwrap_or, option_to_list}
 use Rattle.iss_model.specs.declared.input.Input.{Input}
 use Rattle.iss_model.specs.declared.input.Record.{Record}
 use Rattle.iss_model.specs.declared.decision.Judged.{Judged}
@@ -75,3 +75,8 @@ first_texts s = at_level (length s.history.records) (map (said_text_at s.instanc
 -- all that a run is told to write
 unfoldable pub transcript_of : Session → List Reading → List Text
 transcript_of s lines = first_texts s ++ line_texts s lines
+
+-- these texts go out one after the other at levels that never fall, from one number of records up to another
+abbrev pub RiseFrom : ℕ → ℕ → List Text → Type 0
+RiseFrom low high [] = low ≤ high
+RiseFrom low high (text ∷ texts) = (low ≤ text.level) × RiseFrom text.level high texts
