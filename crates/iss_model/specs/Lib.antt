@@ -28,6 +28,7 @@ pub mod Due
 pub mod Stepping
 pub mod Judging
 pub mod Histories
+pub mod BalanceLines
 pub mod Sayings
 pub mod Rooms
 pub mod Transcripts

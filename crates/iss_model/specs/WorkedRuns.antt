@@ -1,6 +1,8 @@
 -- Runs on devices: their lines, and the texts that they are told, each with its level.
 use Rattle.std.specs.Prelude.{◌≡◌, ℕ, List, [], ◌∷◌, ◌++◌, codes, Option, Some, None}
 use Prim.Native.String.{String}
+use Rattle.iss_model.specs.declared.currency.Currency.{Currency}
+use Rattle.iss_model.specs.declared.currency.Currency.TheVariants.{Usd, Jpy, Kwd}
 use Rattle.iss_model.specs.declared.input.Outcome.TheVariants as outcome
 use Rattle.iss_model.specs.declared.input.Input.{Input}
 use Rattle.iss_model.specs.declared.input.Input.TheVariants as input
@@ -8,7 +10,8 @@ use Rattle.iss_model.specs.Histories.{nothing_yet}
 use Rattle.iss_model.specs.Transcripts.{Reading, sound, faulty, Text}
 use Rattle.iss_model.specs.Rooms.{Room}
 use Rattle.iss_model.specs.Sessions.{Session, session_after, transcript_of}
-use Rattle.iss_model.specs.Scripts.{gateway_product, new_user, card_of, purchase, answers}
+use Rattle.iss_model.specs.BalanceLines.{balance_lines}
+use Rattle.iss_model.specs.Scripts.{Script, history_after, gateway_product, new_user, card_of, purchase, answers}
 
 -- a device of this size and instance that holds no record
 abbrev pub fresh_device : ℕ → ℕ → Session
@@ -33,6 +36,10 @@ Writes s lines texts = transcript_of s lines ≡ texts
 -- a user with a token
 abbrev pub user_of : String → String → Reading
 user_of token user = line (input.User (codes token) (codes user))
+
+-- a load of a user
+abbrev pub load_of : String → String → Currency → ℕ → Reading
+load_of token user currency amount = line (input.Load (codes token) (codes user) currency amount)
 
 -- six users for a device of 75 bytes
 abbrev pub six_users : List Reading
@@ -78,3 +85,43 @@ late_answer = line_at 4000 (answers 1 outcome.Funded) ∷ []
 -- the same device with no room for one more byte
 abbrev pub without_room : Session → Session
 without_room s = record s { room = Some (record { size = 128 }) }
+
+-- lines of a report
+abbrev pub report_line : String → List ℕ
+report_line text = codes text ++ 10 ∷ []
+
+-- the report of a script, when it is over
+abbrev pub Reports : Script → List (List ℕ) → Type 0
+Reports script lines = balance_lines (history_after nothing_yet script.steps) ≡ lines
+
+-- a purchase of 20.00 that was cleared for 22.00
+abbrev pub cleared_report : List (List ℕ)
+cleared_report =
+    report_line "{\"account\":\"gateway\",\"balance\":\"-20.00\",\"currency\":\"USD\"}"
+    ∷ report_line "{\"account\":\"network\",\"balance\":\"22.00\",\"currency\":\"USD\"}"
+    ∷ report_line "{\"account\":\"programme\",\"balance\":\"-2.00\",\"currency\":\"USD\"}"
+    ∷ report_line "{\"account\":\"user\",\"balance\":\"0.00\",\"currency\":\"USD\",\"held\":\"0.00\",\"user\":\"u1\"}"
+    ∷ report_line "{\"calls\":0,\"notices\":2,\"records\":7}"
+    ∷ []
+
+-- two users, u10 first, with loads in three currencies
+abbrev pub loads_of_two : List Reading
+loads_of_two =
+    user_of "t1" "u10"
+    ∷ user_of "t2" "u1"
+    ∷ load_of "l1" "u10" Usd 100
+    ∷ load_of "l2" "u1" Kwd 1234
+    ∷ load_of "l3" "u1" Jpy 1500
+    ∷ []
+
+-- their report: by account, then by the bytes of the name, then by the currency's number
+abbrev pub loads_report : List (List ℕ)
+loads_report =
+    report_line "{\"account\":\"programme\",\"balance\":\"-1500\",\"currency\":\"JPY\"}"
+    ∷ report_line "{\"account\":\"programme\",\"balance\":\"-1.234\",\"currency\":\"KWD\"}"
+    ∷ report_line "{\"account\":\"programme\",\"balance\":\"-1.00\",\"currency\":\"USD\"}"
+    ∷ report_line "{\"account\":\"user\",\"balance\":\"1500\",\"currency\":\"JPY\",\"held\":\"0\",\"user\":\"u1\"}"
+    ∷ report_line "{\"account\":\"user\",\"balance\":\"1.234\",\"currency\":\"KWD\",\"held\":\"0.000\",\"user\":\"u1\"}"
+    ∷ report_line "{\"account\":\"user\",\"balance\":\"1.00\",\"currency\":\"USD\",\"held\":\"0.00\",\"user\":\"u10\"}"
+    ∷ report_line "{\"calls\":0,\"notices\":0,\"records\":5}"
+    ∷ []
