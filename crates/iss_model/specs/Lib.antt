@@ -7,6 +7,7 @@ pub mod CallTokens
 pub mod Wordings
 pub mod GatewayTexts
 pub mod AnswerLines
+pub mod DrillLines
 pub mod Sums
 pub mod Inputs
 pub mod Forms

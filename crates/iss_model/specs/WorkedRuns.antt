@@ -1,8 +1,10 @@
 -- Runs on devices: their lines, and the texts that they are told, each with its level.
-use Rattle.std.specs.Prelude.{◌≡◌, ℕ, List, [], ◌∷◌, ◌++◌, codes, Option, Some, None}
+use Rattle.std.specs.Prelude.{◌≡◌, ℕ, pos, neg_ℤ, List, [], ◌∷◌, ◌++◌, codes, Option, Some, None}
 use Prim.Native.String.{String}
 use Rattle.iss_model.specs.declared.currency.Currency.{Currency}
 use Rattle.iss_model.specs.declared.currency.Currency.TheVariants.{Usd, Jpy, Kwd}
+use Rattle.iss_model.specs.declared.call.Method.TheVariants as method
+use Rattle.iss_model.specs.declared.call.Opened.{Opened}
 use Rattle.iss_model.specs.declared.input.Outcome.TheVariants as outcome
 use Rattle.iss_model.specs.declared.input.Input.{Input}
 use Rattle.iss_model.specs.declared.input.Input.TheVariants as input
@@ -10,8 +12,9 @@ use Rattle.iss_model.specs.Histories.{nothing_yet}
 use Rattle.iss_model.specs.Transcripts.{Reading, sound, faulty, Text}
 use Rattle.iss_model.specs.Rooms.{Room}
 use Rattle.iss_model.specs.Sessions.{Session, session_after, transcript_of}
+use Rattle.iss_model.specs.DrillLines.{DrillTotals}
 use Rattle.iss_model.specs.BalanceLines.{balance_lines}
-use Rattle.iss_model.specs.Scripts.{Script, history_after, gateway_product, new_user, card_of, purchase, answers}
+use Rattle.iss_model.specs.Scripts.{Script, history_after, call_number, gateway_product, new_user, card_of, purchase, answers}
 
 -- a device of this size and instance that holds no record
 abbrev pub fresh_device : ℕ → ℕ → Session
@@ -125,3 +128,37 @@ loads_report =
     ∷ report_line "{\"account\":\"user\",\"balance\":\"1.00\",\"currency\":\"USD\",\"held\":\"0.00\",\"user\":\"u10\"}"
     ∷ report_line "{\"calls\":0,\"notices\":0,\"records\":5}"
     ∷ []
+
+-- the totals of a drill of three events
+abbrev pub drill_of_three : DrillTotals
+drill_of_three =
+    record {
+      approved = 1;
+      declined = 2;
+      gateway = neg_ℤ (pos 114);
+      held = pos 114;
+      lines = 27;
+      network = pos 0;
+      notices = 0;
+      programme = pos 0;
+      records = 27;
+      repeats = 0;
+    }
+
+-- the call of a purchase
+abbrev pub first_call : Opened
+first_call =
+    record {
+      call = call_number 1;
+      event = codes "a1";
+      txn = codes "a1";
+      method = method.Authorization;
+      card = codes "c1";
+      user = codes "u1";
+      currency = Usd;
+      mcc = 5411;
+      mid = codes "m1";
+      amount = 6000;
+      at = 1000;
+      deadline = 4000;
+    }

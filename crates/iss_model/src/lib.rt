@@ -39,4 +39,4 @@ pub use worked::{
     worked_amounts, worked_limit, worked_scripts, worked_texts, worked_use, worked_windows,
 };
 pub use worked_bytes::worked_spellings;
-pub use worked_devices::{worked_reports, worked_runs};
+pub use worked_devices::{worked_lines, worked_reports, worked_runs};
