@@ -1,9 +1,8 @@
 -- The report of what stands: a line for each account that money was posted to or from, and a line of counts.
-use Rattle.std.specs.Prelude.{ℕ, ℤ, List, [], ◌∷◌, ◌++◌, length, map, filter, fold, codes}
-use Rattle.std.specs.List.{flat_map, concat}
-use Rattle.std.specs.declared.cmp.Ordering.{Ordering}
-use Rattle.std.specs.declared.cmp.Ordering.TheVariants.{Less, Equal, Greater}
-use Rattle.std.specs.Ordering.{nat_cmp}
+use Rattle.std.specs.Prelude.{ℕ, ℤ, Bool, List, [], ◌∷◌, ◌++◌, length, map, filter, fold, codes, if◌then◌else◌}
+use Rattle.std.specs.List.{flat_map, concat, list_any}
+use Rattle.std.specs.Str.{bytes_eq}
+use Rattle.std.specs.Ordering.{is_lt, nat_cmp}
 use Rattle.std.specs.Cmp.Lexicographic.{slice_cmp}
 use Rattle.iss_model.specs.declared.currency.Currency.{Currency}
 use Rattle.iss_model.specs.declared.account.Account.{Account}
@@ -24,20 +23,23 @@ abbrev pub posted_accounts : Entry → List Account
 posted_accounts (entry.Post from to amount txn) = from ∷ to ∷ []
 posted_accounts _ = []
 
--- an account in front of another, in its place, or behind it
-abbrev pub placed_by : Ordering → Account → Account → List Account → List Account → List Account
-placed_by Less a b others behind = a ∷ b ∷ others
-placed_by Equal a b others behind = b ∷ others
-placed_by Greater a b others behind = b ∷ behind
+-- The order of the report: the gateway, the network, the programme, and then users by the bytes of their names; in each by the currency's number.
+abbrev pub is_reported_before : Account → Account → Bool
+is_reported_before a b = is_lt (slice_cmp nat_cmp (account_key a) (account_key b))
 
--- An account among others that stand in order, each once. The order is the gateway, the network, the programme, and then users by the bytes of their names; in each by the currency's number.
+-- an account at its place among others that stand in this order
 abbrev pub placed : Account → List Account → List Account
 placed a [] = a ∷ []
-placed a (b ∷ others) = placed_by (slice_cmp nat_cmp (account_key a) (account_key b)) a b others (placed a others)
+placed a (b ∷ others) = if is_reported_before a b then a ∷ b ∷ others else b ∷ placed a others
+
+-- an account among others, once
+abbrev pub joined : List Account → Account → List Account
+joined accounts a =
+    if list_any (λ b. bytes_eq (account_key b) (account_key a)) accounts then accounts else placed a accounts
 
 -- the accounts of a book in order
 abbrev pub accounts_of : List Row → List Account
-accounts_of rows = fold (λ accounts a. placed a accounts) [] (flat_map (λ row. posted_accounts row.entry) rows)
+accounts_of rows = fold joined [] (flat_map (λ row. posted_accounts row.entry) rows)
 
 -- the members that say what an account is, its balance and its currency
 abbrev pub sheet_members : List ℕ → ℤ → Currency → List Member
