@@ -35,7 +35,7 @@ placed a (b ∷ others) = if is_reported_before a b then a ∷ b ∷ others else
 -- an account among others, once
 abbrev pub joined : List Account → Account → List Account
 joined accounts a =
-    if list_any (λ b. bytes_eq (account_key b) (account_key a)) accounts then accounts else placed a accounts
+    if list_any (λ b. bytes_eq (account_key a) (account_key b)) accounts then accounts else placed a accounts
 
 -- the accounts of a book in order
 abbrev pub accounts_of : List Row → List Account

@@ -7,7 +7,7 @@ use Rattle.iss_model.specs.Activity.{is_asked}
 use Rattle.iss_model.specs.Facts.{Facts}
 use Rattle.iss_model.specs.Judging.{judge}
 use Rattle.iss_model.specs.Histories.{History, nothing_yet, history_facts, history_keeper}
-use Rattle.iss_model.specs.Sayings.{Said, asked, noticed, Reaction, reaction_as}
+use Rattle.iss_model.specs.Sayings.{Said, asked, noticed, reaction_as}
 use Rattle.iss_model.specs.Transcripts.{Reading, sound, faulty, Text, at_level, said_text_at}
 use Rattle.iss_model.specs.Rooms.{Room, judged_within, record_made, room_left}
 

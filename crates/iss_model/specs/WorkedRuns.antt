@@ -1,5 +1,5 @@
 -- Runs on devices: their lines, and the texts that they are told, each with its level.
-use Rattle.std.specs.Prelude.{◌≡◌, ℕ, pos, neg_ℤ, List, [], ◌∷◌, ◌++◌, codes, Option, Some, None}
+use Rattle.std.specs.Prelude.{◌≡◌, ℕ, pos, neg_ℤ, List, [], ◌∷◌, ◌++◌, codes, Some, None}
 use Prim.Native.String.{String}
 use Rattle.iss_model.specs.declared.currency.Currency.{Currency}
 use Rattle.iss_model.specs.declared.currency.Currency.TheVariants.{Usd, Jpy, Kwd}
@@ -9,8 +9,7 @@ use Rattle.iss_model.specs.declared.input.Outcome.TheVariants as outcome
 use Rattle.iss_model.specs.declared.input.Input.{Input}
 use Rattle.iss_model.specs.declared.input.Input.TheVariants as input
 use Rattle.iss_model.specs.Histories.{nothing_yet}
-use Rattle.iss_model.specs.Transcripts.{Reading, sound, faulty, Text}
-use Rattle.iss_model.specs.Rooms.{Room}
+use Rattle.iss_model.specs.Transcripts.{Reading, sound, Text}
 use Rattle.iss_model.specs.Sessions.{Session, session_after, transcript_of}
 use Rattle.iss_model.specs.DrillLines.{DrillTotals}
 use Rattle.iss_model.specs.BalanceLines.{balance_lines}
