@@ -16,3 +16,12 @@ pub mod CoreOfBook
 pub mod Since
 pub mod JudgedAgain
 pub mod Records
+pub mod NumberBytes
+pub mod TakenFields
+pub mod TakenParts
+pub mod TakenChoices
+pub mod TakenInputs
+pub mod TakenAgain
+pub mod TakenRecords
+pub mod TakenLaws
+pub mod SessionLaws

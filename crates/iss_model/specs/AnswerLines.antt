@@ -46,3 +46,7 @@ acked_line notice = line_of (with_number (codes "notice") notice ∷ reply_membe
 -- the line of a time at which something was due
 unfoldable pub time_line : List ℕ
 time_line = line_of (reply_member (codes "time") ∷ [])
+
+-- the line for an HTTP request with this fault
+unfoldable pub http_fault_line : List ℕ → List ℕ
+http_fault_line fault = line_of (with_text (codes "fault") fault ∷ reply_member (codes "http") ∷ [])

@@ -7,9 +7,13 @@ pub mod CallTokens
 pub mod Wordings
 pub mod GatewayTexts
 pub mod AnswerLines
+pub mod DrillLines
 pub mod Sums
 pub mod Inputs
 pub mod Forms
+pub mod Spelling
+pub mod Taking
+pub mod TakingRecords
 pub mod Settings
 pub mod Controls
 pub mod Activity
@@ -30,8 +34,11 @@ pub mod Kept
 pub mod Cores
 pub mod Shown
 pub mod Laws
+pub mod BalanceLines
 pub mod Sayings
+pub mod Rooms
 pub mod Transcripts
+pub mod Sessions
 pub mod Scripts
 pub mod WorkedPurchases
 pub mod WorkedControls
@@ -42,3 +49,5 @@ pub mod WorkedDue
 pub mod WorkedSettings
 pub mod WorkedRefunds
 pub mod WorkedTexts
+pub mod WorkedSpellings
+pub mod WorkedRuns

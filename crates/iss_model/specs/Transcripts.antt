@@ -29,14 +29,18 @@ pub record Told : Type 0 where
 abbrev pub at_level : ℕ → List (List ℕ) → List Text
 at_level level texts = map (λ bytes. record { level = level; bytes = bytes }) texts
 
+-- what is said, as a line, at an instance
+abbrev pub said_text_at : ℕ → Said → List ℕ
+said_text_at instance (decided event verdict) = reply_line event (reply.Decided verdict)
+said_text_at instance (asked opened) = request_text instance opened ++ 10 ∷ []
+said_text_at instance (noticed notice) = notice_text instance notice ++ 10 ∷ []
+said_text_at instance (acked notice) = acked_line notice
+said_text_at instance timed = time_line
+said_text_at instance (told answer) = answer_text answer
+
 -- what is said, as a line, at instance 0
 abbrev pub said_text : Said → List ℕ
-said_text (decided event verdict) = reply_line event (reply.Decided verdict)
-said_text (asked opened) = request_text 0 opened ++ 10 ∷ []
-said_text (noticed notice) = notice_text 0 notice ++ 10 ∷ []
-said_text (acked notice) = acked_line notice
-said_text timed = time_line
-said_text (told answer) = answer_text answer
+said_text said = said_text_at 0 said
 
 -- the texts that an entry goes out with
 abbrev pub entry_texts : Entry → List (List ℕ)

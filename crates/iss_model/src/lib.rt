@@ -12,10 +12,14 @@ mod decision;
 mod entry;
 mod input;
 mod mccs;
+mod sessions;
 mod setting;
+mod spelled;
 mod token;
 mod txn;
 mod worked;
+mod worked_bytes;
+mod worked_devices;
 
 pub use account::{Account, Part};
 pub use agreement::{
@@ -28,12 +32,16 @@ pub use decision::{Answer, Judged, Reason, Reply, Verdict};
 pub use entry::{Entry, Row};
 pub use input::{Input, Outcome, Record};
 pub use mccs::Mccs;
+pub use sessions::runs;
 pub use setting::{
     Association, Card, CardState, Control, Funding, Moved, Product, Scope, Set, User, UserState,
     Window,
 };
+pub use spelled::{fields_are_read_again, records_are_read_again};
 pub use token::Token;
 pub use txn::{Txn, UsageRow, Used};
 pub use worked::{
     worked_amounts, worked_limit, worked_scripts, worked_texts, worked_use, worked_windows,
 };
+pub use worked_bytes::worked_spellings;
+pub use worked_devices::{worked_lines, worked_reports, worked_runs};

@@ -1,0 +1,165 @@
+-- The bytes of a record: its kind, its stamp, and its fields in a row. All numbers are big-endian.
+use Rattle.std.specs.Prelude.{ℕ, Bool, ◌&&◌, List, [], ◌∷◌, ◌++◌, length, get_or, ◌<◌, Option, Some, None}
+use Rattle.std.specs.Int.{bytes_high_first}
+use Rattle.std.specs.List.{list_all, flat_map}
+use Rattle.iss_model.specs.declared.currency.Currency.{Currency}
+use Rattle.iss_model.specs.declared.setting.Moved.{Moved}
+use Rattle.iss_model.specs.declared.setting.Moved.TheVariants as moved
+use Rattle.iss_model.specs.declared.setting.Association.{Association}
+use Rattle.iss_model.specs.declared.setting.Association.TheVariants as association
+use Rattle.iss_model.specs.declared.setting.Scope.{Scope}
+use Rattle.iss_model.specs.declared.setting.Scope.TheVariants as scope
+use Rattle.iss_model.specs.declared.input.Input.{Input}
+use Rattle.iss_model.specs.declared.input.Input.TheVariants as input
+use Rattle.iss_model.specs.declared.input.Record.{Record}
+use Rattle.iss_model.specs.Tokens.{is_token}
+use Rattle.iss_model.specs.Currencies.{iso_number}
+use Rattle.iss_model.specs.Forms.{is_stamp, is_in_form}
+use Rattle.iss_model.specs.Inputs.{spelled, flag, funding_number, window_number, outcome_number, moved_contents, association_contents}
+
+-- each of these numbers is a byte
+abbrev pub AreBytes : List ℕ → Type 0
+AreBytes bytes = (i : ℕ) → get_or bytes i 0 < 256
+
+-- a number in so many bytes, the highest first
+unfoldable pub number_bytes : ℕ → ℕ → List ℕ
+number_bytes width n = bytes_high_first width n
+
+-- a currency's numeric code
+abbrev pub currency_bytes : Currency → List ℕ
+currency_bytes currency = number_bytes 2 (iso_number currency)
+
+-- an amount of money
+abbrev pub amount_bytes : ℕ → List ℕ
+amount_bytes amount = number_bytes 8 amount
+
+-- a merchant category code
+abbrev pub mcc_bytes : ℕ → List ℕ
+mcc_bytes mcc = number_bytes 2 mcc
+
+-- 0, or 1 and the limit
+abbrev pub limit_bytes : ℕ → Option ℕ → List ℕ
+limit_bytes width None = 0 ∷ []
+limit_bytes width (Some limit) = 1 ∷ number_bytes width limit
+
+-- the limits of a control
+abbrev pub limits_bytes : Option ℕ → Option ℕ → List ℕ
+limits_bytes amount_limit usage_limit = limit_bytes 8 amount_limit ++ limit_bytes 4 usage_limit
+
+-- at which merchants a control counts
+abbrev pub scope_bytes : Scope → List ℕ
+scope_bytes scope.All = 0 ∷ []
+scope_bytes (scope.Mcc mcc) = 1 ∷ mcc_bytes mcc
+scope_bytes (scope.Group group) = 2 ∷ spelled group
+scope_bytes (scope.Mid mid) = 3 ∷ spelled mid
+
+-- the codes of a group, behind their count
+abbrev pub mccs_bytes : List ℕ → List ℕ
+mccs_bytes mccs = number_bytes 2 (length mccs) ++ flat_map mcc_bytes mccs
+
+-- the kind of an input
+abbrev pub kind_number : Input → ℕ
+kind_number (input.User token user) = 1
+kind_number (input.Card token card user product active) = 2
+kind_number (input.Move token who) = 3
+kind_number (input.Product token product currency funding timeout_ms hold_ms) = 4
+kind_number (input.Group token group mccs) = 5
+kind_number (input.Control token control currency window amount_limit usage_limit association scope active) = 6
+kind_number (input.Set token set product currency connection timeout application max day_limit active) = 7
+kind_number (input.Switch token product on) = 8
+kind_number (input.Load token user currency amount) = 9
+kind_number (input.Authorization token card currency amount mcc mid) = 10
+kind_number (input.Increment token txn currency amount) = 11
+kind_number (input.Reversal token txn currency amount) = 12
+kind_number (input.Clearing token txn currency amount last) = 13
+kind_number (input.Refund token txn currency amount) = 14
+kind_number (input.Answer call outcome) = 15
+kind_number (input.Ack notice) = 16
+kind_number input.Time = 17
+
+-- what an operation on a transaction has in its bytes
+abbrev pub operation_bytes : List ℕ → List ℕ → Currency → ℕ → List ℕ
+operation_bytes token txn currency amount = spelled token ++ spelled txn ++ currency_bytes currency ++ amount_bytes amount
+
+-- the fields of an input, one behind the other
+unfoldable pub field_bytes : Input → List ℕ
+field_bytes (input.User token user) = spelled token ++ spelled user
+field_bytes (input.Card token card user product active) =
+    spelled token ++ spelled card ++ spelled user ++ spelled product ++ flag active
+field_bytes (input.Move token who) = spelled token ++ moved_contents who
+field_bytes (input.Product token product currency funding timeout_ms hold_ms) =
+    spelled token ++ spelled product ++ currency_bytes currency ++ (funding_number funding ∷ []) ++ number_bytes 4 timeout_ms
+    ++ number_bytes 4 hold_ms
+field_bytes (input.Group token group mccs) = spelled token ++ spelled group ++ mccs_bytes mccs
+field_bytes (input.Control token control currency window amount_limit usage_limit association scope active) =
+    spelled token ++ spelled control ++ currency_bytes currency ++ (window_number window ∷ []) ++ limits_bytes amount_limit usage_limit
+    ++ association_contents association ++ scope_bytes scope ++ flag active
+field_bytes (input.Set token set product currency connection timeout application max day_limit active) =
+    spelled token ++ spelled set ++ spelled product ++ currency_bytes currency ++ flag connection ++ flag timeout ++ flag application
+    ++ amount_bytes max ++ amount_bytes day_limit ++ flag active
+field_bytes (input.Switch token product on) = spelled token ++ spelled product ++ flag on
+field_bytes (input.Load token user currency amount) = operation_bytes token user currency amount
+field_bytes (input.Authorization token card currency amount mcc mid) =
+    operation_bytes token card currency amount ++ mcc_bytes mcc ++ spelled mid
+field_bytes (input.Increment token txn currency amount) = operation_bytes token txn currency amount
+field_bytes (input.Reversal token txn currency amount) = operation_bytes token txn currency amount
+field_bytes (input.Clearing token txn currency amount last) = operation_bytes token txn currency amount ++ flag last
+field_bytes (input.Refund token txn currency amount) = operation_bytes token txn currency amount
+field_bytes (input.Answer call outcome) = number_bytes 4 call.0 ++ outcome_number outcome ∷ []
+field_bytes (input.Ack notice) = number_bytes 4 notice
+field_bytes input.Time = []
+
+-- an input behind its kind and this stamp
+abbrev pub input_bytes : ℕ → Input → List ℕ
+input_bytes at i = kind_number i ∷ (number_bytes 8 at ++ field_bytes i)
+
+-- the spelling of a record
+unfoldable pub spelling : Record → List ℕ
+spelling r = input_bytes r.at r.input
+
+-- the token that a move names
+abbrev pub moved_token : Moved → List ℕ
+moved_token (moved.Card card to) = card
+moved_token (moved.User user to) = user
+
+-- the token that an association names, where it names one
+abbrev pub association_tokens : Association → List (List ℕ)
+association_tokens association.Anybody = []
+association_tokens (association.User user) = user ∷ []
+association_tokens (association.Product product) = product ∷ []
+
+-- the token that a scope names, where it names one
+abbrev pub scope_tokens : Scope → List (List ℕ)
+scope_tokens scope.All = []
+scope_tokens (scope.Mcc mcc) = []
+scope_tokens (scope.Group group) = group ∷ []
+scope_tokens (scope.Mid mid) = mid ∷ []
+
+-- the tokens of an input, in the order of its spelling
+abbrev pub tokens_of : Input → List (List ℕ)
+tokens_of (input.User token user) = token ∷ user ∷ []
+tokens_of (input.Card token card user product active) = token ∷ card ∷ user ∷ product ∷ []
+tokens_of (input.Move token who) = token ∷ moved_token who ∷ []
+tokens_of (input.Product token product currency funding timeout_ms hold_ms) = token ∷ product ∷ []
+tokens_of (input.Group token group mccs) = token ∷ group ∷ []
+tokens_of (input.Control token control currency window amount_limit usage_limit association scope active) =
+    token ∷ control ∷ association_tokens association ++ scope_tokens scope
+tokens_of (input.Set token set product currency connection timeout application max day_limit active) = token ∷ set ∷ product ∷ []
+tokens_of (input.Switch token product on) = token ∷ product ∷ []
+tokens_of (input.Load token user currency amount) = token ∷ user ∷ []
+tokens_of (input.Authorization token card currency amount mcc mid) = token ∷ card ∷ mid ∷ []
+tokens_of (input.Increment token txn currency amount) = token ∷ txn ∷ []
+tokens_of (input.Reversal token txn currency amount) = token ∷ txn ∷ []
+tokens_of (input.Clearing token txn currency amount last) = token ∷ txn ∷ []
+tokens_of (input.Refund token txn currency amount) = token ∷ txn ∷ []
+tokens_of (input.Answer call outcome) = []
+tokens_of (input.Ack notice) = []
+tokens_of input.Time = []
+
+-- each field of an input is of its form, and each name a token
+abbrev pub has_spelling : Input → Bool
+has_spelling i = is_in_form i && list_all is_token (tokens_of i)
+
+-- what is spelled: a record of a stamp and an input in form
+abbrev pub is_record : Record → Bool
+is_record r = is_stamp r.at && has_spelling r.input
