@@ -49,5 +49,6 @@ pub mod WorkedDue
 pub mod WorkedSettings
 pub mod WorkedRefunds
 pub mod WorkedTexts
+pub mod WorkedParts
 pub mod WorkedSpellings
 pub mod WorkedRuns

@@ -41,7 +41,8 @@ pub use spelled::{fields_are_read_again, records_are_read_again};
 pub use token::Token;
 pub use txn::{Txn, UsageRow, Used};
 pub use worked::{
-    worked_amounts, worked_limit, worked_scripts, worked_texts, worked_use, worked_windows,
+    worked_amounts, worked_limit, worked_parts, worked_scripts, worked_texts, worked_use,
+    worked_windows,
 };
 pub use worked_bytes::worked_spellings;
 pub use worked_devices::{worked_lines, worked_reports, worked_runs};

@@ -8,6 +8,8 @@ ghost use Rattle.iss_model.specs.Calendar.{window_at};
 ghost use Rattle.iss_model.specs.CallTokens.{call_uuid, uuid_text};
 ghost use Rattle.iss_model.specs.Settings.{default_product};
 ghost use Rattle.iss_model.specs.Reasons.{is_full};
+ghost use Rattle.iss_model.specs.Pieces.{taken_to_clear, taken_to_release};
+ghost use Rattle.iss_model.specs.WorkedParts.{parts_of, funded_by_all};
 ghost use Rattle.iss_model.specs.Scripts.{Plays, used_after};
 ghost use Rattle.iss_model.specs.WorkedTexts.{RequestLine, IncrementRequestLine, VoidLine, StandInNoticeLine, CaptureNoticeLine, RefundNoticeLine, DoneEventLine, ApprovedEventLine, DeclinedByAControlLine, DeclinedMoveLine, LateAnswerLine, TimedOutCallLine, AbandonedCallLine, UnknownCallLine, AcknowledgedLine, AcknowledgedBeforeLine, IdleLine, TimeLine};
 ghost use Rattle.iss_model.specs.WorkedPurchases.{purchase_of_all, purchase_of_more, repeated_purchase, changed_purchase, raised_reversed_cleared, refunded_once, before_expiry, after_expiry, cleared_after_expiry, states_of_a_card, loads_in_three_currencies, greatest_load};
@@ -92,6 +94,18 @@ pub fn worked_amounts()
     ensures greatest_limit { limit_read (codes "10000000000.00") Usd ≡ Some 1000000000000 }
     ensures too_great_a_limit { limit_read (codes "10000000000.01") Usd ≡ None }
     ensures numeric_code { option_map iso_number (currency_of (codes "AUD")) ≡ Some 36 }
+{}
+
+/// In which order a clearing and a release take the parts of what is held: 12 of 20 by the gateway, 5 by the programme, 3 of the user's own.
+pub fn worked_parts()
+    ensures cleared_of_the_gateway { taken_to_clear funded_by_all 12 ≡ parts_of 12 0 0 }
+    ensures cleared_of_the_programme { taken_to_clear funded_by_all 16 ≡ parts_of 12 4 0 }
+    ensures cleared_of_the_user { taken_to_clear funded_by_all 19 ≡ parts_of 12 5 2 }
+    ensures cleared_of_all { taken_to_clear funded_by_all 21 ≡ funded_by_all }
+    ensures released_of_the_programme { taken_to_release funded_by_all 5 ≡ parts_of 0 5 0 }
+    ensures released_of_the_gateway { taken_to_release funded_by_all 16 ≡ parts_of 11 5 0 }
+    ensures released_of_the_user { taken_to_release funded_by_all 19 ≡ parts_of 12 5 2 }
+    ensures released_of_all { taken_to_release funded_by_all 21 ≡ funded_by_all }
 {}
 
 /// There may be 256 products, the built-in one among them.
