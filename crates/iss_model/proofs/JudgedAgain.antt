@@ -1,5 +1,5 @@
 -- A record that judging gives is new where it is judged again.
-use Rattle.std.proofs.Common.{◌≡◌, ℕ, max, Bool, true, false, ◌||◌, cond, refl, sym, ap, ◌∙◌, arith}
+use Rattle.std.proofs.Common.{◌≡◌, ℕ, ◌≤◌, max, Bool, true, false, ◌||◌, cond, refl, sym, ap, ◌∙◌, arith}
 use Rattle.std.specs.Prelude.{Option, Some, None}
 use Rattle.std.proofs.lemmas.Bool.Decides.{nat_tests}
 use Rattle.iss_model.specs.declared.decision.Answer.{Answer}
@@ -39,18 +39,44 @@ module _ {W : Type 0} (k : Keeper W) where
   unfolding judge
   again w i at e = ap (judged_at k w i) e
 
+  -- what stands when an input is judged at the later of its stamp and the time
+  answer_at : W → Input → ℕ → Option Answer
+  answer_at w i at = refusal (is_quiet (due_items (k.facts w) at)) (k.facts w) (k.facts (after_due k w at).world) i
+
+  new_is : (w : W) (i : Input) (stamp : ℕ) (r : Record) → judge k w i stamp ≡ judged.New r → record { at = max stamp (k.facts w).now; input = i } ≡ r
+  unfolding judge answer_at
+  new_is w i stamp r h =
+      let at : ℕ = max stamp (k.facts w).now in
+      new_as (answer_at w i at) (is_quiet (due_items (k.facts w) at)) i at r h
+
+  clock_is : (w : W) (i : Input) (stamp : ℕ) (r : Record) → judge k w i stamp ≡ judged.Clock r
+      → (record { at = max stamp (k.facts w).now; input = input.Time } ≡ r) × (is_quiet (due_items (k.facts w) (max stamp (k.facts w).now)) ≡ false)
+  unfolding judge answer_at
+  clock_is w i stamp r h =
+      let at : ℕ = max stamp (k.facts w).now in
+      clock_as (answer_at w i at) (is_quiet (due_items (k.facts w) at)) i at r h
+
+  -- a record that is judged is of that moment
+  pub new_at : (w : W) (i : Input) (stamp : ℕ) (r : Record) → judge k w i stamp ≡ judged.New r → max stamp (k.facts w).now ≡ r.at
+  new_at w i stamp r h = ap (λ (x : Record). x.at) (new_is w i stamp r h)
+
+  pub clock_at : (w : W) (i : Input) (stamp : ℕ) (r : Record) → judge k w i stamp ≡ judged.Clock r → max stamp (k.facts w).now ≡ r.at
+  clock_at w i stamp r h = ap (λ (x : Record). x.at) (clock_is w i stamp r h).0
+
+  -- which isn't before the time
+  pub not_before : (w : W) (stamp at : ℕ) → max stamp (k.facts w).now ≡ at → (k.facts w).now ≤ at
+  not_before w stamp at e = grind (arith, nat_tests)
+
   pub new_again : (w : W) (i : Input) (stamp : ℕ) (r : Record) → judge k w i stamp ≡ judged.New r → judge k w r.input r.at ≡ judged.New r
   unfolding judge
   new_again w i stamp r h =
-      let at : ℕ = max stamp (k.facts w).now in
-      let same : record { at = at; input = i } ≡ r = new_as (refusal (is_quiet (due_items (k.facts w) at)) (k.facts w) (k.facts (after_due k w at).world) i) (is_quiet (due_items (k.facts w) at)) i at r h in
-      ap (λ (x : Record). judge k w x.input x.at) (sym same) ∙ again w i at (max_again stamp (k.facts w).now) ∙ h
+      ap (λ (x : Record). judge k w x.input x.at) (sym (new_is w i stamp r h)) ∙ again w i (max stamp (k.facts w).now) (max_again stamp (k.facts w).now) ∙ h
 
   pub clock_again : (w : W) (i : Input) (stamp : ℕ) (r : Record) → judge k w i stamp ≡ judged.Clock r → judge k w r.input r.at ≡ judged.New r
   unfolding judge
   clock_again w i stamp r h =
       let at : ℕ = max stamp (k.facts w).now in
-      let parts = clock_as (refusal (is_quiet (due_items (k.facts w) at)) (k.facts w) (k.facts (after_due k w at).world) i) (is_quiet (due_items (k.facts w) at)) i at r h in
+      let parts = clock_is w i stamp r h in
       ap (λ (x : Record). judge k w x.input x.at) (sym parts.0)
       ∙ again w input.Time at (max_again stamp (k.facts w).now)
       ∙ ap (λ (quiet : Bool). judged_as (time_answer quiet) quiet input.Time at) parts.1

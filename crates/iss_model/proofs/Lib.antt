@@ -24,4 +24,4 @@ pub mod TakenInputs
 pub mod TakenAgain
 pub mod TakenRecords
 pub mod TakenLaws
-pub mod SessionLaws
+pub mod RunLaws

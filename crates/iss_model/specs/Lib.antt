@@ -38,7 +38,7 @@ pub mod BalanceLines
 pub mod Sayings
 pub mod Rooms
 pub mod Transcripts
-pub mod Sessions
+pub mod Runs
 pub mod Scripts
 pub mod WorkedPurchases
 pub mod WorkedControls

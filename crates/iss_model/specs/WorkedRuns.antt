@@ -10,13 +10,13 @@ use Rattle.iss_model.specs.declared.input.Input.{Input}
 use Rattle.iss_model.specs.declared.input.Input.TheVariants as input
 use Rattle.iss_model.specs.Histories.{nothing_yet}
 use Rattle.iss_model.specs.Transcripts.{Reading, sound, Text}
-use Rattle.iss_model.specs.Sessions.{Session, session_after, transcript_of}
+use Rattle.iss_model.specs.Runs.{Run, run_after, transcript_of}
 use Rattle.iss_model.specs.DrillLines.{DrillTotals}
 use Rattle.iss_model.specs.BalanceLines.{balance_lines}
 use Rattle.iss_model.specs.Scripts.{Script, history_after, call_number, gateway_product, new_user, card_of, purchase, answers}
 
 -- a device of this size and instance that holds no record
-abbrev pub fresh_device : ℕ → ℕ → Session
+abbrev pub fresh_device : ℕ → ℕ → Run
 fresh_device instance size = record { instance = instance; room = Some (record { size = size }); history = nothing_yet }
 
 -- a line without a stamp
@@ -32,7 +32,7 @@ abbrev pub text_at : ℕ → String → Text
 text_at level text = record { level = level; bytes = codes text ++ 10 ∷ [] }
 
 -- a run that begins so is told these texts
-abbrev pub Writes : Session → List Reading → List Text → Type 0
+abbrev pub Writes : Run → List Reading → List Text → Type 0
 Writes s lines texts = transcript_of s lines ≡ texts
 
 -- a user with a token
@@ -66,9 +66,9 @@ six_users_told =
     ∷ []
 
 -- a device of instance 7 after a purchase that the gateway is asked for
-abbrev pub asked_device : Session
+abbrev pub asked_device : Run
 asked_device =
-    session_after (fresh_device 7 1000)
+    run_after (fresh_device 7 1000)
     (line gateway_product ∷ line new_user ∷ line (card_of "g") ∷ line_at 1000 (purchase "a1" 6000) ∷ [])
 
 -- the request that is sent then, and again by each run until it is answered
@@ -85,7 +85,7 @@ abbrev pub late_answer : List Reading
 late_answer = line_at 4000 (answers 1 outcome.Funded) ∷ []
 
 -- the same device with no room for one more byte
-abbrev pub without_room : Session → Session
+abbrev pub without_room : Run → Run
 without_room s = record s { room = Some (record { size = 128 }) }
 
 -- lines of a report

@@ -6,17 +6,17 @@ ghost use Rattle.iss_model.specs.GatewayTexts.{request_text};
 ghost use Rattle.iss_model.specs.AnswerLines.{http_fault_line};
 ghost use Rattle.iss_model.specs.DrillLines.{drill_line};
 ghost use Rattle.iss_model.specs.WorkedCalls.{cleared_in_parts};
-ghost use Rattle.iss_model.specs.Sessions.{dry_session, session_after};
+ghost use Rattle.iss_model.specs.Runs.{dry_run, run_after};
 ghost use Rattle.iss_model.specs.WorkedRuns.{Writes, fresh_device, six_users, six_users_told, asked_device, request_again, funded_answer, late_answer, text_at, user_of, without_room, Reports, report_line, cleared_report, loads_of_two, loads_report, drill_of_three, first_call};
 
 /// What runs on devices write. A record that doesn't fit is not made, and what waits is said again by the next run.
-#[tactic(auto, unfolding(crate::specs::Stepping::step, crate::specs::Judging::judge, crate::specs::Sessions::transcript_of, crate::specs::Spelling::number_bytes, crate::specs::Spelling::field_bytes, crate::specs::Spelling::spelling, crate::specs::Wordings::reply_line, crate::specs::Wordings::reason_text, crate::specs::GatewayTexts::request_text, crate::specs::GatewayTexts::notice_text, crate::specs::AnswerLines::answer_text, crate::specs::AnswerLines::acked_line, crate::specs::AnswerLines::time_line, crate::specs::WorkedTexts::digits))]
+#[tactic(auto, unfolding(crate::specs::Stepping::step, crate::specs::Judging::judge, crate::specs::Runs::transcript_of, crate::specs::Spelling::number_bytes, crate::specs::Spelling::field_bytes, crate::specs::Spelling::spelling, crate::specs::Wordings::reply_line, crate::specs::Wordings::reason_text, crate::specs::GatewayTexts::request_text, crate::specs::GatewayTexts::notice_text, crate::specs::AnswerLines::answer_text, crate::specs::AnswerLines::acked_line, crate::specs::AnswerLines::time_line, crate::specs::WorkedTexts::digits))]
 pub fn worked_runs()
     ensures six_users { Writes (fresh_device 0 75) six_users six_users_told }
-    ensures repeated_user { Writes (session_after (fresh_device 0 75) six_users) (user_of "t1" "u1" ∷ []) (text_at 3 "{\"event\":\"t1\",\"reply\":\"done\"}" ∷ []) }
+    ensures repeated_user { Writes (run_after (fresh_device 0 75) six_users) (user_of "t1" "u1" ∷ []) (text_at 3 "{\"event\":\"t1\",\"reply\":\"done\"}" ∷ []) }
     ensures asked_again { Writes asked_device [] (request_again ∷ []) }
     ensures answered { Writes asked_device funded_answer (request_again ∷ text_at 5 "{\"event\":\"a1\",\"reply\":\"approved\"}" ∷ []) }
-    ensures nothing_waits { Writes (session_after asked_device funded_answer) [] [] }
+    ensures nothing_waits { Writes (run_after asked_device funded_answer) [] [] }
     ensures no_room_for_the_time { Writes (without_room asked_device) late_answer (request_again ∷ text_at 4 "{\"free\":0,\"need\":14,\"reply\":\"full\"}" ∷ []) }
 {}
 
@@ -33,5 +33,5 @@ pub fn worked_lines()
 pub fn worked_reports()
     ensures nothing { balance_lines nothing_yet ≡ report_line "{\"calls\":0,\"notices\":0,\"records\":0}" ∷ [] }
     ensures cleared { Reports cleared_in_parts cleared_report }
-    ensures loads { balance_lines (session_after dry_session loads_of_two).history ≡ loads_report }
+    ensures loads { balance_lines (run_after dry_run loads_of_two).history ≡ loads_report }
 {}

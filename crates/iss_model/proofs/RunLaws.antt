@@ -1,73 +1,33 @@
 -- What a run makes of its lines: the records are legal, the history is theirs, and a dry run is a run without a device.
-use Rattle.std.proofs.Common.{◌≡◌, ℕ, ◌≤◌, max, Bool, true, false, ◌||◌, cond, List, [], ◌∷◌, ◌++◌, length, map, fold, Option, Some, None, refl, sym, ap, subst, ◌∙◌, append_assoc, arith}
+use Rattle.std.proofs.Common.{◌≡◌, ℕ, ◌≤◌, Bool, true, false, cond, List, [], ◌∷◌, ◌++◌, length, map, fold, Option, Some, None, refl, sym, ap, subst, ◌∙◌, append_assoc, arith}
 use Rattle.std.specs.Prelude.{option_to_list, unwrap_or}
 use Rattle.std.proofs.lemmas.List.{append-nil, length-append}
 use Rattle.std.proofs.lemmas.List.Sums.{fold-append}
-use Rattle.std.proofs.Math.Nat.{le-max_right, max-eq_left}
 use Rattle.iss_model.specs.declared.input.Input.{Input}
-use Rattle.iss_model.specs.declared.input.Input.TheVariants as input
 use Rattle.iss_model.specs.declared.input.Record.{Record}
 use Rattle.iss_model.specs.declared.decision.Answer.{Answer}
 use Rattle.iss_model.specs.declared.decision.Answer.TheVariants as answer
 use Rattle.iss_model.specs.declared.decision.Judged.{Judged}
 use Rattle.iss_model.specs.declared.decision.Judged.TheVariants as judged
-use Rattle.iss_model.specs.Due.{DueItem, due_items, is_quiet}
-use Rattle.iss_model.specs.Keeper.{Growth}
-use Rattle.iss_model.specs.Stepping.{step, settle, after_due}
-use Rattle.iss_model.specs.Judging.{refusal, time_answer, is_ack, judged_as, judged_at, judge}
-use Rattle.iss_model.specs.Histories.{History, nothing_yet, time_of, history_facts, history_keeper, Follows, IsLegalAfter}
+use Rattle.iss_model.specs.Stepping.{step}
+use Rattle.iss_model.specs.Judging.{judge}
+use Rattle.iss_model.specs.Histories.{History, nothing_yet, history_keeper, Follows, IsLegalAfter}
 use Rattle.iss_model.specs.Sayings.{reaction_as, reaction}
 use Rattle.iss_model.specs.Transcripts.{Reading, sound, faulty, Text, at_level, said_text_at, transcript}
 use Rattle.iss_model.specs.Rooms.{Room, fits, judged_within, where_it_fits, record_made, room_left}
-use Rattle.iss_model.specs.Sessions.{Session, dry_session, outcome, judged_in, record_of_line, line_texts, session_after, accepted, transcript_of, RiseFrom}
-
--- a test that leads to one of two records
-told_or_clock : (b : Bool) (a : Answer) (c r : Record) → cond b (judged.Told a) (judged.Clock c) ≡ judged.New r → ⊥
-told_or_clock true a c r e = cc
-told_or_clock false a c r e = cc
-
-clock_if : (b : Bool) (a : Answer) (c r : Record) → cond b (judged.Told a) (judged.Clock c) ≡ judged.Clock r → (b ≡ false) × (c ≡ r)
-clock_if true a c r e = absurd cc
-clock_if false a c r e = (refl, cc)
-
--- an input that is new was not refused, and its record is itself
-as_new : (o : Option Answer) (quiet : Bool) (i : Input) (at : ℕ) (r : Record) → judged_as o quiet i at ≡ judged.New r
-    → (o ≡ None) × (record { at = at; input = i } ≡ r)
-as_new None quiet i at r e = (refl, cc)
-as_new (Some a) quiet i at r e = absurd (told_or_clock (quiet || is_ack i) a (record { at = at; input = input.Time }) r e)
-
--- a time record is made where something is due
-as_clock : (o : Option Answer) (quiet : Bool) (i : Input) (at : ℕ) (r : Record) → judged_as o quiet i at ≡ judged.Clock r
-    → (quiet ≡ false) × (record { at = at; input = input.Time } ≡ r)
-as_clock None quiet i at r e = absurd cc
-as_clock (Some a) true i at r e = absurd cc
-as_clock (Some a) false i at r e = (refl, (clock_if (is_ack i) a (record { at = at; input = input.Time }) r e).1)
+use Rattle.iss_model.proofs.Records.{step_records}
+use Rattle.iss_model.proofs.JudgedAgain.{new_at, clock_at, not_before, new_again, clock_again}
+use Rattle.iss_model.specs.Runs.{Run, dry_run, outcome, judged_in, record_of_line, line_texts, run_after, accepted, transcript_of, RiseFrom}
 
 -- the record of an input that is new follows on what stands
 new_follows : (h : History) (i : Input) (stamp : ℕ) (r : Record) → judge history_keeper h i stamp ≡ judged.New r → Follows h r
-unfolding judge
 new_follows h i stamp r e =
-    let at = max stamp (time_of h.records) in
-    let quiet = is_quiet (due_items (history_facts h) at) in
-    let after = history_facts (after_due history_keeper h at).world in
-    let p = as_new (refusal quiet (history_facts h) after i) quiet i at r e in
-    let same : max at (time_of h.records) ≡ at = max-eq_left (le-max_right stamp (time_of h.records)) in
-    let again : judge history_keeper h i at ≡ judged.New (record { at = at; input = i }) =
-    ap (judged_at history_keeper h i) same ∙ ap (λ o. judged_as o quiet i at) p.0 in
-    subst (Follows h) p.1 (record { stamp = le-max_right stamp (time_of h.records); is_new = again })
+    record { stamp = not_before history_keeper h stamp r.at (new_at history_keeper h i stamp r e); is_new = new_again history_keeper h i stamp r e }
 
 -- the time record before an answer follows on what stands
 clock_follows : (h : History) (i : Input) (stamp : ℕ) (r : Record) → judge history_keeper h i stamp ≡ judged.Clock r → Follows h r
-unfolding judge
 clock_follows h i stamp r e =
-    let at = max stamp (time_of h.records) in
-    let quiet = is_quiet (due_items (history_facts h) at) in
-    let after = history_facts (after_due history_keeper h at).world in
-    let p = as_clock (refusal quiet (history_facts h) after i) quiet i at r e in
-    let same : max at (time_of h.records) ≡ at = max-eq_left (le-max_right stamp (time_of h.records)) in
-    let again : judge history_keeper h input.Time at ≡ judged.New (record { at = at; input = input.Time }) =
-    ap (judged_at history_keeper h input.Time) same ∙ ap (λ q. judged_as (time_answer q) q input.Time at) p.0 in
-    subst (Follows h) p.1 (record { stamp = le-max_right stamp (time_of h.records); is_new = again })
+    record { stamp = not_before history_keeper h stamp r.at (clock_at history_keeper h i stamp r e); is_new = clock_again history_keeper h i stamp r e }
 
 -- what may follow a record that is made only where it fits
 fitting : (h : History) (i : Input) (stamp : ℕ) (fit : Bool) (a : Answer) (r : Record) (j : Judged) (rest : List Record) → record_made j ≡ Some r
@@ -95,12 +55,12 @@ judged_legal room h i stamp (judged.New r) rest e legal = fitting_in room h i st
 judged_legal room h i stamp (judged.Clock r) rest e legal = fitting_in room h i stamp r (judged.Clock r) rest refl refl (clock_follows h i stamp r e) legal
 judged_legal room h i stamp (judged.Told a) rest e legal = legal
 
-pub accepted_legal : (s : Session) (lines : List Reading) → IsLegalAfter s.history (accepted s lines)
+pub accepted_legal : (s : Run) (lines : List Reading) → IsLegalAfter s.history (accepted s lines)
 accepted_legal s [] = tt
 accepted_legal s (sound i at ∷ lines) =
     let stamp = unwrap_or at 0 in
-    judged_legal s.room s.history i stamp (judge history_keeper s.history i stamp) (accepted (outcome s (sound i at)).session lines) refl
-    (accepted_legal (outcome s (sound i at)).session lines)
+    judged_legal s.room s.history i stamp (judge history_keeper s.history i stamp) (accepted (outcome s (sound i at)).run lines) refl
+    (accepted_legal (outcome s (sound i at)).run lines)
 accepted_legal s (faulty text ∷ lines) = accepted_legal s lines
 
 -- ---- the history that a run leaves
@@ -110,11 +70,11 @@ reacted h i stamp (judged.New r) = refl
 reacted h i stamp (judged.Clock r) = refl
 reacted h i stamp (judged.Told a) = refl
 
-pub history_after : (s : Session) (lines : List Reading) → (session_after s lines).history ≡ fold (λ h r. (step history_keeper h r).world) s.history (accepted s lines)
+pub history_after : (s : Run) (lines : List Reading) → (run_after s lines).history ≡ fold (λ h r. (step history_keeper h r).world) s.history (accepted s lines)
 history_after s [] = refl
 history_after s (sound i at ∷ lines) =
     let made = option_to_list (record_of_line s (sound i at)) in
-    let s' = (outcome s (sound i at)).session in
+    let s' = (outcome s (sound i at)).run in
     history_after s' lines
     ∙ ap (λ h. fold (λ h r. (step history_keeper h r).world) h (accepted s' lines)) (reacted s.history i (unwrap_or at 0) (judged_in s i (unwrap_or at 0)))
     ∙ sym (fold-append (λ h r. (step history_keeper h r).world) s.history made (accepted s' lines))
@@ -122,11 +82,11 @@ history_after s (faulty text ∷ lines) = history_after s lines
 
 -- ---- one run after the other
 
-pub texts_then : (s : Session) (xs ys : List Reading) → line_texts s (xs ++ ys) ≡ line_texts s xs ++ line_texts (session_after s xs) ys
+pub texts_then : (s : Run) (xs ys : List Reading) → line_texts s (xs ++ ys) ≡ line_texts s xs ++ line_texts (run_after s xs) ys
 texts_then s [] ys = refl
 texts_then s (x ∷ xs) ys =
-    ap (λ (t : List Text). (outcome s x).texts ++ t) (texts_then (outcome s x).session xs ys)
-    ∙ sym (append_assoc (outcome s x).texts (line_texts (outcome s x).session xs) (line_texts (session_after (outcome s x).session xs) ys))
+    ap (λ (t : List Text). (outcome s x).texts ++ t) (texts_then (outcome s x).run xs ys)
+    ∙ sym (append_assoc (outcome s x).texts (line_texts (outcome s x).run xs) (line_texts (run_after (outcome s x).run xs) ys))
 
 -- ---- a dry run
 
@@ -139,7 +99,7 @@ no_room : (rs : List Record) (o : Option Record) → room_left None rs o ≡ Non
 no_room rs None = refl
 no_room rs (Some r) = refl
 
-abbrev dry_after : History → Session
+abbrev dry_after : History → Run
 dry_after h = record { instance = 0; room = None; history = h }
 
 -- what a line is told that was judged so
@@ -163,33 +123,22 @@ dry_lines h (sound i at ∷ lines) =
     ∙ ap (λ (t : List Text). line_said h i stamp j ++ t) (dry_lines (reaction_as h i stamp j).history lines)
 dry_lines h (faulty text ∷ lines) = ap (λ (t : List Text). (outcome (dry_after h) (faulty text)).texts ++ t) (dry_lines h lines)
 
-pub dry_run : (lines : List Reading) → transcript_of dry_session lines ≡ transcript nothing_yet lines
+pub dry_texts : (lines : List Reading) → transcript_of dry_run lines ≡ transcript nothing_yet lines
 unfolding transcript_of
-dry_run lines = dry_lines nothing_yet lines
+dry_texts lines = dry_lines nothing_yet lines
 
 -- ---- records and levels
-
-settled_records : (h : ℕ) (g : Growth History) (items : List DueItem) → (fold (settle history_keeper h) g items).world.records ≡ g.world.records
-settled_records at g [] = refl
-settled_records at g (item ∷ items) = settled_records at (settle history_keeper at g item) items
-
--- a step puts its record behind the others
-step_records : (h : History) (r : Record) → (step history_keeper h r).world.records ≡ h.records ++ r ∷ []
-unfolding step
-step_records h r =
-    let taken = history_keeper.take_up h r in
-    settled_records r.at (record { world = taken; entries = [] }) (due_items (history_facts taken) r.at)
 
 reacted_records : (h : History) (i : Input) (stamp : ℕ) (j : Judged) → (reaction_as h i stamp j).history.records ≡ h.records ++ option_to_list (record_made j)
 reacted_records h i stamp (judged.New r) = step_records h r
 reacted_records h i stamp (judged.Clock r) = step_records h r
 reacted_records h i stamp (judged.Told a) = sym (append-nil h.records)
 
-pub records_after : (s : Session) (lines : List Reading) → (session_after s lines).history.records ≡ s.history.records ++ accepted s lines
+pub records_after : (s : Run) (lines : List Reading) → (run_after s lines).history.records ≡ s.history.records ++ accepted s lines
 records_after s [] = sym (append-nil s.history.records)
 records_after s (sound i at ∷ lines) =
     let made = option_to_list (record_of_line s (sound i at)) in
-    let s' = (outcome s (sound i at)).session in
+    let s' = (outcome s (sound i at)).run in
     records_after s' lines
     ∙ ap (λ (rs : List Record). rs ++ accepted s' lines) (reacted_records s.history i (unwrap_or at 0) (judged_in s i (unwrap_or at 0)))
     ∙ append_assoc s.history.records made (accepted s' lines)
@@ -207,16 +156,16 @@ grown : (h : History) (i : Input) (stamp : ℕ) (j : Judged) → length h.record
 grown h i stamp j =
     rw (reacted_records h i stamp j) (omega (arith, length-append h.records (option_to_list (record_made j))))
 
-line_levels : (s : Session) (lines : List Reading) → RiseFrom (length s.history.records) (length (session_after s lines).history.records) (line_texts s lines)
+line_levels : (s : Run) (lines : List Reading) → RiseFrom (length s.history.records) (length (run_after s lines).history.records) (line_texts s lines)
 line_levels s [] = omega arith
 line_levels s (sound i at ∷ lines) =
-    let s' = (outcome s (sound i at)).session in
-    rise_at (length s.history.records) (length s'.history.records) (length (session_after s' lines).history.records) _ (line_texts s' lines)
+    let s' = (outcome s (sound i at)).run in
+    rise_at (length s.history.records) (length s'.history.records) (length (run_after s' lines).history.records) _ (line_texts s' lines)
     (grown s.history i (unwrap_or at 0) (judged_in s i (unwrap_or at 0))) (line_levels s' lines)
 line_levels s (faulty text ∷ lines) = (omega arith, line_levels s lines)
 
-pub levels : (s : Session) (lines : List Reading) → RiseFrom (length s.history.records) (length (session_after s lines).history.records) (transcript_of s lines)
+pub levels : (s : Run) (lines : List Reading) → RiseFrom (length s.history.records) (length (run_after s lines).history.records) (transcript_of s lines)
 unfolding transcript_of
 levels s lines =
     let n = length s.history.records in
-    rise_at n n (length (session_after s lines).history.records) _ (line_texts s lines) (omega arith) (line_levels s lines)
+    rise_at n n (length (run_after s lines).history.records) _ (line_texts s lines) (omega arith) (line_levels s lines)

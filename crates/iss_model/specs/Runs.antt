@@ -12,68 +12,68 @@ use Rattle.iss_model.specs.Transcripts.{Reading, sound, faulty, Text, at_level, 
 use Rattle.iss_model.specs.Rooms.{Room, judged_within, record_made, room_left}
 
 -- what stands in a run: the instance of its device, the room on it, and the history
-pub record Session : Type 0 where
+pub record Run : Type 0 where
   pub instance : ℕ
   pub room : Option Room
   pub history : History
 
 -- a dry run begins with nothing, and has no device
-abbrev pub dry_session : Session
-dry_session = record { instance = 0; room = None; history = nothing_yet }
+abbrev pub dry_run : Run
+dry_run = record { instance = 0; room = None; history = nothing_yet }
 
 -- what stands after a line, and the texts that it is told
 pub record Outcome : Type 0 where
-  pub session : Session
+  pub run : Run
   pub texts : List Text
 
 -- an input is judged at its stamp, and makes its record only where that fits
-abbrev pub judged_in : Session → Input → ℕ → Judged
+abbrev pub judged_in : Run → Input → ℕ → Judged
 judged_in s i stamp = judged_within s.room s.history.records (judge history_keeper s.history i stamp)
 
 -- what an input is told that was judged so
-abbrev pub outcome_as : Session → Input → ℕ → Judged → Outcome
+abbrev pub outcome_as : Run → Input → ℕ → Judged → Outcome
 outcome_as s i stamp j =
     let r = reaction_as s.history i stamp j in
     record {
-      session = record s { room = room_left s.room s.history.records (record_made j); history = r.history };
+      run = record s { room = room_left s.room s.history.records (record_made j); history = r.history };
       texts = at_level (length r.history.records) (map (said_text_at s.instance) r.said);
     }
 
 -- a line: its fault alone, or what its input is told
-abbrev pub outcome : Session → Reading → Outcome
+abbrev pub outcome : Run → Reading → Outcome
 outcome s (sound i at) = let stamp = unwrap_or at 0 in outcome_as s i stamp (judged_in s i stamp)
-outcome s (faulty text) = record { session = s; texts = at_level (length s.history.records) (text ∷ []) }
+outcome s (faulty text) = record { run = s; texts = at_level (length s.history.records) (text ∷ []) }
 
 -- the record that a line makes, where it makes one
-abbrev pub record_of_line : Session → Reading → Option Record
+abbrev pub record_of_line : Run → Reading → Option Record
 record_of_line s (sound i at) = record_made (judged_in s i (unwrap_or at 0))
 record_of_line s (faulty text) = None
 
 -- the texts of the lines, one after the other
-abbrev pub line_texts : Session → List Reading → List Text
+abbrev pub line_texts : Run → List Reading → List Text
 line_texts s [] = []
-line_texts s (line ∷ lines) = (outcome s line).texts ++ line_texts (outcome s line).session lines
+line_texts s (line ∷ lines) = (outcome s line).texts ++ line_texts (outcome s line).run lines
 
 -- what stands after the lines
-abbrev pub session_after : Session → List Reading → Session
-session_after s [] = s
-session_after s (line ∷ lines) = session_after (outcome s line).session lines
+abbrev pub run_after : Run → List Reading → Run
+run_after s [] = s
+run_after s (line ∷ lines) = run_after (outcome s line).run lines
 
 -- the records that the lines make
-abbrev pub accepted : Session → List Reading → List Record
+abbrev pub accepted : Run → List Reading → List Record
 accepted s [] = []
-accepted s (line ∷ lines) = option_to_list (record_of_line s line) ++ accepted (outcome s line).session lines
+accepted s (line ∷ lines) = option_to_list (record_of_line s line) ++ accepted (outcome s line).run lines
 
 -- what a run says before its first line: the requests of the calls that are asked, and then the notices that aren't acknowledged, each by number
 abbrev pub said_first : Facts → List Said
 said_first f = map (λ call. asked call.opened) (filter is_asked f.calls) ++ map noticed f.pending
 
 -- the texts with which a run begins
-abbrev pub first_texts : Session → List Text
+abbrev pub first_texts : Run → List Text
 first_texts s = at_level (length s.history.records) (map (said_text_at s.instance) (said_first (history_facts s.history)))
 
 -- all that a run is told to write
-unfoldable pub transcript_of : Session → List Reading → List Text
+unfoldable pub transcript_of : Run → List Reading → List Text
 transcript_of s lines = first_texts s ++ line_texts s lines
 
 -- these texts go out one after the other at levels that never fall, from one number of records up to another
