@@ -1,2 +1,3 @@
 pub mod Tolds
+pub mod Splices
 mod Memories
