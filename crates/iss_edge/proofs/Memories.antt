@@ -6,7 +6,6 @@ use Rattle.iss_edge.specs.declared.outside.Channel.{Channel}
 use Rattle.iss_edge.specs.declared.outside.Action.{Action}
 use Rattle.iss_edge.specs.declared.outside.Action.TheVariants.{Write, Emit}
 use Rattle.iss_edge.specs.Calls.{Takes, EmitsPart, WritesPart}
-use Rattle.iss_edge.specs.Disk.{spliced}
 use Rattle.iss_edge.proofs.Splices.{spliced_same}
 use Rattle.iss_edge.specs.Memory.{alone_on_input}
 

@@ -1,7 +1,8 @@
 -- Stretches of a run: what a stop may leave at each of their moments, beside what went out until then.
-use Rattle.std.specs.Prelude.{◌≡◌, ℕ, ◌≤◌, Bool, List, [], ◌∷◌, ◌++◌}
+use Rattle.std.specs.Prelude.{◌≡◌, ℕ, ◌≤◌, Bool, true, false, List, [], ◌∷◌, ◌++◌}
 use Rattle.iss_edge.specs.declared.outside.Action.{Action}
 use Rattle.iss_edge.specs.declared.outside.Action.TheVariants.{Write, Sync, Emit, Dial, Close}
+use Rattle.iss_edge.specs.World.{World}
 use Rattle.iss_edge.specs.Disk.{Disk, after_actions, IsAtRest, IsImage}
 
 -- an action, and for one that emits the level of its text: how many records must stand wherever a byte of it went out
@@ -62,3 +63,29 @@ StretchesJoin starts stands mids =
 abbrev pub StretchesGoOn : (starts stands mids ends : List ℕ → ℕ → Type 0) → Type 0
 StretchesGoOn starts stands mids ends =
     (j k l : ℕ) (a b : List Step) → GoesOn starts stands mids j k a → GoesOn mids stands ends k l b → GoesOn starts stands ends j l (a ++ b)
+
+-- neither a write nor a sync
+abbrev pub is_still : Action → Bool
+is_still (Write at bytes ok) = false
+is_still (Sync ok) = false
+is_still (Emit ch bytes ok) = true
+is_still (Dial ch) = true
+is_still (Close ch) = true
+
+-- none of these is a write or a sync
+abbrev pub AreStill : List Action → Type 0
+AreStill [] = Unit {0}
+AreStill (action ∷ actions) = (is_still action ≡ true) × AreStill actions
+
+-- what was done has neither a write nor a sync, and the device is the same
+pub record AddsStill (a b : World) : Type 0 where
+  pub device : b.device ≡ a.device
+  pub left : b.left ≡ a.left
+  pub added : List Action
+  pub grew : b.trace ≡ a.trace ++ added
+  pub still : AreStill added
+
+-- all of these actions, at one level
+abbrev pub leveled : ℕ → List Action → List Step
+leveled level [] = []
+leveled level (action ∷ actions) = record { action = action; level = level } ∷ leveled level actions
