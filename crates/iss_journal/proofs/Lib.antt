@@ -1,0 +1,4 @@
+mod Readings
+mod Records
+mod Gates
+mod Appends
