@@ -2,3 +2,4 @@ mod Readings
 mod Records
 mod Gates
 mod Appends
+mod Formats

@@ -11,10 +11,14 @@ use Rattle.iss_journal.specs.Region.{Region, ShowsClosed}
 abbrev pub whole_device : ℕ → ℕ → Region
 whole_device instance size = record { below = header instance; to = size; size = size }
 
+-- places 1 to 16 of a device with no records: the header without its first byte, and a closed end gate
+unfoldable pub tail_of : ℕ → List ℕ
+tail_of instance = signature ++ instance_bytes instance ++ 0 ∷ []
+
 -- Formatting makes place 0 closed, writes the rest of the header with an end gate of 0, and opens place 0.
 unfoldable pub format_puts : ℕ → List Put
 format_puts instance =
-    one_put 0 (0 ∷ []) ++ one_put 1 (signature ++ instance_bytes instance ++ 0 ∷ []) ++ one_put 0 (1 ∷ [])
+    one_put 0 (0 ∷ []) ++ one_put 1 (tail_of instance) ++ one_put 0 (1 ∷ [])
 
 -- Until a sync has succeeded the image differs from the start at place 0 alone. From then on it is not formatted, or has the
 -- instance and stands for no records, with an end gate of 0.

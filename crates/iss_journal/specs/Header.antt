@@ -40,3 +40,12 @@ ReadsInstance (Err Disk) a b = Unit {0}
 ReadsInstance (Err (BadRecord place)) a b = ⊥
 ReadsInstance (Err (Full free need)) a b = ⊥
 ReadsInstance (Err OutOfMemory) a b = ⊥
+
+-- a fault of the disk, or that the device is not formatted
+abbrev pub DiskOrUnformatted : {T : Type 0} → Result T JournalFault → Type 0
+DiskOrUnformatted (Ok value) = Unit {0}
+DiskOrUnformatted (Err Disk) = Unit {0}
+DiskOrUnformatted (Err NotFormatted) = Unit {0}
+DiskOrUnformatted (Err (BadRecord place)) = ⊥
+DiskOrUnformatted (Err (Full free need)) = ⊥
+DiskOrUnformatted (Err OutOfMemory) = ⊥

@@ -1,16 +1,25 @@
 //! The journal's end, where a record is added.
 
-ghost use Rattle.std.specs.Prelude.{◌≡◌, ◌+◌, ◌-◌, ◌<◌, ◌≤◌, ◌^◌, ◌∷◌, [], length, OnOk};
+ghost use Rattle.std.specs.Prelude.{◌≡◌, ◌+◌, ◌<◌, ◌≤◌, ◌^◌, length, OnOk, IfOk};
 ghost use Rattle.iss_edge.specs.World.{Told};
 ghost use Rattle.iss_edge.specs.Calls.{Same, HearsNothing};
 ghost use Rattle.iss_journal.specs.Place.{free_at};
-ghost use Rattle.iss_journal.specs.Answers.{DiskCause, FullByNeed, OnFull};
+ghost use Rattle.iss_journal.specs.Answers.{DiskCause, DiskAlone, FullByNeed, OnFull};
 ghost use Rattle.iss_journal.specs.Append.{AppendsGood, AppendsGoing};
+ghost use Rattle.iss_journal.specs.Header.{ReadsInstance, DiskOrUnformatted};
+ghost use Rattle.iss_journal.specs.Formatting.{Formats, FormatsGood};
 
 use crate::JournalFault;
-use crate::frame::{Frame, OPEN};
+use crate::frame::{CLOSED, Frame, OPEN};
+use crate::header::{instance_of, tail_of};
 use iss_edge::{Edge, put};
 use std::marker::Model;
+
+/// The fewest bytes that a device has: a header and an end gate.
+const LEAST: u64 = 17;
+
+/// The most bytes that a device has.
+const MOST: u64 = 1 << 32;
 
 /// A journal that can take more records: contracts see its end gate's place and the place where its region ends.
 #[derive(Debug, Drop)]
@@ -31,6 +40,52 @@ impl Model for Journal {
 }
 
 impl Journal {
+    /// Makes the device, of 17 to 2^32 bytes, one of this instance that stands for no records. Until one of its syncs has
+    /// succeeded, a stop leaves the device as it was but for its first byte. From then on it leaves a device that is not
+    /// formatted, or one of this instance that stands for no records.
+    #[tactic(auto, using(iss_edge::proofs::ToldPuts::hears_nothing))]
+    pub fn format<E: Edge>(edge: &mut E, instance: u64) -> Result<(), JournalFault>
+        requires least { 17 ≤ E.extent edge.old }
+        requires most { E.extent edge.old ≤ 2 ^ 32 }
+        requires small { instance < 2 ^ 48 }
+        ensures formatted { OnOk result (Told (Formats instance) (E.told edge.old) (E.told edge.new)) }
+        ensures moments { Told (FormatsGood instance) (E.told edge.old) (E.told edge.new) }
+        ensures alone { DiskAlone result }
+        ensures cause { DiskCause (E.faults edge.old) (E.faults edge.new) result }
+        ensures heard { Told HearsNothing (E.heard edge.old) (E.heard edge.new) }
+        ensures kept { E.extent edge.new ≡ E.extent edge.old }
+    {
+        let tail = tail_of(instance);
+        put(edge, 0, &[CLOSED])?;
+        put(edge, 1, &tail)?;
+        put(edge, 0, &[OPEN])?;
+        Ok(())
+    }
+
+    /// The instance of a formatted device.
+    #[tactic(auto, using(crate::proofs::Formats::instance_found, crate::proofs::Formats::instance_absent, crate::proofs::Formats::size_wrong))]
+    pub fn instance<E: Edge>(edge: &mut E) -> Result<u64, JournalFault>
+        ensures read { Told (ReadsInstance result) (E.told edge.old) (E.told edge.new) }
+        ensures same { Told Same (E.told edge.old) (E.told edge.new) }
+        ensures small { IfOk result (λ instance. instance < 2 ^ 48) }
+        ensures size { IfOk result (λ instance. (17 ≤ E.extent edge.old) × (E.extent edge.old ≤ 2 ^ 32)) }
+        ensures faults { DiskOrUnformatted result }
+        ensures cause { DiskCause (E.faults edge.old) (E.faults edge.new) result }
+        ensures heard { Told HearsNothing (E.heard edge.old) (E.heard edge.new) }
+        ensures kept { E.extent edge.new ≡ E.extent edge.old }
+    {
+        let size = edge.size();
+        if size < LEAST || MOST < size {
+            return Err(JournalFault::NotFormatted);
+        }
+        let mut header = [0; 16];
+        edge.read_at(0, &mut header)?;
+        match instance_of(header) {
+            Some(instance) => Ok(instance),
+            None => Err(JournalFault::NotFormatted),
+        }
+    }
+
     /// The journal whose end gate stands at this place, closed.
     pub(crate) fn at(gate: u64, to: u64) -> Journal
         requires { gate < to }
