@@ -3,3 +3,5 @@ mod Records
 mod Gates
 mod Appends
 mod Formats
+mod Scans
+mod Closings

@@ -8,13 +8,13 @@ use Rattle.iss_edge.specs.Stretches.{Step, actions_of, IsGood, GoesOn}
 use Rattle.iss_journal.specs.declared.fault.JournalFault.{JournalFault}
 use Rattle.iss_journal.specs.declared.fault.JournalFault.TheVariants.{Disk, NotFormatted, BadRecord, Full, OutOfMemory}
 use Rattle.iss_journal.specs.Place.{Place}
-use Rattle.iss_journal.specs.Region.{Region, IsBody, spelled, behind, front_of, Shows, ShowsClosed, LeavesBehind, ShowsFirmly, RestsFirst}
+use Rattle.iss_journal.specs.Region.{Region, IsBody, spelled, need_of, front_of, Shows, ShowsClosed, LeavesBehind, ShowsFirmly, RestsFirst}
 
 -- the gate is open, a body stands behind it, and behind that there is place for a gate within the region
 pub record RecordAt (place : Place) (body device : List ℕ) : Type 0 where
   pub is_body : IsBody body
-  pub room : place.gate + length (behind body) < place.to
-  pub there : drop place.gate device ≡ 1 ∷ (spelled body ++ drop (place.gate + length (behind body)) device)
+  pub room : place.gate + need_of body < place.to
+  pub there : drop place.gate device ≡ 1 ∷ (spelled body ++ drop (place.gate + need_of body) device)
 
 -- a length is wrong: it is 0, over 8192, or passes the region's end
 abbrev pub IsWrongLength : Place → ℕ → Type 0
@@ -41,8 +41,8 @@ abbrev pub MovesOn : Place → Place → Result (Option (List ℕ)) JournalFault
 MovesOn place now (Ok None) = now ≡ place
 MovesOn place now (Ok (Some body)) =
     IsBody body
-    × (place.gate + length (behind body) < place.to)
-    × (now ≡ record { gate = place.gate + length (behind body); to = place.to })
+    × (place.gate + need_of body < place.to)
+    × (now ≡ record { gate = place.gate + need_of body; to = place.to })
 MovesOn place now (Err (BadRecord at)) = (now ≡ place) × (at ≡ place.gate)
 MovesOn place now (Err Disk) = now ≡ place
 MovesOn place now (Err OutOfMemory) = now ≡ place
@@ -92,7 +92,9 @@ pub record ReadsGate (at gate : ℕ) (a b : World) : Type 0 where
   pub there : slice_index a.device at ≡ gate
   pub same : Same a b
 
--- this gate stands at this place, behind it this length in four bytes, and nothing of what is told has changed
-pub record ReadsHead (at gate length : ℕ) (a b : World) : Type 0 where
-  pub there : take 5 (drop at a.device) ≡ gate ∷ to_be_bytes w32 length
+-- This gate stands at this place, and behind it this length in four bytes, or 0 where there is no room for a record. Nothing of
+-- what is told has changed.
+pub record ReadsHead (place : Place) (gate n : ℕ) (a b : World) : Type 0 where
+  pub there : slice_index a.device place.gate ≡ gate
+  pub length_there : ((place.to ≤ place.gate + 5) × (n ≡ 0)) ⊎ (take 4 (drop (place.gate + 1) a.device) ≡ to_be_bytes w32 n)
   pub same : Same a b

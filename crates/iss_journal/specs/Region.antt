@@ -26,6 +26,10 @@ spelled body = to_be_bytes w32 (length body) ++ body
 abbrev pub behind : List ℕ → List ℕ
 behind body = spelled body ++ 0 ∷ []
 
+-- how many bytes a record takes behind the gate before it, with the closed gate that follows it
+abbrev pub need_of : List ℕ → ℕ
+need_of body = 5 + length body
+
 -- these records, each behind an open gate
 abbrev pub framed : List (List ℕ) → List ℕ
 framed [] = []

@@ -10,8 +10,10 @@ mod header;
 mod journal;
 mod laws;
 mod reads;
+mod scan;
 
 pub use fault::JournalFault;
 pub use frame::Frame;
 pub use journal::Journal;
 pub use laws::shows_once;
+pub use scan::Scan;
