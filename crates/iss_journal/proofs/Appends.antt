@@ -123,7 +123,8 @@ append_whole place frame a b within fits made =
           puts_go_on (RestsFirst region bodies) (StandsFirst region bodies) (RestsFirst region bodies) j (j + 1) (append_puts place.gate frame) steps (λ bytes start.
           subst (λ (f : List ℕ). Holds (λ n image. StandsUpTo (StandsFirst region bodies) j (j + 1) image) 0 bytes (append_puts place.gate f)) (sym is) (append_holds region bodies j body place comes bytes (fitting place frame body within fits is) start)) (λ bytes start.
           subst (λ (f : List ℕ). RestsFirst region bodies (after_puts bytes (append_puts place.gate f)) (j + 1)) (sym is) (append_ends region bodies j body place comes bytes (fitting place frame body within fits is) start)) all;
-      device = made.device;
+      shows = λ region bodies j body comes is start.
+          subst (λ (l : List ℕ). RestsFirst region bodies l (j + 1)) (sym made.device) (subst (λ (f : List ℕ). RestsFirst region bodies (after_puts a.device (append_puts place.gate f)) (j + 1)) (sym is) (append_ends region bodies j body place comes a.device (fitting place frame body within fits is) start));
     }
 
 silent_none : (i : ℕ) (steps : List Step) → actions_of steps ≡ [] → SentUpTo i steps

@@ -2,7 +2,7 @@
 use Rattle.std.specs.Prelude.{◌≡◌, ℕ, ◌+◌, List, [], ◌∷◌, ◌++◌, length, take}
 use Rattle.iss_edge.specs.declared.outside.Action.{Action}
 use Rattle.iss_edge.specs.World.{World}
-use Rattle.iss_edge.specs.Puts.{Put, one_put, after_puts}
+use Rattle.iss_edge.specs.Puts.{Put, one_put}
 use Rattle.iss_edge.specs.Stretches.{Step, actions_of, IsGood, GoesOn}
 use Rattle.iss_journal.specs.Place.{Place}
 use Rattle.iss_journal.specs.Region.{Region, IsBody, front_of, behind, RestsFirst, StandsFirst}
@@ -28,7 +28,8 @@ pub record AppendsGood (place : Place) (frame : List ℕ) (a b : World) : Type 0
       → ComesNext region bodies j body place → frame ≡ behind body → actions_of steps ≡ added
       → IsGood (RestsFirst region bodies) (StandsFirst region bodies) j (j + 1) steps
 
--- and the run may go on after them: the device is then at rest and shows the new record, with an end gate of 0
+-- And the run may go on after them: the device is then at rest and shows the new record, with an end gate of 0. So it does as it
+-- reads.
 pub record AppendsGoing (place : Place) (frame : List ℕ) (a b : World) : Type 0 where
   pub left : b.left ≡ a.left
   pub added : List Action
@@ -36,4 +37,6 @@ pub record AppendsGoing (place : Place) (frame : List ℕ) (a b : World) : Type 
   pub goes_on : (region : Region) (bodies : List (List ℕ)) (j : ℕ) (body : List ℕ) (steps : List Step)
       → ComesNext region bodies j body place → frame ≡ behind body → actions_of steps ≡ added
       → GoesOn (RestsFirst region bodies) (StandsFirst region bodies) (RestsFirst region bodies) j (j + 1) steps
-  pub device : b.device ≡ after_puts a.device (append_puts place.gate frame)
+  pub shows : (region : Region) (bodies : List (List ℕ)) (j : ℕ) (body : List ℕ)
+      → ComesNext region bodies j body place → frame ≡ behind body
+      → RestsFirst region bodies a.device j → RestsFirst region bodies b.device (j + 1)

@@ -22,10 +22,9 @@ pub(crate) fn header_of(instance: u64) -> [u8; 16]
 pub(crate) fn tail_of(instance: u64) -> [u8; 16]
     ensures { result ≡ tail_of instance }
 {
-    let [_, _, a, b, c, d, e, f] = instance.to_be_bytes();
-    [
-        b'I', b'S', b'S', b'1', 1, 0, 0, 0, 0, a, b, c, d, e, f, CLOSED,
-    ]
+    let mut tail = [CLOSED; 16];
+    tail[..15].copy_from_slice(&header_of(instance)[1..]);
+    tail
 }
 
 /// The instance whose header this is.

@@ -1,12 +1,13 @@
 //! The journal's end, where a record is added.
 
-ghost use Rattle.std.specs.Prelude.{◌≡◌, ◌+◌, ◌<◌, ◌≤◌, ◌^◌, length, OnOk, IfOk};
+ghost use Rattle.std.specs.Prelude.{◌≡◌, ◌+◌, ◌<◌, ◌≤◌, ◌^◌, length, OnOk, IfOk, IsErrOf};
 ghost use Rattle.iss_edge.specs.World.{Told};
 ghost use Rattle.iss_edge.specs.Calls.{Same, HearsNothing};
 ghost use Rattle.iss_journal.specs.Place.{free_at};
 ghost use Rattle.iss_journal.specs.Answers.{DiskCause, DiskAlone, FullByNeed, OnFull};
 ghost use Rattle.iss_journal.specs.Append.{AppendsGood, AppendsGoing};
-ghost use Rattle.iss_journal.specs.Header.{ReadsInstance, DiskOrUnformatted};
+ghost use Rattle.iss_journal.specs.Header.{IsSize, ReadsInstance, DiskOrUnformatted};
+ghost use Rattle.iss_journal.specs.declared.fault.JournalFault.TheVariants.{NotFormatted};
 ghost use Rattle.iss_journal.specs.Formatting.{Formats, FormatsGood};
 
 use crate::JournalFault;
@@ -68,7 +69,8 @@ impl Journal {
         ensures read { Told (ReadsInstance result) (E.told edge.old) (E.told edge.new) }
         ensures same { Told Same (E.told edge.old) (E.told edge.new) }
         ensures small { IfOk result (λ instance. instance < 2 ^ 48) }
-        ensures size { IfOk result (λ instance. (17 ≤ E.extent edge.old) × (E.extent edge.old ≤ 2 ^ 32)) }
+        ensures size { IfOk result (λ instance. IsSize (E.extent edge.old)) }
+        ensures no_size { (IsSize (E.extent edge.old) → ⊥) → IsErrOf result NotFormatted }
         ensures faults { DiskOrUnformatted result }
         ensures cause { DiskCause (E.faults edge.old) (E.faults edge.new) result }
         ensures heard { Told HearsNothing (E.heard edge.old) (E.heard edge.new) }
