@@ -181,6 +181,15 @@ still_goes_on starts stands j steps shows still sent =
       rest = λ d rest start. subst (λ (x : Disk). starts x.bytes j) (sym (still_after d (actions_of steps) still)) start;
     }
 
+silent_none : (i : ℕ) (steps : List Step) → actions_of steps ≡ [] → SentUpTo i steps
+silent_none i [] e = tt
+silent_none i (s ∷ steps) e = absurd cc
+
+-- no step at all
+pub none_goes_on : (starts stands : List ℕ → ℕ → Type 0) (j : ℕ) (steps : List Step) → ((bytes : List ℕ) → starts bytes j → stands bytes j) → actions_of steps ≡ [] → GoesOn starts stands starts j j steps
+none_goes_on starts stands j steps shows none =
+    still_goes_on starts stands j steps shows (subst (λ (l : List Action). AreStill l) (sym none) tt) (silent_none j steps none)
+
 -- a sync of a device at rest, also one that fails, changes nothing
 sync_image : (d : Disk) (ok : Bool) (image : List ℕ) → IsAtRest d → IsImage (after_action d (Sync ok)) image → image ≡ d.bytes
 sync_image d ok image rest is = rest_image (after_action d (Sync ok)) image (rests_synced d ok rest) is

@@ -9,11 +9,11 @@ use Rattle.iss_edge.specs.Stretches.{Step, actions_of, SentUpTo, StandsUpTo, IsG
 use Rattle.iss_edge.proofs.Tolds.{told_map, told_then, told_self}
 use Rattle.iss_edge.proofs.PutLemmas.{puts_then, part_more, part_then, part_all}
 use Rattle.iss_edge.proofs.PutStretches.{puts_good, puts_go_on}
-use Rattle.iss_edge.proofs.StretchLemmas.{still_goes_on, good_up}
+use Rattle.iss_edge.proofs.StretchLemmas.{none_goes_on, good_up}
 use Rattle.iss_journal.specs.Place.{Place, free_at}
 use Rattle.iss_journal.specs.Region.{Region, IsBody, behind, front_of, EndsWith, ShowsClosed, LeavesBehind, ShowsFirmly, RestsFirst, StandsFirst}
 use Rattle.iss_journal.specs.Append.{ComesNext, append_puts, AppendsGood, AppendsGoing}
-use Rattle.iss_journal.proofs.Gates.{splice_behind, splice_gate, gate_open, gate_shut}
+use Rattle.iss_journal.proofs.Gates.{splice_behind, splice_gate, gate_open, gate_shut, one_byte}
 
 module _ (region : Region) (bodies : List (List ℕ)) (j : ℕ) (body : List ℕ) (place : Place) (comes : ComesNext region bodies j body place) where
   -- the record stands whole behind its gate: it is shown, or left behind, or the gate is closed
@@ -41,12 +41,6 @@ module _ (region : Region) (bodies : List (List ℕ)) (j : ℕ) (body : List ℕ
             inr
             (body, gate_shut region (take j bodies) body (suc (suc gate)) rest image (λ one. omega (arith, one)) comes.is_body (omega (arith, room, comes.here, comes.to)) ends);
       }
-
-  -- the one byte of a torn gate
-  one_byte : (torn : List ℕ) → length torn ≡ 1 → (gate : ℕ) × (torn ≡ gate ∷ [])
-  one_byte [] e = absurd (omega (arith, e))
-  one_byte (gate ∷ []) e = (gate, refl)
-  one_byte (gate ∷ b ∷ more) e = absurd (omega (arith, e))
 
   stands_still : (image : List ℕ) → ShowsClosed region (take j bodies) image → StandsUpTo (StandsFirst region bodies) j (j + 1) image
   stands_still image closed =
@@ -104,9 +98,7 @@ fitting place frame body within fits is =
 pub append_part : (place : Place) (frame : List ℕ) (a b : World) → place.gate < place.to → length frame ≤ free_at place → PutsPart (append_puts place.gate frame) a b → AppendsGood place frame a b
 append_part place frame a b within fits part =
     record {
-      left = part.left;
-      added = part.actions;
-      grew = part.trace;
+      part = part;
       good = λ region bodies j body steps comes is all.
           puts_good (RestsFirst region bodies) (StandsFirst region bodies) j (j + 1) (append_puts place.gate frame) steps (λ bytes start.
           subst (λ (f : List ℕ). Holds (λ n image. StandsUpTo (StandsFirst region bodies) j (j + 1) image) 0 bytes (append_puts place.gate f)) (sym is) (append_holds region bodies j body place comes bytes (fitting place frame body within fits is) start)) (subst (λ (l : List Action). Ran (append_puts place.gate frame) l) (sym all) part.ran);
@@ -116,9 +108,7 @@ append_part place frame a b within fits part =
 pub append_whole : (place : Place) (frame : List ℕ) (a b : World) → place.gate < place.to → length frame ≤ free_at place → Puts (append_puts place.gate frame) a b → AppendsGoing place frame a b
 append_whole place frame a b within fits made =
     record {
-      left = made.left;
-      added = actions_of_puts (append_puts place.gate frame);
-      grew = made.trace;
+      made = made;
       goes_on = λ region bodies j body steps comes is all.
           puts_go_on (RestsFirst region bodies) (StandsFirst region bodies) (RestsFirst region bodies) j (j + 1) (append_puts place.gate frame) steps (λ bytes start.
           subst (λ (f : List ℕ). Holds (λ n image. StandsUpTo (StandsFirst region bodies) j (j + 1) image) 0 bytes (append_puts place.gate f)) (sym is) (append_holds region bodies j body place comes bytes (fitting place frame body within fits is) start)) (λ bytes start.
@@ -127,20 +117,14 @@ append_whole place frame a b within fits made =
           subst (λ (l : List ℕ). RestsFirst region bodies l (j + 1)) (sym made.device) (subst (λ (f : List ℕ). RestsFirst region bodies (after_puts a.device (append_puts place.gate f)) (j + 1)) (sym is) (append_ends region bodies j body place comes a.device (fitting place frame body within fits is) start));
     }
 
-silent_none : (i : ℕ) (steps : List Step) → actions_of steps ≡ [] → SentUpTo i steps
-silent_none i [] e = tt
-silent_none i (s ∷ steps) e = absurd cc
-
 -- nothing done at all
 pub append_none : (place : Place) (frame : List ℕ) (a : World) → AppendsGood place frame a a
 append_none place frame a =
     record {
-      left = refl;
-      added = [];
-      grew = sym (append-nil a.trace);
+      part = record { left = refl; actions = []; trace = sym (append-nil a.trace); ran = tt };
       good = λ region bodies j body steps comes is none.
           let still : GoesOn (RestsFirst region bodies) (StandsFirst region bodies) (RestsFirst region bodies) j j steps =
-          still_goes_on (RestsFirst region bodies) (StandsFirst region bodies) j steps (λ bytes start. inl start) (subst (λ (l : List Action). AreStill l) (sym none) tt) (silent_none j steps none) in
+          none_goes_on (RestsFirst region bodies) (StandsFirst region bodies) j steps (λ bytes start. inl start) none in
           good_up (RestsFirst region bodies) (StandsFirst region bodies) j j (j + 1) steps (omega arith) still.good;
     }
 

@@ -1,5 +1,5 @@
 -- What closing the end gate leaves at each of its moments.
-use Rattle.std.proofs.Common.{◌≡◌, ◌⊎◌, inl, inr, ℕ, zero, suc, ◌+◌, ◌<◌, ◌≤◌, List, [], ◌∷◌, ◌++◌, length, take, drop, get_or, set, Option, refl, sym, ap, ◌∙◌, subst, append_assoc, append-nil, add-one, arith}
+use Rattle.std.proofs.Common.{◌≡◌, ◌⊎◌, inl, inr, true, ℕ, zero, suc, ◌+◌, ◌<◌, ◌≤◌, List, [], ◌∷◌, ◌++◌, length, take, drop, get_or, set, Option, refl, sym, ap, ◌∙◌, subst, append_assoc, append-nil, add-one, arith}
 use Rattle.std.proofs.lemmas.List.{get_or_at, set_split, set-set, length-set}
 use Rattle.iss_edge.specs.declared.outside.Action.{Action}
 use Rattle.iss_edge.specs.World.{World, Told}
@@ -10,11 +10,11 @@ use Rattle.iss_edge.specs.Stretches.{Step, actions_of, SentUpTo, StandsUpTo, IsG
 use Rattle.iss_edge.proofs.Tolds.{told_map, told_then}
 use Rattle.iss_edge.proofs.PutLemmas.{part_all}
 use Rattle.iss_edge.proofs.PutStretches.{puts_good, puts_go_on}
-use Rattle.iss_edge.proofs.StretchLemmas.{still_goes_on}
+use Rattle.iss_edge.proofs.StretchLemmas.{none_goes_on}
 use Rattle.iss_journal.specs.Place.{Place}
 use Rattle.iss_journal.specs.Region.{Region, front_of, EndsWith, Shows, ShowsClosed, LeavesBehind, ShowsFirmly, RestsFirst}
 use Rattle.iss_journal.specs.Opening.{ReadsGate, OpensFirst, OpenedOrOneMore, IsEndGate, ClosesGood, ClosesGoing}
-use Rattle.iss_journal.proofs.Gates.{splice_gate}
+use Rattle.iss_journal.proofs.Gates.{splice_gate, one_byte}
 
 -- the byte at the end gate
 gate_byte : (region : Region) (bodies : List (List ℕ)) (gate : ℕ) (rest image : List ℕ) → EndsWith region bodies gate rest image → get_or image (length (front_of region bodies)) 0 ≡ gate
@@ -43,11 +43,6 @@ spliced_one at byte bytes lt =
     append_assoc (take at bytes) (byte ∷ []) (drop (at + 1) bytes)
     ∙ ap (λ (n : ℕ). take at bytes ++ byte ∷ drop n bytes) (add-one at)
     ∙ sym (set_split bytes at byte lt)
-
-one_byte : (torn : List ℕ) → length torn ≡ 1 → (byte : ℕ) × (torn ≡ byte ∷ [])
-one_byte [] e = absurd (omega (arith, e))
-one_byte (byte ∷ []) e = (byte, refl)
-one_byte (byte ∷ b ∷ more) e = absurd (omega (arith, e))
 
 module _ (region : Region) (bodies : List (List ℕ)) (j : ℕ) (place : Place) (is_end : IsEndGate region (take j bodies) place) (start : List ℕ) where
   here_is : place.gate ≡ length (front_of region (take j bodies))
@@ -125,30 +120,35 @@ module _ (region : Region) (bodies : List (List ℕ)) (j : ℕ) (place : Place) 
   closed_here none image opens =
       closed_by_byte region (take j bodies) image (ap (λ (n : ℕ). get_or image n 0) (sym here_is) ∙ ap (λ (l : List ℕ). get_or l place.gate 0) opens.same ∙ none) (shows_firm region (take j bodies) image opens.firm)
 
-silent_none : (i : ℕ) (steps : List Step) → actions_of steps ≡ [] → SentUpTo i steps
-silent_none i [] e = tt
-silent_none i (s ∷ steps) e = absurd cc
-
 still_none : (region : Region) (bodies : List (List ℕ)) (start : List ℕ) (j : ℕ) (steps : List Step) → actions_of steps ≡ [] → GoesOn (OpensFirst region bodies start) (OpenedOrOneMore region bodies start) (OpensFirst region bodies start) j j steps
 still_none region bodies start j steps none =
-    still_goes_on (OpensFirst region bodies start) (OpenedOrOneMore region bodies start) j steps (λ bytes opens. inl opens.firm) (subst (λ (l : List Action). AreStill l) (sym none) tt) (silent_none j steps none)
+    none_goes_on (OpensFirst region bodies start) (OpenedOrOneMore region bodies start) j steps (λ bytes opens. inl opens.firm) none
+
+abbrev unput : (place : Place) (a b : World) → Same a b → PutsPart (one_put place.gate (0 ∷ [])) a b
+unput place a b same =
+    record { left = same.left; actions = []; trace = same.trace ∙ sym (append-nil a.trace); ran = tt }
+
+abbrev put_behind : (place : Place) (a b c : World) → Same a b → PutsPart (one_put place.gate (0 ∷ [])) b c → PutsPart (one_put place.gate (0 ∷ [])) a c
+put_behind place a b c same part =
+    record {
+      left = part.left ∙ same.left;
+      actions = part.actions;
+      trace = part.trace ∙ ap (λ (l : List Action). l ++ part.actions) same.trace;
+      ran = part.ran;
+    }
 
 -- nothing was done
 close_none : (place : Place) (a b : World) → Same a b → ClosesGood place a b
 close_none place a b same =
     record {
-      left = same.left;
-      added = [];
-      grew = same.trace ∙ sym (append-nil a.trace);
+      part = unput place a b same;
       good = λ region bodies j steps is_end none. (still_none region bodies a.device j steps none).good;
     }
 
 close_here : (place : Place) (a b : World) → ReadsGate place.gate 0 a b → ClosesGoing place a b
 close_here place a b read =
     record {
-      left = read.same.left;
-      added = [];
-      grew = read.same.trace ∙ sym (append-nil a.trace);
+      part = unput place a b read.same;
       goes_on = λ region bodies j steps is_end none.
           let still = still_none region bodies a.device j steps none in
           record {
@@ -165,9 +165,7 @@ close_here place a b read =
 close_partly : (place : Place) (gate : ℕ) (a b c : World) → (gate ≡ 0 → ⊥) → ReadsGate place.gate gate a b → PutsPart (one_put place.gate (0 ∷ [])) b c → ClosesGood place a c
 close_partly place gate a b c other read part =
     record {
-      left = part.left ∙ read.same.left;
-      added = part.actions;
-      grew = part.trace ∙ ap (λ (l : List Action). l ++ part.actions) read.same.trace;
+      part = put_behind place a b c read.same part;
       good = λ region bodies j steps is_end all.
           puts_good (OpensFirst region bodies a.device) (OpenedOrOneMore region bodies a.device) j j (one_put place.gate (0 ∷ [])) steps (close_holds region bodies j place is_end a.device (λ none. other (sym read.there ∙ none))) (subst (λ (l : List Action). Ran (one_put place.gate (0 ∷ [])) l) (sym all) part.ran);
     }
@@ -176,9 +174,9 @@ close_partly place gate a b c other read part =
 close_wholly : (place : Place) (gate : ℕ) (a b c : World) → (gate ≡ 0 → ⊥) → ReadsGate place.gate gate a b → Puts (one_put place.gate (0 ∷ [])) b c → ClosesGoing place a c
 close_wholly place gate a b c other read made =
     record {
-      left = made.left ∙ read.same.left;
-      added = actions_of_puts (one_put place.gate (0 ∷ []));
-      grew = made.trace ∙ ap (λ (l : List Action). l ++ actions_of_puts (one_put place.gate (0 ∷ []))) read.same.trace;
+      part =
+          put_behind place a b c read.same
+          (record { left = made.left; actions = actions_of_puts (one_put place.gate (0 ∷ [])); trace = made.trace; ran = (true, refl, refl) });
       goes_on = λ region bodies j steps is_end all.
           puts_go_on (OpensFirst region bodies a.device) (OpenedOrOneMore region bodies a.device) (RestsFirst region bodies) j j (one_put place.gate (0 ∷ [])) steps (close_holds region bodies j place is_end a.device (λ none. other (sym read.there ∙ none))) (λ bytes opens.
           closed_now region bodies j place is_end a.device bytes (shows_firm region (take j bodies) bytes opens.firm)) all;

@@ -16,6 +16,7 @@ use Rattle.iss_journal.specs.declared.fault.JournalFault.TheVariants.{NotFormatt
 use Rattle.iss_journal.specs.Header.{signature, instance_bytes, header, IsSize, HasInstance, IsUnformatted, ReadsInstance}
 use Rattle.iss_journal.specs.Formatting.{whole_device, tail_of, format_puts, FormatLeaves, FormatsGood, Formats}
 use Rattle.iss_journal.specs.Region.{front_of, framed, EndsWith, ShowsClosed}
+use Rattle.iss_journal.proofs.Gates.{one_byte}
 
 -- a device whose first byte is another is not formatted
 first_byte : (instance first : ℕ) (rest : List ℕ) → take 16 (first ∷ rest) ≡ header instance → first ≡ 1
@@ -47,11 +48,6 @@ over_rest : (first : ℕ) (new rest : List ℕ) → spliced 1 new (first ∷ res
 over_rest first new rest =
     let next : 1 + length new ≡ suc (length new) = omega arith in
     ap (λ (n : ℕ). first ∷ (new ++ drop n (first ∷ rest))) next
-
-one_byte : (torn : List ℕ) → length torn ≡ 1 → (byte : ℕ) × (torn ≡ byte ∷ [])
-one_byte [] e = absurd (omega (arith, e))
-one_byte (byte ∷ []) e = (byte, refl)
-one_byte (byte ∷ b ∷ more) e = absurd (omega (arith, e))
 
 -- a header and an end gate of 0 show no records
 shows_none : (instance size : ℕ) (rest image : List ℕ) → length image ≡ size → 17 ≤ size → image ≡ 1 ∷ (tail_of instance ++ rest) → ShowsClosed (whole_device instance size) [] image
@@ -134,9 +130,7 @@ header_first instance rest =
 pub format_part : (instance : ℕ) (a b : World) → 17 ≤ length a.device → PutsPart (format_puts instance) a b → FormatsGood instance a b
 format_part instance a b least part =
     record {
-      left = part.left;
-      added = part.actions;
-      grew = part.trace;
+      part = part;
       each = λ d rest same before after cut image is.
           let ran : Ran (format_puts instance) before = ran_front (format_puts instance) before after (subst (λ (l : List Action). Ran (format_puts instance) l) cut part.ran) in
           put_moments (FormatLeaves instance a.device) 0 (format_puts instance) d before rest (subst (λ (l : List ℕ). Holds (FormatLeaves instance a.device) 0 l (format_puts instance)) (sym same) (format_holds instance a.device least)) ran image is;

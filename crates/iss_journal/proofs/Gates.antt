@@ -84,3 +84,9 @@ gate_shut region bodies body gate rest image shut is_body room ends =
             gate_open region bodies body rest (set image (length (front_of region bodies)) 1) is_body room (set_gate region bodies gate 1 (behind body ++ rest) image ends);
       };
     }
+
+-- the one byte of a list of length 1
+pub one_byte : (torn : List ℕ) → length torn ≡ 1 → (byte : ℕ) × (torn ≡ byte ∷ [])
+one_byte [] e = absurd (omega (arith, e))
+one_byte (byte ∷ []) e = (byte, refl)
+one_byte (byte ∷ b ∷ more) e = absurd (omega (arith, e))

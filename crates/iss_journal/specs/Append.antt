@@ -1,8 +1,7 @@
 -- What an append leaves at each of its moments.
 use Rattle.std.specs.Prelude.{◌≡◌, ℕ, ◌+◌, List, [], ◌∷◌, ◌++◌, length, take}
-use Rattle.iss_edge.specs.declared.outside.Action.{Action}
 use Rattle.iss_edge.specs.World.{World}
-use Rattle.iss_edge.specs.Puts.{Put, one_put}
+use Rattle.iss_edge.specs.Puts.{Put, one_put, actions_of_puts, Puts, PutsPart}
 use Rattle.iss_edge.specs.Stretches.{Step, actions_of, IsGood, GoesOn}
 use Rattle.iss_journal.specs.Place.{Place}
 use Rattle.iss_journal.specs.Region.{Region, IsBody, front_of, behind, RestsFirst, StandsFirst}
@@ -18,24 +17,20 @@ pub record ComesNext (region : Region) (bodies : List (List ℕ)) (j : ℕ) (bod
 unfoldable pub append_puts : ℕ → List ℕ → List Put
 append_puts gate frame = one_put (gate + 1) frame ++ one_put gate (1 ∷ [])
 
--- Actions were added that are good from j records to one more, where the journal holds j and the frame is that of the next one:
--- each image of each moment shows the old records or also the new one, firmly.
+-- These puts were made, or a front of their actions, and that is good from j records to one more, where the journal holds j and the
+-- frame is that of the next one: each image of each moment shows the old records or also the new one, firmly.
 pub record AppendsGood (place : Place) (frame : List ℕ) (a b : World) : Type 0 where
-  pub left : b.left ≡ a.left
-  pub added : List Action
-  pub grew : b.trace ≡ a.trace ++ added
+  pub part : PutsPart (append_puts place.gate frame) a b
   pub good : (region : Region) (bodies : List (List ℕ)) (j : ℕ) (body : List ℕ) (steps : List Step)
-      → ComesNext region bodies j body place → frame ≡ behind body → actions_of steps ≡ added
+      → ComesNext region bodies j body place → frame ≡ behind body → actions_of steps ≡ part.actions
       → IsGood (RestsFirst region bodies) (StandsFirst region bodies) j (j + 1) steps
 
--- And the run may go on after them: the device is then at rest and shows the new record, with an end gate of 0. So it does as it
--- reads.
+-- All of these puts were made, and the run may go on after them: the device is then at rest and shows the new record, with an end
+-- gate of 0. So it does as it reads.
 pub record AppendsGoing (place : Place) (frame : List ℕ) (a b : World) : Type 0 where
-  pub left : b.left ≡ a.left
-  pub added : List Action
-  pub grew : b.trace ≡ a.trace ++ added
+  pub made : Puts (append_puts place.gate frame) a b
   pub goes_on : (region : Region) (bodies : List (List ℕ)) (j : ℕ) (body : List ℕ) (steps : List Step)
-      → ComesNext region bodies j body place → frame ≡ behind body → actions_of steps ≡ added
+      → ComesNext region bodies j body place → frame ≡ behind body → actions_of steps ≡ actions_of_puts (append_puts place.gate frame)
       → GoesOn (RestsFirst region bodies) (StandsFirst region bodies) (RestsFirst region bodies) j (j + 1) steps
   pub shows : (region : Region) (bodies : List (List ℕ)) (j : ℕ) (body : List ℕ)
       → ComesNext region bodies j body place → frame ≡ behind body

@@ -3,7 +3,7 @@ use Rattle.std.specs.Prelude.{◌≡◌, ◌⊎◌, ℕ, zero, suc, List, [], �
 use Rattle.iss_edge.specs.declared.outside.Action.{Action}
 use Rattle.iss_edge.specs.World.{World}
 use Rattle.iss_edge.specs.Disk.{Disk, after_actions, IsAtRest, IsImage}
-use Rattle.iss_edge.specs.Puts.{Put, one_put, actions_of_puts, Puts, synced}
+use Rattle.iss_edge.specs.Puts.{Put, one_put, actions_of_puts, Puts, PutsPart, synced}
 use Rattle.iss_journal.specs.Header.{signature, instance_bytes, header, HasInstance, IsUnformatted}
 use Rattle.iss_journal.specs.Region.{Region, ShowsClosed}
 
@@ -27,12 +27,10 @@ FormatLeaves instance start zero image = drop 1 image ≡ drop 1 start
 FormatLeaves instance start (suc syncs) image =
     IsUnformatted image ⊎ ShowsClosed (whole_device instance (length start)) [] image
 
--- what each image of each moment of the added actions is, begun at rest
+-- these puts were made, or a front of their actions, and what each image of each of their moments is, begun at rest
 pub record FormatsGood (instance : ℕ) (a b : World) : Type 0 where
-  pub left : b.left ≡ a.left
-  pub added : List Action
-  pub grew : b.trace ≡ a.trace ++ added
-  pub each : (d : Disk) → IsAtRest d → d.bytes ≡ a.device → (before rest : List Action) → added ≡ before ++ rest
+  pub part : PutsPart (format_puts instance) a b
+  pub each : (d : Disk) → IsAtRest d → d.bytes ≡ a.device → (before rest : List Action) → part.actions ≡ before ++ rest
       → (image : List ℕ) → IsImage (after_actions d before) image → FormatLeaves instance a.device (synced 0 before) image
 
 -- the device has the instance and stands for no records, and once at rest a stop leaves just that

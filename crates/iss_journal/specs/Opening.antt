@@ -1,9 +1,9 @@
 -- What reading a journal finds, and what closing its end gate leaves.
 use Rattle.std.specs.Prelude.{◌≡◌, ◌⊎◌, ℕ, ◌+◌, ◌<◌, ◌≤◌, List, [], ◌∷◌, ◌++◌, length, take, drop, slice_index, Option, Some, None, Result, Ok, Err}
 use Rattle.std.specs.Int.{w32, to_be_bytes}
-use Rattle.iss_edge.specs.declared.outside.Action.{Action}
 use Rattle.iss_edge.specs.World.{World}
 use Rattle.iss_edge.specs.Calls.{Same}
+use Rattle.iss_edge.specs.Puts.{one_put, PutsPart}
 use Rattle.iss_edge.specs.Stretches.{Step, actions_of, IsGood, GoesOn}
 use Rattle.iss_journal.specs.declared.fault.JournalFault.{JournalFault}
 use Rattle.iss_journal.specs.declared.fault.JournalFault.TheVariants.{Disk, NotFormatted, BadRecord, Full, OutOfMemory}
@@ -65,24 +65,20 @@ pub record IsEndGate (region : Region) (bodies : List (List ℕ)) (place : Place
   pub here : length (front_of region bodies) ≡ place.gate
   pub to : region.to ≡ place.to
 
--- Actions were added that are good where the end gate of the first j records stands at this place: each image of each moment shows
--- them firmly, or also the record that was left behind.
+-- The end gate was made 0, or a part of that was done, or nothing, and that is good where the end gate of the first j records stands
+-- at this place: each image of each moment shows them firmly, or also the record that was left behind.
 pub record ClosesGood (place : Place) (a b : World) : Type 0 where
-  pub left : b.left ≡ a.left
-  pub added : List Action
-  pub grew : b.trace ≡ a.trace ++ added
+  pub part : PutsPart (one_put place.gate (0 ∷ [])) a b
   pub good : (region : Region) (bodies : List (List ℕ)) (j : ℕ) (steps : List Step)
-      → IsEndGate region (take j bodies) place → actions_of steps ≡ added
+      → IsEndGate region (take j bodies) place → actions_of steps ≡ part.actions
       → IsGood (OpensFirst region bodies a.device) (OpenedOrOneMore region bodies a.device) j j steps
 
--- And the run may go on after them: the device is then at rest and shows the same records, with an end gate of 0. So it does of
--- each list of records that it showed before, firmly or not.
+-- And the run may go on after that: the device is then at rest and shows the same records, with an end gate of 0. So it does, as it
+-- reads, of each list of records that it showed before, firmly or not.
 pub record ClosesGoing (place : Place) (a b : World) : Type 0 where
-  pub left : b.left ≡ a.left
-  pub added : List Action
-  pub grew : b.trace ≡ a.trace ++ added
+  pub part : PutsPart (one_put place.gate (0 ∷ [])) a b
   pub goes_on : (region : Region) (bodies : List (List ℕ)) (j : ℕ) (steps : List Step)
-      → IsEndGate region (take j bodies) place → actions_of steps ≡ added
+      → IsEndGate region (take j bodies) place → actions_of steps ≡ part.actions
       → GoesOn (OpensFirst region bodies a.device) (OpenedOrOneMore region bodies a.device) (RestsFirst region bodies) j j steps
   pub closed : (region : Region) (bodies : List (List ℕ))
       → IsEndGate region bodies place → Shows region bodies a.device → ShowsClosed region bodies b.device

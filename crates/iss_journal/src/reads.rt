@@ -43,7 +43,6 @@ pub(crate) fn read_head<E: Edge>(edge: &mut E, at: u64, to: u64) -> Result<Head,
     requires room { to ≤ E.extent edge.old }
     ensures read { IfOk result (λ head. Told
         (ReadsHead (record { gate = at; to = to }) head.gate head.length) (E.told edge.old) (E.told edge.new)) }
-    ensures short { IfOk result (λ head. to ≤ at + 5 → head.length ≡ 0) }
     ensures unchanged { OnErr result (Told Same (E.told edge.old) (E.told edge.new)) }
     ensures cause { HasCause (λ f. f.disk) (E.faults edge.old) (E.faults edge.new) result }
     ensures heard { Told HearsNothing (E.heard edge.old) (E.heard edge.new) }

@@ -63,6 +63,7 @@ impl Scan {
         ensures finds { Told (Finds self.old result) (E.told edge.old) (E.told edge.new) }
         ensures moves { MovesOn self.old self.new result }
         ensures within { self.new.gate < self.new.to }
+        ensures to { self.new.to ≡ self.old.to }
         ensures same { Told Same (E.told edge.old) (E.told edge.new) }
         ensures cause { DiskCause (E.faults edge.old) (E.faults edge.new) result }
         ensures heard { Told HearsNothing (E.heard edge.old) (E.heard edge.new) }
