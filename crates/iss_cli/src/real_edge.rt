@@ -22,6 +22,7 @@ pub struct RealEdge<R, W> {
 /// How often calls have failed so far, by kind.
 #[derive(Clone, Copy)]
 struct FaultCounts {
+    disk: u64,
     input: u64,
     output: u64,
 }
@@ -30,9 +31,10 @@ impl<R, W> RealEdge<R, W> {
     /// An outside on which nothing has failed yet.
     pub fn new(input: R, output: W) -> Self
         ensures streams { (result.input ≡ input) × (result.output ≡ output) }
-        ensures faults { (result.faults.input ≡ 0) × (result.faults.output ≡ 0) }
+        ensures faults { (result.faults.disk ≡ 0) × (result.faults.input ≡ 0) × (result.faults.output ≡ 0) }
     {
         let faults = FaultCounts {
+            disk: 0,
             input: 0,
             output: 0,
         };
@@ -55,6 +57,23 @@ impl<R: Read + Drop, W: Write + Drop> Edge for RealEdge<R, W> {
     ghost faults = { λ edge. faults_of edge.faults };
 
     ghost extent = { λ _. 0 };
+
+    // No command opens a device yet, so it is one of no bytes whose every call fails.
+    fn size(&self) -> u64 {
+        0
+    }
+
+    fn read_at(&mut self, _at: u64, _buf: &mut [u8]) -> Result<(), Failed> {
+        Err(count(&mut self.faults.disk))
+    }
+
+    fn write_at(&mut self, _at: u64, _bytes: &[u8]) -> Result<(), Failed> {
+        Err(count(&mut self.faults.disk))
+    }
+
+    fn sync(&mut self) -> Result<(), Failed> {
+        Err(count(&mut self.faults.disk))
+    }
 
     fn take(&mut self, _ch: Channel, buf: &mut [u8]) -> Result<usize, Failed>
         requires { 0 < length buf.old }
@@ -121,9 +140,15 @@ fn counted<T>(outcome: io::Result<T>, faults: &mut u64) -> Result<T, Failed>
 {
     match outcome {
         Ok(value) => Ok(value),
-        Err(_) => {
-            *faults = faults.saturating_add(1);
-            Err(Failed)
-        }
+        Err(_) => Err(count(faults)),
     }
+}
+
+/// Counts a call that failed.
+fn count(faults: &mut u64) -> Failed
+    ensures later { faults.old ≤ faults.new }
+    ensures rose { Rose faults.old faults.new }
+{
+    *faults = faults.saturating_add(1);
+    Failed
 }

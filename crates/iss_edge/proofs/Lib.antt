@@ -1,2 +1,8 @@
 pub mod Tolds
+pub mod Splices
+pub mod Images
+pub mod PutLemmas
+pub mod StretchLemmas
+pub mod PutStretches
+pub mod ToldPuts
 mod Memories

@@ -1,11 +1,12 @@
 -- Why the calls of an outside in memory do what is said of them.
-use Rattle.std.proofs.Common.{◌≡◌, ℕ, ◌+◌, ◌-◌, ◌<◌, min, Bool, false, cond, List, [], ◌∷◌, ◌++◌, length, take, drop, Result, Ok, Err, OnOk, OnErr, inl, inr, refl, sym, ap, ◌∙◌, eq-eqb, arith, length-drop, drop-drop}
+use Rattle.std.proofs.Common.{◌≡◌, ℕ, ◌+◌, ◌-◌, ◌<◌, ◌≤◌, min, Bool, false, cond, List, [], ◌∷◌, ◌++◌, length, take, drop, Result, Ok, Err, OnOk, OnErr, inl, inr, refl, sym, ap, ◌∙◌, eq-eqb, arith, length-drop, drop-drop}
 use Rattle.std.proofs.lemmas.Bool.{ne_eqb}
-use Rattle.std.proofs.lemmas.List.{take-append-drop, nil_from_length}
+use Rattle.std.proofs.lemmas.List.{take-append-drop, length-take-le, nil_from_length}
 use Rattle.iss_edge.specs.declared.outside.Channel.{Channel}
 use Rattle.iss_edge.specs.declared.outside.Action.{Action}
-use Rattle.iss_edge.specs.declared.outside.Action.TheVariants.{Emit}
-use Rattle.iss_edge.specs.Calls.{Takes, EmitsPart}
+use Rattle.iss_edge.specs.declared.outside.Action.TheVariants.{Write, Emit}
+use Rattle.iss_edge.specs.Calls.{Takes, EmitsPart, WritesPart}
+use Rattle.iss_edge.proofs.Splices.{spliced_same}
 use Rattle.iss_edge.specs.Memory.{alone_on_input}
 
 alone_on_input-here : (bytes : List ℕ) (ch : ℕ) → ch ≡ 0 → alone_on_input bytes ch ≡ bytes
@@ -62,3 +63,21 @@ memory_emits_part (Ok t) ch count bytes device left before now ok err =
     }
 memory_emits_part (Err e) ch count bytes device left before now ok err =
     record { device = refl; left = refl; trace = inl err }
+
+-- a failed write was noted and the device left as it was, or nothing was noted
+pub memory_writes_part : {T E : Type 0} (noted : Result T E) (at : ℕ) (bytes device : List ℕ) (left : ℕ → List ℕ) (before now : List Action) → at + length bytes ≤ length device → OnOk noted (now ≡ before ++ Write at bytes false ∷ []) → OnErr noted (now ≡ before) → WritesPart at bytes (record { device = device; left = left; trace = before }) (record { device = device; left = left; trace = now })
+memory_writes_part (Ok t) at bytes device left before now within ok err =
+    let room : length bytes ≤ length (drop at device) = omega (arith, length-drop at device) in
+    record {
+      left = refl;
+      how =
+          inr
+          (record {
+            torn = take (length bytes) (drop at device);
+            whole = length-take-le (length bytes) (drop at device) room;
+            device = sym (spliced_same at (length bytes) device room);
+            added = ok;
+          });
+    }
+memory_writes_part (Err e) at bytes device left before now within ok err =
+    record { left = refl; how = inl (record { device = refl; left = refl; trace = err }) }

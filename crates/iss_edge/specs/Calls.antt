@@ -1,17 +1,52 @@
-use Rattle.std.specs.Prelude.{◌≡◌, ℕ, ◌↔◌, ◌⊎◌, true, false, List, [], ◌∷◌, ◌++◌, Some, None, Result, Ok, Err, take}
+use Rattle.std.specs.Prelude.{◌≡◌, ℕ, ◌↔◌, ◌⊎◌, true, false, List, [], ◌∷◌, ◌++◌, Some, None, Result, Ok, Err, length, take, drop}
 use Rattle.iss_edge.specs.declared.outside.Channel.{Channel}
 use Rattle.iss_edge.specs.declared.outside.Failed.{Failed}
 use Rattle.iss_edge.specs.declared.outside.Action.{Action}
-use Rattle.iss_edge.specs.declared.outside.Action.TheVariants.{Emit}
+use Rattle.iss_edge.specs.declared.outside.Action.TheVariants.{Write, Sync, Emit}
 use Rattle.iss_edge.specs.declared.outside.Answered.{Answered}
 use Rattle.iss_edge.specs.declared.outside.Answered.TheVariants.{Took}
 use Rattle.iss_edge.specs.World.{World}
+use Rattle.iss_edge.specs.Disk.{spliced}
 
 -- nothing of what is told has changed
 pub record Same (a b : World) : Type 0 where
   pub device : b.device ≡ a.device
   pub left : b.left ≡ a.left
   pub trace : b.trace ≡ a.trace
+
+-- these are the device's bytes from this place on, and nothing of what is told has changed
+pub record Reads (at : ℕ) (bytes : List ℕ) (a b : World) : Type 0 where
+  pub bytes_there : bytes ≡ take (length bytes) (drop at a.device)
+  pub same : Same a b
+
+-- the bytes stand on the device from this place on by one action, and all else is the same
+pub record Writes (at : ℕ) (bytes : List ℕ) (a b : World) : Type 0 where
+  pub device : b.device ≡ spliced at bytes a.device
+  pub left : b.left ≡ a.left
+  pub trace : b.trace ≡ a.trace ++ Write at bytes true ∷ []
+
+-- one failed action was added, and any bytes stand where these were to stand
+pub record TearsWrite (at : ℕ) (bytes : List ℕ) (a b : World) : Type 0 where
+  pub torn : List ℕ
+  pub whole : length torn ≡ length bytes
+  pub device : b.device ≡ spliced at torn a.device
+  pub added : b.trace ≡ a.trace ++ Write at bytes false ∷ []
+
+-- the write failed: nothing was done, or a part of it was, and what is to come is the same
+pub record WritesPart (at : ℕ) (bytes : List ℕ) (a b : World) : Type 0 where
+  pub left : b.left ≡ a.left
+  pub how : Same a b ⊎ TearsWrite at bytes a b
+
+-- what was written was made to last by one action, and all else is the same
+pub record Syncs (a b : World) : Type 0 where
+  pub device : b.device ≡ a.device
+  pub left : b.left ≡ a.left
+  pub trace : b.trace ≡ a.trace ++ Sync true ∷ []
+
+-- the sync failed: nothing was done, or a failed action was added, and then what the device reads is open
+pub record SyncsPart (a b : World) : Type 0 where
+  pub left : b.left ≡ a.left
+  pub how : Same a b ⊎ (b.trace ≡ a.trace ++ Sync false ∷ [])
 
 -- the first `count` bytes of the buffer were the next of the channel, none exactly at its end, and all else is the same
 pub record Takes (ch : Channel) (count : ℕ) (buffer : List ℕ) (a b : World) : Type 0 where
@@ -39,6 +74,10 @@ pub record EmitsPart (ch : Channel) (bytes : List ℕ) (a b : World) : Type 0 wh
   pub device : b.device ≡ a.device
   pub left : b.left ≡ a.left
   pub trace : (b.trace ≡ a.trace) ⊎ SendsFront ch bytes a.trace b.trace
+
+-- the heard list is as before
+abbrev pub HearsNothing : List Answered → List Answered → Type 0
+HearsNothing before now = now ≡ before
 
 -- the heard list has one item more
 abbrev pub Hears : Answered → List Answered → List Answered → Type 0

@@ -10,6 +10,7 @@ abbrev pub told_while : {A : Type 0} → Bool → A → Option A
 told_while true x = Some x
 told_while false x = None
 
--- the counts where no call can fail but those on input and output
-abbrev pub stream_faults : ℕ → ℕ → Faults
-stream_faults input output = record { disk = 0; input = input; output = output; peer = 0; link = 0 }
+-- the counts where no call can fail but those on the device, on input and on output
+abbrev pub stream_faults : ℕ → ℕ → ℕ → Faults
+stream_faults disk input output =
+    record { disk = disk; input = input; output = output; peer = 0; link = 0 }

@@ -1,10 +1,10 @@
 //! The outside as a trait: what a call on it does, said by what an implementation tells.
 
-ghost use Rattle.std.specs.Prelude.{◌≡◌, ℕ, ◌<◌, ◌≤◌, List, Option, length, is_ok, IfOk, IfSome, OnOk, OnErr};
+ghost use Rattle.std.specs.Prelude.{◌≡◌, ℕ, ◌+◌, ◌<◌, ◌≤◌, List, Option, length, is_ok, IfOk, IfSome, OnOk, OnErr};
 ghost use Rattle.iss_edge.specs.declared.outside.Answered.{Answered};
 ghost use Rattle.iss_edge.specs.declared.outside.Answered.TheVariants.{Emitted};
 ghost use Rattle.iss_edge.specs.World.{World, Told, Faults, HasCause};
-ghost use Rattle.iss_edge.specs.Calls.{Same, Takes, Emits, EmitsPart, Hears, taken};
+ghost use Rattle.iss_edge.specs.Calls.{Same, Reads, Writes, WritesPart, Syncs, SyncsPart, Takes, Emits, EmitsPart, Hears, HearsNothing, taken};
 
 use crate::{Channel, Failed};
 
@@ -24,6 +24,38 @@ pub trait Edge {
 
     /// The device's length in bytes.
     ghost extent: { Self → ℕ };
+
+    /// The device's length in bytes, which no call changes.
+    fn size(&self) -> u64
+        ensures { result ≡ extent self.now };
+
+    /// Reads the device's bytes from this place on into `buf`. Where it fails, what `buf` holds is open.
+    fn read_at(&mut self, at: u64, buf: &mut [u8]) -> Result<(), Failed>
+        requires { at + length buf.old ≤ extent self.old }
+        ensures read { OnOk result (Told (Reads at buf.new) (told self.old) (told self.new)) }
+        ensures unchanged { OnErr result (Told Same (told self.old) (told self.new)) }
+        ensures cause { HasCause (λ f. f.disk) (faults self.old) (faults self.new) result }
+        ensures heard { Told HearsNothing (heard self.old) (heard self.new) }
+        ensures kept { extent self.new ≡ extent self.old };
+
+    /// Writes the bytes to the device from this place on. Until a sync succeeds, a stop may leave anything there, and
+    /// where the write fails, what stands there is open.
+    fn write_at(&mut self, at: u64, bytes: &[u8]) -> Result<(), Failed>
+        requires { at + length bytes.now ≤ extent self.old }
+        ensures written { OnOk result (Told (Writes at bytes.now) (told self.old) (told self.new)) }
+        ensures part { OnErr result
+            (Told (WritesPart at bytes.now) (told self.old) (told self.new)) }
+        ensures cause { HasCause (λ f. f.disk) (faults self.old) (faults self.new) result }
+        ensures heard { Told HearsNothing (heard self.old) (heard self.new) }
+        ensures kept { extent self.new ≡ extent self.old };
+
+    /// Makes all that was written last. Where it fails, a stop may still leave anything there.
+    fn sync(&mut self) -> Result<(), Failed>
+        ensures synced { OnOk result (Told Syncs (told self.old) (told self.new)) }
+        ensures part { OnErr result (Told SyncsPart (told self.old) (told self.new)) }
+        ensures cause { HasCause (λ f. f.disk) (faults self.old) (faults self.new) result }
+        ensures heard { Told HearsNothing (heard self.old) (heard self.new) }
+        ensures kept { extent self.new ≡ extent self.old };
 
     /// Takes the next bytes of channel 0 into the front of `buf`, which is not empty, and answers how many. It answers 0
     /// exactly at the end of the channel's bytes. Where it fails, it took none, and what `buf` holds is open.

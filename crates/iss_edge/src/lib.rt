@@ -2,11 +2,15 @@
 #![tactic(auto)]
 
 mod bytes;
+mod device;
 mod edge;
 mod memory;
 mod outside;
+#[cfg(test)]
+mod tests;
 
 pub use bytes::Bytes;
+pub use device::{Showing, put, stretches_join};
 pub use edge::Edge;
 pub use memory::MemoryEdge;
 pub use outside::{Action, Answered, Arrival, Channel, Failed, Script};

@@ -4,8 +4,9 @@ ghost use Rattle.std.specs.Prelude.{◌≡◌, ◌+◌, ◌-◌, ◌^◌, ◌≤
 ghost use Rattle.std.proofs.Common.{sym};
 ghost use Rattle.iss_edge.specs.World.{Told, Rose};
 ghost use Rattle.iss_edge.specs.Calls.{Hears};
+ghost use Rattle.iss_edge.specs.Disk.{spliced};
 ghost use Rattle.iss_edge.specs.Memory.{alone_on_input, told_while, stream_faults};
-ghost use Rattle.iss_edge.specs.declared.outside.Action.TheVariants.{Emit};
+ghost use Rattle.iss_edge.specs.declared.outside.Action.TheVariants.{Write, Sync, Emit};
 ghost use Rattle.iss_edge.specs.declared.outside.Answered.TheVariants.{Took, Emitted};
 
 use crate::{Action, Answered, Bytes, Channel, Edge, Failed, Script};
@@ -28,6 +29,7 @@ pub struct MemoryEdge {
     calls: u64,
     trace: Vec<Action>,
     heard: Heard,
+    disk_faults: u64,
     input_faults: u64,
     output_faults: u64,
     ghost within: { at ≤ vec_len input },
@@ -53,7 +55,7 @@ impl MemoryEdge {
         ensures told { IfOk result (λ m. ⟦<MemoryEdge as Edge>⟧.told m
             ≡ Some (record { device = device.items; left = alone_on_input input.items; trace = [] })) }
         ensures heard { IfOk result (λ m. ⟦<MemoryEdge as Edge>⟧.heard m ≡ Some []) }
-        ensures faults { IfOk result (λ m. ⟦<MemoryEdge as Edge>⟧.faults m ≡ stream_faults 0 0) }
+        ensures faults { IfOk result (λ m. ⟦<MemoryEdge as Edge>⟧.faults m ≡ stream_faults 0 0 0) }
         ensures extent { IfOk result (λ m. ⟦<MemoryEdge as Edge>⟧.extent m ≡ vec_len device) }
     {
         Ok(MemoryEdge {
@@ -69,6 +71,7 @@ impl MemoryEdge {
                 answers: Vec::new(alloc),
                 whole: true,
             },
+            disk_faults: 0,
             input_faults: 0,
             output_faults: 0,
         })
@@ -105,9 +108,41 @@ impl Edge for MemoryEdge {
 
     ghost heard = { λ m. told_while m.heard.whole m.heard.answers.items };
 
-    ghost faults = { λ m. stream_faults m.input_faults m.output_faults };
+    ghost faults = { λ m. stream_faults m.disk_faults m.input_faults m.output_faults };
 
     ghost extent = { λ m. vec_len m.device };
+
+    fn size(&self) -> u64 {
+        self.device.len() as u64
+    }
+
+    fn read_at(&mut self, at: u64, buf: &mut [u8]) -> Result<(), Failed> {
+        if fails_now(&mut self.calls, self.fails.as_slice()) {
+            return Err(count(&mut self.disk_faults));
+        }
+        copy_from(self.device.as_slice(), at as usize, buf);
+        Ok(())
+    }
+
+    fn write_at(&mut self, at: u64, bytes: &[u8]) -> Result<(), Failed> {
+        if fails_now(&mut self.calls, self.fails.as_slice()) {
+            let _ = note_write(self.alloc, &mut self.trace, at, bytes, false);
+            return Err(count(&mut self.disk_faults));
+        }
+        if note_write(self.alloc, &mut self.trace, at, bytes, true).is_err() {
+            return Err(count(&mut self.disk_faults));
+        }
+        copy_into(&mut self.device, at as usize, bytes);
+        Ok(())
+    }
+
+    fn sync(&mut self) -> Result<(), Failed> {
+        let ok = !fails_now(&mut self.calls, self.fails.as_slice());
+        if note_sync(&mut self.trace, ok).is_err() || !ok {
+            return Err(count(&mut self.disk_faults));
+        }
+        Ok(())
+    }
 
     fn take(&mut self, ch: Channel, buf: &mut [u8]) -> Result<usize, Failed> {
         if fails_now(&mut self.calls, self.fails.as_slice()) {
@@ -147,6 +182,48 @@ fn fails_now(calls: &mut u64, fails: &[u64]) -> bool
 {
     *calls = calls.saturating_add(1);
     fails.contains(calls)
+}
+
+/// Copies the device from this place on into the whole buffer.
+fn copy_from(device: &[u8], at: usize, buf: &mut [u8])
+    requires { at + length buf.old ≤ length device.now }
+    ensures { buf.new ≡ take (length buf.new) (drop at device.now) }
+{
+    buf.copy_from_slice(&device[at..at + buf.len()]);
+}
+
+/// Copies the bytes over the device from this place on.
+fn copy_into(device: &mut Vec<u8>, at: usize, bytes: &[u8])
+    requires { at + length bytes.now ≤ vec_len device.old }
+    ensures spliced { device.new.items ≡ spliced at bytes.now device.old.items }
+    ensures len { vec_len device.new ≡ vec_len device.old }
+{
+    device[at..at + bytes.len()].copy_from_slice(bytes);
+}
+
+/// Notes a write in the trace.
+fn note_write(
+    alloc: Global,
+    trace: &mut Vec<Action>,
+    at: u64,
+    bytes: &[u8],
+    ok: bool,
+) -> Result<(), AllocError>
+    ensures ok { OnOk result (trace.new.items ≡ trace.old.items ++ Write at bytes.now ok ∷ []) }
+    ensures err { OnErr result (trace.new.items ≡ trace.old.items) }
+{
+    let bytes = Bytes::from(Vec::from_slice(alloc, bytes)?);
+    trace.push(Action::Write { at, bytes, ok })?;
+    Ok(())
+}
+
+/// Notes a sync in the trace.
+fn note_sync(trace: &mut Vec<Action>, ok: bool) -> Result<(), AllocError>
+    ensures ok { OnOk result (trace.new.items ≡ trace.old.items ++ Sync ok ∷ []) }
+    ensures err { OnErr result (trace.new.items ≡ trace.old.items) }
+{
+    trace.push(Action::Sync { ok })?;
+    Ok(())
 }
 
 /// Copies the input from this place on into the front of the buffer, as much as fits, and answers how much.
@@ -233,18 +310,26 @@ fn send(
     Ok(())
 }
 
+/// Counts a call that failed.
+fn count(faults: &mut u64) -> Failed
+    ensures later { faults.old ≤ faults.new }
+    ensures counted { Rose faults.old faults.new }
+{
+    *faults = faults.saturating_add(1);
+    Failed
+}
+
 /// Counts a call that failed and notes its answer.
-fn fail(count: &mut u64, heard: &mut Heard, answer: Answered) -> Failed
-    ensures later { count.old ≤ count.new }
-    ensures counted { Rose count.old count.new }
+fn fail(faults: &mut u64, heard: &mut Heard, answer: Answered) -> Failed
+    ensures later { faults.old ≤ faults.new }
+    ensures counted { Rose faults.old faults.new }
     ensures heard { Told (Hears answer) (told_while heard.old.whole heard.old.answers.items)
         (told_while heard.new.whole heard.new.answers.items) }
 {
-    *count = count.saturating_add(1);
     if heard.answers.push(answer).is_err() {
         heard.whole = false;
     }
-    Failed
+    count(faults)
 }
 
 #[cfg(test)]

@@ -1,0 +1,96 @@
+-- What reading a journal finds, and what closing its end gate leaves.
+use Rattle.std.specs.Prelude.{◌≡◌, ◌⊎◌, ℕ, ◌+◌, ◌<◌, ◌≤◌, List, [], ◌∷◌, ◌++◌, length, take, drop, slice_index, Option, Some, None, Result, Ok, Err}
+use Rattle.std.specs.Int.{w32, to_be_bytes}
+use Rattle.iss_edge.specs.World.{World}
+use Rattle.iss_edge.specs.Calls.{Same}
+use Rattle.iss_edge.specs.Puts.{one_put, PutsPart}
+use Rattle.iss_edge.specs.Stretches.{Step, actions_of, IsGood, GoesOn}
+use Rattle.iss_journal.specs.declared.fault.JournalFault.{JournalFault}
+use Rattle.iss_journal.specs.declared.fault.JournalFault.TheVariants.{Disk, NotFormatted, BadRecord, Full, OutOfMemory}
+use Rattle.iss_journal.specs.Place.{Place}
+use Rattle.iss_journal.specs.Region.{Region, IsBody, spelled, need_of, front_of, Shows, ShowsClosed, LeavesBehind, ShowsFirmly, RestsFirst}
+
+-- the gate is open, a body stands behind it, and behind that there is place for a gate within the region
+pub record RecordAt (place : Place) (body device : List ℕ) : Type 0 where
+  pub is_body : IsBody body
+  pub room : place.gate + need_of body < place.to
+  pub there : drop place.gate device ≡ 1 ∷ (spelled body ++ drop (place.gate + need_of body) device)
+
+-- a length is wrong: it is 0, over 8192, or passes the region's end
+abbrev pub IsWrongLength : Place → ℕ → Type 0
+IsWrongLength place n = (n ≡ 0) ⊎ (8192 < n) ⊎ (place.to ≤ place.gate + 5 + n)
+
+-- the gate is open, and there is no place for a length and a gate behind it, or the length is wrong
+pub record BadAt (place : Place) (device : List ℕ) : Type 0 where
+  pub open_gate : slice_index device place.gate ≡ 1
+  pub why : (place.to ≤ place.gate + 5)
+      ⊎ ((n : ℕ) × (take 4 (drop (place.gate + 1) device) ≡ to_be_bytes w32 n) × IsWrongLength place n)
+
+-- the next record's body, nothing exactly at a gate that is not open, or a bad record exactly where its length is wrong
+abbrev pub Finds : Place → Result (Option (List ℕ)) JournalFault → World → World → Type 0
+Finds place (Ok None) a b = slice_index a.device place.gate ≡ 1 → ⊥
+Finds place (Ok (Some body)) a b = RecordAt place body a.device
+Finds place (Err (BadRecord at)) a b = BadAt place a.device
+Finds place (Err Disk) a b = Unit {0}
+Finds place (Err OutOfMemory) a b = Unit {0}
+Finds place (Err NotFormatted) a b = ⊥
+Finds place (Err (Full free need)) a b = ⊥
+
+-- A body moves the place on to the gate behind it, which is within the region; nothing else does. A bad record is named by its gate.
+abbrev pub MovesOn : Place → Place → Result (Option (List ℕ)) JournalFault → Type 0
+MovesOn place now (Ok None) = now ≡ place
+MovesOn place now (Ok (Some body)) =
+    IsBody body
+    × (place.gate + need_of body < place.to)
+    × (now ≡ record { gate = place.gate + need_of body; to = place.to })
+MovesOn place now (Err (BadRecord at)) = (now ≡ place) × (at ≡ place.gate)
+MovesOn place now (Err Disk) = now ≡ place
+MovesOn place now (Err OutOfMemory) = now ≡ place
+MovesOn place now (Err NotFormatted) = ⊥
+MovesOn place now (Err (Full free need)) = ⊥
+
+-- where an opening starts: this device, which shows the first i of these records firmly
+pub record OpensFirst (region : Region) (bodies : List (List ℕ)) (start image : List ℕ) (i : ℕ) : Type 0 where
+  pub same : image ≡ start
+  pub firm : ShowsFirmly region (take i bodies) image
+
+-- what a stop may leave within an opening: the first i of these records firmly, or also the one that was left behind at the start
+abbrev pub OpenedOrOneMore : Region → List (List ℕ) → List ℕ → List ℕ → ℕ → Type 0
+OpenedOrOneMore region bodies start image i =
+    ShowsFirmly region (take i bodies) image
+    ⊎ ((body : List ℕ) × LeavesBehind region (take i bodies) body start × ShowsClosed region (take i bodies ++ body ∷ []) image)
+
+-- the end gate of these records stands at this place
+pub record IsEndGate (region : Region) (bodies : List (List ℕ)) (place : Place) : Type 0 where
+  pub here : length (front_of region bodies) ≡ place.gate
+  pub to : region.to ≡ place.to
+
+-- The end gate was made 0, or a part of that was done, or nothing, and that is good where the end gate of the first j records stands
+-- at this place: each image of each moment shows them firmly, or also the record that was left behind.
+pub record ClosesGood (place : Place) (a b : World) : Type 0 where
+  pub part : PutsPart (one_put place.gate (0 ∷ [])) a b
+  pub good : (region : Region) (bodies : List (List ℕ)) (j : ℕ) (steps : List Step)
+      → IsEndGate region (take j bodies) place → actions_of steps ≡ part.actions
+      → IsGood (OpensFirst region bodies a.device) (OpenedOrOneMore region bodies a.device) j j steps
+
+-- And the run may go on after that: the device is then at rest and shows the same records, with an end gate of 0. So it does, as it
+-- reads, of each list of records that it showed before, firmly or not.
+pub record ClosesGoing (place : Place) (a b : World) : Type 0 where
+  pub part : PutsPart (one_put place.gate (0 ∷ [])) a b
+  pub goes_on : (region : Region) (bodies : List (List ℕ)) (j : ℕ) (steps : List Step)
+      → IsEndGate region (take j bodies) place → actions_of steps ≡ part.actions
+      → GoesOn (OpensFirst region bodies a.device) (OpenedOrOneMore region bodies a.device) (RestsFirst region bodies) j j steps
+  pub closed : (region : Region) (bodies : List (List ℕ))
+      → IsEndGate region bodies place → Shows region bodies a.device → ShowsClosed region bodies b.device
+
+-- this byte stands at this place, and nothing of what is told has changed
+pub record ReadsGate (at gate : ℕ) (a b : World) : Type 0 where
+  pub there : slice_index a.device at ≡ gate
+  pub same : Same a b
+
+-- This gate stands at this place, and behind it this length in four bytes, or 0 where there is no room for a record. Nothing of
+-- what is told has changed.
+pub record ReadsHead (place : Place) (gate n : ℕ) (a b : World) : Type 0 where
+  pub there : slice_index a.device place.gate ≡ gate
+  pub length_there : ((place.to ≤ place.gate + 5) × (n ≡ 0)) ⊎ (take 4 (drop (place.gate + 1) a.device) ≡ to_be_bytes w32 n)
+  pub same : Same a b

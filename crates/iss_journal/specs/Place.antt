@@ -1,0 +1,10 @@
+use Rattle.std.specs.Prelude.{ℕ, ◌-◌}
+
+-- a gate's place, and the place where the journal's region ends
+pub record Place : Type 0 where
+  pub gate : ℕ
+  pub to : ℕ
+
+-- how many bytes are left behind the gate
+abbrev pub free_at : Place → ℕ
+free_at place = place.to - 1 - place.gate

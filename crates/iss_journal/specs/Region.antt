@@ -1,0 +1,82 @@
+-- A journal on a region of a device: records behind gates, and what a device shows of them.
+use Rattle.std.specs.Prelude.{◌≡◌, ◌⊎◌, ℕ, ◌+◌, ◌<◌, ◌≤◌, List, [], ◌∷◌, ◌++◌, length, take, slice_set}
+use Rattle.std.specs.Int.{w32, to_be_bytes}
+
+-- where a journal stands: the bytes below it, the place where its region ends, and the size of the device
+pub record Region : Type 0 where
+  pub below : List ℕ
+  pub to : ℕ
+  pub size : ℕ
+
+-- a record's body has 1 to 8192 bytes
+pub record IsBody (body : List ℕ) : Type 0 where
+  pub some : 1 ≤ length body
+  pub most : length body ≤ 8192
+
+-- each of these is a record's body
+abbrev pub AreBodies : List (List ℕ) → Type 0
+AreBodies [] = Unit {0}
+AreBodies (body ∷ bodies) = IsBody body × AreBodies bodies
+
+-- a body behind its length in four bytes, the highest first
+abbrev pub spelled : List ℕ → List ℕ
+spelled body = to_be_bytes w32 (length body) ++ body
+
+-- what one write puts behind the end gate: a record's length and body, and a closed gate behind them
+abbrev pub behind : List ℕ → List ℕ
+behind body = spelled body ++ 0 ∷ []
+
+-- how many bytes a record takes behind the gate before it, with the closed gate that follows it
+abbrev pub need_of : List ℕ → ℕ
+need_of body = 5 + length body
+
+-- these records, each behind an open gate
+abbrev pub framed : List (List ℕ) → List ℕ
+framed [] = []
+framed (body ∷ bodies) = 1 ∷ (spelled body ++ framed bodies)
+
+-- all that stands before the gate behind these records
+abbrev pub front_of : Region → List (List ℕ) → List ℕ
+front_of region bodies = region.below ++ framed bodies
+
+-- The image is a device of the region's size, with these records, behind them this gate within the region, and then the rest.
+pub record EndsWith (region : Region) (bodies : List (List ℕ)) (gate : ℕ) (rest image : List ℕ) : Type 0 where
+  pub whole : length image ≡ region.size
+  pub inside : region.to ≤ region.size
+  pub sound : AreBodies bodies
+  pub within : length (front_of region bodies) < region.to
+  pub is : image ≡ front_of region bodies ++ gate ∷ rest
+
+-- the image shows these records: behind them stands a gate that is not open, and what follows it is not looked at
+pub record Shows (region : Region) (bodies : List (List ℕ)) (image : List ℕ) : Type 0 where
+  pub gate : ℕ
+  pub shut : gate ≡ 1 → ⊥
+  pub rest : List ℕ
+  pub ends : EndsWith region bodies gate rest image
+
+-- the image shows these records, with an end gate of 0
+pub record ShowsClosed (region : Region) (bodies : List (List ℕ)) (image : List ℕ) : Type 0 where
+  pub rest : List ℕ
+  pub ends : EndsWith region bodies 0 rest image
+
+-- The image shows these records, and this one is left behind: with the end gate made 1 it would show it too, with an end gate of 0.
+pub record LeavesBehind (region : Region) (bodies : List (List ℕ)) (body image : List ℕ) : Type 0 where
+  pub shows : Shows region bodies image
+  pub opened : ShowsClosed region (bodies ++ body ∷ []) (slice_set image (length (front_of region bodies)) 1)
+
+-- the image shows these records firmly: its end gate is 0, or one record is left behind
+abbrev pub ShowsFirmly : Region → List (List ℕ) → List ℕ → Type 0
+ShowsFirmly region bodies image =
+    ShowsClosed region bodies image ⊎ ((body : List ℕ) × LeavesBehind region bodies body image)
+
+-- a device shows at most one list of records
+abbrev pub ShowsOnce : Type 0
+ShowsOnce = (region : Region) (xs ys : List (List ℕ)) (image : List ℕ) → Shows region xs image → Shows region ys image → xs ≡ ys
+
+-- where a stretch of a run starts and ends: the first i of these records, with an end gate of 0
+abbrev pub RestsFirst : Region → List (List ℕ) → List ℕ → ℕ → Type 0
+RestsFirst region bodies image i = ShowsClosed region (take i bodies) image
+
+-- what a stop may leave within a stretch: the first i of these records, firmly
+abbrev pub StandsFirst : Region → List (List ℕ) → List ℕ → ℕ → Type 0
+StandsFirst region bodies image i = ShowsFirmly region (take i bodies) image

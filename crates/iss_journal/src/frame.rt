@@ -1,0 +1,49 @@
+//! What an append writes.
+
+ghost use Rattle.std.specs.Prelude.{◌≡◌, ◌≤◌, length, IfOk};
+ghost use Rattle.iss_journal.specs.Region.{behind};
+
+use std::alloc::{AllocError, Global};
+use std::marker::Model;
+
+/// A gate behind which no record stands.
+pub(crate) const CLOSED: u8 = 0;
+
+/// A gate behind which a record stands.
+pub(crate) const OPEN: u8 = 1;
+
+/// A record's body with its length before it, in four bytes with the highest first, and a closed gate behind it.
+#[derive(Debug, Drop)]
+pub struct Frame {
+    bytes: Vec<u8>,
+}
+
+impl Model for Frame {
+    ghost use Rattle.std.specs.Prelude.{List, ℕ};
+
+    ghost Value = { List ℕ };
+
+    ghost view = { λ f. f.bytes.items };
+}
+
+impl Frame {
+    /// The frame of a body of 1 to 8192 bytes.
+    pub fn of(alloc: Global, body: &[u8]) -> Result<Frame, AllocError>
+        requires some { 1 ≤ length body.now }
+        requires most { length body.now ≤ 8192 }
+        ensures { IfOk result (λ frame. frame ≡ behind body.now) }
+    {
+        let mut bytes = Vec::with_capacity(alloc, body.len() + 5)?;
+        bytes.extend_from_slice(&(body.len() as u32).to_be_bytes())?;
+        bytes.extend_from_slice(body)?;
+        bytes.push(CLOSED)?;
+        Ok(Frame { bytes })
+    }
+
+    /// All of the bytes.
+    pub(crate) fn as_slice(&self) -> &[u8]
+        ensures { result.now ≡ self.now }
+    {
+        self.bytes.as_slice()
+    }
+}

@@ -1,0 +1,19 @@
+//! A journal on a region of a device: records behind gates, of which a stop loses none that was acknowledged.
+//!
+//! A record stands behind a gate byte of 1, its body's length before it; a gate byte other than 1 ends the records. A record
+//! is written behind the end gate, and made to last before that gate is opened.
+#![tactic(auto)]
+
+mod fault;
+mod frame;
+mod header;
+mod journal;
+mod laws;
+mod reads;
+mod scan;
+
+pub use fault::JournalFault;
+pub use frame::Frame;
+pub use journal::Journal;
+pub use laws::shows_once;
+pub use scan::Scan;
