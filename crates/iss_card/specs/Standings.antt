@@ -1,5 +1,6 @@
 -- What a card stands for, and the reasons of refusals.
-use Rattle.std.specs.Prelude.{ℕ, List, Option, Some, None, Result, Ok, Err}
+use Rattle.std.specs.Prelude.{ℕ, Bool, true, false, List, Option, Some, None, is_some, Result, Ok, Err}
+use Rattle.std.specs.List.{list_all}
 use Rattle.iss_model.specs.declared.setting.User.{User}
 use Rattle.iss_model.specs.declared.setting.Card.{Card}
 use Rattle.iss_model.specs.declared.decision.Reason.{Reason}
@@ -24,6 +25,15 @@ standing_of users (Some card) = standing_with card (user_named card.user users)
 -- what the card of this name stands for
 abbrev pub standing_in : Cardholders → List ℕ → Standing
 standing_in c name = standing_of c.users (card_named name c.cards)
+
+-- no card is known
+abbrev pub is_unknown : Standing → Bool
+is_unknown Unknown = true
+is_unknown (Known user product card holder) = false
+
+-- the user of each card stands
+abbrev pub have_holders : List User → List Card → Bool
+have_holders users cards = list_all (λ card. is_some (user_named card.user users)) cards
 
 -- the reason that a fault gives; want of memory is none
 abbrev pub fault_reason : CardFault → Option Reason

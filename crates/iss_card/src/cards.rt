@@ -4,7 +4,7 @@ ghost use Rattle.iss_model.specs.declared.decision.Reason.TheVariants as reason;
 ghost use Rattle.iss_model.specs.Settings.{user_named, card_named};
 ghost use Rattle.iss_model.specs.Reasons.{first_reason, user_move_reason, card_move_reason};
 ghost use Rattle.iss_model.specs.Cores.{no_core, with_user, with_user_moved, with_card, with_card_moved};
-ghost use Rattle.iss_card.specs.Standings.{standing_in, reason_told};
+ghost use Rattle.iss_card.specs.Standings.{standing_in, is_unknown, reason_told};
 
 use crate::issued::Issued;
 use crate::moves::{card_may_move, first_card_state, user_may_move};
@@ -40,7 +40,12 @@ impl Model for Cards {
 
     ghost Value = { Cardholders };
 
+    ghost use Rattle.std.specs.Prelude.{IsTrue};
+    ghost use Rattle.iss_card.specs.Standings.{have_holders};
+
     ghost view = { λ cards. record { users = cards.users; cards = cards.issued } };
+
+    ghost invariant = { λ cards. IsTrue (have_holders cards.users cards.issued) };
 }
 
 impl Cards {
@@ -135,7 +140,8 @@ impl Cards {
 
     /// Whose card it is, of which product, and the states of both.
     pub fn standing(&self, card: &Token) -> Standing
-        ensures { result ≡ standing_in self.now card.now }
+        ensures value { result ≡ standing_in self.now card.now }
+        ensures unknown { is_unknown result ≡ is_none (card_named card.now self.now.cards) }
     {
         let Some(card) = self.issued.get(card) else {
             return Standing::Unknown;
