@@ -1,14 +1,14 @@
 -- What a tree with the places of names says of a list of things that have these names.
 use Rattle.std.proofs.Common.{◌≡◌, ℕ, zero, suc, ◌<◌, Bool, true, false, cond, List, [], ◌∷◌, ◌++◌, length, map, find, Option, Some, None, slice_get, get_or, set, BTreeMap, refl, sym, ap, ap₂, subst, ◌∙◌, arith}
 use Rattle.std.specs.BTreeMap.{get}
-use Rattle.std.specs.Cmp.Lexicographic.{slice_cmp, nat_list_eq_equiv}
+use Rattle.std.specs.Cmp.Lexicographic.{slice_cmp}
 use Rattle.std.specs.List.{AllByRecursion, IsDistinct}
 use Rattle.std.specs.Option.{option_map, option_and_then}
 use Rattle.std.specs.Ordering.{nat_cmp, is_eq}
 use Rattle.std.specs.Str.{bytes_eq}
 use Rattle.std.proofs.lemmas.Map.Text.{is_eq-slice_cmp}
 use Rattle.std.proofs.lemmas.Option.{slice_get-get_or, same_Some, none-some}
-use Rattle.iss_model.proofs.Names.{one_name, same_name, name-sym}
+use Rattle.iss_model.proofs.Names.{one_name, name-sym}
 use Rattle.iss_card.specs.Places.{place_of, IsIndexed}
 
 -- the place behind one more name
@@ -57,6 +57,7 @@ place-last q k (n ∷ ns) none = at (bytes_eq k n) (bytes_eq q n) refl refl (pla
     after : (b : Bool) (l : ℕ) (o : Option ℕ) → later (cond b (Some l) o) ≡ cond b (Some (suc l)) (later o)
     after true l o = refl
     after false l o = refl
+
     at : (b a : Bool) → bytes_eq k n ≡ b → bytes_eq q n ≡ a
         → (place_of k ns ≡ None → place_of q (ns ++ k ∷ []) ≡ cond (bytes_eq k q) (Some (length ns)) (place_of q ns))
         → place_of q ((n ∷ ns) ++ k ∷ []) ≡ cond (bytes_eq k q) (Some (length (n ∷ ns))) (place_of q (n ∷ ns))
@@ -149,6 +150,7 @@ module _ {A : Type 0} (nm : A → List ℕ) where
       shift : (o : Option ℕ) → option_and_then (λ i. slice_get xs i) o ≡ option_and_then (λ i. slice_get (x ∷ xs) i) (later o)
       shift None = refl
       shift (Some i) = refl
+
       at : (b : Bool) → bytes_eq name (nm x) ≡ b
           → named name xs ≡ option_and_then (λ i. slice_get xs i) (place_of name (map nm xs))
           → named name (x ∷ xs) ≡ option_and_then (λ i. slice_get (x ∷ xs) i) (place_of name (map nm (x ∷ xs)))

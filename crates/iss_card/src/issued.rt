@@ -4,7 +4,7 @@ ghost use Rattle.iss_model.specs.Settings.{card_named};
 ghost use Rattle.iss_model.specs.Cores.{card_after_move};
 
 use crate::name::Name;
-use iss_model::{Token, Card, CardState};
+use iss_model::{Card, CardState, Token};
 use std::alloc::{AllocError, Global};
 use std::collections::BTreeMap;
 use std::marker::Model;

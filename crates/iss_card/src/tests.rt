@@ -7,127 +7,141 @@ fn token(text: &str) -> Result<Token, Fail> {
     Ok(Token::new(text.as_bytes()).ok_or("no token")?)
 }
 
-/// The user `u1` with the card `c1`.
-fn one_card(alloc: Global, active: bool) -> Result<Cards, Fail> {
-    let mut cards = Cards::new(alloc);
-    cards.add_user(&token("u1")?).map_err(|_| "no user")?;
-    cards
-        .add_card(&token("c1")?, &token("u1")?, &token("default")?, active)
-        .map_err(|_| "no card")?;
-    Ok(cards)
-}
-
 /// The states of a card and of its user.
-fn states_of(cards: &Cards, card: &str) -> Result<Option<(CardState, UserState)>, Fail> {
-    Ok(match cards.standing(&token(card)?) {
+fn states_of(cards: &Cards, card: &Token) -> Option<(CardState, UserState)> {
+    match cards.standing(card) {
         Standing::Unknown => None,
         Standing::Known { card, holder, .. } => Some((card, holder)),
-    })
-}
-
-/// A card is suspended, is ended, and can't be taken up again; a card of nobody is refused.
-#[test]
-fn life_of_a_card(rt: HostRuntime) -> Result<(), Fail> {
-    let mut cards = one_card(rt.alloc(), true)?;
-    let c1 = token("c1")?;
-    assert_eq!(rt; states_of(&cards, "c1")?, Some((CardState::Active, UserState::Active)));
-    assert_eq!(rt; cards.move_card(&c1, CardState::Suspended), Ok(()));
-    assert_eq!(rt; states_of(&cards, "c1")?, Some((CardState::Suspended, UserState::Active)));
-    assert_eq!(rt; cards.move_card(&c1, CardState::Terminated), Ok(()));
-    assert_eq!(rt;
-        cards.move_card(&c1, CardState::Active),
-        Err(CardFault::MoveCard(CardState::Terminated, CardState::Active))
-    );
-    assert_eq!(rt; states_of(&cards, "c1")?, Some((CardState::Terminated, UserState::Active)));
-    let refused = cards.add_card(&token("c2")?, &token("u9")?, &token("default")?, true);
-    assert_eq!(rt; refused, Err(CardFault::UserUnknown));
-    assert_eq!(rt; states_of(&cards, "c2")?, None);
-    Ok(())
-}
-
-#[test]
-fn names_are_taken_once(rt: HostRuntime) -> Result<(), Fail> {
-    let mut cards = one_card(rt.alloc(), false)?;
-    let (c1, u1, nobody) = (token("c1")?, token("u1")?, token("nobody")?);
-    assert_eq!(rt; states_of(&cards, "c1")?, Some((CardState::Unactivated, UserState::Active)));
-    assert_eq!(rt; cards.add_user(&u1), Err(CardFault::Exists));
-    assert_eq!(rt; cards.add_card(&c1, &u1, &nobody, true), Err(CardFault::Exists));
-    assert_eq!(rt; cards.add_card(&c1, &nobody, &nobody, true), Err(CardFault::UserUnknown));
-    assert_eq!(rt; cards.move_user(&nobody, UserState::Closed), Err(CardFault::UserUnknown));
-    assert_eq!(rt; cards.move_card(&nobody, CardState::Active), Err(CardFault::CardUnknown));
-    assert_eq!(rt; cards.user(&u1), Some(UserState::Active));
-    assert_eq!(rt; cards.user(&nobody), None);
-    Ok(())
-}
-
-/// The card `c1` in this state.
-fn card_in(alloc: Global, state: CardState) -> Result<Cards, Fail> {
-    let mut cards = one_card(alloc, state != CardState::Unactivated)?;
-    if state == CardState::Suspended || state == CardState::Terminated {
-        cards
-            .move_card(&token("c1")?, state)
-            .map_err(|_| "not moved")?;
     }
+}
+
+/// A user with a card, both of this name.
+fn one_card(alloc: Global, name: &Token, active: bool) -> Result<Cards, CardFault> {
+    let mut cards = Cards::new(alloc);
+    cards.add_user(name)?;
+    cards.add_card(name, name, name, active)?;
     Ok(cards)
+}
+
+/// What a card in the first state answers to a move to the second, and its state then.
+fn card_moved(
+    alloc: Global,
+    name: &Token,
+    from: CardState,
+    to: CardState,
+) -> Result<(Result<(), CardFault>, Option<(CardState, UserState)>), CardFault> {
+    let mut cards = one_card(alloc, name, from != CardState::Unactivated)?;
+    match from {
+        CardState::Unactivated | CardState::Active => {}
+        CardState::Suspended | CardState::Terminated => cards.move_card(name, from)?,
+    }
+    let answer = cards.move_card(name, to);
+    Ok((answer, states_of(&cards, name)))
 }
 
 #[test]
 fn moves_of_cards(rt: HostRuntime) -> Result<(), Fail> {
+    let allowed = [
+        (CardState::Unactivated, CardState::Active),
+        (CardState::Unactivated, CardState::Terminated),
+        (CardState::Active, CardState::Suspended),
+        (CardState::Active, CardState::Terminated),
+        (CardState::Suspended, CardState::Active),
+        (CardState::Suspended, CardState::Terminated),
+    ];
     let states = [
         CardState::Unactivated,
         CardState::Active,
         CardState::Suspended,
         CardState::Terminated,
     ];
-    let table = [
-        (CardState::Unactivated, [false, true, false, true]),
-        (CardState::Active, [false, false, true, true]),
-        (CardState::Suspended, [false, true, false, true]),
-        (CardState::Terminated, [false, false, false, false]),
-    ];
-    for (from, row) in table {
-        for (to, may) in states.into_iter().zip(row) {
-            let mut cards = card_in(rt.alloc(), from)?;
-            let (moved, now) = if may {
-                (Ok(()), to)
+    let name = token("c1")?;
+    for from in states {
+        for to in states {
+            let wanted = if allowed.contains(&(from, to)) {
+                (Ok(()), Some((to, UserState::Active)))
             } else {
-                (Err(CardFault::MoveCard(from, to)), from)
+                let fault = CardFault::MoveCard(from, to);
+                (Err(fault), Some((from, UserState::Active)))
             };
-            assert_eq!(rt; cards.move_card(&token("c1")?, to), moved);
-            assert_eq!(rt; states_of(&cards, "c1")?, Some((now, UserState::Active)));
+            assert_eq!(rt; card_moved(rt.alloc(), &name, from, to)?, wanted);
         }
     }
     Ok(())
 }
 
+/// What a user in the first state answers to a move to the second, and its state then, as its card tells it.
+fn user_moved(
+    alloc: Global,
+    name: &Token,
+    from: UserState,
+    to: UserState,
+) -> Result<(Result<(), CardFault>, Option<(CardState, UserState)>), CardFault> {
+    let mut cards = one_card(alloc, name, true)?;
+    match from {
+        UserState::Active => {}
+        UserState::Suspended | UserState::Closed => cards.move_user(name, from)?,
+    }
+    let answer = cards.move_user(name, to);
+    Ok((answer, states_of(&cards, name)))
+}
+
 #[test]
 fn moves_of_users(rt: HostRuntime) -> Result<(), Fail> {
-    let states = [
-        UserState::Active,
-        UserState::Suspended,
-        UserState::Closed,
+    let allowed = [
+        (UserState::Active, UserState::Suspended),
+        (UserState::Active, UserState::Closed),
+        (UserState::Suspended, UserState::Active),
+        (UserState::Suspended, UserState::Closed),
     ];
-    let table = [
-        (UserState::Active, [false, true, true]),
-        (UserState::Suspended, [true, false, true]),
-        (UserState::Closed, [false, false, false]),
-    ];
-    let u1 = token("u1")?;
-    for (from, row) in table {
-        for (to, may) in states.into_iter().zip(row) {
-            let mut cards = one_card(rt.alloc(), true)?;
-            if from != UserState::Active {
-                assert_eq!(rt; cards.move_user(&u1, from), Ok(()));
-            }
-            let (moved, now) = if may {
-                (Ok(()), to)
+    let states = [UserState::Active, UserState::Suspended, UserState::Closed];
+    let name = token("u1")?;
+    for from in states {
+        for to in states {
+            let wanted = if allowed.contains(&(from, to)) {
+                (Ok(()), Some((CardState::Active, to)))
             } else {
-                (Err(CardFault::MoveUser(from, to)), from)
+                let fault = CardFault::MoveUser(from, to);
+                (Err(fault), Some((CardState::Active, from)))
             };
-            assert_eq!(rt; cards.move_user(&u1, to), moved);
-            assert_eq!(rt; cards.user(&u1), Some(now));
-            assert_eq!(rt; states_of(&cards, "c1")?, Some((CardState::Active, now)));
+            assert_eq!(rt; user_moved(rt.alloc(), &name, from, to)?, wanted);
         }
     }
+    Ok(())
+}
+
+/// What the calls answer in turn, where a user and its card have the first name and nobody has the second.
+fn answers(cards: &mut Cards, name: &Token, nobody: &Token) -> [Result<(), CardFault>; 8] {
+    [
+        cards.move_card(name, CardState::Suspended),
+        cards.move_card(name, CardState::Terminated),
+        cards.move_card(name, CardState::Active),
+        cards.move_card(nobody, CardState::Active),
+        cards.move_user(nobody, UserState::Closed),
+        cards.add_user(name),
+        cards.add_card(name, name, name, true),
+        cards.add_card(name, nobody, name, true),
+    ]
+}
+
+/// A card is suspended and ended, and can't be taken up again. Names are taken once, and nobody has no card.
+#[test]
+fn life_of_a_card(rt: HostRuntime) -> Result<(), Fail> {
+    let (name, nobody) = (token("c1")?, token("nobody")?);
+    let mut cards = one_card(rt.alloc(), &name, true)?;
+    let taken_up = CardFault::MoveCard(CardState::Terminated, CardState::Active);
+    let wanted = [
+        Ok(()),
+        Ok(()),
+        Err(taken_up),
+        Err(CardFault::CardUnknown),
+        Err(CardFault::UserUnknown),
+        Err(CardFault::Exists),
+        Err(CardFault::Exists),
+        Err(CardFault::UserUnknown),
+    ];
+    assert_eq!(rt; answers(&mut cards, &name, &nobody), wanted);
+    assert_eq!(rt; states_of(&cards, &nobody), None);
+    assert_eq!(rt; cards.user(&name), Some(UserState::Active));
     Ok(())
 }

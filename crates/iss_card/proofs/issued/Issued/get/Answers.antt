@@ -13,8 +13,8 @@ returns-in_err-place c =
 pub index-requires : goal.index-requires
 index-requires c =
     let below : c.in_ok-place.field-0.now < length c.self.inside.rows.items =
-        found-within (λ (card : Card). card.name) c.self.inside.places c.self.inside.rows.items c.args.name.now c.new.result c.self.invariant c.new.ensures
-        c.in_ok-place.field-0.now c.in_ok-place.ensures.value
+    found-within (λ (card : Card). card.name) c.self.inside.places c.self.inside.rows.items c.args.name.now c.new.result c.self.invariant c.new.ensures
+    c.in_ok-place.field-0.now c.in_ok-place.ensures.value
     in omega (arith, below, c.self.inside.rows.ok.0)
 
 pub returns : goal.returns

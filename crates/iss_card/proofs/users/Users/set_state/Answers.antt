@@ -13,8 +13,8 @@ returns-in_default c =
 pub index_mut-requires : goal.index_mut-requires
 index_mut-requires c =
     let below : c.in-Some.place < length c.self.inside.rows.items =
-        found-within (λ (user : User). user.name) c.self.inside.places c.self.inside.rows.items c.args.name.now c.new.result c.self.invariant c.new.ensures
-        c.in-Some.place (rw (← c.get.ensures.value) c.in-Some.ensures)
+    found-within (λ (user : User). user.name) c.self.inside.places c.self.inside.rows.items c.args.name.now c.new.result c.self.invariant c.new.ensures
+    c.in-Some.place (rw (← c.get.ensures.value) c.in-Some.ensures)
     in omega (arith, below, c.self.inside.rows.ok.0)
 
 pub invariant_of-self : goal.invariant_of-self
