@@ -1,0 +1,32 @@
+use Rattle.std.proofs.Common.{◌<◌, length, Some, None, refl, arith}
+use Rattle.iss_model.specs.declared.setting.User.{User}
+use Rattle.iss_card.proofs.Placed.{place-found, found-within, unplaced-changed, placed-changed, names-set, same_names}
+use Rattle.iss_card.proofs.users.Users.set_state.Goals as goal
+
+pub returns-in_default : goal.returns-in_default
+returns-in_default c =
+    rw (← c.self.view_is)
+    (unplaced-changed (λ (user : User). user.name) c.args.name.now (λ (user : User). record user { state = c.args.to }) c.self.inside.rows.items
+    (place-found (λ (user : User). user.name) c.self.inside.places c.self.inside.rows.items c.args.name.now c.new.result c.self.invariant c.new.ensures
+    None (rw (← c.get.ensures.value) c.in_default.ensures)))
+
+pub index_mut-requires : goal.index_mut-requires
+index_mut-requires c =
+    let below : c.in-Some.place < length c.self.inside.rows.items =
+    found-within (λ (user : User). user.name) c.self.inside.places c.self.inside.rows.items c.args.name.now c.new.result c.self.invariant c.new.ensures
+    c.in-Some.place (rw (← c.get.ensures.value) c.in-Some.ensures)
+    in omega (arith, below, c.self.inside.rows.ok.0)
+
+pub invariant_of-self : goal.invariant_of-self
+invariant_of-self c =
+    same_names c.self.inside.places _ _ c.self.invariant
+    (names-set (λ (user : User). user.name) c.self.inside.rows.items c.in-Some.place c.index_mut.result.now (record (c.index_mut.result.now) { state = c.args.to })
+    c.index_mut.ensures.value refl)
+
+pub returns : goal.returns
+returns c =
+    rw (← c.self.view_is)
+    (placed-changed (λ (user : User). user.name) c.args.name.now (λ (user : User). record user { state = c.args.to }) c.self.inside.rows.items c.in-Some.place c.index_mut.result.now
+    (place-found (λ (user : User). user.name) c.self.inside.places c.self.inside.rows.items c.args.name.now c.new.result c.self.invariant c.new.ensures
+    (Some c.in-Some.place) (rw (← c.get.ensures.value) c.in-Some.ensures))
+    c.self.invariant.apart c.index_mut.ensures.value)

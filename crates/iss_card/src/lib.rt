@@ -1,0 +1,14 @@
+//! Users and their cards: who stands, in which state, and which moves are allowed.
+#![tactic(auto)]
+
+mod cards;
+mod issued;
+mod moves;
+mod name;
+mod standing;
+#[cfg(test)]
+mod tests;
+mod users;
+
+pub use cards::{CardFault, Cards};
+pub use standing::Standing;
