@@ -3,7 +3,6 @@ ghost use Rattle.std.specs.Prelude.{◌≡◌, ◌++◌, ◌∷◌, [], None, ma
 ghost use Rattle.iss_model.specs.Settings.{card_named};
 ghost use Rattle.iss_model.specs.Cores.{card_after_move};
 
-use crate::name::Name;
 use iss_model::{Card, CardState, Token};
 use std::alloc::{AllocError, Global};
 use std::collections::BTreeMap;
@@ -14,7 +13,7 @@ use std::marker::Model;
 #[derive(Drop)]
 pub(crate) struct Issued {
     rows: Vec<Card>,
-    places: BTreeMap<Name, usize>,
+    places: BTreeMap<Token, usize>,
 }
 
 impl Model for Issued {
@@ -43,7 +42,7 @@ impl Issued {
     pub(crate) fn get(&self, name: &Token) -> Option<Card>
         ensures { result ≡ card_named name.now self.now }
     {
-        let place = *self.places.get(&Name::new(name))?;
+        let place = *self.places.get(name)?;
         Some(self.rows[place])
     }
 
@@ -53,7 +52,7 @@ impl Issued {
         ensures refused { OnErr result (self.new ≡ self.old) }
     {
         self.rows.reserve(1)?;
-        self.places.insert(Name::new(&card.name), self.rows.len())?;
+        self.places.insert(card.name, self.rows.len())?;
         self.rows.push(*card)?;
         Ok(())
     }
@@ -61,7 +60,7 @@ impl Issued {
     pub(crate) fn set_state(&mut self, name: &Token, to: CardState)
         ensures { self.new ≡ map (card_after_move name.now to) self.old }
     {
-        let Some(place) = self.places.get(&Name::new(name)).copied() else {
+        let Some(place) = self.places.get(name).copied() else {
             return;
         };
         self.rows[place].state = to;

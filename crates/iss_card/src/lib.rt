@@ -4,7 +4,6 @@
 mod cards;
 mod issued;
 mod moves;
-mod name;
 mod standing;
 #[cfg(test)]
 mod tests;

@@ -1,7 +1,6 @@
 //! Card products: those that stand, in the order in which they were made, and the switch of each.
 #![tactic(auto)]
 
-mod name;
 mod products;
 #[cfg(test)]
 mod tests;

@@ -6,7 +6,6 @@ ghost use Rattle.iss_model.specs.Reasons.{is_full};
 ghost use Rattle.iss_model.specs.Cores.{with_product, with_switch};
 ghost use Rattle.iss_product.specs.Listed.{products_in, switched_in};
 
-use crate::name::Name;
 use indexmap::IndexMap;
 use iss_model::{Currency, Funding, Product, Token};
 use std::alloc::{AllocError, Global};
@@ -37,7 +36,7 @@ struct Listed {
 /// A product is found by hashing its name. Names come from outside, but 256 of them bound what a look-up costs.
 #[derive(Drop)]
 pub struct Products {
-    by_name: IndexMap<Name, Listed>,
+    by_name: IndexMap<Token, Listed>,
 }
 
 impl Model for Products {
@@ -60,7 +59,7 @@ impl Products {
     {
         let mut by_name = IndexMap::new(alloc);
         let product = default_product();
-        by_name.insert(Name::new(&product.name), Listed { product, on: false })?;
+        by_name.insert(product.name, Listed { product, on: false })?;
         Ok(Products { by_name })
     }
 
@@ -88,7 +87,7 @@ impl Products {
         ensures known { result ≡ is_some (product_named name.now (products_in self.old)) }
         ensures turned { self.new ≡ with_switch self.old name.now on }
     {
-        let Some(listed) = self.by_name.get_mut(&Name::new(name)) else {
+        let Some(listed) = self.by_name.get_mut(name) else {
             return false;
         };
         listed.on = on;
@@ -99,7 +98,7 @@ impl Products {
     pub fn get(&self, name: &Token) -> Option<&Product>
         ensures { option_copied result ≡ product_named name.now (products_in self.now) }
     {
-        let listed = self.by_name.get(&Name::new(name))?;
+        let listed = self.by_name.get(name)?;
         Some(&listed.product)
     }
 
@@ -107,7 +106,7 @@ impl Products {
     pub fn switched(&self, name: &Token) -> bool
         ensures { result ≡ is_named_in (switched_in self.now) name.now }
     {
-        match self.by_name.get(&Name::new(name)) {
+        match self.by_name.get(name) {
             Some(listed) => listed.on,
             None => false,
         }
@@ -129,7 +128,7 @@ impl Products {
             product: *product,
             on: false,
         };
-        self.by_name.insert(Name::new(&product.name), listed)?;
+        self.by_name.insert(product.name, listed)?;
         Ok(())
     }
 }
