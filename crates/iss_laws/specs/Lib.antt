@@ -1,1 +1,9 @@
+pub mod Tests
 pub mod Balances
+pub mod Calls
+pub mod Events
+pub mod UserBalances
+pub mod Holds
+pub mod Approvals
+pub mod Uses
+pub mod Books

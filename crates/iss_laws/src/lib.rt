@@ -2,5 +2,7 @@
 #![tactic(auto)]
 
 mod balances;
+mod books;
 
 pub use balances::balances_add_up;
+pub use books::laws_of_worked_books;
