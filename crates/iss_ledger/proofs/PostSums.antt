@@ -1,0 +1,151 @@
+-- The balances after a post, in its two steps.
+use Rattle.std.proofs.Common.{◌≡◌, ℕ, ◌^◌, ℤ, pos, neg_ℤ, ◌+ℤ◌, ◌<◌, Bool, true, false, cond, List, refl, sym, ap, ap₂, ◌∙◌, subst, arith}
+use Rattle.std.proofs.lemmas.Int.{ints}
+use Rattle.std.specs.Prelude.{Result, Ok, Err, OnOk, OnErr, is_err, Option, unwrap_or}
+use Rattle.std.specs.Str.{bytes_eq}
+use Rattle.std.specs.Ordering.{nat_cmp}
+use Rattle.std.specs.Cmp.Lexicographic.{slice_cmp}
+use Rattle.std.specs.FinMap as map
+use Rattle.iss_model.specs.declared.account.Account.{Account}
+use Rattle.iss_model.specs.Sums.{Change, account_key}
+use Rattle.iss_model.specs.Kept.{Kept, nothing_kept, kept_at, after_change}
+use Rattle.iss_model.proofs.Names.{one_name, its_name}
+use Rattle.iss_model.proofs.KeptSums.{kept_at-after_change}
+use Rattle.iss_ledger.specs.Posts.{IsSmall, AreSmall, after_post, moved}
+use Rattle.iss_ledger.proofs.TreeSums.{put_twice, put_back}
+use Rattle.iss_ledger.specs.Trees.{with_sum}
+
+-- a change of a sum at a key
+abbrev pub by : List ℕ → ℤ → Change
+by key amount = record { key = key; by = amount }
+
+-- the sum at the key that a change names
+pub at_its_key : (m : Kept) (key : List ℕ) (a : ℤ) → kept_at (after_change m (by key a)) key ≡ kept_at m key +ℤ a
+at_its_key m key a = kept_at-after_change m (by key a) key ∙ ap (λ (b : Bool). kept_at m key +ℤ cond b a (pos 0)) (its_name key)
+
+-- two changes at one key put their sum
+pub changed_twice : (m : Kept) (key : List ℕ) (a b : ℤ) → after_change (after_change m (by key a)) (by key b) ≡ map.insert m key (kept_at m key +ℤ a +ℤ b)
+changed_twice m key a b =
+    put_twice m key (kept_at m key +ℤ a) (kept_at (after_change m (by key a)) key +ℤ b)
+    ∙ ap (λ (z : ℤ). map.insert m key (z +ℤ b)) (at_its_key m key a)
+
+there_and_back : (z a b : ℤ) → (z +ℤ a) +ℤ neg_ℤ a ≡ (z +ℤ b) +ℤ neg_ℤ b
+there_and_back z a b = omega (arith, ints)
+
+-- a post of one account to itself comes to one of nothing
+same_account : (m : Kept) (key : List ℕ) (a b : ℤ) → after_change (after_change m (by key a)) (by key (neg_ℤ a)) ≡ after_change (after_change m (by key b)) (by key (neg_ℤ b))
+same_account m key a b =
+    changed_twice m key a (neg_ℤ a) ∙ ap (λ (z : ℤ). map.insert m key z) (there_and_back (kept_at m key) a b) ∙ sym (changed_twice m key b (neg_ℤ b))
+
+two_steps : Kept → List ℕ → List ℕ → ℕ → Kept
+two_steps m from to amount = after_change (after_change m (by to (pos amount))) (by from (neg_ℤ (pos amount)))
+
+steps_by : (m : Kept) (from to : List ℕ) (amount : ℕ) (same : Bool) → bytes_eq from to ≡ same
+    → two_steps m from to (cond same 0 amount) ≡ two_steps m from to amount
+unfolding two_steps
+steps_by m from to amount true e =
+    ap (λ (k : List ℕ). after_change (after_change m (by to (pos 0))) (by k (neg_ℤ (pos 0)))) (one_name from to e)
+    ∙ same_account m to (pos 0) (pos amount)
+    ∙ ap (λ (k : List ℕ). after_change (after_change m (by to (pos amount))) (by k (neg_ℤ (pos amount)))) (sym (one_name from to e))
+steps_by m from to amount false e = refl
+
+-- a post in two steps
+pub in_steps : (m : Kept) (from to : Account) (amount : ℕ)
+    → after_change (after_change m (by (account_key to) (pos (moved from to amount)))) (by (account_key from) (neg_ℤ (pos (moved from to amount)))) ≡ after_post m from to amount
+unfolding two_steps
+in_steps m from to amount = steps_by m (account_key from) (account_key to) amount (bytes_eq (account_key from) (account_key to)) refl
+
+-- the sum after the second step is small
+pub second_small : (m : Kept) (from to : Account) (amount : ℕ) → AreSmall (after_post m from to amount)
+    → IsSmall (kept_at (after_change m (by (account_key to) (pos (moved from to amount)))) (account_key from) +ℤ neg_ℤ (pos (moved from to amount)))
+second_small m from to amount k =
+    subst (λ (z : ℤ). IsSmall z)
+    (ap (λ (sums : Kept). kept_at sums (account_key from)) (sym (in_steps m from to amount))
+    ∙ at_its_key (after_change m (by (account_key to) (pos (moved from to amount)))) (account_key from) (neg_ℤ (pos (moved from to amount))))
+    (k (account_key from))
+
+-- and so is the one after the first
+first_by : (m : Kept) (from to : List ℕ) (amount : ℕ) (same : Bool) → bytes_eq from to ≡ same
+    → IsSmall (kept_at m to) → IsSmall (kept_at (after_change (after_change m (by to (pos (cond same 0 amount)))) (by from (neg_ℤ (pos (cond same 0 amount))))) to)
+    → IsSmall (kept_at m to +ℤ pos (cond same 0 amount))
+first_by m from to amount true e h k = subst (λ (z : ℤ). IsSmall z) (omega (arith, ints)) h
+first_by m from to amount false e h k =
+    subst (λ (z : ℤ). IsSmall z)
+    (kept_at-after_change (after_change m (by to (pos amount))) (by from (neg_ℤ (pos amount))) to
+    ∙ ap (λ (b : Bool). kept_at (after_change m (by to (pos amount))) to +ℤ cond b (neg_ℤ (pos amount)) (pos 0)) e
+    ∙ nothing_more (kept_at (after_change m (by to (pos amount))) to)
+    ∙ at_its_key m to (pos amount))
+    k
+  where
+    nothing_more : (z : ℤ) → z +ℤ pos 0 ≡ z
+    nothing_more z = omega (arith, ints)
+
+pub first_small : (m : Kept) (from to : Account) (amount : ℕ) → AreSmall m → AreSmall (after_post m from to amount)
+    → IsSmall (kept_at m (account_key to) +ℤ pos (moved from to amount))
+first_small m from to amount h k =
+    first_by m (account_key from) (account_key to) amount (bytes_eq (account_key from) (account_key to)) refl (h (account_key to))
+    (subst (λ (sums : Kept). IsSmall (kept_at sums (account_key to))) (sym (in_steps m from to amount)) (k (account_key to)))
+
+-- a sum that is small before and after is changed by less than 2^63
+pub small_change : (before : ℤ) (amount : ℕ) → IsSmall before → IsSmall (before +ℤ pos amount) → amount < 2 ^ 63
+small_change before amount h k = omega (arith, ints)
+
+-- a small change fits 64 bits
+pub moved_fits : (m : Kept) (from to : Account) (amount : ℕ) → AreSmall m → AreSmall (after_post m from to amount) → moved from to amount < 2 ^ 63
+moved_fits m from to amount h k = small_change (kept_at m (account_key to)) (moved from to amount) (h (account_key to)) (first_small m from to amount h k)
+
+-- the same, where the keys, the amounts and the sums have other names
+module _ (m first : Kept) (from to : Account) (amount : ℕ) (debited credited : List ℕ) (less more : ℤ)
+    (to_is : credited ≡ account_key to) (from_is : debited ≡ account_key from)
+    (more_is : more ≡ pos (moved from to amount)) (less_is : less ≡ neg_ℤ (pos (moved from to amount)))
+    (first_is : first ≡ after_change m (by credited more)) where
+  first_named : first ≡ after_change m (by (account_key to) (pos (moved from to amount)))
+  first_named = first_is ∙ ap₂ (λ (k : List ℕ) (z : ℤ). after_change m (by k z)) to_is more_is
+
+  pub posted_so : (second : Kept) → second ≡ after_change first (by debited less) → second ≡ after_post m from to amount
+  posted_so second e =
+      e ∙ ap (λ (sums : Kept). after_change sums (by debited less)) first_named
+      ∙ ap₂ (λ (k : List ℕ) (z : ℤ). after_change (after_change m (by (account_key to) (pos (moved from to amount)))) (by k z)) from_is less_is
+      ∙ in_steps m from to amount
+
+  pub debit_small : AreSmall (after_post m from to amount) → IsSmall (kept_at first debited +ℤ less)
+  debit_small k =
+      subst (λ (z : ℤ). IsSmall z)
+      (sym (ap₂ (λ (sums : Kept) (z : ℤ). kept_at sums debited +ℤ z) first_named less_is
+      ∙ ap (λ (key : List ℕ). kept_at (after_change m (by (account_key to) (pos (moved from to amount)))) key +ℤ neg_ℤ (pos (moved from to amount))) from_is))
+      (second_small m from to amount k)
+
+pub credit_small : (m : Kept) (from to : Account) (amount : ℕ) (credited : List ℕ) (more : ℤ) → credited ≡ account_key to → more ≡ pos (moved from to amount)
+    → AreSmall m → AreSmall (after_post m from to amount) → IsSmall (kept_at m credited +ℤ more)
+credit_small m from to amount credited more to_is more_is h k =
+    subst (λ (z : ℤ). IsSmall z) (sym (ap₂ (λ (key : List ℕ) (z : ℤ). kept_at m key +ℤ z) to_is more_is)) (first_small m from to amount h k)
+
+-- what was put back after a first step
+pub undone : (m first second last : Kept) (key other : List ℕ) (more : ℤ) (before : Option ℤ) → first ≡ after_change m (by key more) → second ≡ first
+    → before ≡ map.get m key → other ≡ key → last ≡ with_sum second other before → last ≡ m
+undone m first second last key other more before e f g k h =
+    h ∙ ap (λ (sums : Kept). with_sum sums other before) (f ∙ e)
+    ∙ ap₂ (λ (q : List ℕ) (o : Option ℤ). with_sum (after_change m (by key more)) q o) k g
+    ∙ put_back m key (kept_at m key +ℤ more)
+
+pub on_err : {T E : Type 0} (r : Result T E) {P Q : Type 0} → (P → Q) → OnErr r P → OnErr r Q
+on_err (Ok x) f h = tt
+on_err (Err e) f h = f h
+
+pub on_ok : {T E : Type 0} (r : Result T E) {P Q : Type 0} → (P → Q) → OnOk r P → OnOk r Q
+on_ok (Ok x) f h = f h
+on_ok (Err e) f h = tt
+
+pub if_err : {T E : Type 0} (r : Result T E) {P : Type 0} → is_err r ≡ true → OnErr r P → P
+if_err (Ok x) t h = cc
+if_err (Err e) t h = h
+
+pub small_sums : (m n : Kept) → n ≡ m → AreSmall m → AreSmall n
+small_sums m n e h = λ key. subst (λ (sums : Kept). IsSmall (kept_at sums key)) (sym e) (h key)
+
+nothing_small : (key : List ℕ) → IsSmall (kept_at nothing_kept key)
+nothing_small key = subst (λ (z : ℤ). IsSmall z) (sym (ap (λ (o : Option ℤ). unwrap_or o (pos 0)) (map.get-empty (slice_cmp nat_cmp) key))) (record { low = omega (arith, ints); high = omega (arith, ints) })
+
+-- no sum is small
+pub none_small : (m : Kept) → m ≡ nothing_kept → AreSmall m
+none_small m e = small_sums nothing_kept m e nothing_small

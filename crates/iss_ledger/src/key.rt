@@ -1,0 +1,137 @@
+//! The order of accounts: by kind, then by the user's token, then by the number of the currency.
+ghost use Rattle.std.specs.Prelude.{◌≡◌, Some, refl, true};
+ghost use Rattle.std.specs.Ordering.{nat_cmp, as_partial_cmp};
+ghost use Rattle.std.specs.Cmp.Lexicographic.{slice_cmp, nat_list_cmp_total, nat_list_eq_equiv, texts_po, texts_ties};
+ghost use Rattle.std.specs.Cmp.{partial_equiv_from_equiv};
+ghost use Rattle.std.specs.Str.{bytes_eq};
+ghost use Rattle.std.specs.List.{list_all};
+ghost use Rattle.iss_model.specs.Sums.{account_key};
+ghost use Rattle.iss_model.specs.Currencies.{iso_number};
+ghost use Rattle.iss_ledger.specs.Keys.{kind_of, user_of, number_of, is_above_zero};
+
+use iss_model::{Account, Currency};
+use std::cmp::Ordering;
+use std::marker::Model;
+
+/// An account in its place among all accounts. Contracts see its key.
+#[derive(Drop)]
+pub(crate) struct AccountKey {
+    account: Account,
+}
+
+impl Model for AccountKey {
+    ghost use Rattle.std.specs.Prelude.{List, ℕ};
+    ghost use Rattle.iss_model.specs.Sums.{account_key};
+
+    ghost Value = { List ℕ };
+
+    ghost view = { λ k. account_key k.account };
+}
+
+impl AccountKey {
+    pub(crate) fn new(account: &Account) -> AccountKey
+        ensures { result ≡ account_key account.now }
+    {
+        AccountKey { account: *account }
+    }
+
+    pub(crate) fn account(&self) -> Account
+        ensures { account_key result ≡ self.now }
+    {
+        self.account
+    }
+}
+
+impl PartialEq for AccountKey {
+    ghost eq = { bytes_eq };
+
+    ghost laws = { partial_equiv_from_equiv nat_list_eq_equiv };
+
+    fn eq(&self, other: &AccountKey) -> bool {
+        self.cmp(other).is_eq()
+    }
+}
+
+impl Eq for AccountKey {
+    ghost laws = { nat_list_eq_equiv };
+}
+
+impl PartialOrd for AccountKey {
+    ghost partial_cmp = { as_partial_cmp (slice_cmp nat_cmp) };
+
+    ghost laws = { texts_po };
+
+    fn partial_cmp(&self, other: &AccountKey) -> Option<Ordering> {
+        Some(self.cmp(other))
+    }
+}
+
+impl Ord for AccountKey {
+    ghost cmp = { slice_cmp nat_cmp };
+
+    ghost total = { nat_list_cmp_total };
+
+    ghost matches_partial_cmp = { λ x y. refl };
+
+    ghost matches_eq = { texts_ties };
+
+    fn cmp(&self, other: &AccountKey) -> Ordering {
+        by_key(&self.account, &other.account)
+    }
+}
+
+#[tactic(auto, using(crate::proofs::KeyOrder::by_parts))]
+fn by_key(a: &Account, b: &Account) -> Ordering
+    ensures { result ≡ slice_cmp nat_cmp (account_key a.now) (account_key b.now) }
+{
+    let by_user = user(a).cmp(user(b));
+    let by_currency = currency(a).cmp(&currency(b));
+    kind(a).cmp(&kind(b)).then(by_user.then(by_currency))
+}
+
+fn kind(account: &Account) -> u8
+    ensures { result ≡ kind_of account.now }
+{
+    match account {
+        Account::Gateway(_) => 1,
+        Account::Network(_) => 2,
+        Account::Programme(_) => 3,
+        Account::User(_, _) => 4,
+    }
+}
+
+#[tactic(auto, using(crate::proofs::KeyOrder::token_above))]
+fn user(account: &Account) -> &[u8]
+    ensures value { result.now ≡ user_of account.now }
+    ensures plain { list_all is_above_zero result.now ≡ true }
+{
+    match account {
+        Account::User(token, _) => token.text(),
+        Account::Gateway(_) | Account::Network(_) | Account::Programme(_) => &[],
+    }
+}
+
+fn currency(account: &Account) -> u16
+    ensures { result ≡ number_of account.now }
+{
+    match account {
+        Account::User(_, currency)
+        | Account::Gateway(currency)
+        | Account::Network(currency)
+        | Account::Programme(currency) => number(*currency),
+    }
+}
+
+fn number(currency: Currency) -> u16
+    ensures { result ≡ iso_number currency }
+{
+    match currency {
+        Currency::Usd => 840,
+        Currency::Eur => 978,
+        Currency::Gbp => 826,
+        Currency::Cad => 124,
+        Currency::Aud => 36,
+        Currency::Jpy => 392,
+        Currency::Kwd => 414,
+    }
+}

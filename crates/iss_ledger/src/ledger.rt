@@ -1,0 +1,75 @@
+//! The balances of all accounts.
+ghost use Rattle.std.specs.Prelude.{◌≡◌, map, IfOk, OnOk, OnErr};
+ghost use Rattle.std.specs.FinMap as finite;
+ghost use Rattle.iss_model.specs.Sums.{account_key};
+ghost use Rattle.iss_model.specs.Kept.{nothing_kept, kept_at};
+ghost use Rattle.iss_ledger.specs.Posts.{AreSmall, after_post};
+
+use crate::key::AccountKey;
+use crate::sums::{post, sum_at};
+use iss_model::Account;
+use std::alloc::{AllocError, Global};
+use std::collections::BTreeMap;
+use std::marker::Model;
+
+/// What each account has that a post was made from or to. Contracts see the balances by the account's key.
+#[derive(Drop)]
+pub struct Ledger {
+    balances: BTreeMap<AccountKey, i64>,
+}
+
+impl Model for Ledger {
+    ghost use Rattle.std.specs.FinMap as finite;
+    ghost use Rattle.std.specs.Coded.{coded_ℕ, coded_ℤ, coded_list};
+    ghost use Rattle.iss_model.specs.Kept.{Kept};
+    ghost use Rattle.iss_ledger.specs.Trees.{kept_in, IsInOrder};
+    ghost use Rattle.iss_ledger.specs.Posts.{AreSmall};
+
+    ghost Value = { Kept };
+
+    ghost coded = { finite.code (coded_list coded_ℕ) coded_ℤ };
+
+    ghost view = { λ l. kept_in l.balances };
+
+    ghost invariant = { λ l. IsInOrder l.balances × AreSmall (kept_in l.balances) };
+}
+
+impl Ledger {
+    /// The ledger without a post.
+    pub fn new(alloc: Global) -> Result<Ledger, AllocError>
+        ensures { IfOk result (λ l. l ≡ nothing_kept) }
+    {
+        Ok(Ledger {
+            balances: BTreeMap::new(alloc),
+        })
+    }
+
+    /// Moves an amount of minor units from one account to another. Where memory is wanted all stays as it was.
+    pub fn post(&mut self, from: &Account, to: &Account, amount: u64) -> Result<(), AllocError>
+        requires { AreSmall (after_post self.old from.now to.now amount) }
+        ensures posted { OnOk result (self.new ≡ after_post self.old from.now to.now amount) }
+        ensures unchanged { OnErr result (self.new ≡ self.old) }
+    {
+        post(&mut self.balances, from, to, amount)
+    }
+
+    /// What an account has, in minor units: 0 where no post was made.
+    pub fn balance(&self, account: &Account) -> i64
+        ensures { result ≡ kept_at self.now (account_key account.now) }
+    {
+        sum_at(&self.balances, &AccountKey::new(account))
+    }
+
+    /// The accounts that a post was made from or to: each gateway's by the number of its currency, and so each
+    /// network's and programme's, and then those of users, by the bytes of the user's token and the number of the
+    /// currency.
+    pub fn accounts(&self, alloc: Global) -> Result<Vec<Account>, AllocError>
+        ensures { IfOk result (λ v. map account_key v.items ≡ finite.keys self.now) }
+    {
+        let mut accounts = Vec::new(alloc);
+        for key in self.balances.keys() {
+            accounts.push(key.account())?;
+        }
+        Ok(accounts)
+    }
+}
