@@ -1,0 +1,10 @@
+pub mod KeptChanges
+pub mod HoldSums
+pub mod Places
+pub mod HoldTotals
+pub mod ExpiryOrder
+pub mod Beginnings
+pub mod Endings
+pub mod IndexCalls
+pub mod IndexesKept
+pub mod HoldCalls

@@ -1,0 +1,46 @@
+-- What calls on a started transaction do to the holdings, by the entries that are made of it.
+use Rattle.std.specs.Prelude.{ℕ, ◌^◌, ℤ, pos, neg_ℤ, ◌<ℤ◌, List, [], ◌++◌, fold, Option, Some, None}
+use Rattle.iss_model.specs.declared.account.Part.TheVariants as part
+use Rattle.iss_model.specs.declared.txn.Txn.{Txn}
+use Rattle.iss_model.specs.declared.entry.Entry.{Entry}
+use Rattle.iss_model.specs.Sums.{part_key}
+use Rattle.iss_model.specs.Kept.{Kept, kept_at}
+use Rattle.iss_model.specs.Activity.{TxnNow, txn_named}
+use Rattle.iss_model.specs.Facts.{not_below}
+use Rattle.iss_model.specs.Pieces.{Parts, let_go}
+use Rattle.iss_model.specs.Cores.{Holdings, with_hold}
+
+-- the entries that are made of a transaction
+abbrev pub made_of : Option TxnNow → (Txn → List Entry) → List Entry
+made_of None make = []
+made_of (Some now) make = make now.txn
+
+-- the holdings after the holds that are made of a started transaction
+abbrev pub after_holds : Holdings → List ℕ → (Txn → List Entry) → Holdings
+after_holds h txn make = fold with_hold h (made_of (txn_named txn h.txns) make)
+
+-- what a transaction holds, by part
+abbrev pub parts_in : Holdings → List ℕ → Parts
+parts_in h txn =
+    record {
+      g = not_below (kept_at h.parts (part_key txn part.G));
+      p = not_below (kept_at h.parts (part_key txn part.P));
+      s = not_below (kept_at h.parts (part_key txn part.S));
+    }
+
+-- a clearing lets these parts go: the gateway's, the programme's, the user's own
+abbrev pub let_go_to_clear : Parts → Txn → List Entry
+let_go_to_clear taken t = let_go t part.G taken.g ++ let_go t part.P taken.p ++ let_go t part.S taken.s
+
+-- a release lets these parts go: the programme's, the gateway's, the user's own
+abbrev pub let_go_to_release : Parts → Txn → List Entry
+let_go_to_release taken t = let_go t part.P taken.p ++ let_go t part.G taken.g ++ let_go t part.S taken.s
+
+-- a sum lies strictly between -2^62 and 2^62
+pub record IsSmall (sum : ℤ) : Type 0 where
+  pub low : neg_ℤ (pos (2 ^ 62)) <ℤ sum
+  pub high : sum <ℤ pos (2 ^ 62)
+
+-- each sum lies strictly between -2^62 and 2^62
+abbrev pub AreSmall : Kept → Type 0
+AreSmall sums = (key : List ℕ) → IsSmall (kept_at sums key)

@@ -1,0 +1,30 @@
+-- Which transactions expire, and in which order.
+use Rattle.std.specs.Prelude.{ℕ, nat_le, List, [], ◌∷◌, map, filter, fold, if◌then◌else◌}
+use Rattle.iss_model.specs.Due.{DueItem, txn_due, due_txn, is_before, placed}
+use Rattle.iss_model.specs.Cores.{Holdings}
+use Rattle.iss_hold.specs.declared.hold.Hold.{Hold}
+
+-- the live transactions whose expiry has come, by expiry and the number of the authorisation's record
+abbrev pub txns_due : Holdings → ℕ → List DueItem
+txns_due h now = fold placed [] (filter (λ item. nat_le item.since now) (map due_txn (filter (λ t. t.live) h.txns)))
+
+-- a transaction's expiry and its authorisation's record, with its token
+abbrev pub Expiry : Type 0
+Expiry = (ℕ × ℕ) × List ℕ
+
+-- a hold's transaction expires
+abbrev pub expiry_of : Hold → Expiry
+expiry_of hold = ((hold.txn.expires, hold.txn.origin), hold.txn.token)
+
+-- an expiry as an item that is due
+abbrev pub item_of : Expiry → DueItem
+item_of e = record { since = e.0.0; rank = 1; number = e.0.1; thing = txn_due e.1 }
+
+-- an expiry at its place among ordered ones
+abbrev pub with_expiry : List Expiry → Expiry → List Expiry
+with_expiry [] e = e ∷ []
+with_expiry (first ∷ rest) e = if is_before (item_of e) (item_of first) then e ∷ first ∷ rest else first ∷ with_expiry rest e
+
+-- the expiries of the live transactions, in their order
+abbrev pub expiries : List Hold → List Expiry
+expiries holds = fold with_expiry [] (map expiry_of (filter (λ hold. hold.live) holds))

@@ -1,0 +1,57 @@
+-- How the indexes beside the holds agree with them.
+use Rattle.std.specs.Prelude.{◌≡◌, ℕ, suc, ◌+◌, ◌^◌, ◌<◌, nat_eq, Bool, ◌&&◌, ◌==◌, List, [], ◌∷◌, map, slice_get, Option, Some, None, IsSome, unwrap_or, if◌then◌else◌}
+use Rattle.std.specs.Option.{option_map}
+use Rattle.std.specs.List.{IsDistinct}
+use Rattle.std.specs.Str.{bytes_eq}
+use Rattle.std.specs.declared.cmp.Ordering.{Ordering}
+use Rattle.std.specs.Ordering.{nat_cmp, ordering_then}
+use Rattle.std.specs.Cmp.Lexicographic.{slice_cmp}
+use Rattle.std.specs.BTreeMap as tree
+use Rattle.std.specs.BTreeMap.{BTreeMap}
+use Rattle.iss_model.specs.Currencies.{iso_number}
+use Rattle.iss_hold.specs.declared.hold.Hold.{Hold}
+use Rattle.iss_hold.specs.Holdings.{whole_of}
+use Rattle.iss_hold.specs.Expiries.{expiries}
+
+-- the tokens of the transactions, in the order in which they began
+abbrev pub names : List Hold → List (List ℕ)
+names holds = map (λ hold. hold.txn.token) holds
+
+-- the numbers of the records of the authorisations
+abbrev pub origins : List Hold → List ℕ
+origins holds = map (λ hold. hold.txn.origin) holds
+
+-- the place of a name
+abbrev pub place_in : List ℕ → List (List ℕ) → Option ℕ
+place_in name [] = None
+place_in name (first ∷ rest) = if bytes_eq first name then Some 0 else option_map suc (place_in name rest)
+
+-- a hold is of this user, in the currency of this number
+abbrev pub is_of : List ℕ → ℕ → Hold → Bool
+is_of user number hold = bytes_eq hold.txn.user user && iso_number hold.txn.currency == number
+
+-- what the holds of a user in a currency come to
+abbrev pub total_of : List ℕ → ℕ → List Hold → ℕ
+total_of user number [] = 0
+total_of user number (hold ∷ rest) = (if is_of user number hold then whole_of hold else 0) + total_of user number rest
+
+-- the orders of the indexes' keys
+abbrev pub by_name : List ℕ → List ℕ → Ordering
+by_name a b = slice_cmp nat_cmp a b
+
+abbrev pub by_user : (List ℕ × ℕ) → (List ℕ × ℕ) → Ordering
+by_user a b = ordering_then (slice_cmp nat_cmp a.0 b.0) (nat_cmp a.1 b.1)
+
+abbrev pub by_expiry : (ℕ × ℕ) → (ℕ × ℕ) → Ordering
+by_expiry a b = ordering_then (nat_cmp a.0 b.0) (nat_cmp a.1 b.1)
+
+-- the indexes agree with the holds: each name has its place, each user its sum, and the expiries are in their order
+pub record AreIndexed (holds : List Hold) (places : BTreeMap (List ℕ) ℕ) (sums : BTreeMap (List ℕ × ℕ) ℕ) (order : BTreeMap (ℕ × ℕ) (List ℕ)) : Type 0 where
+  pub distinct : IsDistinct bytes_eq (names holds)
+  pub placed : (name : List ℕ) → tree.get by_name places name ≡ place_in name (names holds)
+  pub summed : (user : List ℕ) (number : ℕ) → unwrap_or (tree.get by_user sums (user, number)) 0 ≡ total_of user number holds
+  pub standing : (i : ℕ) (hold : Hold) → slice_get holds i ≡ Some hold → IsSome (tree.get by_user sums (hold.txn.user, iso_number hold.txn.currency))
+  pub small : (user : List ℕ) (number : ℕ) → total_of user number holds < 2 ^ 62
+  pub once : IsDistinct nat_eq (origins holds)
+  pub ordered : order.entries ≡ expiries holds
+  pub rising : tree.IsOrdered by_expiry order

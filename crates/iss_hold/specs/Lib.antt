@@ -1,0 +1,6 @@
+pub mod Holdings
+pub mod Entries
+pub mod Expiries
+pub mod Indexes
+pub mod Sums
+pub mod Codes

@@ -1,0 +1,128 @@
+//! What one transaction holds.
+ghost use Rattle.std.specs.Prelude.{◌≡◌, true, false, ◌+◌, ◌-◌, ◌^◌, ◌<◌};
+ghost use Rattle.iss_model.specs.Pieces.{in_all, taken_to_clear, taken_to_release};
+ghost use Rattle.iss_hold.specs.Holdings.{part_of, with_part, parts_of};
+
+use iss_model::{Part, Txn};
+
+/// A transaction, whether it hasn't ended, and what it holds of its user, by who funds it.
+#[derive(Clone, Copy)]
+pub(crate) struct Hold {
+    pub(crate) txn: Txn,
+    pub(crate) live: bool,
+    pub(crate) g: u64,
+    pub(crate) p: u64,
+    pub(crate) s: u64,
+}
+
+/// What was taken from a hold, by who funds it, and the rest that the hold had nothing for.
+#[derive(Clone, Copy, Debug, PartialEq, Eq)]
+pub struct Taken {
+    pub g: u64,
+    pub p: u64,
+    pub s: u64,
+    pub rest: u64,
+}
+
+impl Taken {
+    /// All that was taken.
+    pub(crate) fn whole(&self) -> u64
+        requires { self.now.g + self.now.p + self.now.s < 2 ^ 64 }
+        ensures { result ≡ self.now.g + self.now.p + self.now.s }
+    {
+        self.g + self.p + self.s
+    }
+}
+
+impl Hold {
+    /// The hold of a transaction that begins.
+    pub(crate) fn begun(txn: &Txn) -> Hold
+        ensures { result ≡ record { txn = txn.now; live = true; g = 0; p = 0; s = 0 } }
+    {
+        Hold {
+            txn: *txn,
+            live: true,
+            g: 0,
+            p: 0,
+            s: 0,
+        }
+    }
+
+    pub(crate) fn part(&self, part: Part) -> u64
+        ensures { result ≡ part_of part self.now }
+    {
+        match part {
+            Part::G => self.g,
+            Part::P => self.p,
+            Part::S => self.s,
+        }
+    }
+
+    /// The hold with more in a part.
+    pub(crate) fn with_more(&self, part: Part, amount: u64) -> Hold
+        requires { part_of part self.now + amount < 2 ^ 64 }
+        ensures { result ≡ with_part part (part_of part self.now + amount) self.now }
+    {
+        let mut hold = *self;
+        match part {
+            Part::G => hold.g += amount,
+            Part::P => hold.p += amount,
+            Part::S => hold.s += amount,
+        }
+        hold
+    }
+
+    /// The hold without what was taken from it.
+    pub(crate) fn without(&self, taken: &Taken) -> Hold
+        ensures { result ≡ record (self.now) { g = self.now.g - taken.now.g; p = self.now.p - taken.now.p; s = self.now.s - taken.now.s } }
+    {
+        Hold {
+            g: self.g.saturating_sub(taken.g),
+            p: self.p.saturating_sub(taken.p),
+            s: self.s.saturating_sub(taken.s),
+            ..*self
+        }
+    }
+
+    /// The hold of a transaction that has ended.
+    pub(crate) fn ended(&self) -> Hold
+        ensures { result ≡ record (self.now) { live = false } }
+    {
+        Hold {
+            live: false,
+            ..*self
+        }
+    }
+
+    /// What a clearing takes: the gateway's part first, then the programme's, then the user's own.
+    pub(crate) fn taken_to_clear(&self, amount: u64) -> Taken
+        ensures { let taken = taken_to_clear (parts_of self.now) amount in
+            result ≡ record { g = taken.g; p = taken.p; s = taken.s; rest = amount - in_all taken } }
+    {
+        let g = amount.min(self.g);
+        let p = (amount - g).min(self.p);
+        let s = (amount - g - p).min(self.s);
+        Taken {
+            g,
+            p,
+            s,
+            rest: amount - g - p - s,
+        }
+    }
+
+    /// What a release takes: the programme's part first, then the gateway's, then the user's own.
+    pub(crate) fn taken_to_release(&self, amount: u64) -> Taken
+        ensures { let taken = taken_to_release (parts_of self.now) amount in
+            result ≡ record { g = taken.g; p = taken.p; s = taken.s; rest = amount - in_all taken } }
+    {
+        let p = amount.min(self.p);
+        let g = (amount - p).min(self.g);
+        let s = (amount - p - g).min(self.s);
+        Taken {
+            g,
+            p,
+            s,
+            rest: amount - p - g - s,
+        }
+    }
+}

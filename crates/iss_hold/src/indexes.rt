@@ -1,0 +1,99 @@
+//! The indexes beside the holds: places by token, sums by user and currency, and expiries in their order.
+ghost use Rattle.std.specs.Prelude.{◌≡◌, ℕ, List, Some, None, IsSome, OnOk, OnErr};
+ghost use Rattle.std.specs.BTreeMap as tree;
+ghost use Rattle.iss_model.specs.Currencies.{iso_number};
+ghost use Rattle.iss_hold.specs.Indexes.{by_name, by_user, by_expiry};
+ghost use Rattle.iss_hold.specs.Sums.{sum_in};
+
+use crate::name::Name;
+use iss_model::{Currency, Token, Txn};
+use std::alloc::AllocError;
+use std::collections::BTreeMap;
+
+/// The place of a transaction that was started.
+pub(crate) fn place_of(places: &BTreeMap<Name, usize>, txn: &Token) -> usize
+    requires { IsSome (tree.get by_name places.now txn.now) }
+    ensures { tree.get by_name places.now txn.now ≡ Some result }
+{
+    match places.get(&Name::new(txn)) {
+        Some(place) => *place,
+        None => unreachable!(),
+    }
+}
+
+/// A user and the number of a currency.
+pub(crate) fn user_key(user: &Token, currency: Currency) -> (Name, u16)
+    ensures { result ≡ (user.now, iso_number currency) }
+{
+    (Name::new(user), number(currency))
+}
+
+/// What is held of a user in a currency.
+pub(crate) fn sum_of(sums: &BTreeMap<(Name, u16), u64>, key: &(Name, u16)) -> u64
+    ensures { result ≡ sum_in sums.now key.now.0 key.now.1 }
+{
+    sums.get(key).copied().unwrap_or(0)
+}
+
+/// Writes the sum of a user that stands.
+pub(crate) fn set_sum(sums: &mut BTreeMap<(Name, u16), u64>, key: &(Name, u16), sum: u64)
+    requires { IsSome (tree.get by_user sums.old key.now) }
+    ensures { tree.Updates by_user sums.old sums.new key.now (Some sum) }
+{
+    if let Some(place) = sums.get_mut(key) {
+        *place = sum;
+    }
+}
+
+/// Makes room for the sum of a user, which begins with 0.
+pub(crate) fn begin_sum(
+    sums: &mut BTreeMap<(Name, u16), u64>,
+    key: (Name, u16),
+) -> Result<(), AllocError>
+    ensures same { (u : List ℕ) → (n : ℕ) → sum_in sums.new u n ≡ sum_in sums.old u n }
+    ensures stay { (u : List ℕ) → (n : ℕ) → IsSome (tree.get by_user sums.old (u, n)) → IsSome (tree.get by_user sums.new (u, n)) }
+    ensures stands { OnOk result (IsSome (tree.get by_user sums.new key)) }
+{
+    if !sums.contains_key(&key) {
+        sums.insert(key, 0)?;
+    }
+    Ok(())
+}
+
+/// Enters a transaction's place and its expiry, or neither where memory is wanted.
+pub(crate) fn enter(
+    places: &mut BTreeMap<Name, usize>,
+    order: &mut BTreeMap<(u64, u32), Token>,
+    txn: &Txn,
+    place: usize,
+) -> Result<(), AllocError>
+    requires { tree.get by_name places.old txn.now.token ≡ None }
+    ensures placed { OnOk result (tree.Updates by_name places.old places.new txn.now.token (Some place)) }
+    ensures entered { OnOk result (order.new.entries ≡ tree.insert_entry by_expiry order.old.entries (txn.now.expires, txn.now.origin) txn.now.token) }
+    ensures rising { tree.IsOrdered by_expiry order.old → tree.IsOrdered by_expiry order.new }
+    ensures places_stay { OnErr result ((name : List ℕ) → tree.get by_name places.new name ≡ tree.get by_name places.old name) }
+    ensures order_stays { OnErr result (order.new.entries ≡ order.old.entries) }
+{
+    places.insert(Name::new(&txn.token), place)?;
+    let entered = order.insert((txn.expires, txn.origin), txn.token);
+    if entered.is_err() {
+        places.remove(&Name::new(&txn.token));
+        return Err(AllocError);
+    }
+    Ok(())
+}
+
+/// The number of ISO 4217.
+fn number(currency: Currency) -> u16
+    ensures { result ≡ iso_number currency }
+{
+    match currency {
+        Currency::Usd => 840,
+        Currency::Eur => 978,
+        Currency::Gbp => 826,
+        Currency::Cad => 124,
+        Currency::Aud => 36,
+        Currency::Jpy => 392,
+        Currency::Kwd => 414,
+    }
+}

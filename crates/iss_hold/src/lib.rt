@@ -1,0 +1,12 @@
+//! The holds: what each transaction holds of its user, by who funds it, and what falls due.
+//!
+//! An amount is a whole number of minor units.
+#![tactic(auto)]
+
+mod hold;
+mod holds;
+mod indexes;
+mod name;
+
+pub use hold::Taken;
+pub use holds::Holds;
