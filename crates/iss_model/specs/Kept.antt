@@ -1,8 +1,9 @@
 -- Kept sums: for each key that was changed, what the changes so far come to.
-use Rattle.std.specs.Prelude.{ℕ, ℤ, pos, ◌+ℤ◌, List, fold, unwrap_or}
+use Rattle.std.specs.Prelude.{ℕ, ◌^◌, ℤ, pos, neg_ℤ, ◌+ℤ◌, ◌<ℤ◌, List, fold, unwrap_or}
 use Rattle.std.specs.Ordering.{nat_cmp}
 use Rattle.std.specs.Cmp.Lexicographic.{slice_cmp}
 use Rattle.std.specs.FinMap as map
+use Rattle.std.specs.Coded.{Coded, coded_ℕ, coded_ℤ, coded_list}
 use Rattle.iss_model.specs.declared.entry.Entry.{Entry}
 use Rattle.iss_model.specs.declared.entry.Row.{Row}
 use Rattle.iss_model.specs.Sums.{Change}
@@ -10,6 +11,10 @@ use Rattle.iss_model.specs.Sums.{Change}
 -- sums by key, in the order of the keys
 abbrev pub Kept : Type 0
 Kept = map.FinMap (slice_cmp nat_cmp) ℤ
+
+-- sums by key are stored as their entries
+abbrev pub kept_code : Coded Kept
+kept_code = map.code (coded_list coded_ℕ) coded_ℤ
 
 -- no key was changed yet
 abbrev pub nothing_kept : Kept
@@ -30,3 +35,12 @@ after_changes sums changes = fold after_change sums changes
 -- the sums that the entries of these rows leave
 abbrev pub kept_of : (Entry → List Change) → List Row → Kept
 kept_of changes rows = fold (λ sums row. after_changes sums (changes row.entry)) nothing_kept rows
+
+-- a sum lies strictly between -2^62 and 2^62
+pub record IsSmall (sum : ℤ) : Type 0 where
+  pub low : neg_ℤ (pos (2 ^ 62)) <ℤ sum
+  pub high : sum <ℤ pos (2 ^ 62)
+
+-- each sum does
+abbrev pub AreSmall : Kept → Type 0
+AreSmall sums = (key : List ℕ) → IsSmall (kept_at sums key)
