@@ -10,7 +10,8 @@ use Rattle.iss_model.specs.declared.account.Account.{Account}
 use Rattle.iss_model.specs.Sums.{account_key}
 use Rattle.iss_model.specs.Kept.{Kept, nothing_kept, kept_at, after_change}
 use Rattle.iss_model.proofs.KeptSums.{kept_at-after_change}
-use Rattle.iss_ledger.specs.Posts.{AreSmall, after_post}
+use Rattle.iss_model.specs.Kept.{AreSmall}
+use Rattle.iss_ledger.specs.Posts.{after_post}
 use Rattle.iss_ledger.proofs.PostSums.{by}
 
 -- each sum lies within a bound on either side of 0

@@ -11,7 +11,8 @@ use Rattle.iss_model.specs.Sums.{Change, account_key}
 use Rattle.iss_model.specs.Kept.{Kept, nothing_kept, kept_at, after_change}
 use Rattle.iss_model.proofs.Names.{one_name, its_name}
 use Rattle.iss_model.proofs.KeptSums.{kept_at-after_change}
-use Rattle.iss_ledger.specs.Posts.{IsSmall, AreSmall, after_post, moved}
+use Rattle.iss_model.specs.Kept.{IsSmall, AreSmall}
+use Rattle.iss_ledger.specs.Posts.{after_post, moved}
 use Rattle.iss_ledger.proofs.TreeSums.{put_twice, put_back}
 use Rattle.iss_ledger.specs.Trees.{with_sum}
 

@@ -1,19 +1,10 @@
 -- What a post does to the balances.
-use Rattle.std.specs.Prelude.{ℕ, ◌^◌, ℤ, pos, neg_ℤ, ◌<ℤ◌, List, None, if◌then◌else◌}
+use Rattle.std.specs.Prelude.{ℕ, None, if◌then◌else◌}
 use Rattle.std.specs.Str.{bytes_eq}
 use Rattle.iss_model.specs.declared.account.Account.{Account}
 use Rattle.iss_model.specs.declared.entry.Entry.TheVariants as entry
 use Rattle.iss_model.specs.Sums.{account_key, balance_changes}
-use Rattle.iss_model.specs.Kept.{Kept, kept_at, after_changes}
-
--- a sum lies strictly between -2^62 and 2^62
-pub record IsSmall (sum : ℤ) : Type 0 where
-  pub low : neg_ℤ (pos (2 ^ 62)) <ℤ sum
-  pub high : sum <ℤ pos (2 ^ 62)
-
--- each sum lies strictly between -2^62 and 2^62
-abbrev pub AreSmall : Kept → Type 0
-AreSmall sums = (key : List ℕ) → IsSmall (kept_at sums key)
+use Rattle.iss_model.specs.Kept.{Kept, after_changes}
 
 -- the balances after a post
 abbrev pub after_post : Kept → Account → Account → ℕ → Kept

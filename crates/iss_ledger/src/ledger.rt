@@ -3,7 +3,8 @@ ghost use Rattle.std.specs.Prelude.{◌≡◌, map, IfOk, OnOk, OnErr};
 ghost use Rattle.std.specs.FinMap as finite;
 ghost use Rattle.iss_model.specs.Sums.{account_key};
 ghost use Rattle.iss_model.specs.Kept.{nothing_kept, kept_at};
-ghost use Rattle.iss_ledger.specs.Posts.{AreSmall, after_post};
+ghost use Rattle.iss_model.specs.Kept.{AreSmall};
+ghost use Rattle.iss_ledger.specs.Posts.{after_post};
 
 use crate::key::AccountKey;
 use crate::sums::{post, sum_at};
@@ -19,15 +20,13 @@ pub struct Ledger {
 }
 
 impl Model for Ledger {
-    ghost use Rattle.std.specs.FinMap as finite;
-    ghost use Rattle.std.specs.Coded.{coded_ℕ, coded_ℤ, coded_list};
-    ghost use Rattle.iss_model.specs.Kept.{Kept};
+    ghost use Rattle.iss_model.specs.Kept.{Kept, kept_code};
     ghost use Rattle.iss_ledger.specs.Trees.{kept_in, IsInOrder};
-    ghost use Rattle.iss_ledger.specs.Posts.{AreSmall};
+    ghost use Rattle.iss_model.specs.Kept.{AreSmall};
 
     ghost Value = { Kept };
 
-    ghost coded = { finite.code (coded_list coded_ℕ) coded_ℤ };
+    ghost coded = { kept_code };
 
     ghost view = { λ l. kept_in l.balances };
 
