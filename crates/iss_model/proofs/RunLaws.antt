@@ -17,7 +17,7 @@ use Rattle.iss_model.specs.Transcripts.{Reading, sound, faulty, Text, at_level, 
 use Rattle.iss_model.specs.Rooms.{Room, fits, judged_within, where_it_fits, record_made, room_left}
 use Rattle.iss_model.proofs.Records.{step_records}
 use Rattle.iss_model.proofs.JudgedAgain.{new_at, clock_at, not_before, new_again, clock_again}
-use Rattle.iss_model.specs.Runs.{Run, dry_run, outcome, judged_in, record_of_line, line_texts, run_after, accepted, transcript_of, RiseFrom}
+use Rattle.iss_model.specs.Runs.{Run, dry_run, response, judged_in, record_of_line, line_texts, run_after, accepted, transcript_of, RiseFrom}
 
 -- the record of an input that is new follows on what stands
 new_follows : (h : History) (i : Input) (stamp : ℕ) (r : Record) → judge history_keeper h i stamp ≡ judged.New r → Follows h r
@@ -59,8 +59,8 @@ pub accepted_legal : (s : Run) (lines : List Reading) → IsLegalAfter s.history
 accepted_legal s [] = tt
 accepted_legal s (sound i at ∷ lines) =
     let stamp = unwrap_or at 0 in
-    judged_legal s.room s.history i stamp (judge history_keeper s.history i stamp) (accepted (outcome s (sound i at)).run lines) refl
-    (accepted_legal (outcome s (sound i at)).run lines)
+    judged_legal s.room s.history i stamp (judge history_keeper s.history i stamp) (accepted (response s (sound i at)).run lines) refl
+    (accepted_legal (response s (sound i at)).run lines)
 accepted_legal s (faulty text ∷ lines) = accepted_legal s lines
 
 -- ---- the history that a run leaves
@@ -74,7 +74,7 @@ pub history_after : (s : Run) (lines : List Reading) → (run_after s lines).his
 history_after s [] = refl
 history_after s (sound i at ∷ lines) =
     let made = option_to_list (record_of_line s (sound i at)) in
-    let s' = (outcome s (sound i at)).run in
+    let s' = (response s (sound i at)).run in
     history_after s' lines
     ∙ ap (λ h. fold (λ h r. (step history_keeper h r).world) h (accepted s' lines)) (reacted s.history i (unwrap_or at 0) (judged_in s i (unwrap_or at 0)))
     ∙ sym (fold-append (λ h r. (step history_keeper h r).world) s.history made (accepted s' lines))
@@ -85,8 +85,8 @@ history_after s (faulty text ∷ lines) = history_after s lines
 pub texts_then : (s : Run) (xs ys : List Reading) → line_texts s (xs ++ ys) ≡ line_texts s xs ++ line_texts (run_after s xs) ys
 texts_then s [] ys = refl
 texts_then s (x ∷ xs) ys =
-    ap (λ (t : List Text). (outcome s x).texts ++ t) (texts_then (outcome s x).run xs ys)
-    ∙ sym (append_assoc (outcome s x).texts (line_texts (outcome s x).run xs) (line_texts (run_after (outcome s x).run xs) ys))
+    ap (λ (t : List Text). (response s x).texts ++ t) (texts_then (response s x).run xs ys)
+    ∙ sym (append_assoc (response s x).texts (line_texts (response s x).run xs) (line_texts (run_after (response s x).run xs) ys))
 
 -- ---- a dry run
 
@@ -121,7 +121,7 @@ dry_lines h (sound i at ∷ lines) =
     ap (λ room. line_on h i stamp lines k room) (no_room h.records (record_made k))
     ∙ ap (λ made. line_on h i stamp lines made None) (without_device h j)
     ∙ ap (λ (t : List Text). line_said h i stamp j ++ t) (dry_lines (reaction_as h i stamp j).history lines)
-dry_lines h (faulty text ∷ lines) = ap (λ (t : List Text). (outcome (dry_after h) (faulty text)).texts ++ t) (dry_lines h lines)
+dry_lines h (faulty text ∷ lines) = ap (λ (t : List Text). (response (dry_after h) (faulty text)).texts ++ t) (dry_lines h lines)
 
 pub dry_texts : (lines : List Reading) → transcript_of dry_run lines ≡ transcript nothing_yet lines
 unfolding transcript_of
@@ -138,7 +138,7 @@ pub records_after : (s : Run) (lines : List Reading) → (run_after s lines).his
 records_after s [] = sym (append-nil s.history.records)
 records_after s (sound i at ∷ lines) =
     let made = option_to_list (record_of_line s (sound i at)) in
-    let s' = (outcome s (sound i at)).run in
+    let s' = (response s (sound i at)).run in
     records_after s' lines
     ∙ ap (λ (rs : List Record). rs ++ accepted s' lines) (reacted_records s.history i (unwrap_or at 0) (judged_in s i (unwrap_or at 0)))
     ∙ append_assoc s.history.records made (accepted s' lines)
@@ -159,7 +159,7 @@ grown h i stamp j =
 line_levels : (s : Run) (lines : List Reading) → RiseFrom (length s.history.records) (length (run_after s lines).history.records) (line_texts s lines)
 line_levels s [] = omega arith
 line_levels s (sound i at ∷ lines) =
-    let s' = (outcome s (sound i at)).run in
+    let s' = (response s (sound i at)).run in
     rise_at (length s.history.records) (length s'.history.records) (length (run_after s' lines).history.records) _ (line_texts s' lines)
     (grown s.history i (unwrap_or at 0) (judged_in s i (unwrap_or at 0))) (line_levels s' lines)
 line_levels s (faulty text ∷ lines) = (omega arith, line_levels s lines)

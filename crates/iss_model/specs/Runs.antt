@@ -22,7 +22,7 @@ abbrev pub dry_run : Run
 dry_run = record { instance = 0; room = None; history = nothing_yet }
 
 -- what stands after a line, and the texts that it is told
-pub record Outcome : Type 0 where
+pub record Response : Type 0 where
   pub run : Run
   pub texts : List Text
 
@@ -31,8 +31,8 @@ abbrev pub judged_in : Run → Input → ℕ → Judged
 judged_in s i stamp = judged_within s.room s.history.records (judge history_keeper s.history i stamp)
 
 -- what an input is told that was judged so
-abbrev pub outcome_as : Run → Input → ℕ → Judged → Outcome
-outcome_as s i stamp j =
+abbrev pub response_as : Run → Input → ℕ → Judged → Response
+response_as s i stamp j =
     let r = reaction_as s.history i stamp j in
     record {
       run = record s { room = room_left s.room s.history.records (record_made j); history = r.history };
@@ -40,9 +40,9 @@ outcome_as s i stamp j =
     }
 
 -- a line: its fault alone, or what its input is told
-abbrev pub outcome : Run → Reading → Outcome
-outcome s (sound i at) = let stamp = unwrap_or at 0 in outcome_as s i stamp (judged_in s i stamp)
-outcome s (faulty text) = record { run = s; texts = at_level (length s.history.records) (text ∷ []) }
+abbrev pub response : Run → Reading → Response
+response s (sound i at) = let stamp = unwrap_or at 0 in response_as s i stamp (judged_in s i stamp)
+response s (faulty text) = record { run = s; texts = at_level (length s.history.records) (text ∷ []) }
 
 -- the record that a line makes, where it makes one
 abbrev pub record_of_line : Run → Reading → Option Record
@@ -52,17 +52,17 @@ record_of_line s (faulty text) = None
 -- the texts of the lines, one after the other
 abbrev pub line_texts : Run → List Reading → List Text
 line_texts s [] = []
-line_texts s (line ∷ lines) = (outcome s line).texts ++ line_texts (outcome s line).run lines
+line_texts s (line ∷ lines) = (response s line).texts ++ line_texts (response s line).run lines
 
 -- what stands after the lines
 abbrev pub run_after : Run → List Reading → Run
 run_after s [] = s
-run_after s (line ∷ lines) = run_after (outcome s line).run lines
+run_after s (line ∷ lines) = run_after (response s line).run lines
 
 -- the records that the lines make
 abbrev pub accepted : Run → List Reading → List Record
 accepted s [] = []
-accepted s (line ∷ lines) = option_to_list (record_of_line s line) ++ accepted (outcome s line).run lines
+accepted s (line ∷ lines) = option_to_list (record_of_line s line) ++ accepted (response s line).run lines
 
 -- what a run says before its first line: the requests of the calls that are asked, and then the notices that aren't acknowledged, each by number
 abbrev pub said_first : Facts → List Said
