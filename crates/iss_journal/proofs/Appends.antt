@@ -1,17 +1,16 @@
 -- What an append leaves at each of its moments.
-use Rattle.std.proofs.Common.{◌≡◌, ℕ, zero, suc, ◌+◌, ◌<◌, ◌≤◌, List, [], ◌∷◌, ◌++◌, length, take, drop, Option, inl, inr, refl, sym, ap, ◌∙◌, subst, append-nil, arith}
+use Rattle.std.proofs.Common.{◌≡◌, ℕ, zero, suc, ◌+◌, ◌<◌, ◌≤◌, List, [], ◌∷◌, ◌++◌, length, take, drop, Option, inl, inr, refl, sym, ap, subst, append-nil, arith}
 use Rattle.iss_edge.specs.declared.outside.Action.{Action}
 use Rattle.iss_edge.specs.World.{World, Told}
-use Rattle.iss_edge.specs.Calls.{Same}
 use Rattle.iss_edge.specs.Disk.{spliced}
-use Rattle.iss_edge.specs.Puts.{Put, one_put, after_puts, actions_of_puts, Ran, Puts, PutsPart, Holds}
-use Rattle.iss_edge.specs.Stretches.{Step, actions_of, SentUpTo, StandsUpTo, IsGood, GoesOn, AreStill}
+use Rattle.iss_edge.specs.Puts.{one_put, after_puts, Ran, Puts, PutsPart, Holds}
+use Rattle.iss_edge.specs.Stretches.{StandsUpTo, GoesOn}
 use Rattle.iss_edge.proofs.Tolds.{told_map, told_then, told_self}
 use Rattle.iss_edge.proofs.PutLemmas.{puts_then, part_more, part_then, part_all}
 use Rattle.iss_edge.proofs.PutStretches.{puts_good, puts_go_on}
 use Rattle.iss_edge.proofs.StretchLemmas.{none_goes_on, good_up}
 use Rattle.iss_journal.specs.Place.{Place, free_at}
-use Rattle.iss_journal.specs.Region.{Region, IsBody, behind, front_of, EndsWith, ShowsClosed, LeavesBehind, ShowsFirmly, RestsFirst, StandsFirst}
+use Rattle.iss_journal.specs.Region.{Region, behind, EndsWith, ShowsClosed, ShowsFirmly, RestsFirst, StandsFirst}
 use Rattle.iss_journal.specs.Append.{ComesNext, append_puts, AppendsGood, AppendsGoing}
 use Rattle.iss_journal.proofs.Gates.{splice_behind, splice_gate, gate_open, gate_shut, one_byte}
 

@@ -1,12 +1,12 @@
 -- What closing the end gate leaves at each of its moments.
-use Rattle.std.proofs.Common.{◌≡◌, ◌⊎◌, inl, inr, true, ℕ, zero, suc, ◌+◌, ◌<◌, ◌≤◌, List, [], ◌∷◌, ◌++◌, length, take, drop, get_or, set, Option, refl, sym, ap, ◌∙◌, subst, append_assoc, append-nil, add-one, arith}
-use Rattle.std.proofs.lemmas.List.{get_or_at, set_split, set-set, length-set}
+use Rattle.std.proofs.Common.{◌≡◌, inl, inr, true, ℕ, zero, suc, ◌+◌, ◌<◌, List, [], ◌∷◌, ◌++◌, length, take, drop, get_or, set, Option, refl, sym, ap, ◌∙◌, subst, append_assoc, append-nil, add-one, arith}
+use Rattle.std.proofs.lemmas.List.{get_or_at, set_split, set-set}
 use Rattle.iss_edge.specs.declared.outside.Action.{Action}
 use Rattle.iss_edge.specs.World.{World, Told}
 use Rattle.iss_edge.specs.Calls.{Same}
-use Rattle.iss_edge.specs.Disk.{Disk, after_actions, spliced, IsAtRest}
-use Rattle.iss_edge.specs.Puts.{Put, one_put, after_puts, actions_of_puts, Ran, Puts, PutsPart, Holds}
-use Rattle.iss_edge.specs.Stretches.{Step, actions_of, SentUpTo, StandsUpTo, IsGood, GoesOn, AreStill}
+use Rattle.iss_edge.specs.Disk.{after_actions, spliced}
+use Rattle.iss_edge.specs.Puts.{one_put, actions_of_puts, Ran, Puts, PutsPart, Holds}
+use Rattle.iss_edge.specs.Stretches.{Step, actions_of, StandsUpTo, GoesOn}
 use Rattle.iss_edge.proofs.Tolds.{told_map, told_then}
 use Rattle.iss_edge.proofs.PutLemmas.{part_all}
 use Rattle.iss_edge.proofs.PutStretches.{puts_good, puts_go_on}

@@ -1,21 +1,21 @@
 -- What formatting leaves at each of its moments, and what a header says.
-use Rattle.std.proofs.Common.{◌≡◌, ◌⊎◌, ℕ, zero, suc, ◌+◌, ◌/◌, ◌%◌, ◌^◌, ◌<◌, ◌≤◌, List, [], ◌∷◌, ◌++◌, length, take, drop, get_or, Option, Some, None, IfSome, Ok, Err, inl, inr, refl, sym, ap, ◌∙◌, subst, append_assoc, append-nil, arith, length-append, length-drop}
+use Rattle.std.proofs.Common.{◌≡◌, ℕ, zero, suc, ◌+◌, ◌/◌, ◌%◌, ◌^◌, ◌<◌, ◌≤◌, List, [], ◌∷◌, ◌++◌, length, take, drop, get_or, Option, Some, None, IfSome, Ok, Err, inl, inr, refl, sym, ap, ◌∙◌, subst, append-nil, arith, length-append, length-drop}
 use Rattle.std.specs.Int.{w64, to_be_bytes, from_be_bytes}
 use Rattle.std.proofs.lemmas.Nat.{from_be_bytes-to_be_bytes_8}
 use Rattle.std.proofs.lemmas.List.{take_at}
 use Rattle.iss_edge.specs.declared.outside.Action.{Action}
 use Rattle.iss_edge.specs.World.{World, Told}
-use Rattle.iss_edge.specs.Calls.{Same, Reads}
-use Rattle.iss_edge.specs.Disk.{Disk, after_actions, spliced, IsAtRest, IsImage}
-use Rattle.iss_edge.specs.Puts.{Put, one_put, after_puts, actions_of_puts, Ran, Puts, PutsPart, synced, Holds}
+use Rattle.iss_edge.specs.Calls.{Reads}
+use Rattle.iss_edge.specs.Disk.{after_actions, spliced}
+use Rattle.iss_edge.specs.Puts.{one_put, after_puts, actions_of_puts, Ran, Puts, PutsPart, Holds}
 use Rattle.iss_edge.proofs.Tolds.{told_map, told_then}
 use Rattle.iss_edge.proofs.Images.{rest_image}
 use Rattle.iss_edge.proofs.PutLemmas.{ran_front, put_moments, puts_then, part_more, part_then, part_all}
 use Rattle.iss_edge.proofs.PutStretches.{puts_rest, puts_bytes}
 use Rattle.iss_journal.specs.declared.fault.JournalFault.TheVariants.{NotFormatted}
-use Rattle.iss_journal.specs.Header.{signature, instance_bytes, header, IsSize, HasInstance, IsUnformatted, ReadsInstance}
+use Rattle.iss_journal.specs.Header.{instance_bytes, header, IsSize, IsUnformatted, ReadsInstance}
 use Rattle.iss_journal.specs.Formatting.{whole_device, tail_of, format_puts, FormatLeaves, FormatsGood, Formats}
-use Rattle.iss_journal.specs.Region.{front_of, framed, EndsWith, ShowsClosed}
+use Rattle.iss_journal.specs.Region.{ShowsClosed}
 use Rattle.iss_journal.proofs.Gates.{one_byte}
 
 -- a device whose first byte is another is not formatted

@@ -1,9 +1,9 @@
 -- What a write behind a gate, or over it, leaves of the records before it.
-use Rattle.std.proofs.Common.{◌≡◌, ℕ, zero, suc, ◌+◌, ◌<◌, ◌≤◌, List, [], ◌∷◌, ◌++◌, length, take, drop, set, inl, inr, refl, sym, ap, ◌∙◌, subst, append_assoc, arith, length-append, drop-drop}
+use Rattle.std.proofs.Common.{◌≡◌, ℕ, ◌+◌, ◌<◌, ◌≤◌, List, [], ◌∷◌, ◌++◌, length, drop, set, refl, sym, ap, ◌∙◌, append_assoc, arith, length-append, drop-drop}
 use Rattle.std.proofs.lemmas.List.{take_at, drop_at, set_at, length-set}
 use Rattle.iss_edge.specs.Disk.{spliced}
 use Rattle.iss_edge.proofs.Splices.{length-spliced}
-use Rattle.iss_journal.specs.Region.{Region, IsBody, AreBodies, spelled, behind, framed, front_of, EndsWith, Shows, ShowsClosed, LeavesBehind, ShowsFirmly}
+use Rattle.iss_journal.specs.Region.{Region, IsBody, spelled, behind, front_of, EndsWith, LeavesBehind}
 use Rattle.iss_journal.proofs.Records.{front-push, are_bodies-push, length-spelled, length-behind}
 
 -- bytes put right behind a front

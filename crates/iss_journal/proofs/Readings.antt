@@ -1,5 +1,5 @@
 -- What a gate, a length and a body are that were read.
-use Rattle.std.proofs.Common.{◌≡◌, ℕ, ◌+◌, ◌<◌, ◌≤◌, List, [], ◌∷◌, ◌++◌, inl, inr, length, take, drop, get_or, Option, refl, sym, ap, ◌∙◌, add-zero, arith, drop-drop}
+use Rattle.std.proofs.Common.{◌≡◌, ℕ, ◌+◌, ◌<◌, ◌≤◌, List, [], ◌∷◌, inl, inr, length, take, drop, get_or, Option, refl, sym, ap, ◌∙◌, add-zero, arith, drop-drop}
 use Rattle.std.specs.Int.{w32, to_be_bytes}
 use Rattle.std.proofs.lemmas.List.{get_or-take, get_or-drop, drop-take}
 use Rattle.iss_edge.specs.World.{World, Told}

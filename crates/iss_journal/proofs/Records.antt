@@ -1,9 +1,9 @@
 -- Records behind gates, as lists of bytes.
-use Rattle.std.proofs.Common.{◌≡◌, ℕ, zero, suc, ◌+◌, ◌<◌, ◌≤◌, List, [], ◌∷◌, ◌++◌, length, take, drop, get_or, set, refl, sym, ap, ◌∙◌, subst, append_assoc, append-nil, arith, length-append, length-take, length-drop, drop-drop}
+use Rattle.std.proofs.Common.{◌≡◌, ℕ, ◌+◌, List, [], ◌∷◌, ◌++◌, length, take, drop, refl, sym, ap, ◌∙◌, append_assoc, append-nil, arith, length-append}
 use Rattle.std.specs.Int.{w32, to_be_bytes, from_be_bytes}
 use Rattle.std.proofs.lemmas.Nat.{from_be_bytes-to_be_bytes_4}
-use Rattle.std.proofs.lemmas.List.{append_cancel_left, take_at, drop_at, set_at, length-set, set-set}
-use Rattle.iss_journal.specs.Region.{Region, IsBody, AreBodies, spelled, behind, framed, front_of, EndsWith, Shows, ShowsClosed, LeavesBehind, ShowsFirmly, ShowsOnce}
+use Rattle.std.proofs.lemmas.List.{append_cancel_left, take_at, drop_at}
+use Rattle.iss_journal.specs.Region.{Region, IsBody, AreBodies, spelled, behind, framed, front_of, ShowsOnce}
 
 pub framed-append : (xs ys : List (List ℕ)) → framed (xs ++ ys) ≡ framed xs ++ framed ys
 framed-append [] ys = refl

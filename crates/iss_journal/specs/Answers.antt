@@ -1,5 +1,5 @@
 -- Which faults a call of the journal may answer, and what each has for its cause.
-use Rattle.std.specs.Prelude.{◌≡◌, ℕ, ◌+◌, ◌<◌, ◌≤◌, List, length, Result, Ok, Err, IsErrOf}
+use Rattle.std.specs.Prelude.{◌≡◌, ℕ, ◌<◌, ◌≤◌, List, length, Result, Ok, Err, IsErrOf}
 use Rattle.iss_edge.specs.World.{Faults, Later, Rose}
 use Rattle.iss_journal.specs.declared.fault.JournalFault.{JournalFault}
 use Rattle.iss_journal.specs.declared.fault.JournalFault.TheVariants.{Disk, NotFormatted, BadRecord, Full, OutOfMemory}

@@ -1,8 +1,10 @@
-//! Tests of the top call on worked scripts and hostile lines, over an outside in memory.
+//! Tests of the top call on worked scripts and hostile lines, and of the journal, over an outside in memory.
 #![tactic(auto)]
 
 #[cfg(test)]
 mod hostile;
+#[cfg(test)]
+mod journal;
 #[cfg(test)]
 mod repeats;
 #[cfg(test)]
