@@ -24,7 +24,7 @@ fn full(alloc: Global) -> Result<Products, Fail> {
     let mut products = Products::new(alloc)?;
     for number in 0..255u8 {
         let name = [b'a' + number / 16, b'a' + number % 16];
-        products.add(&product(&name)?).map_err(|_| "not added")?;
+        products.add(&product(&name)?)?;
     }
     Ok(products)
 }
