@@ -1,7 +1,8 @@
 mod Readings
-mod Records
-mod Gates
+pub mod Records
+pub mod Gates
 mod Appends
 mod Formats
 mod Scans
-mod Closings
+pub mod Closings
+mod ReadLemmas

@@ -1,5 +1,5 @@
 -- What a gate, a length and a body are that were read.
-use Rattle.std.proofs.Common.{◌≡◌, ℕ, ◌+◌, ◌<◌, ◌≤◌, List, [], ◌∷◌, inl, inr, length, take, drop, get_or, Option, refl, sym, ap, ◌∙◌, add-zero, arith, drop-drop}
+use Rattle.std.proofs.Common.{◌≡◌, ℕ, ◌+◌, ◌^◌, ◌<◌, ◌≤◌, List, [], ◌∷◌, inl, inr, length, take, drop, get_or, Option, refl, sym, ap, ◌∙◌, add-zero, arith, drop-drop}
 use Rattle.std.specs.Int.{w32, to_be_bytes}
 use Rattle.std.proofs.lemmas.List.{get_or-take, get_or-drop, drop-take}
 use Rattle.iss_edge.specs.World.{World, Told}
@@ -36,11 +36,12 @@ length_read at gate n buf device is read =
     ∙ sym (drop-take 1 4 (drop at device))
     ∙ ap (λ (l : List ℕ). drop 1 l) five
 
-pub reads_head : (at to gate n : ℕ) (buf : List ℕ) (x y : Option World) → buf ≡ gate ∷ to_be_bytes w32 n → Told (Reads at buf) x y → Told (ReadsHead (record { gate = at; to = to }) gate n) x y
-reads_head at to gate n buf x y is =
+pub reads_head : (at to gate n : ℕ) (buf : List ℕ) (x y : Option World) → buf ≡ gate ∷ to_be_bytes w32 n → n < 2 ^ 32 → Told (Reads at buf) x y → Told (ReadsHead (record { gate = at; to = to }) gate n) x y
+reads_head at to gate n buf x y is small =
     told_map (Reads at buf) (ReadsHead (record { gate = at; to = to }) gate n) x y (λ a b read.
     record {
       there = gate_read at gate a b buf (to_be_bytes w32 n) is read;
+      small = small;
       length_there = inr (length_read at gate n buf a.device is read.bytes_there);
       same = read.same;
     })
@@ -48,7 +49,7 @@ reads_head at to gate n buf x y is =
 pub reads_short : (at to gate : ℕ) (x y : Option World) → to ≤ at + 5 → Told (ReadsGate at gate) x y → Told (ReadsHead (record { gate = at; to = to }) gate 0) x y
 reads_short at to gate x y short =
     told_map (ReadsGate at gate) (ReadsHead (record { gate = at; to = to }) gate 0) x y (λ a b read.
-    record { there = read.there; length_there = inl (short, refl); same = read.same })
+    record { there = read.there; small = omega arith; length_there = inl (short, refl); same = read.same })
 
 pub read_same : (at : ℕ) (buf : List ℕ) (x y : Option World) → Told (Reads at buf) x y → Told Same x y
 read_same at buf x y = told_map (Reads at buf) Same x y (λ a b read. read.same)

@@ -29,9 +29,9 @@ pub length-behind : (body : List ℕ) → length (behind body) ≡ 5 + length bo
 length-behind body = omega (arith, length-append (spelled body) (0 ∷ []), length-spelled body)
 
 -- two bodies with whatever follows, where all of it is the same
-record SameSpelled (x y X Y : List ℕ) : Type 0 where
-  body : x ≡ y
-  rest : X ≡ Y
+pub record SameSpelled (x y X Y : List ℕ) : Type 0 where
+  pub body : x ≡ y
+  pub rest : X ≡ Y
 
 same_length : (x y : List ℕ) → IsBody x → IsBody y → to_be_bytes w32 (length x) ≡ to_be_bytes w32 (length y) → length x ≡ length y
 same_length x y is_x is_y e =
@@ -39,7 +39,7 @@ same_length x y is_x is_y e =
     ∙ ap (λ (l : List ℕ). from_be_bytes w32 l) e
     ∙ from_be_bytes-to_be_bytes_4 (length y) (omega (arith, is_y.most))
 
-same_spelled : (x y X Y : List ℕ) → IsBody x → IsBody y → spelled x ++ X ≡ spelled y ++ Y → SameSpelled x y X Y
+pub same_spelled : (x y X Y : List ℕ) → IsBody x → IsBody y → spelled x ++ X ≡ spelled y ++ Y → SameSpelled x y X Y
 same_spelled x y X Y is_x is_y e =
     let lengths : to_be_bytes w32 (length x) ≡ to_be_bytes w32 (length y) = ap (λ (l : List ℕ). take 4 l) e in
     let tails : x ++ X ≡ y ++ Y = ap (λ (l : List ℕ). drop 4 l) e in

@@ -1,5 +1,5 @@
 -- What a step of a scan finds.
-use Rattle.std.proofs.Common.{◌≡◌, inl, inr, ℕ, ◌+◌, ◌-◌, ◌<◌, ◌≤◌, Bool, false, ◌↔◌, IsTrue, List, ◌∷◌, ◌++◌, length, take, drop, get_or, Option, Some, None, Ok, Err, sym, ap, ◌∙◌, subst, append_assoc, arith, drop-drop}
+use Rattle.std.proofs.Common.{◌≡◌, ◌⊎◌, inl, inr, ℕ, ◌+◌, ◌-◌, ◌<◌, ◌≤◌, Bool, false, ◌↔◌, IsTrue, List, ◌∷◌, ◌++◌, length, take, drop, get_or, Option, Some, None, Ok, Err, sym, ap, ◌∙◌, subst, append_assoc, arith, drop-drop}
 use Rattle.std.specs.Int.{w32, to_be_bytes}
 use Rattle.std.proofs.lemmas.List.{take-append-drop, drop_more, get_or_past}
 use Rattle.std.proofs.lemmas.Bool.{cases_lt, false≢true}
@@ -9,7 +9,7 @@ use Rattle.iss_edge.proofs.Tolds.{told_map, told_then, same_then}
 use Rattle.iss_journal.specs.declared.fault.JournalFault.TheVariants.{Disk, BadRecord, OutOfMemory}
 use Rattle.iss_journal.specs.Place.{Place}
 use Rattle.iss_journal.specs.Region.{IsBody, spelled, need_of}
-use Rattle.iss_journal.specs.Opening.{ReadsHead, RecordAt, IsWrongLength, BadAt, Finds}
+use Rattle.iss_journal.specs.Opening.{ReadsHead, RecordAt, BadAt, Finds}
 
 pub same_then_told : (x y z : Option World) → Told Same x y → Told Same y z → Told Same x z
 same_then_told x y z = told_then Same Same Same x y z same_then
@@ -31,7 +31,7 @@ finds_shut place gate n x y shut =
     told_map (ReadsHead place gate n) (Finds place (Ok None)) x y (λ a b head one. shut (sym head.there ∙ one))
 
 -- a length that no body here may have
-wrong_length : (place : Place) (n : ℕ) → ((0 < n) × (n ≤ 8192) × (5 + n < place.to - place.gate) → ⊥) → IsWrongLength place n
+wrong_length : (place : Place) (n : ℕ) → ((0 < n) × (n ≤ 8192) × (5 + n < place.to - place.gate) → ⊥) → (n ≡ 0) ⊎ (8192 < n) ⊎ (place.to ≤ place.gate + 5 + n)
 wrong_length place n wrong =
     elim (cases_lt 0 n) [
       | inl some ↦ elim (cases_lt 8192 n) [
@@ -48,7 +48,10 @@ bad_at : (place : Place) (n : ℕ) (a b : World) → ((0 < n) × (n ≤ 8192) ×
 bad_at place n a b wrong head =
     record {
       open_gate = head.there;
-      why = elim head.length_there [ inl short ↦ inl short.0 | inr four ↦ inr (n, four, wrong_length place n wrong) ];
+      why = elim head.length_there [
+        | inl short ↦ inl short.0
+        | inr four ↦ inr (record { n = n; small = head.small; there = four; wrong = wrong_length place n wrong })
+      ];
     }
 
 pub finds_wrong : (place : Place) (gate n at : ℕ) (fits : Bool) (x y : Option World) → gate ≡ 1 → fits ≡ false → IsTrue fits ↔ ((0 < n) × (n ≤ 8192) × (5 + n < place.to - place.gate)) → Told (ReadsHead place gate n) x y → Told (Finds place (Err (BadRecord at))) x y

@@ -5,3 +5,4 @@ pub mod Formatting
 pub mod Answers
 pub mod Append
 pub mod Opening
+pub mod Reading

@@ -1,5 +1,5 @@
 -- What reading a journal finds, and what closing its end gate leaves.
-use Rattle.std.specs.Prelude.{◌≡◌, ◌⊎◌, ℕ, ◌+◌, ◌<◌, ◌≤◌, List, [], ◌∷◌, ◌++◌, length, take, drop, slice_index, Option, Some, None, Result, Ok, Err}
+use Rattle.std.specs.Prelude.{◌≡◌, ◌⊎◌, ℕ, ◌+◌, ◌^◌, ◌<◌, ◌≤◌, List, [], ◌∷◌, ◌++◌, length, take, drop, slice_index, Option, Some, None, Result, Ok, Err}
 use Rattle.std.specs.Int.{w32, to_be_bytes}
 use Rattle.iss_edge.specs.World.{World}
 use Rattle.iss_edge.specs.Calls.{Same}
@@ -16,15 +16,17 @@ pub record RecordAt (place : Place) (body device : List ℕ) : Type 0 where
   pub room : place.gate + need_of body < place.to
   pub there : drop place.gate device ≡ 1 ∷ (spelled body ++ drop (place.gate + need_of body) device)
 
--- a length is wrong: it is 0, over 8192, or passes the region's end
-abbrev pub IsWrongLength : Place → ℕ → Type 0
-IsWrongLength place n = (n ≡ 0) ⊎ (8192 < n) ⊎ (place.to ≤ place.gate + 5 + n)
+-- the four bytes behind the gate spell a length that is wrong: it is 0, over 8192, or passes the region's end
+pub record WrongLength (place : Place) (device : List ℕ) : Type 0 where
+  pub n : ℕ
+  pub small : n < 2 ^ 32
+  pub there : take 4 (drop (place.gate + 1) device) ≡ to_be_bytes w32 n
+  pub wrong : (n ≡ 0) ⊎ (8192 < n) ⊎ (place.to ≤ place.gate + 5 + n)
 
--- the gate is open, and there is no place for a length and a gate behind it, or the length is wrong
+-- the gate is open, and the region ends before a record could, or the length there is wrong
 pub record BadAt (place : Place) (device : List ℕ) : Type 0 where
   pub open_gate : slice_index device place.gate ≡ 1
-  pub why : (place.to ≤ place.gate + 5)
-      ⊎ ((n : ℕ) × (take 4 (drop (place.gate + 1) device) ≡ to_be_bytes w32 n) × IsWrongLength place n)
+  pub why : (place.to ≤ place.gate + 5) ⊎ WrongLength place device
 
 -- the next record's body, nothing exactly at a gate that is not open, or a bad record exactly where its length is wrong
 abbrev pub Finds : Place → Result (Option (List ℕ)) JournalFault → World → World → Type 0
@@ -88,9 +90,10 @@ pub record ReadsGate (at gate : ℕ) (a b : World) : Type 0 where
   pub there : slice_index a.device at ≡ gate
   pub same : Same a b
 
--- This gate stands at this place, and behind it this length in four bytes, or 0 where there is no room for a record. Nothing of
--- what is told has changed.
+-- This gate stands at this place, and behind it this length in four bytes, or 0 where the region ends before a record could. Nothing
+-- of what is told has changed.
 pub record ReadsHead (place : Place) (gate n : ℕ) (a b : World) : Type 0 where
   pub there : slice_index a.device place.gate ≡ gate
+  pub small : n < 2 ^ 32
   pub length_there : ((place.to ≤ place.gate + 5) × (n ≡ 0)) ⊎ (take 4 (drop (place.gate + 1) a.device) ≡ to_be_bytes w32 n)
   pub same : Same a b

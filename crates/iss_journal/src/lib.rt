@@ -15,5 +15,5 @@ mod scan;
 pub use fault::JournalFault;
 pub use frame::Frame;
 pub use journal::Journal;
-pub use laws::shows_once;
+pub use laws::{reads_what_is_shown, shows_once};
 pub use scan::Scan;

@@ -1,6 +1,6 @@
 //! Reading a gate, a length and a body.
 
-ghost use Rattle.std.specs.Prelude.{◌≡◌, ◌+◌, ◌<◌, ◌≤◌, ◌∷◌, length, IfOk, OnErr};
+ghost use Rattle.std.specs.Prelude.{◌≡◌, ◌+◌, ◌^◌, ◌<◌, ◌≤◌, ◌∷◌, length, IfOk, OnErr};
 ghost use Rattle.std.specs.Int.{w32, to_be_bytes};
 ghost use Rattle.iss_edge.specs.World.{Told, HasCause};
 ghost use Rattle.iss_edge.specs.Calls.{Same, Reads, HearsNothing};
@@ -81,7 +81,8 @@ pub(crate) fn read_body<E: Edge>(
 
 /// A gate and a length as five bytes spell them.
 fn head_of(bytes: [u8; 5]) -> Head
-    ensures { bytes ≡ result.gate ∷ to_be_bytes w32 result.length }
+    ensures spelled { bytes ≡ result.gate ∷ to_be_bytes w32 result.length }
+    ensures small { result.length < 2 ^ 32 }
 {
     let [gate, a, b, c, d] = bytes;
     Head {
