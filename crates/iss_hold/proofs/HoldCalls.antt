@@ -2,7 +2,7 @@
 use Rattle.std.proofs.Common.{◌≡◌, ℕ, zero, suc, ◌+◌, ◌-◌, ◌<◌, ◌≤◌, ◌^◌, ◌==◌, ℤ, pos, neg_ℤ, ◌+ℤ◌, Bool, true, false, cond, ◌&&◌, ◌<ℤ◌, get_or, List, [], ◌∷◌, ◌++◌, map, fold, set, refl, sym, ap, ap₂, ◌∙◌, subst, arith}
 use Rattle.std.proofs.lemmas.Int.{ints}
 use Rattle.std.proofs.lemmas.Bool.Decides.{nat_tests}
-use Rattle.std.specs.Prelude.{Option, Some, IsSome, slice_get, unwrap_or}
+use Rattle.std.specs.Prelude.{Option, Some, IsSome, slice_get, unwrap_or, None, is_some}
 use Rattle.std.specs.List.{IsDistinct}
 use Rattle.std.specs.Str.{bytes_eq}
 use Rattle.std.specs.BTreeMap as tree
@@ -306,3 +306,13 @@ clear_within h amount = record { g = omega arith; p = omega arith; s = omega ari
 
 pub release_within : (h : Hold) (amount : ℕ) → AreWithin (taken_to_release (parts_of h) amount) h
 release_within h amount = record { g = omega arith; p = omega arith; s = omega arith }
+
+-- a name without a place was not started
+pub not_started : (hs : List Hold) (places : BTreeMap (List ℕ) ℕ) (sums : BTreeMap (List ℕ × ℕ) ℕ) (order : BTreeMap (ℕ × ℕ) (List ℕ)) (name : List ℕ)
+    → AreIndexed hs places sums order → tree.get by_name places name ≡ None → txn_named name (map now_of hs) ≡ None
+not_started hs places sums order name a e =
+    none_of (txn_named name (map now_of hs)) (sym (has_place name hs) ∙ ap (λ (o : Option ℕ). is_some o) (sym (a.placed name) ∙ e))
+  where
+    none_of : (o : Option TxnNow) → is_some o ≡ false → o ≡ None
+    none_of None h = refl
+    none_of (Some t) h = cc

@@ -8,3 +8,4 @@ pub mod Endings
 pub mod IndexCalls
 pub mod IndexesKept
 pub mod HoldCalls
+pub mod TestBounds

@@ -1,5 +1,5 @@
 -- What calls on a started transaction do to the holdings, by the entries that are made of it.
-use Rattle.std.specs.Prelude.{ℕ, ◌^◌, ℤ, pos, neg_ℤ, ◌<ℤ◌, List, [], ◌++◌, fold, Option, Some, None}
+use Rattle.std.specs.Prelude.{ℕ, ◌^◌, ℤ, pos, neg_ℤ, Bool, false, ◌<ℤ◌, List, [], ◌++◌, fold, Option, Some, None}
 use Rattle.iss_model.specs.declared.account.Part.TheVariants as part
 use Rattle.iss_model.specs.declared.txn.Txn.{Txn}
 use Rattle.iss_model.specs.declared.entry.Entry.{Entry}
@@ -9,6 +9,11 @@ use Rattle.iss_model.specs.Activity.{TxnNow, txn_named}
 use Rattle.iss_model.specs.Facts.{not_below}
 use Rattle.iss_model.specs.Pieces.{Parts, let_go}
 use Rattle.iss_model.specs.Cores.{Holdings, with_hold}
+
+-- a transaction was started and hasn't ended
+abbrev pub live_now : Option TxnNow → Bool
+live_now None = false
+live_now (Some now) = now.live
 
 -- the entries that are made of a transaction
 abbrev pub made_of : Option TxnNow → (Txn → List Entry) → List Entry

@@ -4,3 +4,4 @@ pub mod Expiries
 pub mod Indexes
 pub mod Sums
 pub mod Codes
+pub mod Bounds

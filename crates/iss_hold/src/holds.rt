@@ -1,13 +1,14 @@
 //! All transactions with what they hold.
 ghost use Rattle.std.specs.Prelude.{◌≡◌, ◌-◌, ◌==◌, [], false, map, filter, IsSome, None, IfOk, OnOk, OnErr};
 ghost use Rattle.std.specs.List.{list_any};
+ghost use Rattle.std.specs.Option.{option_copied, option_map};
 ghost use Rattle.iss_model.specs.Sums.{part_key, user_key};
 ghost use Rattle.iss_model.specs.Kept.{nothing_kept, kept_at};
 ghost use Rattle.iss_model.specs.Activity.{txn_named};
 ghost use Rattle.iss_model.specs.Due.{txn_due};
 ghost use Rattle.iss_model.specs.Pieces.{held, in_all, taken_to_clear, taken_to_release};
 ghost use Rattle.iss_model.specs.Cores.{with_txn, with_end};
-ghost use Rattle.iss_hold.specs.Entries.{after_holds, parts_in, let_go_to_clear, let_go_to_release, AreSmall};
+ghost use Rattle.iss_hold.specs.Entries.{live_now, after_holds, parts_in, let_go_to_clear, let_go_to_release, AreSmall};
 ghost use Rattle.iss_hold.specs.Expiries.{txns_due};
 
 use crate::hold::{Hold, Taken};
@@ -56,6 +57,26 @@ impl Holds {
             sums: BTreeMap::new(alloc),
             order: BTreeMap::new(alloc),
         })
+    }
+
+    /// The transaction of a token, `None` exactly where it wasn't started.
+    pub fn txn(&self, txn: &Token) -> Option<&Txn>
+        ensures { option_copied result ≡ option_map (λ t. t.txn) (txn_named txn.now self.now.txns) }
+    {
+        match self.places.get(&Name::new(txn)) {
+            Some(place) => Some(&self.holds[*place].txn),
+            None => None,
+        }
+    }
+
+    /// Whether a transaction was started and hasn't ended.
+    pub fn is_live(&self, txn: &Token) -> bool
+        ensures { result ≡ live_now (txn_named txn.now self.now.txns) }
+    {
+        match self.places.get(&Name::new(txn)) {
+            Some(place) => self.holds[*place].live,
+            None => false,
+        }
     }
 
     /// Begins a transaction, which holds nothing yet. The later calls on it take no memory. Where memory is wanted

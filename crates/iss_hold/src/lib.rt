@@ -7,6 +7,8 @@ mod hold;
 mod holds;
 mod indexes;
 mod name;
+#[cfg(test)]
+mod tests;
 
 pub use hold::Taken;
 pub use holds::Holds;

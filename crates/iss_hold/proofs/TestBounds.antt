@@ -1,0 +1,133 @@
+-- How far the holdings of a test reach behind each call.
+use Rattle.std.proofs.Common.{◌≡◌, ℕ, zero, suc, ◌+◌, ◌*◌, ◌<◌, ◌≤◌, ◌^◌, nat_lt, ◌==◌, ℤ, pos, neg_ℤ, ◌+ℤ◌, ◌≤ℤ◌, Bool, true, false, cond, ◌&&◌, ◌||◌, List, [], ◌∷◌, ◌++◌, map, fold, refl, sym, ap, ◌∙◌, subst, arith}
+use Rattle.std.proofs.lemmas.Int.{ints}
+use Rattle.std.proofs.lemmas.Bool.Decides.{nat_tests}
+use Rattle.std.specs.Prelude.{Option, Some, None, IsSome, is_some, unwrap_or}
+use Rattle.std.specs.List.{list_all, list_any}
+use Rattle.std.specs.Option.{option_map}
+use Rattle.std.specs.Str.{bytes_eq}
+use Rattle.std.specs.FinMap as finite
+use Rattle.std.specs.Ordering.{nat_cmp}
+use Rattle.std.specs.Cmp.Lexicographic.{slice_cmp}
+use Rattle.iss_model.specs.declared.account.Part.{Part}
+use Rattle.iss_model.specs.declared.txn.Txn.{Txn}
+use Rattle.iss_model.specs.declared.entry.Entry.{Entry}
+use Rattle.iss_model.specs.declared.entry.Entry.TheVariants as entry
+use Rattle.iss_model.specs.Sums.{Change, user_key, held_changes}
+use Rattle.iss_model.specs.Kept.{Kept, nothing_kept, kept_at, after_change, after_changes}
+use Rattle.iss_model.specs.Activity.{TxnNow, txn_named}
+use Rattle.iss_model.specs.Pieces.{held}
+use Rattle.iss_model.specs.Cores.{Holdings, with_hold, with_txn, is_live}
+use Rattle.iss_model.proofs.Names.{its_name}
+use Rattle.iss_model.proofs.KeptSums.{kept_at-after_change}
+use Rattle.iss_hold.specs.Entries.{made_of, after_holds, IsSmall, AreSmall}
+use Rattle.iss_hold.specs.Bounds.{AreBelow, IsWithin, AreWithin}
+
+below_apart : (a n : ℕ) → nat_lt a n ≡ true → (n == a) ≡ false
+below_apart a n h = grind (arith, nat_tests)
+
+below_more : (a n : ℕ) → nat_lt a n ≡ true → nat_lt a (n + 1) ≡ true
+below_more a n h = grind (arith, nat_tests)
+
+just_below : (n : ℕ) → nat_lt n (n + 1) ≡ true
+just_below n = grind (arith, nat_tests)
+
+both : (a b : Bool) → (a && b) ≡ true → (a ≡ true) × (b ≡ true)
+both true b h = (refl, h)
+both false b h = cc
+
+new_by : (number : ℕ) (ts : List TxnNow) → list_all (λ t. nat_lt t.txn.origin number) ts ≡ true → list_any (λ t. number == t.txn.origin) ts ≡ false
+new_by number [] h = refl
+new_by number (t ∷ ts) h =
+    let parts = both (nat_lt t.txn.origin number) (list_all (λ u. nat_lt u.txn.origin number) ts) h in
+    ap (λ (b : Bool). b || list_any (λ u. number == u.txn.origin) ts) (below_apart t.txn.origin number parts.0) ∙ new_by number ts parts.1
+
+-- a number above all is new
+pub new_origin : (number : ℕ) (h : Holdings) → AreBelow number h → list_any (λ t. number == t.txn.origin) h.txns ≡ false
+new_origin number h b = new_by number h.txns b
+
+more_by : (number : ℕ) (ts : List TxnNow) → list_all (λ t. nat_lt t.txn.origin number) ts ≡ true → list_all (λ t. nat_lt t.txn.origin (number + 1)) ts ≡ true
+more_by number [] h = refl
+more_by number (t ∷ ts) h =
+    let parts = both (nat_lt t.txn.origin number) (list_all (λ u. nat_lt u.txn.origin number) ts) h in
+    ap (λ (b : Bool). b && list_all (λ u. nat_lt u.txn.origin (number + 1)) ts) (below_more t.txn.origin number parts.0) ∙ more_by number ts parts.1
+
+pub below_next : (number : ℕ) (h : Holdings) → AreBelow number h → AreBelow (number + 1) h
+below_next number h b = more_by number h.txns b
+
+pushed_by : (number : ℕ) (ts : List TxnNow) (t : TxnNow) → list_all (λ u. nat_lt u.txn.origin number) ts ≡ true → nat_lt t.txn.origin number ≡ true → list_all (λ u. nat_lt u.txn.origin number) (ts ++ t ∷ []) ≡ true
+pushed_by number [] t h e = ap (λ (b : Bool). b && true) e
+pushed_by number (u ∷ ts) t h e =
+    let parts = both (nat_lt u.txn.origin number) (list_all (λ v. nat_lt v.txn.origin number) ts) h in
+    ap (λ (b : Bool). b && list_all (λ v. nat_lt v.txn.origin number) (ts ++ t ∷ [])) parts.0 ∙ pushed_by number ts t parts.1 e
+
+pub below_started : (h : Holdings) (t : Txn) → AreBelow t.origin h → AreBelow (t.origin + 1) (with_txn h t)
+below_started h t b = pushed_by (t.origin + 1) h.txns (record { txn = t; live = is_live h.txns t.token }) (more_by t.origin h.txns b) (just_below t.origin)
+
+same_txns : (h : Holdings) (es : List Entry) → (fold with_hold h es).txns ≡ h.txns
+same_txns h [] = refl
+same_txns h (e ∷ es) = same_txns (with_hold h e) es
+
+pub txns_stay : (h : Holdings) (name : List ℕ) (make : Txn → List Entry) → (after_holds h name make).txns ≡ h.txns
+txns_stay h name make = same_txns h (made_of (txn_named name h.txns) make)
+
+found_last : (name : List ℕ) (ts : List TxnNow) (t : TxnNow) → bytes_eq t.txn.token name ≡ true → is_some (txn_named name (ts ++ t ∷ [])) ≡ true
+found_last name [] t e = ap (λ (b : Bool). is_some (cond b (Some t) None)) e
+found_last name (u ∷ ts) t e = elim (bytes_eq u.txn.token name) as (λ b. is_some (cond b (Some u) (txn_named name (ts ++ t ∷ []))) ≡ true) [ true ↦ refl | false ↦ found_last name ts t e ]
+
+pub started_then : (h : Holdings) (t : Txn) → IsSome (txn_named t.token (with_txn h t).txns)
+started_then h t = found_last t.token h.txns (record { txn = t; live = is_live h.txns t.token }) (its_name t.token)
+
+pub started_still : (h : Holdings) (name other : List ℕ) (make : Txn → List Entry) → IsSome (txn_named name h.txns) → IsSome (txn_named name (after_holds h other make).txns)
+started_still h name other make s = subst (λ (ts : List TxnNow). IsSome (txn_named name ts)) (sym (txns_stay h other make)) s
+
+-- one change moves each sum by at most its amount
+changed_by : (b : Bool) (z : ℤ) (bound amount : ℕ) → IsWithin bound z → IsWithin (bound + amount) (z +ℤ cond b (pos amount) (pos 0))
+changed_by true z bound amount w = record { low = omega (arith, ints, w.low); high = omega (arith, ints, w.high) }
+changed_by false z bound amount w = record { low = omega (arith, ints, w.low); high = omega (arith, ints, w.high) }
+
+changed_within : (m : Kept) (key : List ℕ) (bound amount : ℕ) → AreWithin bound m → AreWithin (bound + amount) (after_change m (record { key = key; by = pos amount }))
+changed_within m key bound amount w k =
+    subst (λ (z : ℤ). IsWithin (bound + amount) z) (sym (kept_at-after_change m (record { key = key; by = pos amount }) k)) (changed_by (bytes_eq key k) (kept_at m k) bound amount (w k))
+
+wider : (m : Kept) (bound more : ℕ) → bound ≤ more → AreWithin bound m → AreWithin more m
+wider m bound more le w k = let at = w k in record { low = omega (arith, ints, at.low); high = omega (arith, ints, at.high) }
+
+pub within_started : (h : Holdings) (t : Txn) (bound : ℕ) → AreWithin bound h.held → AreWithin bound (with_txn h t).held
+within_started h t bound w =
+    wider (after_change h.held (record { key = user_key t.user t.currency; by = pos 0 })) (bound + 0) bound (omega arith)
+    (changed_within h.held (user_key t.user t.currency) bound 0 w)
+
+held_by : (h : Holdings) (t : Txn) (p : Part) (amount bound : ℕ) (none : Bool) → AreWithin bound h.held
+    → AreWithin (bound + amount) (fold with_hold h (cond none [] (entry.Hold t.token t.user t.currency p (pos amount) ∷ []))).held
+held_by h t p amount bound true w = wider h.held bound (bound + amount) (omega arith) w
+held_by h t p amount bound false w = changed_within h.held (user_key t.user t.currency) bound amount w
+
+added_by : (h : Holdings) (o : Option TxnNow) (p : Part) (amount bound : ℕ) → AreWithin bound h.held → AreWithin (bound + amount) (fold with_hold h (made_of o (λ t. held t p amount))).held
+added_by h None p amount bound w = wider h.held bound (bound + amount) (omega arith) w
+added_by h (Some now) p amount bound w = held_by h now.txn p amount bound (amount == 0) w
+
+pub within_added : (h : Holdings) (name : List ℕ) (p : Part) (amount bound more : ℕ) → bound + amount ≤ more → AreWithin bound h.held
+    → AreWithin more (after_holds h name (λ t. held t p amount)).held
+within_added h name p amount bound more le w =
+    wider (after_holds h name (λ t. held t p amount)).held (bound + amount) more le (added_by h (txn_named name h.txns) p amount bound w)
+
+pub within_small : (m : Kept) (bound : ℕ) → bound < 2 ^ 62 → AreWithin bound m → AreSmall m
+within_small m bound b w k = let at = w k in record { low = omega (arith, ints, at.low); high = omega (arith, ints, at.high) }
+
+pub none_within : (h : Holdings) → h.held ≡ nothing_kept → AreWithin 0 h.held
+none_within h e k =
+    subst (λ (z : ℤ). IsWithin 0 z) (sym (ap (λ (m : Kept). kept_at m k) e ∙ ap (λ (o : Option ℤ). unwrap_or o (pos 0)) (finite.get-empty (slice_cmp nat_cmp) k)))
+    (record { low = omega (arith, ints); high = omega (arith, ints) })
+
+pub within_same : (h g : Holdings) (a b : ℕ) → g ≡ h → a ≤ b → AreWithin a h.held → AreWithin b g.held
+within_same h g a b e le w = subst (λ (x : Holdings). AreWithin b x.held) (sym e) (wider h.held a b le w)
+
+pub below_same : (h g : Holdings) (a b : ℕ) → g.txns ≡ h.txns → a ≡ b → AreBelow a h → AreBelow b g
+below_same h g a b e f w =
+    subst (λ (ts : List TxnNow). list_all (λ t. nat_lt t.txn.origin b) ts ≡ true) (sym e)
+    (subst (λ (n : ℕ). list_all (λ t. nat_lt t.txn.origin n) h.txns ≡ true) f w)
+
+pub unknown_txn : (o : Option TxnNow) → is_some (option_map (λ (t : TxnNow). t.txn) o) ≡ false → o ≡ None
+unknown_txn None e = refl
+unknown_txn (Some t) e = cc
