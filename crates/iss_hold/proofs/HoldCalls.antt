@@ -25,7 +25,8 @@ use Rattle.std.specs.Cmp.Lexicographic.{slice_cmp}
 use Rattle.std.specs.Ordering.{nat_cmp}
 use Rattle.iss_hold.specs.declared.hold.Hold.{Hold}
 use Rattle.iss_hold.specs.Holdings.{now_of, part_of, with_part, parts_of, whole_of, part_sums, sums_from, holdings_of}
-use Rattle.iss_hold.specs.Entries.{after_holds, made_of, parts_in, let_go_to_clear, let_go_to_release, AreSmall}
+use Rattle.iss_model.specs.Kept.{AreSmall}
+use Rattle.iss_hold.specs.Entries.{after_holds, made_of, parts_in, let_go_to_clear, let_go_to_release}
 use Rattle.iss_model.proofs.Names.{its_name}
 use Rattle.iss_hold.specs.Sums.{sum_in}
 use Rattle.iss_hold.specs.Indexes.{names, is_of, total_of, by_name, by_user, AreIndexed}

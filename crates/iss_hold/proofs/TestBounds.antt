@@ -1,5 +1,5 @@
 -- How far the holdings of a test reach behind each call.
-use Rattle.std.proofs.Common.{◌≡◌, ℕ, zero, suc, ◌+◌, ◌*◌, ◌<◌, ◌≤◌, ◌^◌, nat_lt, ◌==◌, ℤ, pos, neg_ℤ, ◌+ℤ◌, ◌≤ℤ◌, Bool, true, false, cond, ◌&&◌, ◌||◌, List, [], ◌∷◌, ◌++◌, map, fold, refl, sym, ap, ◌∙◌, subst, arith}
+use Rattle.std.proofs.Common.{◌≡◌, ℕ, ◌+◌, ◌<◌, ◌≤◌, ◌^◌, nat_lt, ◌==◌, ℤ, pos, ◌+ℤ◌, Bool, true, false, cond, ◌&&◌, ◌||◌, List, [], ◌∷◌, ◌++◌, fold, refl, sym, ap, ◌∙◌, subst, arith}
 use Rattle.std.proofs.lemmas.Int.{ints}
 use Rattle.std.proofs.lemmas.Bool.Decides.{nat_tests}
 use Rattle.std.specs.Prelude.{Option, Some, None, IsSome, is_some, unwrap_or}
@@ -13,14 +13,15 @@ use Rattle.iss_model.specs.declared.account.Part.{Part}
 use Rattle.iss_model.specs.declared.txn.Txn.{Txn}
 use Rattle.iss_model.specs.declared.entry.Entry.{Entry}
 use Rattle.iss_model.specs.declared.entry.Entry.TheVariants as entry
-use Rattle.iss_model.specs.Sums.{Change, user_key, held_changes}
-use Rattle.iss_model.specs.Kept.{Kept, nothing_kept, kept_at, after_change, after_changes}
+use Rattle.iss_model.specs.Sums.{user_key}
+use Rattle.iss_model.specs.Kept.{Kept, nothing_kept, kept_at, after_change}
 use Rattle.iss_model.specs.Activity.{TxnNow, txn_named}
 use Rattle.iss_model.specs.Pieces.{held}
 use Rattle.iss_model.specs.Cores.{Holdings, with_hold, with_txn, is_live}
 use Rattle.iss_model.proofs.Names.{its_name}
 use Rattle.iss_model.proofs.KeptSums.{kept_at-after_change}
-use Rattle.iss_hold.specs.Entries.{made_of, after_holds, IsSmall, AreSmall}
+use Rattle.iss_model.specs.Kept.{AreSmall}
+use Rattle.iss_hold.specs.Entries.{made_of, after_holds}
 use Rattle.iss_hold.specs.Bounds.{AreBelow, IsWithin, AreWithin}
 
 below_apart : (a n : ℕ) → nat_lt a n ≡ true → (n == a) ≡ false

@@ -1,16 +1,11 @@
 -- The code of holdings, by which their values are told apart.
 use Rattle.std.specs.Prelude.{Bool, List, refl}
-use Rattle.std.specs.Coded.{Coded, code_by, coded×, coded_list, coded_bool, coded_ℕ, coded_ℤ}
-use Rattle.std.specs.FinMap as finite
+use Rattle.std.specs.Coded.{Coded, code_by, coded×, coded_list, coded_bool}
 use Rattle.iss_model.specs.contracts.txn.Txn as txn
 use Rattle.iss_model.specs.declared.txn.Txn.{Txn}
-use Rattle.iss_model.specs.Kept.{Kept}
+use Rattle.iss_model.specs.Kept.{Kept, kept_code}
 use Rattle.iss_model.specs.Activity.{TxnNow}
 use Rattle.iss_model.specs.Cores.{Holdings}
-
--- kept sums are stored as their entries
-abbrev pub kept_code : Coded Kept
-kept_code = finite.code (coded_list coded_ℕ) coded_ℤ
 
 -- a transaction as it stands is stored as the pair of its fields
 abbrev pub now_code : Coded TxnNow

@@ -1,10 +1,10 @@
 -- What calls on a started transaction do to the holdings, by the entries that are made of it.
-use Rattle.std.specs.Prelude.{ℕ, ◌^◌, ℤ, pos, neg_ℤ, Bool, false, ◌<ℤ◌, List, [], ◌++◌, fold, Option, Some, None}
+use Rattle.std.specs.Prelude.{ℕ, Bool, false, List, [], ◌++◌, fold, Option, Some, None}
 use Rattle.iss_model.specs.declared.account.Part.TheVariants as part
 use Rattle.iss_model.specs.declared.txn.Txn.{Txn}
 use Rattle.iss_model.specs.declared.entry.Entry.{Entry}
 use Rattle.iss_model.specs.Sums.{part_key}
-use Rattle.iss_model.specs.Kept.{Kept, kept_at}
+use Rattle.iss_model.specs.Kept.{kept_at}
 use Rattle.iss_model.specs.Activity.{TxnNow, txn_named}
 use Rattle.iss_model.specs.Facts.{not_below}
 use Rattle.iss_model.specs.Pieces.{Parts, let_go}
@@ -40,12 +40,3 @@ let_go_to_clear taken t = let_go t part.G taken.g ++ let_go t part.P taken.p ++ 
 -- a release lets these parts go: the programme's, the gateway's, the user's own
 abbrev pub let_go_to_release : Parts → Txn → List Entry
 let_go_to_release taken t = let_go t part.P taken.p ++ let_go t part.G taken.g ++ let_go t part.S taken.s
-
--- a sum lies strictly between -2^62 and 2^62
-pub record IsSmall (sum : ℤ) : Type 0 where
-  pub low : neg_ℤ (pos (2 ^ 62)) <ℤ sum
-  pub high : sum <ℤ pos (2 ^ 62)
-
--- each sum lies strictly between -2^62 and 2^62
-abbrev pub AreSmall : Kept → Type 0
-AreSmall sums = (key : List ℕ) → IsSmall (kept_at sums key)

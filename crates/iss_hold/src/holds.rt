@@ -8,12 +8,12 @@ ghost use Rattle.iss_model.specs.Activity.{txn_named};
 ghost use Rattle.iss_model.specs.Due.{txn_due};
 ghost use Rattle.iss_model.specs.Pieces.{held, in_all, taken_to_clear, taken_to_release};
 ghost use Rattle.iss_model.specs.Cores.{with_txn, with_end};
-ghost use Rattle.iss_hold.specs.Entries.{live_now, after_holds, parts_in, let_go_to_clear, let_go_to_release, AreSmall};
+ghost use Rattle.iss_model.specs.Kept.{AreSmall};
+ghost use Rattle.iss_hold.specs.Entries.{live_now, after_holds, parts_in, let_go_to_clear, let_go_to_release};
 ghost use Rattle.iss_hold.specs.Expiries.{txns_due};
 
 use crate::hold::{Hold, Taken};
 use crate::indexes::{begin_sum, enter, place_of, set_sum, sum_of, user_key};
-use crate::name::Name;
 use iss_model::{Currency, Part, Token, Txn};
 use std::alloc::{AllocError, Global};
 use std::collections::BTreeMap;
@@ -25,8 +25,8 @@ use std::marker::Model;
 #[derive(Drop)]
 pub struct Holds {
     holds: Vec<Hold>,
-    places: BTreeMap<Name, usize>,
-    sums: BTreeMap<(Name, u16), u64>,
+    places: BTreeMap<Token, usize>,
+    sums: BTreeMap<(Token, u16), u64>,
     order: BTreeMap<(u64, u32), Token>,
 }
 
@@ -63,7 +63,7 @@ impl Holds {
     pub fn txn(&self, txn: &Token) -> Option<&Txn>
         ensures { option_copied result ≡ option_map (λ t. t.txn) (txn_named txn.now self.now.txns) }
     {
-        match self.places.get(&Name::new(txn)) {
+        match self.places.get(txn) {
             Some(place) => Some(&self.holds[*place].txn),
             None => None,
         }
@@ -73,7 +73,7 @@ impl Holds {
     pub fn is_live(&self, txn: &Token) -> bool
         ensures { result ≡ live_now (txn_named txn.now self.now.txns) }
     {
-        match self.places.get(&Name::new(txn)) {
+        match self.places.get(txn) {
             Some(place) => self.holds[*place].live,
             None => false,
         }

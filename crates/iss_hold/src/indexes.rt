@@ -5,38 +5,37 @@ ghost use Rattle.iss_model.specs.Currencies.{iso_number};
 ghost use Rattle.iss_hold.specs.Indexes.{by_name, by_user, by_expiry};
 ghost use Rattle.iss_hold.specs.Sums.{sum_in};
 
-use crate::name::Name;
 use iss_model::{Currency, Token, Txn};
 use std::alloc::AllocError;
 use std::collections::BTreeMap;
 
 /// The place of a transaction that was started.
-pub(crate) fn place_of(places: &BTreeMap<Name, usize>, txn: &Token) -> usize
+pub(crate) fn place_of(places: &BTreeMap<Token, usize>, txn: &Token) -> usize
     requires { IsSome (tree.get by_name places.now txn.now) }
     ensures { tree.get by_name places.now txn.now ≡ Some result }
 {
-    match places.get(&Name::new(txn)) {
+    match places.get(txn) {
         Some(place) => *place,
         None => unreachable!(),
     }
 }
 
 /// A user and the number of a currency.
-pub(crate) fn user_key(user: &Token, currency: Currency) -> (Name, u16)
+pub(crate) fn user_key(user: &Token, currency: Currency) -> (Token, u16)
     ensures { result ≡ (user.now, iso_number currency) }
 {
-    (Name::new(user), number(currency))
+    (*user, number(currency))
 }
 
 /// What is held of a user in a currency.
-pub(crate) fn sum_of(sums: &BTreeMap<(Name, u16), u64>, key: &(Name, u16)) -> u64
+pub(crate) fn sum_of(sums: &BTreeMap<(Token, u16), u64>, key: &(Token, u16)) -> u64
     ensures { result ≡ sum_in sums.now key.now.0 key.now.1 }
 {
     sums.get(key).copied().unwrap_or(0)
 }
 
 /// Writes the sum of a user that stands.
-pub(crate) fn set_sum(sums: &mut BTreeMap<(Name, u16), u64>, key: &(Name, u16), sum: u64)
+pub(crate) fn set_sum(sums: &mut BTreeMap<(Token, u16), u64>, key: &(Token, u16), sum: u64)
     requires { IsSome (tree.get by_user sums.old key.now) }
     ensures { tree.Updates by_user sums.old sums.new key.now (Some sum) }
 {
@@ -47,8 +46,8 @@ pub(crate) fn set_sum(sums: &mut BTreeMap<(Name, u16), u64>, key: &(Name, u16), 
 
 /// Makes room for the sum of a user, which begins with 0.
 pub(crate) fn begin_sum(
-    sums: &mut BTreeMap<(Name, u16), u64>,
-    key: (Name, u16),
+    sums: &mut BTreeMap<(Token, u16), u64>,
+    key: (Token, u16),
 ) -> Result<(), AllocError>
     ensures same { (u : List ℕ) → (n : ℕ) → sum_in sums.new u n ≡ sum_in sums.old u n }
     ensures stay { (u : List ℕ) → (n : ℕ) → IsSome (tree.get by_user sums.old (u, n)) → IsSome (tree.get by_user sums.new (u, n)) }
@@ -62,7 +61,7 @@ pub(crate) fn begin_sum(
 
 /// Enters a transaction's place and its expiry, or neither where memory is wanted.
 pub(crate) fn enter(
-    places: &mut BTreeMap<Name, usize>,
+    places: &mut BTreeMap<Token, usize>,
     order: &mut BTreeMap<(u64, u32), Token>,
     txn: &Txn,
     place: usize,
@@ -74,10 +73,10 @@ pub(crate) fn enter(
     ensures places_stay { OnErr result ((name : List ℕ) → tree.get by_name places.new name ≡ tree.get by_name places.old name) }
     ensures order_stays { OnErr result (order.new.entries ≡ order.old.entries) }
 {
-    places.insert(Name::new(&txn.token), place)?;
+    places.insert(txn.token, place)?;
     let entered = order.insert((txn.expires, txn.origin), txn.token);
     if entered.is_err() {
-        places.remove(&Name::new(&txn.token));
+        places.remove(&txn.token);
         return Err(AllocError);
     }
     Ok(())

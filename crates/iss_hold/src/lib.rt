@@ -6,7 +6,6 @@
 mod hold;
 mod holds;
 mod indexes;
-mod name;
 #[cfg(test)]
 mod tests;
 

@@ -10,7 +10,8 @@ use Rattle.iss_hold.specs.Holdings.{part_of, with_part}
 use Rattle.iss_hold.specs.Indexes.{total_of}
 use Rattle.iss_hold.proofs.Places.{IsAt}
 use Rattle.iss_model.specs.Pieces.{held}
-use Rattle.iss_hold.specs.Entries.{after_holds, AreSmall}
+use Rattle.iss_model.specs.Kept.{AreSmall}
+use Rattle.iss_hold.specs.Entries.{after_holds}
 use Rattle.iss_hold.proofs.HoldCalls.{started_place, stands_at, here, part_small, sum_small, sum_stands, sum_there, indexed_added, added}
 use Rattle.iss_hold.proofs.holds.Holds.add.Goals as goal
 

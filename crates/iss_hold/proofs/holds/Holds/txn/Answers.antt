@@ -1,5 +1,5 @@
-use Rattle.std.proofs.Common.{◌≡◌, ℕ, ◌<◌, List, length, sym, ap, ◌∙◌, arith}
-use Rattle.std.specs.Prelude.{Option, Some, None}
+use Rattle.std.proofs.Common.{◌≡◌, length, sym, ap, ◌∙◌, arith}
+use Rattle.std.specs.Prelude.{Option, Some}
 use Rattle.std.specs.Option.{option_map}
 use Rattle.std.specs.Vec.{vec_len}
 use Rattle.std.specs.BTreeMap.{get}
@@ -8,7 +8,6 @@ use Rattle.iss_model.specs.Activity.{TxnNow, txn_named}
 use Rattle.iss_model.specs.Cores.{Holdings}
 use Rattle.iss_hold.specs.declared.hold.Hold.{Hold}
 use Rattle.iss_hold.specs.Holdings.{now_of}
-use Rattle.iss_hold.specs.Entries.{live_now}
 use Rattle.iss_hold.specs.Indexes.{by_name}
 use Rattle.iss_hold.proofs.Places.{IsAt}
 use Rattle.iss_hold.proofs.HoldCalls.{stands_at, here, not_started}
@@ -21,7 +20,7 @@ pub index-requires : goal.index-requires
 index-requires c =
     let hs = c.self.inside.holds.items in
     let place : get by_name c.self.inside.places c.args.txn.now ≡ Some c.in-Some.place.now =
-    sym (c.in-Some.ensures.value ∙ ap (λ (name : List ℕ). get by_name c.self.inside.places name) c.new.ensures) in
+    sym c.in-Some.ensures.value in
     let at : IsAt c.args.txn.now hs c.in-Some.place.now =
     stands_at hs c.self.inside.places c.self.inside.sums c.self.inside.order c.args.txn.now c.in-Some.place.now c.self.invariant place in
     let inside = at.inside in
@@ -32,7 +31,7 @@ pub returns-in-Some : goal.returns-in-Some
 returns-in-Some c =
     let hs = c.self.inside.holds.items in
     let place : get by_name c.self.inside.places c.args.txn.now ≡ Some c.in-Some.place.now =
-    sym (c.in-Some.ensures.value ∙ ap (λ (name : List ℕ). get by_name c.self.inside.places name) c.new.ensures) in
+    sym c.in-Some.ensures.value in
     let at : IsAt c.args.txn.now hs c.in-Some.place.now =
     stands_at hs c.self.inside.places c.self.inside.sums c.self.inside.order c.args.txn.now c.in-Some.place.now c.self.invariant place in
     let found : c.index.result.now ≡ at.hold = here c.args.txn.now hs c.in-Some.place.now at c.index.result.now c.index.ensures in
@@ -43,5 +42,5 @@ returns-in-None c =
     let hs = c.self.inside.holds.items in
     let unknown =
     not_started hs c.self.inside.places c.self.inside.sums c.self.inside.order c.args.txn.now c.self.invariant
-    (sym (c.in-None.ensures.value ∙ ap (λ (name : List ℕ). get by_name c.self.inside.places name) c.new.ensures)) in
+    (sym c.in-None.ensures.value) in
     ap (λ (o : Option TxnNow). option_map txn_of o) (sym unknown) ∙ ap (λ (h : Holdings). option_map txn_of (txn_named c.args.txn.now h.txns)) c.self.view_is
