@@ -1,0 +1,4 @@
+pub mod Codes
+pub mod Cuts
+pub mod EqualInputs
+pub mod Decoded

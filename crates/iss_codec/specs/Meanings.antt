@@ -1,0 +1,13 @@
+-- What reading and equality mean, in terms of spelling alone.
+use Rattle.std.specs.Prelude.{◌≡◌, ℕ, List, IsTrue}
+use Rattle.iss_model.specs.declared.input.Input.{Input}
+use Rattle.iss_model.specs.declared.input.Record.{Record}
+use Rattle.iss_model.specs.Spelling.{spelling, field_bytes, kind_number, is_record}
+
+-- these bytes are the spelling of this record, which is in form
+abbrev pub IsSpellingOf : Record → List ℕ → Type 0
+IsSpellingOf r bytes = IsTrue (is_record r) × (bytes ≡ spelling r)
+
+-- two inputs are spelled alike, whatever their stamps
+abbrev pub AreSpelledAlike : Input → Input → Type 0
+AreSpelledAlike a b = (kind_number a ≡ kind_number b) × (field_bytes a ≡ field_bytes b)

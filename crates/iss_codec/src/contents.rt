@@ -1,0 +1,13 @@
+//! What holds of equal contents and equal spellings.
+ghost use Rattle.std.specs.Prelude.{◌≡◌, ◌↔◌, IsTrue};
+ghost use Rattle.iss_model.specs.declared.input.Input.{Input};
+ghost use Rattle.iss_model.specs.Inputs.{same_contents};
+ghost use Rattle.iss_model.specs.Spelling.{has_spelling};
+ghost use Rattle.iss_codec.specs.Meanings.{AreSpelledAlike};
+
+/// Equality of contents is equality of inputs, and so equality of their spellings without the stamp.
+#[tactic(auto, using(crate::proofs::EqualInputs::same_exactly, crate::proofs::EqualInputs::same_alike))]
+pub fn contents_are_their_spelling()
+    ensures equal { (a b : Input) → IsTrue (same_contents a b) ↔ (a ≡ b) }
+    ensures alike { (a b : Input) → IsTrue (has_spelling a) → IsTrue (has_spelling b) → IsTrue (same_contents a b) ↔ AreSpelledAlike a b }
+{}

@@ -1,0 +1,198 @@
+//! The spelling of a record.
+ghost use Rattle.std.specs.Prelude.{◌≡◌, ◌++◌, OnOk, IfOk};
+ghost use Rattle.iss_model.specs.Spelling.{spelling, field_bytes, kind_number};
+
+use crate::writing::{
+    funding_number, outcome_number, put_amount_limit, put_association, put_currency, put_flag,
+    put_low_u32, put_mccs, put_moved, put_operation, put_scope, put_token, put_u16, put_u32,
+    put_u64, put_usage_limit, window_number,
+};
+use iss_model::{Input, Record};
+use std::alloc::{AllocError, Global};
+
+/// The one spelling of a record. `decode` reads it again where the record's fields are in form.
+#[tactic(auto, unfolding(iss_model::specs::Spelling::spelling))]
+pub fn encode(alloc: Global, r: &Record) -> Result<Vec<u8>, AllocError>
+    ensures spelled { IfOk result (λ bytes. bytes.items ≡ spelling r.now) }
+{
+    let mut out = Vec::new(alloc);
+    out.push(kind_number(&r.input))?;
+    put_u64(&mut out, r.at)?;
+    put_fields(&mut out, &r.input)?;
+    Ok(out)
+}
+
+fn kind_number(input: &Input) -> u8
+    ensures { result ≡ kind_number input.now }
+{
+    match input {
+        Input::User { .. } => 1,
+        Input::Card { .. } => 2,
+        Input::Move { .. } => 3,
+        Input::Product { .. } => 4,
+        Input::Group { .. } => 5,
+        Input::Control { .. } => 6,
+        Input::Set { .. } => 7,
+        Input::Switch { .. } => 8,
+        Input::Load { .. } => 9,
+        Input::Authorization { .. } => 10,
+        Input::Increment { .. } => 11,
+        Input::Reversal { .. } => 12,
+        Input::Clearing { .. } => 13,
+        Input::Refund { .. } => 14,
+        Input::Answer { .. } => 15,
+        Input::Ack { .. } => 16,
+        Input::Time => 17,
+    }
+}
+
+/// The fields of each kind, in their order.
+#[tactic(auto, unfolding(iss_model::specs::Spelling::field_bytes))]
+fn put_fields(out: &mut Vec<u8>, input: &Input) -> Result<(), AllocError>
+    ensures { OnOk result (out.new.items ≡ out.old.items ++ field_bytes input.now) }
+{
+    match input {
+        Input::User { token, user } => {
+            put_token(out, token)?;
+            put_token(out, user)
+        }
+        Input::Card {
+            token,
+            card,
+            user,
+            product,
+            active,
+        } => {
+            put_token(out, token)?;
+            put_token(out, card)?;
+            put_token(out, user)?;
+            put_token(out, product)?;
+            put_flag(out, *active)
+        }
+        Input::Move { token, who } => {
+            put_token(out, token)?;
+            put_moved(out, who)
+        }
+        Input::Product {
+            token,
+            product,
+            currency,
+            funding,
+            timeout_ms,
+            hold_ms,
+        } => {
+            put_token(out, token)?;
+            put_token(out, product)?;
+            put_currency(out, *currency)?;
+            out.push(funding_number(*funding))?;
+            put_low_u32(out, *timeout_ms)?;
+            put_low_u32(out, *hold_ms)
+        }
+        Input::Group { token, group, mccs } => {
+            put_token(out, token)?;
+            put_token(out, group)?;
+            put_mccs(out, mccs)
+        }
+        Input::Control {
+            token,
+            control,
+            currency,
+            window,
+            amount_limit,
+            usage_limit,
+            association,
+            scope,
+            active,
+        } => {
+            put_token(out, token)?;
+            put_token(out, control)?;
+            put_currency(out, *currency)?;
+            out.push(window_number(*window))?;
+            put_amount_limit(out, *amount_limit)?;
+            put_usage_limit(out, *usage_limit)?;
+            put_association(out, association)?;
+            put_scope(out, scope)?;
+            put_flag(out, *active)
+        }
+        Input::Set {
+            token,
+            set,
+            product,
+            currency,
+            connection,
+            timeout,
+            application,
+            max,
+            day_limit,
+            active,
+        } => {
+            put_token(out, token)?;
+            put_token(out, set)?;
+            put_token(out, product)?;
+            put_currency(out, *currency)?;
+            put_flag(out, *connection)?;
+            put_flag(out, *timeout)?;
+            put_flag(out, *application)?;
+            put_u64(out, *max)?;
+            put_u64(out, *day_limit)?;
+            put_flag(out, *active)
+        }
+        Input::Switch { token, product, on } => {
+            put_token(out, token)?;
+            put_token(out, product)?;
+            put_flag(out, *on)
+        }
+        Input::Load {
+            token,
+            user,
+            currency,
+            amount,
+        } => put_operation(out, token, user, *currency, *amount),
+        Input::Authorization {
+            token,
+            card,
+            currency,
+            amount,
+            mcc,
+            mid,
+        } => {
+            put_operation(out, token, card, *currency, *amount)?;
+            put_u16(out, *mcc)?;
+            put_token(out, mid)
+        }
+        Input::Increment {
+            token,
+            txn,
+            currency,
+            amount,
+        } => put_operation(out, token, txn, *currency, *amount),
+        Input::Reversal {
+            token,
+            txn,
+            currency,
+            amount,
+        } => put_operation(out, token, txn, *currency, *amount),
+        Input::Clearing {
+            token,
+            txn,
+            currency,
+            amount,
+            last,
+        } => {
+            put_operation(out, token, txn, *currency, *amount)?;
+            put_flag(out, *last)
+        }
+        Input::Refund {
+            token,
+            txn,
+            currency,
+            amount,
+        } => put_operation(out, token, txn, *currency, *amount),
+        Input::Answer { call, outcome } => {
+            put_u32(out, call.0)?;
+            Ok(out.push(outcome_number(*outcome))?)
+        }
+        Input::Ack { notice } => put_u32(out, *notice),
+        Input::Time => Ok(()),
+    }
+}

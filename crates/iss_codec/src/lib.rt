@@ -1,0 +1,22 @@
+//! Records as bytes: each record has one spelling, and what is read was spelled so.
+//!
+//! A record is its kind (one byte), its stamp (eight bytes) and the fields of its kind in a row. All numbers are
+//! big-endian. `spelling` in `iss_model` is the definition.
+#![tactic(auto)]
+
+mod choices;
+mod contents;
+mod decoding;
+mod encoding;
+mod fields;
+mod groups;
+mod parts;
+mod rows;
+mod writing;
+
+pub use contents::contents_are_their_spelling;
+pub use decoding::decode;
+pub use encoding::encode;
+
+#[cfg(test)]
+mod tests;

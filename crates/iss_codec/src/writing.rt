@@ -1,0 +1,249 @@
+//! Writing fields, each behind what was written before.
+ghost use Rattle.std.specs.Prelude.{◌≡◌, ◌++◌, ◌∷◌, [], OnOk};
+ghost use Rattle.std.specs.List.{flat_map};
+ghost use Rattle.iss_model.specs.Currencies.{iso_number};
+ghost use Rattle.iss_model.specs.Inputs.{spelled, flag, funding_number, window_number, card_state_number, user_state_number, outcome_number, moved_contents, association_contents};
+ghost use Rattle.iss_model.specs.Spelling.{number_bytes, currency_bytes, mcc_bytes, limit_bytes, scope_bytes, mccs_bytes, operation_bytes};
+
+use iss_model::{
+    Association, CardState, Currency, Funding, Mccs, Moved, Outcome, Scope, Token, UserState,
+    Window,
+};
+use std::alloc::AllocError;
+
+#[tactic(auto, unfolding(iss_model::specs::Spelling::number_bytes))]
+pub(crate) fn put_u64(out: &mut Vec<u8>, number: u64) -> Result<(), AllocError>
+    ensures { OnOk result (out.new.items ≡ out.old.items ++ number_bytes 8 number) }
+{
+    out.extend_from_slice(&number.to_be_bytes())
+}
+
+#[tactic(auto, unfolding(iss_model::specs::Spelling::number_bytes))]
+pub(crate) fn put_u32(out: &mut Vec<u8>, number: u32) -> Result<(), AllocError>
+    ensures { OnOk result (out.new.items ≡ out.old.items ++ number_bytes 4 number) }
+{
+    out.extend_from_slice(&number.to_be_bytes())
+}
+
+#[tactic(auto, unfolding(iss_model::specs::Spelling::number_bytes))]
+pub(crate) fn put_u16(out: &mut Vec<u8>, number: u16) -> Result<(), AllocError>
+    ensures { OnOk result (out.new.items ≡ out.old.items ++ number_bytes 2 number) }
+{
+    out.extend_from_slice(&number.to_be_bytes())
+}
+
+/// The lowest four bytes of a number.
+#[tactic(auto, unfolding(iss_model::specs::Spelling::number_bytes))]
+pub(crate) fn put_low_u32(out: &mut Vec<u8>, number: u64) -> Result<(), AllocError>
+    ensures { OnOk result (out.new.items ≡ out.old.items ++ number_bytes 4 number) }
+{
+    out.extend_from_slice(&number.to_be_bytes()[4..])
+}
+
+/// The lowest two bytes of a number.
+#[tactic(auto, unfolding(iss_model::specs::Spelling::number_bytes))]
+fn put_low_u16(out: &mut Vec<u8>, number: u64) -> Result<(), AllocError>
+    ensures { OnOk result (out.new.items ≡ out.old.items ++ number_bytes 2 number) }
+{
+    out.extend_from_slice(&number.to_be_bytes()[6..])
+}
+
+pub(crate) fn put_token(out: &mut Vec<u8>, token: &Token) -> Result<(), AllocError>
+    ensures { OnOk result (out.new.items ≡ out.old.items ++ spelled token.now) }
+{
+    let text = token.text();
+    out.push(text.len() as u8)?;
+    out.extend_from_slice(text)
+}
+
+pub(crate) fn put_flag(out: &mut Vec<u8>, on: bool) -> Result<(), AllocError>
+    ensures { OnOk result (out.new.items ≡ out.old.items ++ flag on) }
+{
+    Ok(out.push(u8::from(on))?)
+}
+
+pub(crate) fn put_currency(out: &mut Vec<u8>, currency: Currency) -> Result<(), AllocError>
+    ensures { OnOk result (out.new.items ≡ out.old.items ++ currency_bytes currency) }
+{
+    put_u16(out, iso_number(currency))
+}
+
+fn iso_number(currency: Currency) -> u16
+    ensures { result ≡ iso_number currency }
+{
+    match currency {
+        Currency::Usd => 840,
+        Currency::Eur => 978,
+        Currency::Gbp => 826,
+        Currency::Cad => 124,
+        Currency::Aud => 36,
+        Currency::Jpy => 392,
+        Currency::Kwd => 414,
+    }
+}
+
+pub(crate) fn funding_number(funding: Funding) -> u8
+    ensures { result ≡ funding_number funding }
+{
+    match funding {
+        Funding::Account => 1,
+        Funding::Gateway => 2,
+    }
+}
+
+pub(crate) fn window_number(window: Window) -> u8
+    ensures { result ≡ window_number window }
+{
+    match window {
+        Window::Transaction => 1,
+        Window::Day => 2,
+        Window::Week => 3,
+        Window::Month => 4,
+        Window::Lifetime => 5,
+    }
+}
+
+pub(crate) fn outcome_number(outcome: Outcome) -> u8
+    ensures { result ≡ outcome_number outcome }
+{
+    match outcome {
+        Outcome::Funded => 1,
+        Outcome::Refused => 2,
+        Outcome::Connection => 3,
+        Outcome::Application => 4,
+    }
+}
+
+fn card_state_number(state: CardState) -> u8
+    ensures { result ≡ card_state_number state }
+{
+    match state {
+        CardState::Unactivated => 1,
+        CardState::Active => 2,
+        CardState::Suspended => 3,
+        CardState::Terminated => 4,
+    }
+}
+
+fn user_state_number(state: UserState) -> u8
+    ensures { result ≡ user_state_number state }
+{
+    match state {
+        UserState::Active => 2,
+        UserState::Suspended => 3,
+        UserState::Closed => 5,
+    }
+}
+
+pub(crate) fn put_amount_limit(out: &mut Vec<u8>, limit: Option<u64>) -> Result<(), AllocError>
+    ensures { OnOk result (out.new.items ≡ out.old.items ++ limit_bytes 8 limit) }
+{
+    match limit {
+        None => Ok(out.push(0)?),
+        Some(limit) => {
+            out.push(1)?;
+            put_u64(out, limit)
+        }
+    }
+}
+
+pub(crate) fn put_usage_limit(out: &mut Vec<u8>, limit: Option<u32>) -> Result<(), AllocError>
+    ensures { OnOk result (out.new.items ≡ out.old.items ++ limit_bytes 4 limit) }
+{
+    match limit {
+        None => Ok(out.push(0)?),
+        Some(limit) => {
+            out.push(1)?;
+            put_u32(out, limit)
+        }
+    }
+}
+
+pub(crate) fn put_moved(out: &mut Vec<u8>, who: &Moved) -> Result<(), AllocError>
+    ensures { OnOk result (out.new.items ≡ out.old.items ++ moved_contents who.now) }
+{
+    match who {
+        Moved::Card(card, to) => {
+            out.push(1)?;
+            put_token(out, card)?;
+            Ok(out.push(card_state_number(*to))?)
+        }
+        Moved::User(user, to) => {
+            out.push(2)?;
+            put_token(out, user)?;
+            Ok(out.push(user_state_number(*to))?)
+        }
+    }
+}
+
+pub(crate) fn put_association(
+    out: &mut Vec<u8>,
+    association: &Association,
+) -> Result<(), AllocError>
+    ensures { OnOk result (out.new.items ≡ out.old.items ++ association_contents association.now) }
+{
+    match association {
+        Association::Anybody => Ok(out.push(0)?),
+        Association::User(user) => {
+            out.push(1)?;
+            put_token(out, user)
+        }
+        Association::Product(product) => {
+            out.push(2)?;
+            put_token(out, product)
+        }
+    }
+}
+
+pub(crate) fn put_scope(out: &mut Vec<u8>, scope: &Scope) -> Result<(), AllocError>
+    ensures { OnOk result (out.new.items ≡ out.old.items ++ scope_bytes scope.now) }
+{
+    match scope {
+        Scope::All => Ok(out.push(0)?),
+        Scope::Mcc(mcc) => {
+            out.push(1)?;
+            put_u16(out, *mcc)
+        }
+        Scope::Group(group) => {
+            out.push(2)?;
+            put_token(out, group)
+        }
+        Scope::Mid(mid) => {
+            out.push(3)?;
+            put_token(out, mid)
+        }
+    }
+}
+
+pub(crate) fn put_mccs(out: &mut Vec<u8>, mccs: &Mccs) -> Result<(), AllocError>
+    ensures { OnOk result (out.new.items ≡ out.old.items ++ mccs_bytes mccs.now) }
+{
+    let codes = mccs.as_slice();
+    put_low_u16(out, codes.len() as u64)?;
+    put_codes(out, codes)
+}
+
+fn put_codes(out: &mut Vec<u8>, codes: &[u16]) -> Result<(), AllocError>
+    ensures { OnOk result (out.new.items ≡ out.old.items ++ flat_map mcc_bytes codes.now) }
+{
+    for code in codes {
+        put_u16(out, *code)?;
+    }
+    Ok(())
+}
+
+/// What every operation on a transaction begins with.
+pub(crate) fn put_operation(
+    out: &mut Vec<u8>,
+    token: &Token,
+    about: &Token,
+    currency: Currency,
+    amount: u64,
+) -> Result<(), AllocError>
+    ensures { OnOk result (out.new.items ≡ out.old.items ++ operation_bytes token.now about.now currency amount) }
+{
+    put_token(out, token)?;
+    put_token(out, about)?;
+    put_currency(out, currency)?;
+    put_u64(out, amount)
+}
