@@ -3,8 +3,6 @@
 
 mod balances;
 mod books;
-mod spellings;
 
 pub use balances::balances_add_up;
 pub use books::laws_of_worked_books;
-pub use spellings::equal_contents_are_equal_spellings;
