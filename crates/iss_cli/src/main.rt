@@ -1,12 +1,15 @@
 //! The program: hands its words and the real outside to `run`, and ends with the status that this answers.
 #![tactic(auto)]
 
+mod device;
 mod failure;
 mod real_edge;
 
+use device::Device;
 use failure::failure_of;
-use iss_top::run;
+use iss_top::{Command, command_of, run};
 use real_edge::RealEdge;
+use std::fs::{File, Files};
 use std::process::ExitCode;
 use std::rt::Env;
 use std::{env, io};
@@ -18,9 +21,8 @@ const USAGE: u8 = 2;
 const OUT_OF_MEMORY: u8 = 7;
 
 fn main(rt: HostRuntime) -> ExitCode {
-    let mut edge = RealEdge::new(rt.stdin(), rt.stdout());
     let status = match words_of(&rt) {
-        Ok(words) => run(rt.alloc(), words.as_slice(), &mut edge),
+        Ok(words) => status_of(&rt, words.as_slice()),
         Err(e) if e.kind() == io::ErrorKind::OutOfMemory => OUT_OF_MEMORY,
         // A word that is not text belongs to no command.
         Err(_) => USAGE,
@@ -30,6 +32,22 @@ fn main(rt: HostRuntime) -> ExitCode {
         let _ = eprintln!(rt; "{failure}");
     }
     ExitCode::from(status)
+}
+
+/// Does what the words ask for, over the standard streams and the device that they name.
+fn status_of(rt: &HostRuntime, words: &[String]) -> u8 {
+    let mut edge = RealEdge::new(rt.stdin(), rt.stdout(), device_of(rt, words));
+    run(rt.alloc(), words, &mut edge)
+}
+
+/// The device that the words name: its file, which is made where there is none.
+fn device_of(files: &impl Files<File = File>, words: &[String]) -> Device {
+    match (command_of(words), words.get(1)) {
+        (Ok(Command::Format { size, .. }), Some(name)) => {
+            Device::opened_or_made(files, name.as_str(), size)
+        }
+        _ => Device::absent(),
+    }
 }
 
 /// The words after the program's name.

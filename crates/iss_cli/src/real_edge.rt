@@ -4,6 +4,7 @@ ghost use Rattle.std.specs.Prelude.{◌≡◌, ◌<◌, ◌≤◌, None, length,
 ghost use Rattle.std.specs.Io.KnownBytes.{Keeps, Appends, Consumes, IsAtEnd};
 ghost use Rattle.iss_edge.specs.World.{Rose, HasCause};
 
+use crate::device::Device;
 use iss_edge::{Channel, Edge, Failed};
 use std::io;
 use std::io::{ErrorKind, Read, Write};
@@ -11,11 +12,13 @@ use std::io::{ErrorKind, Read, Write};
 /// How often a read is made again that was interrupted.
 const READS: u32 = 1_000_000;
 
-/// A reader and a writer, in the program the standard streams, as channel 0. It tells nothing, and counts what fails.
+/// A reader and a writer, in the program the standard streams, as channel 0, and a device. It tells nothing, and counts
+/// what fails.
 #[derive(Drop)]
 pub struct RealEdge<R, W> {
     input: R,
     output: W,
+    device: Device,
     faults: FaultCounts,
 }
 
@@ -29,8 +32,9 @@ struct FaultCounts {
 
 impl<R, W> RealEdge<R, W> {
     /// An outside on which nothing has failed yet.
-    pub fn new(input: R, output: W) -> Self
+    pub fn new(input: R, output: W, device: Device) -> Self
         ensures streams { (result.input ≡ input) × (result.output ≡ output) }
+        ensures device { result.device ≡ device }
         ensures faults { (result.faults.disk ≡ 0) × (result.faults.input ≡ 0) × (result.faults.output ≡ 0) }
     {
         let faults = FaultCounts {
@@ -41,6 +45,7 @@ impl<R, W> RealEdge<R, W> {
         RealEdge {
             input,
             output,
+            device,
             faults,
         }
     }
@@ -56,23 +61,22 @@ impl<R: Read + Drop, W: Write + Drop> Edge for RealEdge<R, W> {
 
     ghost faults = { λ edge. faults_of edge.faults };
 
-    ghost extent = { λ _. 0 };
+    ghost extent = { λ edge. edge.device.size };
 
-    // No command opens a device yet, so it is one of no bytes whose every call fails.
     fn size(&self) -> u64 {
-        0
+        self.device.size()
     }
 
-    fn read_at(&mut self, _at: u64, _buf: &mut [u8]) -> Result<(), Failed> {
-        Err(count(&mut self.faults.disk))
+    fn read_at(&mut self, at: u64, buf: &mut [u8]) -> Result<(), Failed> {
+        counted(self.device.read_at(at, buf), &mut self.faults.disk)
     }
 
-    fn write_at(&mut self, _at: u64, _bytes: &[u8]) -> Result<(), Failed> {
-        Err(count(&mut self.faults.disk))
+    fn write_at(&mut self, at: u64, bytes: &[u8]) -> Result<(), Failed> {
+        counted(self.device.write_at(at, bytes), &mut self.faults.disk)
     }
 
     fn sync(&mut self) -> Result<(), Failed> {
-        Err(count(&mut self.faults.disk))
+        counted(self.device.sync(), &mut self.faults.disk)
     }
 
     fn take(&mut self, _ch: Channel, buf: &mut [u8]) -> Result<usize, Failed>
@@ -84,6 +88,7 @@ impl<R: Read + Drop, W: Write + Drop> Edge for RealEdge<R, W> {
         ensures none_lost { OnErr result
             (Keeps (R.remaining self.old.input) (R.remaining self.new.input)) }
         ensures nothing_sent { self.new.output ≡ self.old.output }
+        ensures kept { self.new.device ≡ self.old.device }
         ensures cause { HasCause (λ f. f.input) (faults_of self.old.faults) (faults_of self.new.faults) result }
     {
         counted(read_some(&mut self.input, buf), &mut self.faults.input)
@@ -93,6 +98,7 @@ impl<R: Read + Drop, W: Write + Drop> Edge for RealEdge<R, W> {
         ensures sent { OnOk result
             (Appends (W.contents self.old.output) (W.contents self.new.output) bytes.now) }
         ensures nothing_taken { self.new.input ≡ self.old.input }
+        ensures kept { self.new.device ≡ self.old.device }
         ensures cause { HasCause (λ f. f.output) (faults_of self.old.faults) (faults_of self.new.faults) result }
     {
         counted(

@@ -1,24 +1,11 @@
 -- What holds of a run by its words.
-use Rattle.std.proofs.Common.{ℕ, inl, inr, List, [], length, Option, Result, Ok, Err, refl, ap, arith, length-append}
+use Rattle.std.proofs.Common.{ℕ, inl, inr, List, length, Option, Result, Ok, Err, refl, ap, arith, length-append}
 use Rattle.iss_edge.specs.World.{World, Told, Faults}
-use Rattle.iss_edge.proofs.Tolds.{told_map, told_self}
-use Rattle.iss_model.specs.Histories.{nothing_yet}
+use Rattle.iss_edge.proofs.Tolds.{told_map}
 use Rattle.iss_top.specs.declared.stop.Stop.{Stop}
 use Rattle.iss_top.specs.declared.stop.Stop.TheVariants as stop
 use Rattle.iss_top.specs.Statuses.{status_of}
-use Rattle.iss_top.specs.Progress.{text_to_come}
 use Rattle.iss_top.specs.Runs.{DryRun, IsCaused, EndsWell}
-use Rattle.iss_top.proofs.Saying.{sends_nothing}
-use Rattle.iss_top.proofs.Running.{ends_early}
-
--- where nothing is done, nothing is taken and nothing is said
-nothing_done : (a : World) → DryRun 2 a a
-nothing_done a =
-    ends_early 2 [] [] a a (λ e. cc) (λ e. cc) (record { bytes = refl; others = λ c other. refl; sends = sends_nothing a }) (omega arith)
-    (record { back = text_to_come nothing_yet [] (a.left 0); cut = refl })
-
-pub told_nothing_done : (x : Option World) → Told (DryRun 2) x x
-told_nothing_done x = told_self (DryRun 2) x nothing_done
 
 ends_well : (ended : Result (Unit {0}) Stop) (before now : Faults) (a b : World) → IsCaused before now ended → DryRun (status_of ended) a b → EndsWell before now (status_of ended) a b
 ends_well (Ok done) before now a b caused run input output short = inl refl

@@ -12,3 +12,5 @@ pub mod ToldFed
 pub mod Running
 pub mod ToldRuns
 pub mod Commands
+pub mod Numbers
+pub mod Formatted

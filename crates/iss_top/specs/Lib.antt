@@ -7,3 +7,4 @@ pub mod Repeats
 pub mod Progress
 pub mod Runs
 pub mod Words
+pub mod FormatRuns

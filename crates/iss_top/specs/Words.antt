@@ -1,9 +1,84 @@
--- The words of a run.
-use Rattle.std.specs.Prelude.{ℕ, Bool, false, List, [], ◌∷◌, codes}
+-- The words of a run, and what they ask for.
+use Rattle.std.specs.Prelude.{◌≡◌, ℕ, ◌<◌, ◌≤◌, ◌^◌, ◌+◌, ◌-◌, ◌*◌, Bool, not, ◌&&◌, ◌||◌, ◌==◌, nat_le, nat_lt, List, [], ◌∷◌, length, slice_index, fold, codes, Option, Some, None, if◌then◌else◌}
+use Rattle.std.specs.List.{list_all}
 use Rattle.std.specs.Str.{bytes_eq}
+use Rattle.iss_model.specs.Amounts.{is_digit, digits_value, is_whole_text}
+use Rattle.iss_top.specs.declared.words.Command.{Command}
+use Rattle.iss_top.specs.declared.words.Command.TheVariants.{Dry, Format}
 
--- the one word `dry`
-abbrev pub is_dry : List (List ℕ) → Bool
-is_dry [] = false
-is_dry (word ∷ []) = bytes_eq word (codes "dry")
-is_dry (word ∷ another ∷ words) = false
+-- this number, where it is from the least to the most
+abbrev pub within : ℕ → ℕ → ℕ → Option ℕ
+within least most n = if nat_le least n && nat_le n most then Some n else None
+
+-- the number that a word says, where it is from the least to the most: decimal digits without a zero in front, save a lone zero
+abbrev pub number_in : ℕ → ℕ → List ℕ → Option ℕ
+number_in least most word = if is_whole_text word then within least most (digits_value word) else None
+
+-- a device's name: 1 to 4096 bytes, of which the first is no minus sign
+abbrev pub is_device : List ℕ → Bool
+is_device word = nat_lt 0 (length word) && not (slice_index word 0 == 45) && nat_le (length word) 4096
+
+-- formatting, where both numbers are there
+abbrev pub format_of : Option ℕ → Option ℕ → Option Command
+format_of (Some size) (Some instance) = Some (Format size instance)
+format_of (Some size) None = None
+format_of None instance = None
+
+-- `dry`
+abbrev pub dry_said : List ℕ → Option Command
+dry_said name = if bytes_eq name (codes "dry") then Some Dry else None
+
+-- `format DEVICE SIZE INSTANCE`, with a size of 17 to 4294967296 and an instance below 2^48
+abbrev pub format_said : List ℕ → List ℕ → List ℕ → List ℕ → Option Command
+format_said name device size instance =
+    if bytes_eq name (codes "format") && is_device device
+    then format_of (number_in 17 4294967296 size) (number_in 0 281474976710655 instance)
+    else None
+
+-- what the words ask for
+unfoldable pub command_said : List (List ℕ) → Option Command
+command_said (name ∷ []) = dry_said name
+command_said (name ∷ device ∷ size ∷ instance ∷ []) = format_said name device size instance
+command_said words = None
+
+-- digits without a zero before another
+abbrev pub is_unpadded : List ℕ → Bool
+is_unpadded digits = nat_lt 0 (length digits) && (length digits == 1 || not (slice_index digits 0 == 48))
+
+-- the number that digits spell behind those of another number
+abbrev pub value_behind : ℕ → List ℕ → ℕ
+value_behind start digits = fold (λ value digit. 10 * value + (digit - 48)) start digits
+
+-- that number, where these are digits and it is from the least to the most
+abbrev pub number_behind : ℕ → ℕ → ℕ → List ℕ → Option ℕ
+number_behind start least most digits = if list_all is_digit digits then within least most (value_behind start digits) else None
+
+-- a command's numbers are in their ranges
+abbrev pub IsInRange : Command → Type 0
+IsInRange Dry = Unit {0}
+IsInRange (Format size instance) =
+    (17 ≤ size) × (size ≤ 2 ^ 32) × (instance < 2 ^ 48)
+
+-- the statuses that a run by these words may end with
+abbrev pub statuses : Option Command → List ℕ
+statuses (Some Dry) = 0 ∷ 3 ∷ 5 ∷ 7 ∷ 8 ∷ []
+statuses (Some (Format size instance)) = 0 ∷ 4 ∷ 6 ∷ []
+statuses None = 2 ∷ []
+
+-- the words ask to format a device of another size than this one's
+abbrev pub IsOtherSize : Option Command → ℕ → Type 0
+IsOtherSize (Some (Format size instance)) extent = extent ≡ size → ⊥
+IsOtherSize (Some Dry) extent = ⊥
+IsOtherSize None extent = ⊥
+
+-- where the words ask for a dry run, this holds
+abbrev pub OnDry : Option Command → Type 0 → Type 0
+OnDry (Some Dry) P = P
+OnDry (Some (Format size instance)) P = Unit {0}
+OnDry None P = Unit {0}
+
+-- where the words ask for formatting, this holds of the size and the instance
+abbrev pub OnFormat : Option Command → (ℕ → ℕ → Type 0) → Type 0
+OnFormat (Some (Format size instance)) P = P size instance
+OnFormat (Some Dry) P = Unit {0}
+OnFormat None P = Unit {0}

@@ -1,12 +1,15 @@
 //! The words of a run, and what they do.
-ghost use Rattle.std.specs.Prelude.{◌≡◌, ◌↔◌, ◌==◌, true, false, [], ◌∷◌, map, string_bytes, IsTrue};
+ghost use Rattle.std.specs.Prelude.{◌≡◌, ◌↔◌, ◌==◌, None, map, string_bytes, IsTrue};
 ghost use Rattle.std.specs.List.{list_any};
 ghost use Rattle.iss_edge.specs.World.{Told, Rose};
-ghost use Rattle.iss_top.specs.Words.{is_dry};
+ghost use Rattle.iss_top.specs.Words.{command_said, statuses, IsOtherSize, OnDry, OnFormat};
 ghost use Rattle.iss_top.specs.Runs.{DryRun, EndsWell};
+ghost use Rattle.iss_top.specs.FormatRuns.{FormatRun};
 
 use crate::dry::dry;
+use crate::format::format;
 use crate::stop::status_of;
+use crate::words::{Command, Usage, command_of};
 use iss_edge::Edge;
 use std::alloc::Global;
 
@@ -16,41 +19,41 @@ const USAGE: u8 = 2;
 /// Does all that the program does, by the words behind the program's name, and answers the exit status.
 ///
 /// The one word `dry` reads event lines from channel 0 to its end and writes what they are told, one line of JSON
-/// (RFC 8259) each. The statuses are 0 for a run that came to its end, 2 for words that are no command, 3 where the
-/// input failed, 5 where the output failed, 7 where memory was wanted, and 8 where the input has more than 4294967296
-/// bytes.
-#[tactic(auto, using(crate::proofs::Commands::told_nothing_done))]
+/// (RFC 8259) each. `format DEVICE SIZE INSTANCE` makes the device, of SIZE bytes, one of this instance that stands for
+/// no records. The statuses are 0 for a run that came to its end, 2 for words that are no command, 3 where the input
+/// failed, 4 where the device has another size, 5 where the output failed, 6 where a call on the device failed, 7 where
+/// memory was wanted, and 8 where the input has more than 4294967296 bytes.
 pub fn run<E: Edge>(alloc: Global, words: &[String], edge: &mut E) -> u8
-    // No other status.
-    ensures known { IsTrue (list_any (λ status. result == status) (0 ∷ 2 ∷ 3 ∷ 5 ∷ 7 ∷ 8 ∷ [])) }
+    // No other status, by the words.
+    ensures known { IsTrue (list_any (λ status. result == status) (statuses (command_said (map string_bytes words.now)))) }
 
     // The words decide over 2, and then nothing is done.
-    ensures usage { (result ≡ 2) ↔ (is_dry (map string_bytes words.now) ≡ false) }
+    ensures usage { (result ≡ 2) ↔ (command_said (map string_bytes words.now) ≡ None) }
     ensures untouched { result ≡ 2 → edge.new ≡ edge.old }
+
+    // The device's size decides over 4, and then nothing is done.
+    ensures other_size { (result ≡ 4) ↔ IsOtherSize (command_said (map string_bytes words.now)) (E.extent edge.old) }
+    ensures unwritten { result ≡ 4 → edge.new ≡ edge.old }
 
     // The outside is at fault where it is blamed.
     ensures input_fault { result ≡ 3 → Rose (E.faults edge.old).input (E.faults edge.new).input }
     ensures output_fault { result ≡ 5 → Rose (E.faults edge.old).output (E.faults edge.new).output }
+    ensures disk_fault { result ≡ 6 → Rose (E.faults edge.old).disk (E.faults edge.new).disk }
 
-    // What went out is the transcript of the input's lines, or a front of it; 8 comes exactly at its number.
-    ensures transcript { Told (DryRun result) (E.told edge.old) (E.told edge.new) }
+    // Of a dry run what went out is the transcript of the input's lines, or a front of it; 8 comes exactly at its number.
+    // Where the outside isn't at fault, and the input isn't too long, it comes to its end, or wants memory.
+    ensures transcript { OnDry (command_said (map string_bytes words.now))
+        (Told (DryRun result) (E.told edge.old) (E.told edge.new)) }
+    ensures complete { OnDry (command_said (map string_bytes words.now))
+        (Told (EndsWell (E.faults edge.old) (E.faults edge.new) result) (E.told edge.old) (E.told edge.new)) }
 
-    // Where the outside isn't at fault, a dry run of an input that isn't too long comes to its end, or wants memory.
-    ensures complete { is_dry (map string_bytes words.now) ≡ true
-        → Told (EndsWell (E.faults edge.old) (E.faults edge.new) result) (E.told edge.old) (E.told edge.new) }
+    // What formatting does.
+    ensures formatting { OnFormat (command_said (map string_bytes words.now)) (λ size instance.
+        FormatRun size instance (E.extent edge.old) result (E.faults edge.old) (E.faults edge.new) (E.told edge.old) (E.told edge.new)) }
 {
-    if !is_dry(words) {
-        return USAGE;
-    }
-    status_of(dry(alloc, edge))
-}
-
-/// Whether the words are the one word `dry`.
-fn is_dry(words: &[String]) -> bool
-    ensures { result ≡ is_dry (map string_bytes words.now) }
-{
-    match words {
-        [word] => word.as_str() == "dry",
-        _ => false,
+    match command_of(words) {
+        Ok(Command::Dry) => status_of(dry(alloc, edge)),
+        Ok(Command::Format { size, instance }) => format(edge, size, instance),
+        Err(Usage) => USAGE,
     }
 }

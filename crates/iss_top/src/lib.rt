@@ -9,8 +9,11 @@ mod contents;
 mod dry;
 mod entries;
 mod feed;
+mod format;
 mod rows;
 mod stop;
 mod telling;
+mod words;
 
 pub use command::run;
+pub use words::{Command, Usage, command_of};

@@ -1,0 +1,122 @@
+//! The file that a device is.
+
+ghost use Rattle.std.specs.Prelude.{◌≡◌, IfErr, IsErr, None};
+
+use std::fs::{File, Files, OpenOptions, remove_file};
+use std::io;
+use std::io::ErrorKind;
+use std::os::unix::fs::FileExt;
+use std::path::Path;
+
+/// A device: an open file and its length in bytes, or a device of no bytes whose every call fails.
+#[derive(Drop)]
+pub struct Device {
+    file: Option<File>,
+    size: u64,
+}
+
+impl Device {
+    /// The device where none can be opened.
+    pub fn absent() -> Device
+        ensures size { result.size ≡ 0 }
+        ensures file { result.file ≡ None }
+    {
+        Device {
+            file: None,
+            size: 0,
+        }
+    }
+
+    /// The file of this name, and where there is none a new one of so many zero bytes. Where it can't be opened or made,
+    /// the device is absent.
+    pub fn opened_or_made<R: Files<File = File>>(files: &R, name: &str, size: u64) -> Device {
+        match Device::open(files, name) {
+            Ok(device) => device,
+            Err(e) if e.kind() == ErrorKind::NotFound => {
+                Device::make(files, name, size).unwrap_or(Device::absent())
+            }
+            Err(_) => Device::absent(),
+        }
+    }
+
+    fn open<R: Files<File = File>>(files: &R, name: &str) -> io::Result<Device> {
+        let file = OpenOptions::new().read(true).write(true).open(files, name)?;
+        let size = file.metadata()?.len();
+        Ok(Device {
+            file: Some(file),
+            size,
+        })
+    }
+
+    /// A new file of so many zero bytes, which is taken away again where it can't be made to last.
+    fn make<R: Files<File = File>>(files: &R, name: &str, size: u64) -> io::Result<Device> {
+        let file = File::create_new(files, name)?;
+        match lengthen(files, &file, name, size) {
+            Ok(()) => Ok(Device {
+                file: Some(file),
+                size,
+            }),
+            Err(e) => {
+                let _ = remove_file(files, name);
+                Err(e)
+            }
+        }
+    }
+
+    /// The length in bytes.
+    pub fn size(&self) -> u64
+        ensures { result ≡ self.now.size }
+    {
+        self.size
+    }
+
+    /// Reads the bytes from this place on into `buf`.
+    pub fn read_at(&self, at: u64, buf: &mut [u8]) -> io::Result<()>
+        ensures absent { self.now.file ≡ None → IsErr result }
+    {
+        self.file()?.read_exact_at(buf, at)
+    }
+
+    /// Writes the bytes from this place on.
+    pub fn write_at(&self, at: u64, bytes: &[u8]) -> io::Result<()>
+        ensures absent { self.now.file ≡ None → IsErr result }
+    {
+        self.file()?.write_all_at(bytes, at)
+    }
+
+    /// Makes all that was written last.
+    pub fn sync(&self) -> io::Result<()>
+        ensures absent { self.now.file ≡ None → IsErr result }
+    {
+        self.file()?.sync_all()
+    }
+
+    fn file(&self) -> io::Result<&File>
+        ensures { self.now.file ≡ None → IsErr result }
+    {
+        match &self.file {
+            Some(file) => Ok(file),
+            None => Err(io::Error::from(ErrorKind::NotFound)),
+        }
+    }
+}
+
+/// Gives a new file its length, and makes the file and its name last.
+fn lengthen<R: Files<File = File>>(
+    files: &R,
+    file: &File,
+    name: &str,
+    size: u64,
+) -> io::Result<()> {
+    file.set_len(size)?;
+    file.sync_all()?;
+    File::open(files, folder_of(name))?.sync_all()
+}
+
+/// The folder in which a file of this name stands.
+fn folder_of(name: &str) -> Path<'_> {
+    match Path::new(name).parent() {
+        Some(folder) if !folder.as_str().is_empty() => folder,
+        _ => Path::new("."),
+    }
+}

@@ -1,0 +1,137 @@
+//! What the words of a run ask for.
+ghost use Rattle.std.specs.Prelude.{◌≡◌, ◌≤◌, map, string_bytes, IfOk, IfSome};
+ghost use Rattle.std.specs.Result.{result_ok};
+ghost use Rattle.iss_top.specs.Words.{is_device, is_unpadded, number_behind, number_in, dry_said, format_said, command_said, IsInRange};
+
+/// The most bytes that the name of a device has.
+const LONGEST_NAME: usize = 4096;
+
+/// The fewest bytes that a device has.
+const LEAST_SIZE: u64 = 17;
+
+/// The most bytes that a device has.
+const GREATEST_SIZE: u64 = 4_294_967_296;
+
+/// The greatest instance, which takes 48 bits.
+const GREATEST_INSTANCE: u64 = 281_474_976_710_655;
+
+/// What a run is to do.
+#[derive(Debug, Clone, Copy)]
+pub enum Command {
+    /// `dry`: lines are told what becomes of them, with no device.
+    Dry,
+    /// `format DEVICE SIZE INSTANCE`: the device of so many bytes is made one of this instance that stands for no records.
+    Format { size: u64, instance: u64 },
+}
+
+/// The words are no command.
+#[derive(Debug, Clone, Copy)]
+pub struct Usage;
+
+/// What the words behind the program's name ask for.
+///
+/// A number is decimal digits without a sign, and without a zero in front but in `0` itself. DEVICE has 1 to 4096 bytes
+/// and doesn't begin with `-`, SIZE is 17 to 4294967296, and INSTANCE is 0 to 281474976710655.
+pub fn command_of(words: &[String]) -> Result<Command, Usage>
+    ensures said { result_ok result ≡ command_said (map string_bytes words.now) }
+    ensures ranges { IfOk result IsInRange }
+{
+    match said(words) {
+        Some(command) => Ok(command),
+        None => Err(Usage),
+    }
+}
+
+/// The command that the words say, where they say one.
+#[tactic(auto, using(crate::proofs::Numbers::two_or_three, crate::proofs::Numbers::five_or_more), unfolding(crate::specs::Words::command_said))]
+fn said(words: &[String]) -> Option<Command>
+    ensures said { result ≡ command_said (map string_bytes words.now) }
+    ensures ranges { IfSome result IsInRange }
+{
+    match words {
+        [name] => dry_said(name.as_str()),
+        [name, device, size, instance] => format_said(
+            name.as_str(),
+            device.as_bytes(),
+            size.as_bytes(),
+            instance.as_bytes(),
+        ),
+        _ => None,
+    }
+}
+
+/// What a word by itself asks for.
+fn dry_said(name: &str) -> Option<Command>
+    ensures said { result ≡ dry_said name.now }
+    ensures ranges { IfSome result IsInRange }
+{
+    (name == "dry").then_some(Command::Dry)
+}
+
+/// What four words ask for.
+fn format_said(name: &str, device: &[u8], size: &[u8], instance: &[u8]) -> Option<Command>
+    ensures said { result ≡ format_said name.now device.now size.now instance.now }
+    ensures ranges { IfSome result IsInRange }
+{
+    if name != "format" || !is_device(device) {
+        return None;
+    }
+    let size = number_in(LEAST_SIZE, GREATEST_SIZE, size)?;
+    let instance = number_in(0, GREATEST_INSTANCE, instance)?;
+    Some(Command::Format { size, instance })
+}
+
+/// Whether this can be the name of a device.
+fn is_device(word: &[u8]) -> bool
+    ensures { result ≡ is_device word.now }
+{
+    match word {
+        [] => false,
+        [first, ..] => *first != b'-' && word.len() <= LONGEST_NAME,
+    }
+}
+
+/// The number that a word says, where it is from `least` to `most`.
+fn number_in(least: u64, most: u64, word: &[u8]) -> Option<u64>
+    requires { most ≤ 281474976710655 }
+    ensures said { result ≡ number_in least most word.now }
+    ensures range { IfSome result (λ n. (least ≤ n) × (n ≤ most)) }
+{
+    if is_unpadded(word) {
+        number_behind(0, least, most, word)
+    } else {
+        None
+    }
+}
+
+/// There are digits, with no zero before another.
+fn is_unpadded(digits: &[u8]) -> bool
+    ensures { result ≡ is_unpadded digits.now }
+{
+    match digits {
+        [] => false,
+        [_] => true,
+        [first, ..] => *first != b'0',
+    }
+}
+
+/// The number that digits spell behind those of `start`, where it is from `least` to `most`.
+#[tactic(auto, using(crate::proofs::Numbers::stays_great))]
+fn number_behind(start: u64, least: u64, most: u64, digits: &[u8]) -> Option<u64>
+    requires { most ≤ 281474976710655 }
+    ensures said { result ≡ number_behind start least most digits.now }
+    ensures range { IfSome result (λ n. (least ≤ n) × (n ≤ most)) }
+{
+    let mut number = start;
+    for byte in digits {
+        // More digits never bring it down again.
+        if number > most {
+            return None;
+        }
+        if !byte.is_ascii_digit() {
+            return None;
+        }
+        number = 10 * number + u64::from(*byte - b'0');
+    }
+    (least..=most).contains(&number).then_some(number)
+}
