@@ -2,6 +2,10 @@
 #![tactic(auto)]
 
 #[cfg(test)]
+mod counts;
+#[cfg(test)]
+mod format;
+#[cfg(test)]
 mod hostile;
 #[cfg(test)]
 mod journal;

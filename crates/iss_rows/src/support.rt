@@ -1,5 +1,7 @@
 //! What every test here begins with.
-use iss_edge::{Action, MemoryEdge};
+ghost use Rattle.std.specs.Prelude.{◌≡◌, length, IfOk};
+
+use iss_edge::{Action, Edge, MemoryEdge};
 use iss_top::run;
 use std::alloc::{AllocError, Global};
 
@@ -14,10 +16,31 @@ pub(crate) fn edge_of(
     MemoryEdge::new(alloc, Vec::new(alloc), input, Vec::new(alloc), fails)
 }
 
+/// An edge in memory with this device and no input, whose calls of these numbers fail.
+pub(crate) fn edge_on(alloc: Global, device: &[u8], fails: &[u64]) -> Result<MemoryEdge, AllocError>
+    ensures { IfOk result (λ edge. ⟦<MemoryEdge as Edge>⟧.extent edge ≡ length device.now) }
+{
+    let device = device.to_vec(alloc)?;
+    let fails = fails.to_vec(alloc)?;
+    MemoryEdge::new(alloc, device, Vec::new(alloc), Vec::new(alloc), fails)
+}
+
 /// The status of a run by one word.
 pub(crate) fn run_by(alloc: Global, word: &str, edge: &mut MemoryEdge) -> Result<u8, AllocError> {
-    let words = vec![in alloc; String::from_str(alloc, word)?]?;
-    Ok(run(alloc, &words, edge))
+    run_words(alloc, &[word], edge)
+}
+
+/// The status of a run by these words.
+pub(crate) fn run_words(
+    alloc: Global,
+    words: &[&str],
+    edge: &mut MemoryEdge,
+) -> Result<u8, AllocError> {
+    let mut list = Vec::new(alloc);
+    for word in words {
+        list.push(String::from_str(alloc, word)?)?;
+    }
+    Ok(run(alloc, &list, edge))
 }
 
 /// All bytes that went out.
