@@ -28,7 +28,7 @@ use Rattle.iss_model.specs.declared.entry.Entry.{Entry}
 use Rattle.iss_model.specs.declared.entry.Entry.TheVariants as entry
 use Rattle.iss_model.specs.Currencies.{same_currency}
 use Rattle.iss_model.specs.Activity.{TxnNow, CallNow, is_asked}
-use Rattle.iss_model.specs.Facts.{Facts, txn_in, call_in, asked_of, next_notice}
+use Rattle.iss_model.specs.Facts.{Facts, txn_in, call_in, asked_of, next_notice, is_notice}
 use Rattle.iss_model.specs.Asks.{Ask, usage_of, ask_usage, ask_given_back, call_ask}
 use Rattle.iss_model.specs.CardReasons.{is_account_funded}
 use Rattle.iss_model.specs.StandIns.{Stand, allowed, over_limit, uncovered, stand}
@@ -248,7 +248,7 @@ input_stays (input.Refund token txn currency amount) at f =
     unless_stays (refund_reason f (txn_in f txn) currency amount) token (refunded_stays f token amount (txn_in f txn))
 input_stays (input.Answer call outcome) at f =
     of_asked_stays (λ o t. answered_as outcome f o t at) (λ o t. answered_stays outcome f o t at) (call_in f call.0) f
-input_stays (input.Ack notice) at f = plain refl
+input_stays (input.Ack notice) at f = either_stays (is_notice f notice) {xs = entry.Acked notice ∷ []} (plain refl) none_stays
 input_stays input.Time at f = none_stays
 
 expired_stays : (f : Facts) (t : Txn) → AllStay (expired f t)
