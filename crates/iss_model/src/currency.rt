@@ -1,4 +1,6 @@
 //! Currencies.
+ghost use Rattle.std.specs.Prelude.{◌≡◌};
+ghost use Rattle.iss_model.specs.Currencies.{iso_number};
 
 /// A currency of ISO 4217, by its alphabetic code.
 #[derive(Clone, Copy, Debug, PartialEq, Eq)]
@@ -10,4 +12,21 @@ pub enum Currency {
     Aud,
     Jpy,
     Kwd,
+}
+
+impl Currency {
+    /// The numeric code of ISO 4217.
+    pub fn number(self) -> u16
+        ensures { result ≡ iso_number self }
+    {
+        match self {
+            Currency::Usd => 840,
+            Currency::Eur => 978,
+            Currency::Gbp => 826,
+            Currency::Cad => 124,
+            Currency::Aud => 36,
+            Currency::Jpy => 392,
+            Currency::Kwd => 414,
+        }
+    }
 }

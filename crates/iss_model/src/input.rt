@@ -1,5 +1,6 @@
 //! What comes in: an input, and the record of one that was accepted.
 ghost use Rattle.std.specs.Prelude.{◌≡◌, IfOk};
+ghost use Rattle.iss_model.specs.Inputs.{event_token};
 
 use crate::{Association, CallId, Currency, Funding, Mccs, Moved, Scope, Token, Window};
 use std::alloc::AllocError;
@@ -129,6 +130,31 @@ pub enum Input {
         notice: u32,
     },
     Time,
+}
+
+impl Input {
+    /// The event's token. A gateway's answer, an acknowledgement and a time are no events.
+    pub fn event(&self) -> Option<Token>
+        ensures { result ≡ event_token self.now }
+    {
+        match self {
+            Input::User { token, .. }
+            | Input::Card { token, .. }
+            | Input::Move { token, .. }
+            | Input::Product { token, .. }
+            | Input::Group { token, .. }
+            | Input::Control { token, .. }
+            | Input::Set { token, .. }
+            | Input::Switch { token, .. }
+            | Input::Load { token, .. }
+            | Input::Authorization { token, .. }
+            | Input::Increment { token, .. }
+            | Input::Reversal { token, .. }
+            | Input::Clearing { token, .. }
+            | Input::Refund { token, .. } => Some(*token),
+            Input::Answer { .. } | Input::Ack { .. } | Input::Time => None,
+        }
+    }
 }
 
 impl Clone for Input {
