@@ -24,7 +24,7 @@ pub(crate) fn place_of(places: &BTreeMap<Token, usize>, txn: &Token) -> usize
 pub(crate) fn user_key(user: &Token, currency: Currency) -> (Token, u16)
     ensures { result ≡ (user.now, iso_number currency) }
 {
-    (*user, number(currency))
+    (*user, currency.number())
 }
 
 /// What is held of a user in a currency.
@@ -80,19 +80,4 @@ pub(crate) fn enter(
         return Err(AllocError);
     }
     Ok(())
-}
-
-/// The number of ISO 4217.
-fn number(currency: Currency) -> u16
-    ensures { result ≡ iso_number currency }
-{
-    match currency {
-        Currency::Usd => 840,
-        Currency::Eur => 978,
-        Currency::Gbp => 826,
-        Currency::Cad => 124,
-        Currency::Aud => 36,
-        Currency::Jpy => 392,
-        Currency::Kwd => 414,
-    }
 }

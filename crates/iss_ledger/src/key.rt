@@ -9,7 +9,7 @@ ghost use Rattle.iss_model.specs.Sums.{account_key};
 ghost use Rattle.iss_model.specs.Currencies.{iso_number};
 ghost use Rattle.iss_ledger.specs.Keys.{kind_of, user_of, number_of, is_above_zero};
 
-use iss_model::{Account, Currency};
+use iss_model::Account;
 use std::cmp::Ordering;
 use std::marker::Model;
 
@@ -118,20 +118,6 @@ fn currency(account: &Account) -> u16
         Account::User(_, currency)
         | Account::Gateway(currency)
         | Account::Network(currency)
-        | Account::Programme(currency) => number(*currency),
-    }
-}
-
-fn number(currency: Currency) -> u16
-    ensures { result ≡ iso_number currency }
-{
-    match currency {
-        Currency::Usd => 840,
-        Currency::Eur => 978,
-        Currency::Gbp => 826,
-        Currency::Cad => 124,
-        Currency::Aud => 36,
-        Currency::Jpy => 392,
-        Currency::Kwd => 414,
+        | Account::Programme(currency) => currency.number(),
     }
 }

@@ -21,14 +21,16 @@ use Rattle.iss_model.specs.Keeper.{Growth}
 use Rattle.iss_model.specs.Stepping.{step}
 use Rattle.iss_model.specs.Judging.{judge}
 use Rattle.iss_model.specs.Histories.{History, nothing_yet, time_of, accepted_from, events_of, history_facts, history_keeper, history_of}
-use Rattle.iss_model.specs.Cores.{CoreState, ProductNow, control_told, taken_up, core_facts, core_keeper, core_of}
+use Rattle.iss_model.specs.Cores.{CoreState, ProductNow, no_core, control_told, taken_up, core_facts, core_keeper, core_of}
 use Rattle.iss_model.specs.Shown.{product_shown, control_shown, kept_part_changes, kept_held_changes, shown_by}
 use Rattle.iss_model.specs.Laws.{Shows}
 use Rattle.iss_model.proofs.Lists.{map-alike, map-map, map-same}
 use Rattle.iss_model.proofs.KeptSums.{kept-sum, sum_kept, ChangeAlike}
 use Rattle.iss_model.proofs.Standing.{Fit}
 use Rattle.iss_model.proofs.Fitting.{IsGood, enters}
+use Rattle.iss_model.specs.Transcripts.{Reading, transcript}
 use Rattle.iss_model.proofs.Keepers.{step-shown, judge-shown, steps-shown}
+use Rattle.iss_model.proofs.Reacting.{transcript-shown}
 use Rattle.iss_model.proofs.BookAndState.{book_kept, nothing_good, history_good}
 
 -- the facts ----
@@ -153,3 +155,9 @@ judge_history rs i stamp =
 -- the state behind one more record is that of the longer list
 pub core_step : (rs : List Record) (r : Record) → (step core_keeper (core_of rs) r).world ≡ core_of (rs ++ r ∷ [])
 core_step rs r = sym (fold-append (λ (s : CoreState) (x : Record). (step core_keeper s x).world) _ rs (r ∷ []))
+
+-- a core is told the transcript of the book
+pub core_transcript : (lines : List Reading) → transcript core_keeper no_core lines ≡ transcript history_keeper nothing_yet lines
+core_transcript lines =
+    ap (λ (s : CoreState). transcript core_keeper s lines) (core_history [])
+    ∙ transcript-shown history_keeper core_keeper shown_by IsGood Fit book_kept core_shows nothing_yet lines nothing_good

@@ -1,5 +1,6 @@
 pub mod TokenTexts
 pub mod Keepers
+pub mod Reacting
 pub mod Names
 pub mod KeptSums
 pub mod Lists

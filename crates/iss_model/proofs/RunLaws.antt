@@ -31,8 +31,8 @@ clock_follows h i stamp r e =
 
 -- what may follow a record that is made only where it fits
 fitting : (h : History) (i : Input) (stamp : ℕ) (fit : Bool) (a : Answer) (r : Record) (j : Judged) (rest : List Record) → record_made j ≡ Some r
-    → (reaction_as h i stamp j).history ≡ (step history_keeper h r).world → Follows h r
-    → IsLegalAfter (reaction_as h i stamp (cond fit j (judged.Told a))).history rest
+    → (reaction_as history_keeper h i stamp j).world ≡ (step history_keeper h r).world → Follows h r
+    → IsLegalAfter (reaction_as history_keeper h i stamp (cond fit j (judged.Told a))).world rest
     → IsLegalAfter h (option_to_list (record_made (cond fit j (judged.Told a))) ++ rest)
 fitting h i stamp true a r j rest made next follows legal =
     subst (λ o. IsLegalAfter h (option_to_list o ++ rest)) (sym made) (follows, subst (λ w. IsLegalAfter w rest) next legal)
@@ -40,8 +40,8 @@ fitting h i stamp false a r j rest made next follows legal = legal
 
 -- the same in any room
 fitting_in : (room : Option Room) (h : History) (i : Input) (stamp : ℕ) (r : Record) (j : Judged) (rest : List Record) → record_made j ≡ Some r
-    → (reaction_as h i stamp j).history ≡ (step history_keeper h r).world → Follows h r
-    → IsLegalAfter (reaction_as h i stamp (where_it_fits room h.records r j)).history rest
+    → (reaction_as history_keeper h i stamp j).world ≡ (step history_keeper h r).world → Follows h r
+    → IsLegalAfter (reaction_as history_keeper h i stamp (where_it_fits room h.records r j)).world rest
     → IsLegalAfter h (option_to_list (record_made (where_it_fits room h.records r j)) ++ rest)
 fitting_in None h i stamp r j rest made next follows legal = fitting h i stamp true answer.Idle r j rest made next follows legal
 fitting_in (Some room) h i stamp r j rest made next follows legal =
@@ -49,7 +49,7 @@ fitting_in (Some room) h i stamp r j rest made next follows legal =
 
 -- a line's record, where it makes one, follows on what stands
 judged_legal : (room : Option Room) (h : History) (i : Input) (stamp : ℕ) (j : Judged) (rest : List Record) → judge history_keeper h i stamp ≡ j
-    → IsLegalAfter (reaction_as h i stamp (judged_within room h.records j)).history rest
+    → IsLegalAfter (reaction_as history_keeper h i stamp (judged_within room h.records j)).world rest
     → IsLegalAfter h (option_to_list (record_made (judged_within room h.records j)) ++ rest)
 judged_legal room h i stamp (judged.New r) rest e legal = fitting_in room h i stamp r (judged.New r) rest refl refl (new_follows h i stamp r e) legal
 judged_legal room h i stamp (judged.Clock r) rest e legal = fitting_in room h i stamp r (judged.Clock r) rest refl refl (clock_follows h i stamp r e) legal
@@ -65,7 +65,7 @@ accepted_legal s (faulty text ∷ lines) = accepted_legal s lines
 
 -- ---- the history that a run leaves
 
-reacted : (h : History) (i : Input) (stamp : ℕ) (j : Judged) → (reaction_as h i stamp j).history ≡ fold (λ h r. (step history_keeper h r).world) h (option_to_list (record_made j))
+reacted : (h : History) (i : Input) (stamp : ℕ) (j : Judged) → (reaction_as history_keeper h i stamp j).world ≡ fold (λ h r. (step history_keeper h r).world) h (option_to_list (record_made j))
 reacted h i stamp (judged.New r) = refl
 reacted h i stamp (judged.Clock r) = refl
 reacted h i stamp (judged.Told a) = refl
@@ -104,14 +104,14 @@ dry_after h = record { instance = 0; room = None; history = h }
 
 -- what a line is told that was judged so
 abbrev line_said : History → Input → ℕ → Judged → List Text
-line_said h i stamp j = at_level (length (reaction_as h i stamp j).history.records) (map (said_text_at 0) (reaction_as h i stamp j).said)
+line_said h i stamp j = at_level (length (reaction_as history_keeper h i stamp j).world.records) (map (said_text_at 0) (reaction_as history_keeper h i stamp j).said)
 
 -- the same, and what the lines behind it are told in this room
 abbrev line_on : History → Input → ℕ → List Reading → Judged → Option Room → List Text
 line_on h i stamp lines j room =
-    line_said h i stamp j ++ line_texts (record { instance = 0; room = room; history = (reaction_as h i stamp j).history }) lines
+    line_said h i stamp j ++ line_texts (record { instance = 0; room = room; history = (reaction_as history_keeper h i stamp j).world }) lines
 
-dry_lines : (h : History) (lines : List Reading) → line_texts (dry_after h) lines ≡ transcript h lines
+dry_lines : (h : History) (lines : List Reading) → line_texts (dry_after h) lines ≡ transcript history_keeper h lines
 unfolding reaction
 dry_lines h [] = refl
 dry_lines h (sound i at ∷ lines) =
@@ -120,16 +120,16 @@ dry_lines h (sound i at ∷ lines) =
     let k = judged_within None h.records j in
     ap (λ room. line_on h i stamp lines k room) (no_room h.records (record_made k))
     ∙ ap (λ made. line_on h i stamp lines made None) (without_device h j)
-    ∙ ap (λ (t : List Text). line_said h i stamp j ++ t) (dry_lines (reaction_as h i stamp j).history lines)
+    ∙ ap (λ (t : List Text). line_said h i stamp j ++ t) (dry_lines (reaction_as history_keeper h i stamp j).world lines)
 dry_lines h (faulty text ∷ lines) = ap (λ (t : List Text). (response (dry_after h) (faulty text)).texts ++ t) (dry_lines h lines)
 
-pub dry_texts : (lines : List Reading) → transcript_of dry_run lines ≡ transcript nothing_yet lines
+pub dry_texts : (lines : List Reading) → transcript_of dry_run lines ≡ transcript history_keeper nothing_yet lines
 unfolding transcript_of
 dry_texts lines = dry_lines nothing_yet lines
 
 -- ---- records and levels
 
-reacted_records : (h : History) (i : Input) (stamp : ℕ) (j : Judged) → (reaction_as h i stamp j).history.records ≡ h.records ++ option_to_list (record_made j)
+reacted_records : (h : History) (i : Input) (stamp : ℕ) (j : Judged) → (reaction_as history_keeper h i stamp j).world.records ≡ h.records ++ option_to_list (record_made j)
 reacted_records h i stamp (judged.New r) = step_records h r
 reacted_records h i stamp (judged.Clock r) = step_records h r
 reacted_records h i stamp (judged.Told a) = sym (append-nil h.records)
@@ -152,7 +152,7 @@ rise_at : (low level high : ℕ) (texts : List (List ℕ)) (more : List Text) �
 rise_at low level high [] more le rise = rise_sooner low level high more le rise
 rise_at low level high (t ∷ ts) more le rise = (le, rise_at level level high ts more (omega arith) rise)
 
-grown : (h : History) (i : Input) (stamp : ℕ) (j : Judged) → length h.records ≤ length (reaction_as h i stamp j).history.records
+grown : (h : History) (i : Input) (stamp : ℕ) (j : Judged) → length h.records ≤ length (reaction_as history_keeper h i stamp j).world.records
 grown h i stamp j =
     rw (reacted_records h i stamp j) (omega (arith, length-append h.records (option_to_list (record_made j))))
 

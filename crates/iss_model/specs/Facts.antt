@@ -1,5 +1,5 @@
 -- All that the rules ask of what stands.
-use Rattle.std.specs.Prelude.{ℕ, ◌+◌, ℤ, pos, negsuc, ◌-ℤ◌, Bool, ◌&&◌, nat_le, List, find, filter, length, Option, Some, None}
+use Rattle.std.specs.Prelude.{ℕ, ◌+◌, ℤ, pos, negsuc, ◌-ℤ◌, Bool, ◌&&◌, nat_le, List, find, filter, length, Option, Some, None, option_map}
 use Rattle.std.specs.Str.{bytes_eq}
 use Rattle.iss_model.specs.declared.currency.Currency.{Currency}
 use Rattle.iss_model.specs.declared.account.Account.{Account}
@@ -74,6 +74,10 @@ replied (Some d) = Decided d.verdict
 -- an event's verdict, or that its call is still open
 abbrev pub reply_in : Facts → List ℕ → Reply
 reply_in f token = replied (find (λ d. bytes_eq d.event token) f.decisions)
+
+-- what is told of an event, where it stands
+abbrev pub event_reply : Facts → List ℕ → Option Reply
+event_reply f token = option_map (λ first. reply_in f token) (event_in f token)
 
 -- the balance of an account
 abbrev pub balance_in : Facts → Account → ℤ

@@ -33,10 +33,10 @@ judged_in s i stamp = judged_within s.room s.history.records (judge history_keep
 -- what an input is told that was judged so
 abbrev pub response_as : Run → Input → ℕ → Judged → Response
 response_as s i stamp j =
-    let r = reaction_as s.history i stamp j in
+    let r = reaction_as history_keeper s.history i stamp j in
     record {
-      run = record s { room = room_left s.room s.history.records (record_made j); history = r.history };
-      texts = at_level (length r.history.records) (map (said_text_at s.instance) r.said);
+      run = record s { room = room_left s.room s.history.records (record_made j); history = r.world };
+      texts = at_level (length r.world.records) (map (said_text_at s.instance) r.said);
     }
 
 -- a line: its fault alone, or what its input is told

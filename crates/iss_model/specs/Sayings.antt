@@ -14,7 +14,7 @@ use Rattle.iss_model.specs.declared.decision.Judged.{Judged}
 use Rattle.iss_model.specs.declared.decision.Judged.TheVariants as judged
 use Rattle.iss_model.specs.Stepping.{step}
 use Rattle.iss_model.specs.Judging.{judge}
-use Rattle.iss_model.specs.Histories.{History, history_keeper}
+use Rattle.iss_model.specs.Keeper.{Keeper}
 
 -- a decision, a request or a notice to the gateway, that an acknowledgement was taken, that a time was taken, or an answer to an input that isn't new
 pub data Said : Type 0 where
@@ -39,15 +39,15 @@ said_of_time input.Time = timed ∷ []
 said_of_time _ = []
 
 -- what stands after an input, and what is said of it
-pub record Reaction : Type 0 where
-  pub history : History
+pub record Reaction (W : Type 0) : Type 0 where
+  pub world : W
   pub said : List Said
 
 -- what a record makes, and what it sends out
-abbrev pub reaction_to_record : History → Record → Reaction
-reaction_to_record h r =
-    let g = step history_keeper h r in
-    record { history = g.world; said = flat_map said_by g.entries }
+abbrev pub reaction_to_record : {W : Type 0} → Keeper W → W → Record → Reaction W
+reaction_to_record k w r =
+    let g = step k w r in
+    record { world = g.world; said = flat_map said_by g.entries }
 
 -- the answer that is left for an input, when the time record before it was taken
 abbrev pub answer_left : Judged → List Said
@@ -56,15 +56,15 @@ answer_left (judged.Clock r) = []
 answer_left (judged.Told a) = told a ∷ []
 
 -- what judging comes to, as a reaction
-abbrev pub reaction_as : History → Input → ℕ → Judged → Reaction
-reaction_as h i stamp (judged.New r) =
-    let reaction = reaction_to_record h r in
+abbrev pub reaction_as : {W : Type 0} → Keeper W → W → Input → ℕ → Judged → Reaction W
+reaction_as k w i stamp (judged.New r) =
+    let reaction = reaction_to_record k w r in
     record reaction { said = reaction.said ++ said_of_time i }
-reaction_as h i stamp (judged.Clock r) =
-    let reaction = reaction_to_record h r in
-    record reaction { said = reaction.said ++ answer_left (judge history_keeper reaction.history i stamp) }
-reaction_as h i stamp (judged.Told a) = record { history = h; said = told a ∷ [] }
+reaction_as k w i stamp (judged.Clock r) =
+    let reaction = reaction_to_record k w r in
+    record reaction { said = reaction.said ++ answer_left (judge k reaction.world i stamp) }
+reaction_as k w i stamp (judged.Told a) = record { world = w; said = told a ∷ [] }
 
--- an input at a stamp, on a history
-unfoldable pub reaction : History → Input → ℕ → Reaction
-reaction h i stamp = reaction_as h i stamp (judge history_keeper h i stamp)
+-- an input at a stamp, on what stands
+unfoldable pub reaction : {W : Type 0} → Keeper W → W → Input → ℕ → Reaction W
+reaction k w i stamp = reaction_as k w i stamp (judge k w i stamp)

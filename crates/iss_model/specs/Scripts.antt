@@ -22,7 +22,7 @@ use Rattle.iss_model.specs.declared.txn.Used.{Used}
 use Rattle.iss_model.specs.Facts.{Facts, balance_in, held_in}
 use Rattle.iss_model.specs.Asks.{used_in}
 use Rattle.iss_model.specs.Activity.{is_asked}
-use Rattle.iss_model.specs.Histories.{History, nothing_yet, history_facts}
+use Rattle.iss_model.specs.Histories.{History, nothing_yet, history_facts, history_keeper}
 use Rattle.iss_model.specs.Sayings.{Said, decided, asked, noticed, told, reaction}
 
 -- an input, the stamp that its line gives, or 0, and what is said of it
@@ -63,12 +63,13 @@ pub record Script : Type 0 where
 -- what is said of each step's input, one after the other
 abbrev pub said_of : History → List Step → List (List Said)
 said_of h [] = []
-said_of h (s ∷ steps) = (reaction h s.input s.at).said ∷ said_of (reaction h s.input s.at).history steps
+said_of h (s ∷ steps) =
+    let r = reaction history_keeper h s.input s.at in r.said ∷ said_of r.world steps
 
 -- the history that the steps' inputs make
 abbrev pub history_after : History → List Step → History
 history_after h [] = h
-history_after h (s ∷ steps) = history_after (reaction h s.input s.at).history steps
+history_after h (s ∷ steps) = history_after (reaction history_keeper h s.input s.at).world steps
 
 -- the sheet of a currency, as it stands
 abbrev pub sheet_of : Facts → Currency → Sheet

@@ -1,5 +1,5 @@
 -- What a run is told to write: for each line its texts, on what stood before it.
-use Rattle.std.specs.Prelude.{ℕ, List, [], ◌∷◌, ◌++◌, length, map, Option, unwrap_or}
+use Rattle.std.specs.Prelude.{ℕ, List, [], ◌∷◌, ◌++◌, map, Option, unwrap_or}
 use Rattle.std.specs.List.{flat_map}
 use Rattle.iss_model.specs.declared.input.Input.{Input}
 use Rattle.iss_model.specs.declared.entry.Entry.{Entry}
@@ -7,7 +7,7 @@ use Rattle.iss_model.specs.declared.decision.Reply.TheVariants as reply
 use Rattle.iss_model.specs.Wordings.{reply_line}
 use Rattle.iss_model.specs.GatewayTexts.{request_text, notice_text}
 use Rattle.iss_model.specs.AnswerLines.{answer_text, acked_line, time_line}
-use Rattle.iss_model.specs.Histories.{History}
+use Rattle.iss_model.specs.Keeper.{Keeper}
 use Rattle.iss_model.specs.Sayings.{Said, decided, asked, noticed, acked, timed, told, said_by, Reaction, reaction}
 
 -- a line as it was read: an input with the stamp that it gives, or the text of its fault
@@ -21,8 +21,8 @@ pub record Text : Type 0 where
   pub bytes : List ℕ
 
 -- what stands after a line, and the texts that it is told
-pub record Told : Type 0 where
-  pub history : History
+pub record Told (W : Type 0) : Type 0 where
+  pub world : W
   pub texts : List Text
 
 -- texts that are all due to go at one level
@@ -47,18 +47,18 @@ abbrev pub entry_texts : Entry → List (List ℕ)
 entry_texts e = map said_text (said_by e)
 
 -- what is said of an input as texts, at the level that counts its record
-abbrev pub told_by_reaction : Reaction → Told
-told_by_reaction r = record { history = r.history; texts = at_level (length r.history.records) (map said_text r.said) }
+abbrev pub told_by_reaction : {W : Type 0} → Keeper W → Reaction W → Told W
+told_by_reaction k r = record { world = r.world; texts = at_level (k.facts r.world).count (map said_text r.said) }
 
--- a line told on a history: its fault, or what is said of its input
-abbrev pub after_line : History → Reading → Told
-after_line h (sound i at) = told_by_reaction (reaction h i (unwrap_or at 0))
-after_line h (faulty text) = record { history = h; texts = at_level (length h.records) (text ∷ []) }
+-- a line told on what stands: its fault, or what is said of its input
+abbrev pub after_line : {W : Type 0} → Keeper W → W → Reading → Told W
+after_line k w (sound i at) = told_by_reaction k (reaction k w i (unwrap_or at 0))
+after_line k w (faulty text) = record { world = w; texts = at_level (k.facts w).count (text ∷ []) }
 
 -- the texts of the lines, one after the other
-abbrev pub transcript : History → List Reading → List Text
-transcript h [] = []
-transcript h (line ∷ lines) = (after_line h line).texts ++ transcript (after_line h line).history lines
+abbrev pub transcript : {W : Type 0} → Keeper W → W → List Reading → List Text
+transcript k w [] = []
+transcript k w (line ∷ lines) = (after_line k w line).texts ++ transcript k (after_line k w line).world lines
 
 -- the bytes of texts in a row
 abbrev pub bytes_of : List Text → List ℕ

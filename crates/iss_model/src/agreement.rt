@@ -15,10 +15,11 @@ ghost use Rattle.iss_model.specs.Controls.{ControlPut, groups_of, controls_of, s
 ghost use Rattle.iss_model.specs.Activity.{txns_of, calls_of, notices_of, pending_of};
 ghost use Rattle.iss_model.specs.Facts.{balance_in, held_in, part_in, stood_in, reply_in};
 ghost use Rattle.iss_model.specs.Asks.{used_in};
-ghost use Rattle.iss_model.specs.Histories.{time_of, events_of, history_facts, history_keeper, history_of};
+ghost use Rattle.iss_model.specs.Histories.{nothing_yet, time_of, events_of, history_facts, history_keeper, history_of};
 ghost use Rattle.iss_model.specs.Stepping.{step};
 ghost use Rattle.iss_model.specs.Judging.{judge};
-ghost use Rattle.iss_model.specs.Cores.{control_told, core_facts, core_keeper, core_of};
+ghost use Rattle.iss_model.specs.Cores.{no_core, control_told, core_facts, core_keeper, core_of};
+ghost use Rattle.iss_model.specs.Transcripts.{Reading, transcript};
 ghost use Rattle.iss_model.specs.Shown.{product_shown, shown_by};
 ghost use Rattle.iss_model.specs.Laws.{rows_since};
 
@@ -33,6 +34,12 @@ pub fn core_keeps_the_book()
         → (step core_keeper (core_of rs) r).entries ≡ (step history_keeper (history_of rs) r).entries }
     ensures judged { (rs : List Record) → (i : Input) → (stamp : ℕ)
         → judge core_keeper (core_of rs) i stamp ≡ judge history_keeper (history_of rs) i stamp }
+{}
+
+/// Lines are told on a core what they are told on its book.
+#[tactic(auto, using(crate::proofs::CoreOfBook::core_transcript))]
+pub fn a_core_is_told_its_transcript()
+    ensures { (lines : List Reading) → transcript core_keeper no_core lines ≡ transcript history_keeper nothing_yet lines }
 {}
 
 /// What a control counts by origin over the whole book is what it counts in the rows of records later than its first.

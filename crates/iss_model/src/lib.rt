@@ -23,8 +23,8 @@ mod worked_devices;
 
 pub use account::{Account, Part};
 pub use agreement::{
-    controls_count_since_their_first_record, core_answers_as_its_book, core_keeps_the_book,
-    judging_is_stable,
+    a_core_is_told_its_transcript, controls_count_since_their_first_record,
+    core_answers_as_its_book, core_keeps_the_book, judging_is_stable,
 };
 pub use call::{CallId, CallState, Failure, How, Method, Notice, Opened};
 pub use currency::Currency;

@@ -11,7 +11,7 @@ ghost use Rattle.iss_model.specs.Runs.{Run, dry_run, line_texts, run_after, acce
 /// Where lines come behind others, they are told what they are told on what stands then.
 #[tactic(auto, using(crate::proofs::RunLaws::dry_texts, crate::proofs::RunLaws::accepted_legal, crate::proofs::RunLaws::history_after, crate::proofs::RunLaws::records_after, crate::proofs::RunLaws::levels, crate::proofs::RunLaws::texts_then))]
 pub fn runs_are_told_their_transcript()
-    ensures dry { (lines : List Reading) → transcript_of dry_run lines ≡ transcript nothing_yet lines }
+    ensures dry { (lines : List Reading) → transcript_of dry_run lines ≡ transcript history_keeper nothing_yet lines }
     ensures legal { (s : Run) (lines : List Reading) → IsLegalAfter s.history (accepted s lines) }
     ensures history { (s : Run) (lines : List Reading) → (run_after s lines).history ≡ fold (λ h r. (step history_keeper h r).world) s.history (accepted s lines) }
     ensures records { (s : Run) (lines : List Reading) → (run_after s lines).history.records ≡ s.history.records ++ accepted s lines }
