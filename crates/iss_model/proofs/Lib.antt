@@ -14,6 +14,7 @@ pub mod Fitting
 pub mod FitPieces
 pub mod BookAndState
 pub mod CoreOfBook
+pub mod ReportedAccounts
 pub mod Since
 pub mod JudgedAgain
 pub mod Records

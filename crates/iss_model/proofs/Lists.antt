@@ -53,7 +53,8 @@ find_passes p q (y ∷ ys) x h e =
 pub any_grows : {A : Type 0} (p : A → Bool) (xs ys : List A) → list_any p xs ≡ true → list_any p (xs ++ ys) ≡ true
 any_grows p xs ys h = list_any-append p xs ys ∙ ap (λ (b : Bool). b || list_any p ys) h
 
-neither : (a b : Bool) → (a || b) ≡ false → (a ≡ false) × (b ≡ false)
+-- where it fails that one of two tests passes, both fail
+pub neither : (a b : Bool) → (a || b) ≡ false → (a ≡ false) × (b ≡ false)
 neither true b h = cc
 neither false b h = (refl, h)
 

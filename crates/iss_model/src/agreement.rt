@@ -2,6 +2,7 @@
 //!
 //! Each law is the contract of a function with an empty body. It holds for every list of records, legal or not.
 ghost use Rattle.std.specs.Prelude.{◌≡◌, ℕ, List, [], ◌∷◌, ◌++◌, length, map};
+ghost use Rattle.std.specs.FinMap as finite;
 ghost use Rattle.iss_model.specs.declared.currency.Currency.{Currency};
 ghost use Rattle.iss_model.specs.declared.account.Account.{Account};
 ghost use Rattle.iss_model.specs.declared.account.Part.{Part};
@@ -15,6 +16,7 @@ ghost use Rattle.iss_model.specs.Controls.{ControlPut, groups_of, controls_of, s
 ghost use Rattle.iss_model.specs.Activity.{txns_of, calls_of, notices_of, pending_of};
 ghost use Rattle.iss_model.specs.Facts.{balance_in, held_in, part_in, stood_in, reply_in};
 ghost use Rattle.iss_model.specs.Asks.{used_in};
+ghost use Rattle.iss_model.specs.BalanceLines.{accounts_of};
 ghost use Rattle.iss_model.specs.Histories.{nothing_yet, time_of, events_of, history_facts, history_keeper, history_of};
 ghost use Rattle.iss_model.specs.Stepping.{step};
 ghost use Rattle.iss_model.specs.Judging.{judge};
@@ -72,6 +74,8 @@ pub fn core_answers_as_its_book()
         → used_in (core_facts (core_of rs)) control user at ≡ used_in (history_facts (history_of rs)) control user at }
     ensures balance { (rs : List Record) → (a : Account)
         → kept_at (core_of rs).balances (account_key a) ≡ balance_in (history_facts (history_of rs)) a }
+    ensures accounts { (rs : List Record)
+        → finite.keys (core_of rs).balances ≡ map account_key (accounts_of (history_of rs).rows) }
     ensures held { (rs : List Record) → (user : List ℕ) → (currency : Currency)
         → kept_at (core_of rs).holdings.held (user_key user currency) ≡ held_in (history_facts (history_of rs)) user currency }
     ensures part { (rs : List Record) → (txn : List ℕ) → (part : Part)

@@ -7,6 +7,7 @@ use Rattle.iss_model.specs.Histories.{time_of, events_of}
 use Rattle.iss_model.specs.Cores.{CoreState}
 use Rattle.iss_model.proofs.CoreOfBook.{core_history, facts_history}
 use Rattle.iss_model.proofs.Records.{records_history}
+use Rattle.iss_model.proofs.ReportedAccounts.{accounts_history}
 use Rattle.iss_model.proofs.agreement.core_answers_as_its_book.Goals as goal
 
 pub returns-clause-records : goal.returns-clause-records
@@ -59,6 +60,9 @@ returns-clause-used c rs control user at = ap (λ (f : Facts). used_in f control
 
 pub returns-clause-balance : goal.returns-clause-balance
 returns-clause-balance c rs a = ap (λ (f : Facts). f.balances (account_key a)) (facts_history rs)
+
+pub returns-clause-accounts : goal.returns-clause-accounts
+returns-clause-accounts c = accounts_history
 
 pub returns-clause-held : goal.returns-clause-held
 returns-clause-held c rs user currency = ap (λ (f : Facts). f.holds (user_key user currency)) (facts_history rs)
