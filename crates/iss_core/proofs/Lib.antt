@@ -1,0 +1,10 @@
+pub mod SameFields
+pub mod Placed
+pub mod Kept
+pub mod Refusals
+pub mod Reaching
+pub mod Purchased
+pub mod Quiet
+pub mod Sounding
+pub mod OnBook
+pub mod Stepped

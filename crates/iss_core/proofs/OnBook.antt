@@ -1,0 +1,66 @@
+-- What a core answers is what the book of its records answers.
+use Rattle.std.proofs.Common.{◌≡◌, ℕ, List, length, map, sym, ap, ◌∙◌}
+use Rattle.std.specs.Prelude.{Some, None, option_map, find, Result, Ok, Err, IfOk}
+use Rattle.std.specs.FinMap as finite
+use Rattle.iss_model.specs.declared.account.Account.{Account}
+use Rattle.iss_model.specs.declared.input.Input.{Input}
+use Rattle.iss_model.specs.declared.input.Record.{Record}
+use Rattle.iss_model.specs.declared.entry.Entry.{Entry}
+use Rattle.iss_model.specs.declared.decision.Judged.{Judged}
+use Rattle.iss_model.specs.Sums.{account_key}
+use Rattle.iss_model.specs.Inputs.{is_event}
+use Rattle.iss_model.specs.Kept.{Kept}
+use Rattle.iss_model.specs.declared.decision.Reply.{Reply}
+use Rattle.iss_model.specs.Facts.{Facts, Accepted, reply_in, event_reply}
+use Rattle.iss_model.specs.BalanceLines.{accounts_of}
+use Rattle.iss_model.specs.Stepping.{step}
+use Rattle.iss_model.specs.Judging.{judge}
+use Rattle.iss_model.specs.Histories.{time_of, history_facts, history_keeper, history_of}
+use Rattle.iss_model.specs.Cores.{CoreState, core_facts, core_keeper}
+use Rattle.iss_model.proofs.Records.{records_history}
+use Rattle.iss_model.proofs.CoreOfBook.{facts_history, judge_history, entries_history, core_step}
+use Rattle.iss_model.proofs.ReportedAccounts.{accounts_history}
+use Rattle.iss_core.specs.Values.{CoreNow, StandsFor, Steps, StepsOnBook}
+
+-- the facts that a core tells are those of the book
+pub facts_on_book : (c : CoreNow) (rs : List Record) → StandsFor c rs → core_facts c.state ≡ history_facts (history_of rs)
+facts_on_book c rs stands = ap core_facts stands ∙ facts_history rs
+
+-- and so is each answer by the facts
+pub told_on_book : {A : Type 0} (c : CoreNow) (rs : List Record) (ask : Facts → A) (answer : A) → StandsFor c rs → answer ≡ ask (core_facts c.state) → answer ≡ ask (history_facts (history_of rs))
+told_on_book c rs ask answer stands e = e ∙ ap ask (facts_on_book c rs stands)
+
+pub judged_on_book : (c : CoreNow) (rs : List Record) (i : Input) (stamp : ℕ) (j : Judged) → StandsFor c rs → j ≡ judge core_keeper c.state i stamp → j ≡ judge history_keeper (history_of rs) i stamp
+judged_on_book c rs i stamp j stands e = e ∙ ap (λ (s : CoreState). judge core_keeper s i stamp) stands ∙ judge_history rs i stamp
+
+pub accounts_on_book : (c : CoreNow) (rs : List Record) (accounts : List Account) → StandsFor c rs → map account_key accounts ≡ finite.keys c.state.balances
+    → map account_key accounts ≡ map account_key (accounts_of (history_of rs).rows)
+accounts_on_book c rs accounts stands e = e ∙ ap (λ (s : CoreState). finite.keys s.balances) stands ∙ accounts_history rs
+
+pub steps_on_book : (before after : CoreNow) (rs : List Record) (r : Record) (made : List Entry) → StandsFor before rs → Steps before after r made → StepsOnBook after rs r made
+steps_on_book before after rs r made stands steps =
+    record {
+      stands = steps.state ∙ ap (λ (s : CoreState). (step core_keeper s r).world) stands ∙ core_step rs r;
+      entries = steps.entries ∙ ap (λ (s : CoreState). (step core_keeper s r).entries) stands ∙ entries_history rs r;
+    }
+
+-- how many records the book has, and their time
+pub count_of_book : (rs : List Record) → (history_facts (history_of rs)).count ≡ length rs
+count_of_book rs = ap (λ (records : List Record). length records) (records_history rs)
+
+pub time_of_book : (rs : List Record) → (history_facts (history_of rs)).now ≡ time_of rs
+time_of_book rs = ap time_of (records_history rs)
+
+-- an event that stands is told its reply, another nothing
+pub replied_so : (f : Facts) (event : List ℕ) (first : Accepted) (reply : Reply) → find (λ (a : Accepted). is_event event a.input) f.accepted ≡ Some first → reply ≡ reply_in f event → Some reply ≡ event_reply f event
+replied_so f event first reply found told =
+    ap (λ (r : Reply). Some r) told ∙ ap (option_map (λ (a : Accepted). reply_in f event)) (sym found)
+
+pub unreplied_so : (f : Facts) (event : List ℕ) → find (λ (a : Accepted). is_event event a.input) f.accepted ≡ None → None ≡ event_reply f event
+unreplied_so f event none = ap (option_map (λ (a : Accepted). reply_in f event)) (sym none)
+
+-- the accounts that are answered are those of the book
+pub accounts_told : {A E : Type 0} (items : A → List Account) (c : CoreNow) (rs : List Record) (balances : Kept) (result : Result A E) → StandsFor c rs → finite.keys balances ≡ finite.keys c.state.balances
+    → IfOk result (λ v. map account_key (items v) ≡ finite.keys balances) → IfOk result (λ v. map account_key (items v) ≡ map account_key (accounts_of (history_of rs).rows))
+accounts_told items c rs balances (Ok v) stands same told = accounts_on_book c rs (items v) stands (told ∙ same)
+accounts_told items c rs balances (Err e) stands same told = tt

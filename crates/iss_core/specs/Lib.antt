@@ -1,0 +1,7 @@
+pub mod Values
+pub mod Places
+pub mod Events
+pub mod Decisions
+pub mod States
+pub mod Purchases
+pub mod Sound

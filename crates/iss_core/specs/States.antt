@@ -1,0 +1,38 @@
+-- The state that a core keeps in its parts, and what the methods on it do.
+use Rattle.std.specs.Prelude.{◌≡◌, ℕ, List, [], ◌∷◌, ◌++◌, fold}
+use Rattle.iss_model.specs.declared.input.Input.{Input}
+use Rattle.iss_model.specs.declared.entry.Entry.{Entry}
+use Rattle.iss_model.specs.declared.decision.Verdict.{Verdict}
+use Rattle.iss_model.specs.Kept.{nothing_kept}
+use Rattle.iss_model.specs.Stepping.{entries_of}
+use Rattle.iss_model.specs.Cores.{CoreState, core_facts, entered}
+use Rattle.iss_core.specs.declared.state.State.{State}
+
+-- the state that the parts keep; what isn't built yet is empty
+abbrev pub state_of : State → CoreState
+state_of p =
+    record {
+      now = p.time;
+      count = p.count;
+      accepted = p.events;
+      decisions = p.decisions;
+      cardholders = p.cards;
+      products = p.products;
+      groups = [];
+      controls = [];
+      stand_ins = record { sets = []; stood = nothing_kept };
+      balances = p.ledger;
+      holdings = p.holds;
+      txn_sums = record { cleared = nothing_kept; refunded = nothing_kept; paid = nothing_kept };
+      calls = [];
+      outbox = record { made = 0; pending = [] };
+    }
+
+-- the state with one more decision
+abbrev pub with_decision : State → List ℕ → Verdict → State
+with_decision p event verdict = record p { decisions = p.decisions ++ record { event = event; verdict = verdict } ∷ [] }
+
+-- an input's own entries were made and entered, and nothing else was done
+pub record Made (i : Input) (at : ℕ) (before after : CoreState) (made : List Entry) : Type 0 where
+  pub entries : made ≡ entries_of i at (core_facts before)
+  pub state : after ≡ fold entered before made

@@ -1,0 +1,45 @@
+-- What a core is, and what it says of a list of records.
+use Rattle.std.specs.Prelude.{◌≡◌, ℕ, true, List, [], ◌∷◌, ◌++◌}
+use Rattle.iss_model.specs.declared.input.Record.{Record}
+use Rattle.iss_model.specs.declared.entry.Entry.{Entry}
+use Rattle.iss_model.specs.declared.decision.Judged.{Judged}
+use Rattle.iss_model.specs.declared.decision.Judged.TheVariants as judged
+use Rattle.iss_model.specs.Due.{due_items, is_quiet}
+use Rattle.iss_model.specs.Stepping.{step}
+use Rattle.iss_model.specs.Judging.{judge}
+use Rattle.iss_model.specs.Histories.{history_keeper, history_of}
+use Rattle.iss_model.specs.Cores.{CoreState, core_facts, core_keeper, core_of}
+
+-- the instance of a core's device, and what stands
+pub record CoreNow : Type 0 where
+  pub instance : ℕ
+  pub state : CoreState
+
+-- a core stands for these records: its state is the one that they make
+abbrev pub StandsFor : CoreNow → List Record → Type 0
+StandsFor c rs = c.state ≡ core_of rs
+
+-- a record is next on a core: judged by itself, its input is new
+abbrev pub IsNext : CoreNow → Record → Type 0
+IsNext c r = judge core_keeper c.state r.input r.at ≡ judged.New r
+
+-- the record that judging gives, where it gives one, is next
+abbrev pub GivesNext : CoreNow → Judged → Type 0
+GivesNext c (judged.New r) = IsNext c r
+GivesNext c (judged.Clock r) = IsNext c r
+GivesNext c (judged.Told a) = Unit {0}
+
+-- nothing is due at a moment
+abbrev pub IsQuiet : CoreState → ℕ → Type 0
+IsQuiet s at = is_quiet (due_items (core_facts s) at) ≡ true
+
+-- a record was taken up: these are its entries, and what stands behind them
+pub record Steps (before after : CoreNow) (r : Record) (made : List Entry) : Type 0 where
+  pub kept : after.instance ≡ before.instance
+  pub state : after.state ≡ (step core_keeper before.state r).world
+  pub entries : made ≡ (step core_keeper before.state r).entries
+
+-- The same on the book: the core behind the record stands for one record more, and these are its entries.
+pub record StepsOnBook (after : CoreNow) (rs : List Record) (r : Record) (made : List Entry) : Type 0 where
+  pub stands : StandsFor after (rs ++ r ∷ [])
+  pub entries : made ≡ (step history_keeper (history_of rs) r).entries
