@@ -1,3 +1,4 @@
+pub mod LeastLine
 pub mod LinesInForm
 pub mod ObjectLemmas
 pub mod PlainTexts

@@ -1,5 +1,5 @@
 //! Reading a line.
-ghost use Rattle.std.specs.Prelude.{◌≡◌, true, None, IfOk, IsTrue};
+ghost use Rattle.std.specs.Prelude.{◌≡◌, ◌≤◌, length, true, None, IfOk, IsTrue};
 ghost use Rattle.serde_json.specs.View.{view};
 ghost use Rattle.iss_model.specs.Built.{is_built};
 ghost use Rattle.iss_model.specs.Forms.{is_in_form, is_stamp_or_none};
@@ -20,13 +20,14 @@ const LONGEST_LINE: usize = 16384;
 
 /// What a line says, without the line feed that ends it, or its first fault: `Long`, `Json`, `Field(Kind)` where its
 /// type is bad, `NotBuilt` where it is of a kind that isn't taken yet, or the first bad field in the order of its type.
-#[tactic(auto, using(crate::proofs::LinesInForm::read_input_in_form, crate::proofs::LinesInForm::read_stamp_in_form, crate::proofs::LinesInForm::read_input_built, crate::proofs::LinesInForm::read_no_stamp))]
+#[tactic(auto, using(crate::proofs::LeastLine::read_least, crate::proofs::LinesInForm::read_input_in_form, crate::proofs::LinesInForm::read_stamp_in_form, crate::proofs::LinesInForm::read_input_built, crate::proofs::LinesInForm::read_no_stamp))]
 pub fn read_line(alloc: Global, line: &[u8], mode: Mode) -> Result<Line, LineFault>
     ensures read { Reads (line_read mode line.now) result }
     ensures input_form { IfOk result (λ said. IsTrue (is_in_form said.input)) }
     ensures stamp_form { IfOk result (λ said. IsTrue (is_stamp_or_none said.at)) }
     ensures built { IfOk result (λ said. is_built said.input ≡ true) }
     ensures start { IfOk result (λ said. said.at ≡ None) }
+    ensures least { IfOk result (λ said. 4 ≤ length line.now) }
 {
     read(alloc, line, mode)
 }
