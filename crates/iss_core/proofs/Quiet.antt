@@ -62,15 +62,28 @@ new_judged s i copy stamp quiet fresh same =
     ∙ ap (λ (o : Option Answer). judged_as o true i (max stamp s.now)) fresh
     ∙ sym (quiet_judge s i stamp quiet)
 
+no_clock : (o : Option Answer) (i : Input) (at : ℕ) (r : Record) → judged_as o true i at ≡ judged.Clock r → ⊥
+no_clock None i at r h = cc
+no_clock (Some a) i at r h = cc
+
+-- no time record goes before an answer
+pub never_clock : (s : CoreState) (i : Input) (stamp : ℕ) (r : Record) → IsQuiet s (max stamp s.now) → judged.Clock r ≡ judge core_keeper s i stamp → ⊥
+never_clock s i stamp r quiet e =
+    no_clock (refusal true (core_facts s) (core_facts s) i) i (max stamp s.now) r (sym (quiet_judge s i stamp quiet) ∙ sym e)
+
+as_new : (o : Option Answer) (i : Input) (at : ℕ) (r : Record) → judged_as o true i at ≡ judged.New r → record { at = at; input = i } ≡ r
+as_new None i at r h = cc
+as_new (Some a) i at r h = cc
+
+-- a new record is of the input, at the later of the stamp and the time
+pub new_record : (s : CoreState) (i : Input) (stamp : ℕ) (r : Record) → IsQuiet s (max stamp s.now) → judged.New r ≡ judge core_keeper s i stamp → record { at = max stamp s.now; input = i } ≡ r
+new_record s i stamp r quiet e =
+    as_new (refusal true (core_facts s) (core_facts s) i) i (max stamp s.now) r (sym (quiet_judge s i stamp quiet) ∙ sym e)
+
 -- a record that judging gives is next
 pub gives_next : (c : CoreNow) (i : Input) (stamp : ℕ) (j : Judged) → IsQuiet c.state (max stamp c.state.now) → j ≡ judge core_keeper c.state i stamp → GivesNext c j
 gives_next c i stamp (judged.New r) quiet e = new_again core_keeper c.state i stamp r (sym e)
-gives_next c i stamp (judged.Clock r) quiet e =
-    absurd (no_clock (refusal true (core_facts c.state) (core_facts c.state) i) i (max stamp c.state.now) r (sym (quiet_judge c.state i stamp quiet) ∙ sym e))
-  where
-    no_clock : (o : Option Answer) (i : Input) (at : ℕ) (r : Record) → judged_as o true i at ≡ judged.Clock r → ⊥
-    no_clock None i at r h = cc
-    no_clock (Some a) i at r h = cc
+gives_next c i stamp (judged.Clock r) quiet e = absurd (never_clock c.state i stamp r quiet e)
 gives_next c i stamp (judged.Told a) quiet e = tt
 
 -- ---- a record that is next names a new event

@@ -33,7 +33,7 @@ use Rattle.iss_model.specs.Settings.{user_named, card_named, product_named, is_a
 use Rattle.iss_model.specs.Activity.{TxnNow, CallNow, is_asked, txn_named}
 use Rattle.iss_model.specs.Facts.{Facts, Accepted, available_in}
 use Rattle.iss_model.specs.Asks.{txn_begun}
-use Rattle.iss_model.specs.Reasons.{user_is, user_reason, card_reason, card_move_reason, user_move_reason, product_reason, load_reason}
+use Rattle.iss_model.specs.Reasons.{user_is, user_reason, card_reason, move_reason, card_move_reason, user_move_reason, product_reason, load_reason}
 use Rattle.iss_model.specs.CardReasons.{is_account_funded}
 use Rattle.iss_model.specs.Due.{DueItem, due_call, due_txn, placed, due_items, is_quiet}
 use Rattle.iss_model.specs.Stepping.{entries_of, unless_declined, set_by, loaded}
@@ -43,6 +43,7 @@ use Rattle.iss_model.proofs.Names.{one_name}
 use Rattle.iss_model.proofs.Lists.{all_weaker}
 use Rattle.iss_hold.specs.Bounds.{IsWithin, AreWithin}
 use Rattle.iss_core.specs.declared.purchases.Purchase.{Purchase}
+use Rattle.iss_core.specs.BuiltEntries.{is_built_entry}
 use Rattle.iss_core.specs.Values.{IsQuiet}
 use Rattle.iss_core.specs.States.{Made}
 use Rattle.iss_core.specs.Purchases.{unless, bought, bought_on, bought_of, purchased, purchase_entries}
@@ -291,6 +292,13 @@ purchase_kept : (s : CoreState) (p : Purchase) (o : Result Txn Reason) → IsTak
 purchase_kept s p (Ok t) ready form none known e = purchased_kept s p t ready form none known e
 purchase_kept s p (Err why) ready form none known e = untouched p.at s (fold entered s (unless_declined (Some why) p.token [])) ready refl refl refl refl refl
 
+-- an authorisation in form makes the entries of its purchase
+purchase_made : (s : CoreState) (p : Purchase) (at : ℕ) → IsTakenUp s → is_in_form (input.Authorization p.token p.card p.currency p.amount p.mcc p.mid) ≡ true → s.controls ≡ []
+    → entries_of (input.Authorization p.token p.card p.currency p.amount p.mcc p.mid) p.at (core_facts s) ≡ purchase_entries p (bought (core_facts s) p)
+purchase_made s p at ready form none =
+    bought_made (core_facts s) (ap (λ (cs : List ControlKept). map control_told cs) none) (own_funding s.products ready.sound.own) p
+    (some_amount p.amount (and_parts (is_amount p.amount) (is_mcc p.mcc) form).0)
+
 -- ---- all inputs that are built
 
 pub entries_keep : (s : CoreState) (i : Input) (at : ℕ) → IsTakenUp s → is_built i ≡ true → is_in_form i ≡ true → s.controls ≡ []
@@ -311,11 +319,32 @@ entries_keep s (input.Load token user currency amount) at ready built form none 
     either at s (load_reason (core_facts s) user) token (loaded token user currency amount) ready (load_kept at s token user currency amount ready form)
 entries_keep s (input.Authorization token card currency amount mcc mid) at ready built form none known =
     let p : Purchase = record { token = token; card = card; currency = currency; amount = amount; mcc = mcc; mid = mid; at = at } in
-    let fits : is_amount amount ≡ true = (and_parts (is_amount amount) (is_mcc mcc) form).0 in
-    subst (λ (entries : List Entry). IsKeptBy at s (fold entered s entries))
-    (sym (bought_made (core_facts s) (ap (λ (cs : List ControlKept). map control_told cs) none) (own_funding s.products ready.sound.own) p (some_amount amount fits)))
-    (purchase_kept s p (bought (core_facts s) p) ready fits none (known token refl) refl)
+    subst (λ (entries : List Entry). IsKeptBy at s (fold entered s entries)) (sym (purchase_made s p at ready form none))
+    (purchase_kept s p (bought (core_facts s) p) ready (and_parts (is_amount amount) (is_mcc mcc) form).0 none (known token refl) refl)
 entries_keep s _ at ready built form none known = cc
+
+built_unless : (why : Option Reason) (token : List ℕ) (entries : List Entry) → list_all is_built_entry entries ≡ true → list_all is_built_entry (unless_declined why token entries) ≡ true
+built_unless None token entries h = h
+built_unless (Some why) token entries h = refl
+
+built_purchase : (p : Purchase) (o : Result Txn Reason) → list_all is_built_entry (purchase_entries p o) ≡ true
+built_purchase p (Ok t) = refl
+built_purchase p (Err why) = refl
+
+-- and they are entries that are built
+pub entries_built : (s : CoreState) (i : Input) (at : ℕ) → IsTakenUp s → is_built i ≡ true → is_in_form i ≡ true → s.controls ≡ [] → list_all is_built_entry (entries_of i at (core_facts s)) ≡ true
+entries_built s (input.User token user) at ready built form none = built_unless (user_reason (core_facts s) user) token (set_by (input.User token user) token) refl
+entries_built s (input.Card token card user product active) at ready built form none =
+    built_unless (card_reason (core_facts s) card user product) token (set_by (input.Card token card user product active) token) refl
+entries_built s (input.Move token who) at ready built form none = built_unless (move_reason (core_facts s) who) token (set_by (input.Move token who) token) refl
+entries_built s (input.Product token product currency funded timeout_ms hold_ms) at ready built form none =
+    built_unless (product_reason (core_facts s) product) token (set_by (input.Product token product currency funded timeout_ms hold_ms) token) refl
+entries_built s (input.Load token user currency amount) at ready built form none = built_unless (load_reason (core_facts s) user) token (loaded token user currency amount) refl
+entries_built s (input.Authorization token card currency amount mcc mid) at ready built form none =
+    let p : Purchase = record { token = token; card = card; currency = currency; amount = amount; mcc = mcc; mid = mid; at = at } in
+    ap (list_all is_built_entry) (purchase_made s p at ready form none)
+    ∙ built_purchase p (bought (core_facts s) p)
+entries_built s _ at ready built form none = cc
 
 -- a record that was taken up and made its entries leaves a sound core, on which nothing is due at its moment
 pub made_keeps : (before after : CoreState) (r : Record) (entries : List Entry) → IsTakenUp (taken_up before r) → is_built r.input ≡ true → is_in_form r.input ≡ true → before.controls ≡ [] → IsQuiet before r.at

@@ -1,6 +1,7 @@
 -- What a step's calls come to, for a core whose parts keep this state.
 use Rattle.std.proofs.Common.{◌≡◌, ℕ, ◌<◌, max, true, List, [], ◌∷◌, fold, refl, sym, ap, subst, ◌∙◌}
 use Rattle.std.specs.Prelude.{Some, None}
+use Rattle.std.specs.List.{list_all}
 use Rattle.iss_model.specs.declared.setting.Moved.TheVariants as moved
 use Rattle.iss_model.specs.declared.decision.Answer.{Answer}
 use Rattle.iss_model.specs.declared.decision.Judged.TheVariants as judged
@@ -12,14 +13,17 @@ use Rattle.iss_model.specs.declared.entry.Entry.TheVariants as entry
 use Rattle.iss_model.specs.Inputs.{event_token}
 use Rattle.iss_model.specs.Forms.{is_in_form}
 use Rattle.iss_model.specs.Activity.{txn_named}
+use Rattle.iss_model.specs.Keeper.{Growth}
+use Rattle.iss_model.specs.Stepping.{own_entries, step}
 use Rattle.iss_model.specs.Judging.{refusal, judge}
 use Rattle.iss_model.specs.Built.{is_built}
 use Rattle.iss_model.specs.Cores.{CoreState, taken_up, core_facts, core_keeper, configured, entered}
+use Rattle.iss_core.specs.BuiltEntries.{is_built_entry}
 use Rattle.iss_core.specs.Values.{CoreNow, IsNext, IsQuiet, Steps}
 use Rattle.iss_core.specs.States.{Made}
 use Rattle.iss_core.specs.Sound.{IsSound, IsTakenUp}
-use Rattle.iss_core.proofs.Quiet.{told_judged, new_judged, next_unknown, made_steps}
-use Rattle.iss_core.proofs.Sounding.{ready, no_txn, made_keeps}
+use Rattle.iss_core.proofs.Quiet.{quiet_step, told_judged, new_judged, next_unknown, made_steps}
+use Rattle.iss_core.proofs.Sounding.{ready, no_txn, entries_built, made_keeps}
 
 -- entries leave the number of records
 configured_count : (s : CoreState) (i : Input) → (configured s i).count ≡ s.count
@@ -31,9 +35,29 @@ entered_count : (s : CoreState) (e : Entry) → (entered s e).count ≡ s.count
 entered_count s (entry.Conf i) = configured_count s i
 entered_count s _ = refl
 
-all_entered_count : (s : CoreState) (entries : List Entry) → (fold entered s entries).count ≡ s.count
+pub all_entered_count : (s : CoreState) (entries : List Entry) → (fold entered s entries).count ≡ s.count
 all_entered_count s [] = refl
 all_entered_count s (e ∷ es) = all_entered_count (entered s e) es ∙ entered_count s e
+
+-- and the time
+configured_time : (s : CoreState) (i : Input) → (configured s i).now ≡ s.now
+configured_time s (input.Move token (moved.Card card to)) = refl
+configured_time s (input.Move token (moved.User user to)) = refl
+configured_time s _ = refl
+
+entered_time : (s : CoreState) (e : Entry) → (entered s e).now ≡ s.now
+entered_time s (entry.Conf i) = configured_time s i
+entered_time s _ = refl
+
+all_entered_time : (s : CoreState) (entries : List Entry) → (fold entered s entries).now ≡ s.now
+all_entered_time s [] = refl
+all_entered_time s (e ∷ es) = all_entered_time (entered s e) es ∙ entered_time s e
+
+-- the time behind a step is the later of the time before it and the record's stamp
+pub step_time : (s : CoreState) (r : Record) → IsQuiet s r.at → (step core_keeper s r).world.now ≡ max s.now r.at
+step_time s r quiet =
+    ap (λ (g : Growth CoreState). g.world.now) (quiet_step s r quiet)
+    ∙ all_entered_time (taken_up s r) (own_entries r (core_facts (taken_up s r)))
 
 -- ---- judging
 
@@ -74,3 +98,10 @@ pub stepped_so : (c : CoreNow) (n : ℕ) (s taken after : CoreState) (r : Record
 stepped_so c n s taken after r entries view up quiet made =
     made_steps c (record { instance = n; state = after }) r entries quiet (ap (λ (x : CoreNow). x.instance) view)
     (subst (λ (x : CoreState). Made r.input r.at x after entries) (up ∙ ap (λ (x : CoreNow). taken_up x.state r) view) made)
+
+-- the entries are of kinds that are built
+pub built_so : (c : CoreNow) (s taken after : CoreState) (r : Record) (entries : List Entry) → s ≡ c.state → IsSound s → c.state.count < 1073741823 → s.controls ≡ [] → taken ≡ taken_up s r
+    → is_built r.input ≡ true → is_in_form r.input ≡ true → Made r.input r.at taken after entries → list_all is_built_entry entries ≡ true
+built_so c s taken after r entries is sound room none up built form made =
+    ap (list_all is_built_entry) made.entries
+    ∙ entries_built taken r.input r.at (ready_so c s taken r is sound room up) built form (ap (λ (x : CoreState). x.controls) up ∙ none)

@@ -1,5 +1,6 @@
 //! The core: it judges inputs, takes up records, and answers what stands.
 ghost use Rattle.std.specs.Prelude.{◌≡◌, ◌^◌, ◌<◌, List, [], max, true, length, map, IfOk, IsTrue};
+ghost use Rattle.std.specs.List.{list_all};
 ghost use Rattle.std.specs.FinMap as finite;
 ghost use Rattle.iss_model.specs.declared.input.Record.{Record};
 ghost use Rattle.iss_model.specs.Sums.{account_key};
@@ -10,6 +11,7 @@ ghost use Rattle.iss_model.specs.Judging.{judge};
 ghost use Rattle.iss_model.specs.Histories.{time_of, history_facts, history_keeper, history_of};
 ghost use Rattle.iss_model.specs.Cores.{no_core, core_facts, core_keeper};
 ghost use Rattle.iss_model.specs.Built.{is_built};
+ghost use Rattle.iss_core.specs.BuiltEntries.{is_built_entry};
 ghost use Rattle.iss_core.specs.Values.{StandsFor, IsNext, GivesNext, IsQuiet, Steps, StepsOnBook};
 
 use crate::state::State;
@@ -77,7 +79,7 @@ impl Core {
 
     /// Takes up a record that is next, and answers the core behind it with the entries that it makes. Where memory is
     /// wanted the core is gone. For now the input is of a kind that is built, and nothing is due at the record's stamp;
-    /// then nothing is due behind it at that stamp either.
+    /// then nothing is due behind it at that stamp either, and no entry is of the gateway.
     pub fn step(mut self, alloc: Global, record: &Record) -> Result<(Core, Vec<Entry>), AllocError>
         requires next { IsNext self record.now }
         requires input_form { IsTrue (is_in_form record.now.input) }
@@ -87,6 +89,7 @@ impl Core {
         requires quiet { IsQuiet self.state record.now.at }
         ensures stepped { IfOk result (λ x. Steps self x.0 record.now x.1.items) }
         ensures quiet { IfOk result (λ x. IsQuiet x.0.state record.now.at) }
+        ensures built_entries { IfOk result (λ x. list_all is_built_entry x.1.items ≡ true) }
         ensures on_book { (rs : List Record) → StandsFor self rs
             → IfOk result (λ x. StepsOnBook x.0 rs record.now x.1.items) }
     {

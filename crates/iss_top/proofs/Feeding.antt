@@ -1,23 +1,27 @@
 -- How the text to come shortens with each byte of the input.
 use Rattle.std.proofs.Common.{◌≡◌, ℕ, ◌+◌, ◌-◌, ◌*◌, ◌<◌, ◌≤◌, Bool, true, false, cond, ◌&&◌, nat_eq, nat_lt, List, [], ◌∷◌, ◌++◌, length, take, fold, unwrap_or, Err, refl, sym, ap, ◌∙◌, append-nil, append_assoc, arith, length-append}
+use Rattle.std.specs.Prelude.{Option, Result, Ok}
 use Rattle.std.proofs.lemmas.List.{length-take}
 use Rattle.std.proofs.lemmas.List.Folds.{list_all-append}
 use Rattle.std.proofs.lemmas.Bool.Decides.{nat_tests}
 use Rattle.iss_model.specs.declared.input.Record.{Record}
 use Rattle.iss_model.specs.declared.decision.Judged.{Judged}
 use Rattle.iss_model.specs.declared.decision.Judged.TheVariants as judged
-use Rattle.iss_model.specs.Stepping.{step}
 use Rattle.iss_model.specs.Judging.{judge}
-use Rattle.iss_model.specs.Histories.{History, history_facts, history_keeper}
-use Rattle.iss_model.specs.Transcripts.{Reading, sound, faulty, after_line, bytes_of}
+use Rattle.iss_model.specs.Cores.{CoreState, taken_up, core_facts, core_keeper}
+use Rattle.iss_core.proofs.Stepped.{all_entered_count}
+use Rattle.iss_model.specs.Transcripts.{sound, after_line, bytes_of}
 use Rattle.iss_model.specs.Sayings.{reaction, reaction_as}
 use Rattle.iss_model.specs.Keeper.{Growth}
-use Rattle.iss_model.specs.Due.{DueItem, due_items}
+use Rattle.iss_model.specs.Due.{DueItem, due_items, thing_entries}
 use Rattle.iss_model.specs.declared.input.Input.{Input}
-use Rattle.iss_model.specs.Stepping.{settle}
+use Rattle.iss_model.specs.Stepping.{own_entries, settle, step}
 use Rattle.iss_event.specs.declared.line.Mode.TheVariants.{Lines}
 use Rattle.iss_event.specs.declared.line.FormFault.TheVariants.{Long}
+use Rattle.iss_event.specs.declared.line.Line.{Line}
+use Rattle.iss_event.specs.declared.line.FormFault.{FormFault}
 use Rattle.iss_event.specs.Readings.{line_read}
+use Rattle.iss_event.proofs.LeastLine.{least_line}
 use Rattle.iss_top.specs.Lines.{is_blank_byte, is_blank, onto_first, parts_of, kept_with}
 use Rattle.iss_top.specs.Dry.{reading_of, as_reading, told_of}
 use Rattle.iss_top.specs.Progress.{line_text, line_next, lines_text, text_to_come}
@@ -28,7 +32,7 @@ onto_first-append a b [] = refl
 onto_first-append a b (p ∷ ps) = ap (λ (q : List ℕ). q ∷ ps) (sym (append_assoc a b p))
 
 -- a byte that ends no line goes behind the line
-pub to_come-byte : (h : History) (line : List ℕ) (b : ℕ) (rest : List ℕ) → nat_eq b 10 ≡ false → text_to_come h line (b ∷ rest) ≡ text_to_come h (line ++ b ∷ []) rest
+pub to_come-byte : (h : CoreState) (line : List ℕ) (b : ℕ) (rest : List ℕ) → nat_eq b 10 ≡ false → text_to_come h line (b ∷ rest) ≡ text_to_come h (line ++ b ∷ []) rest
 unfolding text_to_come
 to_come-byte h line b rest e =
     ap (λ (t : Bool). lines_text h (onto_first line (cond t ([] ∷ parts_of rest) (onto_first (b ∷ []) (parts_of rest))))) e
@@ -39,14 +43,14 @@ some_parts [] = refl
 some_parts (b ∷ bs) = elim (nat_eq b 10) as (λ t. onto_first [] (cond t ([] ∷ parts_of bs) (onto_first (b ∷ []) (parts_of bs))) ≡ cond t ([] ∷ parts_of bs) (onto_first (b ∷ []) (parts_of bs))) [ true ↦ refl | false ↦ onto_first-append [] (b ∷ []) (parts_of bs) ]
 
 -- a line feed ends the line: it is told, and the next begins
-pub to_come-end : (h : History) (line rest : List ℕ) → text_to_come h line (10 ∷ rest) ≡ line_text h line ++ text_to_come (line_next h line) [] rest
+pub to_come-end : (h : CoreState) (line rest : List ℕ) → text_to_come h line (10 ∷ rest) ≡ line_text h line ++ text_to_come (line_next h line) [] rest
 unfolding text_to_come
 to_come-end h line rest =
     ap (λ (l : List ℕ). line_text h l ++ lines_text (line_next h l) (parts_of rest)) (append-nil line)
     ∙ ap (λ (ps : List (List ℕ)). line_text h line ++ lines_text (line_next h line) ps) (sym (some_parts rest))
 
 -- the end of the input ends the line too
-pub to_come-last : (h : History) (line : List ℕ) → text_to_come h line [] ≡ line_text h line
+pub to_come-last : (h : CoreState) (line : List ℕ) → text_to_come h line [] ≡ line_text h line
 unfolding text_to_come
 to_come-last h line =
     ap (λ (l : List ℕ). line_text h l ++ []) (append-nil line) ∙ append-nil (line_text h line)
@@ -67,17 +71,17 @@ alike_reading : (line other : List ℕ) → IsAlike line other → reading_of li
 unfolding reading_of
 alike_reading line other a = ap as_reading (long_reading line a.long ∙ sym (long_reading other a.other_long))
 
-alike_text : (h : History) (line other : List ℕ) → IsAlike line other → line_text h line ≡ line_text h other
+alike_text : (h : CoreState) (line other : List ℕ) → IsAlike line other → line_text h line ≡ line_text h other
 unfolding line_text
 alike_text h line other a =
     ap (λ (t : Bool). cond t [] (bytes_of (told_of h line).texts)) a.blank
-    ∙ ap (λ r. cond (is_blank other) [] (bytes_of (after_line h r).texts)) (alike_reading line other a)
+    ∙ ap (λ r. cond (is_blank other) [] (bytes_of (after_line core_keeper h r).texts)) (alike_reading line other a)
 
-alike_next : (h : History) (line other : List ℕ) → IsAlike line other → line_next h line ≡ line_next h other
+alike_next : (h : CoreState) (line other : List ℕ) → IsAlike line other → line_next h line ≡ line_next h other
 unfolding line_next
 alike_next h line other a =
-    ap (λ (t : Bool). cond t h (told_of h line).history) a.blank
-    ∙ ap (λ r. cond (is_blank other) h (after_line h r).history) (alike_reading line other a)
+    ap (λ (t : Bool). cond t h (told_of h line).world) a.blank
+    ∙ ap (λ r. cond (is_blank other) h (after_line core_keeper h r).world) (alike_reading line other a)
 
 alike_more : (line other more : List ℕ) → IsAlike line other → IsAlike (line ++ more) (other ++ more)
 alike_more line other more a =
@@ -87,15 +91,15 @@ alike_more line other more a =
       other_long = omega (arith, a.other_long, length-append {A = ℕ} other more);
     }
 
-alike_lines : (h : History) (line other : List ℕ) (parts : List (List ℕ)) → IsAlike line other → lines_text h (onto_first line parts) ≡ lines_text h (onto_first other parts)
+alike_lines : (h : CoreState) (line other : List ℕ) (parts : List (List ℕ)) → IsAlike line other → lines_text h (onto_first line parts) ≡ lines_text h (onto_first other parts)
 alike_lines h line other [] a =
     ap (λ (t : List ℕ). t ++ []) (alike_text h line other a)
 alike_lines h line other (p ∷ ps) a =
     let b = alike_more line other p a in
     ap (λ (t : List ℕ). t ++ lines_text (line_next h (line ++ p)) ps) (alike_text h (line ++ p) (other ++ p) b)
-    ∙ ap (λ (n : History). line_text h (other ++ p) ++ lines_text n ps) (alike_next h (line ++ p) (other ++ p) b)
+    ∙ ap (λ (n : CoreState). line_text h (other ++ p) ++ lines_text n ps) (alike_next h (line ++ p) (other ++ p) b)
 
-pub to_come-alike : (h : History) (line other rest : List ℕ) → IsAlike line other → text_to_come h line rest ≡ text_to_come h other rest
+pub to_come-alike : (h : CoreState) (line other rest : List ℕ) → IsAlike line other → text_to_come h line rest ≡ text_to_come h other rest
 unfolding text_to_come
 to_come-alike h line other rest a = alike_lines h line other (parts_of rest) a
 
@@ -129,7 +133,7 @@ kept_long line b h false e =
       other_long = omega (arith, h, length-append {A = ℕ} line (b ∷ []));
     }
 
-to_come-kept_as : (h : History) (line : List ℕ) (b : ℕ) (rest : List ℕ) (short : Bool) → nat_lt (length line) 16385 ≡ short
+to_come-kept_as : (h : CoreState) (line : List ℕ) (b : ℕ) (rest : List ℕ) (short : Bool) → nat_lt (length line) 16385 ≡ short
     → text_to_come h (cond short (line ++ b ∷ []) (cond (is_blank_byte b) line (take (length line - 1) line ++ b ∷ []))) rest ≡ text_to_come h (line ++ b ∷ []) rest
 to_come-kept_as h line b rest true e = refl
 to_come-kept_as h line b rest false e =
@@ -137,7 +141,7 @@ to_come-kept_as h line b rest false e =
     to_come-alike h _ (line ++ b ∷ []) rest (kept_long line b long (is_blank_byte b) refl)
 
 -- a byte that ends no line goes behind what is kept of the line
-pub to_come-kept : (h : History) (line : List ℕ) (b : ℕ) (rest : List ℕ) → nat_eq b 10 ≡ false → text_to_come h line (b ∷ rest) ≡ text_to_come h (kept_with line b) rest
+pub to_come-kept : (h : CoreState) (line : List ℕ) (b : ℕ) (rest : List ℕ) → nat_eq b 10 ≡ false → text_to_come h line (b ∷ rest) ≡ text_to_come h (kept_with line b) rest
 to_come-kept h line b rest e =
     to_come-byte h line b rest e ∙ sym (to_come-kept_as h line b rest (nat_lt (length line) 16385) refl)
 
@@ -150,45 +154,39 @@ length-kept_as line b false false =
 pub length-kept : (line : List ℕ) (b : ℕ) → length (kept_with line b) ≤ length line + 1
 length-kept line b = length-kept_as line b (nat_lt (length line) 16385) (is_blank_byte b)
 
--- what falls due makes rows and no record
-due_records : (at : ℕ) (items : List DueItem) (g : Growth History) → (fold (settle history_keeper at) g items).world.records ≡ g.world.records
-due_records at [] g = refl
-due_records at (item ∷ items) g = due_records at items (settle history_keeper at g item)
+-- what falls due makes entries and no record
+due_count : (at : ℕ) (items : List DueItem) (g : Growth CoreState) → (fold (settle core_keeper at) g items).world.count ≡ g.world.count
+due_count at [] g = refl
+due_count at (item ∷ items) g =
+    due_count at items (settle core_keeper at g item) ∙ all_entered_count g.world (thing_entries item.thing at (core_facts g.world))
 
-step_records : (h : History) (r : Record) → (step history_keeper h r).world.records ≡ h.records ++ r ∷ []
+step_count : (h : CoreState) (r : Record) → (step core_keeper h r).world.count ≡ h.count + 1
 unfolding step
-step_records h r =
-    let taken = history_keeper.take_up h r in
-    due_records r.at (due_items (history_facts taken) r.at) (record { world = taken; entries = [] })
-
-step_count : (h : History) (r : Record) → length (step history_keeper h r).world.records ≤ length h.records + 1
-step_count h r = rw (step_records h r) (omega (arith, length-append {A = Record} h.records (r ∷ [])))
+step_count h r =
+    let taken = taken_up h r in
+    let ready : Growth CoreState = fold (settle core_keeper r.at) (record { world = taken; entries = [] }) (due_items (core_facts taken) r.at) in
+    all_entered_count ready.world (own_entries r (core_facts ready.world)) ∙ due_count r.at (due_items (core_facts taken) r.at) (record { world = taken; entries = [] })
 
 -- a line makes at most one record
-judged_count : (h : History) (i : Input) (at : ℕ) (j : Judged) → length (reaction_as h i at j).history.records ≤ length h.records + 1
-judged_count h i at (judged.New r) = step_count h r
-judged_count h i at (judged.Clock r) = step_count h r
+judged_count : (h : CoreState) (i : Input) (at : ℕ) (j : Judged) → (reaction_as core_keeper h i at j).world.count ≤ h.count + 1
+judged_count h i at (judged.New r) = rw (step_count h r) (omega arith)
+judged_count h i at (judged.Clock r) = rw (step_count h r) (omega arith)
 judged_count h i at (judged.Told a) = omega arith
 
-read_count : (h : History) (r : Reading) → length (after_line h r).history.records ≤ length h.records + 1
+sound_count : (h : CoreState) (i : Input) (at : Option ℕ) → (after_line core_keeper h (sound i at)).world.count ≤ h.count + 1
 unfolding reaction
-read_count h (sound i at) = judged_count h i (unwrap_or at 0) (judge history_keeper h i (unwrap_or at 0))
-read_count h (faulty text) = omega arith
+sound_count h i at = judged_count h i (unwrap_or at 0) (judge core_keeper h i (unwrap_or at 0))
 
-next_count_as : (h : History) (line : List ℕ) (blank : Bool) → length (cond blank h (told_of h line).history).records ≤ length h.records + 1
-next_count_as h line true = omega arith
-next_count_as h line false = read_count h (reading_of line)
+-- Five times the records, and the bytes of the line, are at most the bytes that came: a line that makes a record has four bytes at least, and a line feed or the end.
+read_room : (h : CoreState) (line : List ℕ) (o : Result Line FormFault) → line_read Lines line ≡ o → 5 * (after_line core_keeper h (as_reading o)).world.count ≤ 5 * h.count + length line + 1
+read_room h line (Ok said) e = omega (arith, sound_count h said.input said.at, least_line Lines line said e)
+read_room h line (Err fault) e = omega arith
 
-pub next_count : (h : History) (line : List ℕ) → length (line_next h line).records ≤ length h.records + 1
+next_room_as : (h : CoreState) (line : List ℕ) (blank : Bool) → 5 * (cond blank h (told_of h line).world).count ≤ 5 * h.count + length line + 1
+unfolding reading_of
+next_room_as h line true = omega arith
+next_room_as h line false = read_room h line (line_read Lines line) refl
+
+pub next_room : (h : CoreState) (line : List ℕ) → 5 * (line_next h line).count ≤ 5 * h.count + length line + 1
 unfolding line_next
-next_count h line = next_count_as h line (is_blank line)
-
--- and an empty one none
-pub next_empty : (h : History) → line_next h [] ≡ h
-unfolding line_next
-next_empty h = refl
-
--- twice the records, and the bytes of the line, are at most the bytes that came
-pub next_room : (h : History) (line : List ℕ) → 2 * length (line_next h line).records ≤ 2 * length h.records + length line + 1
-next_room h [] = rw next_empty (omega arith)
-next_room h (b ∷ bs) = omega (arith, next_count h (b ∷ bs))
+next_room h line = next_room_as h line (is_blank line)

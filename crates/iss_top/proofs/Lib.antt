@@ -1,9 +1,3 @@
-pub mod Early
-pub mod Keys
-pub mod Added
-pub mod Events
-pub mod SameFields
-pub mod SameInputs
 pub mod Tellings
 pub mod Feeding
 pub mod Saying

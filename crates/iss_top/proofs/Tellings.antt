@@ -1,28 +1,33 @@
 -- What a line is told, from what reading and judging it gave.
-use Rattle.std.proofs.Common.{◌≡◌, ℕ, true, List, [], ◌∷◌, ◌++◌, length, map, Option, Some, None, Ok, Err, refl, sym, ap, ◌∙◌, append-nil, append_assoc}
-use Rattle.std.specs.Prelude.{Result, OnOk}
+use Rattle.std.proofs.Common.{◌≡◌, ℕ, max, true, List, [], ◌∷◌, ◌++◌, map, Option, Ok, Err, refl, sym, ap, subst, ◌∙◌, append-nil, append_assoc, arith}
+use Rattle.std.specs.Prelude.{unwrap_or}
 use Rattle.std.specs.List.{concat, flat_map}
+use Rattle.std.proofs.lemmas.Bool.Decides.{nat_tests}
 use Rattle.iss_model.specs.declared.input.Input.{Input}
+use Rattle.iss_model.specs.declared.input.Input.TheVariants as input
 use Rattle.iss_model.specs.declared.input.Record.{Record}
 use Rattle.iss_model.specs.declared.entry.Entry.{Entry}
 use Rattle.iss_model.specs.declared.decision.Answer.{Answer}
-use Rattle.iss_model.specs.declared.input.Input.TheVariants as input
 use Rattle.iss_model.specs.declared.decision.Judged.{Judged}
+use Rattle.iss_model.specs.declared.decision.Judged.TheVariants as judged
 use Rattle.iss_model.specs.AnswerLines.{answer_text}
-use Rattle.iss_model.specs.Sayings.{Said, said_by, said_of_time, Reaction, reaction, reaction_as, reaction_to_record}
-use Rattle.iss_event.specs.Taken.{is_taken}
-use Rattle.iss_top.specs.Early.{IsEarly}
-use Rattle.iss_top.proofs.Early.{early_judge}
+use Rattle.iss_model.specs.Built.{is_built}
 use Rattle.iss_model.specs.Stepping.{step}
-use Rattle.iss_model.specs.Judging.{judged_as, refusal}
-use Rattle.iss_model.specs.Histories.{History, history_facts, history_keeper}
+use Rattle.iss_model.specs.Judging.{judge}
+use Rattle.iss_model.specs.Cores.{CoreState, core_keeper}
+use Rattle.iss_model.specs.Sayings.{Said, said_by, said_of_time, reaction, reaction_as, reaction_to_record}
 use Rattle.iss_model.specs.Transcripts.{sound, faulty, Told, told_by_reaction, after_line, at_level, bytes_of, said_text, entry_texts}
+use Rattle.iss_core.specs.Values.{IsQuiet}
+use Rattle.iss_core.proofs.Quiet.{new_record}
+use Rattle.iss_core.proofs.Stepped.{step_time}
 use Rattle.iss_event.specs.declared.line.Line.{Line}
 use Rattle.iss_event.specs.declared.line.Mode.TheVariants.{Lines}
 use Rattle.iss_event.specs.declared.line.FormFault.{FormFault}
 use Rattle.iss_event.specs.Readings.{line_read}
 use Rattle.iss_event.specs.FormLines.{form_text}
 use Rattle.iss_top.specs.Dry.{reading_of, as_reading, told_of, entry_text, entries_text}
+use Rattle.iss_top.specs.Start.{IsAtStart}
+use Rattle.iss_top.specs.Tells.{Tells, Records}
 
 -- a level is no part of the bytes
 pub bytes_of-at_level : (level : ℕ) (texts : List (List ℕ)) → bytes_of (at_level level texts) ≡ concat texts
@@ -63,89 +68,81 @@ reading_faulty line fault e = ap as_reading e
 pub bytes_of_one : (level : ℕ) (text : List ℕ) → bytes_of (at_level level (text ∷ [])) ≡ text
 bytes_of_one level text = append-nil text
 
--- the record of an input at the start
-abbrev pub record_of : Input → Record
-record_of i = record { at = 0; input = i }
-
-no_time : (i : Input) → is_taken i ≡ true → said_of_time i ≡ []
+no_time : (i : Input) → is_built i ≡ true → said_of_time i ≡ []
 no_time input.Time h = cc
 no_time _ h = refl
 
--- what a new input of the first book makes
-abbrev made_by : History → Input → Reaction
-made_by h i = reaction_to_record h (record_of i)
-
-new_reaction : (h : History) → IsEarly h → (i : Input) → is_taken i ≡ true → refusal true (history_facts h) (history_facts h) i ≡ None → reaction h i 0 ≡ made_by h i
+-- an input that isn't new changes nothing, and is told its answer
+pub answer_tells : (s : CoreState) (i : Input) (at : Option ℕ) (stamp : ℕ) (a : Answer) (text : List ℕ) → stamp ≡ unwrap_or at 0 → judged.Told a ≡ judge core_keeper s i stamp → text ≡ answer_text a
+    → Tells (after_line core_keeper s (sound i at)) s text
 unfolding reaction
-new_reaction h e i early unknown =
-    ap (reaction_as h i 0) (early_judge h i e.rows e.start)
-    ∙ ap (λ (o : Option Answer). reaction_as h i 0 (judged_as o true i 0)) unknown
-    ∙ ap (λ (said : List Said). record (made_by h i) { said = (made_by h i).said ++ said }) (no_time i early)
-    ∙ ap (λ (said : List Said). record (made_by h i) { said = said }) (append-nil (made_by h i).said)
+answer_tells s i at stamp a text is told said =
+    let judged_so : judged.Told a ≡ judge core_keeper s i (unwrap_or at 0) = told ∙ ap (judge core_keeper s i) is in
+    let answered : record { world = s; texts = at_level s.count (answer_text a ∷ []) } ≡ after_line core_keeper s (sound i at) =
+    ap (λ (j : Judged). told_by_reaction core_keeper (reaction_as core_keeper s i (unwrap_or at 0) j)) judged_so in
+    record {
+      state = ap (λ (t : Told CoreState). t.world) answered;
+      bytes = said ∙ sym (bytes_of_one s.count (answer_text a)) ∙ ap (λ (t : Told CoreState). bytes_of t.texts) answered;
+    }
 
-pub judged_new : (h : History) → IsEarly h → (i : Input) → is_taken i ≡ true → refusal true (history_facts h) (history_facts h) i ≡ None → after_line h (sound i None) ≡ told_by_reaction (made_by h i)
-judged_new h e i early unknown = ap told_by_reaction (new_reaction h e i early unknown)
-
--- a new input of the first book makes its record
-pub new_history : (h : History) → IsEarly h → (i : Input) → is_taken i ≡ true → refusal true (history_facts h) (history_facts h) i ≡ None
-    → (after_line h (sound i None)).history ≡ (step history_keeper h (record_of i)).world
-new_history h e i early unknown = ap (λ (t : Told). t.history) (judged_new h e i early unknown)
-
--- and is told what its entries send out
-pub new_texts : (h : History) → IsEarly h → (i : Input) → is_taken i ≡ true → refusal true (history_facts h) (history_facts h) i ≡ None
-    → bytes_of (after_line h (sound i None)).texts ≡ entries_text (step history_keeper h (record_of i)).entries
-new_texts h e i early unknown =
-    ap (λ (t : Told). bytes_of t.texts) (judged_new h e i early unknown)
-    ∙ bytes_of_said (length (made_by h i).history.records) (step history_keeper h (record_of i)).entries
-
--- an event that stands changes nothing, and is told its answer
-answered : (h : History) → IsEarly h → (i : Input) (a : Answer) → refusal true (history_facts h) (history_facts h) i ≡ Some a
-    → after_line h (sound i None) ≡ record { history = h; texts = at_level (length h.records) (answer_text a ∷ []) }
+-- a new one makes its record, and is told what its entries send out
+pub record_tells : (s : CoreState) (i : Input) (at : Option ℕ) (stamp : ℕ) (r : Record) (after : CoreState) (text : List ℕ) → stamp ≡ unwrap_or at 0 → judged.New r ≡ judge core_keeper s i stamp → is_built i ≡ true
+    → Records s r after text → Tells (after_line core_keeper s (sound i at)) after text
 unfolding reaction
-answered h e i a told =
-    ap (λ (j : Judged). told_by_reaction (reaction_as h i 0 j)) (early_judge h i e.rows e.start)
-    ∙ ap (λ (o : Option Answer). told_by_reaction (reaction_as h i 0 (judged_as o true i 0))) told
+record_tells s i at stamp r after text is fresh built records =
+    let made = reaction_to_record core_keeper s r in
+    let judged_so : judged.New r ≡ judge core_keeper s i (unwrap_or at 0) = fresh ∙ ap (judge core_keeper s i) is in
+    let told_so : told_by_reaction core_keeper made ≡ after_line core_keeper s (sound i at) =
+    ap (λ (said : List Said). told_by_reaction core_keeper (record made { said = said })) (sym (append-nil made.said))
+    ∙ ap (λ (said : List Said). told_by_reaction core_keeper (record made { said = made.said ++ said })) (sym (no_time i built))
+    ∙ ap (λ (j : Judged). told_by_reaction core_keeper (reaction_as core_keeper s i (unwrap_or at 0) j)) judged_so in
+    record {
+      state = records.state ∙ ap (λ (t : Told CoreState). t.world) told_so;
+      bytes =
+          records.bytes
+          ∙ sym (bytes_of_said made.world.count (step core_keeper s r).entries)
+          ∙ ap (λ (t : Told CoreState). bytes_of t.texts) told_so;
+    }
 
--- the same with the stamp as it comes in the code
-told_at : (h : History) → IsEarly h → (i : Input) (at : Option ℕ) → at ≡ None → (a : Answer) → refusal true (history_facts h) (history_facts h) i ≡ Some a
-    → after_line h (sound i at) ≡ record { history = h; texts = at_level (length h.records) (answer_text a ∷ []) }
-told_at h e i at none a told = ap (λ (at : Option ℕ). after_line h (sound i at)) none ∙ answered h e i a told
+-- a line with a fault changes nothing, and is told it
+pub fault_tells : (s : CoreState) (line : List ℕ) (fault : FormFault) (text : List ℕ) → line_read Lines line ≡ Err fault → text ≡ form_text fault → Tells (told_of s line) s text
+fault_tells s line fault text e said =
+    let told : told_of s line ≡ record { world = s; texts = at_level s.count (form_text fault ∷ []) } = ap (after_line core_keeper s) (reading_faulty line fault e) in
+    record {
+      state = ap (λ (t : Told CoreState). t.world) (sym told);
+      bytes = said ∙ sym (bytes_of_one s.count (form_text fault)) ∙ ap (λ (t : Told CoreState). bytes_of t.texts) (sym told);
+    }
 
--- what a call of the code says, as what the line is told
-pub text_told : (h : History) → IsEarly h → (i : Input) (at : Option ℕ) → at ≡ None → (a : Answer) → refusal true (history_facts h) (history_facts h) i ≡ Some a
-    → (text : List ℕ) → text ≡ answer_text a → text ≡ bytes_of (after_line h (sound i at)).texts
-text_told h e i at none a told text said =
-    said ∙ sym (bytes_of_one (length h.records) (answer_text a)) ∙ ap (λ (t : Told). bytes_of t.texts) (sym (told_at h e i at none a told))
+-- a line that is read is told as its input
+pub read_tells : (s after : CoreState) (line text : List ℕ) (said : Line) → line_read Lines line ≡ Ok said → Tells (after_line core_keeper s (sound said.input said.at)) after text → Tells (told_of s line) after text
+read_tells s after line text said e tells =
+    subst (λ (t : Told CoreState). Tells t after text) (ap (after_line core_keeper s) (sym (reading_sound line said e))) tells
 
-pub history_kept : (h : History) → IsEarly h → (i : Input) (at : Option ℕ) → at ≡ None → (a : Answer) → refusal true (history_facts h) (history_facts h) i ≡ Some a
-    → h ≡ (after_line h (sound i at)).history
-history_kept h e i at none a told = ap (λ (t : Told). t.history) (sym (told_at h e i at none a told))
+-- ---- at the start
 
-pub history_grown : (h : History) → IsEarly h → (i : Input) (at : Option ℕ) (stamp : ℕ) → at ≡ None → stamp ≡ 0 → is_taken i ≡ true → refusal true (history_facts h) (history_facts h) i ≡ None
-    → (new : History) → new ≡ (step history_keeper h (record { at = stamp; input = i })).world → new ≡ (after_line h (sound i at)).history
-history_grown h e i at stamp none start early unknown new grown =
-    grown
-    ∙ ap (λ (at : ℕ). (step history_keeper h (record { at = at; input = i })).world) start
-    ∙ sym (new_history h e i early unknown)
-    ∙ ap (λ (at : Option ℕ). (after_line h (sound i at)).history) (sym none)
+max_start : (stamp now : ℕ) → stamp ≡ 0 → now ≡ 0 → max stamp now ≡ 0
+max_start stamp now e f = grind (arith, nat_tests)
 
-pub text_made : (h : History) → IsEarly h → (i : Input) (at : Option ℕ) (stamp : ℕ) → at ≡ None → stamp ≡ 0 → is_taken i ≡ true → refusal true (history_facts h) (history_facts h) i ≡ None
-    → (text : List ℕ) → text ≡ entries_text (step history_keeper h (record { at = stamp; input = i })).entries → text ≡ bytes_of (after_line h (sound i at)).texts
-text_made h e i at stamp none start early unknown text made =
-    made
-    ∙ ap (λ (at : ℕ). entries_text (step history_keeper h (record { at = at; input = i })).entries) start
-    ∙ sym (new_texts h e i early unknown)
-    ∙ ap (λ (at : Option ℕ). bytes_of (after_line h (sound i at)).texts) (sym none)
+-- nothing is due at the moment of a line without a stamp
+pub quiet_then : (s : CoreState) (stamp : ℕ) → IsAtStart s → stamp ≡ 0 → IsQuiet s (max stamp s.now)
+quiet_then s stamp start zero = subst (λ (at : ℕ). IsQuiet s at) (sym (max_start stamp s.now zero start.time)) start.quiet
 
--- What a line is told by its reading: its fault, or what judging its input gives.
-pub answer_faulty : (h : History) (line : List ℕ) (fault : FormFault) → line_read Lines line ≡ Err fault
-    → told_of h line ≡ record { history = h; texts = at_level (length h.records) (form_text fault ∷ []) }
-answer_faulty h line fault e = ap (after_line h) (reading_faulty line fault e)
+-- its record is of the input, at stamp 0
+pub record IsOfStart (r : Record) (i : Input) : Type 0 where
+  pub at : r.at ≡ 0
+  pub input : r.input ≡ i
 
-pub answer_sound : (h : History) (line : List ℕ) (said : Line) → line_read Lines line ≡ Ok said → told_of h line ≡ after_line h (sound said.input said.at)
-answer_sound h line said e = ap (after_line h) (reading_sound line said e)
+pub record_then : (s : CoreState) (i : Input) (stamp : ℕ) (r : Record) → IsAtStart s → stamp ≡ 0 → judged.New r ≡ judge core_keeper s i stamp → IsOfStart r i
+record_then s i stamp r start zero fresh =
+    let is = new_record s i stamp r (quiet_then s stamp start zero) fresh in
+    record { at = ap (λ (x : Record). x.at) (sym is) ∙ max_start stamp s.now zero start.time; input = ap (λ (x : Record). x.input) (sym is) }
 
--- a fact that holds anyway
-pub anyway : {A B : Type 0} (r : Result A B) (P : Type 0) → P → OnOk r P
-anyway (Ok x) P p = p
-anyway (Err x) P p = tt
+-- and behind it the core is at the start again
+pub start_then : (s after : CoreState) (r : Record) → IsAtStart s → r.at ≡ 0 → after ≡ (step core_keeper s r).world → IsQuiet after r.at → IsAtStart after
+start_then s after r start zero is quiet =
+    record {
+      time =
+          ap (λ (x : CoreState). x.now) is ∙ step_time s r (subst (λ (at : ℕ). IsQuiet s at) (sym zero) start.quiet)
+          ∙ max_start s.now r.at start.time zero;
+      quiet = subst (λ (at : ℕ). IsQuiet after at) zero quiet;
+    }

@@ -1,17 +1,16 @@
 -- The same of what an edge tells: a dry run's way, and each of its ends.
-use Rattle.std.proofs.Common.{◌≡◌, ℕ, ◌+◌, ◌≤◌, ◌<◌, inl, inr, List, [], length, take, Option, Result, Ok, Err, subst, arith}
+use Rattle.std.proofs.Common.{◌≡◌, ℕ, ◌+◌, ◌≤◌, ◌<◌, inl, inr, List, [], length, take, Option, Err, subst, arith}
 use Rattle.std.proofs.Math.Nat.{eq-or-lt_of_le}
-use Rattle.std.specs.Prelude.{OnOk, OnErr}
 use Rattle.iss_edge.specs.World.{World, Told, Faults}
 use Rattle.iss_edge.specs.Calls.{Same, Takes}
 use Rattle.iss_edge.proofs.Tolds.{told_then, told_self}
-use Rattle.iss_model.specs.Histories.{History, nothing_yet}
+use Rattle.iss_model.specs.Cores.{CoreState, no_core}
 use Rattle.iss_top.specs.declared.stop.Stop.{Stop}
 use Rattle.iss_top.specs.declared.stop.Stop.TheVariants as stop
 use Rattle.iss_top.specs.Statuses.{status_of}
-use Rattle.iss_top.specs.Progress.{line_text, Says, SaysFront, Fed, FedPart, TellingCause, IsTelling}
+use Rattle.iss_top.specs.Progress.{line_text, Says, SaysFront, Fed, FedPart, TellingCause}
 use Rattle.iss_top.specs.Runs.{IsOnItsWay, DryRun}
-use Rattle.iss_top.proofs.Running.{way_begins, way_goes_on, ends_at_input, ends_in_piece, ends_too_long, ends_well, ends_in_last}
+use Rattle.iss_top.proofs.Running.{way_begins, way_goes_on, ends_at_start, ends_at_input, ends_in_piece, ends_too_long, ends_well, ends_in_last}
 
 -- three steps, one after the other
 record Between (R S : World → World → Type 0) (a c : World) : Type 0 where
@@ -24,20 +23,24 @@ told_three R S T U x y z w f p q r =
     told_then (Between R S) T U x z w (λ a c d both t. f a both.middle c d both.first both.second t)
     (told_then R S (Between R S) x y z (λ a b c r s. record { middle = b; first = r; second = s }) p q) r
 
-pub told_way_begins : (x : Option World) → Told (IsOnItsWay 0 nothing_yet []) x x
-told_way_begins x = told_self (IsOnItsWay 0 nothing_yet []) x way_begins
+pub told_way_begins : (x : Option World) → Told (IsOnItsWay 0 no_core []) x x
+told_way_begins x = told_self (IsOnItsWay 0 no_core []) x way_begins
 
-pub told_way_goes_on : (n count : ℕ) (h h' : History) (l l' buffer piece : List ℕ) (x y z w : Option World) → count ≤ length buffer → piece ≡ take count buffer
+-- memory was wanted at the start
+pub told_not_begun : (x : Option World) → Told (DryRun 7) x x
+told_not_begun x = told_self (DryRun 7) x ends_at_start
+
+pub told_way_goes_on : (n count : ℕ) (h h' : CoreState) (l l' buffer piece : List ℕ) (x y z w : Option World) → count ≤ length buffer → piece ≡ take count buffer
     → Told (IsOnItsWay n h l) x y → Told (Takes (record { 0 = 0 }) count buffer) y z → Told (Fed h l piece h' l') z w → Told (IsOnItsWay (n + count) h' l') x w
 told_way_goes_on n count h h' l l' buffer piece x y z w le is p q r =
     told_three (IsOnItsWay n h l) (Takes (record { 0 = 0 }) count buffer) (Fed h l (take count buffer) h' l') (IsOnItsWay (n + count) h' l') x y z w
     (λ a b c d u v f. way_goes_on n count h h' l l' buffer a b c d le u v f) p q (subst (λ (t : List ℕ). Told (Fed h l t h' l') z w) is r)
 
-pub told_input_fails : (n : ℕ) (h : History) (l : List ℕ) (x y z : Option World) → n ≤ 4294967296 → Told (IsOnItsWay n h l) x y → Told Same y z → Told (DryRun 3) x z
+pub told_input_fails : (n : ℕ) (h : CoreState) (l : List ℕ) (x y z : Option World) → n ≤ 4294967296 → Told (IsOnItsWay n h l) x y → Told Same y z → Told (DryRun 3) x z
 told_input_fails n h l x y z le p q =
     told_then (IsOnItsWay n h l) Same (DryRun 3) x y z (λ a b c u v. ends_at_input n h l a b c le u v) p q
 
-pub told_too_long : (n count : ℕ) (h : History) (l buffer : List ℕ) (x y z : Option World) → count ≤ length buffer → n + count ≡ 4294967297
+pub told_too_long : (n count : ℕ) (h : CoreState) (l buffer : List ℕ) (x y z : Option World) → count ≤ length buffer → n + count ≡ 4294967297
     → Told (IsOnItsWay n h l) x y → Told (Takes (record { 0 = 0 }) count buffer) y z → Told (DryRun 8) x z
 told_too_long n count h l buffer x y z le limit p q =
     told_then (IsOnItsWay n h l) (Takes (record { 0 = 0 }) count buffer) (DryRun 8) x y z (λ a b c u v. ends_too_long n count h l buffer a b c le limit u v) p q
@@ -55,33 +58,28 @@ telling_not_long before now stop.Output cause e = cc
 telling_not_long before now stop.Memory cause e = cc
 telling_not_long before now stop.InputLong cause e = absurd cause
 
-pub told_piece_fails : (s : Stop) (before now : Faults) (n count : ℕ) (h : History) (l buffer piece : List ℕ) (x y z w : Option World) → TellingCause before now s → count ≤ length buffer → n + count ≤ 4294967296
+pub told_piece_fails : (s : Stop) (before now : Faults) (n count : ℕ) (h : CoreState) (l buffer piece : List ℕ) (x y z w : Option World) → TellingCause before now s → count ≤ length buffer → n + count ≤ 4294967296
     → piece ≡ take count buffer → Told (IsOnItsWay n h l) x y → Told (Takes (record { 0 = 0 }) count buffer) y z → Told (FedPart h l piece) z w → Told (DryRun (status_of {A = Unit {0}} (Err s))) x w
 told_piece_fails s before now n count h l buffer piece x y z w cause le limit is p q r =
     told_three (IsOnItsWay n h l) (Takes (record { 0 = 0 }) count buffer) (FedPart h l (take count buffer)) (DryRun (status_of {A = Unit {0}} (Err s))) x y z w
     (λ a b c d u v f. ends_in_piece (status_of {A = Unit {0}} (Err s)) n count h l buffer a b c d (telling_not_done before now s cause) (telling_not_long before now s cause) le limit u v f)
     p q (subst (λ (t : List ℕ). Told (FedPart h l t) z w) is r)
 
-told_last_done : (n : ℕ) (h : History) (l buffer : List ℕ) (x y z w : Option World) → n ≤ 4294967296
-    → Told (IsOnItsWay n h l) x y → Told (Takes (record { 0 = 0 }) 0 buffer) y z → Told (Says (line_text h l)) z w → Told (DryRun 0) x w
-told_last_done n h l buffer x y z w le p q r =
+-- the last line was told
+pub told_last_done : (n count : ℕ) (h : CoreState) (l said buffer : List ℕ) (x y z w : Option World) → n ≤ 4294967296 → count ≡ 0 → said ≡ l
+    → Told (IsOnItsWay n h l) x y → Told (Takes (record { 0 = 0 }) count buffer) y z → Told (Says (line_text h said)) z w → Told (DryRun 0) x w
+told_last_done n count h l said buffer x y z w le none same p q r =
     told_three (IsOnItsWay n h l) (Takes (record { 0 = 0 }) 0 buffer) (Says (line_text h l)) (DryRun 0) x y z w
-    (λ a b c d u v f. ends_well n h l buffer a b c d le u v f) p q r
+    (λ a b c d u v f. ends_well n h l buffer a b c d le u v f)
+    p (subst (λ k. Told (Takes (record { 0 = 0 }) k buffer) y z) none q) (subst (λ (t : List ℕ). Told (Says (line_text h t)) z w) same r)
 
-told_last_fails : (s : Stop) (before now : Faults) (n : ℕ) (h : History) (l buffer : List ℕ) (x y z w : Option World) → TellingCause before now s → n ≤ 4294967296
-    → Told (IsOnItsWay n h l) x y → Told (Takes (record { 0 = 0 }) 0 buffer) y z → Told (SaysFront (line_text h l)) z w → Told (DryRun (status_of {A = Unit {0}} (Err s))) x w
-told_last_fails s before now n h l buffer x y z w cause le p q r =
+-- the last line was told in part
+pub told_last_fails : (s : Stop) (before now : Faults) (n count : ℕ) (h : CoreState) (l said buffer : List ℕ) (x y z w : Option World) → TellingCause before now s → n ≤ 4294967296 → count ≡ 0 → said ≡ l
+    → Told (IsOnItsWay n h l) x y → Told (Takes (record { 0 = 0 }) count buffer) y z → Told (SaysFront (line_text h said)) z w → Told (DryRun (status_of {A = Unit {0}} (Err s))) x w
+told_last_fails s before now n count h l said buffer x y z w cause le none same p q r =
     told_three (IsOnItsWay n h l) (Takes (record { 0 = 0 }) 0 buffer) (SaysFront (line_text h l)) (DryRun (status_of {A = Unit {0}} (Err s))) x y z w
-    (λ a b c d u v f. ends_in_last (status_of {A = Unit {0}} (Err s)) n h l buffer a b c d (telling_not_done before now s cause) (telling_not_long before now s cause) le u v f) p q r
-
--- the last line was told, or not wholly
-pub told_last : (result : Result (Unit {0}) Stop) (before now : Faults) (n count : ℕ) (h : History) (l said buffer : List ℕ) (x y z w : Option World) → n ≤ 4294967296 → count ≡ 0 → said ≡ l
-    → Told (IsOnItsWay n h l) x y → Told (Takes (record { 0 = 0 }) count buffer) y z → OnOk result (Told (Says (line_text h said)) z w) → OnErr result (Told (SaysFront (line_text h said)) z w)
-    → IsTelling before now result → Told (DryRun (status_of result)) x w
-told_last (Ok done) before now n count h l said buffer x y z w le none same p q ok err telling =
-    told_last_done n h l buffer x y z w le p (subst (λ k. Told (Takes (record { 0 = 0 }) k buffer) y z) none q) (subst (λ (t : List ℕ). Told (Says (line_text h t)) z w) same ok)
-told_last (Err s) before now n count h l said buffer x y z w le none same p q ok err telling =
-    told_last_fails s before now n h l buffer x y z w telling.cause le p (subst (λ k. Told (Takes (record { 0 = 0 }) k buffer) y z) none q) (subst (λ (t : List ℕ). Told (SaysFront (line_text h t)) z w) same err)
+    (λ a b c d u v f. ends_in_last (status_of {A = Unit {0}} (Err s)) n h l buffer a b c d (telling_not_done before now s cause) (telling_not_long before now s cause) le u v f)
+    p (subst (λ k. Told (Takes (record { 0 = 0 }) k buffer) y z) none q) (subst (λ (t : List ℕ). Told (SaysFront (line_text h t)) z w) same r)
 
 -- past the limit one byte more is asked for, and before it none that passes the limit
 pub one_too_many : (taken count asked : ℕ) → taken ≤ 4294967296 → count ≤ asked → 4294967296 < taken + count → (taken ≡ 4294967296 → asked ≡ 1) → (taken < 4294967296 → taken + asked ≤ 4294967296)

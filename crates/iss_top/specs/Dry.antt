@@ -2,7 +2,8 @@
 use Rattle.std.specs.Prelude.{ℕ, List, map, Result, Ok, Err}
 use Rattle.std.specs.List.{concat, flat_map}
 use Rattle.iss_model.specs.declared.entry.Entry.{Entry}
-use Rattle.iss_model.specs.Histories.{History, nothing_yet}
+use Rattle.iss_model.specs.Histories.{nothing_yet, history_keeper}
+use Rattle.iss_model.specs.Cores.{CoreState, core_keeper}
 use Rattle.iss_model.specs.Transcripts.{Reading, sound, faulty, Text, Told, transcript, after_line, bytes_of, entry_texts}
 use Rattle.iss_event.specs.declared.line.Line.{Line}
 use Rattle.iss_event.specs.declared.line.Mode.TheVariants.{Lines}
@@ -21,15 +22,15 @@ reading_of line = as_reading (line_read Lines line)
 
 -- the texts that the lines of these bytes are told, in order
 abbrev pub dry_texts : List ℕ → List Text
-dry_texts input = transcript nothing_yet (map reading_of (lines_of input))
+dry_texts input = transcript history_keeper nothing_yet (map reading_of (lines_of input))
 
 -- all that is to go out
 abbrev pub dry_output : List ℕ → List ℕ
 dry_output input = bytes_of (dry_texts input)
 
--- what is told of a line that is not blank, and what then stands
-abbrev pub told_of : History → List ℕ → Told
-told_of h line = after_line h (reading_of line)
+-- what is told of a line that is not blank on a core, and what then stands
+abbrev pub told_of : CoreState → List ℕ → Told CoreState
+told_of s line = after_line core_keeper s (reading_of line)
 
 -- the text of an entry, where it has one
 abbrev pub entry_text : Entry → List ℕ

@@ -1,10 +1,9 @@
 pub mod Statuses
 pub mod Lines
 pub mod Dry
-pub mod Early
-pub mod Purchases
-pub mod Repeats
+pub mod Start
 pub mod Progress
 pub mod Runs
 pub mod Words
 pub mod FormatRuns
+pub mod Tells

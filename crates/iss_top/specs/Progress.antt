@@ -4,7 +4,7 @@ use Rattle.std.specs.List.{list_all}
 use Rattle.iss_edge.specs.declared.outside.Action.{Action}
 use Rattle.iss_edge.specs.declared.outside.Action.TheVariants.{Write, Sync, Emit, Dial, Close}
 use Rattle.iss_edge.specs.World.{World, Faults, Later, Rose, sent_on}
-use Rattle.iss_model.specs.Histories.{History}
+use Rattle.iss_model.specs.Cores.{CoreState}
 use Rattle.iss_model.specs.Transcripts.{bytes_of}
 use Rattle.iss_top.specs.declared.stop.Stop.{Stop}
 use Rattle.iss_top.specs.declared.stop.Stop.TheVariants as stop
@@ -12,21 +12,21 @@ use Rattle.iss_top.specs.Lines.{is_blank, onto_first, parts_of}
 use Rattle.iss_top.specs.Dry.{told_of}
 
 -- what a line is told: nothing where it is blank
-unfoldable pub line_text : History → List ℕ → List ℕ
-line_text h line = if is_blank line then [] else bytes_of (told_of h line).texts
+unfoldable pub line_text : CoreState → List ℕ → List ℕ
+line_text s line = if is_blank line then [] else bytes_of (told_of s line).texts
 
 -- what stands after a line
-unfoldable pub line_next : History → List ℕ → History
-line_next h line = if is_blank line then h else (told_of h line).history
+unfoldable pub line_next : CoreState → List ℕ → CoreState
+line_next s line = if is_blank line then s else (told_of s line).world
 
 -- what lines in a row are told
-abbrev pub lines_text : History → List (List ℕ) → List ℕ
-lines_text h [] = []
-lines_text h (line ∷ lines) = line_text h line ++ lines_text (line_next h line) lines
+abbrev pub lines_text : CoreState → List (List ℕ) → List ℕ
+lines_text s [] = []
+lines_text s (line ∷ lines) = line_text s line ++ lines_text (line_next s line) lines
 
 -- what is still to be told where these bytes of a line came already, and the rest is to come
-unfoldable pub text_to_come : History → List ℕ → List ℕ → List ℕ
-text_to_come h line rest = lines_text h (onto_first line (parts_of rest))
+unfoldable pub text_to_come : CoreState → List ℕ → List ℕ → List ℕ
+text_to_come s line rest = lines_text s (onto_first line (parts_of rest))
 
 -- sends bytes on channel 0
 abbrev pub is_output : Action → Bool
@@ -57,10 +57,10 @@ pub record SaysFront (text : List ℕ) (a b : World) : Type 0 where
   pub says : Says front a b
 
 -- a piece of input was taken in: what it is told went out, and the rest of the input is still to be told
-pub record Fed (h : History) (line piece : List ℕ) (h' : History) (line' : List ℕ) (a b : World) : Type 0 where
+pub record Fed (s : CoreState) (line piece : List ℕ) (s' : CoreState) (line' : List ℕ) (a b : World) : Type 0 where
   pub text : List ℕ
   pub says : Says text a b
-  pub onward : (rest : List ℕ) → text_to_come h line (piece ++ rest) ≡ text ++ text_to_come h' line' rest
+  pub onward : (rest : List ℕ) → text_to_come s line (piece ++ rest) ≡ text ++ text_to_come s' line' rest
 
 -- what is still to be told where this text came first
 pub record Begins (text whole : List ℕ) : Type 0 where
@@ -68,10 +68,10 @@ pub record Begins (text whole : List ℕ) : Type 0 where
   pub cut : whole ≡ text ++ back
 
 -- a piece of input was taken in in part: what went out is the front of what is to be told, whatever comes behind the piece
-pub record FedPart (h : History) (line piece : List ℕ) (a b : World) : Type 0 where
+pub record FedPart (s : CoreState) (line piece : List ℕ) (a b : World) : Type 0 where
   pub text : List ℕ
   pub says : Says text a b
-  pub onward : (rest : List ℕ) → Begins text (text_to_come h line (piece ++ rest))
+  pub onward : (rest : List ℕ) → Begins text (text_to_come s line (piece ++ rest))
 
 -- why telling a line may end early: an emit failed, or memory was wanted
 abbrev pub TellingCause : Faults → Faults → Stop → Type 0

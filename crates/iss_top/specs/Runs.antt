@@ -1,7 +1,7 @@
 -- What a run does, whatever status it ends with.
 use Rattle.std.specs.Prelude.{◌≡◌, ℕ, ◌≤◌, ◌↔◌, ◌⊎◌, List, [], ◌++◌, length, IfErr, Result}
 use Rattle.iss_edge.specs.World.{World, Faults, Later, Rose}
-use Rattle.iss_model.specs.Histories.{History, nothing_yet}
+use Rattle.iss_model.specs.Cores.{CoreState, no_core}
 use Rattle.iss_top.specs.declared.stop.Stop.{Stop}
 use Rattle.iss_top.specs.declared.stop.Stop.TheVariants as stop
 use Rattle.iss_top.specs.Dry.{dry_output}
@@ -14,12 +14,12 @@ pub record Passes (took text : List ℕ) (a b : World) : Type 0 where
   pub sends : Sends text a b
 
 -- so many bytes were taken, all lines that ended in them were told, and of the rest the line that began
-pub record IsOnItsWay (taken : ℕ) (h : History) (line : List ℕ) (a b : World) : Type 0 where
+pub record IsOnItsWay (taken : ℕ) (s : CoreState) (line : List ℕ) (a b : World) : Type 0 where
   pub took : List ℕ
   pub text : List ℕ
   pub passes : Passes took text a b
   pub count : length took ≡ taken
-  pub onward : (rest : List ℕ) → text_to_come nothing_yet [] (took ++ rest) ≡ text ++ text_to_come h line rest
+  pub onward : (rest : List ℕ) → text_to_come no_core [] (took ++ rest) ≡ text ++ text_to_come s line rest
 
 -- What a dry run with this status did. What went out is a front of what its input is to be told, and all of it at status 0, where the input was read to its end.
 -- Status 8 comes exactly where 4294967296 bytes were taken and another came.

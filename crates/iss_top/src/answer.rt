@@ -1,42 +1,85 @@
 //! What a line is told.
-ghost use Rattle.std.specs.Prelude.{◌≡◌, ◌+◌, ◌^◌, ◌<◌, length, true, None, IfOk, OnOk, IsTrue};
+ghost use Rattle.std.specs.Prelude.{◌≡◌, ◌<◌, true, None, IfOk, IsTrue};
+ghost use Rattle.std.specs.List.{list_all};
+ghost use Rattle.iss_model.specs.Built.{is_built};
+ghost use Rattle.iss_model.specs.Cores.{core_keeper};
 ghost use Rattle.iss_model.specs.Forms.{is_in_form};
-ghost use Rattle.iss_event.specs.Taken.{is_taken};
 ghost use Rattle.iss_model.specs.Transcripts.{sound, after_line, bytes_of};
-ghost use Rattle.iss_top.specs.Dry.{told_of};
+ghost use Rattle.iss_core.specs.BuiltEntries.{is_built_entry};
+ghost use Rattle.iss_core.specs.Values.{IsNext};
+ghost use Rattle.iss_top.specs.Dry.{told_of, entries_text};
+ghost use Rattle.iss_top.specs.Start.{IsAtStart};
+ghost use Rattle.iss_top.specs.Tells.{Tells, Records};
 
-use crate::book::Book;
-use iss_event::{Line, LineFault, Mode, form_line, read_line, told_line};
+use iss_core::Core;
+use iss_event::{Line, LineFault, Mode, form_line, read_line, reply_line, told_line};
+use iss_model::{Entry, Judged, Record, Reply};
 use std::alloc::{AllocError, Global};
 
-/// Takes a line that is not blank, and answers what it is told.
-pub(crate) fn answer(alloc: Global, book: &mut Book, line: &[u8]) -> Result<Vec<u8>, AllocError>
-    requires { length book.old.records + 1 < 2 ^ 32 }
-    ensures history { OnOk result (book.new ≡ (told_of book.old line.now).history) }
-    ensures texts { IfOk result (λ text. text.items ≡ bytes_of (told_of book.old line.now).texts) }
+/// Takes a line that is not blank, and answers the core behind it with what the line is told.
+pub(crate) fn answer(alloc: Global, core: Core, line: &[u8]) -> Result<(Core, Vec<u8>), AllocError>
+    requires room { core.state.count < 1073741823 }
+    requires start { IsAtStart core.state }
+    ensures told { IfOk result (λ x. Tells (told_of core.state line.now) x.0.state x.1.items) }
+    ensures start { IfOk result (λ x. IsAtStart x.0.state) }
 {
     match read_line(alloc, line, Mode::Lines) {
-        Ok(said) => decide(alloc, book, said),
-        Err(LineFault::Form(fault)) => form_line(alloc, &fault),
+        Ok(said) => decide(alloc, core, said),
+        Err(LineFault::Form(fault)) => {
+            let text = form_line(alloc, &fault)?;
+            Ok((core, text))
+        }
         Err(LineFault::OutOfMemory) => Err(AllocError),
     }
 }
 
-/// Judges the input of a line: an event that stands is told what became of it, and a new one is a record.
-fn decide(alloc: Global, book: &mut Book, said: Line) -> Result<Vec<u8>, AllocError>
-    requires room { length book.old.records + 1 < 2 ^ 32 }
+/// Judges the input of a line: one that isn't new is told so, and a new one is a record.
+fn decide(alloc: Global, core: Core, said: Line) -> Result<(Core, Vec<u8>), AllocError>
+    requires room { core.state.count < 1073741823 }
+    requires start { IsAtStart core.state }
     requires input_form { IsTrue (is_in_form said.input) }
-    requires early { is_taken said.input ≡ true }
-    requires start { said.at ≡ None }
-    ensures history { OnOk result (book.new ≡ (after_line book.old (sound said.input said.at)).history) }
-    ensures texts { IfOk result (λ text. text.items
-        ≡ bytes_of (after_line book.old (sound said.input said.at)).texts) }
+    requires built { is_built said.input ≡ true }
+    requires no_stamp { said.at ≡ None }
+    ensures told { IfOk result (λ x. Tells (after_line core_keeper core.state (sound said.input said.at)) x.0.state x.1.items) }
+    ensures start { IfOk result (λ x. IsAtStart x.0.state) }
 {
-    match book.answer_to(&said.input) {
-        Some(answer) => told_line(alloc, &answer),
-        None => {
-            let at = said.at.unwrap_or(0).max(book.now());
-            book.step(alloc, said.input, at)
+    match core.judge(&said.input, said.at.unwrap_or(0))? {
+        Judged::New(record) => take_up(alloc, core, &record),
+        Judged::Clock(_) => unreachable!(),
+        Judged::Told(answer) => {
+            let text = told_line(alloc, &answer)?;
+            Ok((core, text))
         }
     }
+}
+
+/// Takes up a record that is next, and answers the core behind it with the texts of its entries.
+fn take_up(alloc: Global, core: Core, record: &Record) -> Result<(Core, Vec<u8>), AllocError>
+    requires room { core.state.count < 1073741823 }
+    requires start { IsAtStart core.state }
+    requires next { IsNext core record.now }
+    requires input_form { IsTrue (is_in_form record.now.input) }
+    requires built { is_built record.now.input ≡ true }
+    requires at_start { record.now.at ≡ 0 }
+    ensures told { IfOk result (λ x. Records core.state record.now x.0.state x.1.items) }
+    ensures start { IfOk result (λ x. IsAtStart x.0.state) }
+{
+    let (core, entries) = core.step(alloc, record)?;
+    let text = entries_text(alloc, &entries)?;
+    Ok((core, text))
+}
+
+/// The texts of entries that are built: each decision is told.
+fn entries_text(alloc: Global, entries: &[Entry]) -> Result<Vec<u8>, AllocError>
+    requires { list_all is_built_entry entries.now ≡ true }
+    ensures { IfOk result (λ text. text.items ≡ entries_text entries.now) }
+{
+    let mut text = Vec::new(alloc);
+    for entry in entries {
+        if let Entry::Decided(event, verdict) = entry {
+            let line = reply_line(alloc, event, &Reply::Decided(*verdict))?;
+            text.extend_from_slice(&line)?;
+        }
+    }
+    Ok(text)
 }

@@ -5,11 +5,11 @@ ghost use Rattle.iss_edge.specs.Calls.{Takes, Same};
 ghost use Rattle.iss_top.specs.Statuses.{status_of};
 ghost use Rattle.iss_top.specs.Runs.{DryRun, IsCaused};
 
-use crate::book::Book;
 use crate::buffer::LineBuffer;
 use crate::feed::feed;
 use crate::stop::Stop;
 use crate::telling::tell_line;
+use iss_core::Core;
 use iss_edge::{Channel, Edge};
 use std::alloc::Global;
 
@@ -24,20 +24,21 @@ pub(crate) fn dry<E: Edge>(alloc: Global, edge: &mut E) -> Result<(), Stop>
     ensures ran { Told (DryRun (status_of result)) (E.told edge.old) (E.told edge.new) }
     ensures caused { IsCaused (E.faults edge.old) (E.faults edge.new) result }
 {
-    let mut book = Book::new(alloc);
+    let mut core = Core::new(alloc, 0)?;
     let mut line = LineBuffer::new(alloc);
     let mut buffer = [0; PIECE];
     let mut taken = 0;
     'input: loop {
         let count = take_piece(edge, &mut buffer, room_after(taken))?;
         if count == 0 {
-            return tell_line(alloc, &mut book, line.as_slice(), edge);
+            tell_line(alloc, core, line.as_slice(), edge)?;
+            return Ok(());
         }
         taken += count as u64;
         if taken > MOST {
             return Err(Stop::InputLong);
         }
-        feed(alloc, &mut book, &mut line, edge, &buffer[..count])?;
+        core = feed(alloc, core, &mut line, edge, &buffer[..count])?;
     }
 }
 

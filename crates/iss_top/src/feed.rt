@@ -1,74 +1,82 @@
 //! The input, byte by byte.
-ghost use Rattle.std.specs.Prelude.{◌≡◌, ◌+◌, ◌*◌, ◌^◌, ◌<◌, ◌≤◌, [], ◌∷◌, length, OnOk, OnErr};
+ghost use Rattle.std.specs.Prelude.{◌≡◌, ◌+◌, ◌*◌, ◌^◌, ◌≤◌, [], ◌∷◌, length, IfOk, OnErr};
 ghost use Rattle.iss_edge.specs.World.{Told};
 ghost use Rattle.iss_top.specs.Progress.{Fed, FedPart, IsTelling};
+ghost use Rattle.iss_top.specs.Start.{IsAtStart};
 
-use crate::book::Book;
 use crate::buffer::LineBuffer;
 use crate::stop::Stop;
 use crate::telling::tell_line;
+use iss_core::Core;
 use iss_edge::Edge;
 use std::alloc::Global;
 
-/// Takes in a piece of the input: each line that ends in it is told.
+/// Takes in a piece of the input: each line that ends in it is told. Answers the core behind it.
 pub(crate) fn feed<E: Edge>(
     alloc: Global,
-    book: &mut Book,
+    core: Core,
     line: &mut LineBuffer,
     edge: &mut E,
     piece: &[u8],
-) -> Result<(), Stop>
-    requires { 2 * length book.old.records + length line.old + length piece.now ≤ 2 ^ 32 }
-    ensures fed { OnOk result
-        (Told (Fed book.old line.old piece.now book.new line.new) (E.told edge.old) (E.told edge.new)) }
-    ensures part { OnErr result (Told (FedPart book.old line.old piece.now) (E.told edge.old) (E.told edge.new)) }
+) -> Result<Core, Stop>
+    requires room { 5 * core.state.count + length line.old + length piece.now ≤ 2 ^ 32 }
+    requires start { IsAtStart core.state }
+    ensures fed { IfOk result (λ next.
+        Told (Fed core.state line.old piece.now next.state line.new) (E.told edge.old) (E.told edge.new)) }
+    ensures part { OnErr result (Told (FedPart core.state line.old piece.now) (E.told edge.old) (E.told edge.new)) }
     ensures telling { IsTelling (E.faults edge.old) (E.faults edge.new) result }
-    ensures room { OnOk result (2 * length book.new.records + length line.new
-        ≤ 2 * length book.old.records + length line.old + length piece.now) }
+    ensures room { IfOk result (λ next. 5 * next.state.count + length line.new
+        ≤ 5 * core.state.count + length line.old + length piece.now) }
+    ensures start { IfOk result (λ next. IsAtStart next.state) }
 {
+    let mut next = core;
     for byte in piece {
-        feed_byte(alloc, book, line, edge, *byte)?;
+        next = feed_byte(alloc, next, line, edge, *byte)?;
     }
-    Ok(())
+    Ok(next)
 }
 
 fn feed_byte<E: Edge>(
     alloc: Global,
-    book: &mut Book,
+    core: Core,
     line: &mut LineBuffer,
     edge: &mut E,
     byte: u8,
-) -> Result<(), Stop>
-    requires { 2 * length book.old.records + length line.old + 1 ≤ 2 ^ 32 }
-    ensures fed { OnOk result
-        (Told (Fed book.old line.old (byte ∷ []) book.new line.new) (E.told edge.old) (E.told edge.new)) }
-    ensures part { OnErr result (Told (FedPart book.old line.old (byte ∷ [])) (E.told edge.old) (E.told edge.new)) }
+) -> Result<Core, Stop>
+    requires room { 5 * core.state.count + length line.old + 1 ≤ 2 ^ 32 }
+    requires start { IsAtStart core.state }
+    ensures fed { IfOk result (λ next.
+        Told (Fed core.state line.old (byte ∷ []) next.state line.new) (E.told edge.old) (E.told edge.new)) }
+    ensures part { OnErr result (Told (FedPart core.state line.old (byte ∷ [])) (E.told edge.old) (E.told edge.new)) }
     ensures telling { IsTelling (E.faults edge.old) (E.faults edge.new) result }
-    ensures room { OnOk result (2 * length book.new.records + length line.new
-        ≤ 2 * length book.old.records + length line.old + 1) }
+    ensures room { IfOk result (λ next. 5 * next.state.count + length line.new
+        ≤ 5 * core.state.count + length line.old + 1) }
+    ensures start { IfOk result (λ next. IsAtStart next.state) }
 {
     if byte == b'\n' {
-        return end_line(alloc, book, line, edge);
+        return end_line(alloc, core, line, edge);
     }
     line.push(byte)?;
-    Ok(())
+    Ok(core)
 }
 
 fn end_line<E: Edge>(
     alloc: Global,
-    book: &mut Book,
+    core: Core,
     line: &mut LineBuffer,
     edge: &mut E,
-) -> Result<(), Stop>
-    requires { 2 * length book.old.records + length line.old + 1 ≤ 2 ^ 32 }
-    ensures fed { OnOk result
-        (Told (Fed book.old line.old (10 ∷ []) book.new line.new) (E.told edge.old) (E.told edge.new)) }
-    ensures part { OnErr result (Told (FedPart book.old line.old (10 ∷ [])) (E.told edge.old) (E.told edge.new)) }
+) -> Result<Core, Stop>
+    requires room { 5 * core.state.count + length line.old + 1 ≤ 2 ^ 32 }
+    requires start { IsAtStart core.state }
+    ensures fed { IfOk result (λ next.
+        Told (Fed core.state line.old (10 ∷ []) next.state line.new) (E.told edge.old) (E.told edge.new)) }
+    ensures part { OnErr result (Told (FedPart core.state line.old (10 ∷ [])) (E.told edge.old) (E.told edge.new)) }
     ensures telling { IsTelling (E.faults edge.old) (E.faults edge.new) result }
-    ensures room { OnOk result (2 * length book.new.records + length line.new
-        ≤ 2 * length book.old.records + length line.old + 1) }
+    ensures room { IfOk result (λ next. 5 * next.state.count + length line.new
+        ≤ 5 * core.state.count + length line.old + 1) }
+    ensures start { IfOk result (λ next. IsAtStart next.state) }
 {
-    tell_line(alloc, book, line.as_slice(), edge)?;
+    let next = tell_line(alloc, core, line.as_slice(), edge)?;
     line.clear();
-    Ok(())
+    Ok(next)
 }

@@ -2,15 +2,11 @@
 #![tactic(auto)]
 
 mod answer;
-mod book;
 mod buffer;
 mod command;
-mod contents;
 mod dry;
-mod entries;
 mod feed;
 mod format;
-mod rows;
 mod stop;
 mod telling;
 mod words;

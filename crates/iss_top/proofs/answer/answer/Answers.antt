@@ -1,28 +1,14 @@
-use Rattle.std.proofs.Common.{rules}
-use Rattle.iss_event.proofs.TakenLines.{taken_line}
-use Rattle.iss_top.proofs.Tellings.{answer_faulty, answer_sound, bytes_of_one}
+use Rattle.std.proofs.lemmas.Result.{IfOk-weaker}
+use Rattle.iss_top.proofs.Tellings.{read_tells, fault_tells}
 use Rattle.iss_top.proofs.answer.answer.Goals as goal
 
-pub returns-in-Ok-clause-history : goal.returns-in-Ok-clause-history
-returns-in-Ok-clause-history c =
-    rw (answer_sound c.args.book.now c.args.line.now c.in-Ok.said c.in-Ok.ensures.read) c.decide.ensures.history
+pub returns-in-Ok-clause-told : goal.returns-in-Ok-clause-told
+returns-in-Ok-clause-told c =
+    IfOk-weaker c.decide.result _ _
+    (λ x tells. read_tells c.args.core.state x.0.state c.args.line.now x.1.items c.in-Ok.said c.in-Ok.ensures.read tells)
+    c.decide.ensures.told
 
-pub returns-in-Ok-clause-texts : goal.returns-in-Ok-clause-texts
-returns-in-Ok-clause-texts c =
-    rw (answer_sound c.args.book.now c.args.line.now c.in-Ok.said c.in-Ok.ensures.read) c.decide.ensures.texts
-
-pub returns-in-Err-Form-clause-history : goal.returns-in-Err-Form-clause-history
-returns-in-Err-Form-clause-history c =
+pub returns-in_ok-text-in-Err-Form-clause-told : goal.returns-in_ok-text-in-Err-Form-clause-told
+returns-in_ok-text-in-Err-Form-clause-told c =
     let read = rw c.in-Err-Form.field-0-is at c.in-Err-Form.ensures.read in
-    rw (answer_faulty c.args.book.now c.args.line.now c.in-Err-Form.fault read) (search rules)
-
-pub returns-in-Err-Form-clause-texts : goal.returns-in-Err-Form-clause-texts
-returns-in-Err-Form-clause-texts c =
-    let read = rw c.in-Err-Form.field-0-is at c.in-Err-Form.ensures.read in
-    rw (answer_faulty c.args.book.now c.args.line.now c.in-Err-Form.fault read, bytes_of_one) c.form_line.ensures
-
-pub decide-requires-clause-early : goal.decide-requires-clause-early
-decide-requires-clause-early c = (taken_line c.args.line.now c.in-Ok.said c.in-Ok.ensures.read).0
-
-pub decide-requires-clause-start : goal.decide-requires-clause-start
-decide-requires-clause-start c = (taken_line c.args.line.now c.in-Ok.said c.in-Ok.ensures.read).1
+    fault_tells c.args.core.state c.args.line.now c.in-Err-Form.fault c.in_ok-text-in-Err-Form.text.items read c.in_ok-text-in-Err-Form.ensures

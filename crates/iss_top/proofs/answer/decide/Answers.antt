@@ -1,28 +1,43 @@
-use Rattle.std.proofs.Common.{◌≡◌, sym, rules}
-use Rattle.std.proofs.lemmas.Result.{IfOk-weaker, on_ok_weaker}
-use Rattle.iss_top.proofs.Tellings.{text_told, history_kept, history_grown, text_made, anyway}
+use Rattle.std.proofs.Common.{ap, sym, ◌∙◌}
+use Rattle.std.specs.Prelude.{unwrap_or}
+use Rattle.std.proofs.lemmas.Result.{IfOk-weaker}
+use Rattle.iss_model.specs.Built.{is_built}
+use Rattle.iss_model.specs.Forms.{is_in_form}
+use Rattle.iss_core.proofs.Quiet.{never_clock}
+use Rattle.iss_top.proofs.Tellings.{answer_tells, record_tells, quiet_then, record_then}
 use Rattle.iss_top.proofs.answer.decide.Goals as goal
 
-pub returns-in-Some-clause-history : goal.returns-in-Some-clause-history
-returns-in-Some-clause-history c =
-    anyway c.told_line.result _ (history_kept c.args.book.now c.answer_to.ensures.early c.args.said.input c.args.said.at c.requires.start c.in-Some.answer (sym c.in-Some.ensures.value))
+pub take_up-requires-clause-input_form : goal.take_up-requires-clause-input_form
+take_up-requires-clause-input_form c =
+    ap is_in_form (record_then c.args.core.state c.args.said.input c.unwrap_or.result c.in-New.record c.requires.start (c.unwrap_or.ensures ∙ ap (λ at. unwrap_or at 0) c.requires.no_stamp)
+    (sym c.in-New.is ∙ c.in_ok-record.ensures.judged)).input
+    ∙ c.requires.input_form
 
-pub returns-in-Some-clause-texts : goal.returns-in-Some-clause-texts
-returns-in-Some-clause-texts c =
-    IfOk-weaker c.told_line.result _ _
-    (λ text said. text_told c.args.book.now c.answer_to.ensures.early c.args.said.input c.args.said.at c.requires.start c.in-Some.answer (sym c.in-Some.ensures.value) text.items said)
-    c.told_line.ensures
+pub take_up-requires-clause-built : goal.take_up-requires-clause-built
+take_up-requires-clause-built c =
+    ap is_built (record_then c.args.core.state c.args.said.input c.unwrap_or.result c.in-New.record c.requires.start (c.unwrap_or.ensures ∙ ap (λ at. unwrap_or at 0) c.requires.no_stamp)
+    (sym c.in-New.is ∙ c.in_ok-record.ensures.judged)).input
+    ∙ c.requires.built
 
-pub returns-in-None-clause-history : goal.returns-in-None-clause-history
-returns-in-None-clause-history c =
-    let start : c.max-at.result ≡ 0 = search rules in
-    on_ok_weaker c.step.result
-    (λ grown. history_grown c.args.book.now c.answer_to.ensures.early c.args.said.input c.args.said.at c.max-at.result c.requires.start start c.requires.early (sym c.in-None.ensures.value) c.step.new.self grown)
-    c.step.ensures.grown
+pub take_up-requires-clause-at_start : goal.take_up-requires-clause-at_start
+take_up-requires-clause-at_start c =
+    (record_then c.args.core.state c.args.said.input c.unwrap_or.result c.in-New.record c.requires.start (c.unwrap_or.ensures ∙ ap (λ at. unwrap_or at 0) c.requires.no_stamp)
+    (sym c.in-New.is ∙ c.in_ok-record.ensures.judged)).at
 
-pub returns-in-None-clause-texts : goal.returns-in-None-clause-texts
-returns-in-None-clause-texts c =
-    let start : c.max-at.result ≡ 0 = search rules in
-    IfOk-weaker c.step.result _ _
-    (λ text made. text_made c.args.book.now c.answer_to.ensures.early c.args.said.input c.args.said.at c.max-at.result c.requires.start start c.requires.early (sym c.in-None.ensures.value) text.items made)
-    c.step.ensures.texts
+pub returns-in-New-clause-told : goal.returns-in-New-clause-told
+returns-in-New-clause-told c =
+    IfOk-weaker c.take_up.result _ _
+    (λ x records. record_tells c.args.core.state c.args.said.input c.args.said.at c.unwrap_or.result c.in-New.record x.0.state x.1.items c.unwrap_or.ensures
+    (sym c.in-New.is ∙ c.in_ok-record.ensures.judged) c.requires.built records)
+    c.take_up.ensures.told
+
+pub unreachable-requires : goal.unreachable-requires
+unreachable-requires c =
+    never_clock c.args.core.state c.args.said.input c.unwrap_or.result c.in-Clock.field-0
+    (quiet_then c.args.core.state c.unwrap_or.result c.requires.start (c.unwrap_or.ensures ∙ ap (λ at. unwrap_or at 0) c.requires.no_stamp))
+    (sym c.in-Clock.is ∙ c.in_ok-record.ensures.judged)
+
+pub returns-clause-told : goal.returns-clause-told
+returns-clause-told c =
+    answer_tells c.args.core.state c.args.said.input c.args.said.at c.unwrap_or.result c.in-Told.answer c.in_ok-text-in-Told.text.items c.unwrap_or.ensures
+    (sym c.in-Told.is ∙ c.in_ok-record.ensures.judged) c.in_ok-text-in-Told.ensures

@@ -1,13 +1,15 @@
 use Rattle.std.proofs.Common.{◌+◌, ◌-◌, ◌*◌, ◌≤◌, length}
 use Rattle.iss_edge.specs.World.{Told, Later}
 use Rattle.iss_top.specs.Runs.{IsOnItsWay}
+use Rattle.iss_top.specs.Start.{IsAtStart}
 use Rattle.iss_top.proofs.dry.dry.Given as goal
 
 abbrev pub invariant-input : goal.invariant-input
 invariant-input g l = record {
   limit : l.taken ≤ 4294967296;
-  room : 2 * length l.book.records + length l.line ≤ l.taken;
-  told : Told (IsOnItsWay l.taken l.book l.line) (g.E.Edge.told l.initial.edge) (g.E.Edge.told l.edge);
+  room : 5 * l.core.state.count + length l.line ≤ l.taken;
+  start : IsAtStart l.core.state;
+  told : Told (IsOnItsWay l.taken l.core.state l.line) (g.E.Edge.told l.initial.edge) (g.E.Edge.told l.edge);
   later : Later (g.E.Edge.faults l.initial.edge) (g.E.Edge.faults l.edge);
 }
 

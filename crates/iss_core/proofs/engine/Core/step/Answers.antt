@@ -1,7 +1,7 @@
 use Rattle.std.proofs.Common.{refl, ap}
 use Rattle.iss_core.specs.States.{state_of}
 use Rattle.iss_core.proofs.OnBook.{steps_on_book}
-use Rattle.iss_core.proofs.Stepped.{ready_so, unknown_so, kept_so, stepped_so}
+use Rattle.iss_core.proofs.Stepped.{ready_so, unknown_so, kept_so, stepped_so, built_so}
 use Rattle.iss_core.proofs.engine.Core.step.Goals as goal
 
 pub make-requires-clause-taken_up : goal.make-requires-clause-taken_up
@@ -33,3 +33,8 @@ returns-clause-on_book c = λ rs stands.
     steps_on_book c.args.self (record { instance = c.self.inside.instance; state = state_of c.make.new.self }) rs c.args.record.now c.in_ok-entries.entries.items stands
     (stepped_so c.args.self c.self.inside.instance (state_of c.self.inside.state) (state_of c.take_up.new.self) (state_of c.make.new.self) c.args.record.now c.in_ok-entries.entries.items
     c.self.view_is c.in_ok-take_up.ensures c.requires.quiet c.in_ok-entries.ensures.made)
+
+pub returns-clause-built_entries : goal.returns-clause-built_entries
+returns-clause-built_entries c =
+    built_so c.args.self (state_of c.self.inside.state) (state_of c.take_up.new.self) (state_of c.make.new.self) c.args.record.now c.in_ok-entries.entries.items (ap (λ x. x.state) c.self.view_is)
+    c.self.invariant c.requires.room refl c.in_ok-take_up.ensures c.requires.built c.requires.input_form c.in_ok-entries.ensures.made
