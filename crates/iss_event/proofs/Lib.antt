@@ -1,5 +1,5 @@
-pub mod AmountLemmas
-pub mod InForm
+pub mod LinesInForm
 pub mod ObjectLemmas
 pub mod PlainTexts
-pub mod TakenLines
+pub mod RowsInForm
+pub mod ValuesInForm

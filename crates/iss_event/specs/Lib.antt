@@ -1,4 +1,3 @@
-pub mod Amounts
 pub mod Fields
 pub mod FormLines
 pub mod Kinds
@@ -8,4 +7,4 @@ pub mod Plain
 pub mod Readings
 pub mod Reasons
 pub mod Rows
-pub mod Taken
+pub mod Values

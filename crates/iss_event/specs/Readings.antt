@@ -1,11 +1,11 @@
 -- What a line says.
 use Rattle.std.specs.Prelude.{◌≡◌, ℕ, ◌||◌, List, length, Bool, true, false, nat_lt, Option, Some, None, is_some, option_and_then, Result, Ok, Err, if◌then◌else◌}
 use Rattle.serde_json.specs.Data.{Data}
-use Rattle.iss_model.specs.declared.currency.Currency.{Currency}
-use Rattle.iss_model.specs.declared.currency.Currency.TheVariants.{Usd}
+use Rattle.iss_model.specs.declared.setting.Funding.{Funding}
+use Rattle.iss_model.specs.declared.setting.Funding.TheVariants.{Account, Gateway}
 use Rattle.iss_event.specs.declared.name.Name.TheVariants as name
 use Rattle.iss_event.specs.declared.kind.Kind.{Kind}
-use Rattle.iss_event.specs.declared.kind.Kind.TheVariants.{User, Card, Load, Authorization}
+use Rattle.iss_event.specs.declared.kind.Kind.TheVariants.{User, Card, Move, Product, Load, Authorization}
 use Rattle.iss_event.specs.declared.line.Mode.{Mode}
 use Rattle.iss_event.specs.declared.line.Mode.TheVariants.{Lines, Client}
 use Rattle.iss_event.specs.declared.line.Line.{Line}
@@ -14,7 +14,8 @@ use Rattle.iss_event.specs.declared.line.FormFault.TheVariants.{Long, Json, NotB
 use Rattle.iss_event.specs.declared.line.LineFault.{LineFault}
 use Rattle.iss_event.specs.declared.line.LineFault.TheVariants.{Form, OutOfMemory}
 use Rattle.iss_event.specs.Objects.{object_of}
-use Rattle.iss_event.specs.Fields.{field, required, kind_of, currency_of}
+use Rattle.iss_event.specs.Fields.{field, required}
+use Rattle.iss_event.specs.Values.{kind_of, funding_of}
 use Rattle.iss_event.specs.Rows.{◌>>=◌, row}
 
 -- the line says when it happened; a client's member `at` says nothing
@@ -22,22 +23,24 @@ abbrev pub has_stamp : Mode → Data → Bool
 has_stamp Lines d = is_some (field name.At d)
 has_stamp Client d = false
 
--- there is a currency, and not USD
-abbrev pub is_other : Option Currency → Bool
-is_other None = false
-is_other (Some Usd) = false
-is_other (Some _) = true
+-- the purchases of these are asked of a gateway
+abbrev pub is_gateway : Option Funding → Bool
+is_gateway (Some Gateway) = true
+is_gateway (Some Account) = false
+is_gateway None = false
 
--- the line names a currency other than USD
-abbrev pub has_other_currency : Data → Bool
-has_other_currency d = is_other (option_and_then currency_of (field name.Currency d))
+-- the line's funding is the gateway's
+abbrev pub has_gateway : Data → Bool
+has_gateway d = is_gateway (option_and_then funding_of (field name.Funding d))
 
--- the line isn't taken yet: it has a stamp, or money that isn't in USD, or is of another kind than these four
+-- the line isn't taken yet: it has a stamp, or makes a product that a gateway funds, or is of another kind than these six
 abbrev pub not_built : Mode → Kind → Data → Bool
 not_built mode User d = has_stamp mode d
 not_built mode Card d = has_stamp mode d
-not_built mode Load d = has_stamp mode d || has_other_currency d
-not_built mode Authorization d = has_stamp mode d || has_other_currency d
+not_built mode Move d = has_stamp mode d
+not_built mode Product d = has_stamp mode d || has_gateway d
+not_built mode Load d = has_stamp mode d
+not_built mode Authorization d = has_stamp mode d
 not_built mode _ d = true
 
 -- what an object of this kind says

@@ -1,15 +1,18 @@
 -- The fields of each type of line, in order: the first bad one is the fault.
-use Rattle.std.specs.Prelude.{true, codes, Result, Ok, Err}
+use Rattle.std.specs.Prelude.{ℕ, true, codes, List, Option, Some, None, Result, Ok, Err}
 use Rattle.serde_json.specs.Data.{Data}
 use Rattle.serde_json.specs.Find.{as_bool}
 use Rattle.iss_model.specs.declared.input.Input.{Input}
 use Rattle.iss_model.specs.declared.input.Input.TheVariants as input
-use Rattle.iss_event.specs.declared.name.Name.TheVariants.{Token, User, Card, Product, Active, Currency, Amount, Mcc, Mid}
+use Rattle.iss_model.specs.declared.setting.Moved.{Moved}
+use Rattle.iss_model.specs.declared.setting.Moved.TheVariants as moved
+use Rattle.iss_event.specs.declared.name.Name.TheVariants.{Token, User, Card, Product, Active, To, Currency, Funding, TimeoutMs, HoldMs, Amount, Mcc, Mid}
 use Rattle.iss_event.specs.declared.kind.Kind.{Kind}
 use Rattle.iss_event.specs.declared.kind.Kind.TheVariants as kind
 use Rattle.iss_event.specs.declared.line.FormFault.{FormFault}
-use Rattle.iss_event.specs.declared.line.FormFault.TheVariants.{NotBuilt}
-use Rattle.iss_event.specs.Fields.{required, optional_or, token_of, currency_of, amount_of, mcc_of}
+use Rattle.iss_event.specs.declared.line.FormFault.TheVariants.{Field, NotBuilt}
+use Rattle.iss_event.specs.Fields.{field, required, optional, optional_or}
+use Rattle.iss_event.specs.Values.{token_of, currency_of, amount_of, mcc_of, funding_of, card_state_of, user_state_of, timeout_of, hold_time_of}
 
 -- the ? of the logic: the second step, if the first gave a value
 infixl 10 ◌>>=◌
@@ -34,13 +37,52 @@ card_row d = do
   active ← optional_or as_bool true Active d
   Ok (input.Card token card user product active)
 
+-- this card goes to a state of cards
+unfoldable pub card_moved : List ℕ → Data → Result Moved FormFault
+card_moved card d = do
+  to ← required card_state_of To d
+  Ok (moved.Card card to)
+
+-- the user that the line names goes to a state of users
+unfoldable pub user_moved : Data → Result Moved FormFault
+user_moved d = do
+  user ← required token_of User d
+  to ← required user_state_of To d
+  Ok (moved.User user to)
+
+-- what is moved where: the card, if the line names one, else the user, and never both
+abbrev pub who_moved : Option (List ℕ) → Option Data → Data → Result Moved FormFault
+who_moved (Some card) (Some user) d = Err (Field User)
+who_moved (Some card) None d = card_moved card d
+who_moved None (Some user) d = user_moved d
+who_moved None None d = Err (Field Card)
+
+-- a card or a user changes its state
+unfoldable pub move_row : Data → Result Input FormFault
+move_row d = do
+  token ← required token_of Token d
+  card ← optional token_of Card d
+  who ← who_moved card (field User d) d
+  Ok (input.Move token who)
+
+-- a product is made, with three seconds for an answer and seven days for a hold where the line doesn't say otherwise
+unfoldable pub product_row : Data → Result Input FormFault
+product_row d = do
+  token ← required token_of Token d
+  product ← required token_of Product d
+  currency ← required currency_of Currency d
+  funding ← required funding_of Funding d
+  timeout_ms ← optional_or timeout_of 3000 TimeoutMs d
+  hold_ms ← optional_or hold_time_of 604800000 HoldMs d
+  Ok (input.Product token product currency funding timeout_ms hold_ms)
+
 -- a user's money comes in
 unfoldable pub load_row : Data → Result Input FormFault
 load_row d = do
   token ← required token_of Token d
   user ← required token_of User d
   currency ← required currency_of Currency d
-  amount ← required amount_of Amount d
+  amount ← required (amount_of currency) Amount d
   Ok (input.Load token user currency amount)
 
 -- a merchant asks whether a card may pay
@@ -49,7 +91,7 @@ authorization_row d = do
   token ← required token_of Token d
   card ← required token_of Card d
   currency ← required currency_of Currency d
-  amount ← required amount_of Amount d
+  amount ← required (amount_of currency) Amount d
   mcc ← required mcc_of Mcc d
   mid ← required token_of Mid d
   Ok (input.Authorization token card currency amount mcc mid)
@@ -58,6 +100,8 @@ authorization_row d = do
 abbrev pub row : Kind → Data → Result Input FormFault
 row kind.User d = user_row d
 row kind.Card d = card_row d
+row kind.Move d = move_row d
+row kind.Product d = product_row d
 row kind.Load d = load_row d
 row kind.Authorization d = authorization_row d
 row _ d = Err NotBuilt

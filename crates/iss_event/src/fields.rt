@@ -1,13 +1,17 @@
-//! A line's fields, each by its form.
-ghost use Rattle.std.specs.Prelude.{◌≡◌, option_map, codes};
+//! A line's fields: required or not, each in its form.
+ghost use Rattle.std.specs.Prelude.{◌≡◌, option_map};
 ghost use Rattle.serde_json.specs.Find.{as_bool};
 ghost use Rattle.serde_json.specs.View.{view};
-ghost use Rattle.iss_event.specs.Fields.{field, required, optional_or, token_of, mcc_of, mcc_of_text, currency_of, currency_of_text, amount_of, kind_of};
+ghost use Rattle.iss_event.specs.Fields.{field, required, optional, optional_or};
+ghost use Rattle.iss_event.specs.Values.{kind_of, token_of, currency_of, amount_of, mcc_of, funding_of, card_state_of, user_state_of, timeout_of, hold_time_of};
 
-use crate::amount::{amount_of_text, amount_of_units, number_from};
-use crate::kind::{Kind, kind_in, kind_of_text};
+use crate::kind::Kind;
+use crate::values::{
+    amount_of, card_state_of, currency_of, funding_of, hold_time_of, kind_of, mcc_of, timeout_of,
+    token_of, user_state_of,
+};
 use crate::{FormFault, Mode, Name};
-use iss_model::{Currency, Token};
+use iss_model::{CardState, Currency, Funding, Token, UserState};
 use serde_json::Value;
 
 /// The member of that name; `null` counts as absent.
@@ -47,11 +51,15 @@ pub(crate) fn required_currency(line: &Value, name: Name) -> Result<Currency, Fo
 }
 
 #[tactic(auto, unfolding(crate::specs::Fields::required))]
-pub(crate) fn required_amount(line: &Value, name: Name) -> Result<u64, FormFault>
-    ensures { result ≡ required amount_of name (view line.now) }
+pub(crate) fn required_amount(
+    line: &Value,
+    name: Name,
+    currency: Currency,
+) -> Result<u64, FormFault>
+    ensures { result ≡ required (amount_of currency) name (view line.now) }
 {
     field(line, name)
-        .and_then(amount_of)
+        .and_then(|found| amount_of(currency, found))
         .ok_or(FormFault::Field(name))
 }
 
@@ -62,6 +70,43 @@ pub(crate) fn required_mcc(line: &Value, name: Name) -> Result<u16, FormFault>
     field(line, name)
         .and_then(mcc_of)
         .ok_or(FormFault::Field(name))
+}
+
+#[tactic(auto, unfolding(crate::specs::Fields::required))]
+pub(crate) fn required_funding(line: &Value, name: Name) -> Result<Funding, FormFault>
+    ensures { result ≡ required funding_of name (view line.now) }
+{
+    field(line, name)
+        .and_then(funding_of)
+        .ok_or(FormFault::Field(name))
+}
+
+#[tactic(auto, unfolding(crate::specs::Fields::required))]
+pub(crate) fn required_card_state(line: &Value, name: Name) -> Result<CardState, FormFault>
+    ensures { result ≡ required card_state_of name (view line.now) }
+{
+    field(line, name)
+        .and_then(card_state_of)
+        .ok_or(FormFault::Field(name))
+}
+
+#[tactic(auto, unfolding(crate::specs::Fields::required))]
+pub(crate) fn required_user_state(line: &Value, name: Name) -> Result<UserState, FormFault>
+    ensures { result ≡ required user_state_of name (view line.now) }
+{
+    field(line, name)
+        .and_then(user_state_of)
+        .ok_or(FormFault::Field(name))
+}
+
+#[tactic(auto, unfolding(crate::specs::Fields::optional))]
+pub(crate) fn optional_token(line: &Value, name: Name) -> Result<Option<Token>, FormFault>
+    ensures { result ≡ optional token_of name (view line.now) }
+{
+    match field(line, name) {
+        Some(found) => token_of(found).map(Some).ok_or(FormFault::Field(name)),
+        None => Ok(None),
+    }
 }
 
 #[tactic(auto, unfolding(crate::specs::Fields::optional_or))]
@@ -84,66 +129,22 @@ pub(crate) fn bool_or(line: &Value, name: Name, absent: bool) -> Result<bool, Fo
     }
 }
 
-#[tactic(auto, unfolding(crate::specs::Fields::kind_of))]
-fn kind_of(mode: Mode, found: &Value) -> Option<Kind>
-    ensures { result ≡ kind_of mode (view found.now) }
+#[tactic(auto, unfolding(crate::specs::Fields::optional_or))]
+pub(crate) fn timeout_or(line: &Value, name: Name, absent: u64) -> Result<u64, FormFault>
+    ensures { result ≡ optional_or timeout_of absent name (view line.now) }
 {
-    kind_in(mode, kind_of_text(found.as_str()?)?)
-}
-
-#[tactic(auto, unfolding(crate::specs::Fields::token_of))]
-fn token_of(found: &Value) -> Option<Token>
-    ensures { result ≡ token_of (view found.now) }
-{
-    Token::new(found.as_str()?.as_bytes())
-}
-
-#[tactic(auto, unfolding(crate::specs::Fields::currency_of))]
-pub(crate) fn currency_of(found: &Value) -> Option<Currency>
-    ensures { result ≡ currency_of (view found.now) }
-{
-    currency_of_text(found.as_str()?)
-}
-
-#[tactic(auto, unfolding(crate::specs::Fields::currency_of_text))]
-fn currency_of_text(text: &str) -> Option<Currency>
-    ensures { result ≡ currency_of_text text.now }
-{
-    match text {
-        "USD" => Some(Currency::Usd),
-        "EUR" => Some(Currency::Eur),
-        "GBP" => Some(Currency::Gbp),
-        "CAD" => Some(Currency::Cad),
-        "AUD" => Some(Currency::Aud),
-        "JPY" => Some(Currency::Jpy),
-        "KWD" => Some(Currency::Kwd),
-        _ => None,
+    match field(line, name) {
+        Some(found) => timeout_of(found).ok_or(FormFault::Field(name)),
+        None => Ok(absent),
     }
 }
 
-#[tactic(auto, unfolding(crate::specs::Fields::amount_of))]
-fn amount_of(found: &Value) -> Option<u64>
-    ensures { result ≡ amount_of (view found.now) }
+#[tactic(auto, unfolding(crate::specs::Fields::optional_or))]
+pub(crate) fn hold_time_or(line: &Value, name: Name, absent: u64) -> Result<u64, FormFault>
+    ensures { result ≡ optional_or hold_time_of absent name (view line.now) }
 {
-    match found.as_str() {
-        Some(text) => amount_of_text(text.as_bytes()),
-        None => amount_of_units(found.as_u64()?),
+    match field(line, name) {
+        Some(found) => hold_time_of(found).ok_or(FormFault::Field(name)),
+        None => Ok(absent),
     }
-}
-
-#[tactic(auto, unfolding(crate::specs::Fields::mcc_of))]
-fn mcc_of(found: &Value) -> Option<u16>
-    ensures { result ≡ mcc_of (view found.now) }
-{
-    mcc_of_text(found.as_str()?.as_bytes())
-}
-
-#[tactic(auto, using(crate::proofs::AmountLemmas::four_digits_kept, crate::proofs::AmountLemmas::four_digits), unfolding(crate::specs::Fields::mcc_of_text))]
-fn mcc_of_text(text: &[u8]) -> Option<u16>
-    ensures { result ≡ mcc_of_text text.now }
-{
-    if text.len() != 4 {
-        return None;
-    }
-    u16::try_from(number_from(0, text)?).ok()
 }

@@ -4,7 +4,6 @@
 //! in `specs/`, apart from the code.
 #![tactic(auto)]
 
-mod amount;
 mod fields;
 mod kind;
 mod line;
@@ -13,6 +12,7 @@ mod object;
 mod reading;
 mod reason;
 mod rows;
+mod values;
 mod writing;
 
 pub use line::{FormFault, Line, LineFault, Mode};

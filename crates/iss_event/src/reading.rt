@@ -1,15 +1,17 @@
 //! Reading a line.
-ghost use Rattle.std.specs.Prelude.{◌≡◌, IfOk, IsTrue};
+ghost use Rattle.std.specs.Prelude.{◌≡◌, true, None, IfOk, IsTrue};
 ghost use Rattle.serde_json.specs.View.{view};
+ghost use Rattle.iss_model.specs.Built.{is_built};
 ghost use Rattle.iss_model.specs.Forms.{is_in_form, is_stamp_or_none};
-ghost use Rattle.iss_event.specs.Readings.{Reads, line_read, object_line, not_built, has_stamp, has_other_currency};
+ghost use Rattle.iss_event.specs.Readings.{Reads, line_read, object_line, not_built, has_stamp, has_gateway};
 
-use crate::fields::{currency_of, field, required_kind};
+use crate::fields::{field, required_kind};
 use crate::kind::Kind;
 use crate::object::object_of;
 use crate::rows::row;
+use crate::values::funding_of;
 use crate::{FormFault, Line, LineFault, Mode, Name};
-use iss_model::Currency;
+use iss_model::Funding;
 use serde_json::Value;
 use std::alloc::Global;
 
@@ -18,11 +20,13 @@ const LONGEST_LINE: usize = 16384;
 
 /// What a line says, without the line feed that ends it, or its first fault: `Long`, `Json`, `Field(Kind)` where its
 /// type is bad, `NotBuilt` where it is of a kind that isn't taken yet, or the first bad field in the order of its type.
-#[tactic(auto, using(crate::proofs::InForm::read_input_in_form, crate::proofs::InForm::read_stamp_in_form))]
+#[tactic(auto, using(crate::proofs::LinesInForm::read_input_in_form, crate::proofs::LinesInForm::read_stamp_in_form, crate::proofs::LinesInForm::read_input_built, crate::proofs::LinesInForm::read_no_stamp))]
 pub fn read_line(alloc: Global, line: &[u8], mode: Mode) -> Result<Line, LineFault>
     ensures read { Reads (line_read mode line.now) result }
     ensures input_form { IfOk result (λ said. IsTrue (is_in_form said.input)) }
     ensures stamp_form { IfOk result (λ said. IsTrue (is_stamp_or_none said.at)) }
+    ensures built { IfOk result (λ said. is_built said.input ≡ true) }
+    ensures start { IfOk result (λ said. said.at ≡ None) }
 {
     read(alloc, line, mode)
 }
@@ -57,8 +61,10 @@ fn is_not_built(mode: Mode, kind: Kind, line: &Value) -> bool
     ensures { result ≡ not_built mode kind (view line.now) }
 {
     match kind {
-        Kind::User | Kind::Card => has_stamp(mode, line),
-        Kind::Load | Kind::Authorization => has_stamp(mode, line) || has_other_currency(line),
+        Kind::User | Kind::Card | Kind::Move | Kind::Load | Kind::Authorization => {
+            has_stamp(mode, line)
+        }
+        Kind::Product => has_stamp(mode, line) || has_gateway(line),
         _ => true,
     }
 }
@@ -72,11 +78,11 @@ fn has_stamp(mode: Mode, line: &Value) -> bool
     }
 }
 
-fn has_other_currency(line: &Value) -> bool
-    ensures { result ≡ has_other_currency (view line.now) }
+fn has_gateway(line: &Value) -> bool
+    ensures { result ≡ has_gateway (view line.now) }
 {
-    match field(line, Name::Currency).and_then(currency_of) {
-        None | Some(Currency::Usd) => false,
-        Some(_) => true,
+    match field(line, Name::Funding).and_then(funding_of) {
+        Some(Funding::Gateway) => true,
+        Some(Funding::Account) | None => false,
     }
 }

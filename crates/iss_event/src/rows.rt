@@ -1,15 +1,24 @@
 //! The fields of each type of line, in order.
 ghost use Rattle.std.specs.Prelude.{◌≡◌, codes};
 ghost use Rattle.serde_json.specs.View.{view};
-ghost use Rattle.iss_event.specs.Rows.{user_row, card_row, load_row, authorization_row, row};
+ghost use Rattle.iss_event.specs.Fields.{field};
+ghost use Rattle.iss_event.specs.Rows.{user_row, card_row, card_moved, user_moved, who_moved, move_row, product_row, load_row, authorization_row, row};
 
 use crate::fields::{
-    bool_or, required_amount, required_currency, required_mcc, required_token, token_or,
+    bool_or, field, hold_time_or, optional_token, required_amount, required_card_state,
+    required_currency, required_funding, required_mcc, required_token, required_user_state,
+    timeout_or, token_or,
 };
 use crate::kind::Kind;
 use crate::{FormFault, Name};
-use iss_model::{Input, Token};
+use iss_model::{Input, Moved, Token};
 use serde_json::Value;
+
+/// How long a gateway has to answer, in milliseconds, where a product's line doesn't say.
+const DEFAULT_TIMEOUT_MS: u64 = 3_000;
+
+/// How long an authorisation holds its amount, in milliseconds, where a product's line doesn't say: seven days.
+const DEFAULT_HOLD_MS: u64 = 604_800_000;
 
 /// What a line of that kind says, or its first bad field.
 pub(crate) fn row(kind: Kind, line: &Value) -> Result<Input, FormFault>
@@ -18,6 +27,8 @@ pub(crate) fn row(kind: Kind, line: &Value) -> Result<Input, FormFault>
     match kind {
         Kind::User => user_row(line),
         Kind::Card => card_row(line),
+        Kind::Move => move_row(line),
+        Kind::Product => product_row(line),
         Kind::Load => load_row(line),
         Kind::Authorization => authorization_row(line),
         _ => Err(FormFault::NotBuilt),
@@ -51,6 +62,64 @@ fn card_row(line: &Value) -> Result<Input, FormFault>
     })
 }
 
+#[tactic(auto, unfolding(crate::specs::Rows::move_row))]
+fn move_row(line: &Value) -> Result<Input, FormFault>
+    ensures { result ≡ move_row (view line.now) }
+{
+    let token = required_token(line, Name::Token)?;
+    let card = optional_token(line, Name::Card)?;
+    let who = who_moved(card, line)?;
+    Ok(Input::Move { token, who })
+}
+
+fn who_moved(card: Option<Token>, line: &Value) -> Result<Moved, FormFault>
+    ensures { result ≡ who_moved card (field Name.User (view line.now)) (view line.now) }
+{
+    match (card, field(line, Name::User)) {
+        (Some(_), Some(_)) => Err(FormFault::Field(Name::User)),
+        (Some(card), None) => card_moved(card, line),
+        (None, Some(_)) => user_moved(line),
+        (None, None) => Err(FormFault::Field(Name::Card)),
+    }
+}
+
+#[tactic(auto, unfolding(crate::specs::Rows::card_moved))]
+fn card_moved(card: Token, line: &Value) -> Result<Moved, FormFault>
+    ensures { result ≡ card_moved card (view line.now) }
+{
+    let to = required_card_state(line, Name::To)?;
+    Ok(Moved::Card(card, to))
+}
+
+#[tactic(auto, unfolding(crate::specs::Rows::user_moved))]
+fn user_moved(line: &Value) -> Result<Moved, FormFault>
+    ensures { result ≡ user_moved (view line.now) }
+{
+    let user = required_token(line, Name::User)?;
+    let to = required_user_state(line, Name::To)?;
+    Ok(Moved::User(user, to))
+}
+
+#[tactic(auto, unfolding(crate::specs::Rows::product_row))]
+fn product_row(line: &Value) -> Result<Input, FormFault>
+    ensures { result ≡ product_row (view line.now) }
+{
+    let token = required_token(line, Name::Token)?;
+    let product = required_token(line, Name::Product)?;
+    let currency = required_currency(line, Name::Currency)?;
+    let funding = required_funding(line, Name::Funding)?;
+    let timeout_ms = timeout_or(line, Name::TimeoutMs, DEFAULT_TIMEOUT_MS)?;
+    let hold_ms = hold_time_or(line, Name::HoldMs, DEFAULT_HOLD_MS)?;
+    Ok(Input::Product {
+        token,
+        product,
+        currency,
+        funding,
+        timeout_ms,
+        hold_ms,
+    })
+}
+
 #[tactic(auto, unfolding(crate::specs::Rows::load_row))]
 fn load_row(line: &Value) -> Result<Input, FormFault>
     ensures { result ≡ load_row (view line.now) }
@@ -58,7 +127,7 @@ fn load_row(line: &Value) -> Result<Input, FormFault>
     let token = required_token(line, Name::Token)?;
     let user = required_token(line, Name::User)?;
     let currency = required_currency(line, Name::Currency)?;
-    let amount = required_amount(line, Name::Amount)?;
+    let amount = required_amount(line, Name::Amount, currency)?;
     Ok(Input::Load {
         token,
         user,
@@ -74,7 +143,7 @@ fn authorization_row(line: &Value) -> Result<Input, FormFault>
     let token = required_token(line, Name::Token)?;
     let card = required_token(line, Name::Card)?;
     let currency = required_currency(line, Name::Currency)?;
-    let amount = required_amount(line, Name::Amount)?;
+    let amount = required_amount(line, Name::Amount, currency)?;
     let mcc = required_mcc(line, Name::Mcc)?;
     let mid = required_token(line, Name::Mid)?;
     Ok(Input::Authorization {
