@@ -7,6 +7,8 @@ mod plain;
 pub use plain::plain_dry;
 
 #[cfg(test)]
+mod both;
+#[cfg(test)]
 mod counts;
 #[cfg(test)]
 mod format;
@@ -20,3 +22,5 @@ mod repeats;
 mod scripts;
 #[cfg(test)]
 mod support;
+#[cfg(test)]
+mod worked;
