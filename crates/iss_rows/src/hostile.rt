@@ -4,7 +4,7 @@ use std::alloc::{AllocError, Global};
 use std::test::Fail;
 
 /// Each line, without its line feed, and what it is told, in the order in which they come.
-const LINES: [(&[u8], &str); 39] = [
+const LINES: [(&[u8], &str); 20] = [
     (b"\xff", "{\"fault\":\"JSON\",\"reply\":\"form\"}\n"),
     (
         b"\xef\xbb\xbf{}",
@@ -59,6 +59,30 @@ const LINES: [(&[u8], &str); 39] = [
     (
         br#"{"type":"user","token":"012345678901234567890123456789012345","user":"u3"}"#,
         "{\"event\":\"012345678901234567890123456789012345\",\"reply\":\"done\"}\n",
+    ),
+    (
+        br#"{"at":5}"#,
+        "{\"fault\":\"FIELD\",\"field\":\"type\",\"reply\":\"form\"}\n",
+    ),
+    (
+        br#"{"type":"time"}"#,
+        "{\"fault\":\"NOT_BUILT\",\"reply\":\"form\"}\n",
+    ),
+    (
+        br#"{"type":"card","token":"h","card":"c","user":"u1","active":1,"product":2}"#,
+        "{\"fault\":\"FIELD\",\"field\":\"product\",\"reply\":\"form\"}\n",
+    ),
+    (
+        br#"{"type":"card","token":"h","card":"c","user":"u1","active":1}"#,
+        "{\"fault\":\"FIELD\",\"field\":\"active\",\"reply\":\"form\"}\n",
+    ),
+];
+
+/// Loads of amounts and currencies that are none, and of the ends of those that are.
+const LOADS: [(&[u8], &str); 23] = [
+    (
+        br#"{"type":"user","token":"t1","user":"u1"}"#,
+        "{\"event\":\"t1\",\"reply\":\"done\"}\n",
     ),
     (
         br#"{"type":"load","token":"h","user":"u1","currency":"USD","amount":1e400}"#,
@@ -122,7 +146,19 @@ const LINES: [(&[u8], &str); 39] = [
     ),
     (
         br#"{"type":"load","currency":"JPY"}"#,
-        "{\"fault\":\"NOT_BUILT\",\"reply\":\"form\"}\n",
+        "{\"fault\":\"FIELD\",\"field\":\"token\",\"reply\":\"form\"}\n",
+    ),
+    (
+        br#"{"type":"load","token":"h","user":"u1","currency":"JPY","amount":"1.00"}"#,
+        "{\"fault\":\"FIELD\",\"field\":\"amount\",\"reply\":\"form\"}\n",
+    ),
+    (
+        br#"{"type":"load","token":"h","user":"u1","currency":"KWD","amount":"1.00"}"#,
+        "{\"fault\":\"FIELD\",\"field\":\"amount\",\"reply\":\"form\"}\n",
+    ),
+    (
+        br#"{"type":"load","token":"h","user":"u1","currency":"KWD","amount":1000001}"#,
+        "{\"fault\":\"FIELD\",\"field\":\"amount\",\"reply\":\"form\"}\n",
     ),
     (
         br#"{"type":"load","currency":"XXX"}"#,
@@ -136,36 +172,182 @@ const LINES: [(&[u8], &str); 39] = [
         br#"{"type":"load","at":null}"#,
         "{\"fault\":\"FIELD\",\"field\":\"token\",\"reply\":\"form\"}\n",
     ),
+];
+
+/// Moves of nobody, of two at once, and to states that there are none of.
+const MOVES: [(&[u8], &str); 16] = [
     (
-        br#"{"at":5}"#,
-        "{\"fault\":\"FIELD\",\"field\":\"type\",\"reply\":\"form\"}\n",
+        br#"{"type":"user","token":"t1","user":"u1"}"#,
+        "{\"event\":\"t1\",\"reply\":\"done\"}\n",
     ),
     (
-        br#"{"type":"time"}"#,
+        br#"{"type":"move"}"#,
+        "{\"fault\":\"FIELD\",\"field\":\"token\",\"reply\":\"form\"}\n",
+    ),
+    (
+        br#"{"type":"move","token":"h","to":"ACTIVE"}"#,
+        "{\"fault\":\"FIELD\",\"field\":\"card\",\"reply\":\"form\"}\n",
+    ),
+    (
+        br#"{"type":"move","token":"h","card":null,"user":null,"to":"ACTIVE"}"#,
+        "{\"fault\":\"FIELD\",\"field\":\"card\",\"reply\":\"form\"}\n",
+    ),
+    (
+        br#"{"type":"move","token":"h","card":7,"user":"u1","to":"ACTIVE"}"#,
+        "{\"fault\":\"FIELD\",\"field\":\"card\",\"reply\":\"form\"}\n",
+    ),
+    (
+        br#"{"type":"move","token":"h","card":"c1","user":"u1","to":"ACTIVE"}"#,
+        "{\"fault\":\"FIELD\",\"field\":\"user\",\"reply\":\"form\"}\n",
+    ),
+    (
+        br#"{"type":"move","token":"h","card":"c1","user":7,"to":"ACTIVE"}"#,
+        "{\"fault\":\"FIELD\",\"field\":\"user\",\"reply\":\"form\"}\n",
+    ),
+    (
+        br#"{"type":"move","token":"h","user":"","to":"ACTIVE"}"#,
+        "{\"fault\":\"FIELD\",\"field\":\"user\",\"reply\":\"form\"}\n",
+    ),
+    (
+        br#"{"type":"move","token":"h","card":"c1"}"#,
+        "{\"fault\":\"FIELD\",\"field\":\"to\",\"reply\":\"form\"}\n",
+    ),
+    (
+        br#"{"type":"move","token":"h","card":"c1","to":"CLOSED"}"#,
+        "{\"fault\":\"FIELD\",\"field\":\"to\",\"reply\":\"form\"}\n",
+    ),
+    (
+        br#"{"type":"move","token":"h","card":"c1","to":"active"}"#,
+        "{\"fault\":\"FIELD\",\"field\":\"to\",\"reply\":\"form\"}\n",
+    ),
+    (
+        br#"{"type":"move","token":"h","card":null,"user":"u1","to":"TERMINATED"}"#,
+        "{\"fault\":\"FIELD\",\"field\":\"to\",\"reply\":\"form\"}\n",
+    ),
+    (
+        br#"{"type":"move","token":"h","user":"u1","to":"UNACTIVATED"}"#,
+        "{\"fault\":\"FIELD\",\"field\":\"to\",\"reply\":\"form\"}\n",
+    ),
+    (
+        br#"{"type":"move","token":"h4","card":null,"user":"u1","to":"SUSPENDED"}"#,
+        "{\"event\":\"h4\",\"reply\":\"done\"}\n",
+    ),
+    (
+        br#"{"type":"move","token":"h5","card":"c1","user":null,"to":"ACTIVE"}"#,
+        "{\"event\":\"h5\",\"reason\":\"CARD_UNKNOWN\",\"reply\":\"declined\"}\n",
+    ),
+    (
+        br#"{"type":"move","at":0}"#,
         "{\"fault\":\"NOT_BUILT\",\"reply\":\"form\"}\n",
-    ),
-    (
-        br#"{"type":"card","token":"h","card":"c","user":"u1","active":1,"product":2}"#,
-        "{\"fault\":\"FIELD\",\"field\":\"product\",\"reply\":\"form\"}\n",
-    ),
-    (
-        br#"{"type":"card","token":"h","card":"c","user":"u1","active":1}"#,
-        "{\"fault\":\"FIELD\",\"field\":\"active\",\"reply\":\"form\"}\n",
     ),
 ];
 
-#[test]
-fn hostile_lines_are_told_their_faults(rt: HostRuntime) -> Result<(), Fail> {
-    let mut input = Vec::new(rt.alloc());
-    let mut replies = String::new(rt.alloc());
-    for (line, reply) in LINES {
+/// Products of times beyond their ends, and at them.
+const PRODUCTS: [(&[u8], &str); 17] = [
+    (
+        br#"{"type":"product"}"#,
+        "{\"fault\":\"FIELD\",\"field\":\"token\",\"reply\":\"form\"}\n",
+    ),
+    (
+        br#"{"type":"product","funding":"GATEWAY"}"#,
+        "{\"fault\":\"NOT_BUILT\",\"reply\":\"form\"}\n",
+    ),
+    (
+        br#"{"type":"product","at":0}"#,
+        "{\"fault\":\"NOT_BUILT\",\"reply\":\"form\"}\n",
+    ),
+    (
+        br#"{"type":"product","token":"h","product":"p","funding":"ACCOUNT"}"#,
+        "{\"fault\":\"FIELD\",\"field\":\"currency\",\"reply\":\"form\"}\n",
+    ),
+    (
+        br#"{"type":"product","token":"h","product":"p","currency":"usd","funding":"ACCOUNT"}"#,
+        "{\"fault\":\"FIELD\",\"field\":\"currency\",\"reply\":\"form\"}\n",
+    ),
+    (
+        br#"{"type":"product","token":"h","product":"p","currency":"USD"}"#,
+        "{\"fault\":\"FIELD\",\"field\":\"funding\",\"reply\":\"form\"}\n",
+    ),
+    (
+        br#"{"type":"product","token":"h","product":"p","currency":"USD","funding":"account"}"#,
+        "{\"fault\":\"FIELD\",\"field\":\"funding\",\"reply\":\"form\"}\n",
+    ),
+    (
+        br#"{"type":"product","token":"h","product":"p","currency":"USD","funding":"ACCOUNT","timeout_ms":0}"#,
+        "{\"fault\":\"FIELD\",\"field\":\"timeout_ms\",\"reply\":\"form\"}\n",
+    ),
+    (
+        br#"{"type":"product","token":"h","product":"p","currency":"USD","funding":"ACCOUNT","timeout_ms":60001}"#,
+        "{\"fault\":\"FIELD\",\"field\":\"timeout_ms\",\"reply\":\"form\"}\n",
+    ),
+    (
+        br#"{"type":"product","token":"h","product":"p","currency":"USD","funding":"ACCOUNT","timeout_ms":3000.0}"#,
+        "{\"fault\":\"FIELD\",\"field\":\"timeout_ms\",\"reply\":\"form\"}\n",
+    ),
+    (
+        br#"{"type":"product","token":"h","product":"p","currency":"USD","funding":"ACCOUNT","timeout_ms":"3000"}"#,
+        "{\"fault\":\"FIELD\",\"field\":\"timeout_ms\",\"reply\":\"form\"}\n",
+    ),
+    (
+        br#"{"type":"product","token":"h","product":"p","currency":"USD","funding":"ACCOUNT","hold_ms":86399999}"#,
+        "{\"fault\":\"FIELD\",\"field\":\"hold_ms\",\"reply\":\"form\"}\n",
+    ),
+    (
+        br#"{"type":"product","token":"h","product":"p","currency":"USD","funding":"ACCOUNT","hold_ms":2678400001}"#,
+        "{\"fault\":\"FIELD\",\"field\":\"hold_ms\",\"reply\":\"form\"}\n",
+    ),
+    (
+        br#"{"type":"product","token":"h","product":"p","currency":"USD","funding":"ACCOUNT","hold_ms":-86400000}"#,
+        "{\"fault\":\"FIELD\",\"field\":\"hold_ms\",\"reply\":\"form\"}\n",
+    ),
+    (
+        br#"{"type":"product","token":"h","product":"p","currency":"USD","funding":"ACCOUNT","hold_ms":18446744073709551615}"#,
+        "{\"fault\":\"FIELD\",\"field\":\"hold_ms\",\"reply\":\"form\"}\n",
+    ),
+    (
+        br#"{"type":"product","token":"h6","product":"p","currency":"USD","funding":"ACCOUNT","timeout_ms":60000,"hold_ms":2678400000}"#,
+        "{\"event\":\"h6\",\"reply\":\"done\"}\n",
+    ),
+    (
+        br#"{"type":"product","token":"h7","product":"q","currency":"USD","funding":"ACCOUNT","timeout_ms":null,"hold_ms":86400000}"#,
+        "{\"event\":\"h7\",\"reply\":\"done\"}\n",
+    ),
+];
+
+/// Whether these lines, in a row, are told these replies.
+fn are_told(alloc: Global, lines: &[(&[u8], &str)]) -> Result<bool, AllocError> {
+    let mut input = Vec::new(alloc);
+    let mut replies = String::new(alloc);
+    for (line, reply) in lines {
         input.extend_from_slice(line)?;
         input.push(b'\n')?;
         replies.push_str(reply)?;
     }
-    let (status, told) = dry(rt.alloc(), &input)?;
-    assert_eq!(rt; status, 0);
-    assert!(rt; told.as_slice() == replies.as_bytes());
+    let (status, told) = dry(alloc, &input)?;
+    Ok(status == 0 && told.as_slice() == replies.as_bytes())
+}
+
+#[test]
+fn hostile_lines_are_told_their_faults(rt: HostRuntime) -> Result<(), Fail> {
+    assert!(rt; are_told(rt.alloc(), &LINES)?);
+    Ok(())
+}
+
+#[test]
+fn hostile_loads_are_told_their_faults(rt: HostRuntime) -> Result<(), Fail> {
+    assert!(rt; are_told(rt.alloc(), &LOADS)?);
+    Ok(())
+}
+
+#[test]
+fn hostile_moves_are_told_their_faults(rt: HostRuntime) -> Result<(), Fail> {
+    assert!(rt; are_told(rt.alloc(), &MOVES)?);
+    Ok(())
+}
+
+#[test]
+fn hostile_products_are_told_their_faults(rt: HostRuntime) -> Result<(), Fail> {
+    assert!(rt; are_told(rt.alloc(), &PRODUCTS)?);
     Ok(())
 }
 

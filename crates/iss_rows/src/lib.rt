@@ -1,6 +1,13 @@
-//! Tests of the top call on worked scripts and hostile lines, and of the journal, over an outside in memory.
+//! Tests of the top call on worked scripts and hostile lines, and of the journal, over an outside in memory. Beside them stands
+//! the definitions' plain program, whose output is compared with that of the top call.
 #![tactic(auto)]
 
+mod plain;
+
+pub use plain::plain_dry;
+
+#[cfg(test)]
+mod both;
 #[cfg(test)]
 mod counts;
 #[cfg(test)]
@@ -15,3 +22,5 @@ mod repeats;
 mod scripts;
 #[cfg(test)]
 mod support;
+#[cfg(test)]
+mod worked;

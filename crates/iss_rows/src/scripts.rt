@@ -29,7 +29,7 @@ const SHORT_REPLIES: &str = r#"{"event":"t1","reply":"done"}
 {"event":"a1","reason":"INSUFFICIENT_FUNDS","reply":"declined"}
 "#;
 
-/// Lines of kinds that are not taken yet, and lines that are no events.
+/// Lines that are not taken yet and lines that are no events, between a user and a load.
 const NOT_BUILT_LINES: &str = r#"{"type":"user","token":"t1","user":"u1"}
 {"type":"load","token":"t3","user":"u1","currency":"USD","amount":"1.00","at":5}
 {"type":"user"}
@@ -37,6 +37,7 @@ const NOT_BUILT_LINES: &str = r#"{"type":"user","token":"t1","user":"u1"}
 {"type":"product","token":"p1","product":"g","currency":"USD","funding":"GATEWAY"}
 {"type":"load","token":"t8","user":"u1","currency":"JPY","amount":"1"}
 {"type":"load","token":"t8","user":"u1","currency":"XXX","amount":"1"}
+{"type":"time","at":5}
 "#;
 
 const NOT_BUILT_REPLIES: &str = r#"{"event":"t1","reply":"done"}
@@ -44,8 +45,9 @@ const NOT_BUILT_REPLIES: &str = r#"{"event":"t1","reply":"done"}
 {"fault":"FIELD","field":"token","reply":"form"}
 {"fault":"JSON","reply":"form"}
 {"fault":"NOT_BUILT","reply":"form"}
-{"fault":"NOT_BUILT","reply":"form"}
+{"event":"t8","reply":"done"}
 {"fault":"FIELD","field":"currency","reply":"form"}
+{"fault":"NOT_BUILT","reply":"form"}
 "#;
 
 /// Lines that are no events.

@@ -1,0 +1,151 @@
+-- What a line is told, from what reading and judging it gave.
+use Rattle.std.proofs.Common.{◌≡◌, ℕ, true, List, [], ◌∷◌, ◌++◌, length, map, Option, Some, None, Ok, Err, refl, sym, ap, ◌∙◌, append-nil, append_assoc}
+use Rattle.std.specs.Prelude.{Result, OnOk}
+use Rattle.std.specs.List.{concat, flat_map}
+use Rattle.iss_model.specs.declared.input.Input.{Input}
+use Rattle.iss_model.specs.declared.input.Record.{Record}
+use Rattle.iss_model.specs.declared.entry.Entry.{Entry}
+use Rattle.iss_model.specs.declared.decision.Answer.{Answer}
+use Rattle.iss_model.specs.declared.input.Input.TheVariants as input
+use Rattle.iss_model.specs.declared.decision.Judged.{Judged}
+use Rattle.iss_model.specs.AnswerLines.{answer_text}
+use Rattle.iss_model.specs.Sayings.{Said, said_by, said_of_time, Reaction, reaction, reaction_as, reaction_to_record}
+use Rattle.iss_model.specs.Built.{is_built}
+use Rattle.iss_rows.specs.Early.{IsEarly}
+use Rattle.iss_rows.proofs.Early.{early_judge}
+use Rattle.iss_model.specs.Stepping.{step}
+use Rattle.iss_model.specs.Judging.{judged_as, refusal}
+use Rattle.iss_model.specs.Histories.{History, history_facts, history_keeper}
+use Rattle.iss_model.specs.Transcripts.{sound, faulty, Told, told_by_reaction, after_line, at_level, bytes_of, said_text, entry_texts}
+use Rattle.iss_event.specs.declared.line.Line.{Line}
+use Rattle.iss_event.specs.declared.line.Mode.TheVariants.{Lines}
+use Rattle.iss_event.specs.declared.line.FormFault.{FormFault}
+use Rattle.iss_event.specs.Readings.{line_read}
+use Rattle.iss_event.specs.FormLines.{form_text}
+use Rattle.iss_rows.specs.Dry.{reading_of, as_reading, told_of, entry_text, entries_text}
+
+-- a level is no part of the bytes
+pub bytes_of-at_level : (level : ℕ) (texts : List (List ℕ)) → bytes_of (at_level level texts) ≡ concat texts
+bytes_of-at_level level [] = refl
+bytes_of-at_level level (t ∷ ts) = ap (λ (rest : List ℕ). t ++ rest) (bytes_of-at_level level ts)
+
+concat-append : (xs ys : List (List ℕ)) → concat (xs ++ ys) ≡ concat xs ++ concat ys
+concat-append [] ys = refl
+concat-append (x ∷ xs) ys = ap (λ (rest : List ℕ). x ++ rest) (concat-append xs ys) ∙ sym (append_assoc x (concat xs) (concat ys))
+
+concat-texts : (entries : List Entry) → concat (flat_map entry_texts entries) ≡ entries_text entries
+concat-texts [] = refl
+concat-texts (e ∷ es) =
+    concat-append (entry_texts e) (flat_map entry_texts es) ∙ ap (λ (rest : List ℕ). entry_text e ++ rest) (concat-texts es)
+
+map-append : (xs ys : List Said) → map said_text (xs ++ ys) ≡ map said_text xs ++ map said_text ys
+map-append [] ys = refl
+map-append (x ∷ xs) ys = ap (λ (rest : List (List ℕ)). said_text x ∷ rest) (map-append xs ys)
+
+said-texts : (entries : List Entry) → map said_text (flat_map said_by entries) ≡ flat_map entry_texts entries
+said-texts [] = refl
+said-texts (e ∷ es) =
+    map-append (said_by e) (flat_map said_by es) ∙ ap (λ (rest : List (List ℕ)). entry_texts e ++ rest) (said-texts es)
+
+-- the bytes of what entries send out
+pub bytes_of_said : (level : ℕ) (entries : List Entry) → bytes_of (at_level level (map said_text (flat_map said_by entries))) ≡ entries_text entries
+bytes_of_said level entries =
+    bytes_of-at_level level (map said_text (flat_map said_by entries)) ∙ ap concat (said-texts entries) ∙ concat-texts entries
+
+pub reading_sound : (line : List ℕ) (said : Line) → line_read Lines line ≡ Ok said → reading_of line ≡ sound said.input said.at
+unfolding reading_of
+reading_sound line said e = ap as_reading e
+
+pub reading_faulty : (line : List ℕ) (fault : FormFault) → line_read Lines line ≡ Err fault → reading_of line ≡ faulty (form_text fault)
+unfolding reading_of
+reading_faulty line fault e = ap as_reading e
+
+pub bytes_of_one : (level : ℕ) (text : List ℕ) → bytes_of (at_level level (text ∷ [])) ≡ text
+bytes_of_one level text = append-nil text
+
+-- the record of an input at the start
+abbrev pub record_of : Input → Record
+record_of i = record { at = 0; input = i }
+
+no_time : (i : Input) → is_built i ≡ true → said_of_time i ≡ []
+no_time input.Time h = cc
+no_time _ h = refl
+
+-- what a new input of the plain book makes
+abbrev made_by : History → Input → Reaction History
+made_by h i = reaction_to_record history_keeper h (record_of i)
+
+new_reaction : (h : History) → IsEarly h → (i : Input) → is_built i ≡ true → refusal true (history_facts h) (history_facts h) i ≡ None → reaction history_keeper h i 0 ≡ made_by h i
+unfolding reaction
+new_reaction h e i early unknown =
+    ap (reaction_as history_keeper h i 0) (early_judge h i e.rows e.start)
+    ∙ ap (λ (o : Option Answer). reaction_as history_keeper h i 0 (judged_as o true i 0)) unknown
+    ∙ ap (λ (said : List Said). record (made_by h i) { said = (made_by h i).said ++ said }) (no_time i early)
+    ∙ ap (λ (said : List Said). record (made_by h i) { said = said }) (append-nil (made_by h i).said)
+
+pub judged_new : (h : History) → IsEarly h → (i : Input) → is_built i ≡ true → refusal true (history_facts h) (history_facts h) i ≡ None → after_line history_keeper h (sound i None) ≡ told_by_reaction history_keeper (made_by h i)
+judged_new h e i early unknown = ap (told_by_reaction history_keeper) (new_reaction h e i early unknown)
+
+-- a new input of the plain book makes its record
+pub new_history : (h : History) → IsEarly h → (i : Input) → is_built i ≡ true → refusal true (history_facts h) (history_facts h) i ≡ None
+    → (after_line history_keeper h (sound i None)).world ≡ (step history_keeper h (record_of i)).world
+new_history h e i early unknown = ap (λ (t : Told History). t.world) (judged_new h e i early unknown)
+
+-- and is told what its entries send out
+pub new_texts : (h : History) → IsEarly h → (i : Input) → is_built i ≡ true → refusal true (history_facts h) (history_facts h) i ≡ None
+    → bytes_of (after_line history_keeper h (sound i None)).texts ≡ entries_text (step history_keeper h (record_of i)).entries
+new_texts h e i early unknown =
+    ap (λ (t : Told History). bytes_of t.texts) (judged_new h e i early unknown)
+    ∙ bytes_of_said (length (made_by h i).world.records) (step history_keeper h (record_of i)).entries
+
+-- an event that stands changes nothing, and is told its answer
+answered : (h : History) → IsEarly h → (i : Input) (a : Answer) → refusal true (history_facts h) (history_facts h) i ≡ Some a
+    → after_line history_keeper h (sound i None) ≡ record { world = h; texts = at_level (length h.records) (answer_text a ∷ []) }
+unfolding reaction
+answered h e i a told =
+    ap (λ (j : Judged). told_by_reaction history_keeper (reaction_as history_keeper h i 0 j)) (early_judge h i e.rows e.start)
+    ∙ ap (λ (o : Option Answer). told_by_reaction history_keeper (reaction_as history_keeper h i 0 (judged_as o true i 0))) told
+
+-- the same with the stamp as it comes in the code
+told_at : (h : History) → IsEarly h → (i : Input) (at : Option ℕ) → at ≡ None → (a : Answer) → refusal true (history_facts h) (history_facts h) i ≡ Some a
+    → after_line history_keeper h (sound i at) ≡ record { world = h; texts = at_level (length h.records) (answer_text a ∷ []) }
+told_at h e i at none a told = ap (λ (at : Option ℕ). after_line history_keeper h (sound i at)) none ∙ answered h e i a told
+
+-- what a call of the code says, as what the line is told
+pub text_told : (h : History) → IsEarly h → (i : Input) (at : Option ℕ) → at ≡ None → (a : Answer) → refusal true (history_facts h) (history_facts h) i ≡ Some a
+    → (text : List ℕ) → text ≡ answer_text a → text ≡ bytes_of (after_line history_keeper h (sound i at)).texts
+text_told h e i at none a told text said =
+    said ∙ sym (bytes_of_one (length h.records) (answer_text a)) ∙ ap (λ (t : Told History). bytes_of t.texts) (sym (told_at h e i at none a told))
+
+pub history_kept : (h : History) → IsEarly h → (i : Input) (at : Option ℕ) → at ≡ None → (a : Answer) → refusal true (history_facts h) (history_facts h) i ≡ Some a
+    → h ≡ (after_line history_keeper h (sound i at)).world
+history_kept h e i at none a told = ap (λ (t : Told History). t.world) (sym (told_at h e i at none a told))
+
+pub history_grown : (h : History) → IsEarly h → (i : Input) (at : Option ℕ) (stamp : ℕ) → at ≡ None → stamp ≡ 0 → is_built i ≡ true → refusal true (history_facts h) (history_facts h) i ≡ None
+    → (new : History) → new ≡ (step history_keeper h (record { at = stamp; input = i })).world → new ≡ (after_line history_keeper h (sound i at)).world
+history_grown h e i at stamp none start early unknown new grown =
+    grown
+    ∙ ap (λ (at : ℕ). (step history_keeper h (record { at = at; input = i })).world) start
+    ∙ sym (new_history h e i early unknown)
+    ∙ ap (λ (at : Option ℕ). (after_line history_keeper h (sound i at)).world) (sym none)
+
+pub text_made : (h : History) → IsEarly h → (i : Input) (at : Option ℕ) (stamp : ℕ) → at ≡ None → stamp ≡ 0 → is_built i ≡ true → refusal true (history_facts h) (history_facts h) i ≡ None
+    → (text : List ℕ) → text ≡ entries_text (step history_keeper h (record { at = stamp; input = i })).entries → text ≡ bytes_of (after_line history_keeper h (sound i at)).texts
+text_made h e i at stamp none start early unknown text made =
+    made
+    ∙ ap (λ (at : ℕ). entries_text (step history_keeper h (record { at = at; input = i })).entries) start
+    ∙ sym (new_texts h e i early unknown)
+    ∙ ap (λ (at : Option ℕ). bytes_of (after_line history_keeper h (sound i at)).texts) (sym none)
+
+-- What a line is told by its reading: its fault, or what judging its input gives.
+pub answer_faulty : (h : History) (line : List ℕ) (fault : FormFault) → line_read Lines line ≡ Err fault
+    → told_of h line ≡ record { world = h; texts = at_level (length h.records) (form_text fault ∷ []) }
+answer_faulty h line fault e = ap (after_line history_keeper h) (reading_faulty line fault e)
+
+pub answer_sound : (h : History) (line : List ℕ) (said : Line) → line_read Lines line ≡ Ok said → told_of h line ≡ after_line history_keeper h (sound said.input said.at)
+answer_sound h line said e = ap (after_line history_keeper h) (reading_sound line said e)
+
+-- a fact that holds anyway
+pub anyway : {A B : Type 0} (r : Result A B) (P : Type 0) → P → OnOk r P
+anyway (Ok x) P p = p
+anyway (Err x) P p = tt

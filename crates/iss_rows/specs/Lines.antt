@@ -1,0 +1,24 @@
+-- The lines of a list of bytes.
+use Rattle.std.specs.Prelude.{ℕ, Bool, not, ◌==◌, ◌||◌, List, [], ◌∷◌, ◌++◌, filter, if◌then◌else◌}
+use Rattle.std.specs.List.{list_all}
+
+-- a space, a tab or a carriage return
+abbrev pub is_blank_byte : ℕ → Bool
+is_blank_byte b = b == 32 || b == 9 || b == 13
+
+abbrev pub is_blank : List ℕ → Bool
+is_blank line = list_all is_blank_byte line
+
+-- these bytes in front of the first part
+abbrev pub onto_first : List ℕ → List (List ℕ) → List (List ℕ)
+onto_first front [] = front ∷ []
+onto_first front (part ∷ parts) = (front ++ part) ∷ parts
+
+-- the bytes up to each line feed, and those behind the last one
+abbrev pub parts_of : List ℕ → List (List ℕ)
+parts_of [] = [] ∷ []
+parts_of (b ∷ bs) = if b == 10 then [] ∷ parts_of bs else onto_first (b ∷ []) (parts_of bs)
+
+-- the parts that are not blank
+abbrev pub lines_of : List ℕ → List (List ℕ)
+lines_of bytes = filter (λ part. not (is_blank part)) (parts_of bytes)
