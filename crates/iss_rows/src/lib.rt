@@ -23,4 +23,6 @@ mod scripts;
 #[cfg(test)]
 mod support;
 #[cfg(test)]
+mod views;
+#[cfg(test)]
 mod worked;
