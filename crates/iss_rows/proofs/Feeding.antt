@@ -13,8 +13,10 @@ use Rattle.iss_model.specs.Transcripts.{Reading, sound, faulty, Text, transcript
 use Rattle.iss_model.specs.Sayings.{reaction, reaction_as}
 use Rattle.iss_model.specs.Keeper.{Growth}
 use Rattle.iss_model.specs.Due.{DueItem, due_items}
-use Rattle.iss_rows.specs.Lines.{is_blank, onto_first, parts_of}
-use Rattle.iss_rows.specs.Dry.{reading_of, told_of, dry_output, line_text, line_next, lines_text, text_to_come}
+use Rattle.iss_top.specs.Lines.{is_blank, onto_first, parts_of}
+use Rattle.iss_top.specs.Dry.{reading_of, dry_output}
+use Rattle.iss_top.proofs.Feeding.{some_parts}
+use Rattle.iss_rows.specs.Dry.{told_of, line_text, line_next, lines_text, text_to_come}
 
 -- bytes in front of what stands in front of the first part
 onto_first-append : (a b : List ℕ) (parts : List (List ℕ)) → onto_first a (onto_first b parts) ≡ onto_first (a ++ b) parts
@@ -27,10 +29,6 @@ unfolding text_to_come
 to_come-byte h line b rest e =
     ap (λ (t : Bool). lines_text h (onto_first line (cond t ([] ∷ parts_of rest) (onto_first (b ∷ []) (parts_of rest))))) e
     ∙ ap (lines_text h) (onto_first-append line (b ∷ []) (parts_of rest))
-
-pub some_parts : (rest : List ℕ) → onto_first [] (parts_of rest) ≡ parts_of rest
-some_parts [] = refl
-some_parts (b ∷ bs) = elim (nat_eq b 10) as (λ t. onto_first [] (cond t ([] ∷ parts_of bs) (onto_first (b ∷ []) (parts_of bs))) ≡ cond t ([] ∷ parts_of bs) (onto_first (b ∷ []) (parts_of bs))) [ true ↦ refl | false ↦ onto_first-append [] (b ∷ []) (parts_of bs) ]
 
 -- a line feed ends the line: it is told, and the next begins
 pub to_come-end : (h : History) (line rest : List ℕ) → text_to_come h line (10 ∷ rest) ≡ line_text h line ++ text_to_come (line_next h line) [] rest

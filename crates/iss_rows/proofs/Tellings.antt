@@ -1,67 +1,28 @@
 -- What a line is told, from what reading and judging it gave.
-use Rattle.std.proofs.Common.{◌≡◌, ℕ, true, List, [], ◌∷◌, ◌++◌, length, map, Option, Some, None, Ok, Err, refl, sym, ap, ◌∙◌, append-nil, append_assoc}
+use Rattle.std.proofs.Common.{◌≡◌, ℕ, true, List, [], ◌∷◌, ◌++◌, length, Option, Some, None, Ok, Err, refl, sym, ap, ◌∙◌, append-nil}
 use Rattle.std.specs.Prelude.{Result, OnOk}
-use Rattle.std.specs.List.{concat, flat_map}
 use Rattle.iss_model.specs.declared.input.Input.{Input}
 use Rattle.iss_model.specs.declared.input.Record.{Record}
-use Rattle.iss_model.specs.declared.entry.Entry.{Entry}
 use Rattle.iss_model.specs.declared.decision.Answer.{Answer}
 use Rattle.iss_model.specs.declared.input.Input.TheVariants as input
 use Rattle.iss_model.specs.declared.decision.Judged.{Judged}
 use Rattle.iss_model.specs.AnswerLines.{answer_text}
-use Rattle.iss_model.specs.Sayings.{Said, said_by, said_of_time, Reaction, reaction, reaction_as, reaction_to_record}
+use Rattle.iss_model.specs.Sayings.{Said, said_of_time, Reaction, reaction, reaction_as, reaction_to_record}
 use Rattle.iss_model.specs.Built.{is_built}
 use Rattle.iss_rows.specs.Early.{IsEarly}
 use Rattle.iss_rows.proofs.Early.{early_judge}
 use Rattle.iss_model.specs.Stepping.{step}
 use Rattle.iss_model.specs.Judging.{judged_as, refusal}
 use Rattle.iss_model.specs.Histories.{History, history_facts, history_keeper}
-use Rattle.iss_model.specs.Transcripts.{sound, faulty, Told, told_by_reaction, after_line, at_level, bytes_of, said_text, entry_texts}
+use Rattle.iss_model.specs.Transcripts.{sound, Told, told_by_reaction, after_line, at_level, bytes_of}
 use Rattle.iss_event.specs.declared.line.Line.{Line}
 use Rattle.iss_event.specs.declared.line.Mode.TheVariants.{Lines}
 use Rattle.iss_event.specs.declared.line.FormFault.{FormFault}
 use Rattle.iss_event.specs.Readings.{line_read}
 use Rattle.iss_event.specs.FormLines.{form_text}
-use Rattle.iss_rows.specs.Dry.{reading_of, as_reading, told_of, entry_text, entries_text}
-
--- a level is no part of the bytes
-pub bytes_of-at_level : (level : ℕ) (texts : List (List ℕ)) → bytes_of (at_level level texts) ≡ concat texts
-bytes_of-at_level level [] = refl
-bytes_of-at_level level (t ∷ ts) = ap (λ (rest : List ℕ). t ++ rest) (bytes_of-at_level level ts)
-
-concat-append : (xs ys : List (List ℕ)) → concat (xs ++ ys) ≡ concat xs ++ concat ys
-concat-append [] ys = refl
-concat-append (x ∷ xs) ys = ap (λ (rest : List ℕ). x ++ rest) (concat-append xs ys) ∙ sym (append_assoc x (concat xs) (concat ys))
-
-concat-texts : (entries : List Entry) → concat (flat_map entry_texts entries) ≡ entries_text entries
-concat-texts [] = refl
-concat-texts (e ∷ es) =
-    concat-append (entry_texts e) (flat_map entry_texts es) ∙ ap (λ (rest : List ℕ). entry_text e ++ rest) (concat-texts es)
-
-map-append : (xs ys : List Said) → map said_text (xs ++ ys) ≡ map said_text xs ++ map said_text ys
-map-append [] ys = refl
-map-append (x ∷ xs) ys = ap (λ (rest : List (List ℕ)). said_text x ∷ rest) (map-append xs ys)
-
-said-texts : (entries : List Entry) → map said_text (flat_map said_by entries) ≡ flat_map entry_texts entries
-said-texts [] = refl
-said-texts (e ∷ es) =
-    map-append (said_by e) (flat_map said_by es) ∙ ap (λ (rest : List (List ℕ)). entry_texts e ++ rest) (said-texts es)
-
--- the bytes of what entries send out
-pub bytes_of_said : (level : ℕ) (entries : List Entry) → bytes_of (at_level level (map said_text (flat_map said_by entries))) ≡ entries_text entries
-bytes_of_said level entries =
-    bytes_of-at_level level (map said_text (flat_map said_by entries)) ∙ ap concat (said-texts entries) ∙ concat-texts entries
-
-pub reading_sound : (line : List ℕ) (said : Line) → line_read Lines line ≡ Ok said → reading_of line ≡ sound said.input said.at
-unfolding reading_of
-reading_sound line said e = ap as_reading e
-
-pub reading_faulty : (line : List ℕ) (fault : FormFault) → line_read Lines line ≡ Err fault → reading_of line ≡ faulty (form_text fault)
-unfolding reading_of
-reading_faulty line fault e = ap as_reading e
-
-pub bytes_of_one : (level : ℕ) (text : List ℕ) → bytes_of (at_level level (text ∷ [])) ≡ text
-bytes_of_one level text = append-nil text
+use Rattle.iss_top.specs.Dry.{entries_text}
+use Rattle.iss_top.proofs.Tellings.{bytes_of_said, reading_sound, reading_faulty, bytes_of_one}
+use Rattle.iss_rows.specs.Dry.{told_of}
 
 -- the record of an input at the start
 abbrev pub record_of : Input → Record

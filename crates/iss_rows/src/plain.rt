@@ -14,8 +14,9 @@ ghost use Rattle.iss_model.specs.Built.{is_built};
 ghost use Rattle.iss_model.specs.Forms.{is_in_form};
 ghost use Rattle.iss_model.specs.Histories.{history_keeper};
 ghost use Rattle.iss_model.specs.Transcripts.{sound, after_line, bytes_of};
-ghost use Rattle.iss_rows.specs.Lines.{is_blank, is_blank_byte};
-ghost use Rattle.iss_rows.specs.Dry.{dry_output, told_of, line_text, line_next};
+ghost use Rattle.iss_top.specs.Lines.{is_blank, is_blank_byte};
+ghost use Rattle.iss_top.specs.Dry.{dry_output};
+ghost use Rattle.iss_rows.specs.Dry.{told_of, line_text, line_next};
 
 use book::Book;
 use contents::names_are_tokens;

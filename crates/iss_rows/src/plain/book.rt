@@ -13,7 +13,7 @@ ghost use Rattle.iss_model.specs.Histories.{history_facts, history_keeper, time_
 ghost use Rattle.iss_model.specs.Facts.{available_in};
 ghost use Rattle.iss_rows.specs.Early.{all_early, IsEarly};
 ghost use Rattle.iss_rows.specs.Purchases.{purchase_entries};
-ghost use Rattle.iss_rows.specs.Dry.{entries_text};
+ghost use Rattle.iss_top.specs.Dry.{entries_text};
 
 use super::entries::{Purchase, declined, load_entries, purchased, setting_entries};
 use super::judging::{event_answer, time_of};

@@ -1,5 +1,6 @@
 use Rattle.std.proofs.Common.{rules}
-use Rattle.iss_rows.proofs.Tellings.{answer_faulty, answer_sound, bytes_of_one}
+use Rattle.iss_top.proofs.Tellings.{bytes_of_one}
+use Rattle.iss_rows.proofs.Tellings.{answer_faulty, answer_sound}
 use Rattle.iss_rows.proofs.plain.answer.Goals as goal
 
 pub returns-in-Ok-clause-history : goal.returns-in-Ok-clause-history

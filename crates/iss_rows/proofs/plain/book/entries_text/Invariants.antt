@@ -1,5 +1,5 @@
 use Rattle.std.proofs.Common.{◌≡◌, take}
-use Rattle.iss_rows.specs.Dry.{entries_text}
+use Rattle.iss_top.specs.Dry.{entries_text}
 use Rattle.iss_rows.proofs.plain.book.entries_text.Given as goal
 
 abbrev pub invariant-loop-entry : goal.invariant-loop-entry
