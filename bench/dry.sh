@@ -2,8 +2,8 @@
 # Lines per second and peak memory of `build/issuer dry`.
 #
 # Purchases: the first two lines are a user and a card. Of each ten after them, one loads 1.00 and nine authorise 0.01,
-# which the funds allow. Repeats: one line, again and again. The time is from the first line given to the last reply
-# read, and the memory is then the peak so far.
+# which the funds allow. Again: purchases of half as many lines, and then the same lines again. Repeats: one line, again
+# and again. The time is from the first line given to the last reply read, and the memory is then the peak so far.
 set -eu -o pipefail
 cd "$(dirname "$0")/.."
 
@@ -25,6 +25,12 @@ purchases() {
             }
         }
     }'
+}
+
+# again COUNT: purchases of half as many lines, twice.
+again() {
+    purchases $(($1 / 2))
+    purchases $(($1 / 2))
 }
 
 # repeats COUNT: one line, so many times.
@@ -71,5 +77,8 @@ show() {
 printf '%-9s %8s %10s %12s %10s\n' input lines seconds lines/second 'peak MiB'
 for count in 2000 20000 200000; do
     measure purchases "$count"
+done
+for count in 20000 200000; do
+    measure again "$count"
 done
 measure repeats 200001
