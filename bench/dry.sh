@@ -4,7 +4,8 @@
 # Purchases: the first two lines are a user and a card. Of each ten after them, one loads 1.00 and nine authorise 0.01,
 # which the funds allow. Again: purchases of half as many lines, and then the same lines again. Repeats: one line, again
 # and again. The time is from the first line given to the last reply read. The program's own time, and its peak of memory,
-# are read then. Of three such measurements the one with the least time of its own is shown.
+# are read then. Of nine such measurements the one with the least time of its own is shown, since the machine's speed may
+# change from one to the next.
 set -eu -o pipefail
 cd "$(dirname "$0")/.."
 
@@ -76,14 +77,14 @@ show() {
     fi
 }
 
-# best INPUT COUNT: of three measurements, the one with the least time of the program's own.
+# best INPUT COUNT: of nine measurements, the one with the least time of the program's own.
 best() {
-    for _ in 1 2 3; do
+    for _ in 1 2 3 4 5 6 7 8 9; do
         measure "$1" "$2"
     done | sort -n -k 5,5 | head -n 1 | tee "$room/$1-$2"
 }
 
-# ratio INPUT: how many times the program's own time for 20000 lines 200000 lines took.
+# ratio INPUT: how many times the least time of its own for 20000 lines the program took for 200000.
 ratio() {
     awk -v input="$1" '
         NR == 1 { few = $5 }
