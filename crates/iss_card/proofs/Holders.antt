@@ -6,8 +6,8 @@ use Rattle.iss_model.specs.declared.setting.User.{User}
 use Rattle.iss_model.specs.declared.setting.UserState.{UserState}
 use Rattle.iss_model.specs.declared.setting.Card.{Card}
 use Rattle.iss_model.specs.declared.setting.CardState.{CardState}
-use Rattle.iss_model.specs.Settings.{user_named, card_named}
-use Rattle.iss_model.specs.Cores.{user_after_move, card_after_move}
+use Rattle.iss_model.specs.rules.Settings.{user_named, card_named}
+use Rattle.iss_model.specs.state.Cores.{user_after_move, card_after_move}
 use Rattle.iss_card.specs.Standings.{have_holders}
 
 -- there is a user of this name

@@ -5,8 +5,8 @@ use Rattle.iss_model.specs.declared.setting.User.{User}
 use Rattle.iss_model.specs.declared.setting.Card.{Card}
 use Rattle.iss_model.specs.declared.decision.Reason.{Reason}
 use Rattle.iss_model.specs.declared.decision.Reason.TheVariants as reason
-use Rattle.iss_model.specs.Settings.{user_named, card_named}
-use Rattle.iss_model.specs.Cores.{Cardholders}
+use Rattle.iss_model.specs.rules.Settings.{user_named, card_named}
+use Rattle.iss_model.specs.state.Cores.{Cardholders}
 use Rattle.iss_card.specs.declared.standing.Standing.{Standing}
 use Rattle.iss_card.specs.declared.standing.Standing.TheVariants.{Unknown, Known}
 use Rattle.iss_card.specs.declared.cards.CardFault.{CardFault}

@@ -1,9 +1,9 @@
 //! Users and their cards.
 ghost use Rattle.std.specs.Prelude.{◌≡◌, ◌∷◌, [], is_some, is_none, option_map, OnOk, OnErr, IsErrOf};
 ghost use Rattle.iss_model.specs.declared.decision.Reason.TheVariants as reason;
-ghost use Rattle.iss_model.specs.Settings.{user_named, card_named};
-ghost use Rattle.iss_model.specs.Reasons.{first_reason, user_move_reason, card_move_reason};
-ghost use Rattle.iss_model.specs.Cores.{no_core, with_user, with_user_moved, with_card, with_card_moved};
+ghost use Rattle.iss_model.specs.rules.Settings.{user_named, card_named};
+ghost use Rattle.iss_model.specs.rules.Reasons.{first_reason, user_move_reason, card_move_reason};
+ghost use Rattle.iss_model.specs.state.Cores.{no_core, with_user, with_user_moved, with_card, with_card_moved};
 ghost use Rattle.iss_card.specs.Standings.{standing_in, is_unknown, reason_told};
 
 use crate::issued::Issued;
@@ -36,7 +36,7 @@ pub struct Cards {
 }
 
 impl Model for Cards {
-    ghost use Rattle.iss_model.specs.Cores.{Cardholders};
+    ghost use Rattle.iss_model.specs.state.Cores.{Cardholders};
 
     ghost Value = { Cardholders };
 

@@ -1,7 +1,7 @@
 //! The cards that were issued.
 ghost use Rattle.std.specs.Prelude.{◌≡◌, ◌++◌, ◌∷◌, [], None, map, OnOk, OnErr};
-ghost use Rattle.iss_model.specs.Settings.{card_named};
-ghost use Rattle.iss_model.specs.Cores.{card_after_move};
+ghost use Rattle.iss_model.specs.rules.Settings.{card_named};
+ghost use Rattle.iss_model.specs.state.Cores.{card_after_move};
 
 use iss_model::{Card, CardState, Token};
 use std::alloc::{AllocError, Global};

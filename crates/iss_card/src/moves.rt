@@ -1,6 +1,6 @@
 //! The states of users and cards, and the moves that are allowed.
 ghost use Rattle.std.specs.Prelude.{◌≡◌};
-ghost use Rattle.iss_model.specs.Settings.{card_may_move, user_may_move, first_card_state};
+ghost use Rattle.iss_model.specs.rules.Settings.{card_may_move, user_may_move, first_card_state};
 
 use iss_model::{CardState, UserState};
 

@@ -1,7 +1,7 @@
 //! The users that stand.
 ghost use Rattle.std.specs.Prelude.{◌≡◌, ◌++◌, ◌∷◌, [], None, map, OnOk, OnErr};
-ghost use Rattle.iss_model.specs.Settings.{user_named};
-ghost use Rattle.iss_model.specs.Cores.{user_after_move};
+ghost use Rattle.iss_model.specs.rules.Settings.{user_named};
+ghost use Rattle.iss_model.specs.state.Cores.{user_after_move};
 
 use iss_model::{Token, User, UserState};
 use std::alloc::{AllocError, Global};

@@ -1,7 +1,7 @@
 -- Reading codes one after the other, as a loop does.
 use Rattle.std.proofs.Common.{◌≡◌, ℕ, suc, ◌-◌, ◌+◌, ◌≤◌, ◌<◌, List, [], ◌∷◌, ◌++◌, Option, Some, None, refl, sym, ap, ◌∙◌, append_assoc, arith}
 use Rattle.std.proofs.lemmas.List.{append-nil}
-use Rattle.iss_model.specs.Taking.{◌>>=◌, take_number, take_codes}
+use Rattle.iss_codec.specs.Taking.{◌>>=◌, take_number, take_codes}
 
 -- what was read before, and what is still read
 abbrev pub with_front : List ℕ → Option (List ℕ × List ℕ) → Option (List ℕ × List ℕ)

@@ -13,10 +13,10 @@ use Rattle.iss_model.specs.declared.setting.Scope.{Scope}
 use Rattle.iss_model.specs.declared.setting.Scope.TheVariants as scope
 use Rattle.iss_model.specs.Currencies.{iso_number}
 use Rattle.iss_model.specs.Inputs.{spelled, flag, optional, funding_number, window_number, card_state_number, user_state_number, outcome_number, moved_contents, association_contents, scope_contents}
-use Rattle.iss_model.specs.Spelling.{number_bytes}
-use Rattle.iss_model.specs.Taking.{take_currency}
-use Rattle.iss_model.proofs.TakenFields.{IsField}
-use Rattle.iss_model.proofs.TakenParts.{currency_field, flag_field, funding_field, window_field, card_state_field, user_state_field, outcome_field}
+use Rattle.iss_model.specs.texts.Spelling.{number_bytes}
+use Rattle.iss_codec.specs.Taking.{take_currency}
+use Rattle.iss_codec.proofs.TakenFields.{IsField}
+use Rattle.iss_codec.proofs.TakenParts.{currency_field, flag_field, funding_field, window_field, card_state_field, user_state_field, outcome_field}
 
 -- where such lists stand at the front of equal lists, they are of one value, and what is behind them is equal
 pub record IsCut {A : Type 0} (text : A → List ℕ) : Type 0 where

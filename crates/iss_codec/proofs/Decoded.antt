@@ -2,9 +2,9 @@
 use Rattle.std.proofs.Common.{◌≡◌, ℕ, List, Option, Some, None, Result, Ok, Err, sym, ap, ◌∙◌}
 use Rattle.std.specs.Prelude.{IfOk, IfSome}
 use Rattle.iss_model.specs.declared.input.Record.{Record}
-use Rattle.iss_model.specs.Spelling.{AreBytes}
-use Rattle.iss_model.specs.TakingRecords.{record_spelled}
-use Rattle.iss_model.proofs.TakenRecords.{spelled_takes, spelled_again, none_spelled}
+use Rattle.iss_model.specs.texts.Spelling.{AreBytes}
+use Rattle.iss_codec.specs.TakingRecords.{record_spelled}
+use Rattle.iss_codec.proofs.TakenRecords.{spelled_takes, spelled_again, none_spelled}
 use Rattle.iss_codec.specs.Meanings.{IsSpellingOf}
 
 pub is_found : {E : Type 0} (bytes : List ℕ) (result : Result (Option Record) E) → AreBytes bytes → IfOk result (λ found. found ≡ record_spelled bytes)

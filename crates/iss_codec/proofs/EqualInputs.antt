@@ -15,8 +15,8 @@ use Rattle.iss_model.specs.declared.input.Input.{Input}
 use Rattle.iss_model.specs.declared.input.Input.TheVariants as input
 use Rattle.iss_model.specs.declared.input.Record.{Record}
 use Rattle.iss_model.specs.Inputs.{contents, same_contents}
-use Rattle.iss_model.specs.Spelling.{number_bytes, kind_number, field_bytes, has_spelling, spelling}
-use Rattle.iss_model.proofs.TakenRecords.{begins_none}
+use Rattle.iss_model.specs.texts.Spelling.{number_bytes, kind_number, field_bytes, has_spelling, spelling}
+use Rattle.iss_codec.proofs.TakenRecords.{begins_none}
 use Rattle.iss_codec.specs.Meanings.{AreSpelledAlike}
 use Rattle.iss_codec.proofs.Cuts.{IsCut, pair_cut, number_cut, text_cut, flag_cut, currency_cut, funding_cut, window_cut, outcome_cut, optional_cut, moved_cut, association_cut, scope_cut}
 

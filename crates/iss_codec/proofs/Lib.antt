@@ -1,3 +1,11 @@
+pub mod NumberBytes
+pub mod TakenFields
+pub mod TakenParts
+pub mod TakenChoices
+pub mod TakenInputs
+pub mod TakenAgain
+pub mod TakenRecords
+pub mod TakenLaws
 pub mod Codes
 pub mod Cuts
 pub mod EqualInputs

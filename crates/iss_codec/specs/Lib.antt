@@ -1,2 +1,4 @@
+pub mod Taking
+pub mod TakingRecords
 pub mod Fronts
 pub mod Meanings

@@ -2,7 +2,7 @@
 use Rattle.std.specs.Prelude.{◌≡◌, ℕ, List, IsTrue}
 use Rattle.iss_model.specs.declared.input.Input.{Input}
 use Rattle.iss_model.specs.declared.input.Record.{Record}
-use Rattle.iss_model.specs.Spelling.{spelling, field_bytes, kind_number, is_record}
+use Rattle.iss_model.specs.texts.Spelling.{spelling, field_bytes, kind_number, is_record}
 
 -- these bytes are the spelling of this record, which is in form
 abbrev pub IsSpellingOf : Record → List ℕ → Type 0

@@ -1,12 +1,12 @@
 //! Reading one of a few things, each by its number.
 ghost use Rattle.std.specs.Prelude.{◌≡◌};
-ghost use Rattle.iss_model.specs.Taking.{take_currency, take_flag, take_numbered, currency_numbered, flag_numbered, funding_numbered, window_numbered, card_state_numbered, user_state_numbered, outcome_numbered};
+ghost use Rattle.iss_codec.specs.Taking.{take_currency, take_flag, take_numbered, currency_numbered, flag_numbered, funding_numbered, window_numbered, card_state_numbered, user_state_numbered, outcome_numbered};
 ghost use Rattle.iss_codec.specs.Fronts.{seen};
 
 use crate::fields::{take_byte, take_u16};
 use iss_model::{CardState, Currency, Funding, Outcome, UserState, Window};
 
-#[tactic(auto, unfolding(iss_model::specs::Taking::take_currency))]
+#[tactic(auto, unfolding(crate::specs::Taking::take_currency))]
 pub(crate) fn take_currency(bytes: &[u8]) -> Option<(Currency, &[u8])>
     ensures { seen result ≡ take_currency bytes.now }
 {
@@ -30,7 +30,7 @@ fn currency_numbered(number: u16) -> Option<Currency>
     }
 }
 
-#[tactic(auto, unfolding(iss_model::specs::Taking::take_numbered))]
+#[tactic(auto, unfolding(crate::specs::Taking::take_numbered))]
 pub(crate) fn take_flag(bytes: &[u8]) -> Option<(bool, &[u8])>
     ensures { seen result ≡ take_flag bytes.now }
 {
@@ -49,7 +49,7 @@ fn flag_numbered(number: u8) -> Option<bool>
     }
 }
 
-#[tactic(auto, unfolding(iss_model::specs::Taking::take_numbered))]
+#[tactic(auto, unfolding(crate::specs::Taking::take_numbered))]
 pub(crate) fn take_funding(bytes: &[u8]) -> Option<(Funding, &[u8])>
     ensures { seen result ≡ take_numbered funding_numbered bytes.now }
 {
@@ -68,7 +68,7 @@ fn funding_numbered(number: u8) -> Option<Funding>
     }
 }
 
-#[tactic(auto, unfolding(iss_model::specs::Taking::take_numbered))]
+#[tactic(auto, unfolding(crate::specs::Taking::take_numbered))]
 pub(crate) fn take_window(bytes: &[u8]) -> Option<(Window, &[u8])>
     ensures { seen result ≡ take_numbered window_numbered bytes.now }
 {
@@ -90,7 +90,7 @@ fn window_numbered(number: u8) -> Option<Window>
     }
 }
 
-#[tactic(auto, unfolding(iss_model::specs::Taking::take_numbered))]
+#[tactic(auto, unfolding(crate::specs::Taking::take_numbered))]
 pub(crate) fn take_card_state(bytes: &[u8]) -> Option<(CardState, &[u8])>
     ensures { seen result ≡ take_numbered card_state_numbered bytes.now }
 {
@@ -111,7 +111,7 @@ fn card_state_numbered(number: u8) -> Option<CardState>
     }
 }
 
-#[tactic(auto, unfolding(iss_model::specs::Taking::take_numbered))]
+#[tactic(auto, unfolding(crate::specs::Taking::take_numbered))]
 pub(crate) fn take_user_state(bytes: &[u8]) -> Option<(UserState, &[u8])>
     ensures { seen result ≡ take_numbered user_state_numbered bytes.now }
 {
@@ -131,7 +131,7 @@ fn user_state_numbered(number: u8) -> Option<UserState>
     }
 }
 
-#[tactic(auto, unfolding(iss_model::specs::Taking::take_numbered))]
+#[tactic(auto, unfolding(crate::specs::Taking::take_numbered))]
 pub(crate) fn take_outcome(bytes: &[u8]) -> Option<(Outcome, &[u8])>
     ensures { seen result ≡ take_numbered outcome_numbered bytes.now }
 {

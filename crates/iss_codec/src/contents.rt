@@ -2,7 +2,7 @@
 ghost use Rattle.std.specs.Prelude.{◌≡◌, ◌↔◌, IsTrue};
 ghost use Rattle.iss_model.specs.declared.input.Input.{Input};
 ghost use Rattle.iss_model.specs.Inputs.{same_contents};
-ghost use Rattle.iss_model.specs.Spelling.{has_spelling};
+ghost use Rattle.iss_model.specs.texts.Spelling.{has_spelling};
 ghost use Rattle.iss_codec.specs.Meanings.{AreSpelledAlike};
 
 /// Equality of contents is equality of inputs, and so equality of their spellings without the stamp.

@@ -1,7 +1,7 @@
 //! The record that bytes spell.
 ghost use Rattle.std.specs.Prelude.{◌≡◌, IfOk, IfSome, Some, None};
 ghost use Rattle.iss_model.specs.declared.input.Record.{Record};
-ghost use Rattle.iss_model.specs.TakingRecords.{take_fields, take_record, record_spelled};
+ghost use Rattle.iss_codec.specs.TakingRecords.{take_fields, take_record, record_spelled};
 ghost use Rattle.iss_codec.specs.Fronts.{seen};
 ghost use Rattle.iss_codec.specs.Meanings.{IsSpellingOf};
 
@@ -27,7 +27,7 @@ pub fn decode(alloc: Global, bytes: &[u8]) -> Result<Option<Record>, AllocError>
     record_spelled(alloc, bytes)
 }
 
-#[tactic(auto, unfolding(iss_model::specs::TakingRecords::record_spelled))]
+#[tactic(auto, unfolding(crate::specs::TakingRecords::record_spelled))]
 fn record_spelled(alloc: Global, bytes: &[u8]) -> Result<Option<Record>, AllocError>
     ensures { IfOk result (λ found. found ≡ record_spelled bytes.now) }
 {
@@ -37,7 +37,7 @@ fn record_spelled(alloc: Global, bytes: &[u8]) -> Result<Option<Record>, AllocEr
     }
 }
 
-#[tactic(auto, unfolding(iss_model::specs::TakingRecords::take_record))]
+#[tactic(auto, unfolding(crate::specs::TakingRecords::take_record))]
 fn take_record(alloc: Global, bytes: &[u8]) -> Result<Option<(Record, &[u8])>, AllocError>
     ensures { IfOk result (λ found. seen found ≡ take_record bytes.now) }
 {
@@ -53,7 +53,7 @@ fn take_record(alloc: Global, bytes: &[u8]) -> Result<Option<(Record, &[u8])>, A
     }
 }
 
-#[tactic(auto, unfolding(iss_model::specs::TakingRecords::take_fields))]
+#[tactic(auto, unfolding(crate::specs::TakingRecords::take_fields))]
 fn take_fields(alloc: Global, kind: u8, bytes: &[u8]) -> Result<Option<(Input, &[u8])>, AllocError>
     ensures { IfOk result (λ found. seen found ≡ take_fields kind bytes.now) }
 {

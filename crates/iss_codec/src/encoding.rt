@@ -1,6 +1,6 @@
 //! The spelling of a record.
 ghost use Rattle.std.specs.Prelude.{◌≡◌, ◌++◌, OnOk, IfOk};
-ghost use Rattle.iss_model.specs.Spelling.{spelling, field_bytes, kind_number};
+ghost use Rattle.iss_model.specs.texts.Spelling.{spelling, field_bytes, kind_number};
 
 use crate::writing::{
     funding_number, outcome_number, put_amount_limit, put_association, put_currency, put_flag,
@@ -11,7 +11,7 @@ use iss_model::{Input, Record};
 use std::alloc::{AllocError, Global};
 
 /// The one spelling of a record. `decode` reads it again where the record's fields are in form.
-#[tactic(auto, unfolding(iss_model::specs::Spelling::spelling))]
+#[tactic(auto, unfolding(iss_model::specs::texts::Spelling::spelling))]
 pub fn encode(alloc: Global, r: &Record) -> Result<Vec<u8>, AllocError>
     ensures spelled { IfOk result (λ bytes. bytes.items ≡ spelling r.now) }
 {
@@ -47,7 +47,7 @@ fn kind_number(input: &Input) -> u8
 }
 
 /// The fields of each kind, in their order.
-#[tactic(auto, unfolding(iss_model::specs::Spelling::field_bytes))]
+#[tactic(auto, unfolding(iss_model::specs::texts::Spelling::field_bytes))]
 fn put_fields(out: &mut Vec<u8>, input: &Input) -> Result<(), AllocError>
     ensures { OnOk result (out.new.items ≡ out.old.items ++ field_bytes input.now) }
 {

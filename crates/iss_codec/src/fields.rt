@@ -1,7 +1,7 @@
 //! Reading one field from the front of bytes, with the bytes behind it.
 ghost use Rattle.std.specs.Prelude.{◌≡◌};
 ghost use Rattle.iss_model.specs.Forms.{is_timeout, is_hold_time};
-ghost use Rattle.iss_model.specs.Taking.{take_byte, take_bytes, take_number, take_formed, take_stamp, take_amount, take_limit, take_mcc, take_id, take_token};
+ghost use Rattle.iss_codec.specs.Taking.{take_byte, take_bytes, take_number, take_formed, take_stamp, take_amount, take_limit, take_mcc, take_id, take_token};
 ghost use Rattle.iss_codec.specs.Fronts.{seen, seen_text};
 
 use byteorder::{BigEndian, ByteOrder};
@@ -15,7 +15,7 @@ const GREATEST_LIMIT: u64 = 1_000_000_000_000;
 
 const GREATEST_MCC: u16 = 9999;
 
-#[tactic(auto, unfolding(iss_model::specs::Taking::take_byte))]
+#[tactic(auto, unfolding(crate::specs::Taking::take_byte))]
 pub(crate) fn take_byte(bytes: &[u8]) -> Option<(u8, &[u8])>
     ensures { seen result ≡ take_byte bytes.now }
 {
@@ -25,7 +25,7 @@ pub(crate) fn take_byte(bytes: &[u8]) -> Option<(u8, &[u8])>
     }
 }
 
-#[tactic(auto, unfolding(iss_model::specs::Taking::take_bytes))]
+#[tactic(auto, unfolding(crate::specs::Taking::take_bytes))]
 fn take_bytes(count: u8, bytes: &[u8]) -> Option<(&[u8], &[u8])>
     ensures { seen_text result ≡ take_bytes count bytes.now }
 {
@@ -36,7 +36,7 @@ fn take_bytes(count: u8, bytes: &[u8]) -> Option<(&[u8], &[u8])>
     Some(bytes.split_at(count))
 }
 
-#[tactic(auto, unfolding(iss_model::specs::Taking::take_number))]
+#[tactic(auto, unfolding(crate::specs::Taking::take_number))]
 pub(crate) fn take_u16(bytes: &[u8]) -> Option<(u16, &[u8])>
     ensures { seen result ≡ take_number 2 bytes.now }
 {
@@ -46,7 +46,7 @@ pub(crate) fn take_u16(bytes: &[u8]) -> Option<(u16, &[u8])>
     Some((BigEndian::read_u16(bytes), &bytes[2..]))
 }
 
-#[tactic(auto, unfolding(iss_model::specs::Taking::take_number))]
+#[tactic(auto, unfolding(crate::specs::Taking::take_number))]
 pub(crate) fn take_u32(bytes: &[u8]) -> Option<(u32, &[u8])>
     ensures { seen result ≡ take_number 4 bytes.now }
 {
@@ -56,7 +56,7 @@ pub(crate) fn take_u32(bytes: &[u8]) -> Option<(u32, &[u8])>
     Some((BigEndian::read_u32(bytes), &bytes[4..]))
 }
 
-#[tactic(auto, unfolding(iss_model::specs::Taking::take_number))]
+#[tactic(auto, unfolding(crate::specs::Taking::take_number))]
 pub(crate) fn take_u64(bytes: &[u8]) -> Option<(u64, &[u8])>
     ensures { seen result ≡ take_number 8 bytes.now }
 {
@@ -66,7 +66,7 @@ pub(crate) fn take_u64(bytes: &[u8]) -> Option<(u64, &[u8])>
     Some((BigEndian::read_u64(bytes), &bytes[8..]))
 }
 
-#[tactic(auto, unfolding(iss_model::specs::Taking::take_formed))]
+#[tactic(auto, unfolding(crate::specs::Taking::take_formed))]
 pub(crate) fn take_stamp(bytes: &[u8]) -> Option<(u64, &[u8])>
     ensures { seen result ≡ take_stamp bytes.now }
 {
@@ -77,7 +77,7 @@ pub(crate) fn take_stamp(bytes: &[u8]) -> Option<(u64, &[u8])>
     Some((at, rest))
 }
 
-#[tactic(auto, unfolding(iss_model::specs::Taking::take_formed))]
+#[tactic(auto, unfolding(crate::specs::Taking::take_formed))]
 pub(crate) fn take_amount(bytes: &[u8]) -> Option<(u64, &[u8])>
     ensures { seen result ≡ take_amount bytes.now }
 {
@@ -88,7 +88,7 @@ pub(crate) fn take_amount(bytes: &[u8]) -> Option<(u64, &[u8])>
     Some((amount, rest))
 }
 
-#[tactic(auto, unfolding(iss_model::specs::Taking::take_formed))]
+#[tactic(auto, unfolding(crate::specs::Taking::take_formed))]
 pub(crate) fn take_limit(bytes: &[u8]) -> Option<(u64, &[u8])>
     ensures { seen result ≡ take_limit bytes.now }
 {
@@ -99,7 +99,7 @@ pub(crate) fn take_limit(bytes: &[u8]) -> Option<(u64, &[u8])>
     Some((limit, rest))
 }
 
-#[tactic(auto, unfolding(iss_model::specs::Taking::take_formed))]
+#[tactic(auto, unfolding(crate::specs::Taking::take_formed))]
 pub(crate) fn take_mcc(bytes: &[u8]) -> Option<(u16, &[u8])>
     ensures { seen result ≡ take_mcc bytes.now }
 {
@@ -111,7 +111,7 @@ pub(crate) fn take_mcc(bytes: &[u8]) -> Option<(u16, &[u8])>
 }
 
 /// The number of a call or notice, from 1.
-#[tactic(auto, unfolding(iss_model::specs::Taking::take_formed))]
+#[tactic(auto, unfolding(crate::specs::Taking::take_formed))]
 pub(crate) fn take_id(bytes: &[u8]) -> Option<(u32, &[u8])>
     ensures { seen result ≡ take_id bytes.now }
 {
@@ -123,7 +123,7 @@ pub(crate) fn take_id(bytes: &[u8]) -> Option<(u32, &[u8])>
 }
 
 /// How long the gateway has to answer, in milliseconds.
-#[tactic(auto, unfolding(iss_model::specs::Taking::take_formed))]
+#[tactic(auto, unfolding(crate::specs::Taking::take_formed))]
 pub(crate) fn take_timeout(bytes: &[u8]) -> Option<(u64, &[u8])>
     ensures { seen result ≡ take_formed 4 is_timeout bytes.now }
 {
@@ -135,7 +135,7 @@ pub(crate) fn take_timeout(bytes: &[u8]) -> Option<(u64, &[u8])>
 }
 
 /// How long an authorisation holds its amount, in milliseconds.
-#[tactic(auto, unfolding(iss_model::specs::Taking::take_formed))]
+#[tactic(auto, unfolding(crate::specs::Taking::take_formed))]
 pub(crate) fn take_hold_time(bytes: &[u8]) -> Option<(u64, &[u8])>
     ensures { seen result ≡ take_formed 4 is_hold_time bytes.now }
 {
@@ -146,7 +146,7 @@ pub(crate) fn take_hold_time(bytes: &[u8]) -> Option<(u64, &[u8])>
     Some((u64::from(hold_ms), rest))
 }
 
-#[tactic(auto, unfolding(iss_model::specs::Taking::take_token))]
+#[tactic(auto, unfolding(crate::specs::Taking::take_token))]
 pub(crate) fn take_token(bytes: &[u8]) -> Option<(Token, &[u8])>
     ensures { seen result ≡ take_token bytes.now }
 {

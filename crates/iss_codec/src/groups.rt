@@ -1,14 +1,14 @@
 //! Reading the codes of a merchant group.
 ghost use Rattle.std.specs.Prelude.{◌≡◌, IfOk, option_map};
 ghost use Rattle.iss_model.specs.Forms.{are_mccs, are_rising};
-ghost use Rattle.iss_model.specs.Taking.{take_codes, take_mccs};
+ghost use Rattle.iss_codec.specs.Taking.{take_codes, take_mccs};
 ghost use Rattle.iss_codec.specs.Fronts.{seen};
 
 use crate::fields::take_u16;
 use iss_model::Mccs;
 use std::alloc::{AllocError, Global};
 
-#[tactic(auto, unfolding(iss_model::specs::Taking::take_mccs))]
+#[tactic(auto, unfolding(crate::specs::Taking::take_mccs))]
 pub(crate) fn take_mccs(alloc: Global, bytes: &[u8]) -> Result<Option<(Mccs, &[u8])>, AllocError>
     ensures { IfOk result (λ found. seen found ≡ take_mccs bytes.now) }
 {

@@ -12,11 +12,13 @@ mod fields;
 mod groups;
 mod parts;
 mod rows;
+mod spelled;
 mod writing;
 
 pub use contents::contents_are_their_spelling;
 pub use decoding::decode;
 pub use encoding::encode;
+pub use spelled::{fields_are_read_again, records_are_read_again};
 
 #[cfg(test)]
 mod tests;

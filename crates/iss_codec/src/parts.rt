@@ -3,8 +3,8 @@ ghost use Rattle.std.specs.Prelude.{◌≡◌};
 ghost use Rattle.iss_model.specs.declared.setting.Association.TheVariants as association;
 ghost use Rattle.iss_model.specs.declared.setting.Scope.TheVariants as scope;
 ghost use Rattle.iss_model.specs.Forms.{are_limits, may_count};
-ghost use Rattle.iss_model.specs.Taking.{take_moved, take_moved_card, take_moved_user, take_association, take_named, take_scope, take_mcc_scope, take_optional, take_some};
-ghost use Rattle.iss_model.specs.TakingRecords.{take_limits};
+ghost use Rattle.iss_codec.specs.Taking.{take_moved, take_moved_card, take_moved_user, take_association, take_named, take_scope, take_mcc_scope, take_optional, take_some};
+ghost use Rattle.iss_codec.specs.TakingRecords.{take_limits};
 ghost use Rattle.iss_codec.specs.Fronts.{seen};
 
 use crate::choices::{take_card_state, take_user_state};
@@ -15,7 +15,7 @@ const GREATEST_LIMIT: u64 = 1_000_000_000_000;
 
 const GREATEST_USAGE: u32 = 1_000_000;
 
-#[tactic(auto, unfolding(iss_model::specs::Taking::take_moved))]
+#[tactic(auto, unfolding(crate::specs::Taking::take_moved))]
 pub(crate) fn take_moved(bytes: &[u8]) -> Option<(Moved, &[u8])>
     ensures { seen result ≡ take_moved bytes.now }
 {
@@ -27,7 +27,7 @@ pub(crate) fn take_moved(bytes: &[u8]) -> Option<(Moved, &[u8])>
     }
 }
 
-#[tactic(auto, unfolding(iss_model::specs::Taking::take_moved_card))]
+#[tactic(auto, unfolding(crate::specs::Taking::take_moved_card))]
 fn take_moved_card(bytes: &[u8]) -> Option<(Moved, &[u8])>
     ensures { seen result ≡ take_moved_card bytes.now }
 {
@@ -38,7 +38,7 @@ fn take_moved_card(bytes: &[u8]) -> Option<(Moved, &[u8])>
     Some((Moved::Card(card, to), rest))
 }
 
-#[tactic(auto, unfolding(iss_model::specs::Taking::take_moved_user))]
+#[tactic(auto, unfolding(crate::specs::Taking::take_moved_user))]
 fn take_moved_user(bytes: &[u8]) -> Option<(Moved, &[u8])>
     ensures { seen result ≡ take_moved_user bytes.now }
 {
@@ -49,7 +49,7 @@ fn take_moved_user(bytes: &[u8]) -> Option<(Moved, &[u8])>
     Some((Moved::User(user, to), rest))
 }
 
-#[tactic(auto, unfolding(iss_model::specs::Taking::take_association))]
+#[tactic(auto, unfolding(crate::specs::Taking::take_association))]
 pub(crate) fn take_association(bytes: &[u8]) -> Option<(Association, &[u8])>
     ensures { seen result ≡ take_association bytes.now }
 {
@@ -62,7 +62,7 @@ pub(crate) fn take_association(bytes: &[u8]) -> Option<(Association, &[u8])>
     }
 }
 
-#[tactic(auto, unfolding(iss_model::specs::Taking::take_named))]
+#[tactic(auto, unfolding(crate::specs::Taking::take_named))]
 fn take_association_user(bytes: &[u8]) -> Option<(Association, &[u8])>
     ensures { seen result ≡ take_named association.User bytes.now }
 {
@@ -72,7 +72,7 @@ fn take_association_user(bytes: &[u8]) -> Option<(Association, &[u8])>
     Some((Association::User(user), rest))
 }
 
-#[tactic(auto, unfolding(iss_model::specs::Taking::take_named))]
+#[tactic(auto, unfolding(crate::specs::Taking::take_named))]
 fn take_association_product(bytes: &[u8]) -> Option<(Association, &[u8])>
     ensures { seen result ≡ take_named association.Product bytes.now }
 {
@@ -82,7 +82,7 @@ fn take_association_product(bytes: &[u8]) -> Option<(Association, &[u8])>
     Some((Association::Product(product), rest))
 }
 
-#[tactic(auto, unfolding(iss_model::specs::Taking::take_scope))]
+#[tactic(auto, unfolding(crate::specs::Taking::take_scope))]
 pub(crate) fn take_scope(bytes: &[u8]) -> Option<(Scope, &[u8])>
     ensures { seen result ≡ take_scope bytes.now }
 {
@@ -96,7 +96,7 @@ pub(crate) fn take_scope(bytes: &[u8]) -> Option<(Scope, &[u8])>
     }
 }
 
-#[tactic(auto, unfolding(iss_model::specs::Taking::take_mcc_scope))]
+#[tactic(auto, unfolding(crate::specs::Taking::take_mcc_scope))]
 fn take_scope_mcc(bytes: &[u8]) -> Option<(Scope, &[u8])>
     ensures { seen result ≡ take_mcc_scope bytes.now }
 {
@@ -104,7 +104,7 @@ fn take_scope_mcc(bytes: &[u8]) -> Option<(Scope, &[u8])>
     Some((Scope::Mcc(mcc), rest))
 }
 
-#[tactic(auto, unfolding(iss_model::specs::Taking::take_named))]
+#[tactic(auto, unfolding(crate::specs::Taking::take_named))]
 fn take_scope_group(bytes: &[u8]) -> Option<(Scope, &[u8])>
     ensures { seen result ≡ take_named scope.Group bytes.now }
 {
@@ -114,7 +114,7 @@ fn take_scope_group(bytes: &[u8]) -> Option<(Scope, &[u8])>
     Some((Scope::Group(group), rest))
 }
 
-#[tactic(auto, unfolding(iss_model::specs::Taking::take_named))]
+#[tactic(auto, unfolding(crate::specs::Taking::take_named))]
 fn take_scope_mid(bytes: &[u8]) -> Option<(Scope, &[u8])>
     ensures { seen result ≡ take_named scope.Mid bytes.now }
 {
@@ -125,7 +125,7 @@ fn take_scope_mid(bytes: &[u8]) -> Option<(Scope, &[u8])>
 }
 
 /// The limits of a control with this window: the most minor units, and the most purchases.
-#[tactic(auto, unfolding(iss_model::specs::TakingRecords::take_limits))]
+#[tactic(auto, unfolding(crate::specs::TakingRecords::take_limits))]
 pub(crate) fn take_limits(
     window: Window,
     bytes: &[u8],
@@ -158,7 +158,7 @@ fn may_count(window: Window, usage: Option<u32>) -> bool
     }
 }
 
-#[tactic(auto, unfolding(iss_model::specs::Taking::take_optional))]
+#[tactic(auto, unfolding(crate::specs::Taking::take_optional))]
 fn take_amount_limit(bytes: &[u8]) -> Option<(Option<u64>, &[u8])>
     ensures { seen result ≡ take_optional 8 bytes.now }
 {
@@ -177,7 +177,7 @@ fn some_amount(bytes: &[u8]) -> Option<(Option<u64>, &[u8])>
     Some((Some(limit), rest))
 }
 
-#[tactic(auto, unfolding(iss_model::specs::Taking::take_optional))]
+#[tactic(auto, unfolding(crate::specs::Taking::take_optional))]
 fn take_usage_limit(bytes: &[u8]) -> Option<(Option<u32>, &[u8])>
     ensures { seen result ≡ take_optional 4 bytes.now }
 {

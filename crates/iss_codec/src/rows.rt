@@ -1,7 +1,7 @@
 //! Reading the fields of each kind, in their order.
 ghost use Rattle.std.specs.Prelude.{◌≡◌, IfOk};
 ghost use Rattle.iss_model.specs.declared.input.Input.TheVariants as input;
-ghost use Rattle.iss_model.specs.TakingRecords.{take_user, take_card, take_move, take_product, take_group, take_control, take_set, take_switch, take_operation, take_authorization, take_clearing, take_answer, take_ack};
+ghost use Rattle.iss_codec.specs.TakingRecords.{take_user, take_card, take_move, take_product, take_group, take_control, take_set, take_switch, take_operation, take_authorization, take_clearing, take_answer, take_ack};
 ghost use Rattle.iss_codec.specs.Fronts.{seen};
 
 use crate::choices::{take_currency, take_flag, take_funding, take_outcome, take_window};
@@ -13,7 +13,7 @@ use crate::parts::{take_association, take_limits, take_moved, take_scope};
 use iss_model::{CallId, Input};
 use std::alloc::{AllocError, Global};
 
-#[tactic(auto, unfolding(iss_model::specs::TakingRecords::take_user))]
+#[tactic(auto, unfolding(crate::specs::TakingRecords::take_user))]
 pub(crate) fn take_user(bytes: &[u8]) -> Option<(Input, &[u8])>
     ensures { seen result ≡ take_user bytes.now }
 {
@@ -26,7 +26,7 @@ pub(crate) fn take_user(bytes: &[u8]) -> Option<(Input, &[u8])>
     Some((Input::User { token, user }, rest))
 }
 
-#[tactic(auto, unfolding(iss_model::specs::TakingRecords::take_card))]
+#[tactic(auto, unfolding(crate::specs::TakingRecords::take_card))]
 pub(crate) fn take_card(bytes: &[u8]) -> Option<(Input, &[u8])>
     ensures { seen result ≡ take_card bytes.now }
 {
@@ -53,7 +53,7 @@ pub(crate) fn take_card(bytes: &[u8]) -> Option<(Input, &[u8])>
     Some((input, rest))
 }
 
-#[tactic(auto, unfolding(iss_model::specs::TakingRecords::take_move))]
+#[tactic(auto, unfolding(crate::specs::TakingRecords::take_move))]
 pub(crate) fn take_move(bytes: &[u8]) -> Option<(Input, &[u8])>
     ensures { seen result ≡ take_move bytes.now }
 {
@@ -66,7 +66,7 @@ pub(crate) fn take_move(bytes: &[u8]) -> Option<(Input, &[u8])>
     Some((Input::Move { token, who }, rest))
 }
 
-#[tactic(auto, unfolding(iss_model::specs::TakingRecords::take_product))]
+#[tactic(auto, unfolding(crate::specs::TakingRecords::take_product))]
 pub(crate) fn take_product(bytes: &[u8]) -> Option<(Input, &[u8])>
     ensures { seen result ≡ take_product bytes.now }
 {
@@ -91,7 +91,7 @@ pub(crate) fn take_product(bytes: &[u8]) -> Option<(Input, &[u8])>
     Some((input, rest))
 }
 
-#[tactic(auto, unfolding(iss_model::specs::TakingRecords::take_group))]
+#[tactic(auto, unfolding(crate::specs::TakingRecords::take_group))]
 pub(crate) fn take_group(alloc: Global, bytes: &[u8]) -> Result<Option<(Input, &[u8])>, AllocError>
     ensures { IfOk result (λ found. seen found ≡ take_group bytes.now) }
 {
@@ -107,7 +107,7 @@ pub(crate) fn take_group(alloc: Global, bytes: &[u8]) -> Result<Option<(Input, &
     }
 }
 
-#[tactic(auto, unfolding(iss_model::specs::TakingRecords::take_control))]
+#[tactic(auto, unfolding(crate::specs::TakingRecords::take_control))]
 pub(crate) fn take_control(bytes: &[u8]) -> Option<(Input, &[u8])>
     ensures { seen result ≡ take_control bytes.now }
 {
@@ -141,7 +141,7 @@ pub(crate) fn take_control(bytes: &[u8]) -> Option<(Input, &[u8])>
     Some((input, rest))
 }
 
-#[tactic(auto, unfolding(iss_model::specs::TakingRecords::take_set))]
+#[tactic(auto, unfolding(crate::specs::TakingRecords::take_set))]
 pub(crate) fn take_set(bytes: &[u8]) -> Option<(Input, &[u8])>
     ensures { seen result ≡ take_set bytes.now }
 {
@@ -176,7 +176,7 @@ pub(crate) fn take_set(bytes: &[u8]) -> Option<(Input, &[u8])>
     Some((input, rest))
 }
 
-#[tactic(auto, unfolding(iss_model::specs::TakingRecords::take_switch))]
+#[tactic(auto, unfolding(crate::specs::TakingRecords::take_switch))]
 pub(crate) fn take_switch(bytes: &[u8]) -> Option<(Input, &[u8])>
     ensures { seen result ≡ take_switch bytes.now }
 {
@@ -190,7 +190,7 @@ pub(crate) fn take_switch(bytes: &[u8]) -> Option<(Input, &[u8])>
     Some((Input::Switch { token, product, on }, rest))
 }
 
-#[tactic(auto, unfolding(iss_model::specs::TakingRecords::take_operation))]
+#[tactic(auto, unfolding(crate::specs::TakingRecords::take_operation))]
 pub(crate) fn take_load(bytes: &[u8]) -> Option<(Input, &[u8])>
     ensures { seen result ≡ take_operation input.Load bytes.now }
 {
@@ -211,7 +211,7 @@ pub(crate) fn take_load(bytes: &[u8]) -> Option<(Input, &[u8])>
     Some((input, rest))
 }
 
-#[tactic(auto, unfolding(iss_model::specs::TakingRecords::take_authorization))]
+#[tactic(auto, unfolding(crate::specs::TakingRecords::take_authorization))]
 pub(crate) fn take_authorization(bytes: &[u8]) -> Option<(Input, &[u8])>
     ensures { seen result ≡ take_authorization bytes.now }
 {
@@ -238,7 +238,7 @@ pub(crate) fn take_authorization(bytes: &[u8]) -> Option<(Input, &[u8])>
     Some((input, rest))
 }
 
-#[tactic(auto, unfolding(iss_model::specs::TakingRecords::take_operation))]
+#[tactic(auto, unfolding(crate::specs::TakingRecords::take_operation))]
 pub(crate) fn take_increment(bytes: &[u8]) -> Option<(Input, &[u8])>
     ensures { seen result ≡ take_operation input.Increment bytes.now }
 {
@@ -259,7 +259,7 @@ pub(crate) fn take_increment(bytes: &[u8]) -> Option<(Input, &[u8])>
     Some((input, rest))
 }
 
-#[tactic(auto, unfolding(iss_model::specs::TakingRecords::take_operation))]
+#[tactic(auto, unfolding(crate::specs::TakingRecords::take_operation))]
 pub(crate) fn take_reversal(bytes: &[u8]) -> Option<(Input, &[u8])>
     ensures { seen result ≡ take_operation input.Reversal bytes.now }
 {
@@ -280,7 +280,7 @@ pub(crate) fn take_reversal(bytes: &[u8]) -> Option<(Input, &[u8])>
     Some((input, rest))
 }
 
-#[tactic(auto, unfolding(iss_model::specs::TakingRecords::take_clearing))]
+#[tactic(auto, unfolding(crate::specs::TakingRecords::take_clearing))]
 pub(crate) fn take_clearing(bytes: &[u8]) -> Option<(Input, &[u8])>
     ensures { seen result ≡ take_clearing bytes.now }
 {
@@ -303,7 +303,7 @@ pub(crate) fn take_clearing(bytes: &[u8]) -> Option<(Input, &[u8])>
     Some((input, rest))
 }
 
-#[tactic(auto, unfolding(iss_model::specs::TakingRecords::take_operation))]
+#[tactic(auto, unfolding(crate::specs::TakingRecords::take_operation))]
 pub(crate) fn take_refund(bytes: &[u8]) -> Option<(Input, &[u8])>
     ensures { seen result ≡ take_operation input.Refund bytes.now }
 {
@@ -324,7 +324,7 @@ pub(crate) fn take_refund(bytes: &[u8]) -> Option<(Input, &[u8])>
     Some((input, rest))
 }
 
-#[tactic(auto, unfolding(iss_model::specs::TakingRecords::take_answer))]
+#[tactic(auto, unfolding(crate::specs::TakingRecords::take_answer))]
 pub(crate) fn take_answer(bytes: &[u8]) -> Option<(Input, &[u8])>
     ensures { seen result ≡ take_answer bytes.now }
 {
@@ -334,7 +334,7 @@ pub(crate) fn take_answer(bytes: &[u8]) -> Option<(Input, &[u8])>
     Some((Input::Answer { call, outcome }, rest))
 }
 
-#[tactic(auto, unfolding(iss_model::specs::TakingRecords::take_ack))]
+#[tactic(auto, unfolding(crate::specs::TakingRecords::take_ack))]
 pub(crate) fn take_ack(bytes: &[u8]) -> Option<(Input, &[u8])>
     ensures { seen result ≡ take_ack bytes.now }
 {

@@ -3,7 +3,7 @@ ghost use Rattle.std.specs.Prelude.{◌≡◌, ◌++◌, ◌∷◌, [], OnOk};
 ghost use Rattle.std.specs.List.{flat_map};
 ghost use Rattle.iss_model.specs.Currencies.{iso_number};
 ghost use Rattle.iss_model.specs.Inputs.{spelled, flag, funding_number, window_number, card_state_number, user_state_number, outcome_number, moved_contents, association_contents};
-ghost use Rattle.iss_model.specs.Spelling.{number_bytes, currency_bytes, mcc_bytes, limit_bytes, scope_bytes, mccs_bytes, operation_bytes};
+ghost use Rattle.iss_model.specs.texts.Spelling.{number_bytes, currency_bytes, mcc_bytes, limit_bytes, scope_bytes, mccs_bytes, operation_bytes};
 
 use iss_model::{
     Association, CardState, Currency, Funding, Mccs, Moved, Outcome, Scope, Token, UserState,
@@ -11,21 +11,21 @@ use iss_model::{
 };
 use std::alloc::AllocError;
 
-#[tactic(auto, unfolding(iss_model::specs::Spelling::number_bytes))]
+#[tactic(auto, unfolding(iss_model::specs::texts::Spelling::number_bytes))]
 pub(crate) fn put_u64(out: &mut Vec<u8>, number: u64) -> Result<(), AllocError>
     ensures { OnOk result (out.new.items ≡ out.old.items ++ number_bytes 8 number) }
 {
     out.extend_from_slice(&number.to_be_bytes())
 }
 
-#[tactic(auto, unfolding(iss_model::specs::Spelling::number_bytes))]
+#[tactic(auto, unfolding(iss_model::specs::texts::Spelling::number_bytes))]
 pub(crate) fn put_u32(out: &mut Vec<u8>, number: u32) -> Result<(), AllocError>
     ensures { OnOk result (out.new.items ≡ out.old.items ++ number_bytes 4 number) }
 {
     out.extend_from_slice(&number.to_be_bytes())
 }
 
-#[tactic(auto, unfolding(iss_model::specs::Spelling::number_bytes))]
+#[tactic(auto, unfolding(iss_model::specs::texts::Spelling::number_bytes))]
 pub(crate) fn put_u16(out: &mut Vec<u8>, number: u16) -> Result<(), AllocError>
     ensures { OnOk result (out.new.items ≡ out.old.items ++ number_bytes 2 number) }
 {
@@ -33,7 +33,7 @@ pub(crate) fn put_u16(out: &mut Vec<u8>, number: u16) -> Result<(), AllocError>
 }
 
 /// The lowest four bytes of a number.
-#[tactic(auto, unfolding(iss_model::specs::Spelling::number_bytes))]
+#[tactic(auto, unfolding(iss_model::specs::texts::Spelling::number_bytes))]
 pub(crate) fn put_low_u32(out: &mut Vec<u8>, number: u64) -> Result<(), AllocError>
     ensures { OnOk result (out.new.items ≡ out.old.items ++ number_bytes 4 number) }
 {
@@ -41,7 +41,7 @@ pub(crate) fn put_low_u32(out: &mut Vec<u8>, number: u64) -> Result<(), AllocErr
 }
 
 /// The lowest two bytes of a number.
-#[tactic(auto, unfolding(iss_model::specs::Spelling::number_bytes))]
+#[tactic(auto, unfolding(iss_model::specs::texts::Spelling::number_bytes))]
 fn put_low_u16(out: &mut Vec<u8>, number: u64) -> Result<(), AllocError>
     ensures { OnOk result (out.new.items ≡ out.old.items ++ number_bytes 2 number) }
 {

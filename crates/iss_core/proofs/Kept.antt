@@ -9,8 +9,8 @@ use Rattle.iss_model.specs.declared.entry.Entry.TheVariants as entry
 use Rattle.iss_model.specs.declared.decision.Verdict.{Verdict}
 use Rattle.iss_model.specs.declared.decision.Reply.TheVariants.{Decided, Pending}
 use Rattle.iss_model.specs.Inputs.{is_event}
-use Rattle.iss_model.specs.Facts as facts
-use Rattle.iss_model.specs.Facts.{decision_of, replied}
+use Rattle.iss_model.specs.rules.Facts as facts
+use Rattle.iss_model.specs.rules.Facts.{decision_of, replied}
 use Rattle.iss_core.specs.declared.events.Accepted.{Accepted}
 use Rattle.iss_core.specs.Places.{place_by}
 use Rattle.iss_core.specs.Events.{accepted_as, accepted_in, is_named}

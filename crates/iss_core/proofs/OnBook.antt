@@ -9,17 +9,17 @@ use Rattle.iss_model.specs.declared.entry.Entry.{Entry}
 use Rattle.iss_model.specs.declared.decision.Judged.{Judged}
 use Rattle.iss_model.specs.Sums.{account_key}
 use Rattle.iss_model.specs.Inputs.{is_event}
-use Rattle.iss_model.specs.Kept.{Kept}
+use Rattle.iss_model.specs.state.Kept.{Kept}
 use Rattle.iss_model.specs.declared.decision.Reply.{Reply}
-use Rattle.iss_model.specs.Facts.{Facts, Accepted, reply_in, event_reply}
-use Rattle.iss_model.specs.BalanceLines.{accounts_of}
-use Rattle.iss_model.specs.Stepping.{step}
-use Rattle.iss_model.specs.Judging.{judge}
-use Rattle.iss_model.specs.Histories.{time_of, history_facts, history_keeper, history_of}
-use Rattle.iss_model.specs.Cores.{CoreState, core_facts, core_keeper}
-use Rattle.iss_model.proofs.Records.{records_history}
-use Rattle.iss_model.proofs.CoreOfBook.{facts_history, judge_history, entries_history, core_step}
-use Rattle.iss_model.proofs.ReportedAccounts.{accounts_history}
+use Rattle.iss_model.specs.rules.Facts.{Facts, Accepted, reply_in, event_reply}
+use Rattle.iss_model.specs.texts.BalanceLines.{accounts_of}
+use Rattle.iss_model.specs.rules.Stepping.{step}
+use Rattle.iss_model.specs.rules.Judging.{judge}
+use Rattle.iss_model.specs.rules.Histories.{time_of, history_facts, history_keeper, history_of}
+use Rattle.iss_model.specs.state.Cores.{CoreState, core_facts, core_keeper}
+use Rattle.iss_agreement.proofs.Records.{records_history}
+use Rattle.iss_agreement.proofs.CoreOfBook.{facts_history, judge_history, entries_history, core_step}
+use Rattle.iss_agreement.proofs.ReportedAccounts.{accounts_history}
 use Rattle.iss_core.specs.Values.{CoreNow, StandsFor, Steps, StepsOnBook}
 
 -- the facts that a core tells are those of the book

@@ -24,18 +24,18 @@ use Rattle.iss_model.specs.Inputs.{is_event}
 use Rattle.iss_model.specs.Currencies.{same_currency}
 use Rattle.iss_model.specs.Forms.{is_hold_time, is_amount}
 use Rattle.iss_model.specs.Sums.{user_key}
-use Rattle.iss_model.specs.Kept.{AreSmall}
-use Rattle.iss_model.specs.Settings.{user_named, card_named, product_named, is_active_user, is_active_card}
-use Rattle.iss_model.specs.Activity.{TxnNow, txn_named}
-use Rattle.iss_model.specs.Controls.{ControlNow}
-use Rattle.iss_model.specs.Facts.{Facts, Accepted, Decision, available_in}
-use Rattle.iss_model.specs.Asks.{breach, declines, txn_begun, usage_of}
-use Rattle.iss_model.specs.Reasons.{first_reason, is_some_with, user_is}
-use Rattle.iss_model.specs.CardReasons.{is_account_funded, is_in_currency, lacks_funds, control_breach, first_ask}
-use Rattle.iss_model.specs.Pieces.{held}
-use Rattle.iss_model.specs.CardEntries.{authorized, gateway_asked}
-use Rattle.iss_model.specs.Stepping.{entries_of, unless_declined}
-use Rattle.iss_model.specs.Cores.{CoreState, ProductNow, Holdings, with_txn, held_begun, with_hold, is_live, core_facts, entered}
+use Rattle.iss_model.specs.state.Kept.{AreSmall}
+use Rattle.iss_model.specs.rules.Settings.{user_named, card_named, product_named, is_active_user, is_active_card}
+use Rattle.iss_model.specs.rules.Activity.{TxnNow, txn_named}
+use Rattle.iss_model.specs.rules.Controls.{ControlNow}
+use Rattle.iss_model.specs.rules.Facts.{Facts, Accepted, Decision, available_in}
+use Rattle.iss_model.specs.rules.Asks.{breach, declines, txn_begun, usage_of}
+use Rattle.iss_model.specs.rules.Reasons.{first_reason, is_some_with, user_is}
+use Rattle.iss_model.specs.rules.CardReasons.{is_account_funded, is_in_currency, lacks_funds, control_breach, first_ask}
+use Rattle.iss_model.specs.rules.Pieces.{held}
+use Rattle.iss_model.specs.rules.CardEntries.{authorized, gateway_asked}
+use Rattle.iss_model.specs.rules.Stepping.{entries_of, unless_declined}
+use Rattle.iss_model.specs.state.Cores.{CoreState, ProductNow, Holdings, with_txn, held_begun, with_hold, is_live, core_facts, entered}
 use Rattle.iss_model.proofs.Names.{one_name}
 use Rattle.iss_card.specs.declared.standing.Standing.TheVariants.{Known}
 use Rattle.iss_card.specs.Standings.{standing_of, standing_with}

@@ -11,15 +11,15 @@ use Rattle.iss_model.specs.declared.input.Input.{Input}
 use Rattle.iss_model.specs.declared.input.Record.{Record}
 use Rattle.iss_model.specs.declared.entry.Entry.{Entry}
 use Rattle.iss_model.specs.Inputs.{event_token, is_event, contents}
-use Rattle.iss_model.specs.Activity.{TxnNow, CallNow, is_asked}
-use Rattle.iss_model.specs.Facts.{Facts, Accepted, event_in, reply_in}
-use Rattle.iss_model.specs.Due.{DueItem, due_call, due_txn, due_items, placed, is_quiet}
-use Rattle.iss_model.specs.Keeper.{Growth, grow}
-use Rattle.iss_model.specs.Stepping.{own_entries, settle, after_due, step}
-use Rattle.iss_model.specs.Judging.{told_by, refusal, judged_as, judged_on, judge}
-use Rattle.iss_model.specs.Cores.{CoreState, taken_up, core_facts, core_keeper, entered}
-use Rattle.iss_model.specs.Built.{is_built}
-use Rattle.iss_model.proofs.JudgedAgain.{new_at, new_again}
+use Rattle.iss_model.specs.rules.Activity.{TxnNow, CallNow, is_asked}
+use Rattle.iss_model.specs.rules.Facts.{Facts, Accepted, event_in, reply_in}
+use Rattle.iss_model.specs.rules.Due.{DueItem, due_call, due_txn, due_items, placed, is_quiet}
+use Rattle.iss_model.specs.rules.Keeper.{Growth, grow}
+use Rattle.iss_model.specs.rules.Stepping.{own_entries, settle, after_due, step}
+use Rattle.iss_model.specs.rules.Judging.{told_by, refusal, judged_as, judged_on, judge}
+use Rattle.iss_model.specs.state.Cores.{CoreState, taken_up, core_facts, core_keeper, entered}
+use Rattle.iss_core.specs.Built.{is_built}
+use Rattle.iss_agreement.proofs.JudgedAgain.{new_at, new_again}
 use Rattle.iss_core.specs.Values.{CoreNow, GivesNext, IsQuiet, Steps}
 use Rattle.iss_core.specs.States.{Made}
 use Rattle.iss_core.proofs.Refusals.{event_told, refused}

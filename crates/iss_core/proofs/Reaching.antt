@@ -8,7 +8,7 @@ use Rattle.iss_model.specs.Forms.{is_amount}
 use Rattle.iss_core.specs.Sound.{greatest_amount}
 use Rattle.iss_model.specs.declared.account.Account.{Account}
 use Rattle.iss_model.specs.Sums.{Change, changed_at, account_key}
-use Rattle.iss_model.specs.Kept.{Kept, kept_at, after_changes, AreSmall}
+use Rattle.iss_model.specs.state.Kept.{Kept, kept_at, after_changes, AreSmall}
 use Rattle.iss_model.proofs.KeptSums.{kept_at-after_changes}
 use Rattle.iss_hold.specs.Bounds.{IsWithin, AreWithin}
 use Rattle.iss_ledger.specs.Posts.{after_post}

@@ -5,9 +5,9 @@ use Rattle.iss_model.specs.declared.decision.Answer.{Answer}
 use Rattle.iss_model.specs.declared.input.Input.{Input}
 use Rattle.iss_model.specs.declared.input.Input.TheVariants as input
 use Rattle.iss_model.specs.Inputs.{event_token, is_event}
-use Rattle.iss_model.specs.Facts.{Facts, Accepted}
-use Rattle.iss_model.specs.Judging.{told_by, event_answer, refusal}
-use Rattle.iss_model.specs.Built.{is_built}
+use Rattle.iss_model.specs.rules.Facts.{Facts, Accepted}
+use Rattle.iss_model.specs.rules.Judging.{told_by, event_answer, refusal}
+use Rattle.iss_core.specs.Built.{is_built}
 
 -- what an event is told, where the input is one
 abbrev pub event_told : Facts → Input → Option (List ℕ) → Option Answer

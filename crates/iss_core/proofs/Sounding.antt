@@ -27,23 +27,22 @@ use Rattle.iss_model.specs.declared.entry.Entry.{Entry}
 use Rattle.iss_model.specs.Currencies.{same_currency}
 use Rattle.iss_model.specs.Inputs.{event_token, is_event, is_text}
 use Rattle.iss_model.specs.Sums.{user_key}
-use Rattle.iss_model.specs.Kept.{Kept, nothing_kept, kept_at}
+use Rattle.iss_model.specs.state.Kept.{Kept, nothing_kept, kept_at}
 use Rattle.iss_model.specs.Forms.{is_amount, is_mcc, is_timeout, is_hold_time, is_in_form}
-use Rattle.iss_model.specs.Settings.{user_named, card_named, product_named, is_active_user, is_active_card}
-use Rattle.iss_model.specs.Activity.{TxnNow, CallNow, is_asked, txn_named}
-use Rattle.iss_model.specs.Facts.{Facts, Accepted, available_in}
-use Rattle.iss_model.specs.Asks.{txn_begun}
-use Rattle.iss_model.specs.Reasons.{user_is, user_reason, card_reason, move_reason, card_move_reason, user_move_reason, product_reason, load_reason}
-use Rattle.iss_model.specs.CardReasons.{is_account_funded}
-use Rattle.iss_model.specs.Due.{DueItem, due_call, due_txn, placed, due_items, is_quiet}
-use Rattle.iss_model.specs.Stepping.{entries_of, unless_declined, set_by, loaded}
-use Rattle.iss_model.specs.Built.{is_built}
-use Rattle.iss_model.specs.Cores.{CoreState, no_core, ProductNow, ControlKept, control_told, with_txn, held_begun, is_live, core_facts, entered, taken_up}
+use Rattle.iss_model.specs.rules.Settings.{user_named, card_named, product_named, is_active_user, is_active_card}
+use Rattle.iss_model.specs.rules.Activity.{TxnNow, CallNow, is_asked, txn_named}
+use Rattle.iss_model.specs.rules.Facts.{Facts, Accepted, available_in}
+use Rattle.iss_model.specs.rules.Asks.{txn_begun}
+use Rattle.iss_model.specs.rules.Reasons.{user_is, user_reason, card_reason, move_reason, card_move_reason, user_move_reason, product_reason, load_reason}
+use Rattle.iss_model.specs.rules.CardReasons.{is_account_funded}
+use Rattle.iss_model.specs.rules.Due.{DueItem, due_call, due_txn, placed, due_items, is_quiet}
+use Rattle.iss_model.specs.rules.Stepping.{entries_of, unless_declined, set_by, loaded}
+use Rattle.iss_core.specs.Built.{is_built, is_built_entry}
+use Rattle.iss_model.specs.state.Cores.{CoreState, no_core, ProductNow, ControlKept, control_told, with_txn, held_begun, is_live, core_facts, entered, taken_up}
 use Rattle.iss_model.proofs.Names.{one_name}
 use Rattle.iss_model.proofs.Lists.{all_weaker}
 use Rattle.iss_hold.specs.Bounds.{IsWithin, AreWithin}
 use Rattle.iss_core.specs.declared.purchases.Purchase.{Purchase}
-use Rattle.iss_core.specs.BuiltEntries.{is_built_entry}
 use Rattle.iss_core.specs.Values.{IsQuiet}
 use Rattle.iss_core.specs.States.{Made}
 use Rattle.iss_core.specs.Purchases.{unless, bought, bought_on, bought_of, purchased, purchase_entries}

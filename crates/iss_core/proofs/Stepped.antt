@@ -12,13 +12,12 @@ use Rattle.iss_model.specs.declared.entry.Entry.{Entry}
 use Rattle.iss_model.specs.declared.entry.Entry.TheVariants as entry
 use Rattle.iss_model.specs.Inputs.{event_token}
 use Rattle.iss_model.specs.Forms.{is_in_form}
-use Rattle.iss_model.specs.Activity.{txn_named}
-use Rattle.iss_model.specs.Keeper.{Growth}
-use Rattle.iss_model.specs.Stepping.{own_entries, step}
-use Rattle.iss_model.specs.Judging.{refusal, judge}
-use Rattle.iss_model.specs.Built.{is_built}
-use Rattle.iss_model.specs.Cores.{CoreState, taken_up, core_facts, core_keeper, configured, entered}
-use Rattle.iss_core.specs.BuiltEntries.{is_built_entry}
+use Rattle.iss_model.specs.rules.Activity.{txn_named}
+use Rattle.iss_model.specs.rules.Keeper.{Growth}
+use Rattle.iss_model.specs.rules.Stepping.{own_entries, step}
+use Rattle.iss_model.specs.rules.Judging.{refusal, judge}
+use Rattle.iss_core.specs.Built.{is_built, is_built_entry}
+use Rattle.iss_model.specs.state.Cores.{CoreState, taken_up, core_facts, core_keeper, configured, entered}
 use Rattle.iss_core.specs.Values.{CoreNow, IsNext, IsQuiet, Steps}
 use Rattle.iss_core.specs.States.{Made}
 use Rattle.iss_core.specs.Sound.{IsSound, IsTakenUp}

@@ -3,7 +3,7 @@ use Rattle.std.specs.Prelude.{ℕ, Bool, false, List, Option, Some, None}
 use Rattle.std.specs.List.{filter_map}
 use Rattle.std.specs.Str.{bytes_eq}
 use Rattle.iss_model.specs.declared.entry.Entry.{Entry}
-use Rattle.iss_model.specs.Facts.{Decision, decision_of}
+use Rattle.iss_model.specs.rules.Facts.{Decision, decision_of}
 
 -- the decisions of these entries
 abbrev pub decisions_in : List Entry → List Decision

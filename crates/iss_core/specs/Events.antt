@@ -1,7 +1,7 @@
 -- The accepted events, as they are kept.
 use Rattle.std.specs.Prelude.{ℕ, Bool, List, map}
 use Rattle.iss_model.specs.Inputs.{is_event}
-use Rattle.iss_model.specs.Facts as facts
+use Rattle.iss_model.specs.rules.Facts as facts
 use Rattle.iss_core.specs.declared.events.Accepted.{Accepted}
 
 -- an event that is kept, as the book tells it

@@ -5,4 +5,4 @@ pub mod Decisions
 pub mod States
 pub mod Purchases
 pub mod Sound
-pub mod BuiltEntries
+pub mod Built

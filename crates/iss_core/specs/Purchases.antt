@@ -10,11 +10,11 @@ use Rattle.iss_model.specs.declared.decision.Verdict.TheVariants as verdict
 use Rattle.iss_model.specs.declared.entry.Entry.{Entry}
 use Rattle.iss_model.specs.declared.entry.Entry.TheVariants as entry
 use Rattle.iss_model.specs.Currencies.{same_currency}
-use Rattle.iss_model.specs.Settings.{card_named, product_named, is_active_user, is_active_card}
-use Rattle.iss_model.specs.Facts.{Facts, available_in}
-use Rattle.iss_model.specs.Asks.{txn_begun, usage_of}
-use Rattle.iss_model.specs.Reasons.{user_is}
-use Rattle.iss_model.specs.Stepping.{unless_declined}
+use Rattle.iss_model.specs.rules.Settings.{card_named, product_named, is_active_user, is_active_card}
+use Rattle.iss_model.specs.rules.Facts.{Facts, available_in}
+use Rattle.iss_model.specs.rules.Asks.{txn_begun, usage_of}
+use Rattle.iss_model.specs.rules.Reasons.{user_is}
+use Rattle.iss_model.specs.rules.Stepping.{unless_declined}
 use Rattle.iss_core.specs.declared.purchases.Purchase.{Purchase}
 
 -- a reason where its test holds, and else what comes behind it

@@ -3,10 +3,10 @@ use Rattle.std.specs.Prelude.{◌≡◌, ℕ, ◌*◌, ◌-◌, ◌^◌, ◌<◌
 use Rattle.std.specs.List.{list_all}
 use Rattle.iss_model.specs.Inputs.{is_event}
 use Rattle.iss_model.specs.Forms.{is_hold_time}
-use Rattle.iss_model.specs.Activity.{TxnNow}
-use Rattle.iss_model.specs.Facts.{Accepted}
-use Rattle.iss_model.specs.CardReasons.{is_account_funded}
-use Rattle.iss_model.specs.Cores.{CoreState, ProductNow}
+use Rattle.iss_model.specs.rules.Activity.{TxnNow}
+use Rattle.iss_model.specs.rules.Facts.{Accepted}
+use Rattle.iss_model.specs.rules.CardReasons.{is_account_funded}
+use Rattle.iss_model.specs.state.Cores.{CoreState, ProductNow}
 use Rattle.iss_hold.specs.Bounds.{AreWithin}
 
 -- the greatest amount that one record moves or holds, in minor units

@@ -3,9 +3,9 @@ use Rattle.std.specs.Prelude.{◌≡◌, ℕ, List, [], ◌∷◌, ◌++◌, fol
 use Rattle.iss_model.specs.declared.input.Input.{Input}
 use Rattle.iss_model.specs.declared.entry.Entry.{Entry}
 use Rattle.iss_model.specs.declared.decision.Verdict.{Verdict}
-use Rattle.iss_model.specs.Kept.{nothing_kept}
-use Rattle.iss_model.specs.Stepping.{entries_of}
-use Rattle.iss_model.specs.Cores.{CoreState, core_facts, entered}
+use Rattle.iss_model.specs.state.Kept.{nothing_kept}
+use Rattle.iss_model.specs.rules.Stepping.{entries_of}
+use Rattle.iss_model.specs.state.Cores.{CoreState, core_facts, entered}
 use Rattle.iss_core.specs.declared.state.State.{State}
 
 -- the state that the parts keep; what isn't built yet is empty

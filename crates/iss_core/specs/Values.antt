@@ -4,11 +4,11 @@ use Rattle.iss_model.specs.declared.input.Record.{Record}
 use Rattle.iss_model.specs.declared.entry.Entry.{Entry}
 use Rattle.iss_model.specs.declared.decision.Judged.{Judged}
 use Rattle.iss_model.specs.declared.decision.Judged.TheVariants as judged
-use Rattle.iss_model.specs.Due.{due_items, is_quiet}
-use Rattle.iss_model.specs.Stepping.{step}
-use Rattle.iss_model.specs.Judging.{judge}
-use Rattle.iss_model.specs.Histories.{history_keeper, history_of}
-use Rattle.iss_model.specs.Cores.{CoreState, core_facts, core_keeper, core_of}
+use Rattle.iss_model.specs.rules.Due.{due_items, is_quiet}
+use Rattle.iss_model.specs.rules.Stepping.{step}
+use Rattle.iss_model.specs.rules.Judging.{judge}
+use Rattle.iss_model.specs.rules.Histories.{history_keeper, history_of}
+use Rattle.iss_model.specs.state.Cores.{CoreState, core_facts, core_keeper, core_of}
 
 -- the instance of a core's device, and what stands
 pub record CoreNow : Type 0 where

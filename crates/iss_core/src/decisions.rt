@@ -1,7 +1,7 @@
 //! How events were decided.
 ghost use Rattle.std.specs.Prelude.{◌≡◌, [], ◌∷◌, ◌++◌, find, OnOk};
 ghost use Rattle.std.specs.Str.{bytes_eq};
-ghost use Rattle.iss_model.specs.Facts.{replied};
+ghost use Rattle.iss_model.specs.rules.Facts.{replied};
 
 use crate::places::enter;
 use iss_model::{Entry, Reply, Token, Verdict};
@@ -18,7 +18,7 @@ pub(crate) struct Decisions {
 
 impl Model for Decisions {
     ghost use Rattle.std.specs.Prelude.{List};
-    ghost use Rattle.iss_model.specs.Facts as facts;
+    ghost use Rattle.iss_model.specs.rules.Facts as facts;
 
     ghost Value = { List facts.Decision };
 

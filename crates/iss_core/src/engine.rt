@@ -5,13 +5,12 @@ ghost use Rattle.std.specs.FinMap as finite;
 ghost use Rattle.iss_model.specs.declared.input.Record.{Record};
 ghost use Rattle.iss_model.specs.Sums.{account_key};
 ghost use Rattle.iss_model.specs.Forms.{is_in_form, is_stamp};
-ghost use Rattle.iss_model.specs.Facts.{event_reply, balance_in, held_in};
-ghost use Rattle.iss_model.specs.BalanceLines.{accounts_of};
-ghost use Rattle.iss_model.specs.Judging.{judge};
-ghost use Rattle.iss_model.specs.Histories.{time_of, history_facts, history_keeper, history_of};
-ghost use Rattle.iss_model.specs.Cores.{no_core, core_facts, core_keeper};
-ghost use Rattle.iss_model.specs.Built.{is_built};
-ghost use Rattle.iss_core.specs.BuiltEntries.{is_built_entry};
+ghost use Rattle.iss_model.specs.rules.Facts.{event_reply, balance_in, held_in};
+ghost use Rattle.iss_model.specs.texts.BalanceLines.{accounts_of};
+ghost use Rattle.iss_model.specs.rules.Judging.{judge};
+ghost use Rattle.iss_model.specs.rules.Histories.{time_of, history_facts, history_keeper, history_of};
+ghost use Rattle.iss_model.specs.state.Cores.{no_core, core_facts, core_keeper};
+ghost use Rattle.iss_core.specs.Built.{is_built, is_built_entry};
 ghost use Rattle.iss_core.specs.Values.{StandsFor, IsNext, GivesNext, IsQuiet, Steps, StepsOnBook};
 
 use crate::state::State;
@@ -30,7 +29,7 @@ pub struct Core {
 
 impl Model for Core {
     ghost use Rattle.std.specs.Coded.{codes};
-    ghost use Rattle.iss_model.specs.Kept.{kept_code};
+    ghost use Rattle.iss_model.specs.state.Kept.{kept_code};
     ghost use Rattle.iss_core.specs.Values.{CoreNow};
 
     ghost Value = { CoreNow };

@@ -25,7 +25,7 @@ pub(crate) struct Events {
 
 impl Model for Events {
     ghost use Rattle.std.specs.Prelude.{List};
-    ghost use Rattle.iss_model.specs.Facts as facts;
+    ghost use Rattle.iss_model.specs.rules.Facts as facts;
 
     ghost Value = { List facts.Accepted };
 

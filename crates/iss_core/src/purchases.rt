@@ -2,12 +2,12 @@
 ghost use Rattle.std.specs.Prelude.{◌≡◌, ◌^◌, ◌<◌, true, fold, Some, None, IfOk, OnOk, IsTrue, int_lt, pos};
 ghost use Rattle.std.specs.List.{list_all};
 ghost use Rattle.iss_model.specs.declared.input.Input.TheVariants as input;
-ghost use Rattle.iss_model.specs.Settings.{is_active_user, is_active_card};
+ghost use Rattle.iss_model.specs.rules.Settings.{is_active_user, is_active_card};
 ghost use Rattle.iss_model.specs.Forms.{is_amount, is_stamp, is_hold_time};
-ghost use Rattle.iss_model.specs.Activity.{txn_named};
-ghost use Rattle.iss_model.specs.Facts.{available_in};
-ghost use Rattle.iss_model.specs.Reasons.{load_reason, user_is};
-ghost use Rattle.iss_model.specs.Cores.{core_facts, entered};
+ghost use Rattle.iss_model.specs.rules.Activity.{txn_named};
+ghost use Rattle.iss_model.specs.rules.Facts.{available_in};
+ghost use Rattle.iss_model.specs.rules.Reasons.{load_reason, user_is};
+ghost use Rattle.iss_model.specs.state.Cores.{core_facts, entered};
 ghost use Rattle.iss_core.specs.States.{state_of, Made};
 ghost use Rattle.iss_core.specs.Purchases.{bought, bought_on, bought_of, purchased};
 ghost use Rattle.iss_core.specs.Sound.{IsTakenUp, is_own};

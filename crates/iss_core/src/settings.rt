@@ -2,7 +2,7 @@
 ghost use Rattle.std.specs.Prelude.{◌≡◌, ◌==◌, Some, IfOk, IsTrue, is_some};
 ghost use Rattle.iss_model.specs.declared.input.Input.TheVariants as input;
 ghost use Rattle.iss_model.specs.declared.setting.Moved.TheVariants as moved;
-ghost use Rattle.iss_model.specs.Settings.{user_named, product_named};
+ghost use Rattle.iss_model.specs.rules.Settings.{user_named, product_named};
 ghost use Rattle.iss_card.specs.Standings.{fault_reason};
 ghost use Rattle.iss_product.specs.Listed.{products_in};
 ghost use Rattle.iss_core.specs.States.{state_of, Made};

@@ -3,11 +3,11 @@ ghost use Rattle.std.specs.Prelude.{◌≡◌, ℕ, ◌+◌, ◌^◌, ◌<◌, L
 ghost use Rattle.iss_model.specs.declared.decision.Verdict.TheVariants as verdict;
 ghost use Rattle.iss_model.specs.Inputs.{event_token};
 ghost use Rattle.iss_model.specs.Forms.{is_in_form, is_stamp};
-ghost use Rattle.iss_model.specs.Activity.{txn_named};
-ghost use Rattle.iss_model.specs.Judging.{refusal, told_by};
-ghost use Rattle.iss_model.specs.Stepping.{unless_declined, set_by};
-ghost use Rattle.iss_model.specs.Cores.{no_core, taken_up, core_facts};
-ghost use Rattle.iss_model.specs.Built.{is_built};
+ghost use Rattle.iss_model.specs.rules.Activity.{txn_named};
+ghost use Rattle.iss_model.specs.rules.Judging.{refusal, told_by};
+ghost use Rattle.iss_model.specs.rules.Stepping.{unless_declined, set_by};
+ghost use Rattle.iss_model.specs.state.Cores.{no_core, taken_up, core_facts};
+ghost use Rattle.iss_core.specs.Built.{is_built};
 ghost use Rattle.iss_core.specs.Events.{accepted_as};
 ghost use Rattle.iss_core.specs.States.{state_of, with_decision, Made};
 ghost use Rattle.iss_core.specs.Sound.{IsTakenUp};

@@ -10,7 +10,7 @@ use Rattle.iss_model.specs.Tokens.{is_token, is_token_byte}
 use Rattle.iss_model.specs.declared.decision.Verdict.TheVariants.{Done, Approved, Declined}
 use Rattle.iss_model.specs.declared.decision.Reply.{Reply}
 use Rattle.iss_model.specs.declared.decision.Reply.TheVariants.{Decided, Pending}
-use Rattle.iss_model.specs.Wordings.{reply_members, Value, worded, counted, Member, in_quotes, value_text, member_text, object_text, line_of}
+use Rattle.iss_model.specs.texts.Wordings.{reply_members, Value, worded, counted, Member, in_quotes, value_text, member_text, object_text, line_of}
 use Rattle.iss_event.specs.Reasons.{reply_is_plain}
 use Rattle.iss_event.specs.Plain.{is_plain_byte, is_plain, value_is_plain, are_plain, value_data, members_data, object_data}
 

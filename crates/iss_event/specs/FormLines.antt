@@ -1,6 +1,6 @@
 -- The lines for faults of form.
 use Rattle.std.specs.Prelude.{ℕ, List, [], ◌∷◌, codes}
-use Rattle.iss_model.specs.Wordings.{Member, with_text, fault_line, line_of}
+use Rattle.iss_model.specs.texts.Wordings.{Member, with_text, fault_line, line_of}
 use Rattle.iss_event.specs.declared.name.Name.{Name}
 use Rattle.iss_event.specs.declared.line.FormFault.{FormFault}
 use Rattle.iss_event.specs.declared.line.FormFault.TheVariants.{Long, Json, Field, NotBuilt}

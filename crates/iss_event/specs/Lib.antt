@@ -1,3 +1,4 @@
+pub mod Built
 pub mod Fields
 pub mod FormLines
 pub mod Kinds

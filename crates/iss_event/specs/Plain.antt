@@ -2,7 +2,7 @@
 use Rattle.std.specs.Prelude.{ℕ, ◌==◌, ◌&&◌, Bool, true, not, nat_le, List, [], ◌∷◌}
 use Rattle.std.specs.List.{list_all}
 use Rattle.serde_json.specs.Data.{Data, number, unsigned, string, object, Members, no_members, member}
-use Rattle.iss_model.specs.Wordings.{Value, worded, counted, Member}
+use Rattle.iss_model.specs.texts.Wordings.{Value, worded, counted, Member}
 
 -- no control character, quotation mark or backslash
 abbrev pub is_plain_byte : ℕ → Bool

@@ -5,7 +5,7 @@ use Rattle.iss_model.specs.declared.decision.Reason.TheVariants.{MoveCard, MoveU
 use Rattle.iss_model.specs.declared.decision.Verdict.TheVariants.{Declined}
 use Rattle.iss_model.specs.declared.decision.Reply.{Reply}
 use Rattle.iss_model.specs.declared.decision.Reply.TheVariants.{Decided}
-use Rattle.iss_model.specs.Wordings.{card_state_text, user_state_text, reason_text}
+use Rattle.iss_model.specs.texts.Wordings.{card_state_text, user_state_text, reason_text}
 use Rattle.iss_event.specs.Plain.{is_plain}
 
 -- what the reason is about, behind its name

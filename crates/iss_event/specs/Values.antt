@@ -15,7 +15,7 @@ use Rattle.iss_model.specs.Tokens.{is_token}
 use Rattle.iss_model.specs.Currencies as currencies
 use Rattle.iss_model.specs.Forms.{is_timeout, is_hold_time}
 use Rattle.iss_model.specs.Amounts.{is_digit, digits_value, if_form, amount_read, whole_amount_read}
-use Rattle.iss_model.specs.Wordings.{card_state_text, user_state_text}
+use Rattle.iss_model.specs.texts.Wordings.{card_state_text, user_state_text}
 use Rattle.iss_event.specs.declared.kind.Kind.{Kind}
 use Rattle.iss_event.specs.declared.line.Mode.{Mode}
 use Rattle.iss_event.specs.Kinds.{kind_of_text, kind_in}

@@ -1,6 +1,6 @@
 //! The texts of reasons.
 ghost use Rattle.std.specs.Prelude.{◌≡◌, ◌++◌, IfOk, OnOk, IsTrue, string_bytes, codes};
-ghost use Rattle.iss_model.specs.Wordings.{reason_text, card_state_text, user_state_text};
+ghost use Rattle.iss_model.specs.texts.Wordings.{reason_text, card_state_text, user_state_text};
 ghost use Rattle.iss_event.specs.Plain.{is_plain};
 ghost use Rattle.iss_event.specs.Reasons.{detail_text};
 
@@ -41,7 +41,7 @@ fn push_move(text: &mut String, from: &str, to: &str) -> Result<(), AllocError>
 }
 
 /// The reason's name, with a colon where something follows.
-#[tactic(auto, unfolding(iss_model::specs::Wordings::reason_text))]
+#[tactic(auto, unfolding(iss_model::specs::texts::Wordings::reason_text))]
 fn reason_name(reason: &Reason) -> &'static str
     ensures whole { reason_text reason.now ≡ result.now ++ detail_text reason.now }
     ensures plain { IsTrue (is_plain result.now) }

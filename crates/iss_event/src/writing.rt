@@ -2,8 +2,8 @@
 ghost use Rattle.std.specs.Prelude.{◌≡◌, [], ◌∷◌, ◌++◌, false, IfOk, OnOk, IsTrue, codes, string_bytes};
 ghost use Rattle.serde_json.specs.View.{view};
 ghost use Rattle.serde_json.specs.Written.{has_float, compact_text};
-ghost use Rattle.iss_model.specs.AnswerLines.{answer_members, answer_text, how_text, reply_member};
-ghost use Rattle.iss_model.specs.Wordings.{reply_members, reply_line, fault_line, line_of, with_number, with_text};
+ghost use Rattle.iss_model.specs.texts.AnswerLines.{answer_members, answer_text, how_text, reply_member};
+ghost use Rattle.iss_model.specs.texts.Wordings.{reply_members, reply_line, fault_line, line_of, with_number, with_text};
 ghost use Rattle.iss_model.specs.declared.decision.Answer.TheVariants as answer;
 ghost use Rattle.iss_event.specs.FormLines.{fault_members, field_members, form_text};
 ghost use Rattle.iss_event.specs.Names.{name_text};

@@ -7,10 +7,10 @@ use Rattle.std.specs.Ordering.{ordering_then, match_ordering}
 use Rattle.std.specs.Str.{bytes_eq}
 use Rattle.std.specs.BTreeMap.{insert_entry}
 use Rattle.iss_model.specs.declared.txn.Txn.{Txn}
-use Rattle.iss_model.specs.Due.{is_before}
-use Rattle.iss_model.specs.Activity.{TxnNow, txn_named}
-use Rattle.iss_model.specs.Kept.{Kept, nothing_kept, after_changes}
-use Rattle.iss_model.specs.Cores.{is_live, with_txn}
+use Rattle.iss_model.specs.rules.Due.{is_before}
+use Rattle.iss_model.specs.rules.Activity.{TxnNow, txn_named}
+use Rattle.iss_model.specs.state.Kept.{Kept, nothing_kept, after_changes}
+use Rattle.iss_model.specs.state.Cores.{is_live, with_txn}
 use Rattle.iss_hold.specs.declared.hold.Hold.{Hold}
 use Rattle.iss_hold.specs.Holdings.{now_of, part_sums, user_sums, holdings_of}
 use Rattle.iss_hold.specs.Expiries.{Expiry, expiry_of, item_of, with_expiry, expiries}

@@ -12,8 +12,8 @@ use Rattle.std.specs.Str.{bytes_eq}
 use Rattle.std.specs.BTreeMap.{is_at}
 use Rattle.std.specs.Map.{remove_entry, keys_of}
 use Rattle.iss_model.specs.declared.txn.Txn.{Txn}
-use Rattle.iss_model.specs.Kept.{Kept, nothing_kept, after_changes}
-use Rattle.iss_model.specs.Cores.{with_end, txn_after_end}
+use Rattle.iss_model.specs.state.Kept.{Kept, nothing_kept, after_changes}
+use Rattle.iss_model.specs.state.Cores.{with_end, txn_after_end}
 use Rattle.iss_model.specs.Sums.{Change}
 use Rattle.iss_model.proofs.Names.{name-sym, its_name}
 use Rattle.iss_hold.specs.declared.hold.Hold.{Hold}

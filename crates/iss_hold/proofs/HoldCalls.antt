@@ -15,17 +15,17 @@ use Rattle.iss_model.specs.declared.entry.Entry.TheVariants as entry
 use Rattle.iss_model.specs.declared.currency.Currency.{Currency}
 use Rattle.iss_model.specs.Currencies.{iso_number}
 use Rattle.iss_model.specs.Sums.{part_key, user_key}
-use Rattle.iss_model.specs.Kept.{nothing_kept, kept_at}
-use Rattle.iss_model.specs.Activity.{TxnNow, txn_named}
-use Rattle.iss_model.specs.Facts.{not_below}
-use Rattle.iss_model.specs.Pieces.{Parts, held, let_go, in_all, taken_to_clear, taken_to_release}
-use Rattle.iss_model.specs.Cores.{Holdings, with_hold}
+use Rattle.iss_model.specs.state.Kept.{nothing_kept, kept_at}
+use Rattle.iss_model.specs.rules.Activity.{TxnNow, txn_named}
+use Rattle.iss_model.specs.rules.Facts.{not_below}
+use Rattle.iss_model.specs.rules.Pieces.{Parts, held, let_go, in_all, taken_to_clear, taken_to_release}
+use Rattle.iss_model.specs.state.Cores.{Holdings, with_hold}
 use Rattle.std.specs.FinMap as finite
 use Rattle.std.specs.Cmp.Lexicographic.{slice_cmp}
 use Rattle.std.specs.Ordering.{nat_cmp}
 use Rattle.iss_hold.specs.declared.hold.Hold.{Hold}
 use Rattle.iss_hold.specs.Holdings.{now_of, part_of, with_part, parts_of, whole_of, part_sums, sums_from, holdings_of}
-use Rattle.iss_model.specs.Kept.{AreSmall}
+use Rattle.iss_model.specs.state.Kept.{AreSmall}
 use Rattle.iss_hold.specs.Entries.{after_holds, made_of, parts_in, let_go_to_clear, let_go_to_release}
 use Rattle.iss_model.proofs.Names.{its_name}
 use Rattle.iss_hold.specs.Sums.{sum_in}

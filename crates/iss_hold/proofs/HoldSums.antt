@@ -6,8 +6,8 @@ use Rattle.iss_model.specs.declared.account.Part.{Part}
 use Rattle.iss_model.specs.declared.account.Part.TheVariants as part
 use Rattle.iss_model.specs.declared.entry.Entry.TheVariants as entry
 use Rattle.iss_model.specs.Sums.{Change, part_key, user_key}
-use Rattle.iss_model.specs.Kept.{Kept, nothing_kept, after_change, after_changes}
-use Rattle.iss_model.specs.Cores.{with_hold}
+use Rattle.iss_model.specs.state.Kept.{Kept, nothing_kept, after_change, after_changes}
+use Rattle.iss_model.specs.state.Cores.{with_hold}
 use Rattle.iss_hold.specs.declared.hold.Hold.{Hold}
 use Rattle.iss_hold.specs.Holdings.{now_of, part_of, with_part, whole_of, part_sums, user_sums, sums_from, holdings_of}
 use Rattle.iss_hold.proofs.KeptChanges.{as_one, comes_last}

@@ -9,7 +9,7 @@ use Rattle.iss_model.specs.declared.account.Part.TheVariants as part
 use Rattle.iss_model.specs.declared.currency.Currency.{Currency}
 use Rattle.iss_model.specs.Currencies.{iso_number}
 use Rattle.iss_model.specs.Sums.{part_key, user_key}
-use Rattle.iss_model.specs.Kept.{Kept, kept_at, after_change, after_changes}
+use Rattle.iss_model.specs.state.Kept.{Kept, kept_at, after_change, after_changes}
 use Rattle.iss_model.proofs.Names.{its_name, name-sym}
 use Rattle.iss_model.proofs.KeptSums.{kept_at-after_change}
 use Rattle.iss_hold.specs.declared.hold.Hold.{Hold}

@@ -7,7 +7,7 @@ use Rattle.std.specs.Cmp.Lexicographic.{nat_list_cmp_total}
 use Rattle.std.specs.FinMap as map
 use Rattle.std.proofs.lemmas.Map.Text.{is_eq-slice_cmp}
 use Rattle.iss_model.specs.Sums.{Change}
-use Rattle.iss_model.specs.Kept.{Kept, kept_at, after_change, after_changes}
+use Rattle.iss_model.specs.state.Kept.{Kept, kept_at, after_change, after_changes}
 use Rattle.iss_model.proofs.Names.{one_name, its_name, name-sym}
 use Rattle.iss_model.proofs.KeptSums.{kept_at-after_change}
 

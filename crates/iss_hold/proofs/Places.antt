@@ -5,7 +5,7 @@ use Rattle.std.specs.Option.{option_map}
 use Rattle.std.specs.List.{list_any}
 use Rattle.std.specs.Str.{bytes_eq}
 use Rattle.iss_model.proofs.Names.{one_name, name-sym}
-use Rattle.iss_model.specs.Activity.{txn_named}
+use Rattle.iss_model.specs.rules.Activity.{txn_named}
 use Rattle.iss_hold.specs.declared.hold.Hold.{Hold}
 use Rattle.iss_hold.specs.Holdings.{now_of}
 use Rattle.iss_hold.specs.Indexes.{names, place_in}

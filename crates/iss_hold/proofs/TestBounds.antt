@@ -14,13 +14,13 @@ use Rattle.iss_model.specs.declared.txn.Txn.{Txn}
 use Rattle.iss_model.specs.declared.entry.Entry.{Entry}
 use Rattle.iss_model.specs.declared.entry.Entry.TheVariants as entry
 use Rattle.iss_model.specs.Sums.{user_key}
-use Rattle.iss_model.specs.Kept.{Kept, nothing_kept, kept_at, after_change}
-use Rattle.iss_model.specs.Activity.{TxnNow, txn_named}
-use Rattle.iss_model.specs.Pieces.{held}
-use Rattle.iss_model.specs.Cores.{Holdings, with_hold, with_txn, is_live}
+use Rattle.iss_model.specs.state.Kept.{Kept, nothing_kept, kept_at, after_change}
+use Rattle.iss_model.specs.rules.Activity.{TxnNow, txn_named}
+use Rattle.iss_model.specs.rules.Pieces.{held}
+use Rattle.iss_model.specs.state.Cores.{Holdings, with_hold, with_txn, is_live}
 use Rattle.iss_model.proofs.Names.{its_name}
 use Rattle.iss_model.proofs.KeptSums.{kept_at-after_change}
-use Rattle.iss_model.specs.Kept.{AreSmall}
+use Rattle.iss_model.specs.state.Kept.{AreSmall}
 use Rattle.iss_hold.specs.Entries.{made_of, after_holds}
 use Rattle.iss_hold.specs.Bounds.{AreBelow, IsWithin, AreWithin}
 

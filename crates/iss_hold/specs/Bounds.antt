@@ -1,8 +1,8 @@
 -- How far the holdings of a test reach.
 use Rattle.std.specs.Prelude.{◌≡◌, ℕ, nat_lt, ℤ, pos, neg_ℤ, ◌≤ℤ◌, true, List}
 use Rattle.std.specs.List.{list_all}
-use Rattle.iss_model.specs.Kept.{Kept, kept_at}
-use Rattle.iss_model.specs.Cores.{Holdings}
+use Rattle.iss_model.specs.state.Kept.{Kept, kept_at}
+use Rattle.iss_model.specs.state.Cores.{Holdings}
 
 -- each transaction's record has a lower number
 abbrev pub AreBelow : ℕ → Holdings → Type 0

@@ -3,9 +3,9 @@ use Rattle.std.specs.Prelude.{Bool, List, refl}
 use Rattle.std.specs.Coded.{Coded, code_by, coded×, coded_list, coded_bool}
 use Rattle.iss_model.specs.contracts.txn.Txn as txn
 use Rattle.iss_model.specs.declared.txn.Txn.{Txn}
-use Rattle.iss_model.specs.Kept.{Kept, kept_code}
-use Rattle.iss_model.specs.Activity.{TxnNow}
-use Rattle.iss_model.specs.Cores.{Holdings}
+use Rattle.iss_model.specs.state.Kept.{Kept, kept_code}
+use Rattle.iss_model.specs.rules.Activity.{TxnNow}
+use Rattle.iss_model.specs.state.Cores.{Holdings}
 
 -- a transaction as it stands is stored as the pair of its fields
 abbrev pub now_code : Coded TxnNow

@@ -4,11 +4,11 @@ use Rattle.iss_model.specs.declared.account.Part.TheVariants as part
 use Rattle.iss_model.specs.declared.txn.Txn.{Txn}
 use Rattle.iss_model.specs.declared.entry.Entry.{Entry}
 use Rattle.iss_model.specs.Sums.{part_key}
-use Rattle.iss_model.specs.Kept.{kept_at}
-use Rattle.iss_model.specs.Activity.{TxnNow, txn_named}
-use Rattle.iss_model.specs.Facts.{not_below}
-use Rattle.iss_model.specs.Pieces.{Parts, let_go}
-use Rattle.iss_model.specs.Cores.{Holdings, with_hold}
+use Rattle.iss_model.specs.state.Kept.{kept_at}
+use Rattle.iss_model.specs.rules.Activity.{TxnNow, txn_named}
+use Rattle.iss_model.specs.rules.Facts.{not_below}
+use Rattle.iss_model.specs.rules.Pieces.{Parts, let_go}
+use Rattle.iss_model.specs.state.Cores.{Holdings, with_hold}
 
 -- a transaction was started and hasn't ended
 abbrev pub live_now : Option TxnNow → Bool

@@ -1,7 +1,7 @@
 -- Which transactions expire, and in which order.
 use Rattle.std.specs.Prelude.{ℕ, nat_le, List, [], ◌∷◌, map, filter, fold, if◌then◌else◌}
-use Rattle.iss_model.specs.Due.{DueItem, txn_due, due_txn, is_before, placed}
-use Rattle.iss_model.specs.Cores.{Holdings}
+use Rattle.iss_model.specs.rules.Due.{DueItem, txn_due, due_txn, is_before, placed}
+use Rattle.iss_model.specs.state.Cores.{Holdings}
 use Rattle.iss_hold.specs.declared.hold.Hold.{Hold}
 
 -- the live transactions whose expiry has come, by expiry and the number of the authorisation's record

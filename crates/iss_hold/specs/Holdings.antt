@@ -3,10 +3,10 @@ use Rattle.std.specs.Prelude.{ℕ, ◌+◌, pos, List, [], ◌∷◌, map, fold}
 use Rattle.iss_model.specs.declared.account.Part.{Part}
 use Rattle.iss_model.specs.declared.account.Part.TheVariants as part
 use Rattle.iss_model.specs.Sums.{Change, part_key, user_key}
-use Rattle.iss_model.specs.Kept.{Kept, nothing_kept, after_changes}
-use Rattle.iss_model.specs.Activity.{TxnNow}
-use Rattle.iss_model.specs.Pieces.{Parts}
-use Rattle.iss_model.specs.Cores.{Holdings}
+use Rattle.iss_model.specs.state.Kept.{Kept, nothing_kept, after_changes}
+use Rattle.iss_model.specs.rules.Activity.{TxnNow}
+use Rattle.iss_model.specs.rules.Pieces.{Parts}
+use Rattle.iss_model.specs.state.Cores.{Holdings}
 use Rattle.iss_hold.specs.declared.hold.Hold.{Hold}
 
 -- the transaction of a hold as it stands

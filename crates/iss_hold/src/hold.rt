@@ -1,6 +1,6 @@
 //! What one transaction holds.
 ghost use Rattle.std.specs.Prelude.{◌≡◌, true, false, ◌+◌, ◌-◌, ◌^◌, ◌<◌};
-ghost use Rattle.iss_model.specs.Pieces.{in_all, taken_to_clear, taken_to_release};
+ghost use Rattle.iss_model.specs.rules.Pieces.{in_all, taken_to_clear, taken_to_release};
 ghost use Rattle.iss_hold.specs.Holdings.{part_of, with_part, parts_of};
 
 use iss_model::{Part, Txn};

@@ -3,12 +3,12 @@ ghost use Rattle.std.specs.Prelude.{◌≡◌, ◌-◌, ◌==◌, [], false, map
 ghost use Rattle.std.specs.List.{list_any};
 ghost use Rattle.std.specs.Option.{option_copied, option_map};
 ghost use Rattle.iss_model.specs.Sums.{part_key, user_key};
-ghost use Rattle.iss_model.specs.Kept.{nothing_kept, kept_at};
-ghost use Rattle.iss_model.specs.Activity.{txn_named};
-ghost use Rattle.iss_model.specs.Due.{txn_due};
-ghost use Rattle.iss_model.specs.Pieces.{held, in_all, taken_to_clear, taken_to_release};
-ghost use Rattle.iss_model.specs.Cores.{with_txn, with_end};
-ghost use Rattle.iss_model.specs.Kept.{AreSmall};
+ghost use Rattle.iss_model.specs.state.Kept.{nothing_kept, kept_at};
+ghost use Rattle.iss_model.specs.rules.Activity.{txn_named};
+ghost use Rattle.iss_model.specs.rules.Due.{txn_due};
+ghost use Rattle.iss_model.specs.rules.Pieces.{held, in_all, taken_to_clear, taken_to_release};
+ghost use Rattle.iss_model.specs.state.Cores.{with_txn, with_end};
+ghost use Rattle.iss_model.specs.state.Kept.{AreSmall};
 ghost use Rattle.iss_hold.specs.Entries.{live_now, after_holds, parts_in, let_go_to_clear, let_go_to_release};
 ghost use Rattle.iss_hold.specs.Expiries.{txns_due};
 
@@ -31,7 +31,7 @@ pub struct Holds {
 }
 
 impl Model for Holds {
-    ghost use Rattle.iss_model.specs.Cores.{Holdings};
+    ghost use Rattle.iss_model.specs.state.Cores.{Holdings};
     ghost use Rattle.iss_hold.specs.Codes.{holdings_code};
 
     ghost Value = { Holdings };

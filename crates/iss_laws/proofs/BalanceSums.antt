@@ -17,9 +17,9 @@ use Rattle.iss_model.specs.declared.entry.Entry.TheVariants as entry
 use Rattle.iss_model.specs.declared.input.Record.{Record}
 use Rattle.iss_model.specs.Currencies.{iso_number, same_currency}
 use Rattle.iss_model.specs.Sums.{changed_at, account_key, balance_changes}
-use Rattle.iss_model.specs.Facts.{balance_in}
-use Rattle.iss_model.specs.Histories.{History, history_facts, history_of}
-use Rattle.iss_model.specs.BalanceLines.{posted_accounts, is_reported_before, placed, joined, accounts_of}
+use Rattle.iss_model.specs.rules.Facts.{balance_in}
+use Rattle.iss_model.specs.rules.Histories.{History, history_facts, history_of}
+use Rattle.iss_model.specs.texts.BalanceLines.{posted_accounts, is_reported_before, placed, joined, accounts_of}
 use Rattle.iss_laws.specs.Balances.{currency_of, stays, in_currency, BalancesAddUp}
 use Rattle.iss_laws.proofs.Posts.{posts_stay}
 

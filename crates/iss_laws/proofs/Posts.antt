@@ -27,20 +27,20 @@ use Rattle.iss_model.specs.declared.input.Record.{Record}
 use Rattle.iss_model.specs.declared.entry.Entry.{Entry}
 use Rattle.iss_model.specs.declared.entry.Entry.TheVariants as entry
 use Rattle.iss_model.specs.Currencies.{same_currency}
-use Rattle.iss_model.specs.Activity.{TxnNow, CallNow, is_asked}
-use Rattle.iss_model.specs.Facts.{Facts, txn_in, call_in, asked_of, next_notice, is_notice}
-use Rattle.iss_model.specs.Asks.{Ask, usage_of, ask_usage, ask_given_back, call_ask}
-use Rattle.iss_model.specs.CardReasons.{is_account_funded}
-use Rattle.iss_model.specs.StandIns.{Stand, allowed, over_limit, uncovered, stand}
-use Rattle.iss_model.specs.Pieces.{abandoned_call, voided, after_abandoned, only_where, only_gateway, posted, held, let_go, user_account, Parts, parts_held, in_all, left_of, taken_to_release, taken_to_clear, use_returned, released, noticed, abandoned_calls, ended, ask_declined, ask_funded, failure_reason, stood_as, stood_in}
-use Rattle.iss_model.specs.CardEntries.{call_for, gateway_asked, funding_sought, authorized, incremented, reversed, cleared_from, cleared_to_end, cleared_on, cleared, owed_to_programme, refunded, call_failed, answered_as, of_txn, of_asked}
-use Rattle.iss_model.specs.Settings.{product_named, is_named_in}
-use Rattle.iss_model.specs.Reasons.{user_reason, card_reason, move_reason, product_reason, group_reason, control_reason, set_reason, switch_reason, load_reason}
-use Rattle.iss_model.specs.CardReasons.{authorization_reason, increment_reason, reversal_reason, clearing_reason, refund_reason}
-use Rattle.iss_model.specs.Due.{DueThing, call_due, txn_due, DueItem, due_items, expired, expired_if_live, thing_entries}
-use Rattle.iss_model.specs.Keeper.{Growth, grow}
-use Rattle.iss_model.specs.Stepping.{unless_declined, set_by, loaded, authorization_ask, increment_ask, entries_of, own_entries, settle, after_due, step}
-use Rattle.iss_model.specs.Histories.{History, nothing_yet, history_facts, numbered, history_keeper, history_of}
+use Rattle.iss_model.specs.rules.Activity.{TxnNow, CallNow, is_asked}
+use Rattle.iss_model.specs.rules.Facts.{Facts, txn_in, call_in, asked_of, next_notice, is_notice}
+use Rattle.iss_model.specs.rules.Asks.{Ask, usage_of, ask_usage, ask_given_back, call_ask}
+use Rattle.iss_model.specs.rules.CardReasons.{is_account_funded}
+use Rattle.iss_model.specs.rules.StandIns.{Stand, allowed, over_limit, uncovered, stand}
+use Rattle.iss_model.specs.rules.Pieces.{abandoned_call, voided, after_abandoned, only_where, only_gateway, posted, held, let_go, user_account, Parts, parts_held, in_all, left_of, taken_to_release, taken_to_clear, use_returned, released, noticed, abandoned_calls, ended, ask_declined, ask_funded, failure_reason, stood_as, stood_in}
+use Rattle.iss_model.specs.rules.CardEntries.{call_for, gateway_asked, funding_sought, authorized, incremented, reversed, cleared_from, cleared_to_end, cleared_on, cleared, owed_to_programme, refunded, call_failed, answered_as, of_txn, of_asked}
+use Rattle.iss_model.specs.rules.Settings.{product_named, is_named_in}
+use Rattle.iss_model.specs.rules.Reasons.{user_reason, card_reason, move_reason, product_reason, group_reason, control_reason, set_reason, switch_reason, load_reason}
+use Rattle.iss_model.specs.rules.CardReasons.{authorization_reason, increment_reason, reversal_reason, clearing_reason, refund_reason}
+use Rattle.iss_model.specs.rules.Due.{DueThing, call_due, txn_due, DueItem, due_items, expired, expired_if_live, thing_entries}
+use Rattle.iss_model.specs.rules.Keeper.{Growth, grow}
+use Rattle.iss_model.specs.rules.Stepping.{unless_declined, set_by, loaded, authorization_ask, increment_ask, entries_of, own_entries, settle, after_due, step}
+use Rattle.iss_model.specs.rules.Histories.{History, nothing_yet, history_facts, numbered, history_keeper, history_of}
 use Rattle.iss_laws.specs.Balances.{currency_of, stays, PostsStay}
 
 -- all of these posts stay

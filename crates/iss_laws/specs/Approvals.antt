@@ -13,8 +13,8 @@ use Rattle.iss_model.specs.declared.input.Input.TheVariants as input
 use Rattle.iss_model.specs.declared.entry.Row.{Row}
 use Rattle.iss_model.specs.declared.entry.Entry.{Entry}
 use Rattle.iss_model.specs.declared.entry.Entry.TheVariants as entry
-use Rattle.iss_model.specs.Facts.{Facts, Accepted, reply_in, txn_in}
-use Rattle.iss_model.specs.Histories.{History, history_facts}
+use Rattle.iss_model.specs.rules.Facts.{Facts, Accepted, reply_in, txn_in}
+use Rattle.iss_model.specs.rules.Histories.{History, history_facts}
 use Rattle.iss_laws.specs.Calls.{is_funded}
 use Rattle.iss_laws.specs.Events.{decides}
 use Rattle.iss_laws.specs.UserBalances.{pays_itself}

@@ -7,9 +7,9 @@ use Rattle.iss_model.specs.declared.account.Account.TheVariants as account
 use Rattle.iss_model.specs.declared.entry.Entry.{Entry}
 use Rattle.iss_model.specs.declared.entry.Entry.TheVariants as entry
 use Rattle.iss_model.specs.Currencies.{same_currency}
-use Rattle.iss_model.specs.Facts.{Facts, balance_in}
-use Rattle.iss_model.specs.Histories.{History, history_facts}
-use Rattle.iss_model.specs.BalanceLines.{accounts_of}
+use Rattle.iss_model.specs.rules.Facts.{Facts, balance_in}
+use Rattle.iss_model.specs.rules.Histories.{History, history_facts}
+use Rattle.iss_model.specs.texts.BalanceLines.{accounts_of}
 
 -- the currency of an account
 abbrev pub currency_of : Account → Currency

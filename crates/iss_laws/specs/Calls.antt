@@ -14,9 +14,9 @@ use Rattle.iss_model.specs.declared.entry.Entry.{Entry}
 use Rattle.iss_model.specs.declared.entry.Entry.TheVariants as entry
 use Rattle.iss_model.specs.Inputs.{is_text}
 use Rattle.iss_model.specs.Sums.{account_key}
-use Rattle.iss_model.specs.Activity.{CallNow}
-use Rattle.iss_model.specs.Facts.{Facts, call_in}
-use Rattle.iss_model.specs.Histories.{History, history_facts}
+use Rattle.iss_model.specs.rules.Activity.{CallNow}
+use Rattle.iss_model.specs.rules.Facts.{Facts, call_in}
+use Rattle.iss_model.specs.rules.Histories.{History, history_facts}
 use Rattle.iss_laws.specs.Tests.{times}
 
 -- a call was funded

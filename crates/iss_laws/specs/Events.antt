@@ -5,9 +5,9 @@ use Rattle.std.specs.Str.{bytes_eq}
 use Rattle.iss_model.specs.declared.entry.Entry.{Entry}
 use Rattle.iss_model.specs.declared.entry.Entry.TheVariants as entry
 use Rattle.iss_model.specs.Inputs.{event_token}
-use Rattle.iss_model.specs.Activity.{is_asked}
-use Rattle.iss_model.specs.Facts.{Facts}
-use Rattle.iss_model.specs.Histories.{History, history_facts}
+use Rattle.iss_model.specs.rules.Activity.{is_asked}
+use Rattle.iss_model.specs.rules.Facts.{Facts}
+use Rattle.iss_model.specs.rules.Histories.{History, history_facts}
 use Rattle.iss_laws.specs.Tests.{times}
 
 -- an entry decides this event

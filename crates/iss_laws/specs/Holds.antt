@@ -4,9 +4,9 @@ use Rattle.std.specs.List.{list_all}
 use Rattle.std.specs.Ordering.{int_eq}
 use Rattle.iss_model.specs.declared.account.Part.TheVariants as part
 use Rattle.iss_model.specs.Sums.{part_key}
-use Rattle.iss_model.specs.Activity.{TxnNow, ends_txn}
-use Rattle.iss_model.specs.Facts.{Facts}
-use Rattle.iss_model.specs.Histories.{History, history_facts}
+use Rattle.iss_model.specs.rules.Activity.{TxnNow, ends_txn}
+use Rattle.iss_model.specs.rules.Facts.{Facts}
+use Rattle.iss_model.specs.rules.Histories.{History, history_facts}
 use Rattle.iss_laws.specs.Tests.{times, not_negative}
 
 -- what a transaction holds, part by part

@@ -7,11 +7,11 @@ use Rattle.iss_model.specs.declared.account.Account.TheVariants as account
 use Rattle.iss_model.specs.declared.entry.Entry.{Entry}
 use Rattle.iss_model.specs.declared.entry.Entry.TheVariants as entry
 use Rattle.iss_model.specs.Sums.{Change, sum_at, user_key}
-use Rattle.iss_model.specs.Activity.{TxnNow}
-use Rattle.iss_model.specs.CardReasons.{is_account_funded}
-use Rattle.iss_model.specs.Facts.{Facts, txn_in, balance_in}
-use Rattle.iss_model.specs.Histories.{History, history_facts}
-use Rattle.iss_model.specs.BalanceLines.{accounts_of}
+use Rattle.iss_model.specs.rules.Activity.{TxnNow}
+use Rattle.iss_model.specs.rules.CardReasons.{is_account_funded}
+use Rattle.iss_model.specs.rules.Facts.{Facts, txn_in, balance_in}
+use Rattle.iss_model.specs.rules.Histories.{History, history_facts}
+use Rattle.iss_model.specs.texts.BalanceLines.{accounts_of}
 
 -- the user's own balance pays for a transaction
 abbrev pub pays_itself : Option TxnNow → Bool

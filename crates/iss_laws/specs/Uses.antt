@@ -3,10 +3,10 @@ use Rattle.std.specs.Prelude.{Bool, ◌&&◌}
 use Rattle.std.specs.List.{list_all}
 use Rattle.iss_model.specs.declared.setting.User.{User}
 use Rattle.iss_model.specs.declared.txn.Used.{Used}
-use Rattle.iss_model.specs.Controls.{ControlNow}
-use Rattle.iss_model.specs.Asks.{used_by}
-use Rattle.iss_model.specs.Facts.{Facts}
-use Rattle.iss_model.specs.Histories.{History, history_facts}
+use Rattle.iss_model.specs.rules.Controls.{ControlNow}
+use Rattle.iss_model.specs.rules.Asks.{used_by}
+use Rattle.iss_model.specs.rules.Facts.{Facts}
+use Rattle.iss_model.specs.rules.Histories.{History, history_facts}
 use Rattle.iss_laws.specs.Tests.{not_negative}
 
 -- neither the amount nor the count is negative

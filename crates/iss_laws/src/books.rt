@@ -8,7 +8,7 @@ ghost use Rattle.iss_laws.specs.Approvals.{approved_rightly};
 ghost use Rattle.iss_laws.specs.Uses.{use_is_not_negative};
 
 /// Each law holds of the books of the worked scripts.
-#[tactic(auto, unfolding(iss_model::specs::Stepping::step, iss_model::specs::Judging::judge, iss_model::specs::Sayings::reaction))]
+#[tactic(auto, unfolding(iss_model::specs::rules::Stepping::step, iss_model::specs::rules::Judging::judge, iss_model::specs::run::Sayings::reaction))]
 pub fn laws_of_worked_books()
     ensures calls { HoldsOfBooks each_call_once }
     ensures events { HoldsOfBooks each_event_decided }

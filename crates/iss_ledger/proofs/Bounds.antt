@@ -8,9 +8,9 @@ use Rattle.std.specs.Cmp.Lexicographic.{slice_cmp}
 use Rattle.std.specs.FinMap as map
 use Rattle.iss_model.specs.declared.account.Account.{Account}
 use Rattle.iss_model.specs.Sums.{account_key}
-use Rattle.iss_model.specs.Kept.{Kept, nothing_kept, kept_at, after_change}
+use Rattle.iss_model.specs.state.Kept.{Kept, nothing_kept, kept_at, after_change}
 use Rattle.iss_model.proofs.KeptSums.{kept_at-after_change}
-use Rattle.iss_model.specs.Kept.{AreSmall}
+use Rattle.iss_model.specs.state.Kept.{AreSmall}
 use Rattle.iss_ledger.specs.Posts.{after_post}
 use Rattle.iss_ledger.proofs.PostSums.{by}
 

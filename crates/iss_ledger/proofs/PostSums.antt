@@ -8,10 +8,10 @@ use Rattle.std.specs.Cmp.Lexicographic.{slice_cmp}
 use Rattle.std.specs.FinMap as map
 use Rattle.iss_model.specs.declared.account.Account.{Account}
 use Rattle.iss_model.specs.Sums.{Change, account_key}
-use Rattle.iss_model.specs.Kept.{Kept, nothing_kept, kept_at, after_change}
+use Rattle.iss_model.specs.state.Kept.{Kept, nothing_kept, kept_at, after_change}
 use Rattle.iss_model.proofs.Names.{one_name, its_name}
 use Rattle.iss_model.proofs.KeptSums.{kept_at-after_change}
-use Rattle.iss_model.specs.Kept.{IsSmall, AreSmall}
+use Rattle.iss_model.specs.state.Kept.{IsSmall, AreSmall}
 use Rattle.iss_ledger.specs.Posts.{after_post, moved}
 use Rattle.iss_ledger.proofs.TreeSums.{put_twice, put_back}
 use Rattle.iss_ledger.specs.Trees.{with_sum}

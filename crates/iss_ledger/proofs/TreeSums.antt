@@ -13,7 +13,7 @@ use Rattle.std.specs.BTreeMap as tree
 use Rattle.std.specs.BTreeMap.{BTreeMap, is_at}
 use Rattle.std.specs.FinMap as finite
 use Rattle.std.specs.FinMap.Entries.{below_all}
-use Rattle.iss_model.specs.Kept.{Kept, nothing_kept, kept_at, after_change}
+use Rattle.iss_model.specs.state.Kept.{Kept, nothing_kept, kept_at, after_change}
 use Rattle.iss_ledger.specs.Trees.{kept_in, IsInOrder, with_sum}
 
 abbrev order : List ℕ → List ℕ → Ordering

@@ -4,7 +4,7 @@ use Rattle.std.specs.Str.{bytes_eq}
 use Rattle.iss_model.specs.declared.account.Account.{Account}
 use Rattle.iss_model.specs.declared.entry.Entry.TheVariants as entry
 use Rattle.iss_model.specs.Sums.{account_key, balance_changes}
-use Rattle.iss_model.specs.Kept.{Kept, after_changes}
+use Rattle.iss_model.specs.state.Kept.{Kept, after_changes}
 
 -- the balances after a post
 abbrev pub after_post : Kept → Account → Account → ℕ → Kept

@@ -5,7 +5,7 @@ use Rattle.std.specs.Cmp.Lexicographic.{slice_cmp}
 use Rattle.std.specs.BTreeMap as tree
 use Rattle.std.specs.BTreeMap.{BTreeMap}
 use Rattle.std.specs.FinMap as map
-use Rattle.iss_model.specs.Kept.{Kept}
+use Rattle.iss_model.specs.state.Kept.{Kept}
 
 -- the sums that a tree holds
 abbrev pub kept_in : BTreeMap (List ℕ) ℤ → Kept

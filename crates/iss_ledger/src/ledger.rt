@@ -2,8 +2,8 @@
 ghost use Rattle.std.specs.Prelude.{◌≡◌, map, IfOk, OnOk, OnErr};
 ghost use Rattle.std.specs.FinMap as finite;
 ghost use Rattle.iss_model.specs.Sums.{account_key};
-ghost use Rattle.iss_model.specs.Kept.{nothing_kept, kept_at};
-ghost use Rattle.iss_model.specs.Kept.{AreSmall};
+ghost use Rattle.iss_model.specs.state.Kept.{nothing_kept, kept_at};
+ghost use Rattle.iss_model.specs.state.Kept.{AreSmall};
 ghost use Rattle.iss_ledger.specs.Posts.{after_post};
 
 use crate::key::AccountKey;
@@ -20,9 +20,9 @@ pub struct Ledger {
 }
 
 impl Model for Ledger {
-    ghost use Rattle.iss_model.specs.Kept.{Kept, kept_code};
+    ghost use Rattle.iss_model.specs.state.Kept.{Kept, kept_code};
     ghost use Rattle.iss_ledger.specs.Trees.{kept_in, IsInOrder};
-    ghost use Rattle.iss_model.specs.Kept.{AreSmall};
+    ghost use Rattle.iss_model.specs.state.Kept.{AreSmall};
 
     ghost Value = { Kept };
 

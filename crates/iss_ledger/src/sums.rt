@@ -3,9 +3,9 @@ ghost use Rattle.std.specs.Prelude.{◌≡◌, ◌<◌, ◌^◌, ◌+ℤ◌, pos
 ghost use Rattle.std.specs.BTreeMap as tree;
 ghost use Rattle.std.specs.Ordering.{nat_cmp};
 ghost use Rattle.std.specs.Cmp.Lexicographic.{slice_cmp};
-ghost use Rattle.iss_model.specs.Kept.{kept_at, after_change};
+ghost use Rattle.iss_model.specs.state.Kept.{kept_at, after_change};
 ghost use Rattle.iss_ledger.specs.Trees.{kept_in, IsInOrder, with_sum};
-ghost use Rattle.iss_model.specs.Kept.{IsSmall, AreSmall};
+ghost use Rattle.iss_model.specs.state.Kept.{IsSmall, AreSmall};
 ghost use Rattle.iss_ledger.specs.Posts.{after_post, moved};
 
 use crate::key::AccountKey;

@@ -10,7 +10,7 @@ use Rattle.std.proofs.lemmas.Map.Text.{is_eq-slice_cmp}
 use Rattle.iss_model.specs.declared.entry.Entry.{Entry}
 use Rattle.iss_model.specs.declared.entry.Row.{Row}
 use Rattle.iss_model.specs.Sums.{Change, changed_at, sum_at}
-use Rattle.iss_model.specs.Kept.{Kept, nothing_kept, kept_at, after_change, after_changes, kept_of}
+use Rattle.iss_model.specs.state.Kept.{Kept, nothing_kept, kept_at, after_change, after_changes, kept_of}
 use Rattle.iss_model.proofs.Names.{one_name, name-sym}
 
 -- a change at a key is what it is by, elsewhere nothing

@@ -5,8 +5,8 @@ use Rattle.std.specs.Option.{option_map, option_map_or}
 use Rattle.std.specs.Map.{lookup, keys_of, set_value}
 use Rattle.std.specs.Str.{bytes_eq}
 use Rattle.iss_model.specs.declared.setting.Product.{Product}
-use Rattle.iss_model.specs.Settings.{product_named, is_named_in}
-use Rattle.iss_model.specs.Cores.{ProductNow, with_product, with_switch}
+use Rattle.iss_model.specs.rules.Settings.{product_named, is_named_in}
+use Rattle.iss_model.specs.state.Cores.{ProductNow, with_product, with_switch}
 use Rattle.indexmap.specs.IndexMap.{insert_entry}
 use Rattle.iss_model.proofs.Names.{one_name, name-sym}
 use Rattle.iss_product.specs.declared.products.Listed.{Listed}

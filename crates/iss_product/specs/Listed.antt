@@ -4,7 +4,7 @@ use Rattle.std.specs.List.{IsDistinct}
 use Rattle.std.specs.Map.{keys_of}
 use Rattle.std.specs.Str.{bytes_eq}
 use Rattle.iss_model.specs.declared.setting.Product.{Product}
-use Rattle.iss_model.specs.Cores.{ProductNow}
+use Rattle.iss_model.specs.state.Cores.{ProductNow}
 use Rattle.iss_product.specs.declared.products.Listed.{Listed}
 
 -- the products alone

@@ -1,9 +1,9 @@
 //! The products that stand.
 ghost use Rattle.std.specs.Prelude.{◌≡◌, ◌↔◌, ◌&&◌, not, [], length, None, is_some, IsTrue, IfOk, OnOk, OnErr, IsErrOf};
 ghost use Rattle.std.specs.Option.{option_copied};
-ghost use Rattle.iss_model.specs.Settings.{default_product, product_named, is_named_in};
-ghost use Rattle.iss_model.specs.Reasons.{is_full};
-ghost use Rattle.iss_model.specs.Cores.{with_product, with_switch};
+ghost use Rattle.iss_model.specs.rules.Settings.{default_product, product_named, is_named_in};
+ghost use Rattle.iss_model.specs.rules.Reasons.{is_full};
+ghost use Rattle.iss_model.specs.state.Cores.{with_product, with_switch};
 ghost use Rattle.iss_product.specs.Listed.{products_in, switched_in};
 
 use indexmap::IndexMap;
@@ -41,7 +41,7 @@ pub struct Products {
 
 impl Model for Products {
     ghost use Rattle.std.specs.Prelude.{List};
-    ghost use Rattle.iss_model.specs.Cores.{ProductNow};
+    ghost use Rattle.iss_model.specs.state.Cores.{ProductNow};
 
     ghost Value = { List ProductNow };
 

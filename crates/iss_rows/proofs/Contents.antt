@@ -5,7 +5,7 @@ use Rattle.std.proofs.lemmas.Slice.Eq.{bytes_eq-Decides}
 use Rattle.iss_model.specs.declared.input.Input.{Input}
 use Rattle.iss_model.specs.declared.input.Record.{Record}
 use Rattle.iss_model.specs.Inputs.{same_contents}
-use Rattle.iss_model.specs.Spelling.{number_bytes, spelling, has_spelling}
+use Rattle.iss_model.specs.texts.Spelling.{number_bytes, spelling, has_spelling}
 use Rattle.iss_codec.specs.Meanings.{AreSpelledAlike}
 use Rattle.iss_codec.proofs.EqualInputs.{same_alike}
 

@@ -19,29 +19,29 @@ use Rattle.iss_model.specs.declared.entry.Entry.TheVariants as entry
 use Rattle.iss_model.specs.declared.decision.Reason.{Reason}
 use Rattle.iss_model.specs.declared.decision.Reason.TheVariants as reason
 use Rattle.iss_model.specs.declared.decision.Verdict.TheVariants as verdict
-use Rattle.iss_model.specs.Settings.{card_named, product_made, products_of, product_named, is_active_user, is_active_card}
-use Rattle.iss_model.specs.Controls.{ControlPut, ControlNow, control_put, control_now, controls_of, counting, firsts}
-use Rattle.iss_model.specs.Activity.{TxnNow, CallNow, txn_began, txn_now, txns_of, call_opened, call_now, calls_of, is_asked}
-use Rattle.iss_model.specs.Facts.{Facts, available_in}
-use Rattle.iss_model.specs.Asks.{Ask, breach, declines, txn_begun, usage_of}
-use Rattle.iss_model.specs.Reasons.{first_reason, is_some_with, user_is}
-use Rattle.iss_model.specs.CardReasons.{is_account_funded, is_in_currency, lacks_funds, control_breach, first_ask, authorization_reason}
+use Rattle.iss_model.specs.rules.Settings.{card_named, product_made, products_of, product_named, is_active_user, is_active_card}
+use Rattle.iss_model.specs.rules.Controls.{ControlPut, ControlNow, control_put, control_now, controls_of, counting, firsts}
+use Rattle.iss_model.specs.rules.Activity.{TxnNow, CallNow, txn_began, txn_now, txns_of, call_opened, call_now, calls_of, is_asked}
+use Rattle.iss_model.specs.rules.Facts.{Facts, available_in}
+use Rattle.iss_model.specs.rules.Asks.{Ask, breach, declines, txn_begun, usage_of}
+use Rattle.iss_model.specs.rules.Reasons.{first_reason, is_some_with, user_is}
+use Rattle.iss_model.specs.rules.CardReasons.{is_account_funded, is_in_currency, lacks_funds, control_breach, first_ask, authorization_reason}
 use Rattle.iss_model.specs.Currencies.{same_currency}
-use Rattle.iss_model.specs.Pieces.{held}
-use Rattle.iss_model.specs.CardEntries.{authorized, gateway_asked}
-use Rattle.iss_model.specs.Due.{DueItem, due_call, due_txn, due_items, placed, is_quiet}
-use Rattle.iss_model.specs.Judging.{judge, judged_at, judged_on}
-use Rattle.iss_model.specs.Keeper.{Growth, grow}
-use Rattle.iss_model.specs.Stepping.{step, after_due, settle, own_entries, authorization_ask, entries_of, unless_declined}
+use Rattle.iss_model.specs.rules.Pieces.{held}
+use Rattle.iss_model.specs.rules.CardEntries.{authorized, gateway_asked}
+use Rattle.iss_model.specs.rules.Due.{DueItem, due_call, due_txn, due_items, placed, is_quiet}
+use Rattle.iss_model.specs.rules.Judging.{judge, judged_at, judged_on}
+use Rattle.iss_model.specs.rules.Keeper.{Growth, grow}
+use Rattle.iss_model.specs.rules.Stepping.{step, after_due, settle, own_entries, authorization_ask, entries_of, unless_declined}
 use Rattle.iss_rows.specs.Early.{is_early_product, is_early_entry, all_early, are_early, are_spelled, IsEarly, is_short, purchase_reason, purchased}
 use Rattle.std.specs.Str.{bytes_eq}
 use Rattle.std.proofs.lemmas.List.Folds.{list_all-append}
 use Rattle.std.proofs.lemmas.List.Sums.{fold-append, AllPass-from_list_all}
 use Rattle.iss_model.specs.Forms.{is_hold_time}
-use Rattle.iss_model.specs.Spelling.{has_spelling}
+use Rattle.iss_model.specs.texts.Spelling.{has_spelling}
 use Rattle.iss_rows.specs.declared.plain.entries.Purchase.{Purchase}
 use Rattle.iss_rows.specs.Purchases.{purchased_on, purchased_of, purchase_entries}
-use Rattle.iss_model.specs.Histories.{History, history_facts, history_keeper, time_of, numbered}
+use Rattle.iss_model.specs.rules.Histories.{History, history_facts, history_keeper, time_of, numbered}
 
 both_true : (s t : Bool) → s ≡ true → t ≡ true → (s && t) ≡ true
 both_true s t p q = rw (p, q) refl

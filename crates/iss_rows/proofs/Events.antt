@@ -7,10 +7,10 @@ use Rattle.iss_model.specs.declared.input.Input.TheVariants as input
 use Rattle.iss_model.specs.declared.input.Record.{Record}
 use Rattle.iss_model.specs.declared.entry.Row.{Row}
 use Rattle.iss_model.specs.Inputs.{is_event, is_text, event_token}
-use Rattle.iss_model.specs.Facts.{Facts, Accepted, event_in}
-use Rattle.iss_model.specs.Histories.{History, history_facts, accepted_from}
-use Rattle.iss_model.specs.Judging.{told_by, event_answer, refusal}
-use Rattle.iss_model.specs.Built.{is_built}
+use Rattle.iss_model.specs.rules.Facts.{Facts, Accepted, event_in}
+use Rattle.iss_model.specs.rules.Histories.{History, history_facts, accepted_from}
+use Rattle.iss_model.specs.rules.Judging.{told_by, event_answer, refusal}
+use Rattle.iss_core.specs.Built.{is_built}
 use Rattle.iss_rows.specs.Repeats.{event_from, told_by_rows}
 
 text_of_none : (token : List ℕ) (o : Option (List ℕ)) → is_some o ≡ false → is_text token o ≡ false

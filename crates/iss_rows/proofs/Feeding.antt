@@ -6,13 +6,13 @@ use Rattle.iss_model.specs.declared.input.Record.{Record}
 use Rattle.iss_model.specs.declared.input.Input.{Input}
 use Rattle.iss_model.specs.declared.decision.Judged.{Judged}
 use Rattle.iss_model.specs.declared.decision.Judged.TheVariants as judged
-use Rattle.iss_model.specs.Stepping.{step, settle}
-use Rattle.iss_model.specs.Judging.{judge}
-use Rattle.iss_model.specs.Histories.{History, history_facts, history_keeper, nothing_yet}
-use Rattle.iss_model.specs.Transcripts.{Reading, sound, faulty, Text, transcript, after_line, bytes_of}
-use Rattle.iss_model.specs.Sayings.{reaction, reaction_as}
-use Rattle.iss_model.specs.Keeper.{Growth}
-use Rattle.iss_model.specs.Due.{DueItem, due_items}
+use Rattle.iss_model.specs.rules.Stepping.{step, settle}
+use Rattle.iss_model.specs.rules.Judging.{judge}
+use Rattle.iss_model.specs.rules.Histories.{History, history_facts, history_keeper, nothing_yet}
+use Rattle.iss_model.specs.run.Transcripts.{Reading, sound, faulty, Text, transcript, after_line, bytes_of}
+use Rattle.iss_model.specs.run.Sayings.{reaction, reaction_as}
+use Rattle.iss_model.specs.rules.Keeper.{Growth}
+use Rattle.iss_model.specs.rules.Due.{DueItem, due_items}
 use Rattle.iss_top.specs.Lines.{is_blank, onto_first, parts_of}
 use Rattle.iss_top.specs.Dry.{reading_of, dry_output}
 use Rattle.iss_top.proofs.Feeding.{some_parts}

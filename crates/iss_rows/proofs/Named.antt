@@ -5,7 +5,7 @@ use Rattle.std.specs.Str.{bytes_eq}
 use Rattle.iss_model.specs.declared.setting.User.{User}
 use Rattle.iss_model.specs.declared.setting.Card.{Card}
 use Rattle.iss_model.specs.declared.entry.Row.{Row}
-use Rattle.iss_model.specs.Settings.{user_now, users_of, user_named, card_now, cards_of, card_named}
+use Rattle.iss_model.specs.rules.Settings.{user_now, users_of, user_named, card_now, cards_of, card_named}
 use Rattle.iss_rows.specs.Early.{users_made, cards_made}
 
 users_now : (rows : List Row) (name : List ℕ) (users : List User) → user_named name (map (user_now rows) users) ≡ option_map (user_now rows) (user_named name users)

@@ -6,15 +6,15 @@ use Rattle.iss_model.specs.declared.input.Record.{Record}
 use Rattle.iss_model.specs.declared.decision.Answer.{Answer}
 use Rattle.iss_model.specs.declared.input.Input.TheVariants as input
 use Rattle.iss_model.specs.declared.decision.Judged.{Judged}
-use Rattle.iss_model.specs.AnswerLines.{answer_text}
-use Rattle.iss_model.specs.Sayings.{Said, said_of_time, Reaction, reaction, reaction_as, reaction_to_record}
-use Rattle.iss_model.specs.Built.{is_built}
+use Rattle.iss_model.specs.texts.AnswerLines.{answer_text}
+use Rattle.iss_model.specs.run.Sayings.{Said, said_of_time, Reaction, reaction, reaction_as, reaction_to_record}
+use Rattle.iss_core.specs.Built.{is_built}
 use Rattle.iss_rows.specs.Early.{IsEarly}
 use Rattle.iss_rows.proofs.Early.{early_judge}
-use Rattle.iss_model.specs.Stepping.{step}
-use Rattle.iss_model.specs.Judging.{judged_as, refusal}
-use Rattle.iss_model.specs.Histories.{History, history_facts, history_keeper}
-use Rattle.iss_model.specs.Transcripts.{sound, Told, told_by_reaction, after_line, at_level, bytes_of}
+use Rattle.iss_model.specs.rules.Stepping.{step}
+use Rattle.iss_model.specs.rules.Judging.{judged_as, refusal}
+use Rattle.iss_model.specs.rules.Histories.{History, history_facts, history_keeper}
+use Rattle.iss_model.specs.run.Transcripts.{sound, Told, told_by_reaction, after_line, at_level, bytes_of}
 use Rattle.iss_event.specs.declared.line.Line.{Line}
 use Rattle.iss_event.specs.declared.line.Mode.TheVariants.{Lines}
 use Rattle.iss_event.specs.declared.line.FormFault.{FormFault}

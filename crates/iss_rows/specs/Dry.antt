@@ -1,7 +1,7 @@
 -- What the lines of a dry run are told on the plain book, in a row.
 use Rattle.std.specs.Prelude.{ℕ, List, [], ◌∷◌, ◌++◌, if◌then◌else◌}
-use Rattle.iss_model.specs.Histories.{History, history_keeper}
-use Rattle.iss_model.specs.Transcripts.{Told, after_line, bytes_of}
+use Rattle.iss_model.specs.rules.Histories.{History, history_keeper}
+use Rattle.iss_model.specs.run.Transcripts.{Told, after_line, bytes_of}
 use Rattle.iss_top.specs.Lines.{is_blank, onto_first, parts_of}
 use Rattle.iss_top.specs.Dry.{reading_of}
 

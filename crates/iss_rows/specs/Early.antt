@@ -15,14 +15,14 @@ use Rattle.iss_model.specs.declared.entry.Entry.TheVariants as entry
 use Rattle.iss_model.specs.declared.decision.Reason.{Reason}
 use Rattle.iss_model.specs.declared.decision.Reason.TheVariants as reason
 use Rattle.iss_model.specs.declared.decision.Verdict.TheVariants as verdict
-use Rattle.iss_model.specs.Settings.{user_made, card_made, card_named, product_made, product_named, is_active_user, is_active_card}
+use Rattle.iss_model.specs.rules.Settings.{user_made, card_made, card_named, product_made, product_named, is_active_user, is_active_card}
 use Rattle.iss_model.specs.Forms.{is_hold_time}
-use Rattle.iss_model.specs.Spelling.{has_spelling}
-use Rattle.iss_model.specs.Facts.{Facts, available_in}
-use Rattle.iss_model.specs.Asks.{usage_of}
-use Rattle.iss_model.specs.Reasons.{first_reason, is_some_with, user_is}
-use Rattle.iss_model.specs.CardReasons.{is_account_funded, is_in_currency}
-use Rattle.iss_model.specs.Histories.{History, time_of}
+use Rattle.iss_model.specs.texts.Spelling.{has_spelling}
+use Rattle.iss_model.specs.rules.Facts.{Facts, available_in}
+use Rattle.iss_model.specs.rules.Asks.{usage_of}
+use Rattle.iss_model.specs.rules.Reasons.{first_reason, is_some_with, user_is}
+use Rattle.iss_model.specs.rules.CardReasons.{is_account_funded, is_in_currency}
+use Rattle.iss_model.specs.rules.Histories.{History, time_of}
 
 -- the user's own balance pays, and what is held is held for a day at least
 abbrev pub is_early_product : Product → Bool

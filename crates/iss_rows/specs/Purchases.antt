@@ -3,10 +3,10 @@ use Rattle.std.specs.Prelude.{List, [], Option, Some, None}
 use Rattle.iss_model.specs.declared.setting.Card.{Card}
 use Rattle.iss_model.specs.declared.setting.Product.{Product}
 use Rattle.iss_model.specs.declared.entry.Entry.{Entry}
-use Rattle.iss_model.specs.Settings.{card_named, product_named}
-use Rattle.iss_model.specs.Facts.{Facts}
-use Rattle.iss_model.specs.Asks.{txn_begun}
-use Rattle.iss_model.specs.Stepping.{unless_declined}
+use Rattle.iss_model.specs.rules.Settings.{card_named, product_named}
+use Rattle.iss_model.specs.rules.Facts.{Facts}
+use Rattle.iss_model.specs.rules.Asks.{txn_begun}
+use Rattle.iss_model.specs.rules.Stepping.{unless_declined}
 use Rattle.iss_rows.specs.declared.plain.entries.Purchase.{Purchase}
 use Rattle.iss_rows.specs.Early.{purchase_reason, purchased}
 

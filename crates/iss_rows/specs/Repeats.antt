@@ -8,9 +8,9 @@ use Rattle.iss_model.specs.declared.entry.Row.{Row}
 use Rattle.iss_model.specs.declared.decision.Answer.{Answer}
 use Rattle.iss_model.specs.declared.decision.Reply.{Reply}
 use Rattle.iss_model.specs.Inputs.{is_event}
-use Rattle.iss_model.specs.Facts.{Accepted, decision_of, replied}
-use Rattle.iss_model.specs.Histories.{history_facts, accepted_from}
-use Rattle.iss_model.specs.Judging.{told_by}
+use Rattle.iss_model.specs.rules.Facts.{Accepted, decision_of, replied}
+use Rattle.iss_model.specs.rules.Histories.{history_facts, accepted_from}
+use Rattle.iss_model.specs.rules.Judging.{told_by}
 
 -- the first record of an event among records that are numbered from n on
 abbrev pub event_from : ℕ → List ℕ → List Record → Option Accepted

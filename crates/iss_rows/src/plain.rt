@@ -10,10 +10,10 @@ mod settings;
 mod sums;
 
 ghost use Rattle.std.specs.Prelude.{◌≡◌, ◌+◌, ◌<◌, ◌^◌, ◌++◌, [], length, true, None, IfOk, OnOk, IsTrue};
-ghost use Rattle.iss_model.specs.Built.{is_built};
+ghost use Rattle.iss_core.specs.Built.{is_built};
 ghost use Rattle.iss_model.specs.Forms.{is_in_form};
-ghost use Rattle.iss_model.specs.Histories.{history_keeper};
-ghost use Rattle.iss_model.specs.Transcripts.{sound, after_line, bytes_of};
+ghost use Rattle.iss_model.specs.rules.Histories.{history_keeper};
+ghost use Rattle.iss_model.specs.run.Transcripts.{sound, after_line, bytes_of};
 ghost use Rattle.iss_top.specs.Lines.{is_blank, is_blank_byte};
 ghost use Rattle.iss_top.specs.Dry.{dry_output};
 ghost use Rattle.iss_rows.specs.Dry.{told_of, line_text, line_next};

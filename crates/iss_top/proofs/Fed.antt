@@ -2,7 +2,7 @@
 use Rattle.std.proofs.Common.{◌≡◌, ℕ, ◌+◌, ◌<◌, false, nat_eq, List, [], ◌∷◌, ◌++◌, length, get_or, take, drop, refl, sym, ap, subst, ◌∙◌, append_assoc}
 use Rattle.std.proofs.lemmas.List.{take-append-drop, take_more}
 use Rattle.iss_edge.specs.World.{World}
-use Rattle.iss_model.specs.Cores.{CoreState}
+use Rattle.iss_model.specs.state.Cores.{CoreState}
 use Rattle.iss_top.specs.Lines.{kept_with}
 use Rattle.iss_top.specs.Progress.{line_text, line_next, text_to_come, Says, SaysFront, Fed, FedPart}
 use Rattle.iss_top.proofs.Saying.{says_nothing, says_then}

@@ -7,15 +7,15 @@ use Rattle.std.proofs.lemmas.Bool.Decides.{nat_tests}
 use Rattle.iss_model.specs.declared.input.Record.{Record}
 use Rattle.iss_model.specs.declared.decision.Judged.{Judged}
 use Rattle.iss_model.specs.declared.decision.Judged.TheVariants as judged
-use Rattle.iss_model.specs.Judging.{judge}
-use Rattle.iss_model.specs.Cores.{CoreState, taken_up, core_facts, core_keeper}
+use Rattle.iss_model.specs.rules.Judging.{judge}
+use Rattle.iss_model.specs.state.Cores.{CoreState, taken_up, core_facts, core_keeper}
 use Rattle.iss_core.proofs.Stepped.{all_entered_count}
-use Rattle.iss_model.specs.Transcripts.{sound, after_line, bytes_of}
-use Rattle.iss_model.specs.Sayings.{reaction, reaction_as}
-use Rattle.iss_model.specs.Keeper.{Growth}
-use Rattle.iss_model.specs.Due.{DueItem, due_items, thing_entries}
+use Rattle.iss_model.specs.run.Transcripts.{sound, after_line, bytes_of}
+use Rattle.iss_model.specs.run.Sayings.{reaction, reaction_as}
+use Rattle.iss_model.specs.rules.Keeper.{Growth}
+use Rattle.iss_model.specs.rules.Due.{DueItem, due_items, thing_entries}
 use Rattle.iss_model.specs.declared.input.Input.{Input}
-use Rattle.iss_model.specs.Stepping.{own_entries, settle, step}
+use Rattle.iss_model.specs.rules.Stepping.{own_entries, settle, step}
 use Rattle.iss_event.specs.declared.line.Mode.TheVariants.{Lines}
 use Rattle.iss_event.specs.declared.line.FormFault.TheVariants.{Long}
 use Rattle.iss_event.specs.declared.line.Line.{Line}

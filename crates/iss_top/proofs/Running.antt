@@ -3,9 +3,9 @@ use Rattle.std.proofs.Common.{◌≡◌, ℕ, ◌+◌, ◌≤◌, Bool, true, fa
 use Rattle.std.proofs.lemmas.List.{length-take}
 use Rattle.iss_edge.specs.World.{World}
 use Rattle.iss_edge.specs.Calls.{Same, Takes}
-use Rattle.iss_model.specs.Cores.{CoreState, no_core, core_keeper}
-use Rattle.iss_model.proofs.CoreOfBook.{core_transcript}
-use Rattle.iss_model.specs.Transcripts.{Text, transcript, bytes_of}
+use Rattle.iss_model.specs.state.Cores.{CoreState, no_core, core_keeper}
+use Rattle.iss_agreement.proofs.CoreOfBook.{core_transcript}
+use Rattle.iss_model.specs.run.Transcripts.{Text, transcript, bytes_of}
 use Rattle.iss_top.specs.Lines.{is_blank, parts_of, lines_of}
 use Rattle.iss_top.specs.Dry.{reading_of, told_of, dry_output}
 use Rattle.iss_top.specs.Progress.{line_text, line_next, lines_text, text_to_come, Says, SaysFront, Fed, Begins, FedPart}

@@ -10,13 +10,13 @@ use Rattle.iss_model.specs.declared.entry.Entry.{Entry}
 use Rattle.iss_model.specs.declared.decision.Answer.{Answer}
 use Rattle.iss_model.specs.declared.decision.Judged.{Judged}
 use Rattle.iss_model.specs.declared.decision.Judged.TheVariants as judged
-use Rattle.iss_model.specs.AnswerLines.{answer_text}
-use Rattle.iss_model.specs.Built.{is_built}
-use Rattle.iss_model.specs.Stepping.{step}
-use Rattle.iss_model.specs.Judging.{judge}
-use Rattle.iss_model.specs.Cores.{CoreState, core_keeper}
-use Rattle.iss_model.specs.Sayings.{Said, said_by, said_of_time, reaction, reaction_as, reaction_to_record}
-use Rattle.iss_model.specs.Transcripts.{sound, faulty, Told, told_by_reaction, after_line, at_level, bytes_of, said_text, entry_texts}
+use Rattle.iss_model.specs.texts.AnswerLines.{answer_text}
+use Rattle.iss_core.specs.Built.{is_built}
+use Rattle.iss_model.specs.rules.Stepping.{step}
+use Rattle.iss_model.specs.rules.Judging.{judge}
+use Rattle.iss_model.specs.state.Cores.{CoreState, core_keeper}
+use Rattle.iss_model.specs.run.Sayings.{Said, said_by, said_of_time, reaction, reaction_as, reaction_to_record}
+use Rattle.iss_model.specs.run.Transcripts.{sound, faulty, Told, told_by_reaction, after_line, at_level, bytes_of, said_text, entry_texts}
 use Rattle.iss_core.specs.Values.{IsQuiet}
 use Rattle.iss_core.proofs.Quiet.{new_record}
 use Rattle.iss_core.proofs.Stepped.{step_time}

@@ -2,7 +2,7 @@
 use Rattle.std.proofs.Common.{◌≡◌, ℕ, ◌+◌, ◌*◌, ◌<◌, ◌≤◌, false, nat_eq, List, [], ◌∷◌, length, get_or, take, Option, refl, arith}
 use Rattle.iss_edge.specs.World.{World, Told}
 use Rattle.iss_edge.proofs.Tolds.{told_map, told_then, told_self}
-use Rattle.iss_model.specs.Cores.{CoreState}
+use Rattle.iss_model.specs.state.Cores.{CoreState}
 use Rattle.iss_top.specs.Lines.{kept_with}
 use Rattle.iss_top.specs.Progress.{line_text, line_next, Says, SaysFront, Fed, FedPart}
 use Rattle.iss_top.proofs.Saying.{says_nothing}

@@ -4,7 +4,7 @@ use Rattle.std.proofs.Math.Nat.{eq-or-lt_of_le}
 use Rattle.iss_edge.specs.World.{World, Told, Faults}
 use Rattle.iss_edge.specs.Calls.{Same, Takes}
 use Rattle.iss_edge.proofs.Tolds.{told_then, told_self}
-use Rattle.iss_model.specs.Cores.{CoreState, no_core}
+use Rattle.iss_model.specs.state.Cores.{CoreState, no_core}
 use Rattle.iss_top.specs.declared.stop.Stop.{Stop}
 use Rattle.iss_top.specs.declared.stop.Stop.TheVariants as stop
 use Rattle.iss_top.specs.Statuses.{status_of}

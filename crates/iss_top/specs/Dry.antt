@@ -2,9 +2,9 @@
 use Rattle.std.specs.Prelude.{ℕ, List, map, Result, Ok, Err}
 use Rattle.std.specs.List.{concat, flat_map}
 use Rattle.iss_model.specs.declared.entry.Entry.{Entry}
-use Rattle.iss_model.specs.Histories.{nothing_yet, history_keeper}
-use Rattle.iss_model.specs.Cores.{CoreState, core_keeper}
-use Rattle.iss_model.specs.Transcripts.{Reading, sound, faulty, Text, Told, transcript, after_line, bytes_of, entry_texts}
+use Rattle.iss_model.specs.rules.Histories.{nothing_yet, history_keeper}
+use Rattle.iss_model.specs.state.Cores.{CoreState, core_keeper}
+use Rattle.iss_model.specs.run.Transcripts.{Reading, sound, faulty, Text, Told, transcript, after_line, bytes_of, entry_texts}
 use Rattle.iss_event.specs.declared.line.Line.{Line}
 use Rattle.iss_event.specs.declared.line.Mode.TheVariants.{Lines}
 use Rattle.iss_event.specs.declared.line.FormFault.{FormFault}

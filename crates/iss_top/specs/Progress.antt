@@ -4,8 +4,8 @@ use Rattle.std.specs.List.{list_all}
 use Rattle.iss_edge.specs.declared.outside.Action.{Action}
 use Rattle.iss_edge.specs.declared.outside.Action.TheVariants.{Write, Sync, Emit, Dial, Close}
 use Rattle.iss_edge.specs.World.{World, Faults, Later, Rose, sent_on}
-use Rattle.iss_model.specs.Cores.{CoreState}
-use Rattle.iss_model.specs.Transcripts.{bytes_of}
+use Rattle.iss_model.specs.state.Cores.{CoreState}
+use Rattle.iss_model.specs.run.Transcripts.{bytes_of}
 use Rattle.iss_top.specs.declared.stop.Stop.{Stop}
 use Rattle.iss_top.specs.declared.stop.Stop.TheVariants as stop
 use Rattle.iss_top.specs.Lines.{is_blank, onto_first, parts_of}

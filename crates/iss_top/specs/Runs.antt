@@ -1,7 +1,7 @@
 -- What a run does, whatever status it ends with.
 use Rattle.std.specs.Prelude.{◌≡◌, ℕ, ◌≤◌, ◌↔◌, ◌⊎◌, List, [], ◌++◌, length, IfErr, Result}
 use Rattle.iss_edge.specs.World.{World, Faults, Later, Rose}
-use Rattle.iss_model.specs.Cores.{CoreState, no_core}
+use Rattle.iss_model.specs.state.Cores.{CoreState, no_core}
 use Rattle.iss_top.specs.declared.stop.Stop.{Stop}
 use Rattle.iss_top.specs.declared.stop.Stop.TheVariants as stop
 use Rattle.iss_top.specs.Dry.{dry_output}

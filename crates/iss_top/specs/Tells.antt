@@ -1,9 +1,9 @@
 -- What a line leaves and is told, as a call answers it.
 use Rattle.std.specs.Prelude.{◌≡◌, ℕ, List}
 use Rattle.iss_model.specs.declared.input.Record.{Record}
-use Rattle.iss_model.specs.Stepping.{step}
-use Rattle.iss_model.specs.Cores.{CoreState, core_keeper}
-use Rattle.iss_model.specs.Transcripts.{Told, bytes_of}
+use Rattle.iss_model.specs.rules.Stepping.{step}
+use Rattle.iss_model.specs.state.Cores.{CoreState, core_keeper}
+use Rattle.iss_model.specs.run.Transcripts.{Told, bytes_of}
 use Rattle.iss_top.specs.Dry.{entries_text}
 
 -- this state stands behind a line, and these bytes are its texts

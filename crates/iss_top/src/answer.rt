@@ -1,11 +1,10 @@
 //! What a line is told.
 ghost use Rattle.std.specs.Prelude.{◌≡◌, ◌<◌, true, None, IfOk, IsTrue};
 ghost use Rattle.std.specs.List.{list_all};
-ghost use Rattle.iss_model.specs.Built.{is_built};
-ghost use Rattle.iss_model.specs.Cores.{core_keeper};
+ghost use Rattle.iss_core.specs.Built.{is_built, is_built_entry};
+ghost use Rattle.iss_model.specs.state.Cores.{core_keeper};
 ghost use Rattle.iss_model.specs.Forms.{is_in_form};
-ghost use Rattle.iss_model.specs.Transcripts.{sound, after_line, bytes_of};
-ghost use Rattle.iss_core.specs.BuiltEntries.{is_built_entry};
+ghost use Rattle.iss_model.specs.run.Transcripts.{sound, after_line, bytes_of};
 ghost use Rattle.iss_core.specs.Values.{IsNext};
 ghost use Rattle.iss_top.specs.Dry.{told_of, entries_text};
 ghost use Rattle.iss_top.specs.Start.{IsAtStart};

@@ -1,16 +1,16 @@
 //! The book in its plainest form: the records and the rows, as lists.
 ghost use Rattle.std.specs.Prelude.{◌≡◌, ◌+◌, ◌^◌, ◌<◌, ◌++◌, ◌∷◌, [], length, true, IfOk, OnOk, OnErr, IsTrue};
-ghost use Rattle.iss_model.specs.Settings.{user_named, card_named, product_named, users_of, cards_of, products_of};
-ghost use Rattle.iss_model.specs.Asks.{txn_begun};
+ghost use Rattle.iss_model.specs.rules.Settings.{user_named, card_named, product_named, users_of, cards_of, products_of};
+ghost use Rattle.iss_model.specs.rules.Asks.{txn_begun};
 ghost use Rattle.iss_model.specs.declared.input.Input.TheVariants as input;
-ghost use Rattle.iss_model.specs.Built.{is_built};
-ghost use Rattle.iss_model.specs.Judging.{refusal};
-ghost use Rattle.iss_model.specs.Reasons.{is_full};
-ghost use Rattle.iss_model.specs.Stepping.{entries_of, step};
-ghost use Rattle.iss_model.specs.Spelling.{has_spelling};
+ghost use Rattle.iss_core.specs.Built.{is_built};
+ghost use Rattle.iss_model.specs.rules.Judging.{refusal};
+ghost use Rattle.iss_model.specs.rules.Reasons.{is_full};
+ghost use Rattle.iss_model.specs.rules.Stepping.{entries_of, step};
+ghost use Rattle.iss_model.specs.texts.Spelling.{has_spelling};
 ghost use Rattle.iss_model.specs.Forms.{is_in_form, is_amount};
-ghost use Rattle.iss_model.specs.Histories.{history_facts, history_keeper, time_of, numbered};
-ghost use Rattle.iss_model.specs.Facts.{available_in};
+ghost use Rattle.iss_model.specs.rules.Histories.{history_facts, history_keeper, time_of, numbered};
+ghost use Rattle.iss_model.specs.rules.Facts.{available_in};
 ghost use Rattle.iss_rows.specs.Early.{all_early, IsEarly};
 ghost use Rattle.iss_rows.specs.Purchases.{purchase_entries};
 ghost use Rattle.iss_top.specs.Dry.{entries_text};
@@ -33,7 +33,7 @@ pub(crate) struct Book {
 }
 
 impl Model for Book {
-    ghost use Rattle.iss_model.specs.Histories.{History};
+    ghost use Rattle.iss_model.specs.rules.Histories.{History};
 
     ghost Value = { History };
 
@@ -45,7 +45,7 @@ impl Model for Book {
 }
 
 impl Book {
-    ghost use Rattle.iss_model.specs.Histories.{nothing_yet};
+    ghost use Rattle.iss_model.specs.rules.Histories.{nothing_yet};
 
     pub(crate) fn new(alloc: Global) -> Book
         ensures { result ≡ nothing_yet }

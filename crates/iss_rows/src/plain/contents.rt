@@ -1,9 +1,9 @@
 //! Whether two inputs say the same, by their spelling.
 ghost use Rattle.std.specs.Prelude.{◌≡◌, true, IfOk};
 ghost use Rattle.std.specs.List.{list_all};
-ghost use Rattle.iss_model.specs.Built.{is_built};
+ghost use Rattle.iss_core.specs.Built.{is_built};
 ghost use Rattle.iss_model.specs.Inputs.{same_contents};
-ghost use Rattle.iss_model.specs.Spelling.{spelling, has_spelling, tokens_of};
+ghost use Rattle.iss_model.specs.texts.Spelling.{spelling, has_spelling, tokens_of};
 ghost use Rattle.iss_model.specs.Tokens.{is_token};
 
 use iss_codec::encode;

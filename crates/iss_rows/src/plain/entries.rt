@@ -1,6 +1,6 @@
 //! The entries of the inputs that are built.
 ghost use Rattle.std.specs.Prelude.{◌≡◌, ◌<◌, ◌^◌, [], IfOk, Some};
-ghost use Rattle.iss_model.specs.Stepping.{unless_declined, set_by, loaded};
+ghost use Rattle.iss_model.specs.rules.Stepping.{unless_declined, set_by, loaded};
 ghost use Rattle.iss_rows.specs.Early.{purchased};
 
 use iss_model::{Account, Currency, Entry, Input, Part, Reason, Token, Txn, UsageRow, Verdict};

@@ -1,8 +1,8 @@
 //! What an event that stands is told.
 ghost use Rattle.std.specs.Prelude.{◌≡◌, ◌^◌, ◌<◌, length, true, Some, IfOk};
 ghost use Rattle.iss_model.specs.Inputs.{is_event};
-ghost use Rattle.iss_model.specs.Histories.{time_of};
-ghost use Rattle.iss_model.specs.Spelling.{has_spelling};
+ghost use Rattle.iss_model.specs.rules.Histories.{time_of};
+ghost use Rattle.iss_model.specs.texts.Spelling.{has_spelling};
 ghost use Rattle.iss_rows.specs.Early.{are_spelled};
 ghost use Rattle.iss_rows.specs.Repeats.{event_from, told_by_rows, reply_by};
 

@@ -1,7 +1,7 @@
 //! Which moves of cards and users are allowed.
 ghost use Rattle.std.specs.Prelude.{◌≡◌};
-ghost use Rattle.iss_model.specs.Reasons.{card_move_reason, user_move_reason};
-ghost use Rattle.iss_model.specs.Settings.{card_may_move, user_may_move};
+ghost use Rattle.iss_model.specs.rules.Reasons.{card_move_reason, user_move_reason};
+ghost use Rattle.iss_model.specs.rules.Settings.{card_may_move, user_may_move};
 
 use iss_model::{Card, CardState, Reason, User, UserState};
 

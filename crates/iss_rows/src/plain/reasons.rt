@@ -1,9 +1,9 @@
 //! Why an input is declined: the first of its reasons that holds.
 ghost use Rattle.std.specs.Prelude.{◌≡◌};
-ghost use Rattle.iss_model.specs.Settings.{is_active_user, is_active_card, is_closed_user};
-ghost use Rattle.iss_model.specs.CardReasons.{is_account_funded, is_in_currency};
-ghost use Rattle.iss_model.specs.Reasons.{user_reason, card_reason, move_reason, product_reason, load_reason, user_is};
-ghost use Rattle.iss_model.specs.Histories.{history_facts};
+ghost use Rattle.iss_model.specs.rules.Settings.{is_active_user, is_active_card, is_closed_user};
+ghost use Rattle.iss_model.specs.rules.CardReasons.{is_account_funded, is_in_currency};
+ghost use Rattle.iss_model.specs.rules.Reasons.{user_reason, card_reason, move_reason, product_reason, load_reason, user_is};
+ghost use Rattle.iss_model.specs.rules.Histories.{history_facts};
 ghost use Rattle.iss_rows.specs.Early.{is_short, purchase_reason};
 
 use super::book::Book;

@@ -1,9 +1,9 @@
 //! Users, cards and products, each by going over all rows: as it was made, with what its last rows change.
 ghost use Rattle.std.specs.Prelude.{◌≡◌, ◌<◌, ◌^◌, length};
 ghost use Rattle.std.specs.Str.{bytes_eq};
-ghost use Rattle.iss_model.specs.Reasons.{is_full};
+ghost use Rattle.iss_model.specs.rules.Reasons.{is_full};
 ghost use Rattle.iss_rows.specs.Early.{users_made, cards_made, products_made};
-ghost use Rattle.iss_model.specs.Settings.{user_made, user_moved, user_now, users_of, user_named, card_made, card_moved, card_now, cards_of, card_named, product_made, products_of, product_named, default_product, first_card_state};
+ghost use Rattle.iss_model.specs.rules.Settings.{user_made, user_moved, user_now, users_of, user_named, card_made, card_moved, card_now, cards_of, card_named, product_made, products_of, product_named, default_product, first_card_state};
 
 use iss_model::{
     Card, CardState, Currency, Entry, Funding, Input, Moved, Product, Row, Token, User, UserState,

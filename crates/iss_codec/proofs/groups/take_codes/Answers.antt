@@ -1,6 +1,6 @@
 use Rattle.std.proofs.Common.{◌++◌, ◌∷◌, [], sym}
 use Rattle.iss_codec.proofs.Codes.{goes_on, ends, is_done}
-use Rattle.iss_model.specs.Taking.{take_codes}
+use Rattle.iss_codec.specs.Taking.{take_codes}
 use Rattle.iss_codec.proofs.groups.take_codes.Goals as goal
 
 pub returns-in-None : goal.returns-in-None

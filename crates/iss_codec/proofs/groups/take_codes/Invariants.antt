@@ -1,5 +1,5 @@
 use Rattle.std.proofs.Common.{◌≡◌, ◌-◌}
-use Rattle.iss_model.specs.Taking.{take_codes}
+use Rattle.iss_codec.specs.Taking.{take_codes}
 use Rattle.iss_codec.proofs.Codes.{with_front}
 use Rattle.iss_codec.proofs.groups.take_codes.Given as goal
 

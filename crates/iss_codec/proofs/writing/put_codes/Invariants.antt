@@ -1,6 +1,6 @@
 use Rattle.std.proofs.Common.{◌≡◌, ◌++◌, take}
 use Rattle.std.specs.List.{flat_map}
-use Rattle.iss_model.specs.Spelling.{mcc_bytes}
+use Rattle.iss_model.specs.texts.Spelling.{mcc_bytes}
 use Rattle.iss_codec.proofs.writing.put_codes.Given as goal
 
 abbrev pub invariant-loop-code : goal.invariant-loop-code

@@ -1,7 +1,7 @@
 use Rattle.std.proofs.lemmas.Result.{IfOk-weaker}
 use Rattle.serde_json.specs.View.{view}
 use Rattle.std.proofs.Common.{◌≡◌, true}
-use Rattle.iss_model.specs.Wordings.{fault_line}
+use Rattle.iss_model.specs.texts.Wordings.{fault_line}
 use Rattle.iss_event.specs.FormLines.{fault_members}
 use Rattle.iss_event.specs.Plain.{are_plain}
 use Rattle.iss_event.proofs.PlainTexts.{line-plain}

@@ -1,6 +1,6 @@
 use Rattle.std.proofs.lemmas.Result.{IfOk-weaker}
 use Rattle.serde_json.specs.View.{view}
-use Rattle.iss_model.specs.Wordings.{reply_members, reply_line}
+use Rattle.iss_model.specs.texts.Wordings.{reply_members, reply_line}
 use Rattle.iss_event.proofs.PlainTexts.{line-plain, object-has_no_float}
 use Rattle.iss_event.proofs.writing.reply_line.Goals as goal
 

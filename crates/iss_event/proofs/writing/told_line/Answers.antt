@@ -1,6 +1,6 @@
 use Rattle.std.proofs.lemmas.Result.{IfOk-weaker}
 use Rattle.serde_json.specs.View.{view}
-use Rattle.iss_model.specs.AnswerLines.{answer_members, answer_text}
+use Rattle.iss_model.specs.texts.AnswerLines.{answer_members, answer_text}
 use Rattle.iss_event.proofs.PlainTexts.{line-plain, object-has_no_float}
 use Rattle.iss_event.proofs.writing.told_line.Goals as goal
 

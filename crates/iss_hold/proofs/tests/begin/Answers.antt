@@ -2,9 +2,9 @@ use Rattle.std.proofs.Common.{◌≡◌, ℕ, ◌+◌, ◌*◌, ◌<◌, ◌≤�
 use Rattle.std.specs.Prelude.{IsSome}
 use Rattle.iss_model.specs.declared.account.Part.TheVariants as part
 use Rattle.iss_model.specs.declared.txn.Txn.{Txn}
-use Rattle.iss_model.specs.Activity.{TxnNow, txn_named}
-use Rattle.iss_model.specs.Pieces.{held}
-use Rattle.iss_model.specs.Cores.{Holdings, with_txn}
+use Rattle.iss_model.specs.rules.Activity.{TxnNow, txn_named}
+use Rattle.iss_model.specs.rules.Pieces.{held}
+use Rattle.iss_model.specs.state.Cores.{Holdings, with_txn}
 use Rattle.iss_hold.specs.Entries.{after_holds}
 use Rattle.iss_hold.specs.Bounds.{AreBelow, AreWithin}
 use Rattle.iss_hold.proofs.TestBounds.{new_origin, below_next, below_started, txns_stay, started_then, started_still, within_started, within_added, within_small, within_same, below_same}

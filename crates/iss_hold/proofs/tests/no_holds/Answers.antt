@@ -1,6 +1,6 @@
 use Rattle.std.proofs.Common.{◌≡◌, ap}
 use Rattle.std.specs.Prelude.{Result, Ok, Err, IfOk}
-use Rattle.iss_model.specs.Cores.{Holdings}
+use Rattle.iss_model.specs.state.Cores.{Holdings}
 use Rattle.iss_hold.proofs.TestBounds.{none_within}
 use Rattle.iss_hold.proofs.tests.no_holds.Goals as goal
 

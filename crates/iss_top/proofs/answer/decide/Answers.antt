@@ -1,7 +1,7 @@
 use Rattle.std.proofs.Common.{ap, sym, ◌∙◌}
 use Rattle.std.specs.Prelude.{unwrap_or}
 use Rattle.std.proofs.lemmas.Result.{IfOk-weaker}
-use Rattle.iss_model.specs.Built.{is_built}
+use Rattle.iss_core.specs.Built.{is_built}
 use Rattle.iss_model.specs.Forms.{is_in_form}
 use Rattle.iss_core.proofs.Quiet.{never_clock}
 use Rattle.iss_top.proofs.Tellings.{answer_tells, record_tells, quiet_then, record_then}

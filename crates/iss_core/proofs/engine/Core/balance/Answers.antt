@@ -1,8 +1,8 @@
 use Rattle.std.proofs.Common.{◌≡◌, ap, ◌∙◌, to_z-of_z, w64, arith}
 use mir.Val.{to_z, of_z}
 use Rattle.iss_model.specs.Sums.{account_key}
-use Rattle.iss_model.specs.Kept.{kept_at}
-use Rattle.iss_model.specs.Facts.{Facts, balance_in}
+use Rattle.iss_model.specs.state.Kept.{kept_at}
+use Rattle.iss_model.specs.rules.Facts.{Facts, balance_in}
 use Rattle.iss_core.proofs.OnBook.{told_on_book}
 use Rattle.iss_core.proofs.engine.Core.balance.Goals as goal
 

@@ -1,5 +1,5 @@
 use Rattle.std.proofs.Common.{ap, ◌∙◌}
-use Rattle.iss_model.specs.Facts.{Facts}
+use Rattle.iss_model.specs.rules.Facts.{Facts}
 use Rattle.iss_core.proofs.OnBook.{told_on_book, count_of_book}
 use Rattle.iss_core.proofs.engine.Core.count.Goals as goal
 

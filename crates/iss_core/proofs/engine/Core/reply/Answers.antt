@@ -1,6 +1,6 @@
 use Rattle.std.proofs.Common.{Some, None, sym, ap, ◌∙◌}
-use Rattle.iss_model.specs.Facts.{Facts, event_reply}
-use Rattle.iss_model.specs.Cores.{core_facts}
+use Rattle.iss_model.specs.rules.Facts.{Facts, event_reply}
+use Rattle.iss_model.specs.state.Cores.{core_facts}
 use Rattle.iss_core.specs.States.{state_of}
 use Rattle.iss_core.specs.Events.{accepted_as}
 use Rattle.iss_core.proofs.OnBook.{told_on_book, replied_so, unreplied_so}

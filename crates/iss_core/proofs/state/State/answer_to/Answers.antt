@@ -1,5 +1,5 @@
 use Rattle.std.proofs.Common.{Some, sym}
-use Rattle.iss_model.specs.Cores.{core_facts}
+use Rattle.iss_model.specs.state.Cores.{core_facts}
 use Rattle.iss_core.specs.States.{state_of}
 use Rattle.iss_core.specs.Events.{accepted_as}
 use Rattle.iss_core.proofs.Refusals.{told_so}

@@ -1,7 +1,7 @@
 use Rattle.std.proofs.Common.{sym, ap, ◌∙◌, refl}
 use Rattle.iss_model.specs.declared.input.Input.TheVariants as input
-use Rattle.iss_model.specs.Activity.{txn_named}
-use Rattle.iss_model.specs.Cores.{core_facts}
+use Rattle.iss_model.specs.rules.Activity.{txn_named}
+use Rattle.iss_model.specs.state.Cores.{core_facts}
 use Rattle.iss_core.specs.Purchases.{purchased, purchase_entries}
 use Rattle.iss_core.specs.States.{state_of}
 use Rattle.iss_core.proofs.Reaching.{some_amount}

@@ -1,5 +1,5 @@
 use Rattle.std.proofs.Common.{sym, ap, ◌∙◌}
-use Rattle.iss_model.specs.Cores.{core_facts}
+use Rattle.iss_model.specs.state.Cores.{core_facts}
 use Rattle.iss_core.specs.Purchases.{bought_on}
 use Rattle.iss_core.specs.States.{state_of}
 use Rattle.iss_core.proofs.Purchased.{card_found}

@@ -3,14 +3,14 @@ use Rattle.std.specs.Prelude.{IsSome}
 use Rattle.std.specs.Vec.{vec_len}
 use Rattle.iss_model.specs.Currencies.{iso_number}
 use Rattle.iss_model.specs.declared.txn.Txn.{Txn}
-use Rattle.iss_model.specs.Activity.{txn_named}
-use Rattle.iss_model.specs.Cores.{Holdings}
+use Rattle.iss_model.specs.rules.Activity.{txn_named}
+use Rattle.iss_model.specs.state.Cores.{Holdings}
 use Rattle.iss_hold.specs.declared.hold.Hold.{Hold}
 use Rattle.iss_hold.specs.Holdings.{part_of, with_part}
 use Rattle.iss_hold.specs.Indexes.{total_of}
 use Rattle.iss_hold.proofs.Places.{IsAt}
-use Rattle.iss_model.specs.Pieces.{held}
-use Rattle.iss_model.specs.Kept.{AreSmall}
+use Rattle.iss_model.specs.rules.Pieces.{held}
+use Rattle.iss_model.specs.state.Kept.{AreSmall}
 use Rattle.iss_hold.specs.Entries.{after_holds}
 use Rattle.iss_hold.proofs.HoldCalls.{started_place, stands_at, here, part_small, sum_small, sum_stands, sum_there, indexed_added, added}
 use Rattle.iss_hold.proofs.holds.Holds.add.Goals as goal

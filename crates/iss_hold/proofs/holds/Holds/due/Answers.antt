@@ -1,6 +1,6 @@
 use Rattle.std.proofs.Common.{ℕ, List, ◌++◌, map, ap, ◌∙◌}
-use Rattle.iss_model.specs.Due.{DueItem, txn_due}
-use Rattle.iss_model.specs.Cores.{Holdings}
+use Rattle.iss_model.specs.rules.Due.{DueItem, txn_due}
+use Rattle.iss_model.specs.state.Cores.{Holdings}
 use Rattle.iss_hold.specs.Expiries.{Expiry, txns_due}
 use Rattle.iss_hold.proofs.ExpiryOrder.{come_of, due_things}
 use Rattle.iss_hold.proofs.holds.Holds.due.Goals as goal

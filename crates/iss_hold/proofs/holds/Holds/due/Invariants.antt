@@ -1,5 +1,5 @@
 use Rattle.std.proofs.Common.{◌≡◌, ◌++◌, map}
-use Rattle.iss_model.specs.Due.{txn_due}
+use Rattle.iss_model.specs.rules.Due.{txn_due}
 use Rattle.iss_hold.specs.Expiries.{txns_due}
 use Rattle.iss_hold.proofs.ExpiryOrder.{come_of}
 use Rattle.iss_hold.proofs.holds.Holds.due.Given as goal

@@ -1,14 +1,14 @@
 use Rattle.std.proofs.Common.{◌≡◌, ℕ, List, length, set, sym, subst, ap, ◌∙◌, arith}
 use Rattle.std.specs.Prelude.{IsSome}
 use Rattle.std.specs.Vec.{vec_len}
-use Rattle.iss_model.specs.Activity.{txn_named}
-use Rattle.iss_model.specs.Cores.{Holdings}
+use Rattle.iss_model.specs.rules.Activity.{txn_named}
+use Rattle.iss_model.specs.state.Cores.{Holdings}
 use Rattle.iss_hold.specs.declared.hold.Hold.{Hold}
 use Rattle.iss_hold.specs.Holdings.{holdings_of}
 use Rattle.iss_hold.proofs.Places.{IsAt}
 use Rattle.std.specs.Map.{remove_entry}
 use Rattle.std.specs.BTreeMap.{is_at}
-use Rattle.iss_model.specs.Cores.{with_end}
+use Rattle.iss_model.specs.state.Cores.{with_end}
 use Rattle.iss_hold.specs.Indexes.{AreIndexed, by_expiry}
 use Rattle.iss_hold.proofs.Endings.{ended, holdings_end}
 use Rattle.iss_hold.proofs.IndexesKept.{indexed_end}

@@ -3,8 +3,8 @@ use Rattle.std.specs.Prelude.{Some}
 use Rattle.std.specs.Vec.{vec_len}
 use Rattle.std.specs.BTreeMap.{get}
 use Rattle.iss_model.specs.declared.txn.Txn.{Txn}
-use Rattle.iss_model.specs.Activity.{TxnNow, txn_named}
-use Rattle.iss_model.specs.Cores.{Holdings}
+use Rattle.iss_model.specs.rules.Activity.{TxnNow, txn_named}
+use Rattle.iss_model.specs.state.Cores.{Holdings}
 use Rattle.iss_hold.specs.declared.hold.Hold.{Hold}
 use Rattle.iss_hold.specs.Entries.{live_now}
 use Rattle.iss_hold.specs.Indexes.{by_name}

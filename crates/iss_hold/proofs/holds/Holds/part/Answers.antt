@@ -3,9 +3,9 @@ use Rattle.std.specs.Prelude.{IsSome}
 use Rattle.std.proofs.lemmas.Int.{to_z_pos}
 use Rattle.std.specs.Vec.{vec_len}
 use Rattle.iss_model.specs.Sums.{part_key}
-use Rattle.iss_model.specs.Kept.{kept_at}
-use Rattle.iss_model.specs.Activity.{txn_named}
-use Rattle.iss_model.specs.Cores.{Holdings}
+use Rattle.iss_model.specs.state.Kept.{kept_at}
+use Rattle.iss_model.specs.rules.Activity.{txn_named}
+use Rattle.iss_model.specs.state.Cores.{Holdings}
 use Rattle.iss_hold.specs.declared.hold.Hold.{Hold}
 use Rattle.iss_hold.specs.Holdings.{part_of}
 use Rattle.iss_hold.proofs.Places.{IsAt}

@@ -2,8 +2,8 @@ use Rattle.std.proofs.Common.{◌≡◌, ◌==◌, ℕ, false, List, [], ◌∷�
 use Rattle.std.specs.Prelude.{Some, None, IsSome}
 use Rattle.std.specs.List.{list_any}
 use Rattle.std.specs.BTreeMap as tree
-use Rattle.iss_model.specs.Activity.{txn_named}
-use Rattle.iss_model.specs.Cores.{Holdings, with_txn}
+use Rattle.iss_model.specs.rules.Activity.{txn_named}
+use Rattle.iss_model.specs.state.Cores.{Holdings, with_txn}
 use Rattle.iss_hold.specs.declared.hold.Hold.{Hold}
 use Rattle.iss_hold.specs.Holdings.{holdings_of}
 use Rattle.iss_hold.specs.Indexes.{AreIndexed, by_name, by_user}

@@ -2,14 +2,14 @@ use Rattle.std.proofs.Common.{◌≡◌, ℕ, ◌+◌, ◌-◌, ◌≤◌, List,
 use Rattle.std.specs.Prelude.{IsSome}
 use Rattle.std.specs.Vec.{vec_len}
 use Rattle.iss_model.specs.Currencies.{iso_number}
-use Rattle.iss_model.specs.Activity.{txn_named}
-use Rattle.iss_model.specs.Cores.{Holdings}
+use Rattle.iss_model.specs.rules.Activity.{txn_named}
+use Rattle.iss_model.specs.state.Cores.{Holdings}
 use Rattle.iss_hold.specs.declared.hold.Hold.{Hold}
 use Rattle.iss_hold.specs.declared.hold.Taken.{Taken}
 use Rattle.iss_hold.specs.Holdings.{parts_of}
 use Rattle.iss_hold.specs.Indexes.{total_of}
 use Rattle.iss_hold.proofs.Places.{IsAt}
-use Rattle.iss_model.specs.Pieces.{Parts, in_all, taken_to_release}
+use Rattle.iss_model.specs.rules.Pieces.{Parts, in_all, taken_to_release}
 use Rattle.iss_hold.specs.Entries.{after_holds, parts_in, let_go_to_release}
 use Rattle.iss_hold.proofs.HoldCalls.{started_place, stands_at, here, AreWithin, release_within, taken_within, sum_stands, sum_there, indexed_taken, parts_there, released}
 use Rattle.iss_hold.proofs.holds.Holds.take_release.Goals as goal

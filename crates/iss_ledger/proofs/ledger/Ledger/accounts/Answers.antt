@@ -2,7 +2,7 @@ use Rattle.std.proofs.Common.{◌++◌, List, map, ap, ◌∙◌, sym}
 use Rattle.std.specs.FinMap as finite
 use Rattle.iss_model.specs.declared.account.Account.{Account}
 use Rattle.iss_model.specs.Sums.{account_key}
-use Rattle.iss_model.specs.Kept.{Kept}
+use Rattle.iss_model.specs.state.Kept.{Kept}
 use Rattle.iss_ledger.proofs.TreeSums.{keys_in}
 use Rattle.iss_ledger.proofs.ledger.Ledger.accounts.Goals as goal
 

@@ -1,6 +1,6 @@
 use Rattle.std.proofs.Common.{◌≡◌, drop}
 use Rattle.std.specs.List.{filter_map}
-use Rattle.iss_model.specs.Settings.{latest, card_moved}
+use Rattle.iss_model.specs.rules.Settings.{latest, card_moved}
 use Rattle.iss_rows.proofs.plain.settings.card_now.Given as goal
 
 abbrev pub invariant-loop-row : goal.invariant-loop-row

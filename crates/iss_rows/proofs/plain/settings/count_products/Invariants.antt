@@ -1,6 +1,6 @@
 use Rattle.std.proofs.Common.{◌≡◌, ◌+◌, ◌≤◌, length, drop}
 use Rattle.iss_rows.specs.Early.{products_made}
-use Rattle.iss_model.specs.Settings.{products_of}
+use Rattle.iss_model.specs.rules.Settings.{products_of}
 use Rattle.iss_rows.proofs.plain.settings.count_products.Given as goal
 
 abbrev pub invariant-loop-row : goal.invariant-loop-row

@@ -1,6 +1,6 @@
 use Rattle.std.proofs.Common.{◌≡◌, ap, ◌∙◌}
 use Rattle.iss_model.specs.declared.input.Input.{Input}
-use Rattle.iss_model.specs.Histories.{History, history_keeper}
+use Rattle.iss_model.specs.rules.Histories.{History, history_keeper}
 use Rattle.iss_top.specs.Dry.{entries_text}
 use Rattle.iss_rows.proofs.Early.{step_entries, step_grown}
 use Rattle.iss_rows.proofs.plain.book.Book.step.Goals as goal

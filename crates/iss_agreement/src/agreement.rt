@@ -1,0 +1,108 @@
+//! Laws of the definitions: the state that a core keeps and the book of its records agree.
+//!
+//! Each law is the contract of a function with an empty body. It holds for every list of records, legal or not.
+ghost use Rattle.std.specs.Prelude.{◌≡◌, ℕ, List, [], ◌∷◌, ◌++◌, length, map};
+ghost use Rattle.std.specs.FinMap as finite;
+ghost use Rattle.iss_model.specs.declared.currency.Currency.{Currency};
+ghost use Rattle.iss_model.specs.declared.account.Account.{Account};
+ghost use Rattle.iss_model.specs.declared.account.Part.{Part};
+ghost use Rattle.iss_model.specs.declared.decision.Judged.TheVariants.{New, Clock};
+ghost use Rattle.iss_model.specs.declared.input.Input.{Input};
+ghost use Rattle.iss_model.specs.declared.input.Record.{Record};
+ghost use Rattle.iss_model.specs.Sums.{account_key, user_key, part_key, stood_key, sum_at};
+ghost use Rattle.iss_model.specs.state.Kept.{kept_at};
+ghost use Rattle.iss_model.specs.rules.Settings.{users_of, cards_of, products_of};
+ghost use Rattle.iss_model.specs.rules.Controls.{ControlPut, groups_of, controls_of, sets_of, counted_changes};
+ghost use Rattle.iss_model.specs.rules.Activity.{txns_of, calls_of, notices_of, pending_of};
+ghost use Rattle.iss_model.specs.rules.Facts.{balance_in, held_in, part_in, stood_in, reply_in};
+ghost use Rattle.iss_model.specs.rules.Asks.{used_in};
+ghost use Rattle.iss_model.specs.texts.BalanceLines.{accounts_of};
+ghost use Rattle.iss_model.specs.rules.Histories.{nothing_yet, time_of, events_of, history_facts, history_keeper, history_of};
+ghost use Rattle.iss_model.specs.rules.Stepping.{step};
+ghost use Rattle.iss_model.specs.rules.Judging.{judge};
+ghost use Rattle.iss_model.specs.state.Cores.{no_core, control_told, core_facts, core_keeper, core_of};
+ghost use Rattle.iss_model.specs.run.Transcripts.{Reading, transcript};
+ghost use Rattle.iss_agreement.specs.Shown.{product_shown, shown_by};
+ghost use Rattle.iss_agreement.specs.Laws.{rows_since};
+
+/// The state that is kept entry by entry is the one that the book shows by filters and sums over all its rows.
+/// Book and state tell the same facts, so a further record makes the same entries on both, and both judge an input alike.
+#[tactic(auto, using(crate::proofs::CoreOfBook::core_history, crate::proofs::CoreOfBook::core_step, crate::proofs::CoreOfBook::facts_history, crate::proofs::CoreOfBook::entries_history, crate::proofs::CoreOfBook::judge_history))]
+pub fn core_keeps_the_book()
+    ensures state { (rs : List Record) → core_of rs ≡ shown_by (history_of rs) }
+    ensures longer { (rs : List Record) → (r : Record) → (step core_keeper (core_of rs) r).world ≡ core_of (rs ++ r ∷ []) }
+    ensures facts { (rs : List Record) → core_facts (core_of rs) ≡ history_facts (history_of rs) }
+    ensures entries { (rs : List Record) → (r : Record)
+        → (step core_keeper (core_of rs) r).entries ≡ (step history_keeper (history_of rs) r).entries }
+    ensures judged { (rs : List Record) → (i : Input) → (stamp : ℕ)
+        → judge core_keeper (core_of rs) i stamp ≡ judge history_keeper (history_of rs) i stamp }
+{}
+
+/// Lines are told on a core what they are told on its book.
+#[tactic(auto, using(crate::proofs::CoreOfBook::core_transcript))]
+pub fn a_core_is_told_its_transcript()
+    ensures { (lines : List Reading) → transcript core_keeper no_core lines ≡ transcript history_keeper nothing_yet lines }
+{}
+
+/// What a control counts by origin over the whole book is what it counts in the rows of records later than its first.
+#[tactic(auto, using(crate::proofs::Since::amounts_since, crate::proofs::Since::times_since))]
+pub fn controls_count_since_their_first_record()
+    ensures amounts { (rs : List Record) → (put : ControlPut) → (key : List ℕ)
+        → sum_at (counted_changes (λ row. row.amount) (groups_of (history_of rs).rows) put) key (history_of rs).rows
+        ≡ sum_at (counted_changes (λ row. row.amount) (groups_of (history_of rs).rows) put) key (rows_since put.number (history_of rs).rows) }
+    ensures times { (rs : List Record) → (put : ControlPut) → (key : List ℕ)
+        → sum_at (counted_changes (λ row. row.count) (groups_of (history_of rs).rows) put) key (history_of rs).rows
+        ≡ sum_at (counted_changes (λ row. row.count) (groups_of (history_of rs).rows) put) key (rows_since put.number (history_of rs).rows) }
+{}
+
+/// What a core answers to each question is what its book answers: each list by filters, each sum over all rows.
+pub fn core_answers_as_its_book()
+    ensures records { (rs : List Record) → (history_of rs).records ≡ rs }
+    ensures time { (rs : List Record) → (core_of rs).now ≡ time_of rs }
+    ensures count { (rs : List Record) → (core_of rs).count ≡ length rs }
+    ensures events { (rs : List Record) → (core_of rs).accepted ≡ events_of rs }
+    ensures reply { (rs : List Record) → (event : List ℕ)
+        → reply_in (core_facts (core_of rs)) event ≡ reply_in (history_facts (history_of rs)) event }
+    ensures users { (rs : List Record) → (core_of rs).cardholders.users ≡ users_of (history_of rs).rows }
+    ensures cards { (rs : List Record) → (core_of rs).cardholders.cards ≡ cards_of (history_of rs).rows }
+    ensures products { (rs : List Record)
+        → (core_of rs).products ≡ map (product_shown (history_of rs).rows) (products_of (history_of rs).rows) }
+    ensures groups { (rs : List Record) → (core_of rs).groups ≡ groups_of (history_of rs).rows }
+    ensures controls { (rs : List Record) → map control_told (core_of rs).controls ≡ controls_of (history_of rs).rows }
+    ensures sets { (rs : List Record) → (core_of rs).stand_ins.sets ≡ sets_of (history_of rs).rows }
+    ensures used { (rs : List Record) → (control : List ℕ) → (user : List ℕ) → (at : ℕ)
+        → used_in (core_facts (core_of rs)) control user at ≡ used_in (history_facts (history_of rs)) control user at }
+    ensures balance { (rs : List Record) → (a : Account)
+        → kept_at (core_of rs).balances (account_key a) ≡ balance_in (history_facts (history_of rs)) a }
+    ensures accounts { (rs : List Record)
+        → finite.keys (core_of rs).balances ≡ map account_key (accounts_of (history_of rs).rows) }
+    ensures held { (rs : List Record) → (user : List ℕ) → (currency : Currency)
+        → kept_at (core_of rs).holdings.held (user_key user currency) ≡ held_in (history_facts (history_of rs)) user currency }
+    ensures part { (rs : List Record) → (txn : List ℕ) → (part : Part)
+        → kept_at (core_of rs).holdings.parts (part_key txn part) ≡ (history_facts (history_of rs)).parts (part_key txn part) }
+    ensures cleared { (rs : List Record) → (txn : List ℕ)
+        → kept_at (core_of rs).txn_sums.cleared txn ≡ (history_facts (history_of rs)).cleared txn }
+    ensures refunded { (rs : List Record) → (txn : List ℕ)
+        → kept_at (core_of rs).txn_sums.refunded txn ≡ (history_facts (history_of rs)).refunded txn }
+    ensures paid { (rs : List Record) → (txn : List ℕ)
+        → kept_at (core_of rs).txn_sums.paid txn ≡ (history_facts (history_of rs)).paid txn }
+    ensures stood { (rs : List Record) → (product : List ℕ) → (user : List ℕ) → (at : ℕ)
+        → kept_at (core_of rs).stand_ins.stood (stood_key product user at) ≡ stood_in (history_facts (history_of rs)) product user at }
+    ensures txns { (rs : List Record) → (core_of rs).holdings.txns ≡ txns_of (history_of rs).rows }
+    ensures calls { (rs : List Record) → (core_of rs).calls ≡ calls_of (history_of rs).rows }
+    ensures notices { (rs : List Record) → (core_of rs).outbox.made ≡ length (notices_of (history_of rs).rows) }
+    ensures pending { (rs : List Record) → (core_of rs).outbox.pending ≡ pending_of (history_of rs).rows }
+{}
+
+/// A record that judging gives, of the input itself or of the time before its answer, is new where it is judged again,
+/// by the book as by the state.
+pub fn judging_is_stable()
+    ensures book { (rs : List Record) → (i : Input) → (stamp : ℕ) → (r : Record)
+        → judge history_keeper (history_of rs) i stamp ≡ New r → judge history_keeper (history_of rs) r.input r.at ≡ New r }
+    ensures book_clock { (rs : List Record) → (i : Input) → (stamp : ℕ) → (r : Record)
+        → judge history_keeper (history_of rs) i stamp ≡ Clock r → judge history_keeper (history_of rs) r.input r.at ≡ New r }
+    ensures state { (rs : List Record) → (i : Input) → (stamp : ℕ) → (r : Record)
+        → judge core_keeper (core_of rs) i stamp ≡ New r → judge core_keeper (core_of rs) r.input r.at ≡ New r }
+    ensures state_clock { (rs : List Record) → (i : Input) → (stamp : ℕ) → (r : Record)
+        → judge core_keeper (core_of rs) i stamp ≡ Clock r → judge core_keeper (core_of rs) r.input r.at ≡ New r }
+{}

@@ -1,0 +1,12 @@
+//! The law that a core's state and the book of its records agree, and what holds of every run.
+//! It cites `iss_model` alone, and no code: each law is the contract of a function with an empty body.
+#![tactic(auto)]
+
+mod agreement;
+mod runs;
+
+pub use agreement::{
+    a_core_is_told_its_transcript, controls_count_since_their_first_record,
+    core_answers_as_its_book, core_keeps_the_book, judging_is_stable,
+};
+pub use runs::runs_are_told_their_transcript;

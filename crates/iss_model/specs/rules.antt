@@ -1,0 +1,15 @@
+pub mod Settings
+pub mod Controls
+pub mod Activity
+pub mod Facts
+pub mod Asks
+pub mod StandIns
+pub mod Reasons
+pub mod CardReasons
+pub mod Pieces
+pub mod CardEntries
+pub mod Keeper
+pub mod Due
+pub mod Stepping
+pub mod Judging
+pub mod Histories

@@ -1,0 +1,4 @@
+pub mod Sayings
+pub mod Rooms
+pub mod Transcripts
+pub mod Runs

@@ -1,0 +1,13 @@
+pub mod Scripts
+pub mod WorkedPurchases
+pub mod WorkedControls
+pub mod WorkedCalls
+pub mod WorkedStandIns
+pub mod WorkedDay
+pub mod WorkedDue
+pub mod WorkedSettings
+pub mod WorkedRefunds
+pub mod WorkedTexts
+pub mod WorkedParts
+pub mod WorkedSpellings
+pub mod WorkedRuns

@@ -1,0 +1,236 @@
+-- Worked scripts: inputs one after the other, what is said of each, and what stands then. Most are of one user, u1, whose card is c1.
+use Rattle.std.specs.Prelude.{◌≡◌, ℕ, ◌+◌, ℤ, pos, neg_ℤ, true, false, List, [], ◌∷◌, length, filter, map, codes, Option, Some, None}
+use Prim.Native.String.{String}
+use Rattle.iss_model.specs.declared.currency.Currency.{Currency}
+use Rattle.iss_model.specs.declared.currency.Currency.TheVariants.{Usd}
+use Rattle.iss_model.specs.declared.account.Account.TheVariants as account
+use Rattle.iss_model.specs.declared.setting.Funding.TheVariants as funding
+use Rattle.iss_model.specs.declared.setting.Window.{Window}
+use Rattle.iss_model.specs.declared.setting.Association.TheVariants as association
+use Rattle.iss_model.specs.declared.setting.Scope.TheVariants as scope
+use Rattle.iss_model.specs.declared.call.CallId.{CallId}
+use Rattle.iss_model.specs.declared.call.Method.{Method}
+use Rattle.iss_model.specs.declared.call.How.{How}
+use Rattle.iss_model.specs.declared.input.Outcome.{Outcome}
+use Rattle.iss_model.specs.declared.input.Input.{Input}
+use Rattle.iss_model.specs.declared.input.Input.TheVariants as input
+use Rattle.iss_model.specs.declared.decision.Reason.{Reason}
+use Rattle.iss_model.specs.declared.decision.Verdict.TheVariants as verdict
+use Rattle.iss_model.specs.declared.decision.Reply.{Reply}
+use Rattle.iss_model.specs.declared.decision.Answer.TheVariants as answer
+use Rattle.iss_model.specs.declared.txn.Used.{Used}
+use Rattle.iss_model.specs.rules.Facts.{Facts, balance_in, held_in}
+use Rattle.iss_model.specs.rules.Asks.{used_in}
+use Rattle.iss_model.specs.rules.Activity.{is_asked}
+use Rattle.iss_model.specs.rules.Histories.{History, nothing_yet, history_facts, history_keeper}
+use Rattle.iss_model.specs.run.Sayings.{Said, decided, asked, noticed, told, reaction}
+
+-- an input, the stamp that its line gives, or 0, and what is said of it
+pub record Step : Type 0 where
+  pub input : Input
+  pub at : ℕ
+  pub said : List Said
+
+-- a step whose line gives no stamp
+abbrev pub now : Input → List Said → Step
+now i said = record { input = i; at = 0; said = said }
+
+-- a step whose line gives a stamp
+abbrev pub stamped : ℕ → Input → List Said → Step
+stamped at i said = record { input = i; at = at; said = said }
+
+-- the balances of the gateway, the network, the programme and user u1 in a currency, and what is held of u1
+pub record Sheet : Type 0 where
+  pub currency : Currency
+  pub gateway : ℤ
+  pub network : ℤ
+  pub programme : ℤ
+  pub user : ℤ
+  pub held : ℤ
+
+-- how many calls are open, how many notices aren't acknowledged, and how many records there are
+pub record Tally : Type 0 where
+  pub calls : ℕ
+  pub notices : ℕ
+  pub records : ℕ
+
+-- a script: its steps, and what then stands
+pub record Script : Type 0 where
+  pub steps : List Step
+  pub sheets : List Sheet
+  pub tally : Tally
+
+-- what is said of each step's input, one after the other
+abbrev pub said_of : History → List Step → List (List Said)
+said_of h [] = []
+said_of h (s ∷ steps) =
+    let r = reaction history_keeper h s.input s.at in r.said ∷ said_of r.world steps
+
+-- the history that the steps' inputs make
+abbrev pub history_after : History → List Step → History
+history_after h [] = h
+history_after h (s ∷ steps) = history_after (reaction history_keeper h s.input s.at).world steps
+
+-- the sheet of a currency, as it stands
+abbrev pub sheet_of : Facts → Currency → Sheet
+sheet_of f c =
+    record {
+      currency = c;
+      gateway = balance_in f (account.Gateway c);
+      network = balance_in f (account.Network c);
+      programme = balance_in f (account.Programme c);
+      user = balance_in f (account.User (codes "u1") c);
+      held = held_in f (codes "u1") c;
+    }
+
+-- the open calls, the pending notices and the records, counted
+abbrev pub tally_of : Facts → Tally
+tally_of f =
+    record { calls = length (filter is_asked f.calls); notices = length f.pending; records = f.count }
+
+-- what is said is what the script says, step by step, and then its balances, calls, notices and records stand
+abbrev pub Plays : Script → Type 0
+Plays s =
+    let f = history_facts (history_after nothing_yet s.steps) in
+    (said_of nothing_yet s.steps ≡ map (λ step. step.said) s.steps)
+    × (map (λ sheet. sheet_of f sheet.currency) s.sheets ≡ s.sheets)
+    × (tally_of f ≡ s.tally)
+
+-- what the control of a name has counted of user u1 when a script is over
+abbrev pub used_after : Script → List ℕ → Option Used
+used_after s control =
+    let f = history_facts (history_after nothing_yet s.steps) in used_in f control (codes "u1") f.now
+
+-- an account owes an amount
+abbrev pub owes : ℕ → ℤ
+owes n = neg_ℤ (pos n)
+
+-- balances in US dollars
+abbrev pub dollars : ℤ → ℤ → ℤ → ℤ → ℤ → Sheet
+dollars gateway network programme user held =
+    record { currency = Usd; gateway = gateway; network = network; programme = programme; user = user; held = held }
+
+-- so many open calls, pending notices and records
+abbrev pub counted : ℕ → ℕ → ℕ → Tally
+counted calls notices records = record { calls = calls; notices = notices; records = records }
+
+-- user u1
+abbrev pub new_user : Input
+new_user = input.User (codes "t1") (codes "u1")
+
+-- an active card c1 of user u1 and a product
+abbrev pub card_of : String → Input
+card_of product = input.Card (codes "t2") (codes "c1") (codes "u1") (codes product) true
+
+-- a product g in US dollars, funded by the gateway, with 3 seconds for an answer and holds of a week
+abbrev pub gateway_product : Input
+gateway_product = input.Product (codes "p1") (codes "g") Usd funding.Gateway 3000 604800000
+
+-- a load of user u1
+abbrev pub load : String → Currency → ℕ → Input
+load token currency amount = input.Load (codes token) (codes "u1") currency amount
+
+-- a control v1 of at most 100.00 US dollars or another amount in each window, at all merchants
+abbrev pub amount_control : Window → ℕ → Input
+amount_control window limit =
+    input.Control (codes "t4") (codes "v1") Usd window (Some limit) None association.Anybody scope.All true
+
+-- the set s1 of product g: up to 100.00 a purchase and a day where the gateway can't be reached
+abbrev pub connection_set : Input
+connection_set = input.Set (codes "t5") (codes "s1") (codes "g") Usd true false false 10000 10000 true
+
+-- the switch of product g is turned on
+abbrev pub switch_on : Input
+switch_on = input.Switch (codes "t6") (codes "g") true
+
+-- a purchase with card c1 at the merchant m1, of a category
+abbrev pub purchase_at : ℕ → String → ℕ → Input
+purchase_at mcc token amount = input.Authorization (codes token) (codes "c1") Usd amount mcc (codes "m1")
+
+-- a purchase with card c1 at the grocer m1
+abbrev pub purchase : String → ℕ → Input
+purchase token amount = purchase_at 5411 token amount
+
+-- an increment of a transaction in US dollars
+abbrev pub increment : String → String → ℕ → Input
+increment token txn amount = input.Increment (codes token) (codes txn) Usd amount
+
+-- a reversal of a transaction in US dollars
+abbrev pub reversal : String → String → ℕ → Input
+reversal token txn amount = input.Reversal (codes token) (codes txn) Usd amount
+
+-- a clearing of a transaction in US dollars, with more to come
+abbrev pub clearing : String → String → ℕ → Input
+clearing token txn amount = input.Clearing (codes token) (codes txn) Usd amount false
+
+-- the last clearing of a transaction in US dollars
+abbrev pub final_clearing : String → String → ℕ → Input
+final_clearing token txn amount = input.Clearing (codes token) (codes txn) Usd amount true
+
+-- a refund of a transaction in US dollars
+abbrev pub refund : String → String → ℕ → Input
+refund token txn amount = input.Refund (codes token) (codes txn) Usd amount
+
+-- a call by its number
+abbrev pub call_number : ℕ → CallId
+call_number n = record { 0 = n }
+
+-- the gateway's answer to a call
+abbrev pub answers : ℕ → Outcome → Input
+answers call outcome = input.Answer (call_number call) outcome
+
+-- the event is done
+abbrev pub done : String → List Said
+done token = decided (codes token) verdict.Done ∷ []
+
+-- the event is approved
+abbrev pub approved : String → List Said
+approved token = decided (codes token) verdict.Approved ∷ []
+
+-- the event is declined
+abbrev pub declined : String → Reason → List Said
+declined token why = decided (codes token) (verdict.Declined why) ∷ []
+
+-- the gateway is asked at a stamp, and has 3 seconds to answer
+abbrev pub request : Method → ℕ → String → String → ℕ → ℕ → List Said
+request method number event txn amount at =
+    asked (record {
+      call = call_number number;
+      event = codes event;
+      txn = codes txn;
+      method = method;
+      card = codes "c1";
+      user = codes "u1";
+      currency = Usd;
+      mcc = 5411;
+      mid = codes "m1";
+      amount = amount;
+      at = at;
+      deadline = at + 3000;
+    }) ∷ []
+
+-- the gateway is sent a notice: its amount, and the part that goes back to the gateway
+abbrev pub notice : ℕ → Method → String → Option CallId → ℕ → ℕ → List Said
+notice number method txn call amount gateway =
+    noticed (record {
+      number = number;
+      method = method;
+      txn = codes txn;
+      user = codes "u1";
+      currency = Usd;
+      call = call;
+      amount = amount;
+      gateway = gateway;
+    }) ∷ []
+
+-- the event stands with the same contents, and is told its reply again
+abbrev pub repeated : String → Reply → List Said
+repeated token reply = told (answer.Repeat (codes token) reply) ∷ []
+
+-- the event stands with other contents, by this record
+abbrev pub in_conflict : String → ℕ → List Said
+in_conflict token number = told (answer.Conflict (codes token) number) ∷ []
+
+-- the call was closed before
+abbrev pub late : ℕ → How → List Said
+late call how = told (answer.Late (call_number call) how) ∷ []

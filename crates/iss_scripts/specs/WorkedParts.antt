@@ -1,0 +1,11 @@
+-- Parts of what a transaction holds, for worked clearings and releases.
+use Rattle.std.specs.Prelude.{ℕ}
+use Rattle.iss_model.specs.rules.Pieces.{Parts}
+
+-- so much by the gateway, by the programme and of the user's own
+abbrev pub parts_of : ℕ → ℕ → ℕ → Parts
+parts_of g p s = record { g = g; p = p; s = s }
+
+-- 20 in all: 12 by the gateway, 5 by the programme and 3 of the user's own
+abbrev pub funded_by_all : Parts
+funded_by_all = parts_of 12 5 3
