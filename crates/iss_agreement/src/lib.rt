@@ -1,5 +1,8 @@
-//! The law that a core's state and the book of its records agree, and what holds of every run.
-//! It cites `iss_model` alone, and no code: each law is the contract of a function with an empty body.
+//! The law that a core's state and the book of its records agree, and what holds of every run. Each law is the contract
+//! of a function with an empty body.
+//!
+//! It may cite `iss_model`.
+//! It must not cite any body: its laws are of definitions.
 #![tactic(auto)]
 
 mod agreement;

@@ -1,6 +1,9 @@
 //! Amounts of money: currencies of ISO 4217, and how an amount is read and written in each.
 //!
 //! An amount is a whole number of minor units: 1234 is `12.34` in USD and `1.234` in KWD.
+//!
+//! It may cite `iss_model`.
+//! It must not cite accounts, lines or texts other than amounts.
 #![tactic(auto)]
 
 mod currency;

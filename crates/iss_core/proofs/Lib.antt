@@ -1,4 +1,5 @@
 pub mod SameFields
+pub mod EqualInputs
 pub mod Placed
 pub mod Kept
 pub mod Refusals

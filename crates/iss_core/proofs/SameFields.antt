@@ -23,7 +23,7 @@ use Rattle.iss_model.specs.Inputs.{spelled, flag, optional, funding_number, wind
 record AreSame (f g : List ℕ) (same : Bool) : Type 0 where
   behind : (r s : List ℕ) → bytes_eq (f ++ r) (g ++ s) ≡ (same && bytes_eq r s)
 
-and_true : (a : Bool) → (a && true) ≡ a
+pub and_true : (a : Bool) → (a && true) ≡ a
 and_true true = refl
 and_true false = refl
 
@@ -105,6 +105,10 @@ where_at (scope.Mcc m) (scope.Mcc n) = itself (front 1 1 (number m n))
 where_at (scope.Group g) (scope.Group h) = itself (front 2 2 (text g h))
 where_at (scope.Mid m) (scope.Mid n) = itself (front 3 3 (text m n))
 where_at _ _ = record { behind = λ r s. refl }
+
+-- one number is equal as it is as a list
+pub one_limit : (m n : ℕ) → nat_eq m n ≡ bytes_eq (m ∷ []) (n ∷ [])
+one_limit m n = sym (and_true (nat_eq m n))
 
 -- texts behind their lengths
 pub same_text : (a b : List ℕ) → bytes_eq (spelled a) (spelled b) ≡ bytes_eq a b

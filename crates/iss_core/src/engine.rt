@@ -76,24 +76,24 @@ impl Core {
         }
     }
 
-    /// Takes up a record that is next, and answers the core behind it with the entries that it makes. Where memory is
-    /// wanted the core is gone. For now the input is of a kind that is built, and nothing is due at the record's stamp;
+    /// Takes up a record that is next, and returns the core after it with the entries that it makes. Where an allocation
+    /// fails the core is gone. For now the input is of a kind that is built, and nothing is due at the record's stamp;
     /// then nothing is due behind it at that stamp either, and no entry is of the gateway.
-    pub fn step(mut self, alloc: Global, record: &Record) -> Result<(Core, Vec<Entry>), AllocError>
-        requires next { IsNext self record.now }
-        requires input_form { IsTrue (is_in_form record.now.input) }
-        requires stamp_form { IsTrue (is_stamp record.now.at) }
+    pub fn step(mut self, alloc: Global, accepted: &Record) -> Result<(Core, Vec<Entry>), AllocError>
+        requires next { IsNext self accepted.now }
+        requires input_form { IsTrue (is_in_form accepted.now.input) }
+        requires stamp_form { IsTrue (is_stamp accepted.now.at) }
         requires room { self.state.count < 1073741823 }
-        requires built { is_built record.now.input ≡ true }
-        requires quiet { IsQuiet self.state record.now.at }
-        ensures stepped { IfOk result (λ x. Steps self x.0 record.now x.1.items) }
-        ensures quiet { IfOk result (λ x. IsQuiet x.0.state record.now.at) }
+        requires built { is_built accepted.now.input ≡ true }
+        requires quiet { IsQuiet self.state accepted.now.at }
+        ensures stepped { IfOk result (λ x. Steps self x.0 accepted.now x.1.items) }
+        ensures quiet { IfOk result (λ x. IsQuiet x.0.state accepted.now.at) }
         ensures built_entries { IfOk result (λ x. list_all is_built_entry x.1.items ≡ true) }
         ensures on_book { (rs : List Record) → StandsFor self rs
-            → IfOk result (λ x. StepsOnBook x.0 rs record.now x.1.items) }
+            → IfOk result (λ x. StepsOnBook x.0 rs accepted.now x.1.items) }
     {
-        self.state.take_up(record)?;
-        let entries = self.state.make(alloc, record)?;
+        self.state.take_up(accepted)?;
+        let entries = self.state.make(alloc, accepted)?;
         Ok((self, entries))
     }
 

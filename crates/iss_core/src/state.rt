@@ -54,14 +54,14 @@ impl State {
     }
 
     /// Counts a record, and notes its input where it is an event.
-    pub(crate) fn take_up(&mut self, record: &Record) -> Result<(), AllocError>
+    pub(crate) fn take_up(&mut self, accepted: &Record) -> Result<(), AllocError>
         requires { self.old.count + 1 < 2 ^ 32 }
-        ensures { OnOk result (state_of self.new ≡ taken_up (state_of self.old) record.now) }
+        ensures { OnOk result (state_of self.new ≡ taken_up (state_of self.old) accepted.now) }
     {
-        self.time = self.time.max(record.at);
+        self.time = self.time.max(accepted.at);
         self.count += 1;
         self.events
-            .add(self.count, record.at, record.input.clone()?)?;
+            .add(self.count, accepted.at, accepted.input.clone()?)?;
         Ok(())
     }
 
@@ -117,16 +117,16 @@ impl State {
     }
 
     /// Makes the entries of a record that was taken up last, and enters them.
-    pub(crate) fn make(&mut self, alloc: Global, record: &Record) -> Result<Vec<Entry>, AllocError>
+    pub(crate) fn make(&mut self, alloc: Global, accepted: &Record) -> Result<Vec<Entry>, AllocError>
         requires taken_up { IsTakenUp (state_of self.old) }
-        requires built { is_built record.now.input ≡ true }
-        requires input_form { IsTrue (is_in_form record.now.input) }
-        requires stamp_form { IsTrue (is_stamp record.now.at) }
-        requires unknown { (token : List ℕ) → event_token record.now.input ≡ Some token
+        requires built { is_built accepted.now.input ≡ true }
+        requires input_form { IsTrue (is_in_form accepted.now.input) }
+        requires stamp_form { IsTrue (is_stamp accepted.now.at) }
+        requires unknown { (token : List ℕ) → event_token accepted.now.input ≡ Some token
             → txn_named token self.old.holds.txns ≡ None }
-        ensures made { IfOk result (λ entries. Made record.now.input record.now.at (state_of self.old) (state_of self.new) entries.items) }
+        ensures made { IfOk result (λ entries. Made accepted.now.input accepted.now.at (state_of self.old) (state_of self.new) entries.items) }
     {
-        match &record.input {
+        match &accepted.input {
             Input::User { token, user } => self.user(alloc, token, user),
             Input::Card {
                 token,
@@ -174,7 +174,7 @@ impl State {
                     amount: *amount,
                     mcc: *mcc,
                     mid: *mid,
-                    at: record.at,
+                    at: accepted.at,
                 };
                 self.authorization(alloc, &purchase)
             }

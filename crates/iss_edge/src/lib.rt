@@ -1,4 +1,7 @@
 //! The outside of the processor: its channels of bytes and its device, behind one trait, and an implementation in memory.
+//!
+//! It may cite std alone.
+//! It must not cite what the bytes mean: no input, no record, no gateway.
 #![tactic(auto)]
 
 mod bytes;

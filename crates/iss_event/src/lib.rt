@@ -2,6 +2,9 @@
 //!
 //! A line is one JSON object. What its bytes mean, and which fault is told of a line that isn't good, are definitions
 //! in `specs/`, apart from the code.
+//!
+//! It may cite `iss_model`, `iss_amount` and `serde_json`.
+//! It must not cite the core: it reads and writes lines, and decides nothing.
 #![tactic(auto)]
 
 mod fields;

@@ -2,6 +2,9 @@
 //!
 //! A record stands behind a gate byte of 1, its body's length before it; a gate byte other than 1 ends the records. A record
 //! is written behind the end gate, and made to last before that gate is opened.
+//!
+//! It may cite `iss_edge`.
+//! It must not cite the model: a record is bytes here.
 #![tactic(auto)]
 
 mod fault;

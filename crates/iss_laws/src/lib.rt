@@ -1,4 +1,7 @@
 //! The laws of the book: what holds of it whatever inputs were taken.
+//!
+//! It may cite `iss_model`, and `iss_scripts` for the books on which laws are computed.
+//! It must not cite any body of the program.
 #![tactic(auto)]
 
 mod balances;

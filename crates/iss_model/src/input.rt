@@ -25,7 +25,7 @@ pub enum Outcome {
 
 /// A card network event, a setting, a gateway's answer, an acknowledgement or a time.
 /// `token` names the event. Amounts are in the currency's minor units.
-#[derive(Drop)]
+#[derive(PartialEq, Drop)]
 pub enum Input {
     User {
         token: Token,

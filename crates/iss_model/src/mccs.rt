@@ -41,3 +41,17 @@ impl Clone for Mccs {
         Ok(Mccs { codes })
     }
 }
+
+impl PartialEq for Mccs {
+    ghost use Rattle.std.specs.Str.{bytes_eq};
+    ghost use Rattle.std.proofs.Common.{rules};
+    ghost use Rattle.std.specs.Cmp.Rules.{comparing};
+
+    ghost eq = { bytes_eq };
+
+    ghost laws = { Prim.search (comparing, rules) };
+
+    fn eq(&self, other: &Mccs) -> bool {
+        self.as_slice() == other.as_slice()
+    }
+}

@@ -26,7 +26,7 @@ pub enum UserState {
 }
 
 /// The card or user that a move names, and the state that it is moved to.
-#[derive(Clone, Copy)]
+#[derive(Clone, Copy, PartialEq)]
 pub enum Moved {
     Card(Token, CardState),
     User(Token, UserState),
@@ -43,7 +43,7 @@ pub enum Window {
 }
 
 /// Whose purchases a control counts.
-#[derive(Clone, Copy)]
+#[derive(Clone, Copy, PartialEq)]
 pub enum Association {
     Anybody,
     User(Token),
@@ -51,7 +51,7 @@ pub enum Association {
 }
 
 /// At which merchants a control counts.
-#[derive(Clone, Copy)]
+#[derive(Clone, Copy, PartialEq)]
 pub enum Scope {
     All,
     /// One merchant category code.

@@ -1,5 +1,7 @@
 //! Tests of the top call on worked scripts and hostile lines, and of the journal, over an outside in memory. Beside them stands
 //! the definitions' plain program, whose output is compared with that of the top call.
+//!
+//! It may cite every crate below. Nothing stands on it.
 #![tactic(auto)]
 
 mod plain;

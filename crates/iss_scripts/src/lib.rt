@@ -1,5 +1,7 @@
 //! The worked scripts: the checker computes each of them from the rules of the book.
-//! They cite `iss_model` and, for spellings, `iss_codec`. No code stands on them, only the laws that are computed on their books.
+//!
+//! It may cite `iss_model`, and `iss_codec` for spellings.
+//! It must not cite any body of the program.
 #![tactic(auto)]
 
 mod worked;

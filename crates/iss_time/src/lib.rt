@@ -1,4 +1,7 @@
 //! Windows of time: the days, weeks and months over which controls add up, in UTC.
+//!
+//! It may cite `iss_model` and `jiff`.
+//! It must not cite controls: it knows stamps and windows alone.
 #![tactic(auto)]
 
 #[cfg(test)]

@@ -43,7 +43,7 @@ fn decide(alloc: Global, core: Core, said: Line) -> Result<(Core, Vec<u8>), Allo
     ensures start { IfOk result (λ x. IsAtStart x.0.state) }
 {
     match core.judge(&said.input, said.at.unwrap_or(0))? {
-        Judged::New(record) => take_up(alloc, core, &record),
+        Judged::New(accepted) => take_up(alloc, core, &accepted),
         Judged::Clock(_) => unreachable!(),
         Judged::Told(answer) => {
             let text = told_line(alloc, &answer)?;
@@ -53,17 +53,17 @@ fn decide(alloc: Global, core: Core, said: Line) -> Result<(Core, Vec<u8>), Allo
 }
 
 /// Takes up a record that is next, and answers the core behind it with the texts of its entries.
-fn take_up(alloc: Global, core: Core, record: &Record) -> Result<(Core, Vec<u8>), AllocError>
+fn take_up(alloc: Global, core: Core, accepted: &Record) -> Result<(Core, Vec<u8>), AllocError>
     requires room { core.state.count < 1073741823 }
     requires start { IsAtStart core.state }
-    requires next { IsNext core record.now }
-    requires input_form { IsTrue (is_in_form record.now.input) }
-    requires built { is_built record.now.input ≡ true }
-    requires at_start { record.now.at ≡ 0 }
-    ensures told { IfOk result (λ x. Records core.state record.now x.0.state x.1.items) }
+    requires next { IsNext core accepted.now }
+    requires input_form { IsTrue (is_in_form accepted.now.input) }
+    requires built { is_built accepted.now.input ≡ true }
+    requires at_start { accepted.now.at ≡ 0 }
+    ensures told { IfOk result (λ x. Records core.state accepted.now x.0.state x.1.items) }
     ensures start { IfOk result (λ x. IsAtStart x.0.state) }
 {
-    let (core, entries) = core.step(alloc, record)?;
+    let (core, entries) = core.step(alloc, accepted)?;
     let text = entries_text(alloc, &entries)?;
     Ok((core, text))
 }

@@ -1,4 +1,7 @@
 //! The top call: all that the program does, over an outside that is given to it.
+//!
+//! It may cite every crate below.
+//! It must not cite the real outside: it works over any `Edge`.
 #![tactic(auto)]
 
 mod answer;
