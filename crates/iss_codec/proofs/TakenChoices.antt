@@ -13,7 +13,8 @@ use Rattle.iss_model.specs.Tokens.{is_token}
 use Rattle.iss_model.specs.Forms.{is_scope}
 use Rattle.iss_model.specs.Inputs.{spelled, moved_contents, association_contents, card_state_number, user_state_number}
 use Rattle.iss_model.specs.texts.Spelling.{AreBytes, scope_bytes, moved_token, association_tokens, scope_tokens}
-use Rattle.iss_codec.specs.Taking.{take_byte, take_token, take_numbered, card_state_numbered, user_state_numbered, take_mcc, take_moved_card, take_moved_user, take_moved_by, take_moved, take_named, take_association_by, take_association, take_mcc_scope, take_scope_by, take_scope}
+use Rattle.iss_model.specs.Numbers.{card_state_numbered, user_state_numbered}
+use Rattle.iss_codec.specs.Taking.{take_byte, take_token, take_numbered, take_mcc, take_moved_card, take_moved_user, take_moved_by, take_moved, take_named, take_association_by, take_association, take_mcc_scope, take_scope_by, take_scope}
 use Rattle.iss_codec.proofs.TakenFields.{bind_some, either_way, IsSplit, IsField, split_on, byte_takes, token_field}
 use Rattle.iss_codec.proofs.TakenParts.{behind, card_state_field, user_state_field, mcc_field}
 

@@ -21,7 +21,8 @@ use Rattle.iss_model.specs.Currencies.{iso_number, currencies}
 use Rattle.iss_model.specs.Forms.{is_amount, is_limit, is_mcc, is_stamp, is_timeout, is_hold_time, is_number, is_usage_limit, is_none_or, are_rising, are_mccs, are_limits, may_count}
 use Rattle.iss_model.specs.Inputs.{flag, funding_number, window_number, card_state_number, user_state_number, outcome_number}
 use Rattle.iss_model.specs.texts.Spelling.{AreBytes, number_bytes, currency_bytes, mcc_bytes, mccs_bytes, limit_bytes, limits_bytes}
-use Rattle.iss_codec.specs.Taking.{of_number, fundings, windows, card_states, user_states, outcomes, currency_numbered, funding_numbered, window_numbered, card_state_numbered, user_state_numbered, outcome_numbered, flag_numbered, take_byte, take_number, take_formed, take_stamp, take_amount, take_limit, take_mcc, take_id, take_numbered, take_flag, take_currency, take_some, take_optional_by, take_optional, take_codes, take_mccs}
+use Rattle.iss_model.specs.Numbers.{of_number, fundings, windows, card_states, user_states, outcomes, currency_numbered, funding_numbered, window_numbered, card_state_numbered, user_state_numbered, outcome_numbered, flag_numbered}
+use Rattle.iss_codec.specs.Taking.{take_byte, take_number, take_formed, take_stamp, take_amount, take_limit, take_mcc, take_id, take_numbered, take_flag, take_currency, take_some, take_optional_by, take_optional, take_codes, take_mccs}
 use Rattle.iss_codec.specs.TakingRecords.{take_limits}
 use Rattle.iss_codec.proofs.NumberBytes.{IsWide, wide_2, wide_4, wide_8}
 use Rattle.iss_codec.proofs.TakenFields.{bind_some, passed, either_way, IsSplit, IsField, split_on, byte_takes, number_takes, number_again, formed, numbered}

@@ -6,7 +6,8 @@ use Rattle.iss_model.specs.declared.input.Input.{Input}
 use Rattle.iss_model.specs.declared.input.Input.TheVariants as input
 use Rattle.iss_model.specs.declared.input.Record.{Record}
 use Rattle.iss_model.specs.Forms.{is_timeout, is_hold_time, are_limits}
-use Rattle.iss_codec.specs.Taking.{◌>>=◌, only, take_byte, take_formed, take_stamp, take_amount, take_limit, take_mcc, take_id, take_token, take_flag, take_currency, take_numbered, funding_numbered, window_numbered, outcome_numbered, take_optional, take_mccs, take_moved, take_association, take_scope}
+use Rattle.iss_model.specs.Numbers.{funding_numbered, window_numbered, outcome_numbered}
+use Rattle.iss_codec.specs.Taking.{◌>>=◌, only, take_byte, take_formed, take_stamp, take_amount, take_limit, take_mcc, take_id, take_token, take_flag, take_currency, take_numbered, take_optional, take_mccs, take_moved, take_association, take_scope}
 
 -- a user is made
 unfoldable pub take_user : List ℕ → Option (Input × List ℕ)

@@ -1,6 +1,7 @@
 //! Reading one of a few things, each by its number.
 ghost use Rattle.std.specs.Prelude.{◌≡◌};
-ghost use Rattle.iss_codec.specs.Taking.{take_currency, take_flag, take_numbered, currency_numbered, flag_numbered, funding_numbered, window_numbered, card_state_numbered, user_state_numbered, outcome_numbered};
+ghost use Rattle.iss_model.specs.Numbers.{currency_numbered, flag_numbered, funding_numbered, window_numbered, card_state_numbered, user_state_numbered, outcome_numbered};
+ghost use Rattle.iss_codec.specs.Taking.{take_currency, take_flag, take_numbered};
 ghost use Rattle.iss_codec.specs.Fronts.{seen};
 
 use crate::fields::{take_byte, take_u16};

@@ -1,5 +1,6 @@
 -- The forms that the fields of an input meet, whatever the book.
 use Rattle.std.specs.Prelude.{ℕ, ◌+◌, Bool, true, ◌&&◌, ◌||◌, nat_le, List, [], ◌∷◌, length, Option, Some, None, is_some, is_none}
+use Rattle.iss_model.specs.declared.limits.TheConstants.{LAST_STAMP, LEAST_AMOUNT, GREATEST_AMOUNT, GREATEST_LIMIT, GREATEST_USAGE, GREATEST_MCC, MOST_MCCS, SHORTEST_TIMEOUT, LONGEST_TIMEOUT, SHORTEST_HOLD, LONGEST_HOLD, FIRST_NUMBER, GREATEST_NUMBER}
 use Rattle.iss_model.specs.declared.setting.Window.{Window}
 use Rattle.iss_model.specs.declared.setting.Window.TheVariants as window
 use Rattle.iss_model.specs.declared.setting.Scope.{Scope}
@@ -9,15 +10,15 @@ use Rattle.iss_model.specs.declared.input.Input.TheVariants as input
 
 -- 1 to 1000000000 minor units
 abbrev pub is_amount : ℕ → Bool
-is_amount n = nat_le 1 n && nat_le n 1000000000
+is_amount n = nat_le LEAST_AMOUNT n && nat_le n GREATEST_AMOUNT
 
 -- a merchant category code of ISO 18245: four decimal digits
 abbrev pub is_mcc : ℕ → Bool
-is_mcc n = nat_le n 9999
+is_mcc n = nat_le n GREATEST_MCC
 
 -- a stamp, in milliseconds since 1970: up to the end of the year 9998
 abbrev pub is_stamp : ℕ → Bool
-is_stamp at = nat_le at 253370764799999
+is_stamp at = nat_le at LAST_STAMP
 
 -- a stamp that may be left out
 abbrev pub is_stamp_or_none : Option ℕ → Bool
@@ -26,11 +27,11 @@ is_stamp_or_none (Some at) = is_stamp at
 
 -- 0 to 1000000000000 minor units
 abbrev pub is_limit : ℕ → Bool
-is_limit n = nat_le n 1000000000000
+is_limit n = nat_le n GREATEST_LIMIT
 
 -- how often a control may let a purchase through
 abbrev pub is_usage_limit : ℕ → Bool
-is_usage_limit n = nat_le n 1000000
+is_usage_limit n = nat_le n GREATEST_USAGE
 
 -- a number that is there is of its form
 abbrev pub is_none_or : (ℕ → Bool) → Option ℕ → Bool
@@ -39,15 +40,15 @@ is_none_or form (Some n) = form n
 
 -- a product's time for an answer: up to a minute, in milliseconds
 abbrev pub is_timeout : ℕ → Bool
-is_timeout n = nat_le 1 n && nat_le n 60000
+is_timeout n = nat_le SHORTEST_TIMEOUT n && nat_le n LONGEST_TIMEOUT
 
 -- how long a product holds: a day to 31 days, in milliseconds
 abbrev pub is_hold_time : ℕ → Bool
-is_hold_time n = nat_le 86400000 n && nat_le n 2678400000
+is_hold_time n = nat_le SHORTEST_HOLD n && nat_le n LONGEST_HOLD
 
 -- the number of a call or notice
 abbrev pub is_number : ℕ → Bool
-is_number n = nat_le 1 n && nat_le n 4294967295
+is_number n = nat_le FIRST_NUMBER n && nat_le n GREATEST_NUMBER
 
 -- merchant category codes that rise from this one on, none twice
 abbrev pub are_rising : ℕ → List ℕ → Bool
@@ -56,7 +57,7 @@ are_rising low (mcc ∷ mccs) = nat_le low mcc && is_mcc mcc && are_rising (mcc 
 
 -- 1 to 1000 merchant category codes
 abbrev pub are_mccs : List ℕ → Bool
-are_mccs mccs = nat_le 1 (length mccs) && nat_le (length mccs) 1000 && are_rising 0 mccs
+are_mccs mccs = nat_le 1 (length mccs) && nat_le (length mccs) MOST_MCCS && are_rising 0 mccs
 
 -- a control of single transactions counts no purchases
 abbrev pub may_count : Window → Option ℕ → Bool

@@ -5,6 +5,7 @@ pub mod Amounts
 pub mod Calendar
 pub mod Sums
 pub mod Inputs
+pub mod Numbers
 pub mod Forms
 pub mod rules
 pub mod state

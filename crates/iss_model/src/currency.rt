@@ -1,6 +1,7 @@
 //! Currencies.
 ghost use Rattle.std.specs.Prelude.{◌≡◌};
 ghost use Rattle.iss_model.specs.Currencies.{iso_number};
+ghost use Rattle.iss_model.specs.Numbers.{currency_numbered};
 
 /// A currency of ISO 4217, by its alphabetic code.
 #[derive(Clone, Copy, Debug, PartialEq, Eq)]
@@ -27,6 +28,22 @@ impl Currency {
             Currency::Aud => 36,
             Currency::Jpy => 392,
             Currency::Kwd => 414,
+        }
+    }
+
+    /// The currency of this numeric code, or `None` where none has it.
+    pub fn from_number(number: u16) -> Option<Currency>
+        ensures { result ≡ currency_numbered number }
+    {
+        match number {
+            840 => Some(Currency::Usd),
+            978 => Some(Currency::Eur),
+            826 => Some(Currency::Gbp),
+            124 => Some(Currency::Cad),
+            36 => Some(Currency::Aud),
+            392 => Some(Currency::Jpy),
+            414 => Some(Currency::Kwd),
+            _ => None,
         }
     }
 }

@@ -13,7 +13,9 @@ mod currency;
 mod decision;
 mod entry;
 mod input;
+pub mod limits;
 mod mccs;
+mod numbered;
 mod setting;
 mod token;
 mod txn;
@@ -25,6 +27,7 @@ pub use decision::{Answer, Judged, Reason, Reply, Verdict};
 pub use entry::{Entry, Row};
 pub use input::{Input, Outcome, Record};
 pub use mccs::Mccs;
+pub use numbered::Numbered;
 pub use setting::{
     Association, Card, CardState, Control, Funding, Moved, Product, Scope, Set, User, UserState,
     Window,

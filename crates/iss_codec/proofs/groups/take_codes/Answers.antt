@@ -1,4 +1,4 @@
-use Rattle.std.proofs.Common.{◌++◌, ◌∷◌, [], sym}
+use Rattle.std.proofs.Common.{sym}
 use Rattle.iss_codec.proofs.Codes.{goes_on, ends, is_done}
 use Rattle.iss_codec.specs.Taking.{take_codes}
 use Rattle.iss_codec.proofs.groups.take_codes.Goals as goal
