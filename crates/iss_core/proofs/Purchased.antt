@@ -6,6 +6,7 @@ use Rattle.std.specs.Str.{bytes_eq}
 use Rattle.std.proofs.lemmas.Bool.{and_parts}
 use Rattle.std.proofs.lemmas.Bool.Decides.{nat_tests}
 use Rattle.std.proofs.lemmas.Slice.Eq.{bytes_eq-Decides}
+use Rattle.iss_model.specs.declared.limits.TheConstants.{GREATEST_AMOUNT}
 use Rattle.iss_model.specs.declared.account.Part.TheVariants as part
 use Rattle.iss_model.specs.declared.setting.User.{User}
 use Rattle.iss_model.specs.declared.setting.Card.{Card}
@@ -46,7 +47,7 @@ use Rattle.iss_core.specs.declared.state.State.{State}
 use Rattle.iss_core.specs.States.{state_of, with_decision, Made}
 use Rattle.iss_core.specs.declared.purchases.Purchase.{Purchase}
 use Rattle.iss_core.specs.Purchases.{unless, bought, bought_on, bought_of, purchased, purchase_entries}
-use Rattle.iss_core.specs.Sound.{is_begun, is_own, greatest_amount}
+use Rattle.iss_core.specs.Sound.{is_begun, is_own}
 use Rattle.iss_core.proofs.Kept.{found_passes}
 use Rattle.iss_core.proofs.Reaching.{within_small, within_changed, nothing_within, change_within, far_below, some_amount, most_amount}
 
@@ -262,9 +263,9 @@ begun_holds h first second t amount started added none some =
 
 -- what is held stays small
 pub begun_small : (count amount : ℕ) (h first : Holdings) (t : Txn) → count < 2 ^ 30 → is_amount amount ≡ true → first ≡ with_txn h t → txn_named t.token h.txns ≡ None
-    → AreWithin ((count - 1) * greatest_amount) h.held → AreSmall (after_holds first t.token (λ x. held x part.S amount)).held
+    → AreWithin ((count - 1) * GREATEST_AMOUNT) h.held → AreSmall (after_holds first t.token (λ x. held x part.S amount)).held
 begun_small count amount h first t room form started none within =
-    let n = (count - 1) * 1000000000 in
+    let n = (count - 1) * GREATEST_AMOUNT in
     let held_now = with_hold (with_txn h t) (entry.Hold t.token t.user t.currency part.S (pos amount)) in
     let below : (n + 0) + amount < 2 ^ 62 = omega (arith, far_below count amount room (most_amount amount form)) in
     subst (λ (x : Holdings). AreSmall x.held) (sym (begun_holds h first (after_holds first t.token (λ x. held x part.S amount)) t amount started refl none (some_amount amount form)))

@@ -4,8 +4,8 @@ use Rattle.std.proofs.lemmas.Int.{ints}
 use Rattle.std.specs.Str.{bytes_eq}
 use Rattle.std.proofs.lemmas.Bool.{and_parts}
 use Rattle.std.proofs.lemmas.Bool.Decides.{nat_tests}
+use Rattle.iss_model.specs.declared.limits.TheConstants.{GREATEST_AMOUNT}
 use Rattle.iss_model.specs.Forms.{is_amount}
-use Rattle.iss_core.specs.Sound.{greatest_amount}
 use Rattle.iss_model.specs.declared.account.Account.{Account}
 use Rattle.iss_model.specs.Sums.{Change, changed_at, account_key}
 use Rattle.iss_model.specs.state.Kept.{Kept, kept_at, after_changes, AreSmall}
@@ -63,24 +63,24 @@ within_post n amount sums from to within =
     (λ key. two_changes amount (bytes_eq (account_key to) key) (bytes_eq (account_key from) key))
 
 -- so many records and one amount more stay far below 2^62
-pub far_below : (count amount : ℕ) → count < 2 ^ 30 → amount ≤ 1000000000 → (count - 1) * 1000000000 + amount < 2 ^ 62
+pub far_below : (count amount : ℕ) → count < 2 ^ 30 → amount ≤ GREATEST_AMOUNT → (count - 1) * GREATEST_AMOUNT + amount < 2 ^ 62
 far_below count amount room le = omega arith
 
 -- an amount in form is at least 1 and at most the greatest
 pub some_amount : (n : ℕ) → is_amount n ≡ true → nat_le 1 n ≡ true
-some_amount n h = (and_parts (nat_le 1 n) (nat_le n 1000000000) h).0
+some_amount n h = (and_parts (nat_le 1 n) (nat_le n GREATEST_AMOUNT) h).0
 
-pub most_amount : (n : ℕ) → is_amount n ≡ true → n ≤ 1000000000
+pub most_amount : (n : ℕ) → is_amount n ≡ true → n ≤ GREATEST_AMOUNT
 most_amount n h =
-    let most = (and_parts (nat_le 1 n) (nat_le n 1000000000) h).1 in
+    let most = (and_parts (nat_le 1 n) (nat_le n GREATEST_AMOUNT) h).1 in
     at_most n most
   where
-    at_most : (n : ℕ) → nat_le n 1000000000 ≡ true → n ≤ 1000000000
+    at_most : (n : ℕ) → nat_le n GREATEST_AMOUNT ≡ true → n ≤ GREATEST_AMOUNT
     at_most n h = grind (arith, nat_tests)
 
 -- a post of an amount in form keeps balances small
-pub post_small : (count amount : ℕ) (sums : Kept) (from to : Account) → count < 2 ^ 30 → is_amount amount ≡ true → AreWithin ((count - 1) * greatest_amount) sums
+pub post_small : (count amount : ℕ) (sums : Kept) (from to : Account) → count < 2 ^ 30 → is_amount amount ≡ true → AreWithin ((count - 1) * GREATEST_AMOUNT) sums
     → AreSmall (after_post sums from to amount)
 post_small count amount sums from to room form within =
-    within_small ((count - 1) * 1000000000 + amount) (after_post sums from to amount) (far_below count amount room (most_amount amount form))
-    (within_post ((count - 1) * 1000000000) amount sums from to within)
+    within_small ((count - 1) * GREATEST_AMOUNT + amount) (after_post sums from to amount) (far_below count amount room (most_amount amount form))
+    (within_post ((count - 1) * GREATEST_AMOUNT) amount sums from to within)

@@ -11,6 +11,7 @@ use Rattle.std.proofs.lemmas.Bool.{and_parts}
 use Rattle.std.proofs.lemmas.Bool.Decides.{nat_tests}
 use Rattle.std.proofs.lemmas.Slice.Eq.{bytes_eq-Decides}
 use Rattle.std.proofs.lemmas.List.Folds.{list_all-append}
+use Rattle.iss_model.specs.declared.limits.TheConstants.{GREATEST_AMOUNT, MOST_RECORDS}
 use Rattle.iss_model.specs.declared.account.Account.TheVariants as account
 use Rattle.iss_model.specs.declared.currency.Currency.{Currency}
 use Rattle.iss_model.specs.declared.setting.Card.{Card}
@@ -70,7 +71,7 @@ begun_grows accepted more records t h =
     both_true _ _ (found_grows (λ (a : Accepted). is_event t.txn.token a.input) accepted more parts.0) parts.1
 
 -- a record that is taken up makes a core ready for its entries
-pub ready : (s : CoreState) (r : Record) → IsSound s → s.count < 1073741823 → IsTakenUp (taken_up s r)
+pub ready : (s : CoreState) (r : Record) → IsSound s → s.count < MOST_RECORDS → IsTakenUp (taken_up s r)
 ready s r sound room =
     let more : List Accepted = cond (is_some (event_token r.input)) (record { number = s.count + 1; at = r.at; input = r.input } ∷ []) [] in
     let same : s.count ≡ (s.count + 1) - 1 = omega arith in
@@ -129,7 +130,7 @@ pub record IsKeptBy (at : ℕ) (before after : CoreState) : Type 0 where
   pub due : due_items (core_facts after) at ≡ due_items (core_facts before) at
 
 -- a bound for one record less is one for all
-weaker_bound : (count : ℕ) → (count - 1) * 1000000000 ≤ count * 1000000000
+weaker_bound : (count : ℕ) → (count - 1) * GREATEST_AMOUNT ≤ count * GREATEST_AMOUNT
 weaker_bound count = omega arith
 
 begun_later : (accepted : List Accepted) (records more : ℕ) (txns : List TxnNow) → records ≤ more → list_all (is_begun accepted records) txns ≡ true → list_all (is_begun accepted more) txns ≡ true
@@ -150,8 +151,8 @@ pub still_sound : (s : CoreState) → IsTakenUp s → IsSoundAt s.count s
 still_sound s ready =
     let old = ready.sound in
     record {
-      balances = within_more ((s.count - 1) * 1000000000) (s.count * 1000000000) s.balances (weaker_bound s.count) old.balances;
-      held = within_more ((s.count - 1) * 1000000000) (s.count * 1000000000) s.holdings.held (weaker_bound s.count) old.held;
+      balances = within_more ((s.count - 1) * GREATEST_AMOUNT) (s.count * GREATEST_AMOUNT) s.balances (weaker_bound s.count) old.balances;
+      held = within_more ((s.count - 1) * GREATEST_AMOUNT) (s.count * GREATEST_AMOUNT) s.holdings.held (weaker_bound s.count) old.held;
       begun = begun_later s.accepted (s.count - 1) s.count s.holdings.txns (one_less s.count) old.begun;
       own = old.own;
     }
@@ -168,8 +169,8 @@ untouched at s after ready balances holdings accepted products calls =
     record {
       sound =
           record {
-            balances = subst (λ (k : Kept). AreWithin (s.count * 1000000000) k) (sym balances) old.balances;
-            held = subst (λ h. AreWithin (s.count * 1000000000) h.held) (sym holdings) old.held;
+            balances = subst (λ (k : Kept). AreWithin (s.count * GREATEST_AMOUNT) k) (sym balances) old.balances;
+            held = subst (λ h. AreWithin (s.count * GREATEST_AMOUNT) h.held) (sym holdings) old.held;
             begun = ap (λ h. list_all (is_begun after.accepted s.count) h.txns) holdings ∙ ap (λ a. list_all (is_begun a s.count) s.holdings.txns) accepted ∙ old.begun;
             own = ap (λ ps. list_all is_own ps) products ∙ old.own;
           };
@@ -201,7 +202,7 @@ product_kept at s token product currency funded timeout_ms hold_ms ready own hol
       due = refl;
     }
 
-amount_fits : (count amount : ℕ) → 0 < count → amount ≤ 1000000000 → (count - 1) * 1000000000 + amount ≤ count * 1000000000
+amount_fits : (count amount : ℕ) → 0 < count → amount ≤ GREATEST_AMOUNT → (count - 1) * GREATEST_AMOUNT + amount ≤ count * GREATEST_AMOUNT
 amount_fits count amount first le = omega arith
 
 -- money comes in
@@ -213,8 +214,8 @@ load_kept at s token user currency amount ready form =
       sound =
           record {
             balances =
-                within_more ((s.count - 1) * 1000000000 + amount) (s.count * 1000000000) after.balances (amount_fits s.count amount ready.first (most_amount amount form))
-                (within_post ((s.count - 1) * 1000000000) amount s.balances (account.Programme currency) (account.User user currency) ready.sound.balances);
+                within_more ((s.count - 1) * GREATEST_AMOUNT + amount) (s.count * GREATEST_AMOUNT) after.balances (amount_fits s.count amount ready.first (most_amount amount form))
+                (within_post ((s.count - 1) * GREATEST_AMOUNT) amount s.balances (account.Programme currency) (account.User user currency) ready.sound.balances);
             held = old.held;
             begun = old.begun;
             own = old.own;
@@ -265,16 +266,16 @@ purchased_kept : (s : CoreState) (p : Purchase) (t : Txn) → IsTakenUp s → is
 purchased_kept s p t ready form none known e =
     let old = still_sound s ready in
     let is = begun_by (core_facts s) p t e in
-    let n = (s.count - 1) * 1000000000 in
+    let n = (s.count - 1) * GREATEST_AMOUNT in
     let row : TxnNow = record { txn = t; live = is_live s.holdings.txns t.token } in
     let after = fold entered s (purchased t p.amount p.at) in
-    let reach : (n + 0) + p.amount ≤ s.count * 1000000000 = omega (arith, amount_fits s.count p.amount ready.first (most_amount p.amount form)) in
+    let reach : (n + 0) + p.amount ≤ s.count * GREATEST_AMOUNT = omega (arith, amount_fits s.count p.amount ready.first (most_amount p.amount form)) in
     record {
       sound =
           record {
             balances = old.balances;
             held =
-                within_more ((n + 0) + p.amount) (s.count * 1000000000) after.holdings.held reach
+                within_more ((n + 0) + p.amount) (s.count * GREATEST_AMOUNT) after.holdings.held reach
                 (within_changed (n + 0) p.amount (with_txn s.holdings t).held (record { key = user_key t.user t.currency; by = pos p.amount } ∷ [])
                 (within_changed n 0 s.holdings.held (held_begun t) ready.sound.held (nothing_within (user_key t.user t.currency)))
                 (change_within p.amount (user_key t.user t.currency)));

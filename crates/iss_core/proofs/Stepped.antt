@@ -2,6 +2,7 @@
 use Rattle.std.proofs.Common.{◌≡◌, ℕ, ◌<◌, max, true, List, [], ◌∷◌, fold, refl, sym, ap, subst, ◌∙◌}
 use Rattle.std.specs.Prelude.{Some, None}
 use Rattle.std.specs.List.{list_all}
+use Rattle.iss_model.specs.declared.limits.TheConstants.{MOST_RECORDS}
 use Rattle.iss_model.specs.declared.setting.Moved.TheVariants as moved
 use Rattle.iss_model.specs.declared.decision.Answer.{Answer}
 use Rattle.iss_model.specs.declared.decision.Judged.TheVariants as judged
@@ -73,9 +74,9 @@ new_so c s i copy stamp at is quiet fresh same moment =
 
 -- ---- a step
 
-pub ready_so : (c : CoreNow) (s taken : CoreState) (r : Record) → s ≡ c.state → IsSound s → c.state.count < 1073741823 → taken ≡ taken_up s r → IsTakenUp taken
+pub ready_so : (c : CoreNow) (s taken : CoreState) (r : Record) → s ≡ c.state → IsSound s → c.state.count < MOST_RECORDS → taken ≡ taken_up s r → IsTakenUp taken
 ready_so c s taken r is sound room up =
-    subst IsTakenUp (sym up) (ready s r sound (subst (λ (x : CoreState). x.count < 1073741823) (sym is) room))
+    subst IsTakenUp (sym up) (ready s r sound (subst (λ (x : CoreState). x.count < MOST_RECORDS) (sym is) room))
 
 pub unknown_so : (c : CoreNow) (s taken : CoreState) (r : Record) (token : List ℕ) → s ≡ c.state → IsSound s → taken ≡ taken_up s r → is_built r.input ≡ true → IsQuiet c.state r.at → IsNext c r
     → event_token r.input ≡ Some token → txn_named token taken.holdings.txns ≡ None
@@ -85,11 +86,11 @@ unknown_so c s taken r token is sound up built quiet next named =
     (next_unknown s r token built (subst (λ (x : CoreState). IsQuiet x r.at) (sym is) quiet) (ap (λ (x : CoreState). judge core_keeper x r.input r.at) is ∙ next) named)
 
 -- the core behind the record is sound, and quiet at its moment
-pub kept_so : (c : CoreNow) (s taken after : CoreState) (r : Record) (entries : List Entry) → s ≡ c.state → IsSound s → c.state.count < 1073741823 → s.controls ≡ [] → taken ≡ taken_up s r
+pub kept_so : (c : CoreNow) (s taken after : CoreState) (r : Record) (entries : List Entry) → s ≡ c.state → IsSound s → c.state.count < MOST_RECORDS → s.controls ≡ [] → taken ≡ taken_up s r
     → is_built r.input ≡ true → is_in_form r.input ≡ true → IsQuiet c.state r.at → Made r.input r.at taken after entries → IsSound after × IsQuiet after r.at
 kept_so c s taken after r entries is sound room none up built form quiet made =
     let here : Made r.input r.at (taken_up s r) after entries = subst (λ (x : CoreState). Made r.input r.at x after entries) up made in
-    made_keeps s after r entries (ready s r sound (subst (λ (x : CoreState). x.count < 1073741823) (sym is) room)) built form none (subst (λ (x : CoreState). IsQuiet x r.at) (sym is) quiet)
+    made_keeps s after r entries (ready s r sound (subst (λ (x : CoreState). x.count < MOST_RECORDS) (sym is) room)) built form none (subst (λ (x : CoreState). IsQuiet x r.at) (sym is) quiet)
     (ap (λ (x : CoreState). x.count) here.state ∙ all_entered_count (taken_up s r) entries) here
 
 pub stepped_so : (c : CoreNow) (n : ℕ) (s taken after : CoreState) (r : Record) (entries : List Entry) → record { instance = n; state = s } ≡ c → taken ≡ taken_up s r → IsQuiet c.state r.at
@@ -99,7 +100,7 @@ stepped_so c n s taken after r entries view up quiet made =
     (subst (λ (x : CoreState). Made r.input r.at x after entries) (up ∙ ap (λ (x : CoreNow). taken_up x.state r) view) made)
 
 -- the entries are of kinds that are built
-pub built_so : (c : CoreNow) (s taken after : CoreState) (r : Record) (entries : List Entry) → s ≡ c.state → IsSound s → c.state.count < 1073741823 → s.controls ≡ [] → taken ≡ taken_up s r
+pub built_so : (c : CoreNow) (s taken after : CoreState) (r : Record) (entries : List Entry) → s ≡ c.state → IsSound s → c.state.count < MOST_RECORDS → s.controls ≡ [] → taken ≡ taken_up s r
     → is_built r.input ≡ true → is_in_form r.input ≡ true → Made r.input r.at taken after entries → list_all is_built_entry entries ≡ true
 built_so c s taken after r entries is sound room none up built form made =
     ap (list_all is_built_entry) made.entries

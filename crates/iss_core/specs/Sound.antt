@@ -1,6 +1,7 @@
 -- What holds of every core: how far its sums reach, and what its transactions and products are.
 use Rattle.std.specs.Prelude.{◌≡◌, ℕ, ◌*◌, ◌-◌, ◌^◌, ◌<◌, Bool, true, ◌&&◌, nat_le, List, find, is_some}
 use Rattle.std.specs.List.{list_all}
+use Rattle.iss_model.specs.declared.limits.TheConstants.{GREATEST_AMOUNT}
 use Rattle.iss_model.specs.Inputs.{is_event}
 use Rattle.iss_model.specs.Forms.{is_hold_time}
 use Rattle.iss_model.specs.rules.Activity.{TxnNow}
@@ -8,10 +9,6 @@ use Rattle.iss_model.specs.rules.Facts.{Accepted}
 use Rattle.iss_model.specs.rules.CardReasons.{is_account_funded}
 use Rattle.iss_model.specs.state.Cores.{CoreState, ProductNow}
 use Rattle.iss_hold.specs.Bounds.{AreWithin}
-
--- the greatest amount that one record moves or holds, in minor units
-abbrev pub greatest_amount : ℕ
-greatest_amount = 1000000000
 
 -- a transaction is named by an accepted event, and began with one of so many records
 abbrev pub is_begun : List Accepted → ℕ → TxnNow → Bool
@@ -23,8 +20,8 @@ is_own p = is_account_funded p.product.funding && is_hold_time p.product.hold_ms
 
 -- What holds of a state when so many records have made their entries: each moved at most the greatest amount.
 pub record IsSoundAt (records : ℕ) (s : CoreState) : Type 0 where
-  pub balances : AreWithin (records * greatest_amount) s.balances
-  pub held : AreWithin (records * greatest_amount) s.holdings.held
+  pub balances : AreWithin (records * GREATEST_AMOUNT) s.balances
+  pub held : AreWithin (records * GREATEST_AMOUNT) s.holdings.held
   pub begun : list_all (is_begun s.accepted records) s.holdings.txns ≡ true
   pub own : list_all is_own s.products ≡ true
 

@@ -2,6 +2,7 @@
 ghost use Rattle.std.specs.Prelude.{◌≡◌, ◌^◌, ◌<◌, List, [], max, true, length, map, IfOk, IsTrue};
 ghost use Rattle.std.specs.List.{list_all};
 ghost use Rattle.std.specs.FinMap as finite;
+ghost use Rattle.iss_model.specs.declared.limits.TheConstants.{MOST_RECORDS};
 ghost use Rattle.iss_model.specs.declared.input.Record.{Record};
 ghost use Rattle.iss_model.specs.Sums.{account_key};
 ghost use Rattle.iss_model.specs.Forms.{is_in_form, is_stamp};
@@ -83,7 +84,7 @@ impl Core {
         requires next { IsNext self accepted.now }
         requires input_form { IsTrue (is_in_form accepted.now.input) }
         requires stamp_form { IsTrue (is_stamp accepted.now.at) }
-        requires room { self.state.count < 1073741823 }
+        requires room { self.state.count < MOST_RECORDS }
         requires built { is_built accepted.now.input ≡ true }
         requires quiet { IsQuiet self.state accepted.now.at }
         ensures stepped { IfOk result (λ x. Steps self x.0 accepted.now x.1.items) }

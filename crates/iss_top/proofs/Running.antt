@@ -3,6 +3,7 @@ use Rattle.std.proofs.Common.{◌≡◌, ℕ, ◌+◌, ◌≤◌, Bool, true, fa
 use Rattle.std.proofs.lemmas.List.{length-take}
 use Rattle.iss_edge.specs.World.{World}
 use Rattle.iss_edge.specs.Calls.{Same, Takes}
+use Rattle.iss_model.specs.declared.limits.TheConstants.{MOST_INPUT}
 use Rattle.iss_model.specs.state.Cores.{CoreState, no_core, core_keeper}
 use Rattle.iss_agreement.proofs.CoreOfBook.{core_transcript}
 use Rattle.iss_model.specs.run.Transcripts.{Text, transcript, bytes_of}
@@ -96,7 +97,7 @@ way_goes_on n count h h' l l' buffer a b c d le w t f =
 
 -- ---- the ends
 
-pub ends_early : (status : ℕ) (took text : List ℕ) (a b : World) → (status ≡ 0 → ⊥) → (status ≡ 8 → ⊥) → Passes took text a b → length took ≤ 4294967296
+pub ends_early : (status : ℕ) (took text : List ℕ) (a b : World) → (status ≡ 0 → ⊥) → (status ≡ 8 → ⊥) → Passes took text a b → length took ≤ MOST_INPUT
     → Begins text (text_to_come no_core [] (took ++ b.left 0)) → DryRun status a b
 ends_early status took text a b not_done not_long p le f =
     record {
@@ -116,7 +117,7 @@ ends_at_start a =
     ends_early 7 [] [] a a (λ e. cc) (λ e. cc) (way_begins a).passes (omega arith) (record { back = text_to_come no_core [] (a.left 0); cut = refl })
 
 -- a take failed
-pub ends_at_input : (n : ℕ) (h : CoreState) (l : List ℕ) (a b c : World) → n ≤ 4294967296 → IsOnItsWay n h l a b → Same b c → DryRun 3 a c
+pub ends_at_input : (n : ℕ) (h : CoreState) (l : List ℕ) (a b c : World) → n ≤ MOST_INPUT → IsOnItsWay n h l a b → Same b c → DryRun 3 a c
 ends_at_input n h l a b c le w s =
     ends_early 3 w.took w.text a c (λ e. cc) (λ e. cc)
     (record {
@@ -128,7 +129,7 @@ ends_at_input n h l a b c le w s =
     (record { back = text_to_come h l (c.left 0); cut = w.onward (c.left 0) })
 
 -- a line was told in part
-pub ends_in_piece : (status n count : ℕ) (h : CoreState) (l buffer : List ℕ) (a b c d : World) → (status ≡ 0 → ⊥) → (status ≡ 8 → ⊥) → count ≤ length buffer → n + count ≤ 4294967296
+pub ends_in_piece : (status n count : ℕ) (h : CoreState) (l buffer : List ℕ) (a b c d : World) → (status ≡ 0 → ⊥) → (status ≡ 8 → ⊥) → count ≤ length buffer → n + count ≤ MOST_INPUT
     → IsOnItsWay n h l a b → Takes (record { 0 = 0 }) count buffer b c → FedPart h l (take count buffer) c d → DryRun status a d
 ends_in_piece status n count h l buffer a b c d not_done not_long le limit w t f =
     let piece = take count buffer in
@@ -146,12 +147,12 @@ ends_in_piece status n count h l buffer a b c d not_done not_long le limit w t f
     })
 
 -- one byte too many came
-pub ends_too_long : (n count : ℕ) (h : CoreState) (l buffer : List ℕ) (a b c : World) → count ≤ length buffer → n + count ≡ 4294967297
+pub ends_too_long : (n count : ℕ) (h : CoreState) (l buffer : List ℕ) (a b c : World) → count ≤ length buffer → n + count ≡ MOST_INPUT + 1
     → IsOnItsWay n h l a b → Takes (record { 0 = 0 }) count buffer b c → DryRun 8 a c
 ends_too_long n count h l buffer a b c le limit w t =
     let piece = take count buffer in
     let p = passes_taken w.took w.text buffer count a b c w.passes t in
-    let all : length (w.took ++ piece) ≡ 4294967297 = taken_length w.took buffer count n w.count le ∙ limit in
+    let all : length (w.took ++ piece) ≡ MOST_INPUT + 1 = taken_length w.took buffer count n w.count le ∙ limit in
     record {
       took = w.took ++ piece;
       text = w.text;
@@ -174,7 +175,7 @@ nothing_left : (text rest : List ℕ) → text ++ rest ≡ [] → rest ≡ []
 nothing_left [] rest e = e
 nothing_left (t ∷ ts) rest e = cc
 
-pub ends_well : (n : ℕ) (h : CoreState) (l buffer : List ℕ) (a b c d : World) → n ≤ 4294967296
+pub ends_well : (n : ℕ) (h : CoreState) (l buffer : List ℕ) (a b c d : World) → n ≤ MOST_INPUT
     → IsOnItsWay n h l a b → Takes (record { 0 = 0 }) 0 buffer b c → Says (line_text h l) c d → DryRun 0 a d
 ends_well n h l buffer a b c d limit w t s =
     let over : b.left 0 ≡ [] = t.ends.0 refl in
@@ -198,7 +199,7 @@ ends_well n h l buffer a b c d limit w t s =
     }
 
 -- the input ended, and its last line was told in part
-pub ends_in_last : (status n : ℕ) (h : CoreState) (l buffer : List ℕ) (a b c d : World) → (status ≡ 0 → ⊥) → (status ≡ 8 → ⊥) → n ≤ 4294967296
+pub ends_in_last : (status n : ℕ) (h : CoreState) (l buffer : List ℕ) (a b c d : World) → (status ≡ 0 → ⊥) → (status ≡ 8 → ⊥) → n ≤ MOST_INPUT
     → IsOnItsWay n h l a b → Takes (record { 0 = 0 }) 0 buffer b c → SaysFront (line_text h l) c d → DryRun status a d
 ends_in_last status n h l buffer a b c d not_done not_long limit w t s =
     let over : b.left 0 ≡ [] = t.ends.0 refl in

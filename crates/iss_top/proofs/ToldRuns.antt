@@ -4,6 +4,7 @@ use Rattle.std.proofs.Math.Nat.{eq-or-lt_of_le}
 use Rattle.iss_edge.specs.World.{World, Told, Faults}
 use Rattle.iss_edge.specs.Calls.{Same, Takes}
 use Rattle.iss_edge.proofs.Tolds.{told_then, told_self}
+use Rattle.iss_model.specs.declared.limits.TheConstants.{MOST_INPUT}
 use Rattle.iss_model.specs.state.Cores.{CoreState, no_core}
 use Rattle.iss_top.specs.declared.stop.Stop.{Stop}
 use Rattle.iss_top.specs.declared.stop.Stop.TheVariants as stop
@@ -36,11 +37,11 @@ told_way_goes_on n count h h' l l' buffer piece x y z w le is p q r =
     told_three (IsOnItsWay n h l) (Takes (record { 0 = 0 }) count buffer) (Fed h l (take count buffer) h' l') (IsOnItsWay (n + count) h' l') x y z w
     (λ a b c d u v f. way_goes_on n count h h' l l' buffer a b c d le u v f) p q (subst (λ (t : List ℕ). Told (Fed h l t h' l') z w) is r)
 
-pub told_input_fails : (n : ℕ) (h : CoreState) (l : List ℕ) (x y z : Option World) → n ≤ 4294967296 → Told (IsOnItsWay n h l) x y → Told Same y z → Told (DryRun 3) x z
+pub told_input_fails : (n : ℕ) (h : CoreState) (l : List ℕ) (x y z : Option World) → n ≤ MOST_INPUT → Told (IsOnItsWay n h l) x y → Told Same y z → Told (DryRun 3) x z
 told_input_fails n h l x y z le p q =
     told_then (IsOnItsWay n h l) Same (DryRun 3) x y z (λ a b c u v. ends_at_input n h l a b c le u v) p q
 
-pub told_too_long : (n count : ℕ) (h : CoreState) (l buffer : List ℕ) (x y z : Option World) → count ≤ length buffer → n + count ≡ 4294967297
+pub told_too_long : (n count : ℕ) (h : CoreState) (l buffer : List ℕ) (x y z : Option World) → count ≤ length buffer → n + count ≡ MOST_INPUT + 1
     → Told (IsOnItsWay n h l) x y → Told (Takes (record { 0 = 0 }) count buffer) y z → Told (DryRun 8) x z
 told_too_long n count h l buffer x y z le limit p q =
     told_then (IsOnItsWay n h l) (Takes (record { 0 = 0 }) count buffer) (DryRun 8) x y z (λ a b c u v. ends_too_long n count h l buffer a b c le limit u v) p q
@@ -58,7 +59,7 @@ telling_not_long before now stop.Output cause e = cc
 telling_not_long before now stop.Memory cause e = cc
 telling_not_long before now stop.InputLong cause e = absurd cause
 
-pub told_piece_fails : (s : Stop) (before now : Faults) (n count : ℕ) (h : CoreState) (l buffer piece : List ℕ) (x y z w : Option World) → TellingCause before now s → count ≤ length buffer → n + count ≤ 4294967296
+pub told_piece_fails : (s : Stop) (before now : Faults) (n count : ℕ) (h : CoreState) (l buffer piece : List ℕ) (x y z w : Option World) → TellingCause before now s → count ≤ length buffer → n + count ≤ MOST_INPUT
     → piece ≡ take count buffer → Told (IsOnItsWay n h l) x y → Told (Takes (record { 0 = 0 }) count buffer) y z → Told (FedPart h l piece) z w → Told (DryRun (status_of {A = Unit {0}} (Err s))) x w
 told_piece_fails s before now n count h l buffer piece x y z w cause le limit is p q r =
     told_three (IsOnItsWay n h l) (Takes (record { 0 = 0 }) count buffer) (FedPart h l (take count buffer)) (DryRun (status_of {A = Unit {0}} (Err s))) x y z w
@@ -66,7 +67,7 @@ told_piece_fails s before now n count h l buffer piece x y z w cause le limit is
     p q (subst (λ (t : List ℕ). Told (FedPart h l t) z w) is r)
 
 -- the last line was told
-pub told_last_done : (n count : ℕ) (h : CoreState) (l said buffer : List ℕ) (x y z w : Option World) → n ≤ 4294967296 → count ≡ 0 → said ≡ l
+pub told_last_done : (n count : ℕ) (h : CoreState) (l said buffer : List ℕ) (x y z w : Option World) → n ≤ MOST_INPUT → count ≡ 0 → said ≡ l
     → Told (IsOnItsWay n h l) x y → Told (Takes (record { 0 = 0 }) count buffer) y z → Told (Says (line_text h said)) z w → Told (DryRun 0) x w
 told_last_done n count h l said buffer x y z w le none same p q r =
     told_three (IsOnItsWay n h l) (Takes (record { 0 = 0 }) 0 buffer) (Says (line_text h l)) (DryRun 0) x y z w
@@ -74,7 +75,7 @@ told_last_done n count h l said buffer x y z w le none same p q r =
     p (subst (λ k. Told (Takes (record { 0 = 0 }) k buffer) y z) none q) (subst (λ (t : List ℕ). Told (Says (line_text h t)) z w) same r)
 
 -- the last line was told in part
-pub told_last_fails : (s : Stop) (before now : Faults) (n count : ℕ) (h : CoreState) (l said buffer : List ℕ) (x y z w : Option World) → TellingCause before now s → n ≤ 4294967296 → count ≡ 0 → said ≡ l
+pub told_last_fails : (s : Stop) (before now : Faults) (n count : ℕ) (h : CoreState) (l said buffer : List ℕ) (x y z w : Option World) → TellingCause before now s → n ≤ MOST_INPUT → count ≡ 0 → said ≡ l
     → Told (IsOnItsWay n h l) x y → Told (Takes (record { 0 = 0 }) count buffer) y z → Told (SaysFront (line_text h said)) z w → Told (DryRun (status_of {A = Unit {0}} (Err s))) x w
 told_last_fails s before now n count h l said buffer x y z w cause le none same p q r =
     told_three (IsOnItsWay n h l) (Takes (record { 0 = 0 }) 0 buffer) (SaysFront (line_text h l)) (DryRun (status_of {A = Unit {0}} (Err s))) x y z w
@@ -82,7 +83,7 @@ told_last_fails s before now n count h l said buffer x y z w cause le none same 
     p (subst (λ k. Told (Takes (record { 0 = 0 }) k buffer) y z) none q) (subst (λ (t : List ℕ). Told (SaysFront (line_text h t)) z w) same r)
 
 -- past the limit one byte more is asked for, and before it none that passes the limit
-pub one_too_many : (taken count asked : ℕ) → taken ≤ 4294967296 → count ≤ asked → 4294967296 < taken + count → (taken ≡ 4294967296 → asked ≡ 1) → (taken < 4294967296 → taken + asked ≤ 4294967296)
-    → taken + count ≡ 4294967297
+pub one_too_many : (taken count asked : ℕ) → taken ≤ MOST_INPUT → count ≤ asked → MOST_INPUT < taken + count → (taken ≡ MOST_INPUT → asked ≡ 1) → (taken < MOST_INPUT → taken + asked ≤ MOST_INPUT)
+    → taken + count ≡ MOST_INPUT + 1
 one_too_many taken count asked limit le over one more =
     elim (eq-or-lt_of_le limit) [ inl last ↦ omega (arith, one last) | inr before ↦ absurd (omega (arith, more before)) ]

@@ -1,5 +1,6 @@
 -- The lines of a list of bytes.
 use Rattle.std.specs.Prelude.{ℕ, ◌-◌, Bool, not, ◌==◌, ◌||◌, nat_lt, List, [], ◌∷◌, ◌++◌, length, take, filter, if◌then◌else◌}
+use Rattle.iss_top.specs.declared.buffer.TheConstants.{KEPT}
 use Rattle.std.specs.List.{list_all}
 
 -- a space, a tab or a carriage return
@@ -27,6 +28,6 @@ lines_of bytes = filter (λ part. not (is_blank part)) (parts_of bytes)
 -- a blank is left out and any other byte takes the place of the last.
 abbrev pub kept_with : List ℕ → ℕ → List ℕ
 kept_with line b =
-    if nat_lt (length line) 16385 then line ++ b ∷ []
+    if nat_lt (length line) KEPT then line ++ b ∷ []
     else if is_blank_byte b then line
     else take (length line - 1) line ++ b ∷ []

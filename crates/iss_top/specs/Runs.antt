@@ -1,6 +1,7 @@
 -- What a run does, whatever status it ends with.
 use Rattle.std.specs.Prelude.{◌≡◌, ℕ, ◌≤◌, ◌↔◌, ◌⊎◌, List, [], ◌++◌, length, IfErr, Result}
 use Rattle.iss_edge.specs.World.{World, Faults, Later, Rose}
+use Rattle.iss_model.specs.declared.limits.TheConstants.{MOST_INPUT}
 use Rattle.iss_model.specs.state.Cores.{CoreState, no_core}
 use Rattle.iss_top.specs.declared.stop.Stop.{Stop}
 use Rattle.iss_top.specs.declared.stop.Stop.TheVariants as stop
@@ -29,8 +30,8 @@ pub record DryRun (status : ℕ) (a b : World) : Type 0 where
   pub passes : Passes took text a b
   pub front : Begins text (dry_output (a.left 0))
   pub whole : status ≡ 0 → (text ≡ dry_output (a.left 0)) × (b.left 0 ≡ [])
-  pub long : (status ≡ 8) ↔ (length took ≡ 4294967297)
-  pub bound : length took ≤ 4294967297
+  pub long : (status ≡ 8) ↔ (length took ≡ MOST_INPUT + 1)
+  pub bound : length took ≤ MOST_INPUT + 1
 
 -- why a run may end early
 abbrev pub RunCause : Faults → Faults → Stop → Type 0
@@ -47,5 +48,5 @@ pub record IsCaused {A : Type 0} (before now : Faults) (result : Result A Stop) 
 -- where no count on input or output rose, and the input has at most 4294967296 bytes, the status is 0 or 7
 abbrev pub EndsWell : Faults → Faults → ℕ → World → World → Type 0
 EndsWell before now status a b =
-    (Rose before.input now.input → ⊥) → (Rose before.output now.output → ⊥) → length (a.left 0) ≤ 4294967296
+    (Rose before.input now.input → ⊥) → (Rose before.output now.output → ⊥) → length (a.left 0) ≤ MOST_INPUT
     → (status ≡ 0) ⊎ (status ≡ 7)

@@ -2,6 +2,7 @@
 ghost use Rattle.std.specs.Prelude.{◌≡◌, ◌<◌, true, None, IfOk, IsTrue};
 ghost use Rattle.std.specs.List.{list_all};
 ghost use Rattle.iss_core.specs.Built.{is_built, is_built_entry};
+ghost use Rattle.iss_model.specs.declared.limits.TheConstants.{MOST_RECORDS};
 ghost use Rattle.iss_model.specs.state.Cores.{core_keeper};
 ghost use Rattle.iss_model.specs.Forms.{is_in_form};
 ghost use Rattle.iss_model.specs.run.Transcripts.{sound, after_line, bytes_of};
@@ -17,7 +18,7 @@ use std::alloc::{AllocError, Global};
 
 /// Takes a line that is not blank, and answers the core behind it with what the line is told.
 pub(crate) fn answer(alloc: Global, core: Core, line: &[u8]) -> Result<(Core, Vec<u8>), AllocError>
-    requires room { core.state.count < 1073741823 }
+    requires room { core.state.count < MOST_RECORDS }
     requires start { IsAtStart core.state }
     ensures told { IfOk result (λ x. Tells (told_of core.state line.now) x.0.state x.1.items) }
     ensures start { IfOk result (λ x. IsAtStart x.0.state) }
@@ -34,7 +35,7 @@ pub(crate) fn answer(alloc: Global, core: Core, line: &[u8]) -> Result<(Core, Ve
 
 /// Judges the input of a line: one that isn't new is told so, and a new one is a record.
 fn decide(alloc: Global, core: Core, said: Line) -> Result<(Core, Vec<u8>), AllocError>
-    requires room { core.state.count < 1073741823 }
+    requires room { core.state.count < MOST_RECORDS }
     requires start { IsAtStart core.state }
     requires input_form { IsTrue (is_in_form said.input) }
     requires built { is_built said.input ≡ true }
@@ -54,7 +55,7 @@ fn decide(alloc: Global, core: Core, said: Line) -> Result<(Core, Vec<u8>), Allo
 
 /// Takes up a record that is next, and answers the core behind it with the texts of its entries.
 fn take_up(alloc: Global, core: Core, accepted: &Record) -> Result<(Core, Vec<u8>), AllocError>
-    requires room { core.state.count < 1073741823 }
+    requires room { core.state.count < MOST_RECORDS }
     requires start { IsAtStart core.state }
     requires next { IsNext core accepted.now }
     requires input_form { IsTrue (is_in_form accepted.now.input) }

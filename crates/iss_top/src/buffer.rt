@@ -2,11 +2,12 @@
 ghost use Rattle.std.specs.Prelude.{◌≡◌, ◌≤◌, ◌+◌, [], length, OnOk};
 ghost use Rattle.iss_top.specs.Lines.{is_blank_byte, is_blank, kept_with};
 
+use iss_model::limits::LONGEST_LINE;
 use std::alloc::{AllocError, Global};
 use std::marker::Model;
 
 /// One byte more than a line may have, so that a longer line can be told from one that fits.
-const KEPT: usize = 16385;
+const KEPT: usize = LONGEST_LINE + 1;
 
 /// The bytes of a line so far. Of a longer line it keeps enough to know that it is long, and whether it is blank.
 #[derive(Drop)]

@@ -11,10 +11,8 @@ use crate::stop::Stop;
 use crate::telling::tell_line;
 use iss_core::Core;
 use iss_edge::{Channel, Edge};
+use iss_model::limits::MOST_INPUT;
 use std::alloc::Global;
-
-/// The most bytes of input that a run takes.
-const MOST: u64 = 4_294_967_296;
 
 /// The most bytes that are taken at once.
 const PIECE: usize = 4096;
@@ -35,7 +33,7 @@ pub(crate) fn dry<E: Edge>(alloc: Global, edge: &mut E) -> Result<(), Stop>
             return Ok(());
         }
         taken += count as u64;
-        if taken > MOST {
+        if taken > MOST_INPUT {
             return Err(Stop::InputLong);
         }
         core = feed(alloc, core, &mut line, edge, &buffer[..count])?;
@@ -44,16 +42,16 @@ pub(crate) fn dry<E: Edge>(alloc: Global, edge: &mut E) -> Result<(), Stop>
 
 /// How many bytes to ask for where so many were taken. Behind the most there may be, one byte more is asked for, to see whether there is one.
 fn room_after(taken: u64) -> usize
-    requires { taken ≤ MOST }
+    requires { taken ≤ MOST_INPUT }
     ensures some { 0 < result }
     ensures piece { result ≤ PIECE }
-    ensures within { taken < MOST → taken + result ≤ MOST }
-    ensures one_more { taken ≡ MOST → result ≡ 1 }
+    ensures within { taken < MOST_INPUT → taken + result ≤ MOST_INPUT }
+    ensures one_more { taken ≡ MOST_INPUT → result ≡ 1 }
 {
-    if taken == MOST {
+    if taken == MOST_INPUT {
         return 1;
     }
-    (MOST - taken).min(PIECE as u64) as usize
+    (MOST_INPUT - taken).min(PIECE as u64) as usize
 }
 
 /// Takes at most so many bytes into the front of the buffer.

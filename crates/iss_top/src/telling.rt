@@ -1,5 +1,6 @@
 //! Lines are told what becomes of them, on channel 0.
 ghost use Rattle.std.specs.Prelude.{◌≡◌, ◌<◌, IfOk, OnOk, OnErr};
+ghost use Rattle.iss_model.specs.declared.limits.TheConstants.{MOST_RECORDS};
 ghost use Rattle.iss_edge.specs.World.{Told};
 ghost use Rattle.iss_top.specs.Start.{IsAtStart};
 ghost use Rattle.iss_top.specs.Progress.{line_text, line_next, Says, SaysFront, IsTelling};
@@ -19,7 +20,7 @@ pub(crate) fn tell_line<E: Edge>(
     line: &[u8],
     edge: &mut E,
 ) -> Result<Core, Stop>
-    requires room { core.state.count < 1073741823 }
+    requires room { core.state.count < MOST_RECORDS }
     requires start { IsAtStart core.state }
     ensures next { IfOk result (λ next. next.state ≡ line_next core.state line.now) }
     ensures start { IfOk result (λ next. IsAtStart next.state) }

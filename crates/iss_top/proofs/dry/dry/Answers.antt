@@ -1,3 +1,4 @@
+use Rattle.iss_model.specs.declared.limits.TheConstants.{MOST_INPUT}
 use Rattle.std.proofs.Common.{◌≡◌, ◌≤◌, ◌<◌, ◌+◌, length, take, Err, refl, ap, ◌∙◌, arith, rules}
 use Rattle.std.proofs.lemmas.List.{length-take}
 use Rattle.iss_edge.proofs.Tolds.{later_then}
@@ -36,13 +37,13 @@ returns-then-count-eq0-clause-ran g c =
     (g.E.Edge.told c.args.edge.now) (g.E.Edge.told c.input.edge) (g.E.Edge.told c.take_piece.new.edge) (g.E.Edge.told c.tell_line.new.edge)
     c.input.invariant.limit c.if-count-eq0.true c.as_slice.ensures c.input.invariant.told c.in_ok-count.ensures.taken c.in_ok-tell_line.ensures.told
 
-pub returns-then-taken-gt-MOST-clause-ran : goal.returns-then-taken-gt-MOST-clause-ran
-returns-then-taken-gt-MOST-clause-ran g c =
+pub returns-then-taken-gt-MOST_INPUT-clause-ran : goal.returns-then-taken-gt-MOST_INPUT-clause-ran
+returns-then-taken-gt-MOST_INPUT-clause-ran g c =
     let within : c.in_ok-count.count ≤ length c.take_piece.new.buffer = omega (arith, c.in_ok-count.ensures.bound) in
     let asked : c.in_ok-count.count ≤ c.room_after.result = c.in_ok-count.ensures.bound in
-    let one : c.input.taken ≡ 4294967296 → c.room_after.result ≡ 1 = c.room_after.ensures.one_more in
-    let more : c.input.taken < 4294967296 → c.input.taken + c.room_after.result ≤ 4294967296 = c.room_after.ensures.within in
-    let all_but_one : c.input.taken + c.in_ok-count.count ≡ 4294967297 = one_too_many c.input.taken c.in_ok-count.count c.room_after.result c.input.invariant.limit asked c.if-taken-gt-MOST.true one more in
+    let one : c.input.taken ≡ MOST_INPUT → c.room_after.result ≡ 1 = c.room_after.ensures.one_more in
+    let more : c.input.taken < MOST_INPUT → c.input.taken + c.room_after.result ≤ MOST_INPUT = c.room_after.ensures.within in
+    let all_but_one : c.input.taken + c.in_ok-count.count ≡ MOST_INPUT + 1 = one_too_many c.input.taken c.in_ok-count.count c.room_after.result c.input.invariant.limit asked c.if-taken-gt-MOST.true one more in
     told_too_long c.input.taken c.in_ok-count.count c.input.core.state c.input.line c.take_piece.new.buffer
     (g.E.Edge.told c.args.edge.now) (g.E.Edge.told c.input.edge) (g.E.Edge.told c.take_piece.new.edge)
     within all_but_one c.input.invariant.told c.in_ok-count.ensures.taken

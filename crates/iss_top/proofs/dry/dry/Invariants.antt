@@ -1,3 +1,4 @@
+use Rattle.iss_model.specs.declared.limits.TheConstants.{MOST_INPUT}
 use Rattle.std.proofs.Common.{◌+◌, ◌-◌, ◌*◌, ◌≤◌, length}
 use Rattle.iss_edge.specs.World.{Told, Later}
 use Rattle.iss_top.specs.Runs.{IsOnItsWay}
@@ -6,7 +7,7 @@ use Rattle.iss_top.proofs.dry.dry.Given as goal
 
 abbrev pub invariant-input : goal.invariant-input
 invariant-input g l = record {
-  limit : l.taken ≤ 4294967296;
+  limit : l.taken ≤ MOST_INPUT;
   room : 5 * l.core.state.count + length l.line ≤ l.taken;
   start : IsAtStart l.core.state;
   told : Told (IsOnItsWay l.taken l.core.state l.line) (g.E.Edge.told l.initial.edge) (g.E.Edge.told l.edge);
@@ -14,4 +15,4 @@ invariant-input g l = record {
 }
 
 abbrev pub decreases-input : goal.decreases-input
-decreases-input g l = 4294967296 - l.taken
+decreases-input g l = MOST_INPUT - l.taken
