@@ -34,9 +34,9 @@ use Rattle.iss_model.specs.rules.Facts.{Facts, txn_in, is_notice}
 use Rattle.iss_model.specs.rules.Asks.{Ask, ask_usage, txn_begun}
 use Rattle.iss_model.specs.rules.Reasons.{user_reason, card_reason, card_move_reason, user_move_reason, move_reason, product_reason, control_reason, put_control_reason, switch_reason, lacks_user, lacks_product, lacks_group}
 use Rattle.iss_model.specs.rules.CardReasons.{authorization_reason, first_ask, further_ask}
-use Rattle.iss_model.specs.rules.CardEntries.{funding_sought, authorized, incremented, reversed, cleared, refunded, answered}
+use Rattle.iss_model.specs.rules.CardEntries.{funding_entries, authorization_entries, increment_entries, reversal_entries, clearing_entries, refund_entries, answer_entries}
 use Rattle.iss_model.specs.rules.Due.{thing_entries}
-use Rattle.iss_model.specs.rules.Stepping.{unless_declined, set_by, loaded, authorization_ask, increment_ask, acknowledged, entries_of}
+use Rattle.iss_model.specs.rules.Stepping.{unless_declined, setting_entries, load_entries, authorization_ask, increment_ask, acknowledgement_entries, entries_of}
 use Rattle.iss_model.specs.rules.Histories.{History, nothing_yet, history_facts, history_keeper, history_of}
 use Rattle.iss_agreement.specs.Laws.{KeptBySteps}
 use Rattle.iss_model.proofs.Names.{its_name}
@@ -126,9 +126,9 @@ fit-unless : (f : Facts) (why : Option Reason) (token : List ℕ) (es : List Ent
 fit-unless f None token es fit = fit refl
 fit-unless f (Some why) token es fit = (tt, fit-nil (bounds_of f))
 
-fit-set : (f : Facts) (i : Input) (token : List ℕ) (why : Option Reason) → (why ≡ None → IsSettable f i) → Fit f (unless_declined why token (set_by i token))
+fit-set : (f : Facts) (i : Input) (token : List ℕ) (why : Option Reason) → (why ≡ None → IsSettable f i) → Fit f (unless_declined why token (setting_entries i token))
 fit-set f i token why settable =
-    fit-unless f why token (set_by i token) (λ none. (settable none, fit-cons (bounds_of f) (entry.Decided token verdict.Done) [] tt (fit-nil (bounds_of f))))
+    fit-unless f why token (setting_entries i token) (λ none. (settable none, fit-cons (bounds_of f) (entry.Decided token verdict.Done) [] tt (fit-nil (bounds_of f))))
 
 fit-rest : (f : Facts) (why : Option Reason) (token : List ℕ) (es : List Entry) → AreFit (bounds_of f) es → Fit f (unless_declined why token es)
 fit-rest f why token es fit = fit-unless f why token es (λ none. fit-all f es fit)
@@ -181,7 +181,7 @@ ask_origin : (f : Facts) (token : List ℕ) (currency : Currency) (amount mcc : 
 ask_origin f token currency amount mcc mid at None x e = cc
 ask_origin f token currency amount mcc mid at (Some c) x e = begun_by f token currency amount mcc mid at c (product_named c.product f.products) x e
 
-fit-authorized : (f : Facts) (ask : Option Ask) → AreKnown (bounds_of f) f → ((x : Ask) → ask ≡ Some x → x.txn.origin ≡ f.count) → Fit f (authorized f ask)
+fit-authorized : (f : Facts) (ask : Option Ask) → AreKnown (bounds_of f) f → ((x : Ask) → ask ≡ Some x → x.txn.origin ≡ f.count) → Fit f (authorization_entries f ask)
 fit-authorized f None all its = tt
 fit-authorized f (Some ask) all its =
     let names : List (List ℕ) = map (λ (t : TxnNow). t.txn.token) f.txns in
@@ -198,7 +198,7 @@ fit-authorized f (Some ask) all its =
           both_true (nat_le t.txn.origin f.count) (is_named_in (ask.txn.token ∷ names) t.txn.token) parts.0 (named_later t.txn.token ask.txn.token names parts.1)) f.txns all.txns;
     } in
     let own : IsKnown b ask.txn = record { origin = origin; named = ap (λ (b : Bool). b || is_named_in names ask.txn.token) (its_name ask.txn.token) } in
-    (origin, fit-cons b (entry.Usage (ask_usage ask)) (funding_sought f ask) origin (fit-funding_sought b f ask known own))
+    (origin, fit-cons b (entry.Usage (ask_usage ask)) (funding_entries f ask) origin (fit-funding_sought b f ask known own))
 
 increment_known : (b : Bounds) (token : List ℕ) (amount at : ℕ) (now : Option TxnNow) → ((x : TxnNow) → now ≡ Some x → IsKnown b x.txn)
     → (x : Ask) → option_map (λ t. further_ask token amount at t.txn) now ≡ Some x → IsKnown b x.txn
@@ -232,23 +232,23 @@ fit-own f (input.Switch token product on) at all =
     (λ none. is_there (product_named product f.products) (first_fails (is_none (product_named product f.products)) reason.ProductUnknown None none).0)
 fit-own f (input.Load token user currency amount) at all =
     let b : Bounds = bounds_of f in
-    fit-rest f _ token (loaded token user currency amount) (fit-cons b _ _ tt (fit-cons b _ [] tt (fit-nil b)))
+    fit-rest f _ token (load_entries token user currency amount) (fit-cons b _ _ tt (fit-cons b _ [] tt (fit-nil b)))
 fit-own f (input.Authorization token card currency amount mcc mid) at all =
     let ask : Option Ask = authorization_ask f token card currency amount mcc mid at in
-    fit-unless f (authorization_reason f card currency ask) token (authorized f ask)
+    fit-unless f (authorization_reason f card currency ask) token (authorization_entries f ask)
     (λ none. fit-authorized f ask all (ask_origin f token currency amount mcc mid at (card_named card f.cards)))
 fit-own f (input.Increment token txn currency amount) at all =
     let b : Bounds = bounds_of f in
-    fit-rest f _ token (incremented f (increment_ask f token txn amount at))
+    fit-rest f _ token (increment_entries f (increment_ask f token txn amount at))
     (fit-incremented b f (increment_ask f token txn amount at) all (increment_known b token amount at (txn_in f txn) (λ now e. known_txn b f txn now all e)))
 fit-own f (input.Reversal token txn currency amount) at all =
-    fit-rest f _ token (reversed f token amount (txn_in f txn)) (fit-reversed (bounds_of f) f token amount (txn_in f txn) all (λ now e. known_txn (bounds_of f) f txn now all e))
+    fit-rest f _ token (reversal_entries f token amount (txn_in f txn)) (fit-reversed (bounds_of f) f token amount (txn_in f txn) all (λ now e. known_txn (bounds_of f) f txn now all e))
 fit-own f (input.Clearing token txn currency amount last) at all =
-    fit-rest f _ token (cleared f token amount last at (txn_in f txn)) (fit-cleared (bounds_of f) f token amount last at (txn_in f txn) all (λ now e. known_txn (bounds_of f) f txn now all e))
+    fit-rest f _ token (clearing_entries f token amount last at (txn_in f txn)) (fit-cleared (bounds_of f) f token amount last at (txn_in f txn) all (λ now e. known_txn (bounds_of f) f txn now all e))
 fit-own f (input.Refund token txn currency amount) at all =
-    fit-rest f _ token (refunded f token amount (txn_in f txn)) (fit-refunded (bounds_of f) f token amount (txn_in f txn) all)
-fit-own f (input.Answer call outcome) at all = fit-all f (answered call outcome at f) (fit-answered (bounds_of f) f call outcome at all)
-fit-own f (input.Ack notice) at all = fit-all f (acknowledged f notice) (fit-acknowledged f notice (is_notice f notice) refl)
+    fit-rest f _ token (refund_entries f token amount (txn_in f txn)) (fit-refunded (bounds_of f) f token amount (txn_in f txn) all)
+fit-own f (input.Answer call outcome) at all = fit-all f (answer_entries call outcome at f) (fit-answered (bounds_of f) f call outcome at all)
+fit-own f (input.Ack notice) at all = fit-all f (acknowledgement_entries f notice) (fit-acknowledged f notice (is_notice f notice) refl)
 fit-own f input.Time at all = tt
 
 -- every history stays good ----

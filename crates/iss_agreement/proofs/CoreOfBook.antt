@@ -15,14 +15,14 @@ use Rattle.iss_model.specs.declared.entry.Row.{Row}
 use Rattle.iss_model.specs.Inputs.{event_token}
 use Rattle.iss_model.specs.Sums.{part_key, user_key, balance_changes, held_changes, part_changes, txn_changes, cleared_by, refunded_by, paid_by, stood_changes}
 use Rattle.iss_model.specs.rules.Settings.{is_switched, products_of}
-use Rattle.iss_model.specs.rules.Controls.{ControlPut, control_puts_of, counting, groups_of, counted_changes}
+use Rattle.iss_model.specs.rules.Controls.{ControlPut, control_puts_of, counted_control, groups_of, counted_changes}
 use Rattle.iss_model.specs.rules.Facts.{Accepted}
 use Rattle.iss_model.specs.rules.Keeper.{Growth}
 use Rattle.iss_model.specs.rules.Stepping.{step}
 use Rattle.iss_model.specs.rules.Judging.{judge}
-use Rattle.iss_model.specs.rules.Histories.{History, nothing_yet, time_of, accepted_from, events_of, history_facts, history_keeper, history_of}
-use Rattle.iss_model.specs.state.Cores.{CoreState, ProductNow, no_core, control_told, taken_up, core_facts, core_keeper, core_of}
-use Rattle.iss_agreement.specs.Shown.{product_shown, control_shown, kept_part_changes, kept_held_changes, shown_by}
+use Rattle.iss_model.specs.rules.Histories.{History, nothing_yet, time_of, events_from, events_of, history_facts, history_keeper, history_of}
+use Rattle.iss_model.specs.state.Cores.{CoreState, ProductNow, no_core, control_facts, with_record, core_facts, core_keeper, core_of}
+use Rattle.iss_agreement.specs.Shown.{shown_product, shown_control, kept_part_changes, kept_held_changes, shown_state}
 use Rattle.iss_agreement.specs.Laws.{Shows}
 use Rattle.iss_model.proofs.Lists.{map-alike, map-map, map-same}
 use Rattle.iss_model.proofs.KeptSums.{kept-sum, sum_kept, ChangeAlike}
@@ -41,15 +41,15 @@ switched_name name true p rest names e = λ i. p.name ∷ e i
 switched_name name false p rest names e = e
 
 switched_shown : (rows : List Row) (ps : List Product)
-    → map (λ (q : ProductNow). q.product.name) (filter (λ (q : ProductNow). q.on) (map (product_shown rows) ps)) ≡ filter (is_switched rows) (map (λ (p : Product). p.name) ps)
+    → map (λ (q : ProductNow). q.product.name) (filter (λ (q : ProductNow). q.on) (map (shown_product rows) ps)) ≡ filter (is_switched rows) (map (λ (p : Product). p.name) ps)
 switched_shown rows [] = refl
 switched_shown rows (p ∷ ps) =
-    switched_name p.name (is_switched rows p.name) p (filter (λ (q : ProductNow). q.on) (map (product_shown rows) ps)) (filter (is_switched rows) (map (λ (p : Product). p.name) ps)) (switched_shown rows ps)
+    switched_name p.name (is_switched rows p.name) p (filter (λ (q : ProductNow). q.on) (map (shown_product rows) ps)) (filter (is_switched rows) (map (λ (p : Product). p.name) ps)) (switched_shown rows ps)
 
-controls_told : (rows : List Row) → map control_told (map (control_shown rows) (control_puts_of rows)) ≡ map (counting rows) (control_puts_of rows)
+controls_told : (rows : List Row) → map control_facts (map (shown_control rows) (control_puts_of rows)) ≡ map (counted_control rows) (control_puts_of rows)
 controls_told rows =
-    map-map (control_shown rows) control_told (control_puts_of rows)
-    ∙ map-alike (λ (put : ControlPut). control_told (control_shown rows put)) (counting rows)
+    map-map (shown_control rows) control_facts (control_puts_of rows)
+    ∙ map-alike (λ (put : ControlPut). control_facts (shown_control rows put)) (counted_control rows)
     (λ put i. record {
       first = put.number;
       control = put.control;
@@ -70,7 +70,7 @@ held_alike : ChangeAlike kept_held_changes held_changes
 held_alike (entry.Began t) key = nothing_more (bytes_eq (user_key t.user t.currency) key) (pos 0) refl
 held_alike _ key = refl
 
-facts_shown : (h : History) → core_facts (shown_by h) ≡ history_facts h
+facts_shown : (h : History) → core_facts (shown_state h) ≡ history_facts h
 facts_shown h =
     λ i. record {
       now = time_of h.records;
@@ -79,7 +79,7 @@ facts_shown h =
       decisions = (history_facts h).decisions;
       users = (history_facts h).users;
       cards = (history_facts h).cards;
-      products = (map-map (product_shown h.rows) (λ (p : ProductNow). p.product) (products_of h.rows) ∙ map-same (λ (p : Product). p) (λ p. refl) (products_of h.rows)) i;
+      products = (map-map (shown_product h.rows) (λ (p : ProductNow). p.product) (products_of h.rows) ∙ map-same (λ (p : Product). p) (λ p. refl) (products_of h.rows)) i;
       switched = switched_shown h.rows (products_of h.rows) i;
       groups = groups_of h.rows;
       controls = controls_told h.rows i;
@@ -100,14 +100,14 @@ facts_shown h =
 -- a record is taken up ----
 
 accepted_last : (n : ℕ) (rs : List Record) (r : Record)
-    → accepted_from n (rs ++ r ∷ []) ≡ accepted_from n rs ++ record { number = length rs + n; at = r.at; input = r.input } ∷ []
+    → events_from n (rs ++ r ∷ []) ≡ events_from n rs ++ record { number = length rs + n; at = r.at; input = r.input } ∷ []
 accepted_last n [] r = λ i. record { number = zero_more n i; at = r.at; input = r.input } ∷ []
   where
     zero_more : (n : ℕ) → n ≡ 0 + n
     zero_more n = omega arith
 accepted_last n (x ∷ rs) r =
     ap (λ (rest : List Accepted). record { number = n; at = x.at; input = x.input } ∷ rest)
-    (accepted_last (n + 1) rs r ∙ ap (λ (m : ℕ). accepted_from (n + 1) rs ++ record { number = m; at = r.at; input = r.input } ∷ []) (one_later n (length rs)))
+    (accepted_last (n + 1) rs r ∙ ap (λ (m : ℕ). events_from (n + 1) rs ++ record { number = m; at = r.at; input = r.input } ∷ []) (one_later n (length rs)))
   where
     one_later : (n m : ℕ) → m + (n + 1) ≡ suc m + n
     one_later n m = omega arith
@@ -116,11 +116,11 @@ events_last : (rs : List Record) (r : Record)
     → events_of (rs ++ r ∷ []) ≡ events_of rs ++ cond (is_some (event_token r.input)) (record { number = length rs + 1; at = r.at; input = r.input } ∷ []) []
 events_last rs r =
     ap (filter (λ (a : Accepted). is_some (event_token a.input))) (accepted_last 1 rs r)
-    ∙ filter-append (λ (a : Accepted). is_some (event_token a.input)) (accepted_from 1 rs) (record { number = length rs + 1; at = r.at; input = r.input } ∷ [])
+    ∙ filter-append (λ (a : Accepted). is_some (event_token a.input)) (events_from 1 rs) (record { number = length rs + 1; at = r.at; input = r.input } ∷ [])
 
-taken_up_shown : (h : History) (r : Record) → taken_up (shown_by h) r ≡ shown_by (record h { records = h.records ++ r ∷ [] })
+taken_up_shown : (h : History) (r : Record) → with_record (shown_state h) r ≡ shown_state (record h { records = h.records ++ r ∷ [] })
 taken_up_shown h r =
-    λ i. record (shown_by h) {
+    λ i. record (shown_state h) {
       now = sym (fold-append (λ (now : ℕ) (x : Record). max now x.at) 0 h.records (r ∷ [])) i;
       count = sym (length-append h.records (r ∷ [])) i;
       accepted = sym (events_last h.records r) i;
@@ -128,7 +128,7 @@ taken_up_shown h r =
 
 -- the law ----
 
-pub core_shows : Shows history_keeper core_keeper shown_by IsGood Fit
+pub core_shows : Shows history_keeper core_keeper shown_state IsGood Fit
 core_shows =
     record {
       facts = λ h good. facts_shown h;
@@ -136,8 +136,8 @@ core_shows =
       add = λ h entries good fit. (enters h entries good fit).0;
     }
 
-pub core_history : (rs : List Record) → core_of rs ≡ shown_by (history_of rs)
-core_history rs = steps-shown history_keeper core_keeper shown_by IsGood Fit book_kept core_shows nothing_yet rs nothing_good
+pub core_history : (rs : List Record) → core_of rs ≡ shown_state (history_of rs)
+core_history rs = steps-shown history_keeper core_keeper shown_state IsGood Fit book_kept core_shows nothing_yet rs nothing_good
 
 pub facts_history : (rs : List Record) → core_facts (core_of rs) ≡ history_facts (history_of rs)
 facts_history rs = ap core_facts (core_history rs) ∙ facts_shown (history_of rs)
@@ -145,14 +145,14 @@ facts_history rs = ap core_facts (core_history rs) ∙ facts_shown (history_of r
 pub entries_history : (rs : List Record) (r : Record) → (step core_keeper (core_of rs) r).entries ≡ (step history_keeper (history_of rs) r).entries
 entries_history rs r =
     ap (λ (s : CoreState). (step core_keeper s r).entries) (core_history rs)
-    ∙ ap (λ (g : Growth CoreState). g.entries) (step-shown history_keeper core_keeper shown_by IsGood Fit book_kept core_shows (history_of rs) r (history_good rs))
+    ∙ ap (λ (g : Growth CoreState). g.entries) (step-shown history_keeper core_keeper shown_state IsGood Fit book_kept core_shows (history_of rs) r (history_good rs))
 
 pub judge_history : (rs : List Record) (i : Input) (stamp : ℕ) → judge core_keeper (core_of rs) i stamp ≡ judge history_keeper (history_of rs) i stamp
 judge_history rs i stamp =
     ap (λ (s : CoreState). judge core_keeper s i stamp) (core_history rs)
-    ∙ judge-shown history_keeper core_keeper shown_by IsGood Fit book_kept core_shows (history_of rs) i stamp (history_good rs)
+    ∙ judge-shown history_keeper core_keeper shown_state IsGood Fit book_kept core_shows (history_of rs) i stamp (history_good rs)
 
--- the state behind one more record is that of the longer list
+-- the state after one more record is that of the longer list
 pub core_step : (rs : List Record) (r : Record) → (step core_keeper (core_of rs) r).world ≡ core_of (rs ++ r ∷ [])
 core_step rs r = sym (fold-append (λ (s : CoreState) (x : Record). (step core_keeper s x).world) _ rs (r ∷ []))
 
@@ -160,4 +160,4 @@ core_step rs r = sym (fold-append (λ (s : CoreState) (x : Record). (step core_k
 pub core_transcript : (lines : List Reading) → transcript core_keeper no_core lines ≡ transcript history_keeper nothing_yet lines
 core_transcript lines =
     ap (λ (s : CoreState). transcript core_keeper s lines) (core_history [])
-    ∙ transcript-shown history_keeper core_keeper shown_by IsGood Fit book_kept core_shows nothing_yet lines nothing_good
+    ∙ transcript-shown history_keeper core_keeper shown_state IsGood Fit book_kept core_shows nothing_yet lines nothing_good

@@ -21,8 +21,8 @@ use Rattle.iss_model.specs.Currencies.{same_currency}
 use Rattle.iss_model.specs.Sums.{Change}
 use Rattle.iss_model.specs.state.Kept.{Kept, nothing_kept, after_changes, kept_of}
 use Rattle.iss_model.specs.rules.Controls.{Group, group_made, groups_of, ControlPut, control_put, control_replaced, control_now, control_puts_of, firsts, holds_mcc, covers, is_associated, span_key, counted_changes}
-use Rattle.iss_model.specs.state.Cores.{ControlKept, control_changed, with_control, control_noted, with_made}
-use Rattle.iss_agreement.specs.Shown.{control_shown}
+use Rattle.iss_model.specs.state.Cores.{ControlKept, control_after_put, with_control, control_after_use, with_made}
+use Rattle.iss_agreement.specs.Shown.{shown_control}
 use Rattle.iss_model.proofs.Names.{name-sym}
 use Rattle.iss_model.proofs.Lists.{map-alike, map-map, map-where}
 use Rattle.iss_model.proofs.KeptSums.{kept-alike}
@@ -43,7 +43,7 @@ control_seen groups rows put =
       times = kept_of (counted_changes (λ row. row.count) groups put) rows;
     }
 
-seen-more : (groups : List Group) (rows : List Row) (n : ℕ) (e : Entry) (put : ControlPut) → control_seen groups (rows ++ row_of n e) put ≡ control_noted groups e (control_seen groups rows put)
+seen-more : (groups : List Group) (rows : List Row) (n : ℕ) (e : Entry) (put : ControlPut) → control_seen groups (rows ++ row_of n e) put ≡ control_after_use groups e (control_seen groups rows put)
 seen-more groups rows n e put =
     λ i. record {
       first = put.number;
@@ -129,7 +129,7 @@ put_more groups rows x last p false = refl
 abbrev seen_by : List Group → List Row → List ControlPut → ControlPut → ControlKept
 seen_by groups rows puts put = control_seen groups rows (control_now puts put)
 
-put_changed : (groups : List Group) (rows : List Row) (puts : List ControlPut) (p x : ControlPut) → seen_by groups rows (puts ++ p ∷ []) x ≡ control_changed p (seen_by groups rows puts x)
+put_changed : (groups : List Group) (rows : List Row) (puts : List ControlPut) (p x : ControlPut) → seen_by groups rows (puts ++ p ∷ []) x ≡ control_after_put p (seen_by groups rows puts x)
 put_changed groups rows puts p x =
     ap (λ (last : ControlPut). control_seen groups rows (record x { control = control_replaced x.control last.control })) (last_named-more put_name puts p x)
     ∙ put_more groups rows x (last_named put_name puts x) p (bytes_eq p.control.name x.control.name)
@@ -144,10 +144,10 @@ put_other groups rows puts p x differs =
 put_taken : (b : Bounds) (groups : List Group) (rows : List Row) (puts : List ControlPut) (p : ControlPut) → AreStanding b rows → b.count ≡ p.number
     → (known : Bool) → list_any (λ k. bytes_eq k.control.name p.control.name) (firsts put_name puts) ≡ known
     → map (seen_by groups rows (puts ++ p ∷ [])) (firsts put_name (puts ++ p ∷ []))
-    ≡ cond known (map (control_changed p) (map (seen_by groups rows puts) (firsts put_name puts)))
+    ≡ cond known (map (control_after_put p) (map (seen_by groups rows puts) (firsts put_name puts)))
     (map (seen_by groups rows puts) (firsts put_name puts) ++ record { first = p.number; control = p.control; amounts = nothing_kept; times = nothing_kept } ∷ [])
 put_taken b groups rows puts p standing now true known =
-    put-again put_name (seen_by groups rows) (control_changed p) puts p known (put_changed groups rows puts p)
+    put-again put_name (seen_by groups rows) (control_after_put p) puts p known (put_changed groups rows puts p)
 put_taken b groups rows puts p standing now false new =
     put-first put_name (seen_by groups rows) puts p _ new (put_other groups rows puts p)
     (ap (λ (last : ControlPut). control_seen groups rows (record p { control = control_replaced p.control last.control })) (last_named-own put_name puts p)
@@ -159,11 +159,11 @@ abbrev pub controls_after : ℕ → List Group → List ControlKept → Entry �
 controls_after count groups controls (entry.Conf (input.Control token control currency window amount_limit usage_limit association scope active)) =
     with_made with_control controls
     (control_put count (entry.Conf (input.Control token control currency window amount_limit usage_limit association scope active)))
-controls_after count groups controls (entry.Usage row) = map (control_noted groups (entry.Usage row)) controls
+controls_after count groups controls (entry.Usage row) = map (control_after_use groups (entry.Usage row)) controls
 controls_after count groups controls _ = controls
 
 abbrev pub controls_shown : List Row → List ControlKept
-controls_shown rows = map (control_shown rows) (control_puts_of rows)
+controls_shown rows = map (shown_control rows) (control_puts_of rows)
 
 -- each row that puts a control
 abbrev pub puts_of : List Row → List ControlPut
@@ -174,23 +174,23 @@ AreScopesKnown rows = list_all (λ put. is_group_known (groups_of rows) put.cont
 
 -- the controls where a row puts none
 shown_as : (rows all : List Row) (upd : ControlKept → ControlKept) → puts_of all ≡ puts_of rows
-    → ((put : ControlPut) → control_shown all put ≡ upd (control_shown rows put)) → controls_shown all ≡ map upd (controls_shown rows)
+    → ((put : ControlPut) → shown_control all put ≡ upd (shown_control rows put)) → controls_shown all ≡ map upd (controls_shown rows)
 shown_as rows all upd puts alike =
-    ap (λ (ps : List ControlPut). map (control_shown all) (map (control_now ps) (firsts put_name ps))) puts
-    ∙ map-alike (control_shown all) (λ (put : ControlPut). upd (control_shown rows put)) alike (control_puts_of rows)
-    ∙ sym (map-map (control_shown rows) upd (control_puts_of rows))
+    ap (λ (ps : List ControlPut). map (shown_control all) (map (control_now ps) (firsts put_name ps))) puts
+    ∙ map-alike (shown_control all) (λ (put : ControlPut). upd (shown_control rows put)) alike (control_puts_of rows)
+    ∙ sym (map-map (shown_control rows) upd (control_puts_of rows))
 
 shown_where : (rows all : List Row) → puts_of all ≡ puts_of rows → AreScopesKnown rows
-    → ((put : ControlPut) → is_group_known (groups_of rows) put.control.scope ≡ true → control_shown all put ≡ control_shown rows put) → controls_shown all ≡ controls_shown rows
+    → ((put : ControlPut) → is_group_known (groups_of rows) put.control.scope ≡ true → shown_control all put ≡ shown_control rows put) → controls_shown all ≡ controls_shown rows
 shown_where rows all puts known alike =
-    ap (λ (ps : List ControlPut). map (control_shown all) (map (control_now ps) (firsts put_name ps))) puts
-    ∙ map-where (λ (put : ControlPut). is_group_known (groups_of rows) put.control.scope) (control_shown all) (control_shown rows) alike (control_puts_of rows) known
+    ap (λ (ps : List ControlPut). map (shown_control all) (map (control_now ps) (firsts put_name ps))) puts
+    ∙ map-where (λ (put : ControlPut). is_group_known (groups_of rows) put.control.scope) (shown_control all) (shown_control rows) alike (control_puts_of rows) known
 
 -- a row that makes no group leaves the groups
 same_groups : (rows : List Row) (n : ℕ) (e : Entry) → group_made e ≡ None → groups_of (rows ++ row_of n e) ≡ groups_of rows
 same_groups rows n e none = made-none (λ (row : Row). group_made row.entry) rows (row_of n e) (ap (λ (o : Option Group). cons_option o []) none)
 
-shown-more : (rows : List Row) (n : ℕ) (e : Entry) → group_made e ≡ None → (put : ControlPut) → control_shown (rows ++ row_of n e) put ≡ control_noted (groups_of rows) e (control_shown rows put)
+shown-more : (rows : List Row) (n : ℕ) (e : Entry) → group_made e ≡ None → (put : ControlPut) → shown_control (rows ++ row_of n e) put ≡ control_after_use (groups_of rows) e (shown_control rows put)
 shown-more rows n e none put =
     ap (λ (groups : List Group). control_seen groups (rows ++ row_of n e) put) (same_groups rows n e none) ∙ seen-more (groups_of rows) rows n e put
 
@@ -203,14 +203,14 @@ controls-more b rows n (entry.Conf (input.Control token control currency window 
       control = record { name = control; currency = currency; window = window; amount_limit = amount_limit; usage_limit = usage_limit; association = association; scope = scope; active = active };
     } in
     let puts : List ControlPut = puts_of rows in
-    ap (λ (ps : List ControlPut). map (control_shown (rows ++ row_of n e)) (map (control_now ps) (firsts put_name ps))) (filter_map-append (λ (row : Row). control_put row.number row.entry) rows (row_of n e))
-    ∙ map-alike (control_shown (rows ++ row_of n e)) (control_shown rows) (shown-more rows n e refl) (map (control_now (puts ++ p ∷ [])) (firsts put_name (puts ++ p ∷ [])))
-    ∙ map-map (control_now (puts ++ p ∷ [])) (control_shown rows) (firsts put_name (puts ++ p ∷ []))
+    ap (λ (ps : List ControlPut). map (shown_control (rows ++ row_of n e)) (map (control_now ps) (firsts put_name ps))) (filter_map-append (λ (row : Row). control_put row.number row.entry) rows (row_of n e))
+    ∙ map-alike (shown_control (rows ++ row_of n e)) (shown_control rows) (shown-more rows n e refl) (map (control_now (puts ++ p ∷ [])) (firsts put_name (puts ++ p ∷ [])))
+    ∙ map-map (control_now (puts ++ p ∷ [])) (shown_control rows) (firsts put_name (puts ++ p ∷ []))
     ∙ put_taken b (groups_of rows) rows puts p standing now (list_any (λ (k : ControlPut). bytes_eq k.control.name control) (firsts put_name puts)) refl
-    ∙ ap₂ (λ (known : Bool) (controls : List ControlKept). cond known (map (control_changed p) controls) (controls ++ record { first = n; control = p.control; amounts = nothing_kept; times = nothing_kept } ∷ []))
+    ∙ ap₂ (λ (known : Bool) (controls : List ControlKept). cond known (map (control_after_put p) controls) (controls ++ record { first = n; control = p.control; amounts = nothing_kept; times = nothing_kept } ∷ []))
     (sym (any-map (λ (c : ControlKept). bytes_eq c.control.name control) (seen_by (groups_of rows) rows puts) (firsts put_name puts))
-    ∙ ap (list_any (λ (c : ControlKept). bytes_eq c.control.name control)) (sym (map-map (control_now puts) (control_shown rows) (firsts put_name puts))))
-    (sym (map-map (control_now puts) (control_shown rows) (firsts put_name puts)))
+    ∙ ap (list_any (λ (c : ControlKept). bytes_eq c.control.name control)) (sym (map-map (control_now puts) (shown_control rows) (firsts put_name puts))))
+    (sym (map-map (control_now puts) (shown_control rows) (firsts put_name puts)))
 controls-more b rows n (entry.Conf (input.Group token group mccs)) standing known now =
     let e : Entry = entry.Conf (input.Group token group mccs) in
     let more : List Group = record { name = group; mccs = mccs } ∷ [] in
@@ -221,7 +221,7 @@ controls-more b rows n (entry.Conf (input.Group token group mccs)) standing know
     ∙ seen-alike (groups_of rows ++ more) (groups_of rows) rows put put refl (counted-more (groups_of rows) more put stands) put.control)
 controls-more b rows n (entry.Usage row) standing known now =
     let e : Entry = entry.Usage row in
-    shown_as rows (rows ++ row_of n e) (control_noted (groups_of rows) e) (made-none (λ (row : Row). control_put row.number row.entry) rows (row_of n e) refl) (shown-more rows n e refl)
+    shown_as rows (rows ++ row_of n e) (control_after_use (groups_of rows) e) (made-none (λ (row : Row). control_put row.number row.entry) rows (row_of n e) refl) (shown-more rows n e refl)
 controls-more b rows n e standing known now =
     shown_where rows (rows ++ row_of n e) (made-none (λ (row : Row). control_put row.number row.entry) rows (row_of n e) refl) known
     (λ put stands. shown-more rows n e refl put)

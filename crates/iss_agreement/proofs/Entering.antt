@@ -12,8 +12,8 @@ use Rattle.iss_model.specs.state.Kept.{after_changes}
 use Rattle.iss_model.specs.rules.Controls.{Group, group_made, groups_of}
 use Rattle.iss_model.specs.rules.Facts.{Decision, decision_of}
 use Rattle.iss_model.specs.rules.Histories.{History}
-use Rattle.iss_model.specs.state.Cores.{CoreState, entered, with_post}
-use Rattle.iss_agreement.specs.Shown.{shown_by, kept_part_changes, kept_held_changes}
+use Rattle.iss_model.specs.state.Cores.{CoreState, after_entry, with_post}
+use Rattle.iss_agreement.specs.Shown.{shown_state, kept_part_changes, kept_held_changes}
 use Rattle.iss_agreement.proofs.Standing.{Bounds, IsStanding}
 use Rattle.iss_agreement.proofs.Growing.{row_of, made-none}
 use Rattle.iss_agreement.proofs.KeptLists.{IsNew, users_after, users-more, cards_after, cards-more, products_after, products-more, txns_after, txns-more, calls_after, calls-more, outbox_after, outbox-more, sets_after, sets-more}
@@ -65,7 +65,7 @@ by_part s e =
       outbox = outbox_after s.outbox e;
     }
 
-entered-by_part : (s : CoreState) (e : Entry) → entered s e ≡ by_part s e
+entered-by_part : (s : CoreState) (e : Entry) → after_entry s e ≡ by_part s e
 unfolding by_part decisions_after groups_after
 entered-by_part s (entry.Conf (input.User token user)) = refl
 entered-by_part s (entry.Conf (input.Card token card user product active)) = refl
@@ -79,15 +79,15 @@ entered-by_part s (entry.Conf (input.Switch token product on)) = refl
 entered-by_part s _ = refl
 
 -- an entry that makes something new leaves what the longer book shows
-pub entered-shown : (b : Bounds) (h : History) (e : Entry) → IsStanding b h → IsNew b h.rows e → entered (shown_by h) e ≡ shown_by (with_row h e)
+pub entered-shown : (b : Bounds) (h : History) (e : Entry) → IsStanding b h → IsNew b h.rows e → after_entry (shown_state h) e ≡ shown_state (with_row h e)
 unfolding by_part
 entered-shown b h e standing new =
     let n = length h.records in
-    entered-by_part (shown_by h) e
+    entered-by_part (shown_state h) e
     ∙ sym (λ i. record {
-      now = (shown_by h).now;
+      now = (shown_state h).now;
       count = n;
-      accepted = (shown_by h).accepted;
+      accepted = (shown_state h).accepted;
       decisions = decisions-more h.rows n e i;
       cardholders = record { users = users-more b h.rows n e standing.rows new i; cards = cards-more b h.rows n e standing.rows new i };
       products = products-more b h.rows n e standing.rows new i;

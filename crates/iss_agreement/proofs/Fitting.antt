@@ -18,9 +18,9 @@ use Rattle.iss_model.specs.Inputs.{is_text}
 use Rattle.iss_model.specs.rules.Settings.{user_made, user_named, user_now, users_of, card_made, card_named, card_now, cards_of, product_made, product_named, products_of, default_product, is_named_in}
 use Rattle.iss_model.specs.rules.Activity.{TxnNow, calls_of, call_opened, call_now, notices_of, txns_of, txn_now, txn_began}
 use Rattle.iss_model.specs.rules.Facts.{Facts}
-use Rattle.iss_model.specs.rules.Histories.{History, history_facts, numbered}
-use Rattle.iss_model.specs.state.Cores.{CoreState, entered}
-use Rattle.iss_agreement.specs.Shown.{shown_by}
+use Rattle.iss_model.specs.rules.Histories.{History, history_facts, numbered_rows}
+use Rattle.iss_model.specs.state.Cores.{CoreState, after_entry}
+use Rattle.iss_agreement.specs.Shown.{shown_state}
 use Rattle.iss_model.proofs.Lists.{all_weaker, any_grows}
 use Rattle.iss_agreement.proofs.Standing.{Bounds, bounds_of, IsFit, AreFit, IsSettable, Fit, is_user_made, is_card_made, is_product_made, is_begun, is_standing, is_row_standing, IsStanding}
 use Rattle.iss_agreement.proofs.Growing.{row_of}
@@ -125,24 +125,24 @@ set_fit b f e fit i same = absurd (subst (IsFit b) same fit)
 
 -- a history with more entries of its last record
 abbrev pub grown : History → List Entry → History
-grown h entries = record h { rows = h.rows ++ numbered (length h.records) entries }
+grown h entries = record h { rows = h.rows ++ numbered_rows (length h.records) entries }
 
 abbrev pub Enters : Bounds → History → List Entry → Type 0
-Enters b h entries = (fold entered (shown_by h) entries ≡ shown_by (grown h entries)) × IsStanding b (grown h entries)
+Enters b h entries = (fold after_entry (shown_state h) entries ≡ shown_state (grown h entries)) × IsStanding b (grown h entries)
 
 grown_none : (h : History) → h ≡ grown h []
 grown_none h = ap (λ (rows : List Row). record h { rows = rows }) (sym (append-nil h.rows))
 
 grown_more : (h : History) (e : Entry) (es : List Entry) → grown (with_row h e) es ≡ grown h (e ∷ es)
-grown_more h e es = ap (λ (rows : List Row). record h { rows = rows }) (append_assoc h.rows (row_of (length h.records) e) (numbered (length h.records) es))
+grown_more h e es = ap (λ (rows : List Row). record h { rows = rows }) (append_assoc h.rows (row_of (length h.records) e) (numbered_rows (length h.records) es))
 
-then_enters : (b : Bounds) (h : History) (e : Entry) (es : List Entry) → entered (shown_by h) e ≡ shown_by (with_row h e) → Enters b (with_row h e) es → Enters b h (e ∷ es)
+then_enters : (b : Bounds) (h : History) (e : Entry) (es : List Entry) → after_entry (shown_state h) e ≡ shown_state (with_row h e) → Enters b (with_row h e) es → Enters b h (e ∷ es)
 then_enters b h e es first rest =
-    (ap (λ (s : CoreState). fold entered s es) first ∙ rest.0 ∙ ap shown_by (grown_more h e es), subst (IsStanding b) (grown_more h e es) rest.1)
+    (ap (λ (s : CoreState). fold after_entry s es) first ∙ rest.0 ∙ ap shown_state (grown_more h e es), subst (IsStanding b) (grown_more h e es) rest.1)
 
 enters_fit : (b : Bounds) (h : History) (es : List Entry) → IsStanding b h → AreFit b es → Enters b h es
 unfolding AreFit
-enters_fit b h [] standing fit = (ap shown_by (grown_none h), subst (IsStanding b) (grown_none h) standing)
+enters_fit b h [] standing fit = (ap shown_state (grown_none h), subst (IsStanding b) (grown_none h) standing)
 enters_fit b h (e ∷ es) standing fit =
     then_enters b h e es (entered-shown b h e standing (new_fit b h.rows e fit.0))
     (enters_fit b (with_row h e) es (stays-standing b h e standing (standing_fit b h e standing fit.0) (set_fit b (history_facts h) e fit.0)) fit.1)
@@ -202,11 +202,11 @@ began_standing b h t standing fit =
     no_setting t i e = cc
 
 -- what the bounds of its facts say of a history, with the entries entered
-based : (b : Bounds) (h : History) (es : List Entry) → Enters b h es → (fold entered (shown_by h) es ≡ shown_by (grown h es)) × IsGood (grown h es)
+based : (b : Bounds) (h : History) (es : List Entry) → Enters b h es → (fold after_entry (shown_state h) es ≡ shown_state (grown h es)) × IsGood (grown h es)
 based b h es all = (all.0, rebase b (grown h es) all.1)
 
 -- entries that fit the facts of a good history are entered, and leave it good
-pub enters : (h : History) (es : List Entry) → IsGood h → Fit (history_facts h) es → (fold entered (shown_by h) es ≡ shown_by (grown h es)) × IsGood (grown h es)
+pub enters : (h : History) (es : List Entry) → IsGood h → Fit (history_facts h) es → (fold after_entry (shown_state h) es ≡ shown_state (grown h es)) × IsGood (grown h es)
 unfolding AreFit
 enters h [] good fit = based (bounds_of (history_facts h)) h [] (enters_fit (bounds_of (history_facts h)) h [] good tt)
 enters h (entry.Conf i ∷ es) good fit =

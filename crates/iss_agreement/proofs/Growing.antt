@@ -8,7 +8,7 @@ use Rattle.std.proofs.lemmas.List.Elements.{filter_map-append, filter-append}
 use Rattle.std.proofs.lemmas.List.Sums.{fold-append}
 use Rattle.iss_model.specs.declared.entry.Entry.{Entry}
 use Rattle.iss_model.specs.declared.entry.Row.{Row}
-use Rattle.iss_model.specs.rules.Settings.{latest}
+use Rattle.iss_model.specs.rules.Settings.{latest_of}
 use Rattle.iss_model.specs.rules.Controls.{firsts}
 use Rattle.iss_model.proofs.Names.{its_name}
 use Rattle.iss_model.proofs.Lists.{map-alike, map-map, map-same}
@@ -19,11 +19,11 @@ row_of n e = record { number = n; entry = e } ∷ []
 
 -- the last value that rows give, with one more row
 pub last-more : {S : Type 0} (f : Row → Option S) (first : S) (rows : List Row) (row : Row) (o : Option S) → f row ≡ o
-    → latest first (filter_map f (rows ++ row ∷ [])) ≡ unwrap_or o (latest first (filter_map f rows))
+    → latest_of first (filter_map f (rows ++ row ∷ [])) ≡ unwrap_or o (latest_of first (filter_map f rows))
 last-more {S} f first rows row None e =
-    ap (λ (xs : List S). latest first xs) (filter_map-append f rows (row ∷ []) ∙ ap (λ (o : Option S). filter_map f rows ++ cons_option o []) e ∙ append-nil (filter_map f rows))
+    ap (λ (xs : List S). latest_of first xs) (filter_map-append f rows (row ∷ []) ∙ ap (λ (o : Option S). filter_map f rows ++ cons_option o []) e ∙ append-nil (filter_map f rows))
 last-more {S} f first rows row (Some x) e =
-    ap (λ (xs : List S). latest first xs) (filter_map-append f rows (row ∷ []) ∙ ap (λ (o : Option S). filter_map f rows ++ cons_option o []) e)
+    ap (λ (xs : List S). latest_of first xs) (filter_map-append f rows (row ∷ []) ∙ ap (λ (o : Option S). filter_map f rows ++ cons_option o []) e)
     ∙ fold-append (λ (before : S) (x : S). x) first (filter_map f rows) (x ∷ [])
 
 module _ {A B : Type 0} (made : Entry → Option A) (now : List Row → A → B) where
@@ -51,7 +51,7 @@ module _ {A B : Type 0} (made : Entry → Option A) (now : List Row → A → B)
   things-same rows more alike none =
       things-changed (λ (b : B). b) rows more alike none ∙ map-same (λ (b : B). b) (λ b. refl) (map (now rows) (made_by rows))
 
-  -- a row that makes one puts it behind the others
+  -- a row that makes one puts it after the others
   pub things-made : (rows more : List Row) (a : A) → ((a : A) → now (rows ++ more) a ≡ now rows a) → made_by more ≡ a ∷ []
       → map (now (rows ++ more)) (made_by (rows ++ more)) ≡ map (now rows) (made_by rows) ++ now (rows ++ more) a ∷ []
   things-made rows more a alike one =
@@ -67,17 +67,17 @@ made-none {A} made rows more none =
 module _ {P : Type 0} (name : P → List ℕ) where
   -- the last of a name, with one more
   pub latest-filter : (q : P → Bool) (x : P) (puts : List P) (p : P) (b : Bool) → q p ≡ b
-      → latest x (filter q (puts ++ p ∷ [])) ≡ cond b p (latest x (filter q puts))
+      → latest_of x (filter q (puts ++ p ∷ [])) ≡ cond b p (latest_of x (filter q puts))
   latest-filter q x puts p true e =
-      ap (λ (xs : List P). latest x xs) (filter-append q puts (p ∷ []) ∙ ap (λ (b : Bool). filter q puts ++ cond b (p ∷ []) []) e)
+      ap (λ (xs : List P). latest_of x xs) (filter-append q puts (p ∷ []) ∙ ap (λ (b : Bool). filter q puts ++ cond b (p ∷ []) []) e)
       ∙ fold-append (λ (before : P) (y : P). y) x (filter q puts) (p ∷ [])
   latest-filter q x puts p false e =
-      ap (λ (xs : List P). latest x xs)
+      ap (λ (xs : List P). latest_of x xs)
       (filter-append q puts (p ∷ []) ∙ ap (λ (b : Bool). filter q puts ++ cond b (p ∷ []) []) e ∙ append-nil (filter q puts))
 
   -- the last of the name of x
   abbrev pub last_named : List P → P → P
-  last_named puts x = latest x (filter (λ put. bytes_eq (name put) (name x)) puts)
+  last_named puts x = latest_of x (filter (λ put. bytes_eq (name put) (name x)) puts)
 
   pub last_named-more : (puts : List P) (p x : P) → last_named (puts ++ p ∷ []) x ≡ cond (bytes_eq (name p) (name x)) p (last_named puts x)
   last_named-more puts p x = latest-filter (λ (put : P). bytes_eq (name put) (name x)) x puts p (bytes_eq (name p) (name x)) refl

@@ -10,13 +10,13 @@ use Rattle.iss_model.specs.declared.input.Record.{Record}
 use Rattle.iss_model.specs.rules.Due.{due_items, is_quiet}
 use Rattle.iss_model.specs.rules.Keeper.{Keeper}
 use Rattle.iss_model.specs.rules.Stepping.{after_due}
-use Rattle.iss_model.specs.rules.Judging.{time_answer, refusal, is_ack, judged_as, judged_at, judge}
+use Rattle.iss_model.specs.rules.Judging.{time_answer, refusal, is_ack, judgement_as, judgement_at, judge}
 
 max_again : (stamp now : ℕ) → max (max stamp now) now ≡ max stamp now
 max_again stamp now = grind (arith, nat_tests)
 
 -- what is judged new is the input at its moment
-new_as : (answer : Option Answer) (quiet : Bool) (i : Input) (at : ℕ) (r : Record) → judged_as answer quiet i at ≡ judged.New r → record { at = at; input = i } ≡ r
+new_as : (answer : Option Answer) (quiet : Bool) (i : Input) (at : ℕ) (r : Record) → judgement_as answer quiet i at ≡ judged.New r → record { at = at; input = i } ≡ r
 new_as None quiet i at r h = cc
 new_as (Some a) quiet i at r h = by (quiet || is_ack i) h
   where
@@ -25,7 +25,7 @@ new_as (Some a) quiet i at r h = by (quiet || is_ack i) h
     by false h = cc
 
 -- a clock is the time at the moment, and something is due then
-clock_as : (answer : Option Answer) (quiet : Bool) (i : Input) (at : ℕ) (r : Record) → judged_as answer quiet i at ≡ judged.Clock r → (record { at = at; input = input.Time } ≡ r) × (quiet ≡ false)
+clock_as : (answer : Option Answer) (quiet : Bool) (i : Input) (at : ℕ) (r : Record) → judgement_as answer quiet i at ≡ judged.Clock r → (record { at = at; input = input.Time } ≡ r) × (quiet ≡ false)
 clock_as None quiet i at r h = cc
 clock_as (Some a) true i at r h = cc
 clock_as (Some a) false i at r h = by (is_ack i) h
@@ -35,9 +35,9 @@ clock_as (Some a) false i at r h = by (is_ack i) h
     by false h = (cc, refl)
 
 module _ {W : Type 0} (k : Keeper W) where
-  again : (w : W) (i : Input) (at : ℕ) → max at (k.facts w).now ≡ at → judge k w i at ≡ judged_at k w i at
+  again : (w : W) (i : Input) (at : ℕ) → max at (k.facts w).now ≡ at → judge k w i at ≡ judgement_at k w i at
   unfolding judge
-  again w i at e = ap (judged_at k w i) e
+  again w i at e = ap (judgement_at k w i) e
 
   -- what stands when an input is judged at the later of its stamp and the time
   answer_at : W → Input → ℕ → Option Answer
@@ -79,5 +79,5 @@ module _ {W : Type 0} (k : Keeper W) where
       let parts = clock_is w i stamp r h in
       ap (λ (x : Record). judge k w x.input x.at) (sym parts.0)
       ∙ again w input.Time at (max_again stamp (k.facts w).now)
-      ∙ ap (λ (quiet : Bool). judged_as (time_answer quiet) quiet input.Time at) parts.1
+      ∙ ap (λ (quiet : Bool). judgement_as (time_answer quiet) quiet input.Time at) parts.1
       ∙ ap (λ (x : Record). judged.New x) parts.0

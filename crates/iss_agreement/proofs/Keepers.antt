@@ -7,7 +7,7 @@ use Rattle.iss_model.specs.rules.Facts.{Facts}
 use Rattle.iss_model.specs.rules.Due.{DueItem, due_items, thing_entries, is_quiet}
 use Rattle.iss_model.specs.rules.Keeper.{Keeper, Growth, grow}
 use Rattle.iss_model.specs.rules.Stepping.{own_entries, settle, after_due, step}
-use Rattle.iss_model.specs.rules.Judging.{judge, judged_at, judged_on}
+use Rattle.iss_model.specs.rules.Judging.{judge, judgement_at, judgement_on}
 use Rattle.iss_agreement.specs.Laws.{KeptBySteps, Shows}
 
 module _ {W : Type 0} (k : Keeper W) (IsGood : W → Type 0) (Fit : Facts → List Entry → Type 0) (kept : KeptBySteps k IsGood Fit) where
@@ -69,11 +69,11 @@ module _ {W V : Type 0} (m : Keeper W) (n : Keeper V) (show : W → V) (IsGood :
       ∙ grow-shown due (own_entries r) due_good (kept.own due.world r due_good)
 
   judged_on_same : (i : Input) (at : ℕ) (f h : Facts) (a b : Facts) → f ≡ h → a ≡ b
-      → judged_on (is_quiet (due_items f at)) f a i at ≡ judged_on (is_quiet (due_items h at)) h b i at
+      → judgement_on (is_quiet (due_items f at)) f a i at ≡ judgement_on (is_quiet (due_items h at)) h b i at
   judged_on_same i at f h a b before after =
-      ap₂ (λ (x y : Facts). judged_on (is_quiet (due_items x at)) x y i at) before after
+      ap₂ (λ (x y : Facts). judgement_on (is_quiet (due_items x at)) x y i at) before after
 
-  pub judged_at-shown : (w : W) (i : Input) (at : ℕ) → IsGood w → judged_at n (show w) i at ≡ judged_at m w i at
+  pub judged_at-shown : (w : W) (i : Input) (at : ℕ) → IsGood w → judgement_at n (show w) i at ≡ judgement_at m w i at
   judged_at-shown w i at good =
       let due_good : IsGood (after_due m w at).world = after_due-kept m IsGood Fit kept w at good in
       judged_on_same i at (n.facts (show w)) (m.facts w) (n.facts (after_due n (show w) at).world) (m.facts (after_due m w at).world)
@@ -83,7 +83,7 @@ module _ {W V : Type 0} (m : Keeper W) (n : Keeper V) (show : W → V) (IsGood :
   pub judge-shown : (w : W) (i : Input) (stamp : ℕ) → IsGood w → judge n (show w) i stamp ≡ judge m w i stamp
   unfolding judge
   judge-shown w i stamp good =
-      ap (λ (f : Facts). judged_at n (show w) i (max stamp f.now)) (shows.facts w good)
+      ap (λ (f : Facts). judgement_at n (show w) i (max stamp f.now)) (shows.facts w good)
       ∙ judged_at-shown w i (max stamp (m.facts w).now) good
 
   -- the history of one keeper, shown, is the history of the other

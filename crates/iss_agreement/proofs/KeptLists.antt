@@ -26,11 +26,11 @@ use Rattle.iss_model.specs.declared.input.Input.TheVariants as input
 use Rattle.iss_model.specs.declared.entry.Entry.{Entry}
 use Rattle.iss_model.specs.declared.entry.Entry.TheVariants as entry
 use Rattle.iss_model.specs.declared.entry.Row.{Row}
-use Rattle.iss_model.specs.rules.Settings.{latest, user_made, user_moved, user_now, users_of, first_card_state, card_made, card_moved, card_now, cards_of, product_made, products_of, default_product, switch_set, is_switched}
+use Rattle.iss_model.specs.rules.Settings.{latest_of, user_made, user_moved, user_now, users_of, first_card_state, card_made, card_moved, card_now, cards_of, product_made, products_of, default_product, switch_set, is_switched}
 use Rattle.iss_model.specs.rules.Controls.{firsts, set_put, set_replaced, set_now, sets_of}
 use Rattle.iss_model.specs.rules.Activity.{TxnNow, CallNow, txn_began, ends_txn, txn_now, txns_of, call_opened, call_closed, call_now, calls_of, notice_made, notices_of, acknowledges, pending_of}
-use Rattle.iss_model.specs.state.Cores.{ProductNow, user_after_move, card_after_move, with_product, with_switch, product_after_switch, with_made, with_set, set_changed, is_live, txn_after_end, with_closed, call_after_close, Outbox, with_notice, with_acked}
-use Rattle.iss_agreement.specs.Shown.{product_shown}
+use Rattle.iss_model.specs.state.Cores.{ProductNow, user_after_move, card_after_move, with_product, with_switch, product_after_switch, with_made, with_set, set_after_put, is_live, txn_after_end, with_closed, call_after_close, Outbox, with_notice, with_acked}
+use Rattle.iss_agreement.specs.Shown.{shown_product}
 use Rattle.iss_model.proofs.Names.{one_name, name-sym}
 use Rattle.iss_model.proofs.Lists.{map-alike, map-map, none_found, none_any, map-apart}
 use Rattle.iss_agreement.proofs.Standing.{Bounds, is_user_made, is_card_made, is_product_made, is_begun, is_standing, is_row_standing}
@@ -88,7 +88,7 @@ new_user : (b : Bounds) (rows : List Row) (n : ℕ) (e : Entry) (user : User) �
     → user_now (rows ++ row_of n e) user ≡ user
 new_user b rows n e user standing new h =
     user_more rows n e user None h
-    ∙ ap (λ (states : List UserState). record user { state = latest user.state states })
+    ∙ ap (λ (states : List UserState). record user { state = latest_of user.state states })
     (none_found (is_row_standing b rows) (λ (row : Row). user_moved user.name row.entry) (λ row passes. no_user_move b rows user.name new row.number row.entry (its_entry b rows row passes)) rows standing)
 
 pub users-more : (b : Bounds) (rows : List Row) (n : ℕ) (e : Entry) → AreStanding b rows → IsNew b rows e → users_of (rows ++ row_of n e) ≡ users_after (users_of rows) e
@@ -134,7 +134,7 @@ new_card : (b : Bounds) (rows : List Row) (n : ℕ) (e : Entry) (card : Card) �
     → card_now (rows ++ row_of n e) card ≡ card
 new_card b rows n e card standing new h =
     card_more rows n e card None h
-    ∙ ap (λ (states : List CardState). record card { state = latest card.state states })
+    ∙ ap (λ (states : List CardState). record card { state = latest_of card.state states })
     (none_found (is_row_standing b rows) (λ (row : Row). card_moved card.name row.entry) (λ row passes. no_card_move b rows card.name new row.number row.entry (its_entry b rows row passes)) rows standing)
 
 pub cards-more : (b : Bounds) (rows : List Row) (n : ℕ) (e : Entry) → AreStanding b rows → IsNew b rows e → cards_of (rows ++ row_of n e) ≡ cards_after (cards_of rows) e
@@ -163,10 +163,10 @@ products_after products _ = products
 
 -- the products with their switches
 abbrev pub products_shown : List Row → List ProductNow
-products_shown rows = map (product_shown rows) (products_of rows)
+products_shown rows = map (shown_product rows) (products_of rows)
 
 switch_more : (rows : List Row) (n : ℕ) (e : Entry) (product : Product) (o : Option Bool) → switch_set product.name e ≡ o
-    → product_shown (rows ++ row_of n e) product ≡ record { product = product; on = unwrap_or o (is_switched rows product.name) }
+    → shown_product (rows ++ row_of n e) product ≡ record { product = product; on = unwrap_or o (is_switched rows product.name) }
 switch_more rows n e product o h =
     ap (λ (on : Bool). record { product = product; on = on }) (last-more (λ (row : Row). switch_set product.name row.entry) false rows (record { number = n; entry = e }) o h)
 
@@ -181,8 +181,8 @@ no_switch b all name new n (entry.Conf (input.Switch token product on)) h =
 no_switch b all name new n _ h = refl
 
 -- what comes first stands as all others
-with_default : (all rows : List Row) (upd : ProductNow → ProductNow) (xs ys : List ProductNow) → product_shown all default_product ≡ upd (product_shown rows default_product)
-    → xs ≡ ys → product_shown all default_product ∷ xs ≡ upd (product_shown rows default_product) ∷ ys
+with_default : (all rows : List Row) (upd : ProductNow → ProductNow) (xs ys : List ProductNow) → shown_product all default_product ≡ upd (shown_product rows default_product)
+    → xs ≡ ys → shown_product all default_product ∷ xs ≡ upd (shown_product rows default_product) ∷ ys
 with_default all rows upd xs ys first rest = λ i. first i ∷ rest i
 
 pub products-more : (b : Bounds) (rows : List Row) (n : ℕ) (e : Entry) → AreStanding b rows → IsNew b rows e → products_shown (rows ++ row_of n e) ≡ products_after (products_shown rows) e
@@ -190,19 +190,19 @@ products-more b rows n (entry.Conf (input.Product token product currency funding
     let e : Entry = entry.Conf (input.Product token product currency funding timeout_ms hold_ms) in
     let made : Product = record { name = product; currency = currency; funding = funding; timeout_ms = timeout_ms; hold_ms = hold_ms } in
     with_default (rows ++ row_of n e) rows (λ p. p) _ _ (switch_more rows n e default_product None refl)
-    (things-made product_made product_shown rows (row_of n e) made (λ p. switch_more rows n e p None refl) refl
-    ∙ ap (λ (p : ProductNow). map (product_shown rows) (filter_map (λ (row : Row). product_made row.entry) rows) ++ p ∷ [])
+    (things-made product_made shown_product rows (row_of n e) made (λ p. switch_more rows n e p None refl) refl
+    ∙ ap (λ (p : ProductNow). map (shown_product rows) (filter_map (λ (row : Row). product_made row.entry) rows) ++ p ∷ [])
     (switch_more rows n e made None refl
-    ∙ ap (λ (turns : List Bool). record { product = made; on = latest false turns })
+    ∙ ap (λ (turns : List Bool). record { product = made; on = latest_of false turns })
     (none_found (is_row_standing b rows) (λ (row : Row). switch_set product row.entry) (λ row passes. no_switch b rows product new row.number row.entry (its_entry b rows row passes)) rows standing)))
 products-more b rows n (entry.Conf (input.Switch token product on)) standing new =
     let e : Entry = entry.Conf (input.Switch token product on) in
     let turned = λ (p : Product). switch_more rows n e p (cond (bytes_eq product p.name) (Some on) None) refl ∙ switch_if_turned p (is_switched rows p.name) on (bytes_eq product p.name) in
     with_default (rows ++ row_of n e) rows (product_after_switch product on) _ _ (turned default_product)
-    (things-changed product_made product_shown (product_after_switch product on) rows (row_of n e) turned refl)
+    (things-changed product_made shown_product (product_after_switch product on) rows (row_of n e) turned refl)
 products-more b rows n e standing new =
     with_default (rows ++ row_of n e) rows (λ p. p) _ _ (switch_more rows n e default_product None refl)
-    (things-same product_made product_shown rows (row_of n e) (λ p. switch_more rows n e p None refl) refl)
+    (things-same product_made shown_product rows (row_of n e) (λ p. switch_more rows n e p None refl) refl)
 
 -- transactions ----
 
@@ -448,7 +448,7 @@ module _ {P B : Type 0} (name : P → List ℕ) (seen : List P → P → B) wher
       ∙ map-alike (seen (puts ++ p ∷ [])) (λ (x : P). upd (seen puts x)) alike (firsts name puts)
       ∙ sym (map-map (seen puts) upd (firsts name puts))
 
-  -- what is put first stands behind the others
+  -- what is put first stands after the others
   pub put-first : (puts : List P) (p : P) (b : B) → list_any (λ k. bytes_eq (name k) (name p)) (firsts name puts) ≡ false
       → ((x : P) → bytes_eq (name x) (name p) ≡ false → seen (puts ++ p ∷ []) x ≡ seen puts x) → seen (puts ++ p ∷ []) p ≡ b
       → map (seen (puts ++ p ∷ [])) (firsts name (puts ++ p ∷ [])) ≡ map (seen puts) (firsts name puts) ++ b ∷ []
@@ -473,7 +473,7 @@ set_if_put : (x last p : Set) (b : Bool) → set_replaced x (cond b p last) ≡ 
 set_if_put x last p true = refl
 set_if_put x last p false = refl
 
-set_more : (puts : List Set) (p x : Set) → set_now (puts ++ p ∷ []) x ≡ set_changed p (set_now puts x)
+set_more : (puts : List Set) (p x : Set) → set_now (puts ++ p ∷ []) x ≡ set_after_put p (set_now puts x)
 set_more puts p x =
     ap (set_replaced x) (last_named-more set_name puts p x) ∙ set_if_put x (last_named set_name puts x) p (bytes_eq p.name x.name)
 
@@ -483,8 +483,8 @@ set_other puts p x differs =
 
 set_taken : (puts : List Set) (p : Set) (b : Bool) → list_any (λ k. bytes_eq k.name p.name) (firsts set_name puts) ≡ b
     → map (set_now (puts ++ p ∷ [])) (firsts set_name (puts ++ p ∷ []))
-    ≡ cond b (map (set_changed p) (map (set_now puts) (firsts set_name puts))) (map (set_now puts) (firsts set_name puts) ++ p ∷ [])
-set_taken puts p true known = put-again set_name set_now (set_changed p) puts p known (set_more puts p)
+    ≡ cond b (map (set_after_put p) (map (set_now puts) (firsts set_name puts))) (map (set_now puts) (firsts set_name puts) ++ p ∷ [])
+set_taken puts p true known = put-again set_name set_now (set_after_put p) puts p known (set_more puts p)
 set_taken puts p false new =
     put-first set_name set_now puts p p new (set_other puts p) (ap (set_replaced p) (last_named-own set_name puts p))
 
@@ -495,6 +495,6 @@ sets-more rows n (entry.Conf (input.Set token set product currency connection ti
     let puts : List Set = filter_map (λ (row : Row). set_put row.entry) rows in
     ap (λ (ps : List Set). map (set_now ps) (firsts set_name ps)) (filter_map-append (λ (row : Row). set_put row.entry) rows (row_of n e))
     ∙ set_taken puts put (list_any (λ (k : Set). bytes_eq k.name set) (firsts set_name puts)) refl
-    ∙ ap (λ (b : Bool). cond b (map (set_changed put) (sets_of rows)) (sets_of rows ++ put ∷ [])) (sym (any-map (λ (s : Set). bytes_eq s.name set) (set_now puts) (firsts set_name puts)))
+    ∙ ap (λ (b : Bool). cond b (map (set_after_put put) (sets_of rows)) (sets_of rows ++ put ∷ [])) (sym (any-map (λ (s : Set). bytes_eq s.name set) (set_now puts) (firsts set_name puts)))
 sets-more rows n e =
     ap (λ (ps : List Set). map (set_now ps) (firsts set_name ps)) (made-none (λ (row : Row). set_put row.entry) rows (row_of n e) refl)

@@ -13,7 +13,7 @@ use Rattle.iss_model.specs.rules.Stepping.{step}
 use Rattle.iss_model.specs.rules.Judging.{judge}
 use Rattle.iss_agreement.specs.Laws.{KeptBySteps, Shows}
 use Rattle.iss_model.specs.run.Sayings.{said_by, said_of_time, Reaction, reaction, reaction_as, answer_left}
-use Rattle.iss_model.specs.run.Transcripts.{Reading, sound, faulty, Text, Told, at_level, said_text, after_line, transcript}
+use Rattle.iss_model.specs.run.Transcripts.{Reading, sound, faulty, Text, LineReply, at_level, said_text, after_line, transcript}
 use Rattle.iss_agreement.proofs.Keepers.{step-kept, step-shown, judge-shown}
 
 -- the reaction of one keeper as the other shows it
@@ -21,7 +21,7 @@ abbrev pub shown_reaction : {W V : Type 0} → (W → V) → Reaction W → Reac
 shown_reaction show r = record { world = show r.world; said = r.said }
 
 -- what one keeper is told, as the other shows it
-abbrev pub shown_told : {W V : Type 0} → (W → V) → Told W → Told V
+abbrev pub shown_told : {W V : Type 0} → (W → V) → LineReply W → LineReply V
 shown_told show t = record { world = show t.world; texts = t.texts }
 
 module _ {W V : Type 0} (m : Keeper W) (n : Keeper V) (show : W → V) (IsGood : W → Type 0) (Fit : Facts → List Entry → Type 0)
@@ -73,5 +73,5 @@ module _ {W V : Type 0} (m : Keeper W) (n : Keeper V) (show : W → V) (IsGood :
   pub transcript-shown : (w : W) (lines : List Reading) → IsGood w → transcript n (show w) lines ≡ transcript m w lines
   transcript-shown w [] good = refl
   transcript-shown w (line ∷ lines) good =
-      ap (λ (t : Told V). t.texts ++ transcript n t.world lines) (after_line-shown w line good)
+      ap (λ (t : LineReply V). t.texts ++ transcript n t.world lines) (after_line-shown w line good)
       ∙ ap (λ (rest : List Text). (after_line m w line).texts ++ rest) (transcript-shown (after_line m w line).world lines (after_line-kept w line good))

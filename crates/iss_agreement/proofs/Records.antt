@@ -11,7 +11,7 @@ settled_records : (at : ℕ) (g : Growth History) (items : List DueItem) → (fo
 settled_records at g [] = refl
 settled_records at g (item ∷ items) = settled_records at (settle history_keeper at g item) items
 
--- a step puts its record behind the others
+-- a step puts its record after the others
 pub step_records : (h : History) (r : Record) → (step history_keeper h r).world.records ≡ h.records ++ r ∷ []
 unfolding step
 step_records h r =

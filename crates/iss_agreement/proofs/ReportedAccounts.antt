@@ -19,7 +19,7 @@ use Rattle.iss_model.specs.declared.entry.Entry.TheVariants as entry
 use Rattle.iss_model.specs.declared.entry.Row.{Row}
 use Rattle.iss_model.specs.Sums.{Change, account_key, balance_changes}
 use Rattle.iss_model.specs.state.Kept.{Kept, nothing_kept, after_change, after_changes, kept_of}
-use Rattle.iss_model.specs.texts.BalanceLines.{posted_accounts, placed, joined, accounts_of}
+use Rattle.iss_model.specs.texts.BalanceLines.{posted_accounts, accounts_with, accounts_with_once, accounts_of}
 use Rattle.iss_model.specs.rules.Histories.{history_of}
 use Rattle.iss_model.specs.state.Cores.{CoreState, core_of}
 use Rattle.iss_model.proofs.Names.{one_name}
@@ -127,8 +127,8 @@ account_found key (a ∷ accounts) =
     ∙ ap₂ (λ (here later : Bool). here || later) (is_eq-slice_cmp key (account_key a)) (account_found key accounts)
 
 -- an account is placed among others by the order of its key and theirs
-placed_here : (a b : Account) (accounts : List Account) (r : Ordering) → is_eq r ≡ false → account_marks (placed a accounts) ≡ marked (account_key a) (account_marks accounts)
-    → account_marks (cond (is_lt r) (a ∷ b ∷ accounts) (b ∷ placed a accounts))
+placed_here : (a b : Account) (accounts : List Account) (r : Ordering) → is_eq r ≡ false → account_marks (accounts_with a accounts) ≡ marked (account_key a) (account_marks accounts)
+    → account_marks (cond (is_lt r) (a ∷ b ∷ accounts) (b ∷ accounts_with a accounts))
     ≡ by_order r ((account_key a, tt) ∷ account_marks (b ∷ accounts)) ((account_key b, tt) ∷ account_marks accounts) ((account_key b, tt) ∷ marked (account_key a) (account_marks accounts))
 placed_here a b accounts Less h e = refl
 placed_here a b accounts Equal h e = cc
@@ -136,18 +136,18 @@ placed_here a b accounts Greater h e = λ i. (account_key b, tt) ∷ e i
 
 -- a new account stands where its key is put
 placed_marks : (a : Account) (accounts : List Account) → list_any (λ b. bytes_eq (account_key a) (account_key b)) accounts ≡ false
-    → account_marks (placed a accounts) ≡ marked (account_key a) (account_marks accounts)
+    → account_marks (accounts_with a accounts) ≡ marked (account_key a) (account_marks accounts)
 placed_marks a [] h = refl
 placed_marks a (b ∷ accounts) h =
     let parts = neither (bytes_eq (account_key a) (account_key b)) (list_any (λ b. bytes_eq (account_key a) (account_key b)) accounts) h in
     placed_here a b accounts (order (account_key a) (account_key b)) (is_eq-slice_cmp (account_key a) (account_key b) ∙ parts.0) (placed_marks a accounts parts.1)
 
 -- an account that joins others puts its key among theirs
-joined_marks : (accounts : List Account) (a : Account) → IsRising (account_marks accounts) → account_marks (joined accounts a) ≡ marked (account_key a) (account_marks accounts)
+joined_marks : (accounts : List Account) (a : Account) → IsRising (account_marks accounts) → account_marks (accounts_with_once accounts a) ≡ marked (account_key a) (account_marks accounts)
 joined_marks accounts a rising = by_place (list_any (λ b. bytes_eq (account_key a) (account_key b)) accounts) refl
   where
     by_place : (there : Bool) → list_any (λ b. bytes_eq (account_key a) (account_key b)) accounts ≡ there
-        → account_marks (cond there accounts (placed a accounts)) ≡ marked (account_key a) (account_marks accounts)
+        → account_marks (cond there accounts (accounts_with a accounts)) ≡ marked (account_key a) (account_marks accounts)
     by_place true h = sym (marked_once (account_key a) (account_marks accounts) rising (account_found (account_key a) accounts ∙ h))
     by_place false h = placed_marks a accounts h
 
@@ -156,14 +156,14 @@ record AreKeptFor (sums : Kept) (accounts : List Account) : Type 0 where
   rising : IsRising (account_marks accounts)
   same : kept_marks (finite.entries sums) ≡ account_marks accounts
 
--- this stays so behind a post, although the sums take in the account that it goes to first, and the accounts the one that it comes from
+-- this stays so after a post, although the sums take in the account that it goes to first, and the accounts the one that it comes from
 posted : (sums : Kept) (accounts : List Account) (from to : Account) (amount : ℕ) (txn : Option (List ℕ)) → AreKeptFor sums accounts
-    → AreKeptFor (after_changes sums (balance_changes (entry.Post from to amount txn))) (joined (joined accounts from) to)
+    → AreKeptFor (after_changes sums (balance_changes (entry.Post from to amount txn))) (accounts_with_once (accounts_with_once accounts from) to)
 posted sums accounts from to amount txn kept =
     let marks = account_marks accounts in
     let first = joined_marks accounts from kept.rising in
-    let first_rising : IsRising (account_marks (joined accounts from)) = subst IsRising (sym first) (marked_rising (account_key from) marks kept.rising) in
-    let both : account_marks (joined (joined accounts from) to) ≡ marked (account_key to) (marked (account_key from) marks) = joined_marks (joined accounts from) to first_rising ∙ ap (marked (account_key to)) first in
+    let first_rising : IsRising (account_marks (accounts_with_once accounts from)) = subst IsRising (sym first) (marked_rising (account_key from) marks kept.rising) in
+    let both : account_marks (accounts_with_once (accounts_with_once accounts from) to) ≡ marked (account_key to) (marked (account_key from) marks) = joined_marks (accounts_with_once accounts from) to first_rising ∙ ap (marked (account_key to)) first in
     let changes_to : Change = record { key = account_key to; by = pos amount } in
     let changes_from : Change = record { key = account_key from; by = neg_ℤ (pos amount) } in
     record {
@@ -175,20 +175,20 @@ posted sums accounts from to amount txn kept =
           ∙ sym both;
     }
 
--- this stays so behind each entry
+-- this stays so after each entry
 entered : (sums : Kept) (accounts : List Account) (e : Entry) → AreKeptFor sums accounts
-    → AreKeptFor (after_changes sums (balance_changes e)) (fold joined accounts (posted_accounts e))
+    → AreKeptFor (after_changes sums (balance_changes e)) (fold accounts_with_once accounts (posted_accounts e))
 entered sums accounts (entry.Post from to amount txn) kept = posted sums accounts from to amount txn kept
 entered sums accounts _ kept = kept
 
--- this stays so behind all rows
+-- this stays so after all rows
 entered_all : (sums : Kept) (accounts : List Account) (rows : List Row) → AreKeptFor sums accounts
-    → AreKeptFor (fold (λ s row. after_changes s (balance_changes row.entry)) sums rows) (fold joined accounts (flat_map (λ row. posted_accounts row.entry) rows))
+    → AreKeptFor (fold (λ s row. after_changes s (balance_changes row.entry)) sums rows) (fold accounts_with_once accounts (flat_map (λ row. posted_accounts row.entry) rows))
 entered_all sums accounts [] kept = kept
 entered_all sums accounts (row ∷ rows) kept =
     subst (AreKeptFor (fold (λ (s : Kept) (row : Row). after_changes s (balance_changes row.entry)) (after_changes sums (balance_changes row.entry)) rows))
-    (sym (fold-append joined accounts (posted_accounts row.entry) (flat_map (λ (row : Row). posted_accounts row.entry) rows)))
-    (entered_all (after_changes sums (balance_changes row.entry)) (fold joined accounts (posted_accounts row.entry)) rows (entered sums accounts row.entry kept))
+    (sym (fold-append accounts_with_once accounts (posted_accounts row.entry) (flat_map (λ (row : Row). posted_accounts row.entry) rows)))
+    (entered_all (after_changes sums (balance_changes row.entry)) (fold accounts_with_once accounts (posted_accounts row.entry)) rows (entered sums accounts row.entry kept))
 
 -- nothing is kept where nothing was posted
 none_kept : AreKeptFor nothing_kept []

@@ -14,10 +14,10 @@ use Rattle.iss_model.specs.rules.Judging.{judge}
 use Rattle.iss_model.specs.rules.Histories.{History, nothing_yet, history_keeper, Follows, IsLegalAfter}
 use Rattle.iss_model.specs.run.Sayings.{reaction_as, reaction}
 use Rattle.iss_model.specs.run.Transcripts.{Reading, sound, faulty, Text, at_level, said_text_at, transcript}
-use Rattle.iss_model.specs.run.Rooms.{Room, fits, judged_within, where_it_fits, record_made, room_left}
+use Rattle.iss_model.specs.run.Rooms.{Room, fits, judgement_within, where_it_fits, record_made, room_left}
 use Rattle.iss_agreement.proofs.Records.{step_records}
 use Rattle.iss_agreement.proofs.JudgedAgain.{new_at, clock_at, not_before, new_again, clock_again}
-use Rattle.iss_model.specs.run.Runs.{Run, dry_run, response, judged_in, record_of_line, line_texts, run_after, accepted, transcript_of, RiseFrom}
+use Rattle.iss_model.specs.run.Runs.{Run, dry_run, response, judgement_in, record_of_line, line_texts, run_after, accepted_records, transcript_of, RiseFrom}
 
 -- the record of an input that is new follows on what stands
 new_follows : (h : History) (i : Input) (stamp : ℕ) (r : Record) → judge history_keeper h i stamp ≡ judged.New r → Follows h r
@@ -49,17 +49,17 @@ fitting_in (Some room) h i stamp r j rest made next follows legal =
 
 -- a line's record, where it makes one, follows on what stands
 judged_legal : (room : Option Room) (h : History) (i : Input) (stamp : ℕ) (j : Judged) (rest : List Record) → judge history_keeper h i stamp ≡ j
-    → IsLegalAfter (reaction_as history_keeper h i stamp (judged_within room h.records j)).world rest
-    → IsLegalAfter h (option_to_list (record_made (judged_within room h.records j)) ++ rest)
+    → IsLegalAfter (reaction_as history_keeper h i stamp (judgement_within room h.records j)).world rest
+    → IsLegalAfter h (option_to_list (record_made (judgement_within room h.records j)) ++ rest)
 judged_legal room h i stamp (judged.New r) rest e legal = fitting_in room h i stamp r (judged.New r) rest refl refl (new_follows h i stamp r e) legal
 judged_legal room h i stamp (judged.Clock r) rest e legal = fitting_in room h i stamp r (judged.Clock r) rest refl refl (clock_follows h i stamp r e) legal
 judged_legal room h i stamp (judged.Told a) rest e legal = legal
 
-pub accepted_legal : (s : Run) (lines : List Reading) → IsLegalAfter s.history (accepted s lines)
+pub accepted_legal : (s : Run) (lines : List Reading) → IsLegalAfter s.history (accepted_records s lines)
 accepted_legal s [] = tt
 accepted_legal s (sound i at ∷ lines) =
     let stamp = unwrap_or at 0 in
-    judged_legal s.room s.history i stamp (judge history_keeper s.history i stamp) (accepted (response s (sound i at)).run lines) refl
+    judged_legal s.room s.history i stamp (judge history_keeper s.history i stamp) (accepted_records (response s (sound i at)).run lines) refl
     (accepted_legal (response s (sound i at)).run lines)
 accepted_legal s (faulty text ∷ lines) = accepted_legal s lines
 
@@ -70,14 +70,14 @@ reacted h i stamp (judged.New r) = refl
 reacted h i stamp (judged.Clock r) = refl
 reacted h i stamp (judged.Told a) = refl
 
-pub history_after : (s : Run) (lines : List Reading) → (run_after s lines).history ≡ fold (λ h r. (step history_keeper h r).world) s.history (accepted s lines)
+pub history_after : (s : Run) (lines : List Reading) → (run_after s lines).history ≡ fold (λ h r. (step history_keeper h r).world) s.history (accepted_records s lines)
 history_after s [] = refl
 history_after s (sound i at ∷ lines) =
     let made = option_to_list (record_of_line s (sound i at)) in
     let s' = (response s (sound i at)).run in
     history_after s' lines
-    ∙ ap (λ h. fold (λ h r. (step history_keeper h r).world) h (accepted s' lines)) (reacted s.history i (unwrap_or at 0) (judged_in s i (unwrap_or at 0)))
-    ∙ sym (fold-append (λ h r. (step history_keeper h r).world) s.history made (accepted s' lines))
+    ∙ ap (λ h. fold (λ h r. (step history_keeper h r).world) h (accepted_records s' lines)) (reacted s.history i (unwrap_or at 0) (judgement_in s i (unwrap_or at 0)))
+    ∙ sym (fold-append (λ h r. (step history_keeper h r).world) s.history made (accepted_records s' lines))
 history_after s (faulty text ∷ lines) = history_after s lines
 
 -- ---- one run after the other
@@ -90,7 +90,7 @@ texts_then s (x ∷ xs) ys =
 
 -- ---- a dry run
 
-without_device : (h : History) (j : Judged) → judged_within None h.records j ≡ j
+without_device : (h : History) (j : Judged) → judgement_within None h.records j ≡ j
 without_device h (judged.New r) = refl
 without_device h (judged.Clock r) = refl
 without_device h (judged.Told a) = refl
@@ -106,7 +106,7 @@ dry_after h = record { instance = 0; room = None; history = h }
 abbrev line_said : History → Input → ℕ → Judged → List Text
 line_said h i stamp j = at_level (length (reaction_as history_keeper h i stamp j).world.records) (map (said_text_at 0) (reaction_as history_keeper h i stamp j).said)
 
--- the same, and what the lines behind it are told in this room
+-- the same, and what the lines after it are told in this room
 abbrev line_on : History → Input → ℕ → List Reading → Judged → Option Room → List Text
 line_on h i stamp lines j room =
     line_said h i stamp j ++ line_texts (record { instance = 0; room = room; history = (reaction_as history_keeper h i stamp j).world }) lines
@@ -117,7 +117,7 @@ dry_lines h [] = refl
 dry_lines h (sound i at ∷ lines) =
     let stamp = unwrap_or at 0 in
     let j = judge history_keeper h i stamp in
-    let k = judged_within None h.records j in
+    let k = judgement_within None h.records j in
     ap (λ room. line_on h i stamp lines k room) (no_room h.records (record_made k))
     ∙ ap (λ made. line_on h i stamp lines made None) (without_device h j)
     ∙ ap (λ (t : List Text). line_said h i stamp j ++ t) (dry_lines (reaction_as history_keeper h i stamp j).world lines)
@@ -134,14 +134,14 @@ reacted_records h i stamp (judged.New r) = step_records h r
 reacted_records h i stamp (judged.Clock r) = step_records h r
 reacted_records h i stamp (judged.Told a) = sym (append-nil h.records)
 
-pub records_after : (s : Run) (lines : List Reading) → (run_after s lines).history.records ≡ s.history.records ++ accepted s lines
+pub records_after : (s : Run) (lines : List Reading) → (run_after s lines).history.records ≡ s.history.records ++ accepted_records s lines
 records_after s [] = sym (append-nil s.history.records)
 records_after s (sound i at ∷ lines) =
     let made = option_to_list (record_of_line s (sound i at)) in
     let s' = (response s (sound i at)).run in
     records_after s' lines
-    ∙ ap (λ (rs : List Record). rs ++ accepted s' lines) (reacted_records s.history i (unwrap_or at 0) (judged_in s i (unwrap_or at 0)))
-    ∙ append_assoc s.history.records made (accepted s' lines)
+    ∙ ap (λ (rs : List Record). rs ++ accepted_records s' lines) (reacted_records s.history i (unwrap_or at 0) (judgement_in s i (unwrap_or at 0)))
+    ∙ append_assoc s.history.records made (accepted_records s' lines)
 records_after s (faulty text ∷ lines) = records_after s lines
 
 rise_sooner : (low level high : ℕ) (texts : List Text) → low ≤ level → RiseFrom level high texts → RiseFrom low high texts
@@ -161,7 +161,7 @@ line_levels s [] = omega arith
 line_levels s (sound i at ∷ lines) =
     let s' = (response s (sound i at)).run in
     rise_at (length s.history.records) (length s'.history.records) (length (run_after s' lines).history.records) _ (line_texts s' lines)
-    (grown s.history i (unwrap_or at 0) (judged_in s i (unwrap_or at 0))) (line_levels s' lines)
+    (grown s.history i (unwrap_or at 0) (judgement_in s i (unwrap_or at 0))) (line_levels s' lines)
 line_levels s (faulty text ∷ lines) = (omega arith, line_levels s lines)
 
 pub levels : (s : Run) (lines : List Reading) → RiseFrom (length s.history.records) (length (run_after s lines).history.records) (transcript_of s lines)

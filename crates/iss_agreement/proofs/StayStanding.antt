@@ -21,7 +21,7 @@ use Rattle.iss_model.specs.declared.entry.Entry.TheVariants as entry
 use Rattle.iss_model.specs.declared.entry.Row.{Row}
 use Rattle.iss_model.specs.Inputs.{is_text}
 use Rattle.iss_model.specs.rules.Settings.{user_made, card_made, product_made, default_product}
-use Rattle.iss_model.specs.rules.Controls.{Group, group_made, groups_of, group_named, ControlPut, ControlNow, control_put, control_replaced, control_now, control_puts_of, controls_of, counting, firsts, control_named}
+use Rattle.iss_model.specs.rules.Controls.{Group, group_made, groups_of, group_named, ControlPut, ControlNow, control_put, control_replaced, control_now, control_puts_of, controls_of, counted_control, firsts, control_named}
 use Rattle.iss_model.specs.rules.Activity.{calls_of, call_opened, call_now, notices_of, notice_made, txn_began}
 use Rattle.iss_model.specs.rules.Facts.{Facts}
 use Rattle.iss_model.specs.rules.Reasons.{lacks_group}
@@ -145,7 +145,7 @@ now_other : (puts : List ControlPut) (p x : ControlPut) → bytes_eq x.control.n
 now_other puts p x differs =
     now_more puts p x ∙ ap (λ (b : Bool). cond b (record (control_now puts x) { control = control_replaced (control_now puts x).control p.control }) (control_now puts x)) (name-sym p.control.name x.control.name ∙ differs)
 
--- the scopes are known behind a control that is put, where its own is known or it stood before
+-- the scopes are known after a control that is put, where its own is known or it stood before
 put_known : (groups : List Group) (puts : List ControlPut) (p : ControlPut) (b : Bool) → list_any (λ k. bytes_eq k.control.name p.control.name) (firsts put_name puts) ≡ b
     → (b ≡ false → knows groups p ≡ true) → list_all (knows groups) (map (control_now puts) (firsts put_name puts)) ≡ true
     → list_all (knows groups) (map (control_now (puts ++ p ∷ [])) (firsts put_name (puts ++ p ∷ []))) ≡ true
@@ -164,7 +164,7 @@ put_known groups puts p false new own known =
 control_found : (rows : List Row) (name : List ℕ) → is_some (control_named name (controls_of rows)) ≡ list_any (λ k. bytes_eq k.control.name name) (firsts put_name (puts_of rows))
 control_found rows name =
     is-some-find (λ (c : ControlNow). bytes_eq c.control.name name) (controls_of rows)
-    ∙ any-map (λ (c : ControlNow). bytes_eq c.control.name name) (counting rows) (control_puts_of rows)
+    ∙ any-map (λ (c : ControlNow). bytes_eq c.control.name name) (counted_control rows) (control_puts_of rows)
     ∙ any-map (λ (put : ControlPut). bytes_eq put.control.name name) (control_now (puts_of rows)) (firsts put_name (puts_of rows))
 
 not_false : (b : Bool) → not b ≡ false → b ≡ true
@@ -175,7 +175,7 @@ not_lacked : (f : Facts) (s : Scope) → lacks_group f s ≡ false → is_group_
 not_lacked f (scope.Group name) h = not_false (is_some (group_named name f.groups)) h
 not_lacked f _ h = refl
 
--- the scopes are known behind each row that goes on naming what stands
+-- the scopes are known after each row that goes on naming what stands
 pub scopes-more : (h : History) (n : ℕ) (e : Entry) → AreScopesKnown h.rows
     → ((i : Input) → e ≡ entry.Conf i → IsSettable (history_facts h) i) → AreScopesKnown (h.rows ++ row_of n e)
 scopes-more h n (entry.Conf (input.Control token control currency window amount_limit usage_limit association scope active)) known settable =

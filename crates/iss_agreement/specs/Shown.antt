@@ -12,15 +12,15 @@ use Rattle.iss_model.specs.rules.Controls.{ControlPut, groups_of, control_puts_o
 use Rattle.iss_model.specs.rules.Activity.{txns_of, calls_of, notices_of, pending_of}
 use Rattle.iss_model.specs.rules.Facts.{decision_of}
 use Rattle.iss_model.specs.rules.Histories.{History, time_of, events_of}
-use Rattle.iss_model.specs.state.Cores.{CoreState, ProductNow, ControlKept, parts_begun, held_begun}
+use Rattle.iss_model.specs.state.Cores.{CoreState, ProductNow, ControlKept, begun_part_changes, begun_held_changes}
 
 -- a product with its switch as the book has it
-abbrev pub product_shown : List Row → Product → ProductNow
-product_shown rows product = record { product = product; on = is_switched rows product.name }
+abbrev pub shown_product : List Row → Product → ProductNow
+shown_product rows product = record { product = product; on = is_switched rows product.name }
 
 -- a control with what it has counted over the whole book
-abbrev pub control_shown : List Row → ControlPut → ControlKept
-control_shown rows put =
+abbrev pub shown_control : List Row → ControlPut → ControlKept
+shown_control rows put =
     record {
       first = put.number;
       control = put.control;
@@ -30,26 +30,26 @@ control_shown rows put =
 
 -- what an entry changes of the parts that are kept: those of a transaction that begins are there from then on
 abbrev pub kept_part_changes : Entry → List Change
-kept_part_changes (entry.Began t) = parts_begun t
+kept_part_changes (entry.Began t) = begun_part_changes t
 kept_part_changes e = part_changes e
 
 -- what an entry changes of what is kept as held of a user
 abbrev pub kept_held_changes : Entry → List Change
-kept_held_changes (entry.Began t) = held_begun t
+kept_held_changes (entry.Began t) = begun_held_changes t
 kept_held_changes e = held_changes e
 
 -- The state that the book of a history shows: each list by filters, each sum over all rows.
-abbrev pub shown_by : History → CoreState
-shown_by h =
+abbrev pub shown_state : History → CoreState
+shown_state h =
     record {
       now = time_of h.records;
       count = length h.records;
       accepted = events_of h.records;
       decisions = filter_map (λ row. decision_of row.entry) h.rows;
       cardholders = record { users = users_of h.rows; cards = cards_of h.rows };
-      products = map (product_shown h.rows) (products_of h.rows);
+      products = map (shown_product h.rows) (products_of h.rows);
       groups = groups_of h.rows;
-      controls = map (control_shown h.rows) (control_puts_of h.rows);
+      controls = map (shown_control h.rows) (control_puts_of h.rows);
       stand_ins = record { sets = sets_of h.rows; stood = kept_of stood_changes h.rows };
       balances = kept_of balance_changes h.rows;
       holdings = record { txns = txns_of h.rows; parts = kept_of kept_part_changes h.rows; held = kept_of kept_held_changes h.rows };

@@ -14,22 +14,22 @@ ghost use Rattle.iss_model.specs.state.Kept.{kept_at};
 ghost use Rattle.iss_model.specs.rules.Settings.{users_of, cards_of, products_of};
 ghost use Rattle.iss_model.specs.rules.Controls.{ControlPut, groups_of, controls_of, sets_of, counted_changes};
 ghost use Rattle.iss_model.specs.rules.Activity.{txns_of, calls_of, notices_of, pending_of};
-ghost use Rattle.iss_model.specs.rules.Facts.{balance_in, held_in, part_in, stood_in, reply_in};
+ghost use Rattle.iss_model.specs.rules.Facts.{balance_in, held_in, part_in, stand_in_sum, reply_in};
 ghost use Rattle.iss_model.specs.rules.Asks.{used_in};
 ghost use Rattle.iss_model.specs.texts.BalanceLines.{accounts_of};
 ghost use Rattle.iss_model.specs.rules.Histories.{nothing_yet, time_of, events_of, history_facts, history_keeper, history_of};
 ghost use Rattle.iss_model.specs.rules.Stepping.{step};
 ghost use Rattle.iss_model.specs.rules.Judging.{judge};
-ghost use Rattle.iss_model.specs.state.Cores.{no_core, control_told, core_facts, core_keeper, core_of};
+ghost use Rattle.iss_model.specs.state.Cores.{no_core, control_facts, core_facts, core_keeper, core_of};
 ghost use Rattle.iss_model.specs.run.Transcripts.{Reading, transcript};
-ghost use Rattle.iss_agreement.specs.Shown.{product_shown, shown_by};
+ghost use Rattle.iss_agreement.specs.Shown.{shown_product, shown_state};
 ghost use Rattle.iss_agreement.specs.Laws.{rows_since};
 
 /// The state that is kept entry by entry is the one that the book shows by filters and sums over all its rows.
 /// Book and state tell the same facts, so a further record makes the same entries on both, and both judge an input alike.
 #[tactic(auto, using(crate::proofs::CoreOfBook::core_history, crate::proofs::CoreOfBook::core_step, crate::proofs::CoreOfBook::facts_history, crate::proofs::CoreOfBook::entries_history, crate::proofs::CoreOfBook::judge_history))]
 pub fn core_keeps_the_book()
-    ensures state { (rs : List Record) → core_of rs ≡ shown_by (history_of rs) }
+    ensures state { (rs : List Record) → core_of rs ≡ shown_state (history_of rs) }
     ensures longer { (rs : List Record) → (r : Record) → (step core_keeper (core_of rs) r).world ≡ core_of (rs ++ r ∷ []) }
     ensures facts { (rs : List Record) → core_facts (core_of rs) ≡ history_facts (history_of rs) }
     ensures entries { (rs : List Record) → (r : Record)
@@ -66,9 +66,9 @@ pub fn core_answers_as_its_book()
     ensures users { (rs : List Record) → (core_of rs).cardholders.users ≡ users_of (history_of rs).rows }
     ensures cards { (rs : List Record) → (core_of rs).cardholders.cards ≡ cards_of (history_of rs).rows }
     ensures products { (rs : List Record)
-        → (core_of rs).products ≡ map (product_shown (history_of rs).rows) (products_of (history_of rs).rows) }
+        → (core_of rs).products ≡ map (shown_product (history_of rs).rows) (products_of (history_of rs).rows) }
     ensures groups { (rs : List Record) → (core_of rs).groups ≡ groups_of (history_of rs).rows }
-    ensures controls { (rs : List Record) → map control_told (core_of rs).controls ≡ controls_of (history_of rs).rows }
+    ensures controls { (rs : List Record) → map control_facts (core_of rs).controls ≡ controls_of (history_of rs).rows }
     ensures sets { (rs : List Record) → (core_of rs).stand_ins.sets ≡ sets_of (history_of rs).rows }
     ensures used { (rs : List Record) → (control : List ℕ) → (user : List ℕ) → (at : ℕ)
         → used_in (core_facts (core_of rs)) control user at ≡ used_in (history_facts (history_of rs)) control user at }
@@ -87,7 +87,7 @@ pub fn core_answers_as_its_book()
     ensures paid { (rs : List Record) → (txn : List ℕ)
         → kept_at (core_of rs).txn_sums.paid txn ≡ (history_facts (history_of rs)).paid txn }
     ensures stood { (rs : List Record) → (product : List ℕ) → (user : List ℕ) → (at : ℕ)
-        → kept_at (core_of rs).stand_ins.stood (stood_key product user at) ≡ stood_in (history_facts (history_of rs)) product user at }
+        → kept_at (core_of rs).stand_ins.stood (stood_key product user at) ≡ stand_in_sum (history_facts (history_of rs)) product user at }
     ensures txns { (rs : List Record) → (core_of rs).holdings.txns ≡ txns_of (history_of rs).rows }
     ensures calls { (rs : List Record) → (core_of rs).calls ≡ calls_of (history_of rs).rows }
     ensures notices { (rs : List Record) → (core_of rs).outbox.made ≡ length (notices_of (history_of rs).rows) }

@@ -7,7 +7,7 @@ use Rattle.iss_model.specs.declared.currency.Currency.{Currency}
 use Rattle.iss_model.specs.Forms.{is_limit, is_amount}
 use Rattle.iss_model.specs.Currencies.{decimals_of}
 use Rattle.iss_model.specs.Amounts.{is_digit, is_whole_text, is_amount_text, digits_value, amount_digits, point_place, limit_read, amount_read, if_form}
-use Rattle.iss_amount.specs.Reading.{value_behind, limit_behind, limit_of_units}
+use Rattle.iss_amount.specs.Reading.{value_after, limit_after, limit_of_units}
 
 -- a limit read from a text with so many decimals
 abbrev pub limit_in : List ℕ → ℕ → Option ℕ
@@ -19,7 +19,7 @@ above n h = grind (arith, nat_tests)
 is_above : (n : ℕ) → if_form is_limit n ≡ None → 1000000000000 < n
 is_above n e = grind (arith, nat_tests)
 
-value_above : (n : ℕ) (ds : List ℕ) → 1000000000000 < n → if_form is_limit (value_behind n ds) ≡ None
+value_above : (n : ℕ) (ds : List ℕ) → 1000000000000 < n → if_form is_limit (value_after n ds) ≡ None
 value_above n [] h = above n h
 value_above n (d ∷ ds) h = value_above (10 * n + (d - 48)) ds (omega arith)
 
@@ -28,7 +28,7 @@ either true o h = h
 either false o h = refl
 
 -- more digits never make it a limit again
-pub stays_great : (n : ℕ) (ds : List ℕ) → 1000000000000 < n → limit_behind n ds ≡ None
+pub stays_great : (n : ℕ) (ds : List ℕ) → 1000000000000 < n → limit_after n ds ≡ None
 stays_great n ds h = either (list_all is_digit ds) _ (value_above n ds h)
 
 more_digits : (units : List ℕ) (ds : List ℕ) → 1000000000000 < digits_value units → if_form is_limit (digits_value (units ++ ds)) ≡ None

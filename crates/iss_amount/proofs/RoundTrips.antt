@@ -14,17 +14,17 @@ use Rattle.iss_model.specs.declared.currency.Currency.TheVariants.{Usd, Eur, Gbp
 use Rattle.iss_model.specs.Forms.{is_limit, is_amount}
 use Rattle.iss_model.specs.Currencies.{decimals_of, unit_of}
 use Rattle.iss_model.specs.Amounts.{is_digit, is_whole_text, is_amount_text, digits_value, amount_digits, point_place, minor_units, limit_read, amount_read, if_form, amount_text, decimals_text}
-use Rattle.iss_amount.specs.Reading.{value_behind}
+use Rattle.iss_amount.specs.Reading.{value_after}
 use Rattle.iss_amount.specs.Laws.{IsReadAgain, IsWrittenAgain}
 
 -- an amount of a form, read from a text with so many decimals
 abbrev read_in : (ℕ → Bool) → List ℕ → ℕ → Option ℕ
 read_in form text places = cond (is_amount_text text places) (if_form form (digits_value (amount_digits text places))) None
 
-own : IsNumeralModel (λ ds. list_all is_digit ds ≡ true) (value_behind 0)
-own = numerals_by_fold _ (search rules) value_behind (search rules)
+own : IsNumeralModel (λ ds. list_all is_digit ds ≡ true) (value_after 0)
+own = numerals_by_fold _ (search rules) value_after (search rules)
 
--- digits without a zero in front
+-- digits without a leading zero
 record IsUnpadded (ds : List ℕ) : Type 0 where
   some : 0 < length ds
   digits : list_all is_digit ds ≡ true
@@ -39,7 +39,7 @@ unpadded ds e = record { some = grind (arith, nat_tests); digits = grind (arith,
 positive : (n : ℕ) → int_lt (pos n) (pos 0) ≡ false
 positive n = search rules
 
--- a number's text has no zero in front
+-- a number's text has no leading zero
 unpadded_decimal : (n : ℕ) → n < 2 ^ 64 → IsUnpadded (decimal n)
 unpadded_decimal n h = record {
   some = decimal_nonempty n h;
@@ -66,7 +66,7 @@ back_is units ds = drop-append-add units (46 ∷ ds) 1
 pointed_is : (places : ℕ) → 0 < places → nat_eq places 0 ≡ false
 pointed_is places some = grind (arith, nat_tests)
 
-read_pointed : (form : ℕ → Bool) (units ds : List ℕ) (places : ℕ) → 0 < places → IsPointed units ds places → read_in form (units ++ 46 ∷ ds) places ≡ if_form form (value_behind (digits_value units) ds)
+read_pointed : (form : ℕ → Bool) (units ds : List ℕ) (places : ℕ) → 0 < places → IsPointed units ds places → read_in form (units ++ 46 ∷ ds) places ≡ if_form form (value_after (digits_value units) ds)
 read_pointed form units ds places some h =
     rw (pointed_is places some, point_after units ds places h.count, take-append_seam units (46 ∷ ds), get_or-append_seam units 46 ds 0, back_is units ds, h.units_ok, h.digits_ok)
     (ap (if_form form) (fold-append _ 0 units ds))
@@ -86,7 +86,7 @@ record Reads (text : List ℕ) (places : ℕ) : Type 0 where
   ds : List ℕ
   ok : IsPointed units ds places
   whole : text ≡ units ++ 46 ∷ ds
-  value : digits_value (amount_digits text places) ≡ value_behind (digits_value units) ds
+  value : digits_value (amount_digits text places) ≡ value_after (digits_value units) ds
 
 reads : (text : List ℕ) (places : ℕ) → 0 < places → is_amount_text text places ≡ true → Reads text places
 reads text places some e =
@@ -149,7 +149,7 @@ two_read form n h =
     })
     ∙ ap (if_form form) value
 
-two_written : (units ds : List ℕ) (n : ℕ) → IsPointed units ds 2 → value_behind (digits_value units) ds ≡ n → n < 2 ^ 64 → text_in 2 100 n ≡ units ++ 46 ∷ ds
+two_written : (units ds : List ℕ) (n : ℕ) → IsPointed units ds 2 → value_after (digits_value units) ds ≡ n → n < 2 ^ 64 → text_in 2 100 n ≡ units ++ 46 ∷ ds
 two_written units [] n h v small = absurd (omega (arith, h.count))
 two_written units (a ∷ []) n h v small = absurd (omega (arith, h.count))
 two_written units (a ∷ b ∷ []) n h v small =
@@ -178,7 +178,7 @@ three_read form n h =
     })
     ∙ ap (if_form form) value
 
-three_written : (units ds : List ℕ) (n : ℕ) → IsPointed units ds 3 → value_behind (digits_value units) ds ≡ n → n < 2 ^ 64 → text_in 3 1000 n ≡ units ++ 46 ∷ ds
+three_written : (units ds : List ℕ) (n : ℕ) → IsPointed units ds 3 → value_after (digits_value units) ds ≡ n → n < 2 ^ 64 → text_in 3 1000 n ≡ units ++ 46 ∷ ds
 three_written units [] n h v small = absurd (omega (arith, h.count))
 three_written units (a ∷ []) n h v small = absurd (omega (arith, h.count))
 three_written units (a ∷ b ∷ []) n h v small = absurd (omega (arith, h.count))

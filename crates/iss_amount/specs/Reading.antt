@@ -8,13 +8,13 @@ use Rattle.iss_model.specs.Amounts.{is_digit, digits_value, is_whole_text, if_fo
 abbrev pub is_unpadded : List ℕ → Bool
 is_unpadded digits = nat_lt 0 (length digits) && (length digits == 1 || not (slice_index digits 0 == 48))
 
--- the number that digits spell behind those of another number
-abbrev pub value_behind : ℕ → List ℕ → ℕ
-value_behind start digits = fold (λ value digit. 10 * value + (digit - 48)) start digits
+-- the number that digits spell after those of another number
+abbrev pub value_after : ℕ → List ℕ → ℕ
+value_after start digits = fold (λ value digit. 10 * value + (digit - 48)) start digits
 
 -- that number, where these are digits and it is a limit's
-abbrev pub limit_behind : ℕ → List ℕ → Option ℕ
-limit_behind start digits = if list_all is_digit digits then if_form is_limit (value_behind start digits) else None
+abbrev pub limit_after : ℕ → List ℕ → Option ℕ
+limit_after start digits = if list_all is_digit digits then if_form is_limit (value_after start digits) else None
 
 -- the number of a text of whole units, where it is a limit's
 abbrev pub limit_of_units : List ℕ → Option ℕ

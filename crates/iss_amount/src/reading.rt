@@ -2,7 +2,7 @@
 ghost use Rattle.std.specs.Prelude.{◌≡◌};
 ghost use Rattle.iss_model.specs.Forms.{is_amount, is_limit};
 ghost use Rattle.iss_model.specs.Amounts.{if_form, amount_read, limit_read, whole_amount_read, whole_limit_read};
-ghost use Rattle.iss_amount.specs.Reading.{is_unpadded, limit_behind, limit_of_units};
+ghost use Rattle.iss_amount.specs.Reading.{is_unpadded, limit_after, limit_of_units};
 ghost use Rattle.iss_amount.specs.Laws.{IsWrittenAgain};
 
 use crate::currency::{decimals, unit};
@@ -39,7 +39,7 @@ pub fn read_limit(text: &[u8], currency: Currency) -> Option<u64>
     if text[point] != b'.' {
         return None;
     }
-    read_behind(units, &text[point + 1..])
+    read_after(units, &text[point + 1..])
 }
 
 /// The minor units of so many whole units: `None` where they aren't 1 to 10^9.
@@ -72,12 +72,12 @@ fn checked_limit(n: u64) -> Option<u64>
     (n <= GREATEST_LIMIT).then_some(n)
 }
 
-/// The number of a text of digits with no zero in front.
+/// The number of a text of digits with no leading zero.
 fn read_units(text: &[u8]) -> Option<u64>
     ensures { result ≡ limit_of_units text.now }
 {
     if is_unpadded(text) {
-        read_behind(0, text)
+        read_after(0, text)
     } else {
         None
     }
@@ -94,10 +94,10 @@ fn is_unpadded(digits: &[u8]) -> bool
     }
 }
 
-/// The number that digits spell behind those of `start`, up to the greatest limit.
+/// The number that digits spell after those of `start`, up to the greatest limit.
 #[tactic(auto, using(crate::proofs::Readings::stays_great))]
-fn read_behind(start: u64, digits: &[u8]) -> Option<u64>
-    ensures { result ≡ limit_behind start digits.now }
+fn read_after(start: u64, digits: &[u8]) -> Option<u64>
+    ensures { result ≡ limit_after start digits.now }
 {
     let mut number = start;
     for byte in digits {

@@ -11,11 +11,11 @@ use Rattle.std.proofs.lemmas.Option.{slice_get-get_or, same_Some, none-some}
 use Rattle.iss_model.proofs.Names.{one_name, name-sym}
 use Rattle.iss_card.specs.Places.{place_of, IsIndexed}
 
--- the place behind one more name
+-- the place after one more name
 abbrev pub later : Option ℕ → Option ℕ
 later place = option_map (λ i. suc i) place
 
--- a place behind one more name is one more than a place
+-- a place after one more name is one more than a place
 later_is : (place : Option ℕ) (i : ℕ) → later place ≡ Some (suc i) → place ≡ Some i
 later_is None i is = absurd (none-some (suc i) is)
 later_is (Some j) i is =
@@ -48,7 +48,7 @@ within name (n ∷ ns) (suc i) is = at (bytes_eq name n) refl (within name ns i)
         let below : i < length ns = rest (later_is (place_of name ns) i next) in
         omega (arith, below)
 
--- the place of a name behind one that the list lacks
+-- the place of a name after one that the list lacks
 place-last : (q k : List ℕ) (ns : List (List ℕ)) → place_of k ns ≡ None
     → place_of q (ns ++ k ∷ []) ≡ cond (bytes_eq k q) (Some (length ns)) (place_of q ns)
 place-last q k [] none = ap (λ (b : Bool). cond b (Some zero) None) (name-sym q k)

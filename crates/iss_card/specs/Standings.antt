@@ -35,7 +35,7 @@ is_unknown (Known user product card holder) = false
 abbrev pub have_holders : List User → List Card → Bool
 have_holders users cards = list_all (λ card. is_some (user_named card.user users)) cards
 
--- the reason that a fault gives; want of memory is none
+-- the reason that a fault gives; a failed allocation is none
 abbrev pub fault_reason : CardFault → Option Reason
 fault_reason fault.UserUnknown = Some reason.UserUnknown
 fault_reason fault.CardUnknown = Some reason.CardUnknown
@@ -45,6 +45,6 @@ fault_reason (fault.MoveCard from to) = Some (reason.MoveCard from to)
 fault_reason fault.OutOfMemory = None
 
 -- the reason that a result gives
-abbrev pub reason_told : {A : Type 0} → Result A CardFault → Option Reason
-reason_told (Ok x) = None
-reason_told (Err fault) = fault_reason fault
+abbrev pub reason_of_result : {A : Type 0} → Result A CardFault → Option Reason
+reason_of_result (Ok x) = None
+reason_of_result (Err fault) = fault_reason fault

@@ -1,4 +1,4 @@
--- Lists that hold one field behind the other come apart in one way.
+-- Lists that hold one field after the other come apart in one way.
 use Rattle.std.proofs.Common.{◌≡◌, ℕ, true, List, [], ◌∷◌, ◌++◌, length, take, drop, get_or, Option, Some, None, refl, sym, ap, ◌∙◌, append_assoc}
 use Rattle.std.proofs.lemmas.List.{take_at, drop_at}
 use Rattle.std.proofs.lemmas.Option.{some_pair_parts}
@@ -12,13 +12,13 @@ use Rattle.iss_model.specs.declared.setting.Association.TheVariants as associati
 use Rattle.iss_model.specs.declared.setting.Scope.{Scope}
 use Rattle.iss_model.specs.declared.setting.Scope.TheVariants as scope
 use Rattle.iss_model.specs.Currencies.{iso_number}
-use Rattle.iss_model.specs.Inputs.{spelled, flag, optional, funding_number, window_number, card_state_number, user_state_number, outcome_number, moved_contents, association_contents, scope_contents}
+use Rattle.iss_model.specs.Inputs.{with_length, flag_contents, optional_contents, funding_number, window_number, card_state_number, user_state_number, outcome_number, moved_contents, association_contents, scope_contents}
 use Rattle.iss_model.specs.texts.Spelling.{number_bytes}
 use Rattle.iss_codec.specs.Taking.{take_currency}
 use Rattle.iss_codec.proofs.TakenFields.{IsField}
 use Rattle.iss_codec.proofs.TakenParts.{currency_field, flag_field, funding_field, window_field, card_state_field, user_state_field, outcome_field}
 
--- where such lists stand at the front of equal lists, they are of one value, and what is behind them is equal
+-- where such lists stand at the start of equal lists, they are of one value, and what is after them is equal
 pub record IsCut {A : Type 0} (text : A → List ℕ) : Type 0 where
   pub cut : (a b : A) (x y : List ℕ) → text a ++ x ≡ text b ++ y → (a ≡ b) × (x ≡ y)
 
@@ -30,7 +30,7 @@ pub field_cut : {A : Type 0} (taker : List ℕ → Option (A × List ℕ)) (text
 field_cut taker text field =
     record { cut = λ a b x y e. some_pair_parts a b x y (sym (field.again a x refl) ∙ ap taker e ∙ field.again b y refl) }
 
--- two of them, one behind the other
+-- two of them, one after the other
 pub pair_cut : {A B : Type 0} {f : A → List ℕ} {g : B → List ℕ} → IsCut f → IsCut g → IsCut (λ (p : A × B). f p.0 ++ g p.1)
 pair_cut {f = f} {g = g} cut_f cut_g =
     record {
@@ -43,18 +43,18 @@ pair_cut {f = f} {g = g} cut_f cut_g =
 pub number_cut : IsCut (λ (n : ℕ). n ∷ [])
 number_cut = record { cut = heads }
 
-text_parts : (a b x y : List ℕ) → spelled a ++ x ≡ spelled b ++ y → (a ≡ b) × (x ≡ y)
+text_parts : (a b x y : List ℕ) → with_length a ++ x ≡ with_length b ++ y → (a ≡ b) × (x ≡ y)
 text_parts a b x y e =
     let p = heads (length a) (length b) (a ++ x) (b ++ y) e in (
       sym (take_at a x (length a) refl) ∙ ap (λ (l : List ℕ). take (length a) l) p.1 ∙ take_at b y (length a) (sym p.0),
       sym (drop_at a x (length a) refl) ∙ ap (λ (l : List ℕ). drop (length a) l) p.1 ∙ drop_at b y (length a) (sym p.0),
     )
 
-pub text_cut : IsCut spelled
+pub text_cut : IsCut with_length
 text_cut = record { cut = text_parts }
 
-pub flag_cut : IsCut flag
-flag_cut = field_cut _ flag flag_field
+pub flag_cut : IsCut flag_contents
+flag_cut = field_cut _ flag_contents flag_field
 
 currency_parts : (a b : Currency) (x y : List ℕ) → iso_number a ∷ x ≡ iso_number b ∷ y → (a ≡ b) × (x ≡ y)
 currency_parts a b x y e =
@@ -81,20 +81,20 @@ card_state_cut = field_cut _ (λ s. card_state_number s ∷ []) card_state_field
 user_state_cut : IsCut (λ s. user_state_number s ∷ [])
 user_state_cut = field_cut _ (λ s. user_state_number s ∷ []) user_state_field
 
-optional_parts : (a b : Option ℕ) (x y : List ℕ) → optional a ++ x ≡ optional b ++ y → (a ≡ b) × (x ≡ y)
+optional_parts : (a b : Option ℕ) (x y : List ℕ) → optional_contents a ++ x ≡ optional_contents b ++ y → (a ≡ b) × (x ≡ y)
 optional_parts None None x y e = (refl, (heads 0 0 x y e).1)
 optional_parts (Some m) (Some n) x y e =
     let p = number_cut.cut m n x y (heads 1 1 (m ∷ x) (n ∷ y) e).1 in (ap Some p.0, p.1)
 optional_parts None (Some n) x y e = absurd cc
 optional_parts (Some m) None x y e = absurd cc
 
-pub optional_cut : IsCut optional
+pub optional_cut : IsCut optional_contents
 optional_cut = record { cut = optional_parts }
 
-card_to_cut : IsCut (λ (p : List ℕ × CardState). spelled p.0 ++ card_state_number p.1 ∷ [])
+card_to_cut : IsCut (λ (p : List ℕ × CardState). with_length p.0 ++ card_state_number p.1 ∷ [])
 card_to_cut = pair_cut text_cut card_state_cut
 
-user_to_cut : IsCut (λ (p : List ℕ × UserState). spelled p.0 ++ user_state_number p.1 ∷ [])
+user_to_cut : IsCut (λ (p : List ℕ × UserState). with_length p.0 ++ user_state_number p.1 ∷ [])
 user_to_cut = pair_cut text_cut user_state_cut
 
 moved_parts : (a b : Moved) (x y : List ℕ) → moved_contents a ++ x ≡ moved_contents b ++ y → (a ≡ b) × (x ≡ y)

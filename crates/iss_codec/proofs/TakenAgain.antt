@@ -14,7 +14,7 @@ use Rattle.iss_model.specs.declared.input.Input.{Input}
 use Rattle.iss_model.specs.declared.input.Input.TheVariants as input
 use Rattle.iss_model.specs.Tokens.{is_token}
 use Rattle.iss_model.specs.Forms.{is_amount, is_limit, is_mcc, is_number, is_timeout, is_hold_time, are_mccs, are_limits, is_scope}
-use Rattle.iss_model.specs.Inputs.{spelled, flag, funding_number, window_number, outcome_number, moved_contents, association_contents}
+use Rattle.iss_model.specs.Inputs.{with_length, flag_contents, funding_number, window_number, outcome_number, moved_contents, association_contents}
 use Rattle.iss_model.specs.texts.Spelling.{number_bytes, currency_bytes, amount_bytes, mcc_bytes, mccs_bytes, scope_bytes, field_bytes, operation_bytes, kind_number, has_spelling, moved_token, association_tokens, scope_tokens}
 use Rattle.iss_codec.specs.Taking.{◌>>=◌}
 use Rattle.iss_codec.specs.TakingRecords.{take_user, take_card, take_move, take_product, take_group, take_control, take_set, take_switch, take_operation, take_authorization, take_clearing, take_answer, take_ack, take_fields}
@@ -22,7 +22,7 @@ use Rattle.iss_codec.proofs.TakenFields.{IsField, token_field}
 use Rattle.iss_codec.proofs.TakenParts.{amount_field, limit_field, mcc_field, id_field, timeout_field, hold_time_field, funding_field, window_field, outcome_field, currency_field, flag_field, both_limits, have_form, limits_field, mccs_field}
 use Rattle.iss_codec.proofs.TakenChoices.{moved_form, moved_field, association_field, association_form, scope_field, scope_form}
 
--- a field in front of what the next steps read
+-- a field before what the next steps read
 again_step : {A B : Type 0} {taker : List ℕ → Option (A × List ℕ)} {text : A → List ℕ} {form : A → Bool} → IsField taker text form
     → (x : A) (rest : List ℕ) (f : A × List ℕ → Option B) (y : Option B) → form x ≡ true → f (x, rest) ≡ y → (taker (text x ++ rest) >>= f) ≡ y
 again_step field x rest f y h e = ap (λ r. r >>= f) (field.again x rest h) ∙ e
@@ -60,7 +60,7 @@ user_again : (token user : List ℕ) (rest : List ℕ) → is_token token ≡ tr
     → take_user (field_bytes (input.User token user) ++ rest) ≡ Some (input.User token user, rest)
 unfolding take_user field_bytes
 user_again token user rest h1 h2 =
-    ap take_user (grouped_2 (spelled token) (spelled user) rest) ∙ again_step token_field token _ _ _ h1
+    ap take_user (grouped_2 (with_length token) (with_length user) rest) ∙ again_step token_field token _ _ _ h1
     (again_step token_field user _ _ _ h2
     refl)
 
@@ -68,7 +68,7 @@ card_again : (token card user product : List ℕ) (active : Bool) (rest : List �
     → take_card (field_bytes (input.Card token card user product active) ++ rest) ≡ Some (input.Card token card user product active, rest)
 unfolding take_card field_bytes
 card_again token card user product active rest h1 h2 h3 h4 =
-    ap take_card (grouped_5 (spelled token) (spelled card) (spelled user) (spelled product) (flag active) rest) ∙ again_step token_field token _ _ _ h1
+    ap take_card (grouped_5 (with_length token) (with_length card) (with_length user) (with_length product) (flag_contents active) rest) ∙ again_step token_field token _ _ _ h1
     (again_step token_field card _ _ _ h2
     (again_step token_field user _ _ _ h3
     (again_step token_field product _ _ _ h4
@@ -79,7 +79,7 @@ move_again : (token : List ℕ) (who : Moved) (rest : List ℕ) → is_token tok
     → take_move (field_bytes (input.Move token who) ++ rest) ≡ Some (input.Move token who, rest)
 unfolding take_move field_bytes
 move_again token who rest h1 h2 =
-    ap take_move (grouped_2 (spelled token) (moved_contents who) rest) ∙ again_step token_field token _ _ _ h1
+    ap take_move (grouped_2 (with_length token) (moved_contents who) rest) ∙ again_step token_field token _ _ _ h1
     (again_step moved_field who _ _ _ h2
     refl)
 
@@ -87,7 +87,7 @@ product_again : (token product : List ℕ) (currency : Currency) (funding : Fund
     → take_product (field_bytes (input.Product token product currency funding timeout_ms hold_ms) ++ rest) ≡ Some (input.Product token product currency funding timeout_ms hold_ms, rest)
 unfolding take_product field_bytes
 product_again token product currency funding timeout_ms hold_ms rest h1 h2 h5 h6 =
-    ap take_product (grouped_6 (spelled token) (spelled product) (currency_bytes currency) (funding_number funding ∷ []) (number_bytes 4 timeout_ms) (number_bytes 4 hold_ms) rest) ∙ again_step token_field token _ _ _ h1
+    ap take_product (grouped_6 (with_length token) (with_length product) (currency_bytes currency) (funding_number funding ∷ []) (number_bytes 4 timeout_ms) (number_bytes 4 hold_ms) rest) ∙ again_step token_field token _ _ _ h1
     (again_step token_field product _ _ _ h2
     (again_step currency_field currency _ _ _ refl
     (again_step funding_field funding _ _ _ refl
@@ -99,7 +99,7 @@ group_again : (token group codes : List ℕ) (rest : List ℕ) → is_token toke
     → take_group (field_bytes (input.Group token group codes) ++ rest) ≡ Some (input.Group token group codes, rest)
 unfolding take_group field_bytes
 group_again token group codes rest h1 h2 h3 =
-    ap take_group (grouped_3 (spelled token) (spelled group) (mccs_bytes codes) rest) ∙ again_step token_field token _ _ _ h1
+    ap take_group (grouped_3 (with_length token) (with_length group) (mccs_bytes codes) rest) ∙ again_step token_field token _ _ _ h1
     (again_step token_field group _ _ _ h2
     (again_step mccs_field codes _ _ _ h3
     refl))
@@ -108,7 +108,7 @@ control_again : (token control : List ℕ) (currency : Currency) (window : Windo
     → take_control (field_bytes (input.Control token control currency window limits.0 limits.1 association scope active) ++ rest) ≡ Some (input.Control token control currency window limits.0 limits.1 association scope active, rest)
 unfolding take_control field_bytes
 control_again token control currency window limits association scope active rest h1 h2 h5 h6 h7 =
-    ap take_control (grouped_8 (spelled token) (spelled control) (currency_bytes currency) (window_number window ∷ []) (both_limits limits) (association_contents association) (scope_bytes scope) (flag active) rest) ∙ again_step token_field token _ _ _ h1
+    ap take_control (grouped_8 (with_length token) (with_length control) (currency_bytes currency) (window_number window ∷ []) (both_limits limits) (association_contents association) (scope_bytes scope) (flag_contents active) rest) ∙ again_step token_field token _ _ _ h1
     (again_step token_field control _ _ _ h2
     (again_step currency_field currency _ _ _ refl
     (again_step window_field window _ _ _ refl
@@ -122,7 +122,7 @@ set_again : (token set product : List ℕ) (currency : Currency) (connection tim
     → take_set (field_bytes (input.Set token set product currency connection timeout application max day_limit active) ++ rest) ≡ Some (input.Set token set product currency connection timeout application max day_limit active, rest)
 unfolding take_set field_bytes
 set_again token set product currency connection timeout application max day_limit active rest h1 h2 h3 h8 h9 =
-    ap take_set (grouped_10 (spelled token) (spelled set) (spelled product) (currency_bytes currency) (flag connection) (flag timeout) (flag application) (amount_bytes max) (amount_bytes day_limit) (flag active) rest) ∙ again_step token_field token _ _ _ h1
+    ap take_set (grouped_10 (with_length token) (with_length set) (with_length product) (currency_bytes currency) (flag_contents connection) (flag_contents timeout) (flag_contents application) (amount_bytes max) (amount_bytes day_limit) (flag_contents active) rest) ∙ again_step token_field token _ _ _ h1
     (again_step token_field set _ _ _ h2
     (again_step token_field product _ _ _ h3
     (again_step currency_field currency _ _ _ refl
@@ -138,7 +138,7 @@ switch_again : (token product : List ℕ) (on : Bool) (rest : List ℕ) → is_t
     → take_switch (field_bytes (input.Switch token product on) ++ rest) ≡ Some (input.Switch token product on, rest)
 unfolding take_switch field_bytes
 switch_again token product on rest h1 h2 =
-    ap take_switch (grouped_3 (spelled token) (spelled product) (flag on) rest) ∙ again_step token_field token _ _ _ h1
+    ap take_switch (grouped_3 (with_length token) (with_length product) (flag_contents on) rest) ∙ again_step token_field token _ _ _ h1
     (again_step token_field product _ _ _ h2
     (again_step flag_field on _ _ _ refl
     refl))
@@ -147,7 +147,7 @@ operation_again : (make : List ℕ → List ℕ → Currency → ℕ → Input) 
     → take_operation make (operation_bytes token about currency amount ++ rest) ≡ Some (make token about currency amount, rest)
 unfolding take_operation
 operation_again make token about currency amount rest h1 h2 h4 =
-    ap (take_operation make) (grouped_4 (spelled token) (spelled about) (currency_bytes currency) (amount_bytes amount) rest) ∙ again_step token_field token _ _ _ h1
+    ap (take_operation make) (grouped_4 (with_length token) (with_length about) (currency_bytes currency) (amount_bytes amount) rest) ∙ again_step token_field token _ _ _ h1
     (again_step token_field about _ _ _ h2
     (again_step currency_field currency _ _ _ refl
     (again_step amount_field amount _ _ _ h4
@@ -157,7 +157,7 @@ authorization_again : (token card : List ℕ) (currency : Currency) (amount mcc 
     → take_authorization (field_bytes (input.Authorization token card currency amount mcc mid) ++ rest) ≡ Some (input.Authorization token card currency amount mcc mid, rest)
 unfolding take_authorization field_bytes
 authorization_again token card currency amount mcc mid rest h1 h2 h4 h5 h6 =
-    ap take_authorization (grouped_6 (spelled token) (spelled card) (currency_bytes currency) (amount_bytes amount) (mcc_bytes mcc) (spelled mid) rest) ∙ again_step token_field token _ _ _ h1
+    ap take_authorization (grouped_6 (with_length token) (with_length card) (currency_bytes currency) (amount_bytes amount) (mcc_bytes mcc) (with_length mid) rest) ∙ again_step token_field token _ _ _ h1
     (again_step token_field card _ _ _ h2
     (again_step currency_field currency _ _ _ refl
     (again_step amount_field amount _ _ _ h4
@@ -169,7 +169,7 @@ clearing_again : (token txn : List ℕ) (currency : Currency) (amount : ℕ) (la
     → take_clearing (field_bytes (input.Clearing token txn currency amount last) ++ rest) ≡ Some (input.Clearing token txn currency amount last, rest)
 unfolding take_clearing field_bytes
 clearing_again token txn currency amount last rest h1 h2 h4 =
-    ap take_clearing (grouped_5 (spelled token) (spelled txn) (currency_bytes currency) (amount_bytes amount) (flag last) rest) ∙ again_step token_field token _ _ _ h1
+    ap take_clearing (grouped_5 (with_length token) (with_length txn) (currency_bytes currency) (amount_bytes amount) (flag_contents last) rest) ∙ again_step token_field token _ _ _ h1
     (again_step token_field txn _ _ _ h2
     (again_step currency_field currency _ _ _ refl
     (again_step amount_field amount _ _ _ h4

@@ -11,18 +11,18 @@ use Rattle.iss_model.specs.declared.setting.Scope.{Scope}
 use Rattle.iss_model.specs.declared.setting.Scope.TheVariants as scope
 use Rattle.iss_model.specs.Tokens.{is_token}
 use Rattle.iss_model.specs.Forms.{is_scope}
-use Rattle.iss_model.specs.Inputs.{spelled, moved_contents, association_contents, card_state_number, user_state_number}
+use Rattle.iss_model.specs.Inputs.{with_length, moved_contents, association_contents, card_state_number, user_state_number}
 use Rattle.iss_model.specs.texts.Spelling.{AreBytes, scope_bytes, moved_token, association_tokens, scope_tokens}
 use Rattle.iss_model.specs.Numbers.{card_state_numbered, user_state_numbered}
 use Rattle.iss_codec.specs.Taking.{take_byte, take_token, take_numbered, take_mcc, take_moved_card, take_moved_user, take_moved_by, take_moved, take_named, take_association_by, take_association, take_mcc_scope, take_scope_by, take_scope}
 use Rattle.iss_codec.proofs.TakenFields.{bind_some, either_way, IsSplit, IsField, split_on, byte_takes, token_field}
 use Rattle.iss_codec.proofs.TakenParts.{behind, card_state_field, user_state_field, mcc_field}
 
--- a byte in front of what is split
+-- a byte before what is split
 byte_before : (byte : ℕ) (bytes text rest : List ℕ) → IsSplit bytes text rest → IsSplit (byte ∷ bytes) (byte ∷ text) rest
 byte_before byte bytes text rest s = record { parts = ap (λ (t : List ℕ). byte ∷ t) s.parts; fits = s.fits }
 
--- what is known of a part behind its first byte, where that byte is this one
+-- what is known of a part after its first byte, where that byte is this one
 at_byte : {A : Type 0} (text : A → List ℕ) (form : A → Bool) (byte wanted : ℕ) (bytes : List ℕ) (x : A × List ℕ) → nat_eq byte wanted ≡ true
     → IsSplit (wanted ∷ bytes) (text x.0) x.1 × (form x.0 ≡ true) → IsSplit (byte ∷ bytes) (text x.0) x.1 × (form x.0 ≡ true)
 at_byte text form byte wanted bytes x is h =
@@ -61,10 +61,10 @@ moved_by_takes byte bytes x fits e =
 moved_again : (x : Moved) (rest : List ℕ) → moved_form x ≡ true → take_moved (moved_contents x ++ rest) ≡ Some (x, rest)
 unfolding take_moved take_moved_card take_moved_user take_byte
 moved_again (moved.Card card to) rest h =
-    ap (λ t. take_moved (1 ∷ t)) (append_assoc (spelled card) (card_state_number to ∷ []) rest)
+    ap (λ t. take_moved (1 ∷ t)) (append_assoc (with_length card) (card_state_number to ∷ []) rest)
     ∙ rw (token_field.again card ((card_state_number to ∷ []) ++ rest) h, card_state_field.again to rest refl) refl
 moved_again (moved.User user to) rest h =
-    ap (λ t. take_moved (2 ∷ t)) (append_assoc (spelled user) (user_state_number to ∷ []) rest)
+    ap (λ t. take_moved (2 ∷ t)) (append_assoc (with_length user) (user_state_number to ∷ []) rest)
     ∙ rw (token_field.again user ((user_state_number to ∷ []) ++ rest) h, user_state_field.again to rest refl) refl
 
 pub moved_field : IsField take_moved moved_contents moved_form
@@ -80,7 +80,7 @@ moved_field =
     }
 
 named_takes : {A : Type 0} (make : List ℕ → A) (text : A → List ℕ) (form : A → Bool) (byte : ℕ)
-    → ((name : List ℕ) → text (make name) ≡ byte ∷ spelled name) → ((name : List ℕ) → is_token name ≡ true → form (make name) ≡ true)
+    → ((name : List ℕ) → text (make name) ≡ byte ∷ with_length name) → ((name : List ℕ) → is_token name ≡ true → form (make name) ≡ true)
     → (bytes : List ℕ) (x : A × List ℕ) → AreBytes bytes → take_named make bytes ≡ Some x → IsSplit (byte ∷ bytes) (text x.0) x.1 × (form x.0 ≡ true)
 unfolding take_named
 named_takes make text form byte is_text is_form bytes x fits e =

@@ -4,7 +4,7 @@ use Rattle.std.proofs.lemmas.Bool.{ltb-false, le-ltb}
 use Rattle.std.proofs.lemmas.Option.{same_Some}
 use Rattle.std.proofs.lemmas.List.{take_at, drop_at, take-append-drop, length-append, length-take}
 use Rattle.iss_model.specs.Tokens.{is_token}
-use Rattle.iss_model.specs.Inputs.{spelled}
+use Rattle.iss_model.specs.Inputs.{with_length}
 use Rattle.iss_model.specs.texts.Spelling.{AreBytes, number_bytes}
 use Rattle.iss_codec.specs.Taking.{◌>>=◌, number_from, take_byte, take_bytes, take_number, take_formed, take_token, take_numbered}
 use Rattle.iss_codec.proofs.NumberBytes.{bytes_behind, IsWide}
@@ -24,7 +24,7 @@ pub not_failed : {A : Type 0} (b : Bool) (x y : A) → cond b None (Some x) ≡ 
 not_failed true x y e = absurd cc
 not_failed false x y e = (refl, same_Some x y e)
 
--- what follows from a value, whichever way the test in front of it went
+-- what follows from a value, whichever way the test before it went
 pub either_way : {A P : Type 0} (b : Bool) (x y z : A) → (b ≡ true → x ≡ z → P) → (y ≡ z → P) → cond b x y ≡ z → P
 either_way true x y z first other e = first refl e
 either_way false x y z first other e = other e
@@ -39,7 +39,7 @@ pub record IsField {A : Type 0} (taker : List ℕ → Option (A × List ℕ)) (t
   pub takes : (bytes : List ℕ) (x : A × List ℕ) → AreBytes bytes → taker bytes ≡ Some x → IsSplit bytes (text x.0) x.1 × (form x.0 ≡ true)
   pub again : (x : A) (rest : List ℕ) → form x ≡ true → taker (text x ++ rest) ≡ Some (x, rest)
 
--- two texts behind each other
+-- two texts after each other
 pub split_on : (bytes text middle more rest : List ℕ) → IsSplit bytes text middle → IsSplit middle more rest → IsSplit bytes (text ++ more) rest
 split_on bytes text middle more rest a b =
     record { parts = a.parts ∙ ap (λ (t : List ℕ). text ++ t) b.parts ∙ sym (append_assoc text more rest); fits = b.fits }
@@ -103,7 +103,7 @@ formed width limit form wide below =
     }
 
 -- a token
-pub token_field : IsField take_token spelled is_token
+pub token_field : IsField take_token with_length is_token
 unfolding take_token
 token_field =
     record {
@@ -114,8 +114,8 @@ token_field =
           let b = bytes_take n.0.0 n.0.1 t.0 a.fits t.1 in
           let g = passed (is_token t.0.0) t.0 x t.2 in
           let both = split_on bytes (n.0.0 ∷ []) n.0.1 t.0.0 t.0.1 a b.0 in
-          let whole : IsSplit bytes (spelled t.0.0) t.0.1 = subst (λ (k : ℕ). IsSplit bytes (k ∷ t.0.0) t.0.1) (sym b.1) both in
-          subst (λ (y : List ℕ × List ℕ). IsSplit bytes (spelled y.0) y.1 × (is_token y.0 ≡ true)) g.1 (whole, g.0);
+          let whole : IsSplit bytes (with_length t.0.0) t.0.1 = subst (λ (k : ℕ). IsSplit bytes (k ∷ t.0.0) t.0.1) (sym b.1) both in
+          subst (λ (y : List ℕ × List ℕ). IsSplit bytes (with_length y.0) y.1 × (is_token y.0 ≡ true)) g.1 (whole, g.0);
       again = λ text rest h. rw (byte_again (length text) (text ++ rest), bytes_again text rest, h) refl;
     }
 

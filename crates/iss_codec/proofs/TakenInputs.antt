@@ -22,7 +22,7 @@ pub record IsInput (number : ℕ) (bytes : List ℕ) (x : Input × List ℕ) : T
   pub form : has_spelling x.0 ≡ true
   pub kind : kind_number x.0 ≡ number
 
--- A field taken behind others, with what follows from it and the steps that are left.
+-- A field taken after others, with what follows from it and the steps that are left.
 step : {A B : Type 0} {taker : List ℕ → Option (A × List ℕ)} {text : A → List ℕ} {form : A → Bool} {P : Type 0} → IsField taker text form
     → (whole front bytes : List ℕ) (f : A × List ℕ → Option B) (y : B) → IsSplit whole front bytes → (taker bytes >>= f) ≡ Some y
     → ((value : A) (rest : List ℕ) → IsSplit whole (front ++ text value) rest → form value ≡ true → f (value, rest) ≡ Some y → P) → P

@@ -4,7 +4,7 @@ use Rattle.iss_model.specs.declared.currency.Currency.{Currency}
 use Rattle.iss_model.specs.declared.input.Record.{Record}
 use Rattle.iss_model.specs.Tokens.{is_token}
 use Rattle.iss_model.specs.Forms.{is_amount}
-use Rattle.iss_model.specs.Inputs.{spelled}
+use Rattle.iss_model.specs.Inputs.{with_length}
 use Rattle.iss_model.specs.texts.Spelling.{AreBytes, amount_bytes, currency_bytes, spelling, is_record}
 use Rattle.iss_codec.specs.Taking.{take_token, take_amount, take_currency}
 use Rattle.iss_codec.specs.TakingRecords.{take_record}
@@ -12,7 +12,7 @@ use Rattle.iss_codec.proofs.TakenFields.{token_field}
 use Rattle.iss_codec.proofs.TakenParts.{amount_field, currency_field}
 use Rattle.iss_codec.proofs.TakenRecords.{record_takes}
 
-pub token_read : (text rest : List ℕ) → is_token text ≡ true → take_token (spelled text ++ rest) ≡ Some (text, rest)
+pub token_read : (text rest : List ℕ) → is_token text ≡ true → take_token (with_length text ++ rest) ≡ Some (text, rest)
 token_read text rest h = token_field.again text rest h
 
 pub amount_read : (n : ℕ) (rest : List ℕ) → is_amount n ≡ true → take_amount (amount_bytes n ++ rest) ≡ Some (n, rest)

@@ -19,7 +19,7 @@ use Rattle.iss_model.specs.declared.input.Outcome.{Outcome}
 use Rattle.iss_model.specs.declared.input.Outcome.TheVariants as outcome
 use Rattle.iss_model.specs.Currencies.{iso_number, currencies}
 use Rattle.iss_model.specs.Forms.{is_amount, is_limit, is_mcc, is_stamp, is_timeout, is_hold_time, is_number, is_usage_limit, is_none_or, are_rising, are_mccs, are_limits, may_count}
-use Rattle.iss_model.specs.Inputs.{flag, funding_number, window_number, card_state_number, user_state_number, outcome_number}
+use Rattle.iss_model.specs.Inputs.{flag_contents, funding_number, window_number, card_state_number, user_state_number, outcome_number}
 use Rattle.iss_model.specs.texts.Spelling.{AreBytes, number_bytes, currency_bytes, mcc_bytes, mccs_bytes, limit_bytes, limits_bytes}
 use Rattle.iss_model.specs.Numbers.{of_number, fundings, windows, card_states, user_states, outcomes, currency_numbered, funding_numbered, window_numbered, card_state_numbered, user_state_numbered, outcome_numbered, flag_numbered}
 use Rattle.iss_codec.specs.Taking.{take_byte, take_number, take_formed, take_stamp, take_amount, take_limit, take_mcc, take_id, take_numbered, take_flag, take_currency, take_some, take_optional_by, take_optional, take_codes, take_mccs}
@@ -133,17 +133,17 @@ currency_field =
 
 -- true or false
 
-flag_there : (x : Bool) (rest : List ℕ) → take_flag (flag x ++ rest) ≡ Some (x, rest)
+flag_there : (x : Bool) (rest : List ℕ) → take_flag (flag_contents x ++ rest) ≡ Some (x, rest)
 unfolding take_numbered take_byte
 flag_there true rest = refl
 flag_there false rest = refl
 
-flag_back : (n : ℕ) (x : Bool) → flag_numbered n ≡ Some x → n ∷ [] ≡ flag x
+flag_back : (n : ℕ) (x : Bool) → flag_numbered n ≡ Some x → n ∷ [] ≡ flag_contents x
 flag_back n x e =
-    either_way _ _ _ (Some x) (λ is e. ap (λ k. k ∷ []) (eqb-true n 0 is) ∙ ap flag (same_Some false x e))
-    (λ e. let q = passed (nat_eq n 1) true x e in ap (λ k. k ∷ []) (eqb-true n 1 q.0) ∙ ap flag q.1) e
+    either_way _ _ _ (Some x) (λ is e. ap (λ k. k ∷ []) (eqb-true n 0 is) ∙ ap flag_contents (same_Some false x e))
+    (λ e. let q = passed (nat_eq n 1) true x e in ap (λ k. k ∷ []) (eqb-true n 1 q.0) ∙ ap flag_contents q.1) e
 
-pub flag_field : IsField take_flag flag (λ x. true)
+pub flag_field : IsField take_flag flag_contents (λ x. true)
 unfolding take_numbered
 flag_field =
     record {
@@ -151,8 +151,8 @@ flag_field =
           let n = bind_some (take_byte bytes) _ x e in
           let a = byte_takes bytes n.0 fits n.1 in
           let t = bind_some (flag_numbered n.0.0) _ x n.2 in
-          let whole : IsSplit bytes (flag t.0) n.0.1 = subst (λ text. IsSplit bytes text n.0.1) (flag_back n.0.0 t.0 t.1) a in
-          (subst (λ y. IsSplit bytes (flag y.0) y.1) (same_Some (t.0, n.0.1) x t.2) whole, refl);
+          let whole : IsSplit bytes (flag_contents t.0) n.0.1 = subst (λ text. IsSplit bytes text n.0.1) (flag_back n.0.0 t.0 t.1) a in
+          (subst (λ y. IsSplit bytes (flag_contents y.0) y.1) (same_Some (t.0, n.0.1) x t.2) whole, refl);
       again = λ x rest h. flag_there x rest;
     }
 
@@ -184,7 +184,7 @@ unfolding take_optional take_byte
 optional_again width most wide None rest h = refl
 optional_again width most wide (Some n) rest h = rw (number_again width most wide n rest (ltb-true _ _ h)) refl
 
--- a field behind a byte that says which one it is
+-- a field after a byte that says which one it is
 pub behind : (bytes : List ℕ) (n : ℕ × List ℕ) (text rest : List ℕ) → IsSplit bytes (n.0 ∷ []) n.1 → IsSplit (n.0 ∷ n.1) text rest → IsSplit bytes text rest
 behind bytes n text rest a b = record { parts = a.parts ∙ b.parts; fits = b.fits }
 

@@ -2,14 +2,14 @@
 ghost use Rattle.std.specs.Prelude.{◌≡◌};
 ghost use Rattle.iss_model.specs.Numbers.{currency_numbered, flag_numbered, funding_numbered, window_numbered, card_state_numbered, user_state_numbered, outcome_numbered};
 ghost use Rattle.iss_codec.specs.Taking.{take_currency, take_flag, take_numbered};
-ghost use Rattle.iss_codec.specs.Fronts.{seen};
+ghost use Rattle.iss_codec.specs.Fronts.{field_seen};
 
 use crate::fields::{take_byte, take_u16};
 use iss_model::{CardState, Currency, Funding, Outcome, UserState, Window};
 
 #[tactic(auto, unfolding(crate::specs::Taking::take_currency))]
 pub(crate) fn take_currency(bytes: &[u8]) -> Option<(Currency, &[u8])>
-    ensures { seen result ≡ take_currency bytes.now }
+    ensures { field_seen result ≡ take_currency bytes.now }
 {
     let (number, rest) = take_u16(bytes)?;
     let currency = currency_numbered(number)?;
@@ -33,7 +33,7 @@ fn currency_numbered(number: u16) -> Option<Currency>
 
 #[tactic(auto, unfolding(crate::specs::Taking::take_numbered))]
 pub(crate) fn take_flag(bytes: &[u8]) -> Option<(bool, &[u8])>
-    ensures { seen result ≡ take_flag bytes.now }
+    ensures { field_seen result ≡ take_flag bytes.now }
 {
     let (number, rest) = take_byte(bytes)?;
     let flag = flag_numbered(number)?;
@@ -52,7 +52,7 @@ fn flag_numbered(number: u8) -> Option<bool>
 
 #[tactic(auto, unfolding(crate::specs::Taking::take_numbered))]
 pub(crate) fn take_funding(bytes: &[u8]) -> Option<(Funding, &[u8])>
-    ensures { seen result ≡ take_numbered funding_numbered bytes.now }
+    ensures { field_seen result ≡ take_numbered funding_numbered bytes.now }
 {
     let (number, rest) = take_byte(bytes)?;
     let funding = funding_numbered(number)?;
@@ -71,7 +71,7 @@ fn funding_numbered(number: u8) -> Option<Funding>
 
 #[tactic(auto, unfolding(crate::specs::Taking::take_numbered))]
 pub(crate) fn take_window(bytes: &[u8]) -> Option<(Window, &[u8])>
-    ensures { seen result ≡ take_numbered window_numbered bytes.now }
+    ensures { field_seen result ≡ take_numbered window_numbered bytes.now }
 {
     let (number, rest) = take_byte(bytes)?;
     let window = window_numbered(number)?;
@@ -93,7 +93,7 @@ fn window_numbered(number: u8) -> Option<Window>
 
 #[tactic(auto, unfolding(crate::specs::Taking::take_numbered))]
 pub(crate) fn take_card_state(bytes: &[u8]) -> Option<(CardState, &[u8])>
-    ensures { seen result ≡ take_numbered card_state_numbered bytes.now }
+    ensures { field_seen result ≡ take_numbered card_state_numbered bytes.now }
 {
     let (number, rest) = take_byte(bytes)?;
     let state = card_state_numbered(number)?;
@@ -114,7 +114,7 @@ fn card_state_numbered(number: u8) -> Option<CardState>
 
 #[tactic(auto, unfolding(crate::specs::Taking::take_numbered))]
 pub(crate) fn take_user_state(bytes: &[u8]) -> Option<(UserState, &[u8])>
-    ensures { seen result ≡ take_numbered user_state_numbered bytes.now }
+    ensures { field_seen result ≡ take_numbered user_state_numbered bytes.now }
 {
     let (number, rest) = take_byte(bytes)?;
     let state = user_state_numbered(number)?;
@@ -134,7 +134,7 @@ fn user_state_numbered(number: u8) -> Option<UserState>
 
 #[tactic(auto, unfolding(crate::specs::Taking::take_numbered))]
 pub(crate) fn take_outcome(bytes: &[u8]) -> Option<(Outcome, &[u8])>
-    ensures { seen result ≡ take_numbered outcome_numbered bytes.now }
+    ensures { field_seen result ≡ take_numbered outcome_numbered bytes.now }
 {
     let (number, rest) = take_byte(bytes)?;
     let outcome = outcome_numbered(number)?;

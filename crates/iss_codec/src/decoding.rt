@@ -2,7 +2,7 @@
 ghost use Rattle.std.specs.Prelude.{◌≡◌, IfOk, IfSome, Some, None};
 ghost use Rattle.iss_model.specs.declared.input.Record.{Record};
 ghost use Rattle.iss_codec.specs.TakingRecords.{take_fields, take_record, record_spelled};
-ghost use Rattle.iss_codec.specs.Fronts.{seen};
+ghost use Rattle.iss_codec.specs.Fronts.{field_seen};
 ghost use Rattle.iss_codec.specs.Meanings.{IsSpellingOf};
 
 use crate::fields::{take_byte, take_stamp};
@@ -39,7 +39,7 @@ fn record_spelled(alloc: Global, bytes: &[u8]) -> Result<Option<Record>, AllocEr
 
 #[tactic(auto, unfolding(crate::specs::TakingRecords::take_record))]
 fn take_record(alloc: Global, bytes: &[u8]) -> Result<Option<(Record, &[u8])>, AllocError>
-    ensures { IfOk result (λ found. seen found ≡ take_record bytes.now) }
+    ensures { IfOk result (λ found. field_seen found ≡ take_record bytes.now) }
 {
     let Some((kind, rest)) = take_byte(bytes) else {
         return Ok(None);
@@ -55,7 +55,7 @@ fn take_record(alloc: Global, bytes: &[u8]) -> Result<Option<(Record, &[u8])>, A
 
 #[tactic(auto, unfolding(crate::specs::TakingRecords::take_fields))]
 fn take_fields(alloc: Global, kind: u8, bytes: &[u8]) -> Result<Option<(Input, &[u8])>, AllocError>
-    ensures { IfOk result (λ found. seen found ≡ take_fields kind bytes.now) }
+    ensures { IfOk result (λ found. field_seen found ≡ take_fields kind bytes.now) }
 {
     Ok(match kind {
         1 => take_user(bytes),

@@ -2,7 +2,7 @@
 ghost use Rattle.std.specs.Prelude.{◌≡◌, IfOk, option_map};
 ghost use Rattle.iss_model.specs.Forms.{are_mccs, are_rising};
 ghost use Rattle.iss_codec.specs.Taking.{take_codes, take_mccs};
-ghost use Rattle.iss_codec.specs.Fronts.{seen};
+ghost use Rattle.iss_codec.specs.Fronts.{field_seen};
 
 use crate::fields::take_u16;
 use iss_model::Mccs;
@@ -10,7 +10,7 @@ use std::alloc::{AllocError, Global};
 
 #[tactic(auto, unfolding(crate::specs::Taking::take_mccs))]
 pub(crate) fn take_mccs(alloc: Global, bytes: &[u8]) -> Result<Option<(Mccs, &[u8])>, AllocError>
-    ensures { IfOk result (λ found. seen found ≡ take_mccs bytes.now) }
+    ensures { IfOk result (λ found. field_seen found ≡ take_mccs bytes.now) }
 {
     let Some((count, rest)) = take_u16(bytes) else {
         return Ok(None);

@@ -5,7 +5,7 @@ ghost use Rattle.iss_model.specs.declared.setting.Scope.TheVariants as scope;
 ghost use Rattle.iss_model.specs.Forms.{are_limits, may_count};
 ghost use Rattle.iss_codec.specs.Taking.{take_moved, take_moved_card, take_moved_user, take_association, take_named, take_scope, take_mcc_scope, take_optional, take_some};
 ghost use Rattle.iss_codec.specs.TakingRecords.{take_limits};
-ghost use Rattle.iss_codec.specs.Fronts.{seen};
+ghost use Rattle.iss_codec.specs.Fronts.{field_seen};
 
 use crate::choices::{take_card_state, take_user_state};
 use crate::fields::{take_byte, take_mcc, take_token, take_u32, take_u64};
@@ -17,7 +17,7 @@ const GREATEST_USAGE: u32 = 1_000_000;
 
 #[tactic(auto, unfolding(crate::specs::Taking::take_moved))]
 pub(crate) fn take_moved(bytes: &[u8]) -> Option<(Moved, &[u8])>
-    ensures { seen result ≡ take_moved bytes.now }
+    ensures { field_seen result ≡ take_moved bytes.now }
 {
     let (number, rest) = take_byte(bytes)?;
     match number {
@@ -29,7 +29,7 @@ pub(crate) fn take_moved(bytes: &[u8]) -> Option<(Moved, &[u8])>
 
 #[tactic(auto, unfolding(crate::specs::Taking::take_moved_card))]
 fn take_moved_card(bytes: &[u8]) -> Option<(Moved, &[u8])>
-    ensures { seen result ≡ take_moved_card bytes.now }
+    ensures { field_seen result ≡ take_moved_card bytes.now }
 {
     let Some((card, rest)) = take_token(bytes) else {
         return None;
@@ -40,7 +40,7 @@ fn take_moved_card(bytes: &[u8]) -> Option<(Moved, &[u8])>
 
 #[tactic(auto, unfolding(crate::specs::Taking::take_moved_user))]
 fn take_moved_user(bytes: &[u8]) -> Option<(Moved, &[u8])>
-    ensures { seen result ≡ take_moved_user bytes.now }
+    ensures { field_seen result ≡ take_moved_user bytes.now }
 {
     let Some((user, rest)) = take_token(bytes) else {
         return None;
@@ -51,7 +51,7 @@ fn take_moved_user(bytes: &[u8]) -> Option<(Moved, &[u8])>
 
 #[tactic(auto, unfolding(crate::specs::Taking::take_association))]
 pub(crate) fn take_association(bytes: &[u8]) -> Option<(Association, &[u8])>
-    ensures { seen result ≡ take_association bytes.now }
+    ensures { field_seen result ≡ take_association bytes.now }
 {
     let (number, rest) = take_byte(bytes)?;
     match number {
@@ -64,7 +64,7 @@ pub(crate) fn take_association(bytes: &[u8]) -> Option<(Association, &[u8])>
 
 #[tactic(auto, unfolding(crate::specs::Taking::take_named))]
 fn take_association_user(bytes: &[u8]) -> Option<(Association, &[u8])>
-    ensures { seen result ≡ take_named association.User bytes.now }
+    ensures { field_seen result ≡ take_named association.User bytes.now }
 {
     let Some((user, rest)) = take_token(bytes) else {
         return None;
@@ -74,7 +74,7 @@ fn take_association_user(bytes: &[u8]) -> Option<(Association, &[u8])>
 
 #[tactic(auto, unfolding(crate::specs::Taking::take_named))]
 fn take_association_product(bytes: &[u8]) -> Option<(Association, &[u8])>
-    ensures { seen result ≡ take_named association.Product bytes.now }
+    ensures { field_seen result ≡ take_named association.Product bytes.now }
 {
     let Some((product, rest)) = take_token(bytes) else {
         return None;
@@ -84,7 +84,7 @@ fn take_association_product(bytes: &[u8]) -> Option<(Association, &[u8])>
 
 #[tactic(auto, unfolding(crate::specs::Taking::take_scope))]
 pub(crate) fn take_scope(bytes: &[u8]) -> Option<(Scope, &[u8])>
-    ensures { seen result ≡ take_scope bytes.now }
+    ensures { field_seen result ≡ take_scope bytes.now }
 {
     let (number, rest) = take_byte(bytes)?;
     match number {
@@ -98,7 +98,7 @@ pub(crate) fn take_scope(bytes: &[u8]) -> Option<(Scope, &[u8])>
 
 #[tactic(auto, unfolding(crate::specs::Taking::take_mcc_scope))]
 fn take_scope_mcc(bytes: &[u8]) -> Option<(Scope, &[u8])>
-    ensures { seen result ≡ take_mcc_scope bytes.now }
+    ensures { field_seen result ≡ take_mcc_scope bytes.now }
 {
     let (mcc, rest) = take_mcc(bytes)?;
     Some((Scope::Mcc(mcc), rest))
@@ -106,7 +106,7 @@ fn take_scope_mcc(bytes: &[u8]) -> Option<(Scope, &[u8])>
 
 #[tactic(auto, unfolding(crate::specs::Taking::take_named))]
 fn take_scope_group(bytes: &[u8]) -> Option<(Scope, &[u8])>
-    ensures { seen result ≡ take_named scope.Group bytes.now }
+    ensures { field_seen result ≡ take_named scope.Group bytes.now }
 {
     let Some((group, rest)) = take_token(bytes) else {
         return None;
@@ -116,7 +116,7 @@ fn take_scope_group(bytes: &[u8]) -> Option<(Scope, &[u8])>
 
 #[tactic(auto, unfolding(crate::specs::Taking::take_named))]
 fn take_scope_mid(bytes: &[u8]) -> Option<(Scope, &[u8])>
-    ensures { seen result ≡ take_named scope.Mid bytes.now }
+    ensures { field_seen result ≡ take_named scope.Mid bytes.now }
 {
     let Some((mid, rest)) = take_token(bytes) else {
         return None;
@@ -130,7 +130,7 @@ pub(crate) fn take_limits(
     window: Window,
     bytes: &[u8],
 ) -> Option<((Option<u64>, Option<u32>), &[u8])>
-    ensures { seen result ≡ take_limits window bytes.now }
+    ensures { field_seen result ≡ take_limits window bytes.now }
 {
     let (amount, rest) = take_amount_limit(bytes)?;
     let (usage, rest) = take_usage_limit(rest)?;
@@ -160,7 +160,7 @@ fn may_count(window: Window, usage: Option<u32>) -> bool
 
 #[tactic(auto, unfolding(crate::specs::Taking::take_optional))]
 fn take_amount_limit(bytes: &[u8]) -> Option<(Option<u64>, &[u8])>
-    ensures { seen result ≡ take_optional 8 bytes.now }
+    ensures { field_seen result ≡ take_optional 8 bytes.now }
 {
     let (number, rest) = take_byte(bytes)?;
     match number {
@@ -171,7 +171,7 @@ fn take_amount_limit(bytes: &[u8]) -> Option<(Option<u64>, &[u8])>
 }
 
 fn some_amount(bytes: &[u8]) -> Option<(Option<u64>, &[u8])>
-    ensures { seen result ≡ take_some 8 bytes.now }
+    ensures { field_seen result ≡ take_some 8 bytes.now }
 {
     let (limit, rest) = take_u64(bytes)?;
     Some((Some(limit), rest))
@@ -179,7 +179,7 @@ fn some_amount(bytes: &[u8]) -> Option<(Option<u64>, &[u8])>
 
 #[tactic(auto, unfolding(crate::specs::Taking::take_optional))]
 fn take_usage_limit(bytes: &[u8]) -> Option<(Option<u32>, &[u8])>
-    ensures { seen result ≡ take_optional 4 bytes.now }
+    ensures { field_seen result ≡ take_optional 4 bytes.now }
 {
     let (number, rest) = take_byte(bytes)?;
     match number {
@@ -190,7 +190,7 @@ fn take_usage_limit(bytes: &[u8]) -> Option<(Option<u32>, &[u8])>
 }
 
 fn some_usage(bytes: &[u8]) -> Option<(Option<u32>, &[u8])>
-    ensures { seen result ≡ take_some 4 bytes.now }
+    ensures { field_seen result ≡ take_some 4 bytes.now }
 {
     let (limit, rest) = take_u32(bytes)?;
     Some((Some(limit), rest))

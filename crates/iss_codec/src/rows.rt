@@ -2,7 +2,7 @@
 ghost use Rattle.std.specs.Prelude.{◌≡◌, IfOk};
 ghost use Rattle.iss_model.specs.declared.input.Input.TheVariants as input;
 ghost use Rattle.iss_codec.specs.TakingRecords.{take_user, take_card, take_move, take_product, take_group, take_control, take_set, take_switch, take_operation, take_authorization, take_clearing, take_answer, take_ack};
-ghost use Rattle.iss_codec.specs.Fronts.{seen};
+ghost use Rattle.iss_codec.specs.Fronts.{field_seen};
 
 use crate::choices::{take_currency, take_flag, take_funding, take_outcome, take_window};
 use crate::fields::{
@@ -15,7 +15,7 @@ use std::alloc::{AllocError, Global};
 
 #[tactic(auto, unfolding(crate::specs::TakingRecords::take_user))]
 pub(crate) fn take_user(bytes: &[u8]) -> Option<(Input, &[u8])>
-    ensures { seen result ≡ take_user bytes.now }
+    ensures { field_seen result ≡ take_user bytes.now }
 {
     let Some((token, rest)) = take_token(bytes) else {
         return None;
@@ -28,7 +28,7 @@ pub(crate) fn take_user(bytes: &[u8]) -> Option<(Input, &[u8])>
 
 #[tactic(auto, unfolding(crate::specs::TakingRecords::take_card))]
 pub(crate) fn take_card(bytes: &[u8]) -> Option<(Input, &[u8])>
-    ensures { seen result ≡ take_card bytes.now }
+    ensures { field_seen result ≡ take_card bytes.now }
 {
     let Some((token, rest)) = take_token(bytes) else {
         return None;
@@ -55,7 +55,7 @@ pub(crate) fn take_card(bytes: &[u8]) -> Option<(Input, &[u8])>
 
 #[tactic(auto, unfolding(crate::specs::TakingRecords::take_move))]
 pub(crate) fn take_move(bytes: &[u8]) -> Option<(Input, &[u8])>
-    ensures { seen result ≡ take_move bytes.now }
+    ensures { field_seen result ≡ take_move bytes.now }
 {
     let Some((token, rest)) = take_token(bytes) else {
         return None;
@@ -68,7 +68,7 @@ pub(crate) fn take_move(bytes: &[u8]) -> Option<(Input, &[u8])>
 
 #[tactic(auto, unfolding(crate::specs::TakingRecords::take_product))]
 pub(crate) fn take_product(bytes: &[u8]) -> Option<(Input, &[u8])>
-    ensures { seen result ≡ take_product bytes.now }
+    ensures { field_seen result ≡ take_product bytes.now }
 {
     let Some((token, rest)) = take_token(bytes) else {
         return None;
@@ -93,7 +93,7 @@ pub(crate) fn take_product(bytes: &[u8]) -> Option<(Input, &[u8])>
 
 #[tactic(auto, unfolding(crate::specs::TakingRecords::take_group))]
 pub(crate) fn take_group(alloc: Global, bytes: &[u8]) -> Result<Option<(Input, &[u8])>, AllocError>
-    ensures { IfOk result (λ found. seen found ≡ take_group bytes.now) }
+    ensures { IfOk result (λ found. field_seen found ≡ take_group bytes.now) }
 {
     let Some((token, rest)) = take_token(bytes) else {
         return Ok(None);
@@ -109,7 +109,7 @@ pub(crate) fn take_group(alloc: Global, bytes: &[u8]) -> Result<Option<(Input, &
 
 #[tactic(auto, unfolding(crate::specs::TakingRecords::take_control))]
 pub(crate) fn take_control(bytes: &[u8]) -> Option<(Input, &[u8])>
-    ensures { seen result ≡ take_control bytes.now }
+    ensures { field_seen result ≡ take_control bytes.now }
 {
     let Some((token, rest)) = take_token(bytes) else {
         return None;
@@ -143,7 +143,7 @@ pub(crate) fn take_control(bytes: &[u8]) -> Option<(Input, &[u8])>
 
 #[tactic(auto, unfolding(crate::specs::TakingRecords::take_set))]
 pub(crate) fn take_set(bytes: &[u8]) -> Option<(Input, &[u8])>
-    ensures { seen result ≡ take_set bytes.now }
+    ensures { field_seen result ≡ take_set bytes.now }
 {
     let Some((token, rest)) = take_token(bytes) else {
         return None;
@@ -178,7 +178,7 @@ pub(crate) fn take_set(bytes: &[u8]) -> Option<(Input, &[u8])>
 
 #[tactic(auto, unfolding(crate::specs::TakingRecords::take_switch))]
 pub(crate) fn take_switch(bytes: &[u8]) -> Option<(Input, &[u8])>
-    ensures { seen result ≡ take_switch bytes.now }
+    ensures { field_seen result ≡ take_switch bytes.now }
 {
     let Some((token, rest)) = take_token(bytes) else {
         return None;
@@ -192,7 +192,7 @@ pub(crate) fn take_switch(bytes: &[u8]) -> Option<(Input, &[u8])>
 
 #[tactic(auto, unfolding(crate::specs::TakingRecords::take_operation))]
 pub(crate) fn take_load(bytes: &[u8]) -> Option<(Input, &[u8])>
-    ensures { seen result ≡ take_operation input.Load bytes.now }
+    ensures { field_seen result ≡ take_operation input.Load bytes.now }
 {
     let Some((token, rest)) = take_token(bytes) else {
         return None;
@@ -213,7 +213,7 @@ pub(crate) fn take_load(bytes: &[u8]) -> Option<(Input, &[u8])>
 
 #[tactic(auto, unfolding(crate::specs::TakingRecords::take_authorization))]
 pub(crate) fn take_authorization(bytes: &[u8]) -> Option<(Input, &[u8])>
-    ensures { seen result ≡ take_authorization bytes.now }
+    ensures { field_seen result ≡ take_authorization bytes.now }
 {
     let Some((token, rest)) = take_token(bytes) else {
         return None;
@@ -240,7 +240,7 @@ pub(crate) fn take_authorization(bytes: &[u8]) -> Option<(Input, &[u8])>
 
 #[tactic(auto, unfolding(crate::specs::TakingRecords::take_operation))]
 pub(crate) fn take_increment(bytes: &[u8]) -> Option<(Input, &[u8])>
-    ensures { seen result ≡ take_operation input.Increment bytes.now }
+    ensures { field_seen result ≡ take_operation input.Increment bytes.now }
 {
     let Some((token, rest)) = take_token(bytes) else {
         return None;
@@ -261,7 +261,7 @@ pub(crate) fn take_increment(bytes: &[u8]) -> Option<(Input, &[u8])>
 
 #[tactic(auto, unfolding(crate::specs::TakingRecords::take_operation))]
 pub(crate) fn take_reversal(bytes: &[u8]) -> Option<(Input, &[u8])>
-    ensures { seen result ≡ take_operation input.Reversal bytes.now }
+    ensures { field_seen result ≡ take_operation input.Reversal bytes.now }
 {
     let Some((token, rest)) = take_token(bytes) else {
         return None;
@@ -282,7 +282,7 @@ pub(crate) fn take_reversal(bytes: &[u8]) -> Option<(Input, &[u8])>
 
 #[tactic(auto, unfolding(crate::specs::TakingRecords::take_clearing))]
 pub(crate) fn take_clearing(bytes: &[u8]) -> Option<(Input, &[u8])>
-    ensures { seen result ≡ take_clearing bytes.now }
+    ensures { field_seen result ≡ take_clearing bytes.now }
 {
     let Some((token, rest)) = take_token(bytes) else {
         return None;
@@ -305,7 +305,7 @@ pub(crate) fn take_clearing(bytes: &[u8]) -> Option<(Input, &[u8])>
 
 #[tactic(auto, unfolding(crate::specs::TakingRecords::take_operation))]
 pub(crate) fn take_refund(bytes: &[u8]) -> Option<(Input, &[u8])>
-    ensures { seen result ≡ take_operation input.Refund bytes.now }
+    ensures { field_seen result ≡ take_operation input.Refund bytes.now }
 {
     let Some((token, rest)) = take_token(bytes) else {
         return None;
@@ -326,7 +326,7 @@ pub(crate) fn take_refund(bytes: &[u8]) -> Option<(Input, &[u8])>
 
 #[tactic(auto, unfolding(crate::specs::TakingRecords::take_answer))]
 pub(crate) fn take_answer(bytes: &[u8]) -> Option<(Input, &[u8])>
-    ensures { seen result ≡ take_answer bytes.now }
+    ensures { field_seen result ≡ take_answer bytes.now }
 {
     let (call, rest) = take_id(bytes)?;
     let (outcome, rest) = take_outcome(rest)?;
@@ -336,7 +336,7 @@ pub(crate) fn take_answer(bytes: &[u8]) -> Option<(Input, &[u8])>
 
 #[tactic(auto, unfolding(crate::specs::TakingRecords::take_ack))]
 pub(crate) fn take_ack(bytes: &[u8]) -> Option<(Input, &[u8])>
-    ensures { seen result ≡ take_ack bytes.now }
+    ensures { field_seen result ≡ take_ack bytes.now }
 {
     let (notice, rest) = take_id(bytes)?;
     Some((Input::Ack { notice }, rest))

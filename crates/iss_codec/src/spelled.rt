@@ -4,7 +4,7 @@ ghost use Rattle.iss_model.specs.declared.currency.Currency.{Currency};
 ghost use Rattle.iss_model.specs.declared.input.Record.{Record};
 ghost use Rattle.iss_model.specs.Tokens.{is_token};
 ghost use Rattle.iss_model.specs.Forms.{is_amount};
-ghost use Rattle.iss_model.specs.Inputs.{spelled};
+ghost use Rattle.iss_model.specs.Inputs.{with_length};
 ghost use Rattle.iss_model.specs.texts.Spelling.{AreBytes, amount_bytes, currency_bytes, spelling, is_record};
 ghost use Rattle.iss_codec.specs.Taking.{take_token, take_amount, take_currency};
 ghost use Rattle.iss_codec.specs.TakingRecords.{take_record, record_spelled};
@@ -12,7 +12,7 @@ ghost use Rattle.iss_codec.specs.TakingRecords.{take_record, record_spelled};
 /// A field that is spelled is read again, whatever follows it.
 #[tactic(auto, using(crate::proofs::TakenLaws::token_read, crate::proofs::TakenLaws::amount_read, crate::proofs::TakenLaws::currency_read))]
 pub fn fields_are_read_again()
-    ensures token { (text rest : List ℕ) → IsTrue (is_token text) → take_token (spelled text ++ rest) ≡ Some (text, rest) }
+    ensures token { (text rest : List ℕ) → IsTrue (is_token text) → take_token (with_length text ++ rest) ≡ Some (text, rest) }
     ensures amount { (n : ℕ) (rest : List ℕ) → IsTrue (is_amount n) → take_amount (amount_bytes n ++ rest) ≡ Some (n, rest) }
     ensures currency { (c : Currency) (rest : List ℕ) → take_currency (currency_bytes c ++ rest) ≡ Some (c, rest) }
 {}

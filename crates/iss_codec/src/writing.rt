@@ -1,8 +1,8 @@
-//! Writing fields, each behind what was written before.
+//! Writing fields, each after what was written before.
 ghost use Rattle.std.specs.Prelude.{◌≡◌, ◌++◌, ◌∷◌, [], OnOk};
 ghost use Rattle.std.specs.List.{flat_map};
 ghost use Rattle.iss_model.specs.Currencies.{iso_number};
-ghost use Rattle.iss_model.specs.Inputs.{spelled, flag, funding_number, window_number, card_state_number, user_state_number, outcome_number, moved_contents, association_contents};
+ghost use Rattle.iss_model.specs.Inputs.{with_length, flag_contents, funding_number, window_number, card_state_number, user_state_number, outcome_number, moved_contents, association_contents};
 ghost use Rattle.iss_model.specs.texts.Spelling.{number_bytes, currency_bytes, mcc_bytes, limit_bytes, scope_bytes, mccs_bytes, operation_bytes};
 
 use iss_model::{
@@ -49,7 +49,7 @@ fn put_low_u16(out: &mut Vec<u8>, number: u64) -> Result<(), AllocError>
 }
 
 pub(crate) fn put_token(out: &mut Vec<u8>, token: &Token) -> Result<(), AllocError>
-    ensures { OnOk result (out.new.items ≡ out.old.items ++ spelled token.now) }
+    ensures { OnOk result (out.new.items ≡ out.old.items ++ with_length token.now) }
 {
     let text = token.text();
     out.push(text.len() as u8)?;
@@ -57,7 +57,7 @@ pub(crate) fn put_token(out: &mut Vec<u8>, token: &Token) -> Result<(), AllocErr
 }
 
 pub(crate) fn put_flag(out: &mut Vec<u8>, on: bool) -> Result<(), AllocError>
-    ensures { OnOk result (out.new.items ≡ out.old.items ++ flag on) }
+    ensures { OnOk result (out.new.items ≡ out.old.items ++ flag_contents on) }
 {
     Ok(out.push(u8::from(on))?)
 }

@@ -17,7 +17,7 @@ use Rattle.iss_model.specs.contracts.setting.MovedPartialEq.TheImpl as moved_eq
 use Rattle.iss_model.specs.contracts.setting.AssociationPartialEq.TheImpl as association_eq
 use Rattle.iss_model.specs.contracts.setting.ScopePartialEq.TheImpl as scope_eq
 use Rattle.iss_model.specs.Currencies.{same_currency}
-use Rattle.iss_model.specs.Inputs.{optional, funding_number, window_number, card_state_number, user_state_number, outcome_number, same_contents, moved_contents, association_contents, scope_contents}
+use Rattle.iss_model.specs.Inputs.{optional_contents, funding_number, window_number, card_state_number, user_state_number, outcome_number, same_contents, moved_contents, association_contents, scope_contents}
 use Rattle.iss_core.proofs.SameFields.{and_true, one_limit, same_text, same_named, same_users, same_cards, same_moves, same_products, same_groups, same_controls, same_sets, same_switches, same_loads, same_authorizations, same_increments, same_reversals, same_clearings, same_refunds, same_answers}
 use Rattle.iss_model.specs.declared.currency.Currency.{Currency}
 use Rattle.iss_model.specs.declared.currency.Currency.TheVariants as currency
@@ -88,7 +88,7 @@ outcome_is outcome.Application outcome.Application = refl
 outcome_is _ _ = refl
 
 -- two limits are equal as what is said of them
-pub limit_is : (a b : Option ℕ) → option_eq nat_eq a b ≡ bytes_eq (optional a) (optional b)
+pub limit_is : (a b : Option ℕ) → option_eq nat_eq a b ≡ bytes_eq (optional_contents a) (optional_contents b)
 limit_is None None = refl
 limit_is (Some m) (Some n) = one_limit m n
 limit_is _ _ = refl

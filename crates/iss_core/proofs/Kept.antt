@@ -10,10 +10,10 @@ use Rattle.iss_model.specs.declared.decision.Verdict.{Verdict}
 use Rattle.iss_model.specs.declared.decision.Reply.TheVariants.{Decided, Pending}
 use Rattle.iss_model.specs.Inputs.{is_event}
 use Rattle.iss_model.specs.rules.Facts as facts
-use Rattle.iss_model.specs.rules.Facts.{decision_of, replied}
+use Rattle.iss_model.specs.rules.Facts.{decision_of, reply_of_decision}
 use Rattle.iss_core.specs.declared.events.Accepted.{Accepted}
 use Rattle.iss_core.specs.Places.{place_by}
-use Rattle.iss_core.specs.Events.{accepted_as, accepted_in, is_named}
+use Rattle.iss_core.specs.Events.{event_of_row, events_of_rows, is_named}
 use Rattle.iss_core.specs.Decisions.{decisions_in, is_decision_of, is_of}
 use Rattle.iss_core.proofs.Placed.{found_at, not_found, find-map}
 
@@ -29,22 +29,22 @@ found_passes {A} p (y ∷ ys) x e = by p x y (p y) (find p ys) refl (found_passe
 -- ---- events
 
 -- the event at its place is the one that is found
-pub event_found : (rows : List Accepted) (value : List facts.Accepted) (token : List ℕ) (place : ℕ) (row : Accepted) → accepted_in rows ≡ value
+pub event_found : (rows : List Accepted) (value : List facts.Accepted) (token : List ℕ) (place : ℕ) (row : Accepted) → events_of_rows rows ≡ value
     → place_by (is_named token) rows ≡ Some place → row ≡ get_or rows place row
-    → Some (accepted_as row) ≡ find (λ (a : facts.Accepted). is_event token a.input) value
+    → Some (event_of_row row) ≡ find (λ (a : facts.Accepted). is_event token a.input) value
 event_found rows value token place row view is at =
     let found = found_at (is_named token) rows place is in
-    ap (λ (r : Accepted). Some (accepted_as r)) at
-    ∙ ap (option_map accepted_as) (sym (slice_get-get_or rows place row found.within))
-    ∙ ap (option_map accepted_as) (sym found.found)
-    ∙ sym (find-map accepted_as (λ (a : facts.Accepted). is_event token a.input) rows)
+    ap (λ (r : Accepted). Some (event_of_row r)) at
+    ∙ ap (option_map event_of_row) (sym (slice_get-get_or rows place row found.within))
+    ∙ ap (option_map event_of_row) (sym found.found)
+    ∙ sym (find-map event_of_row (λ (a : facts.Accepted). is_event token a.input) rows)
     ∙ ap (find (λ (a : facts.Accepted). is_event token a.input)) view
 
-pub event_not_found : (rows : List Accepted) (value : List facts.Accepted) (token : List ℕ) → accepted_in rows ≡ value
+pub event_not_found : (rows : List Accepted) (value : List facts.Accepted) (token : List ℕ) → events_of_rows rows ≡ value
     → place_by (is_named token) rows ≡ None → None ≡ find (λ (a : facts.Accepted). is_event token a.input) value
 event_not_found rows value token view none =
-    ap (option_map accepted_as) (sym (not_found (is_named token) rows none))
-    ∙ sym (find-map accepted_as (λ (a : facts.Accepted). is_event token a.input) rows)
+    ap (option_map event_of_row) (sym (not_found (is_named token) rows none))
+    ∙ sym (find-map event_of_row (λ (a : facts.Accepted). is_event token a.input) rows)
     ∙ ap (find (λ (a : facts.Accepted). is_event token a.input)) view
 
 -- ---- decisions
@@ -78,19 +78,19 @@ entry_found rows event place row is at =
 
 pub reply_found : (rows : List Entry) (value : List facts.Decision) (event : List ℕ) (place : ℕ) (row : Entry) (name : List ℕ) (verdict : Verdict) → decisions_in rows ≡ value
     → place_by (is_of event) rows ≡ Some place → row ≡ get_or rows place row → row ≡ entry.Decided name verdict
-    → Decided verdict ≡ replied (find (λ (d : facts.Decision). bytes_eq d.event event) value)
+    → Decided verdict ≡ reply_of_decision (find (λ (d : facts.Decision). bytes_eq d.event event) value)
 reply_found rows value event place row name verdict view is at decided =
-    ap (λ (e : Entry). replied (decision_of e)) (sym decided)
-    ∙ ap (λ (o : Option Entry). replied (option_and_then decision_of o)) (sym (entry_found rows event place row is at))
-    ∙ ap replied (sym (found_decision event rows))
-    ∙ ap (λ (ds : List facts.Decision). replied (find (λ (d : facts.Decision). bytes_eq d.event event) ds)) view
+    ap (λ (e : Entry). reply_of_decision (decision_of e)) (sym decided)
+    ∙ ap (λ (o : Option Entry). reply_of_decision (option_and_then decision_of o)) (sym (entry_found rows event place row is at))
+    ∙ ap reply_of_decision (sym (found_decision event rows))
+    ∙ ap (λ (ds : List facts.Decision). reply_of_decision (find (λ (d : facts.Decision). bytes_eq d.event event) ds)) view
 
 pub reply_not_found : (rows : List Entry) (value : List facts.Decision) (event : List ℕ) → decisions_in rows ≡ value → place_by (is_of event) rows ≡ None
-    → Pending ≡ replied (find (λ (d : facts.Decision). bytes_eq d.event event) value)
+    → Pending ≡ reply_of_decision (find (λ (d : facts.Decision). bytes_eq d.event event) value)
 reply_not_found rows value event view none =
-    ap (λ (o : Option Entry). replied (option_and_then decision_of o)) (sym (not_found (is_of event) rows none))
-    ∙ ap replied (sym (found_decision event rows))
-    ∙ ap (λ (ds : List facts.Decision). replied (find (λ (d : facts.Decision). bytes_eq d.event event) ds)) view
+    ap (λ (o : Option Entry). reply_of_decision (option_and_then decision_of o)) (sym (not_found (is_of event) rows none))
+    ∙ ap reply_of_decision (sym (found_decision event rows))
+    ∙ ap (λ (ds : List facts.Decision). reply_of_decision (find (λ (d : facts.Decision). bytes_eq d.event event) ds)) view
 
 decides : (event : List ℕ) (e : Entry) → is_of event e ≡ true → ((name : List ℕ) (verdict : Verdict) → e ≡ entry.Decided name verdict → ⊥) → ⊥
 decides event (entry.Decided name verdict) h other = other name verdict refl

@@ -33,10 +33,10 @@ use Rattle.iss_model.specs.rules.Facts.{Facts, Accepted, Decision, available_in}
 use Rattle.iss_model.specs.rules.Asks.{breach, declines, txn_begun, usage_of}
 use Rattle.iss_model.specs.rules.Reasons.{first_reason, is_some_with, user_is}
 use Rattle.iss_model.specs.rules.CardReasons.{is_account_funded, is_in_currency, lacks_funds, control_breach, first_ask}
-use Rattle.iss_model.specs.rules.Pieces.{held}
-use Rattle.iss_model.specs.rules.CardEntries.{authorized, gateway_asked}
+use Rattle.iss_model.specs.rules.Pieces.{hold_entries}
+use Rattle.iss_model.specs.rules.CardEntries.{authorization_entries, gateway_ask_entries}
 use Rattle.iss_model.specs.rules.Stepping.{entries_of, unless_declined}
-use Rattle.iss_model.specs.state.Cores.{CoreState, ProductNow, Holdings, with_txn, held_begun, with_hold, is_live, core_facts, entered}
+use Rattle.iss_model.specs.state.Cores.{CoreState, ProductNow, Holdings, with_txn, begun_held_changes, with_hold, is_live, core_facts, after_entry}
 use Rattle.iss_model.proofs.Names.{one_name}
 use Rattle.iss_card.specs.declared.standing.Standing.TheVariants.{Known}
 use Rattle.iss_card.specs.Standings.{standing_of, standing_with}
@@ -46,7 +46,7 @@ use Rattle.iss_hold.specs.Bounds.{AreWithin}
 use Rattle.iss_core.specs.declared.state.State.{State}
 use Rattle.iss_core.specs.States.{state_of, with_decision, Made}
 use Rattle.iss_core.specs.declared.purchases.Purchase.{Purchase}
-use Rattle.iss_core.specs.Purchases.{unless, bought, bought_on, bought_of, purchased, purchase_entries}
+use Rattle.iss_core.specs.Purchases.{unless, purchase_txn, card_purchase_txn, product_purchase_txn, approved_entries, purchase_entries}
 use Rattle.iss_core.specs.Sound.{is_begun, is_own}
 use Rattle.iss_core.proofs.Kept.{found_passes}
 use Rattle.iss_core.proofs.Reaching.{within_small, within_changed, nothing_within, change_within, far_below, some_amount, most_amount}
@@ -108,7 +108,7 @@ unless_ok : (fails : Bool) (why : Reason) (rest : Result Txn Reason) (t : Txn) �
 unless_ok true why rest t e = cc
 unless_ok false why rest t e = e
 
-begun_of : (f : Facts) (p : Purchase) (c : Card) (o : Option Product) (t : Txn) → bought_of f p c o ≡ Ok t → IsOf f p t
+begun_of : (f : Facts) (p : Purchase) (c : Card) (o : Option Product) (t : Txn) → product_purchase_txn f p c o ≡ Ok t → IsOf f p t
 begun_of f p c None t e = absurd (let bad : Err reason.Currency ≡ Ok t = e in cc)
 begun_of f p c (Some product) t e =
     let paid = unless_ok (not (same_currency product.currency p.currency)) reason.Currency _ t e in
@@ -116,14 +116,14 @@ begun_of f p c (Some product) t e =
     let one : txn_begun f c product p.token p.currency p.mcc p.mid p.at ≡ t = cc in
     record { token = ap (λ (x : Txn). x.token) (sym one); origin = ap (λ (x : Txn). x.origin) (sym one) }
 
-begun_on : (f : Facts) (p : Purchase) (o : Option Card) (t : Txn) → bought_on f p o ≡ Ok t → IsOf f p t
+begun_on : (f : Facts) (p : Purchase) (o : Option Card) (t : Txn) → card_purchase_txn f p o ≡ Ok t → IsOf f p t
 begun_on f p None t e = absurd (let bad : Err reason.CardUnknown ≡ Ok t = e in cc)
 begun_on f p (Some c) t e =
     let usable = unless_ok (not (is_active_card c.state)) reason.CardState _ t e in
     let active = unless_ok (not (user_is is_active_user f c.user)) reason.UserState _ t usable in
     begun_of f p c (product_named c.product f.products) t active
 
-pub begun_by : (f : Facts) (p : Purchase) (t : Txn) → Ok t ≡ bought f p → IsOf f p t
+pub begun_by : (f : Facts) (p : Purchase) (t : Txn) → Ok t ≡ purchase_txn f p → IsOf f p t
 begun_by f p t e = begun_on f p (card_named p.card f.cards) t (sym e)
 
 -- ---- a purchase makes the entries of an authorisation
@@ -143,20 +143,20 @@ entries_with f p c o broken short =
     ∷ control_breach broken
     ∷ (short, reason.InsufficientFunds)
     ∷ []
-    )) p.token (authorized f (option_map (first_ask p.token p.amount p.at) (option_map (λ product. txn_begun f c product p.token p.currency p.mcc p.mid p.at) o)))
+    )) p.token (authorization_entries f (option_map (first_ask p.token p.amount p.at) (option_map (λ product. txn_begun f c product p.token p.currency p.mcc p.mid p.at) o)))
 
 not_nothing : (n : ℕ) → nat_le 1 n ≡ true → nat_eq n 0 ≡ false
 not_nothing n h = grind (arith, nat_tests)
 
 -- an authorisation of an account product holds its amount, and is approved
 authorized_own : (f : Facts) (t : Txn) (amount at : ℕ) → is_account_funded t.funding ≡ true → nat_le 1 amount ≡ true
-    → authorized f (Some (first_ask t.token amount at t)) ≡ purchased t amount at
+    → authorization_entries f (Some (first_ask t.token amount at t)) ≡ approved_entries t amount at
 authorized_own f t amount at own some =
-    ap (λ (b : Bool). entry.Began t ∷ entry.Usage (usage_of t (pos amount) (pos 1) at) ∷ cond b (held t part.S amount ++ entry.Decided t.token verdict.Approved ∷ []) (gateway_asked (product_named t.product f.products) f (first_ask t.token amount at t))) own
+    ap (λ (b : Bool). entry.Began t ∷ entry.Usage (usage_of t (pos amount) (pos 1) at) ∷ cond b (hold_entries t part.S amount ++ entry.Decided t.token verdict.Approved ∷ []) (gateway_ask_entries (product_named t.product f.products) f (first_ask t.token amount at t))) own
     ∙ ap (λ (zero : Bool). entry.Began t ∷ entry.Usage (usage_of t (pos amount) (pos 1) at) ∷ cond zero [] (entry.Hold t.token t.user t.currency part.S (pos amount) ∷ []) ++ entry.Decided t.token verdict.Approved ∷ []) (not_nothing amount some)
 
 -- the tests in their order, on a card and a product that are known
-tests_in_order : (f : Facts) (p : Purchase) (c : Card) (product : Product) (usable active paid short : Bool) (entries : List Entry) (t : Txn) → entries ≡ purchased t p.amount p.at
+tests_in_order : (f : Facts) (p : Purchase) (c : Card) (product : Product) (usable active paid short : Bool) (entries : List Entry) (t : Txn) → entries ≡ approved_entries t p.amount p.at
     → unless_declined (first_reason (
     (false, reason.CardUnknown)
     ∷ (not usable, reason.CardState)
@@ -177,7 +177,7 @@ made_of : (f : Facts) → f.controls ≡ [] → (p : Purchase) → nat_le 1 p.am
     → ((product : Product) → o ≡ Some product → is_account_funded product.funding ≡ true)
     → entries_with f p c o (option_and_then (breach f) (option_map (first_ask p.token p.amount p.at) (option_map (λ product. txn_begun f c product p.token p.currency p.mcc p.mid p.at) o)))
     (is_some_with (lacks_funds f) (option_map (first_ask p.token p.amount p.at) (option_map (λ product. txn_begun f c product p.token p.currency p.mcc p.mid p.at) o)))
-    ≡ purchase_entries p (unless (not (is_active_card c.state)) reason.CardState (unless (not (user_is is_active_user f c.user)) reason.UserState (bought_of f p c o)))
+    ≡ purchase_entries p (unless (not (is_active_card c.state)) reason.CardState (unless (not (user_is is_active_user f c.user)) reason.UserState (product_purchase_txn f p c o)))
 made_of f none p some c None own = unknown (is_active_card c.state) (user_is is_active_user f c.user) p
   where
     unknown : (usable active : Bool) (p : Purchase) → unless_declined (first_reason ((false, reason.CardUnknown) ∷ (not usable, reason.CardState) ∷ (not active, reason.UserState) ∷ (true, reason.Currency) ∷ control_breach None ∷ (false, reason.InsufficientFunds) ∷ [])) p.token []
@@ -190,7 +190,7 @@ made_of f none p some c (Some product) own =
     let short = int_lt (available_in f c.user p.currency) (pos p.amount) in
     ap (λ (broken : Option (List ℕ)). entries_with f p c (Some product) broken (is_account_funded product.funding && short)) (no_breach f none (Some t) p.token p.amount p.at)
     ∙ ap (λ (b : Bool). entries_with f p c (Some product) None (b && short)) (own product refl)
-    ∙ tests_in_order f p c product (is_active_card c.state) (user_is is_active_user f c.user) (same_currency product.currency p.currency) short (authorized f (Some (first_ask p.token p.amount p.at t))) t
+    ∙ tests_in_order f p c product (is_active_card c.state) (user_is is_active_user f c.user) (same_currency product.currency p.currency) short (authorization_entries f (Some (first_ask p.token p.amount p.at t))) t
     (authorized_own f t p.amount p.at (own product refl) some)
 
 made_on : (f : Facts) → f.controls ≡ [] → (p : Purchase) → nat_le 1 p.amount ≡ true → ((name : List ℕ) (product : Product) → product_named name f.products ≡ Some product → is_account_funded product.funding ≡ true)
@@ -203,15 +203,15 @@ made_on : (f : Facts) → f.controls ≡ [] → (p : Purchase) → nat_le 1 p.am
     ∷ control_breach (option_and_then (breach f) (option_map (first_ask p.token p.amount p.at) (option_and_then (λ c. option_map (λ product. txn_begun f c product p.token p.currency p.mcc p.mid p.at) (product_named c.product f.products)) known)))
     ∷ (is_some_with (lacks_funds f) (option_map (first_ask p.token p.amount p.at) (option_and_then (λ c. option_map (λ product. txn_begun f c product p.token p.currency p.mcc p.mid p.at) (product_named c.product f.products)) known)), reason.InsufficientFunds)
     ∷ []
-    )) p.token (authorized f (option_map (first_ask p.token p.amount p.at) (option_and_then (λ c. option_map (λ product. txn_begun f c product p.token p.currency p.mcc p.mid p.at) (product_named c.product f.products)) known)))
-    ≡ purchase_entries p (bought_on f p known)
+    )) p.token (authorization_entries f (option_map (first_ask p.token p.amount p.at) (option_and_then (λ c. option_map (λ product. txn_begun f c product p.token p.currency p.mcc p.mid p.at) (product_named c.product f.products)) known)))
+    ≡ purchase_entries p (card_purchase_txn f p known)
 made_on f none p some own None = refl
 made_on f none p some own (Some c) = made_of f none p some c (product_named c.product f.products) (own c.product)
 
 -- an authorisation's entries are those of the purchase
 pub bought_made : (f : Facts) → f.controls ≡ [] → ((name : List ℕ) (product : Product) → product_named name f.products ≡ Some product → is_account_funded product.funding ≡ true)
     → (p : Purchase) → nat_le 1 p.amount ≡ true
-    → entries_of (input.Authorization p.token p.card p.currency p.amount p.mcc p.mid) p.at f ≡ purchase_entries p (bought f p)
+    → entries_of (input.Authorization p.token p.card p.currency p.amount p.mcc p.mid) p.at f ≡ purchase_entries p (purchase_txn f p)
 bought_made f none own p some = made_on f none p some own (card_named p.card f.cards)
 
 -- ---- what beginning it leaves
@@ -233,9 +233,9 @@ begun_named h t none = find-last (λ (x : TxnNow). bytes_eq x.txn.token t.token)
 
 -- what is held of it is one hold
 pub begun_held : (h : Holdings) (t : Txn) (amount : ℕ) → txn_named t.token h.txns ≡ None → nat_le 1 amount ≡ true
-    → after_holds (with_txn h t) t.token (λ x. held x part.S amount) ≡ with_hold (with_txn h t) (entry.Hold t.token t.user t.currency part.S (pos amount))
+    → after_holds (with_txn h t) t.token (λ x. hold_entries x part.S amount) ≡ with_hold (with_txn h t) (entry.Hold t.token t.user t.currency part.S (pos amount))
 begun_held h t amount none some =
-    ap (λ (o : Option TxnNow). fold with_hold (with_txn h t) (entries_of_holds.made_of o (λ x. held x part.S amount))) (begun_named h t none)
+    ap (λ (o : Option TxnNow). fold with_hold (with_txn h t) (entries_of_holds.entries_on o (λ x. hold_entries x part.S amount))) (begun_named h t none)
     ∙ ap (λ (zero : Bool). fold with_hold (with_txn h t) (cond zero [] (entry.Hold t.token t.user t.currency part.S (pos amount) ∷ []))) (not_nothing amount some)
 
 later_number : (n m k : ℕ) → n ≡ m → nat_le k (m - 1) ≡ true → 0 < m → nat_eq n k ≡ false
@@ -256,29 +256,29 @@ pub begun_stands : (h after : Holdings) (t : Txn) → after ≡ with_txn h t →
 begun_stands h after t started none =
     subst (λ (x : Holdings). IsSome (txn_named t.token x.txns)) (sym started) (subst (λ (o : Option TxnNow). IsSome o) (sym (begun_named h t none)) refl)
 
-pub begun_holds : (h first second : Holdings) (t : Txn) (amount : ℕ) → first ≡ with_txn h t → second ≡ after_holds first t.token (λ x. held x part.S amount)
+pub begun_holds : (h first second : Holdings) (t : Txn) (amount : ℕ) → first ≡ with_txn h t → second ≡ after_holds first t.token (λ x. hold_entries x part.S amount)
     → txn_named t.token h.txns ≡ None → nat_le 1 amount ≡ true → second ≡ with_hold (with_txn h t) (entry.Hold t.token t.user t.currency part.S (pos amount))
 begun_holds h first second t amount started added none some =
-    added ∙ ap (λ (x : Holdings). after_holds x t.token (λ y. held y part.S amount)) started ∙ begun_held h t amount none some
+    added ∙ ap (λ (x : Holdings). after_holds x t.token (λ y. hold_entries y part.S amount)) started ∙ begun_held h t amount none some
 
 -- what is held stays small
 pub begun_small : (count amount : ℕ) (h first : Holdings) (t : Txn) → count < 2 ^ 30 → is_amount amount ≡ true → first ≡ with_txn h t → txn_named t.token h.txns ≡ None
-    → AreWithin ((count - 1) * GREATEST_AMOUNT) h.held → AreSmall (after_holds first t.token (λ x. held x part.S amount)).held
+    → AreWithin ((count - 1) * GREATEST_AMOUNT) h.held → AreSmall (after_holds first t.token (λ x. hold_entries x part.S amount)).held
 begun_small count amount h first t room form started none within =
     let n = (count - 1) * GREATEST_AMOUNT in
     let held_now = with_hold (with_txn h t) (entry.Hold t.token t.user t.currency part.S (pos amount)) in
     let below : (n + 0) + amount < 2 ^ 62 = omega (arith, far_below count amount room (most_amount amount form)) in
-    subst (λ (x : Holdings). AreSmall x.held) (sym (begun_holds h first (after_holds first t.token (λ x. held x part.S amount)) t amount started refl none (some_amount amount form)))
+    subst (λ (x : Holdings). AreSmall x.held) (sym (begun_holds h first (after_holds first t.token (λ x. hold_entries x part.S amount)) t amount started refl none (some_amount amount form)))
     (within_small ((n + 0) + amount) held_now.held below
     (within_changed (n + 0) amount (with_txn h t).held (record { key = user_key t.user t.currency; by = pos amount } ∷ [])
-    (within_changed n 0 h.held (held_begun t) within (nothing_within (user_key t.user t.currency)))
+    (within_changed n 0 h.held (begun_held_changes t) within (nothing_within (user_key t.user t.currency)))
     (change_within amount (user_key t.user t.currency))))
 
 -- and the state has the entries of the purchase
 pub begun_state : (s : State) (t : Txn) (amount at : ℕ) (holds : Holdings) (decisions : List Decision) → holds ≡ with_hold (with_txn s.holds t) (entry.Hold t.token t.user t.currency part.S (pos amount))
     → decisions ≡ s.decisions ++ record { event = t.token; verdict = verdict.Approved } ∷ []
-    → state_of (record s { holds = holds; decisions = decisions }) ≡ fold entered (state_of s) (purchased t amount at)
-begun_state s t amount at holds decisions held decided = λ i. record (state_of s) { holdings = held i; decisions = decided i }
+    → state_of (record s { holds = holds; decisions = decisions }) ≡ fold after_entry (state_of s) (approved_entries t amount at)
+begun_state s t amount at holds decisions hold_entries decided = λ i. record (state_of s) { holdings = hold_entries i; decisions = decided i }
 
 -- ---- what calls answer
 
@@ -289,9 +289,9 @@ on_ok (Err e) h = tt
 
 -- the entries that were wanted were made, and entered
 pub made_by : {A E : Type 0} (items : A → List Entry) (i : Input) (at : ℕ) (before after : CoreState) (want : List Entry) (result : Result A E) → entries_of i at (core_facts before) ≡ want
-    → IfOk result (λ v. items v ≡ want) → OnOk result (after ≡ fold entered before want) → IfOk result (λ v. Made i at before after (items v))
+    → IfOk result (λ v. items v ≡ want) → OnOk result (after ≡ fold after_entry before want) → IfOk result (λ v. Made i at before after (items v))
 made_by items i at before after want (Ok v) wanted made state =
-    record { entries = made ∙ sym wanted; state = state ∙ ap (fold entered before) (sym made) }
+    record { entries = made ∙ sym wanted; state = state ∙ ap (fold after_entry before) (sym made) }
 made_by items i at before after want (Err e) wanted made state = tt
 
 -- an event was declined
@@ -300,5 +300,5 @@ pub made_declined : {A E : Type 0} (items : A → List Entry) (i : Input) (at : 
     → IfOk result (λ v. items v ≡ unless_declined (Some why) token []) → OnOk result (after ≡ with_decision before token (verdict.Declined why))
     → IfOk result (λ v. Made i at (state_of before) (state_of after) (items v))
 made_declined items i at before after token why (Ok v) wanted made decided =
-    record { entries = made ∙ sym wanted; state = ap state_of decided ∙ ap (fold entered (state_of before)) (sym made) }
+    record { entries = made ∙ sym wanted; state = ap state_of decided ∙ ap (fold after_entry (state_of before)) (sym made) }
 made_declined items i at before after token why (Err e) wanted made decided = tt

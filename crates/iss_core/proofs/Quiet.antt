@@ -13,11 +13,11 @@ use Rattle.iss_model.specs.declared.entry.Entry.{Entry}
 use Rattle.iss_model.specs.Inputs.{event_token, is_event, contents}
 use Rattle.iss_model.specs.rules.Activity.{TxnNow, CallNow, is_asked}
 use Rattle.iss_model.specs.rules.Facts.{Facts, Accepted, event_in, reply_in}
-use Rattle.iss_model.specs.rules.Due.{DueItem, due_call, due_txn, due_items, placed, is_quiet}
+use Rattle.iss_model.specs.rules.Due.{DueItem, due_call, due_txn, due_items, items_with, is_quiet}
 use Rattle.iss_model.specs.rules.Keeper.{Growth, grow}
 use Rattle.iss_model.specs.rules.Stepping.{own_entries, settle, after_due, step}
-use Rattle.iss_model.specs.rules.Judging.{told_by, refusal, judged_as, judged_on, judge}
-use Rattle.iss_model.specs.state.Cores.{CoreState, taken_up, core_facts, core_keeper, entered}
+use Rattle.iss_model.specs.rules.Judging.{repeat_or_conflict, refusal, judgement_as, judgement_on, judge}
+use Rattle.iss_model.specs.state.Cores.{CoreState, with_record, core_facts, core_keeper, after_entry}
 use Rattle.iss_core.specs.Built.{is_built}
 use Rattle.iss_agreement.proofs.JudgedAgain.{new_at, new_again}
 use Rattle.iss_core.specs.Values.{CoreNow, GivesNext, IsQuiet, Steps}
@@ -35,34 +35,34 @@ settled_nothing s at quiet =
 
 -- a step is the record's own entries
 pub quiet_step : (s : CoreState) (r : Record) → IsQuiet s r.at
-    → step core_keeper s r ≡ grow core_keeper (record { world = taken_up s r; entries = [] }) (own_entries r)
+    → step core_keeper s r ≡ grow core_keeper (record { world = with_record s r; entries = [] }) (own_entries r)
 unfolding step
-quiet_step s r quiet = ap (λ (g : Growth CoreState). grow core_keeper g (own_entries r)) (settled_nothing (taken_up s r) r.at quiet)
+quiet_step s r quiet = ap (λ (g : Growth CoreState). grow core_keeper g (own_entries r)) (settled_nothing (with_record s r) r.at quiet)
 
 -- judging is on what stands
 pub quiet_judge : (s : CoreState) (i : Input) (stamp : ℕ) → IsQuiet s (max stamp s.now)
-    → judge core_keeper s i stamp ≡ judged_as (refusal true (core_facts s) (core_facts s) i) true i (max stamp s.now)
+    → judge core_keeper s i stamp ≡ judgement_as (refusal true (core_facts s) (core_facts s) i) true i (max stamp s.now)
 unfolding judge
 quiet_judge s i stamp quiet =
     let at = max stamp s.now in
-    ap (λ (b : Bool). judged_on b (core_facts s) (core_facts (after_due core_keeper s at).world) i at) quiet
-    ∙ ap (λ (g : Growth CoreState). judged_on true (core_facts s) (core_facts g.world) i at) (settled_nothing s at quiet)
+    ap (λ (b : Bool). judgement_on b (core_facts s) (core_facts (after_due core_keeper s at).world) i at) quiet
+    ∙ ap (λ (g : Growth CoreState). judgement_on true (core_facts s) (core_facts g.world) i at) (settled_nothing s at quiet)
 
 -- an input that is refused is told so
 pub told_judged : (s : CoreState) (i : Input) (stamp : ℕ) (a : Answer) → IsQuiet s (max stamp s.now) → Some a ≡ refusal true (core_facts s) (core_facts s) i
     → judged.Told a ≡ judge core_keeper s i stamp
 told_judged s i stamp a quiet told =
-    ap (λ (o : Option Answer). judged_as o true i (max stamp s.now)) told ∙ sym (quiet_judge s i stamp quiet)
+    ap (λ (o : Option Answer). judgement_as o true i (max stamp s.now)) told ∙ sym (quiet_judge s i stamp quiet)
 
 -- one that isn't is new
 pub new_judged : (s : CoreState) (i copy : Input) (stamp : ℕ) → IsQuiet s (max stamp s.now) → None ≡ refusal true (core_facts s) (core_facts s) i → copy ≡ i
     → judged.New (record { at = max stamp s.now; input = copy }) ≡ judge core_keeper s i stamp
 new_judged s i copy stamp quiet fresh same =
     ap (λ (x : Input). judged.New (record { at = max stamp s.now; input = x })) same
-    ∙ ap (λ (o : Option Answer). judged_as o true i (max stamp s.now)) fresh
+    ∙ ap (λ (o : Option Answer). judgement_as o true i (max stamp s.now)) fresh
     ∙ sym (quiet_judge s i stamp quiet)
 
-no_clock : (o : Option Answer) (i : Input) (at : ℕ) (r : Record) → judged_as o true i at ≡ judged.Clock r → ⊥
+no_clock : (o : Option Answer) (i : Input) (at : ℕ) (r : Record) → judgement_as o true i at ≡ judged.Clock r → ⊥
 no_clock None i at r h = cc
 no_clock (Some a) i at r h = cc
 
@@ -71,7 +71,7 @@ pub never_clock : (s : CoreState) (i : Input) (stamp : ℕ) (r : Record) → IsQ
 never_clock s i stamp r quiet e =
     no_clock (refusal true (core_facts s) (core_facts s) i) i (max stamp s.now) r (sym (quiet_judge s i stamp quiet) ∙ sym e)
 
-as_new : (o : Option Answer) (i : Input) (at : ℕ) (r : Record) → judged_as o true i at ≡ judged.New r → record { at = at; input = i } ≡ r
+as_new : (o : Option Answer) (i : Input) (at : ℕ) (r : Record) → judgement_as o true i at ≡ judged.New r → record { at = at; input = i } ≡ r
 as_new None i at r h = cc
 as_new (Some a) i at r h = cc
 
@@ -88,7 +88,7 @@ gives_next c i stamp (judged.Told a) quiet e = tt
 
 -- ---- a record that is next names a new event
 
-not_told : (o : Option Answer) (i : Input) (at : ℕ) (r : Record) → judged_as o true i at ≡ judged.New r → o ≡ None
+not_told : (o : Option Answer) (i : Input) (at : ℕ) (r : Record) → judgement_as o true i at ≡ judged.New r → o ≡ None
 not_told None i at r h = refl
 not_told (Some a) i at r h = cc
 
@@ -99,7 +99,7 @@ next_fresh s r quiet next =
     let calm : IsQuiet s (max r.at s.now) = subst (λ (at : ℕ). IsQuiet s at) (sym moment) quiet in
     not_told (refusal true (core_facts s) (core_facts s) r.input) r.input (max r.at s.now) r (sym (quiet_judge s r.input r.at calm) ∙ next)
 
-told_none : (f : Facts) (i : Input) (token : List ℕ) (first : Option Accepted) → told_by f i token first ≡ None → first ≡ None
+told_none : (f : Facts) (i : Input) (token : List ℕ) (first : Option Accepted) → repeat_or_conflict f i token first ≡ None → first ≡ None
 told_none f i token None h = refl
 told_none f i token (Some first) h = not_some (bytes_eq (contents first.input) (contents i)) (answer.Repeat token (reply_in f token)) (answer.Conflict token first.number) h
   where
@@ -118,12 +118,12 @@ next_unknown s r token built quiet next named =
 
 -- entries that were made and entered are those of the step
 pub made_steps : (before after : CoreNow) (r : Record) (entries : List Entry) → IsQuiet before.state r.at → after.instance ≡ before.instance
-    → Made r.input r.at (taken_up before.state r) after.state entries → Steps before after r entries
+    → Made r.input r.at (with_record before.state r) after.state entries → Steps before after r entries
 made_steps before after r entries quiet kept made =
     record {
       kept = kept;
       state =
-          made.state ∙ ap (fold entered (taken_up before.state r)) made.entries
+          made.state ∙ ap (fold after_entry (with_record before.state r)) made.entries
           ∙ ap (λ (g : Growth CoreState). g.world) (sym (quiet_step before.state r quiet));
       entries = made.entries ∙ ap (λ (g : Growth CoreState). g.entries) (sym (quiet_step before.state r quiet));
     }
@@ -152,14 +152,14 @@ come_last at t false is later = ap (λ (b : Bool). filter (λ (item : DueItem). 
 
 -- a transaction that expires later adds nothing to what is due
 pub due_more : (at : ℕ) (calls : List CallNow) (txns : List TxnNow) (t : TxnNow) → nat_le t.txn.expires at ≡ false
-    → fold placed [] (filter (λ (item : DueItem). nat_le item.since at) (map due_call (filter is_asked calls) ++ map due_txn (filter (λ (x : TxnNow). x.live) (txns ++ t ∷ []))))
-    ≡ fold placed [] (filter (λ (item : DueItem). nat_le item.since at) (map due_call (filter is_asked calls) ++ map due_txn (filter (λ (x : TxnNow). x.live) txns)))
+    → fold items_with [] (filter (λ (item : DueItem). nat_le item.since at) (map due_call (filter is_asked calls) ++ map due_txn (filter (λ (x : TxnNow). x.live) (txns ++ t ∷ []))))
+    ≡ fold items_with [] (filter (λ (item : DueItem). nat_le item.since at) (map due_call (filter is_asked calls) ++ map due_txn (filter (λ (x : TxnNow). x.live) txns)))
 due_more at calls txns t later =
     let early : List DueItem = map due_call (filter is_asked calls) in
     let old : List DueItem = map due_txn (filter (λ (x : TxnNow). x.live) txns) in
     let new : List DueItem = map due_txn (filter (λ (x : TxnNow). x.live) (t ∷ [])) in
     let has_come : DueItem → Bool = λ (item : DueItem). nat_le item.since at in
-    ap (fold placed [])
+    ap (fold items_with [])
     (ap (λ (ts : List TxnNow). filter has_come (early ++ map due_txn ts)) (filter-append (λ (x : TxnNow). x.live) txns (t ∷ []))
     ∙ ap (λ (items : List DueItem). filter has_come (early ++ items)) (map-append due_txn (filter (λ (x : TxnNow). x.live) txns) (filter (λ (x : TxnNow). x.live) (t ∷ [])))
     ∙ filter-append has_come early (old ++ new)

@@ -6,7 +6,7 @@ use Rattle.iss_model.specs.declared.input.Input.{Input}
 use Rattle.iss_model.specs.declared.input.Input.TheVariants as input
 use Rattle.iss_model.specs.Inputs.{event_token, is_event}
 use Rattle.iss_model.specs.rules.Facts.{Facts, Accepted}
-use Rattle.iss_model.specs.rules.Judging.{told_by, event_answer, refusal}
+use Rattle.iss_model.specs.rules.Judging.{repeat_or_conflict, event_answer, refusal}
 use Rattle.iss_core.specs.Built.{is_built}
 
 -- what an event is told, where the input is one
@@ -26,6 +26,6 @@ refused f _ h = cc
 
 -- the same, by the first event of the token
 pub told_so : (f : Facts) (i : Input) (token : List ℕ) (first : Option Accepted) (answer : Option Answer) → is_built i ≡ true
-    → event_token i ≡ Some token → find (λ (a : Accepted). is_event token a.input) f.accepted ≡ first → answer ≡ told_by f i token first → answer ≡ refusal true f f i
+    → event_token i ≡ Some token → find (λ (a : Accepted). is_event token a.input) f.accepted ≡ first → answer ≡ repeat_or_conflict f i token first → answer ≡ refusal true f f i
 told_so f i token first answer built named found told =
-    told ∙ ap (told_by f i token) (sym found) ∙ ap (event_told f i) (sym named) ∙ sym (refused f i built)
+    told ∙ ap (repeat_or_conflict f i token) (sym found) ∙ ap (event_told f i) (sym named) ∙ sym (refused f i built)

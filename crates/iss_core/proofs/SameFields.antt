@@ -17,7 +17,7 @@ use Rattle.iss_model.specs.declared.call.CallId.{CallId}
 use Rattle.iss_model.specs.declared.input.Outcome.{Outcome}
 use Rattle.iss_model.specs.declared.input.Input.TheVariants as input
 use Rattle.iss_model.specs.Currencies.{iso_number, same_currency}
-use Rattle.iss_model.specs.Inputs.{spelled, flag, optional, funding_number, window_number, outcome_number, moved_contents, association_contents, scope_contents, same_contents}
+use Rattle.iss_model.specs.Inputs.{with_length, flag_contents, optional_contents, funding_number, window_number, outcome_number, moved_contents, association_contents, scope_contents, same_contents}
 
 -- Whatever follows two lists, one test says whether they are the same. A record, so that the lists and the test are found from it.
 record AreSame (f g : List ℕ) (same : Bool) : Type 0 where
@@ -37,7 +37,7 @@ and_swap false false c = refl
 whole : {f g : List ℕ} {same : Bool} → AreSame f g same → bytes_eq f g ≡ same
 whole {f} {g} {same} h = ap₂ bytes_eq (sym (append-nil f)) (sym (append-nil g)) ∙ h.behind [] [] ∙ and_true same
 
--- two of them, one behind the other
+-- two of them, one after the other
 more : {f g f' g' : List ℕ} {same also : Bool} → AreSame f g same → AreSame f' g' also → AreSame (f ++ f') (g ++ g') (same && also)
 more {f} {g} {f'} {g'} {same} {also} h k = record {
   behind = λ r s. ap₂ bytes_eq (append_assoc f f' r) (append_assoc g g' s)
@@ -46,7 +46,7 @@ more {f} {g} {f'} {g'} {same} {also} h k = record {
       ∙ sym (and_assoc same also (bytes_eq r s));
 }
 
--- a number in front
+-- a number before
 front : {f g : List ℕ} {same : Bool} (m n : ℕ) → AreSame f g same → AreSame (m ∷ f) (n ∷ g) (nat_eq m n && same)
 front {same = same} m n h = record {
   behind = λ r s. ap (λ (rest : Bool). nat_eq m n && rest) (h.behind r s) ∙ sym (and_assoc (nat_eq m n) same (bytes_eq r s));
@@ -78,16 +78,16 @@ texts_split (x ∷ xs) (y ∷ ys) r s =
     ∙ sym (and_assoc (nat_eq x y) (bytes_eq xs ys) (bytes_eq r s))
 
 -- the fields, each as the program compares it
-text : (a b : List ℕ) → AreSame (spelled a) (spelled b) (bytes_eq a b)
+text : (a b : List ℕ) → AreSame (with_length a) (with_length b) (bytes_eq a b)
 text a b = record { behind = texts_split a b }
 
-on : (a b : Bool) → AreSame (flag a) (flag b) (beq a b)
+on : (a b : Bool) → AreSame (flag_contents a) (flag_contents b) (beq a b)
 on true true = record { behind = λ r s. refl }
 on true false = record { behind = λ r s. refl }
 on false true = record { behind = λ r s. refl }
 on false false = record { behind = λ r s. refl }
 
-limit : (a b : Option ℕ) → AreSame (optional a) (optional b) (bytes_eq (optional a) (optional b))
+limit : (a b : Option ℕ) → AreSame (optional_contents a) (optional_contents b) (bytes_eq (optional_contents a) (optional_contents b))
 limit None None = record { behind = λ r s. refl }
 limit None (Some n) = record { behind = λ r s. refl }
 limit (Some m) None = record { behind = λ r s. refl }
@@ -110,12 +110,12 @@ where_at _ _ = record { behind = λ r s. refl }
 pub one_limit : (m n : ℕ) → nat_eq m n ≡ bytes_eq (m ∷ []) (n ∷ [])
 one_limit m n = sym (and_true (nat_eq m n))
 
--- texts behind their lengths
-pub same_text : (a b : List ℕ) → bytes_eq (spelled a) (spelled b) ≡ bytes_eq a b
+-- texts after their lengths
+pub same_text : (a b : List ℕ) → bytes_eq (with_length a) (with_length b) ≡ bytes_eq a b
 same_text a b = whole (text a b)
 
 -- a name and the number of a state
-pub same_named : (a b : List ℕ) (m n : ℕ) → bytes_eq (spelled a ++ m ∷ []) (spelled b ++ n ∷ []) ≡ (bytes_eq a b && nat_eq m n)
+pub same_named : (a b : List ℕ) (m n : ℕ) → bytes_eq (with_length a ++ m ∷ []) (with_length b ++ n ∷ []) ≡ (bytes_eq a b && nat_eq m n)
 same_named a b m n = whole (more (text a b) (number m n))
 
 -- each kind, field by field, grouped as its contents are
@@ -154,8 +154,8 @@ same_groups t g m t' g' m' =
 pub same_controls : (t v : List ℕ) (c : Currency) (w : Window) (m n : Option ℕ) (s : Association) (o : Scope) (a : Bool)
     (t' v' : List ℕ) (c' : Currency) (w' : Window) (m' n' : Option ℕ) (s' : Association) (o' : Scope) (a' : Bool)
     → same_contents (input.Control t v c w m n s o a) (input.Control t' v' c' w' m' n' s' o' a')
-    ≡ (bytes_eq t t' && bytes_eq v v' && (same_currency c c' && (nat_eq (window_number w) (window_number w') && bytes_eq (optional m) (optional m')))
-    && bytes_eq (optional n) (optional n') && bytes_eq (association_contents s) (association_contents s') && bytes_eq (scope_contents o) (scope_contents o') && beq a a')
+    ≡ (bytes_eq t t' && bytes_eq v v' && (same_currency c c' && (nat_eq (window_number w) (window_number w') && bytes_eq (optional_contents m) (optional_contents m')))
+    && bytes_eq (optional_contents n) (optional_contents n') && bytes_eq (association_contents s) (association_contents s') && bytes_eq (scope_contents o) (scope_contents o') && beq a a')
 same_controls t v c w m n s o a t' v' c' w' m' n' s' o' a' =
     whole (more (more (more (more (more (more (text t t') (text v v')) (front (iso_number c) (iso_number c') (front (window_number w) (window_number w') (limit m m')))) (limit n n')) (whose s s')) (where_at o o')) (on a a'))
 

@@ -36,17 +36,17 @@ use Rattle.iss_model.specs.rules.Facts.{Facts, Accepted, available_in}
 use Rattle.iss_model.specs.rules.Asks.{txn_begun}
 use Rattle.iss_model.specs.rules.Reasons.{user_is, user_reason, card_reason, move_reason, card_move_reason, user_move_reason, product_reason, load_reason}
 use Rattle.iss_model.specs.rules.CardReasons.{is_account_funded}
-use Rattle.iss_model.specs.rules.Due.{DueItem, due_call, due_txn, placed, due_items, is_quiet}
-use Rattle.iss_model.specs.rules.Stepping.{entries_of, unless_declined, set_by, loaded}
+use Rattle.iss_model.specs.rules.Due.{DueItem, due_call, due_txn, items_with, due_items, is_quiet}
+use Rattle.iss_model.specs.rules.Stepping.{entries_of, unless_declined, setting_entries, load_entries}
 use Rattle.iss_core.specs.Built.{is_built, is_built_entry}
-use Rattle.iss_model.specs.state.Cores.{CoreState, no_core, ProductNow, ControlKept, control_told, with_txn, held_begun, is_live, core_facts, entered, taken_up}
+use Rattle.iss_model.specs.state.Cores.{CoreState, no_core, ProductNow, ControlKept, control_facts, with_txn, begun_held_changes, is_live, core_facts, after_entry, with_record}
 use Rattle.iss_model.proofs.Names.{one_name}
 use Rattle.iss_model.proofs.Lists.{all_weaker}
 use Rattle.iss_hold.specs.Bounds.{IsWithin, AreWithin}
 use Rattle.iss_core.specs.declared.purchases.Purchase.{Purchase}
 use Rattle.iss_core.specs.Values.{IsQuiet}
 use Rattle.iss_core.specs.States.{Made}
-use Rattle.iss_core.specs.Purchases.{unless, bought, bought_on, bought_of, purchased, purchase_entries}
+use Rattle.iss_core.specs.Purchases.{unless, purchase_txn, card_purchase_txn, product_purchase_txn, approved_entries, purchase_entries}
 use Rattle.iss_core.specs.Sound.{is_begun, is_own, IsSoundAt, IsSound, IsTakenUp}
 use Rattle.iss_core.proofs.Reaching.{within_more, within_changed, nothing_within, change_within, within_post, some_amount, most_amount}
 use Rattle.iss_core.proofs.Purchased.{own_hold, own_funding, bought_made, begun_by}
@@ -71,7 +71,7 @@ begun_grows accepted more records t h =
     both_true _ _ (found_grows (λ (a : Accepted). is_event t.txn.token a.input) accepted more parts.0) parts.1
 
 -- a record that is taken up makes a core ready for its entries
-pub ready : (s : CoreState) (r : Record) → IsSound s → s.count < MOST_RECORDS → IsTakenUp (taken_up s r)
+pub ready : (s : CoreState) (r : Record) → IsSound s → s.count < MOST_RECORDS → IsTakenUp (with_record s r)
 ready s r sound room =
     let more : List Accepted = cond (is_some (event_token r.input)) (record { number = s.count + 1; at = r.at; input = r.input } ∷ []) [] in
     let same : s.count ≡ (s.count + 1) - 1 = omega arith in
@@ -79,7 +79,7 @@ ready s r sound room =
       first = omega arith;
       room = omega (arith, room);
       sound =
-          subst (λ (n : ℕ). IsSoundAt n (taken_up s r)) same
+          subst (λ (n : ℕ). IsSoundAt n (with_record s r)) same
           (record {
             balances = sound.balances;
             held = sound.held;
@@ -100,7 +100,7 @@ found_last {A} p (y ∷ ys) x h = by (p y) (found_last p ys x h)
     by false later = later
 
 -- its event then stands
-pub stands_then : (s : CoreState) (r : Record) (token : List ℕ) → event_token r.input ≡ Some token → is_some (find (λ (a : Accepted). is_event token a.input) (taken_up s r).accepted) ≡ true
+pub stands_then : (s : CoreState) (r : Record) (token : List ℕ) → event_token r.input ≡ Some token → is_some (find (λ (a : Accepted). is_event token a.input) (with_record s r).accepted) ≡ true
 stands_then s r token named =
     let row : Accepted = record { number = s.count + 1; at = r.at; input = r.input } in
     ap (λ (o : Option (List ℕ)). is_some (find (λ (a : Accepted). is_event token a.input) (s.accepted ++ cond (is_some o) (row ∷ []) []))) named
@@ -124,7 +124,7 @@ no_txn accepted records (t ∷ ts) token h none =
 
 -- ---- making the entries
 
--- the state behind the entries is sound, and nothing more is due at the moment
+-- the state after the entries is sound, and nothing more is due at the moment
 pub record IsKeptBy (at : ℕ) (before after : CoreState) : Type 0 where
   pub sound : IsSoundAt before.count after
   pub due : due_items (core_facts after) at ≡ due_items (core_facts before) at
@@ -159,7 +159,7 @@ still_sound s ready =
 
 -- what is due among these calls and transactions
 abbrev due_by : ℕ → List CallNow → List TxnNow → List DueItem
-due_by at calls txns = fold placed [] (filter (λ (item : DueItem). nat_le item.since at) (map due_call (filter is_asked calls) ++ map due_txn (filter (λ (t : TxnNow). t.live) txns)))
+due_by at calls txns = fold items_with [] (filter (λ (item : DueItem). nat_le item.since at) (map due_call (filter is_asked calls) ++ map due_txn (filter (λ (t : TxnNow). t.live) txns)))
 
 -- settings but products, and declined events, touch neither sums nor transactions
 untouched : (at : ℕ) (s after : CoreState) → IsTakenUp s → after.balances ≡ s.balances → after.holdings ≡ s.holdings → after.accepted ≡ s.accepted → after.products ≡ s.products → after.calls ≡ s.calls
@@ -178,17 +178,17 @@ untouched at s after ready balances holdings accepted products calls =
     }
 
 -- an event with a reason, or without one
-either : (at : ℕ) (s : CoreState) (why : Option Reason) (token : List ℕ) (entries : List Entry) → IsTakenUp s → IsKeptBy at s (fold entered s entries)
-    → IsKeptBy at s (fold entered s (unless_declined why token entries))
+either : (at : ℕ) (s : CoreState) (why : Option Reason) (token : List ℕ) (entries : List Entry) → IsTakenUp s → IsKeptBy at s (fold after_entry s entries)
+    → IsKeptBy at s (fold after_entry s (unless_declined why token entries))
 either at s None token entries ready kept = kept
-either at s (Some why) token entries ready kept = untouched at s (fold entered s (unless_declined (Some why) token entries)) ready refl refl refl refl refl
+either at s (Some why) token entries ready kept = untouched at s (fold after_entry s (unless_declined (Some why) token entries)) ready refl refl refl refl refl
 
 own_more : (products : List ProductNow) (p : ProductNow) → list_all is_own products ≡ true → is_own p ≡ true → list_all is_own (products ++ p ∷ []) ≡ true
 own_more products p own one = list_all-append is_own products (p ∷ []) ∙ both_true _ _ own (both_true (is_own p) true one refl)
 
 -- a product is added
 product_kept : (at : ℕ) (s : CoreState) (token product : List ℕ) (currency : Currency) (funded : Funding) (timeout_ms hold_ms : ℕ) → IsTakenUp s → is_account_funded funded ≡ true → is_hold_time hold_ms ≡ true
-    → IsKeptBy at s (fold entered s (set_by (input.Product token product currency funded timeout_ms hold_ms) token))
+    → IsKeptBy at s (fold after_entry s (setting_entries (input.Product token product currency funded timeout_ms hold_ms) token))
 product_kept at s token product currency funded timeout_ms hold_ms ready own holds =
     let old = still_sound s ready in
     record {
@@ -206,10 +206,10 @@ amount_fits : (count amount : ℕ) → 0 < count → amount ≤ GREATEST_AMOUNT 
 amount_fits count amount first le = omega arith
 
 -- money comes in
-load_kept : (at : ℕ) (s : CoreState) (token user : List ℕ) (currency : Currency) (amount : ℕ) → IsTakenUp s → is_amount amount ≡ true → IsKeptBy at s (fold entered s (loaded token user currency amount))
+load_kept : (at : ℕ) (s : CoreState) (token user : List ℕ) (currency : Currency) (amount : ℕ) → IsTakenUp s → is_amount amount ≡ true → IsKeptBy at s (fold after_entry s (load_entries token user currency amount))
 load_kept at s token user currency amount ready form =
     let old = still_sound s ready in
-    let after = fold entered s (loaded token user currency amount) in
+    let after = fold after_entry s (load_entries token user currency amount) in
     record {
       sound =
           record {
@@ -236,7 +236,7 @@ unless_ok : (fails : Bool) (why : Reason) (rest : Result Txn Reason) (t : Txn) �
 unless_ok true why rest t e = cc
 unless_ok false why rest t e = e
 
-expires_of : (f : Facts) (p : Purchase) (c : Card) (o : Option Product) (t : Txn) → ((product : Product) → o ≡ Some product → is_hold_time product.hold_ms ≡ true) → bought_of f p c o ≡ Ok t → nat_le t.expires p.at ≡ false
+expires_of : (f : Facts) (p : Purchase) (c : Card) (o : Option Product) (t : Txn) → ((product : Product) → o ≡ Some product → is_hold_time product.hold_ms ≡ true) → product_purchase_txn f p c o ≡ Ok t → nat_le t.expires p.at ≡ false
 expires_of f p c None t holds e = absurd (let bad : Err reason.Currency ≡ Ok t = e in cc)
 expires_of f p c (Some product) t holds e =
     let paid = unless_ok (not (same_currency product.currency p.currency)) reason.Currency _ t e in
@@ -244,7 +244,7 @@ expires_of f p c (Some product) t holds e =
     let one : txn_begun f c product p.token p.currency p.mcc p.mid p.at ≡ t = cc in
     ap (λ (x : Txn). nat_le x.expires p.at) (sym one) ∙ later_by p.at product.hold_ms (holds product refl)
 
-expires_on : (f : Facts) (p : Purchase) (o : Option Card) (t : Txn) → ((name : List ℕ) (product : Product) → product_named name f.products ≡ Some product → is_hold_time product.hold_ms ≡ true) → bought_on f p o ≡ Ok t → nat_le t.expires p.at ≡ false
+expires_on : (f : Facts) (p : Purchase) (o : Option Card) (t : Txn) → ((name : List ℕ) (product : Product) → product_named name f.products ≡ Some product → is_hold_time product.hold_ms ≡ true) → card_purchase_txn f p o ≡ Ok t → nat_le t.expires p.at ≡ false
 expires_on f p None t holds e = absurd (let bad : Err reason.CardUnknown ≡ Ok t = e in cc)
 expires_on f p (Some c) t holds e =
     let usable = unless_ok (not (is_active_card c.state)) reason.CardState _ t e in
@@ -262,13 +262,13 @@ begun_more : (accepted : List Accepted) (count : ℕ) (txns : List TxnNow) (t : 
 begun_more accepted count txns t begun one = list_all-append (is_begun accepted count) txns (t ∷ []) ∙ both_true _ _ begun (both_true (is_begun accepted count t) true one refl)
 
 purchased_kept : (s : CoreState) (p : Purchase) (t : Txn) → IsTakenUp s → is_amount p.amount ≡ true → s.controls ≡ [] → is_some (find (λ (a : Accepted). is_event p.token a.input) s.accepted) ≡ true
-    → Ok t ≡ bought (core_facts s) p → IsKeptBy p.at s (fold entered s (purchased t p.amount p.at))
+    → Ok t ≡ purchase_txn (core_facts s) p → IsKeptBy p.at s (fold after_entry s (approved_entries t p.amount p.at))
 purchased_kept s p t ready form none known e =
     let old = still_sound s ready in
     let is = begun_by (core_facts s) p t e in
     let n = (s.count - 1) * GREATEST_AMOUNT in
     let row : TxnNow = record { txn = t; live = is_live s.holdings.txns t.token } in
-    let after = fold entered s (purchased t p.amount p.at) in
+    let after = fold after_entry s (approved_entries t p.amount p.at) in
     let reach : (n + 0) + p.amount ≤ s.count * GREATEST_AMOUNT = omega (arith, amount_fits s.count p.amount ready.first (most_amount p.amount form)) in
     record {
       sound =
@@ -277,7 +277,7 @@ purchased_kept s p t ready form none known e =
             held =
                 within_more ((n + 0) + p.amount) (s.count * GREATEST_AMOUNT) after.holdings.held reach
                 (within_changed (n + 0) p.amount (with_txn s.holdings t).held (record { key = user_key t.user t.currency; by = pos p.amount } ∷ [])
-                (within_changed n 0 s.holdings.held (held_begun t) ready.sound.held (nothing_within (user_key t.user t.currency)))
+                (within_changed n 0 s.holdings.held (begun_held_changes t) ready.sound.held (nothing_within (user_key t.user t.currency)))
                 (change_within p.amount (user_key t.user t.currency)));
             begun =
                 begun_more s.accepted s.count s.holdings.txns row old.begun
@@ -288,39 +288,39 @@ purchased_kept s p t ready form none known e =
     }
 
 purchase_kept : (s : CoreState) (p : Purchase) (o : Result Txn Reason) → IsTakenUp s → is_amount p.amount ≡ true → s.controls ≡ [] → is_some (find (λ (a : Accepted). is_event p.token a.input) s.accepted) ≡ true
-    → o ≡ bought (core_facts s) p → IsKeptBy p.at s (fold entered s (purchase_entries p o))
+    → o ≡ purchase_txn (core_facts s) p → IsKeptBy p.at s (fold after_entry s (purchase_entries p o))
 purchase_kept s p (Ok t) ready form none known e = purchased_kept s p t ready form none known e
-purchase_kept s p (Err why) ready form none known e = untouched p.at s (fold entered s (unless_declined (Some why) p.token [])) ready refl refl refl refl refl
+purchase_kept s p (Err why) ready form none known e = untouched p.at s (fold after_entry s (unless_declined (Some why) p.token [])) ready refl refl refl refl refl
 
 -- an authorisation in form makes the entries of its purchase
 purchase_made : (s : CoreState) (p : Purchase) (at : ℕ) → IsTakenUp s → is_in_form (input.Authorization p.token p.card p.currency p.amount p.mcc p.mid) ≡ true → s.controls ≡ []
-    → entries_of (input.Authorization p.token p.card p.currency p.amount p.mcc p.mid) p.at (core_facts s) ≡ purchase_entries p (bought (core_facts s) p)
+    → entries_of (input.Authorization p.token p.card p.currency p.amount p.mcc p.mid) p.at (core_facts s) ≡ purchase_entries p (purchase_txn (core_facts s) p)
 purchase_made s p at ready form none =
-    bought_made (core_facts s) (ap (λ (cs : List ControlKept). map control_told cs) none) (own_funding s.products ready.sound.own) p
+    bought_made (core_facts s) (ap (λ (cs : List ControlKept). map control_facts cs) none) (own_funding s.products ready.sound.own) p
     (some_amount p.amount (and_parts (is_amount p.amount) (is_mcc p.mcc) form).0)
 
 -- ---- all inputs that are built
 
 pub entries_keep : (s : CoreState) (i : Input) (at : ℕ) → IsTakenUp s → is_built i ≡ true → is_in_form i ≡ true → s.controls ≡ []
     → ((token : List ℕ) → event_token i ≡ Some token → is_some (find (λ (a : Accepted). is_event token a.input) s.accepted) ≡ true)
-    → IsKeptBy at s (fold entered s (entries_of i at (core_facts s)))
+    → IsKeptBy at s (fold after_entry s (entries_of i at (core_facts s)))
 entries_keep s (input.User token user) at ready built form none known =
-    either at s (user_reason (core_facts s) user) token (set_by (input.User token user) token) ready (untouched at s _ ready refl refl refl refl refl)
+    either at s (user_reason (core_facts s) user) token (setting_entries (input.User token user) token) ready (untouched at s _ ready refl refl refl refl refl)
 entries_keep s (input.Card token card user product active) at ready built form none known =
-    either at s (card_reason (core_facts s) card user product) token (set_by (input.Card token card user product active) token) ready (untouched at s _ ready refl refl refl refl refl)
+    either at s (card_reason (core_facts s) card user product) token (setting_entries (input.Card token card user product active) token) ready (untouched at s _ ready refl refl refl refl refl)
 entries_keep s (input.Move token (moved.Card card to)) at ready built form none known =
-    either at s (card_move_reason (card_named card s.cardholders.cards) to) token (set_by (input.Move token (moved.Card card to)) token) ready (untouched at s _ ready refl refl refl refl refl)
+    either at s (card_move_reason (card_named card s.cardholders.cards) to) token (setting_entries (input.Move token (moved.Card card to)) token) ready (untouched at s _ ready refl refl refl refl refl)
 entries_keep s (input.Move token (moved.User user to)) at ready built form none known =
-    either at s (user_move_reason (user_named user s.cardholders.users) to) token (set_by (input.Move token (moved.User user to)) token) ready (untouched at s _ ready refl refl refl refl refl)
+    either at s (user_move_reason (user_named user s.cardholders.users) to) token (setting_entries (input.Move token (moved.User user to)) token) ready (untouched at s _ ready refl refl refl refl refl)
 entries_keep s (input.Product token product currency funded timeout_ms hold_ms) at ready built form none known =
-    either at s (product_reason (core_facts s) product) token (set_by (input.Product token product currency funded timeout_ms hold_ms) token) ready
+    either at s (product_reason (core_facts s) product) token (setting_entries (input.Product token product currency funded timeout_ms hold_ms) token) ready
     (product_kept at s token product currency funded timeout_ms hold_ms ready built (and_parts (is_timeout timeout_ms) (is_hold_time hold_ms) form).1)
 entries_keep s (input.Load token user currency amount) at ready built form none known =
-    either at s (load_reason (core_facts s) user) token (loaded token user currency amount) ready (load_kept at s token user currency amount ready form)
+    either at s (load_reason (core_facts s) user) token (load_entries token user currency amount) ready (load_kept at s token user currency amount ready form)
 entries_keep s (input.Authorization token card currency amount mcc mid) at ready built form none known =
     let p : Purchase = record { token = token; card = card; currency = currency; amount = amount; mcc = mcc; mid = mid; at = at } in
-    subst (λ (entries : List Entry). IsKeptBy at s (fold entered s entries)) (sym (purchase_made s p at ready form none))
-    (purchase_kept s p (bought (core_facts s) p) ready (and_parts (is_amount amount) (is_mcc mcc) form).0 none (known token refl) refl)
+    subst (λ (entries : List Entry). IsKeptBy at s (fold after_entry s entries)) (sym (purchase_made s p at ready form none))
+    (purchase_kept s p (purchase_txn (core_facts s) p) ready (and_parts (is_amount amount) (is_mcc mcc) form).0 none (known token refl) refl)
 entries_keep s _ at ready built form none known = cc
 
 built_unless : (why : Option Reason) (token : List ℕ) (entries : List Entry) → list_all is_built_entry entries ≡ true → list_all is_built_entry (unless_declined why token entries) ≡ true
@@ -333,25 +333,25 @@ built_purchase p (Err why) = refl
 
 -- and they are entries that are built
 pub entries_built : (s : CoreState) (i : Input) (at : ℕ) → IsTakenUp s → is_built i ≡ true → is_in_form i ≡ true → s.controls ≡ [] → list_all is_built_entry (entries_of i at (core_facts s)) ≡ true
-entries_built s (input.User token user) at ready built form none = built_unless (user_reason (core_facts s) user) token (set_by (input.User token user) token) refl
+entries_built s (input.User token user) at ready built form none = built_unless (user_reason (core_facts s) user) token (setting_entries (input.User token user) token) refl
 entries_built s (input.Card token card user product active) at ready built form none =
-    built_unless (card_reason (core_facts s) card user product) token (set_by (input.Card token card user product active) token) refl
-entries_built s (input.Move token who) at ready built form none = built_unless (move_reason (core_facts s) who) token (set_by (input.Move token who) token) refl
+    built_unless (card_reason (core_facts s) card user product) token (setting_entries (input.Card token card user product active) token) refl
+entries_built s (input.Move token who) at ready built form none = built_unless (move_reason (core_facts s) who) token (setting_entries (input.Move token who) token) refl
 entries_built s (input.Product token product currency funded timeout_ms hold_ms) at ready built form none =
-    built_unless (product_reason (core_facts s) product) token (set_by (input.Product token product currency funded timeout_ms hold_ms) token) refl
-entries_built s (input.Load token user currency amount) at ready built form none = built_unless (load_reason (core_facts s) user) token (loaded token user currency amount) refl
+    built_unless (product_reason (core_facts s) product) token (setting_entries (input.Product token product currency funded timeout_ms hold_ms) token) refl
+entries_built s (input.Load token user currency amount) at ready built form none = built_unless (load_reason (core_facts s) user) token (load_entries token user currency amount) refl
 entries_built s (input.Authorization token card currency amount mcc mid) at ready built form none =
     let p : Purchase = record { token = token; card = card; currency = currency; amount = amount; mcc = mcc; mid = mid; at = at } in
     ap (list_all is_built_entry) (purchase_made s p at ready form none)
-    ∙ built_purchase p (bought (core_facts s) p)
+    ∙ built_purchase p (purchase_txn (core_facts s) p)
 entries_built s _ at ready built form none = cc
 
 -- a record that was taken up and made its entries leaves a sound core, on which nothing is due at its moment
-pub made_keeps : (before after : CoreState) (r : Record) (entries : List Entry) → IsTakenUp (taken_up before r) → is_built r.input ≡ true → is_in_form r.input ≡ true → before.controls ≡ [] → IsQuiet before r.at
-    → after.count ≡ before.count + 1 → Made r.input r.at (taken_up before r) after entries → IsSound after × IsQuiet after r.at
+pub made_keeps : (before after : CoreState) (r : Record) (entries : List Entry) → IsTakenUp (with_record before r) → is_built r.input ≡ true → is_in_form r.input ≡ true → before.controls ≡ [] → IsQuiet before r.at
+    → after.count ≡ before.count + 1 → Made r.input r.at (with_record before r) after entries → IsSound after × IsQuiet after r.at
 made_keeps before after r entries ready built form none quiet counted made =
-    let s = taken_up before r in
-    let is : after ≡ fold entered s (entries_of r.input r.at (core_facts s)) = made.state ∙ ap (fold entered s) made.entries in
+    let s = with_record before r in
+    let is : after ≡ fold after_entry s (entries_of r.input r.at (core_facts s)) = made.state ∙ ap (fold after_entry s) made.entries in
     let kept : IsKeptBy r.at s after = subst (λ (x : CoreState). IsKeptBy r.at s x) (sym is) (entries_keep s r.input r.at ready built form none (λ token named. stands_then before r token named)) in
     (subst (λ (n : ℕ). IsSoundAt n after) (sym counted) kept.sound, ap is_quiet kept.due ∙ quiet)
 

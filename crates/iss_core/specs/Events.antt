@@ -5,12 +5,12 @@ use Rattle.iss_model.specs.rules.Facts as facts
 use Rattle.iss_core.specs.declared.events.Accepted.{Accepted}
 
 -- an event that is kept, as the book tells it
-abbrev pub accepted_as : Accepted → facts.Accepted
-accepted_as a = record { number = a.number; at = a.at; input = a.input }
+abbrev pub event_of_row : Accepted → facts.Accepted
+event_of_row a = record { number = a.number; at = a.at; input = a.input }
 
 -- events that are kept, as the book tells them
-abbrev pub accepted_in : List Accepted → List facts.Accepted
-accepted_in rows = map accepted_as rows
+abbrev pub events_of_rows : List Accepted → List facts.Accepted
+events_of_rows rows = map event_of_row rows
 
 -- the event has this token
 abbrev pub is_named : List ℕ → Accepted → Bool

@@ -17,33 +17,33 @@ use Rattle.iss_model.specs.rules.Reasons.{user_is}
 use Rattle.iss_model.specs.rules.Stepping.{unless_declined}
 use Rattle.iss_core.specs.declared.purchases.Purchase.{Purchase}
 
--- a reason where its test holds, and else what comes behind it
+-- a reason where its test holds, and else what comes after it
 abbrev pub unless : {A : Type 0} → Bool → Reason → Result A Reason → Result A Reason
 unless fails why rest = if fails then Err why else rest
 
 -- a purchase on an active card of an active user, of a product
-abbrev pub bought_of : Facts → Purchase → Card → Option Product → Result Txn Reason
-bought_of f p card None = Err reason.Currency
-bought_of f p card (Some product) =
+abbrev pub product_purchase_txn : Facts → Purchase → Card → Option Product → Result Txn Reason
+product_purchase_txn f p card None = Err reason.Currency
+product_purchase_txn f p card (Some product) =
     unless (not (same_currency product.currency p.currency)) reason.Currency
     (unless (int_lt (available_in f card.user p.currency) (pos p.amount)) reason.InsufficientFunds
     (Ok (txn_begun f card product p.token p.currency p.mcc p.mid p.at)))
 
 -- a purchase on a card
-abbrev pub bought_on : Facts → Purchase → Option Card → Result Txn Reason
-bought_on f p None = Err reason.CardUnknown
-bought_on f p (Some card) =
+abbrev pub card_purchase_txn : Facts → Purchase → Option Card → Result Txn Reason
+card_purchase_txn f p None = Err reason.CardUnknown
+card_purchase_txn f p (Some card) =
     unless (not (is_active_card card.state)) reason.CardState
     (unless (not (user_is is_active_user f card.user)) reason.UserState
-    (bought_of f p card (product_named card.product f.products)))
+    (product_purchase_txn f p card (product_named card.product f.products)))
 
 -- the transaction that a purchase begins, or why it is declined
-abbrev pub bought : Facts → Purchase → Result Txn Reason
-bought f p = bought_on f p (card_named p.card f.cards)
+abbrev pub purchase_txn : Facts → Purchase → Result Txn Reason
+purchase_txn f p = card_purchase_txn f p (card_named p.card f.cards)
 
 -- a transaction begins that holds an amount of its user's own balance, and is approved
-abbrev pub purchased : Txn → ℕ → ℕ → List Entry
-purchased t amount at =
+abbrev pub approved_entries : Txn → ℕ → ℕ → List Entry
+approved_entries t amount at =
     entry.Began t
     ∷ entry.Usage (usage_of t (pos amount) (pos 1) at)
     ∷ entry.Hold t.token t.user t.currency part.S (pos amount)
@@ -52,5 +52,5 @@ purchased t amount at =
 
 -- the entries of a purchase
 abbrev pub purchase_entries : Purchase → Result Txn Reason → List Entry
-purchase_entries p (Ok t) = purchased t p.amount p.at
+purchase_entries p (Ok t) = approved_entries t p.amount p.at
 purchase_entries p (Err why) = unless_declined (Some why) p.token []

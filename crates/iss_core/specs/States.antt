@@ -5,7 +5,7 @@ use Rattle.iss_model.specs.declared.entry.Entry.{Entry}
 use Rattle.iss_model.specs.declared.decision.Verdict.{Verdict}
 use Rattle.iss_model.specs.state.Kept.{nothing_kept}
 use Rattle.iss_model.specs.rules.Stepping.{entries_of}
-use Rattle.iss_model.specs.state.Cores.{CoreState, core_facts, entered}
+use Rattle.iss_model.specs.state.Cores.{CoreState, core_facts, after_entry}
 use Rattle.iss_core.specs.declared.state.State.{State}
 
 -- the state that the parts keep; what isn't built yet is empty
@@ -35,4 +35,4 @@ with_decision p event verdict = record p { decisions = p.decisions ++ record { e
 -- an input's own entries were made and entered, and nothing else was done
 pub record Made (i : Input) (at : ℕ) (before after : CoreState) (made : List Entry) : Type 0 where
   pub entries : made ≡ entries_of i at (core_facts before)
-  pub state : after ≡ fold entered before made
+  pub state : after ≡ fold after_entry before made

@@ -33,13 +33,13 @@ GivesNext c (judged.Told a) = Unit {0}
 abbrev pub IsQuiet : CoreState → ℕ → Type 0
 IsQuiet s at = is_quiet (due_items (core_facts s) at) ≡ true
 
--- a record was taken up: these are its entries, and what stands behind them
+-- a record was taken up: these are its entries, and what stands after them
 pub record Steps (before after : CoreNow) (r : Record) (made : List Entry) : Type 0 where
   pub kept : after.instance ≡ before.instance
   pub state : after.state ≡ (step core_keeper before.state r).world
   pub entries : made ≡ (step core_keeper before.state r).entries
 
--- The same on the book: the core behind the record stands for one record more, and these are its entries.
+-- The same on the book: the core after the record stands for one record more, and these are its entries.
 pub record StepsOnBook (after : CoreNow) (rs : List Record) (r : Record) (made : List Entry) : Type 0 where
   pub stands : StandsFor after (rs ++ r ∷ [])
   pub entries : made ≡ (step history_keeper (history_of rs) r).entries

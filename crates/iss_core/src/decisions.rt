@@ -1,7 +1,7 @@
 //! How events were decided.
 ghost use Rattle.std.specs.Prelude.{◌≡◌, [], ◌∷◌, ◌++◌, find, OnOk};
 ghost use Rattle.std.specs.Str.{bytes_eq};
-ghost use Rattle.iss_model.specs.rules.Facts.{replied};
+ghost use Rattle.iss_model.specs.rules.Facts.{reply_of_decision};
 
 use crate::places::enter;
 use iss_model::{Entry, Reply, Token, Verdict};
@@ -43,7 +43,7 @@ impl Decisions {
 
     /// How an event was decided first, or that it is pending.
     pub(crate) fn reply(&self, event: &Token) -> Reply
-        ensures { result ≡ replied (find (λ d. bytes_eq d.event event.now) self.now) }
+        ensures { result ≡ reply_of_decision (find (λ d. bytes_eq d.event event.now) self.now) }
     {
         let Some(place) = self.places.get(event) else {
             return Reply::Pending;

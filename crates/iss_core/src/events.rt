@@ -29,16 +29,16 @@ impl Model for Events {
 
     ghost Value = { List facts.Accepted };
 
-    ghost use Rattle.iss_core.specs.Events.{accepted_in, is_named};
+    ghost use Rattle.iss_core.specs.Events.{events_of_rows, is_named};
     ghost use Rattle.iss_core.specs.Places.{IsIndexed};
 
-    ghost view = { λ e. accepted_in e.rows.items };
+    ghost view = { λ e. events_of_rows e.rows.items };
 
     ghost invariant = { λ e. IsIndexed is_named e.places e.rows.items };
 }
 
 impl Events {
-    ghost use Rattle.iss_core.specs.Events.{accepted_as};
+    ghost use Rattle.iss_core.specs.Events.{event_of_row};
 
     /// No event.
     pub(crate) fn new(alloc: Global) -> Events
@@ -52,7 +52,7 @@ impl Events {
 
     /// The first event of a token.
     pub(crate) fn find(&self, token: &Token) -> Option<&Accepted>
-        ensures { option_map (λ found. accepted_as found.now) result ≡ find (λ a. is_event token.now a.input) self.now }
+        ensures { option_map (λ found. event_of_row found.now) result ≡ find (λ a. is_event token.now a.input) self.now }
     {
         match self.places.get(token) {
             Some(place) => Some(&self.rows[*place]),

@@ -11,7 +11,7 @@ use iss_model::Token;
 use std::alloc::AllocError;
 use std::collections::BTreeMap;
 
-/// Notes the place of a name, unless the name has one. Where memory is wanted all stays as it was.
+/// Notes the place of a name, unless the name has one. Where an allocation fails all stays as it was.
 pub(crate) fn enter(
     places: &mut BTreeMap<Token, usize>,
     name: &Token,

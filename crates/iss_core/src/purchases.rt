@@ -7,9 +7,9 @@ ghost use Rattle.iss_model.specs.Forms.{is_amount, is_stamp, is_hold_time};
 ghost use Rattle.iss_model.specs.rules.Activity.{txn_named};
 ghost use Rattle.iss_model.specs.rules.Facts.{available_in};
 ghost use Rattle.iss_model.specs.rules.Reasons.{load_reason, user_is};
-ghost use Rattle.iss_model.specs.state.Cores.{core_facts, entered};
+ghost use Rattle.iss_model.specs.state.Cores.{core_facts, after_entry};
 ghost use Rattle.iss_core.specs.States.{state_of, Made};
-ghost use Rattle.iss_core.specs.Purchases.{bought, bought_on, bought_of, purchased};
+ghost use Rattle.iss_core.specs.Purchases.{purchase_txn, card_purchase_txn, product_purchase_txn, approved_entries};
 ghost use Rattle.iss_core.specs.Sound.{IsTakenUp, is_own};
 
 use crate::state::State;
@@ -102,7 +102,7 @@ impl State {
     fn bought(&self, purchase: &Purchase) -> Result<Txn, Reason>
         requires stamp { IsTrue (is_stamp purchase.now.at) }
         requires own { list_all is_own self.now.products ≡ true }
-        ensures { result ≡ bought (core_facts (state_of self.now)) purchase.now }
+        ensures { result ≡ purchase_txn (core_facts (state_of self.now)) purchase.now }
     {
         match self.cards.standing(&purchase.card) {
             Standing::Unknown => Err(Reason::CardUnknown),
@@ -128,7 +128,7 @@ impl State {
         requires stamp { IsTrue (is_stamp purchase.now.at) }
         requires own { list_all is_own self.now.products ≡ true }
         requires holder { user_is is_active_user (core_facts (state_of self.now)) card.now.user ≡ is_active_user holder }
-        ensures { result ≡ bought_on (core_facts (state_of self.now)) purchase.now (Some card.now) }
+        ensures { result ≡ card_purchase_txn (core_facts (state_of self.now)) purchase.now (Some card.now) }
     {
         if !is_active_card(card.state) {
             return Err(Reason::CardState);
@@ -146,7 +146,7 @@ impl State {
     fn bought_of(&self, purchase: &Purchase, card: &Card, product: &Product) -> Result<Txn, Reason>
         requires stamp { IsTrue (is_stamp purchase.now.at) }
         requires hold { IsTrue (is_hold_time product.now.hold_ms) }
-        ensures { result ≡ bought_of (core_facts (state_of self.now)) purchase.now card.now (Some product.now) }
+        ensures { result ≡ product_purchase_txn (core_facts (state_of self.now)) purchase.now card.now (Some product.now) }
     {
         if product.currency != purchase.currency {
             return Err(Reason::Currency);
@@ -190,8 +190,8 @@ impl State {
         requires amount { IsTrue (is_amount amount) }
         requires unknown { txn_named txn.now.token self.old.holds.txns ≡ None }
         requires origin { txn.now.origin ≡ self.old.count }
-        ensures entries { IfOk result (λ entries. entries.items ≡ purchased txn.now amount at) }
-        ensures state { OnOk result (state_of self.new ≡ fold entered (state_of self.old) (purchased txn.now amount at)) }
+        ensures entries { IfOk result (λ entries. entries.items ≡ approved_entries txn.now amount at) }
+        ensures state { OnOk result (state_of self.new ≡ fold after_entry (state_of self.old) (approved_entries txn.now amount at)) }
     {
         self.holds.start(txn)?;
         self.holds.add(&txn.token, Part::S, amount);
@@ -215,7 +215,7 @@ fn is_active_user(state: UserState) -> bool
 /// The entries of a transaction that begins and is approved.
 fn begun(alloc: Global, txn: &Txn, amount: u64, at: u64) -> Result<Vec<Entry>, AllocError>
     requires { amount < 2 ^ 63 }
-    ensures { IfOk result (λ entries. entries.items ≡ purchased txn.now amount at) }
+    ensures { IfOk result (λ entries. entries.items ≡ approved_entries txn.now amount at) }
 {
     let usage = UsageRow {
         txn: txn.token,

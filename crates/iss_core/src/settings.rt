@@ -167,7 +167,7 @@ impl State {
     }
 }
 
-/// The reason that a fault of users and cards gives. Want of memory is none.
+/// The reason that a fault of users and cards gives. A failed allocation is none.
 fn reason_of(fault: CardFault) -> Result<Reason, AllocError>
     ensures { IfOk result (λ why. fault_reason fault ≡ Some why) }
 {

@@ -4,11 +4,11 @@ ghost use Rattle.iss_model.specs.declared.decision.Verdict.TheVariants as verdic
 ghost use Rattle.iss_model.specs.Inputs.{event_token};
 ghost use Rattle.iss_model.specs.Forms.{is_in_form, is_stamp};
 ghost use Rattle.iss_model.specs.rules.Activity.{txn_named};
-ghost use Rattle.iss_model.specs.rules.Judging.{refusal, told_by};
-ghost use Rattle.iss_model.specs.rules.Stepping.{unless_declined, set_by};
-ghost use Rattle.iss_model.specs.state.Cores.{no_core, taken_up, core_facts};
+ghost use Rattle.iss_model.specs.rules.Judging.{refusal, repeat_or_conflict};
+ghost use Rattle.iss_model.specs.rules.Stepping.{unless_declined, setting_entries};
+ghost use Rattle.iss_model.specs.state.Cores.{no_core, with_record, core_facts};
 ghost use Rattle.iss_core.specs.Built.{is_built};
-ghost use Rattle.iss_core.specs.Events.{accepted_as};
+ghost use Rattle.iss_core.specs.Events.{event_of_row};
 ghost use Rattle.iss_core.specs.States.{state_of, with_decision, Made};
 ghost use Rattle.iss_core.specs.Sound.{IsTakenUp};
 
@@ -56,7 +56,7 @@ impl State {
     /// Counts a record, and notes its input where it is an event.
     pub(crate) fn take_up(&mut self, accepted: &Record) -> Result<(), AllocError>
         requires { self.old.count + 1 < 2 ^ 32 }
-        ensures { OnOk result (state_of self.new ≡ taken_up (state_of self.old) accepted.now) }
+        ensures { OnOk result (state_of self.new ≡ with_record (state_of self.old) accepted.now) }
     {
         self.time = self.time.max(accepted.at);
         self.count += 1;
@@ -77,7 +77,7 @@ impl State {
 
     /// A repeat of the first record's contents is told the reply, and any other the record's number.
     fn told(&self, first: &Accepted, input: &Input, token: &Token) -> Answer
-        ensures { Some result ≡ told_by (core_facts (state_of self.now)) input.now token.now (Some (accepted_as first.now)) }
+        ensures { Some result ≡ repeat_or_conflict (core_facts (state_of self.now)) input.now token.now (Some (event_of_row first.now)) }
     {
         if same_contents(&first.input, input) {
             Answer::Repeat(*token, self.decisions.reply(token))
@@ -108,7 +108,7 @@ impl State {
         token: &Token,
         input: Input,
     ) -> Result<Vec<Entry>, AllocError>
-        ensures entries { IfOk result (λ entries. entries.items ≡ set_by input token.now) }
+        ensures entries { IfOk result (λ entries. entries.items ≡ setting_entries input token.now) }
         ensures decided { OnOk result (self.new ≡ with_decision self.old token.now verdict.Done) }
     {
         self.decisions.add(token, Verdict::Done)?;

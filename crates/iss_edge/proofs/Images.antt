@@ -4,7 +4,7 @@ use Rattle.std.proofs.lemmas.List.{length-take, length-take-le, get_or-take, get
 use Rattle.std.proofs.lemmas.Grind.{same_number_lists}
 use Rattle.std.proofs.lemmas.Bool.Decides.{nat_tests}
 use Rattle.iss_edge.specs.declared.outside.Action.TheVariants.{Write, Sync}
-use Rattle.iss_edge.specs.Disk.{Disk, after_action, after_actions, spliced, touches, is_settled, IsAtRest, IsImage}
+use Rattle.iss_edge.specs.Disk.{Disk, after_action, after_actions, splice, touches, is_settled, IsAtRest, IsImage}
 use Rattle.iss_edge.proofs.Splices.{length-spliced, take-spliced, drop-spliced, spliced_from}
 
 -- at rest a stop leaves what stands there
@@ -16,7 +16,7 @@ rest_image d image rest is =
 pub own_image : (d : Disk) → IsImage d d.bytes
 own_image d = record { size = refl; settled = λ place lt settled. refl }
 
--- a stop leaves a front of settled places as it stands
+-- a stop leaves a prefix of settled places as it stands
 take_settled : (d : Disk) (image : List ℕ) (n : ℕ) → IsImage d image → n ≤ length d.bytes → ((p : ℕ) → p < n → is_settled d p ≡ true) → take n image ≡ take n d.bytes
 take_settled d image n is le calm =
     same_number_lists (take n image) (take n d.bytes) (omega (arith, is.size, length-take n image, length-take n d.bytes)) (λ k lt.
@@ -44,7 +44,7 @@ settled_outside d at bytes ok p e = rw e refl
 pub record IsTorn (at : ℕ) (bytes old image : List ℕ) : Type 0 where
   pub torn : List ℕ
   pub whole : length torn ≡ length bytes
-  pub is : image ≡ spliced at torn old
+  pub is : image ≡ splice at torn old
 
 -- what a write leaves, whether it failed or not, is outside of its places as before
 length-written : (ok : Bool) (d : Disk) (at : ℕ) (bytes : List ℕ) → at + length bytes ≤ length d.bytes → length (after_action d (Write at bytes ok)).bytes ≡ length d.bytes
@@ -65,7 +65,7 @@ torn_image d at bytes ok image rest within is =
     let now = after_action d (Write at bytes ok) in
     let size : length now.bytes ≡ length d.bytes = length-written ok d at bytes within in
     let room : at + length bytes ≤ length image = omega (arith, is.size) in
-    let front : take at image ≡ take at d.bytes =
+    let prefix : take at image ≡ take at d.bytes =
     take_settled now image at is (omega (arith, size, within)) (λ p lt. settled_outside d at bytes ok p (below_write at bytes p lt) ∙ rest.settled p)
     ∙ take-written ok d at bytes within in
     let back : drop (at + length bytes) image ≡ drop (at + length bytes) d.bytes =
@@ -74,7 +74,7 @@ torn_image d at bytes ok image rest within is =
     record {
       torn = take (length bytes) (drop at image);
       whole = length-take-le (length bytes) (drop at image) (omega (arith, length-drop at image));
-      is = spliced_from at (length bytes) image d.bytes room front back;
+      is = spliced_from at (length bytes) image d.bytes room prefix back;
     }
 
 second_false : (a b : Bool) → not a && not b ≡ true → b ≡ false

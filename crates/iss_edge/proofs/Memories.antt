@@ -15,7 +15,7 @@ alone_on_input-here bytes ch here = ap (λ (b : Bool). cond b bytes []) (eq-eqb 
 alone_on_input-other : (bytes : List ℕ) (ch : ℕ) → (ch ≡ 0 → ⊥) → alone_on_input bytes ch ≡ []
 alone_on_input-other bytes ch other = ap (λ (b : Bool). cond b bytes []) (ne_eqb ch 0 other)
 
--- a count of bytes from this place on, and those behind them
+-- a count of bytes from this place on, and those after them
 drop-cut : (at count : ℕ) (bytes : List ℕ) → drop at bytes ≡ take count (drop at bytes) ++ drop (at + count) bytes
 drop-cut at count bytes =
     sym (take-append-drop count (drop at bytes))
@@ -30,7 +30,7 @@ memory_takes ch at count room input buffer device trace here some fits copied =
       bytes =
           alone_on_input-here (drop at input) ch.0 here
           ∙ drop-cut at count input
-          ∙ ap (λ (front : List ℕ). front ++ drop (at + count) input) (sym copied)
+          ∙ ap (λ (prefix : List ℕ). prefix ++ drop (at + count) input) (sym copied)
           ∙ ap (λ (back : List ℕ). take count buffer ++ back) (sym (alone_on_input-here (drop (at + count) input) ch.0 here));
       others =
           λ c other.
@@ -46,7 +46,7 @@ memory_takes ch at count room input buffer device trace here some fits copied =
       trace = refl;
     }
 
--- a front of the bytes was noted as sent, or nothing was
+-- a prefix of the bytes was noted as sent, or nothing was
 pub memory_emits_part : {T E : Type 0} (noted : Result T E) (ch : Channel) (count : ℕ) (bytes device : List ℕ) (left : ℕ → List ℕ) (before now : List Action) → OnOk noted (now ≡ before ++ Emit ch (take count bytes) false ∷ []) → OnErr noted (now ≡ before) → EmitsPart ch bytes (record { device = device; left = left; trace = before }) (record { device = device; left = left; trace = now })
 memory_emits_part (Ok t) ch count bytes device left before now ok err =
     record {
@@ -55,7 +55,7 @@ memory_emits_part (Ok t) ch count bytes device left before now ok err =
       trace =
           inr
           (record {
-            front = take count bytes;
+            prefix = take count bytes;
             back = drop count bytes;
             cut = sym (take-append-drop count bytes);
             added = ok;

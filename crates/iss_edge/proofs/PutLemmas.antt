@@ -4,11 +4,11 @@ use Rattle.iss_edge.specs.declared.outside.Action.{Action}
 use Rattle.iss_edge.specs.declared.outside.Action.TheVariants.{Write, Sync}
 use Rattle.iss_edge.specs.World.{World}
 use Rattle.iss_edge.specs.Calls.{Writes, WritesPart, Syncs, SyncsPart}
-use Rattle.iss_edge.specs.Disk.{Disk, after_action, after_actions, spliced, IsAtRest, IsImage}
-use Rattle.iss_edge.specs.Puts.{Put, one_put, after_puts, actions_of_puts, Ran, Puts, PutsPart, synced, Holds}
+use Rattle.iss_edge.specs.Disk.{Disk, after_action, after_actions, splice, IsAtRest, IsImage}
+use Rattle.iss_edge.specs.Puts.{Put, one_put, after_puts, actions_of_puts, Ran, Puts, PutsPart, syncs_after, Holds}
 use Rattle.iss_edge.proofs.Images.{rest_image, IsTorn, torn_image, rests_after}
 
--- a front of such actions is one too
+-- a prefix of such actions is one too
 pub ran_front : (puts : List Put) (x y : List Action) → Ran puts (x ++ y) → Ran puts x
 ran_front puts [] y ran = tt
 ran_front [] (a ∷ x) y ran = ran
@@ -30,34 +30,34 @@ torn_moment P n put puts d ok rest h image is =
     subst (P n) (sym torn.is) (h.2 torn.torn torn.whole)
 
 -- once the sync of the first put was tried
-synced_moment : (P : ℕ → List ℕ → Type 0) (n : ℕ) (put : Put) (puts : List Put) (d : Disk) (ok : Bool) → IsAtRest d → Holds P n d.bytes (put ∷ puts) → (image : List ℕ) → IsImage (after_actions d (Write put.at put.bytes true ∷ Sync ok ∷ [])) image → P (synced n (Sync ok ∷ [])) image
+synced_moment : (P : ℕ → List ℕ → Type 0) (n : ℕ) (put : Put) (puts : List Put) (d : Disk) (ok : Bool) → IsAtRest d → Holds P n d.bytes (put ∷ puts) → (image : List ℕ) → IsImage (after_actions d (Write put.at put.bytes true ∷ Sync ok ∷ [])) image → P (syncs_after n (Sync ok ∷ [])) image
 synced_moment P n put puts d true rest h image is =
     let now = after_actions d (Write put.at put.bytes true ∷ Sync true ∷ []) in
-    subst (P (suc n)) (sym (rest_image now image (rests_after d put.at put.bytes rest) is)) (holds_now P (suc n) (spliced put.at put.bytes d.bytes) puts h.3)
+    subst (P (suc n)) (sym (rest_image now image (rests_after d put.at put.bytes rest) is)) (holds_now P (suc n) (splice put.at put.bytes d.bytes) puts h.3)
 synced_moment P n put puts d false rest h image is = torn_moment P n put puts d true rest h image is
 
 -- what holds at each moment of these puts holds of each image of the actions so far
-pub put_moments : (P : ℕ → List ℕ → Type 0) (n : ℕ) (puts : List Put) (d : Disk) (actions : List Action) → IsAtRest d → Holds P n d.bytes puts → Ran puts actions → (image : List ℕ) → IsImage (after_actions d actions) image → P (synced n actions) image
+pub put_moments : (P : ℕ → List ℕ → Type 0) (n : ℕ) (puts : List Put) (d : Disk) (actions : List Action) → IsAtRest d → Holds P n d.bytes puts → Ran puts actions → (image : List ℕ) → IsImage (after_actions d actions) image → P (syncs_after n actions) image
 put_moments P n puts d [] rest h ran image is = subst (P n) (sym (rest_image d image rest is)) (holds_now P n d.bytes puts h)
 put_moments P n [] d (a ∷ more) rest h ran image is = absurd ran
 put_moments P n (put ∷ puts) d (a ∷ []) rest h ran image is =
     let wrote : IsImage (after_action d (Write put.at put.bytes ran.0)) image = subst (λ (x : Action). IsImage (after_action d x) image) ran.1 is in
-    subst (λ (x : Action). P (synced n (x ∷ [])) image) (sym ran.1) (torn_moment P n put puts d ran.0 rest h image wrote)
+    subst (λ (x : Action). P (syncs_after n (x ∷ [])) image) (sym ran.1) (torn_moment P n put puts d ran.0 rest h image wrote)
 put_moments P n (put ∷ puts) d (a ∷ b ∷ []) rest h ran image is =
     let wrote : IsImage (after_actions d (Write put.at put.bytes true ∷ b ∷ [])) image = subst (λ (x : Action). IsImage (after_actions d (x ∷ b ∷ [])) image) ran.1 is in
     let tried : IsImage (after_actions d (Write put.at put.bytes true ∷ Sync ran.0 ∷ [])) image = subst (λ (x : Action). IsImage (after_actions d (Write put.at put.bytes true ∷ x ∷ [])) image) ran.2 wrote in
-    let there : P (synced n (Write put.at put.bytes true ∷ Sync ran.0 ∷ [])) image = synced_moment P n put puts d ran.0 rest h image tried in
-    let sync_back : P (synced n (Write put.at put.bytes true ∷ b ∷ [])) image = subst (λ (x : Action). P (synced n (Write put.at put.bytes true ∷ x ∷ [])) image) (sym ran.2) there in
-    subst (λ (x : Action). P (synced n (x ∷ b ∷ [])) image) (sym ran.1) sync_back
+    let there : P (syncs_after n (Write put.at put.bytes true ∷ Sync ran.0 ∷ [])) image = synced_moment P n put puts d ran.0 rest h image tried in
+    let sync_back : P (syncs_after n (Write put.at put.bytes true ∷ b ∷ [])) image = subst (λ (x : Action). P (syncs_after n (Write put.at put.bytes true ∷ x ∷ [])) image) (sym ran.2) there in
+    subst (λ (x : Action). P (syncs_after n (x ∷ b ∷ [])) image) (sym ran.1) sync_back
 put_moments P n (put ∷ puts) d (a ∷ b ∷ c ∷ more) rest h ran image is =
     let wrote : IsImage (after_actions d (Write put.at put.bytes true ∷ b ∷ c ∷ more)) image = subst (λ (x : Action). IsImage (after_actions d (x ∷ b ∷ c ∷ more)) image) ran.0 is in
     let kept : IsImage (after_actions d (Write put.at put.bytes true ∷ Sync true ∷ c ∷ more)) image = subst (λ (x : Action). IsImage (after_actions d (Write put.at put.bytes true ∷ x ∷ c ∷ more)) image) ran.1 wrote in
     let now = after_actions d (Write put.at put.bytes true ∷ Sync true ∷ []) in
-    let there : P (synced n (Write put.at put.bytes true ∷ Sync true ∷ c ∷ more)) image = put_moments P (suc n) puts now (c ∷ more) (rests_after d put.at put.bytes rest) h.3 ran.2 image kept in
-    let sync_back : P (synced n (Write put.at put.bytes true ∷ b ∷ c ∷ more)) image = subst (λ (x : Action). P (synced n (Write put.at put.bytes true ∷ x ∷ c ∷ more)) image) (sym ran.1) there in
-    subst (λ (x : Action). P (synced n (x ∷ b ∷ c ∷ more)) image) (sym ran.0) sync_back
+    let there : P (syncs_after n (Write put.at put.bytes true ∷ Sync true ∷ c ∷ more)) image = put_moments P (suc n) puts now (c ∷ more) (rests_after d put.at put.bytes rest) h.3 ran.2 image kept in
+    let sync_back : P (syncs_after n (Write put.at put.bytes true ∷ b ∷ c ∷ more)) image = subst (λ (x : Action). P (syncs_after n (Write put.at put.bytes true ∷ x ∷ c ∷ more)) image) (sym ran.1) there in
+    subst (λ (x : Action). P (syncs_after n (x ∷ b ∷ c ∷ more)) image) (sym ran.0) sync_back
 
--- all the actions of puts are such actions, and more of them may come behind
+-- all the actions of puts are such actions, and more of them may come after
 pub ran_all : (puts : List Put) → Ran puts (actions_of_puts puts)
 ran_all [] = tt
 ran_all (put ∷ []) = (true, refl, refl)
@@ -84,7 +84,7 @@ actions_of_puts-append (put ∷ puts) more = ap (λ (l : List Action). Write put
 
 pub after_puts-append : (bytes : List ℕ) (puts more : List Put) → after_puts bytes (puts ++ more) ≡ after_puts (after_puts bytes puts) more
 after_puts-append bytes [] more = refl
-after_puts-append bytes (put ∷ puts) more = after_puts-append (spliced put.at put.bytes bytes) puts more
+after_puts-append bytes (put ∷ puts) more = after_puts-append (splice put.at put.bytes bytes) puts more
 
 -- puts one after the other, and those of which a part was made
 pub puts_then : (puts more : List Put) (a b c : World) → Puts puts a b → Puts more b c → Puts (puts ++ more) a c

@@ -30,9 +30,9 @@ puts_good starts stands j k puts steps holds ran =
     record {
       each = λ d rest start before after cut image is.
           let actions : actions_of steps ≡ actions_of before ++ actions_of after = ap actions_of cut ∙ actions_of-append before after in
-          let front : Ran puts (actions_of before) = ran_front puts (actions_of before) (actions_of after) (subst (λ (l : List Action). Ran puts l) actions ran) in
-          let up : StandsUpTo stands j k image = put_moments (λ n image. StandsUpTo stands j k image) 0 puts d (actions_of before) rest (holds d.bytes start) front image is in
-          record { i = up.i; low = up.low; high = up.high; stand = up.stand; told = puts_silent puts before up.i front };
+          let prefix : Ran puts (actions_of before) = ran_front puts (actions_of before) (actions_of after) (subst (λ (l : List Action). Ran puts l) actions ran) in
+          let up : StandsUpTo stands j k image = put_moments (λ n image. StandsUpTo stands j k image) 0 puts d (actions_of before) rest (holds d.bytes start) prefix image is in
+          record { i = up.i; low = up.low; high = up.high; stand = up.stand; told = puts_silent puts before up.i prefix };
     }
 
 -- after puts a device at rest is at rest, with their bytes

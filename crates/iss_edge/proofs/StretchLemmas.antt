@@ -6,28 +6,28 @@ use Rattle.iss_edge.specs.declared.outside.Action.TheVariants.{Write, Sync, Emit
 use Rattle.iss_edge.specs.World.{World}
 use Rattle.iss_edge.specs.Calls.{Emits, EmitsPart}
 use Rattle.iss_edge.specs.Disk.{Disk, after_action, after_actions, IsAtRest, IsImage}
-use Rattle.iss_edge.specs.Stretches.{Step, actions_of, sent_level, SentUpTo, ShowsUpTo, IsGood, GoesOn, StretchesJoin, StretchesGoOn, is_still, AreStill, AddsStill, leveled}
+use Rattle.iss_edge.specs.Stretches.{Step, actions_of, sent_level, SentUpTo, ShowsUpTo, IsGood, GoesOn, StretchesJoin, StretchesGoOn, is_still, AreStill, AddsStill, with_levels}
 use Rattle.iss_edge.proofs.Images.{rest_image, own_image, rests_synced}
 
--- a front of two lists in a row ends in the first or in the second
+-- a prefix of two lists in a row ends in the first or in the second
 pub record EndsInFirst (a before : List Step) : Type 0 where
   pub rest : List Step
   pub is : a ≡ before ++ rest
 
 pub record EndsInSecond (a b before rest : List Step) : Type 0 where
-  pub front : List Step
-  pub is : before ≡ a ++ front
-  pub cut : b ≡ front ++ rest
+  pub prefix : List Step
+  pub is : before ≡ a ++ prefix
+  pub cut : b ≡ prefix ++ rest
 
 pub front_of_two : (a b before rest : List Step) → a ++ b ≡ before ++ rest → EndsInFirst a before ⊎ EndsInSecond a b before rest
-front_of_two [] b before rest e = inr (record { front = before; is = refl; cut = e })
+front_of_two [] b before rest e = inr (record { prefix = before; is = refl; cut = e })
 front_of_two (s ∷ ss) b [] rest e = inl (record { rest = s ∷ ss; is = refl })
 front_of_two (s ∷ ss) b (t ∷ ts) rest e =
     let heads : s ≡ t = cc in
     let tails : ss ++ b ≡ ts ++ rest = cc in
     elim (front_of_two ss b ts rest tails) [
       | inl h ↦ inl (record { rest = h.rest; is = ap (λ (l : List Step). s ∷ l) h.is ∙ ap (λ (u : Step). u ∷ (ts ++ h.rest)) heads })
-      | inr h ↦ inr (record { front = h.front; is = ap (λ (l : List Step). t ∷ l) h.is ∙ ap (λ (u : Step). u ∷ (ss ++ h.front)) (sym heads); cut = h.cut })
+      | inr h ↦ inr (record { prefix = h.prefix; is = ap (λ (l : List Step). t ∷ l) h.is ∙ ap (λ (u : Step). u ∷ (ss ++ h.prefix)) (sym heads); cut = h.cut })
     ]
 
 pub actions_of-append : (x y : List Step) → actions_of (x ++ y) ≡ actions_of x ++ actions_of y
@@ -93,15 +93,15 @@ join starts stands mids j k l a b first second =
                 let one : ShowsUpTo stands j k before image = first.good.each d rest start before h.rest h.is image is in
                 record { i = one.i; low = one.low; high = omega (arith, one.high, start_b.low, start_b.high); stand = one.stand; told = one.told }
             | inr h ↦
-                let at_front : after_actions d (actions_of before) ≡ after_actions mid (actions_of h.front) =
-                ap (λ (l : List Step). after_actions d (actions_of l)) h.is ∙ after_both d a h.front in
-                let two : ShowsUpTo stands k l h.front image = second.each mid calm mid_start h.front after h.cut image (subst (λ (x : Disk). IsImage x image) at_front is) in
+                let at_front : after_actions d (actions_of before) ≡ after_actions mid (actions_of h.prefix) =
+                ap (λ (l : List Step). after_actions d (actions_of l)) h.is ∙ after_both d a h.prefix in
+                let two : ShowsUpTo stands k l h.prefix image = second.each mid calm mid_start h.prefix after h.cut image (subst (λ (x : Disk). IsImage x image) at_front is) in
                 record {
                   i = two.i;
                   low = omega (arith, two.low, whole_a.low, whole_a.high);
                   high = two.high;
                   stand = two.stand;
-                  told = subst (λ (l : List Step). SentUpTo two.i l) (sym h.is) (sent_append two.i a h.front (sent_weaker whole_a.i two.i a (omega (arith, whole_a.high, two.low)) whole_a.told) two.told);
+                  told = subst (λ (l : List Step). SentUpTo two.i l) (sym h.is) (sent_append two.i a h.prefix (sent_weaker whole_a.i two.i a (omega (arith, whole_a.high, two.low)) whole_a.told) two.told);
                 }
           ];
     }
@@ -167,8 +167,8 @@ still_goes_on starts stands j steps shows still sent =
       good =
           record {
             each = λ d rest start before after cut image is.
-                let front : AreStill (actions_of before) = still_front before after (subst (λ (l : List Step). AreStill (actions_of l)) cut still) in
-                let same : image ≡ d.bytes = rest_image d image rest (subst (λ (x : Disk). IsImage x image) (still_after d (actions_of before) front) is) in
+                let prefix : AreStill (actions_of before) = still_front before after (subst (λ (l : List Step). AreStill (actions_of l)) cut still) in
+                let same : image ≡ d.bytes = rest_image d image rest (subst (λ (x : Disk). IsImage x image) (still_after d (actions_of before) prefix) is) in
                 record {
                   i = j;
                   low = omega arith;
@@ -200,13 +200,13 @@ sync_goes_on starts stands j ok steps shows e =
       good =
           record {
             each = λ d rest start before after cut image is.
-                let front : actions_of before ++ actions_of after ≡ Sync ok ∷ [] = sym (actions_of-append before after) ∙ ap actions_of (sym cut) ∙ e in
+                let prefix : actions_of before ++ actions_of after ≡ Sync ok ∷ [] = sym (actions_of-append before after) ∙ ap actions_of (sym cut) ∙ e in
                 record {
                   i = j;
                   low = omega arith;
                   high = omega arith;
-                  stand = subst (λ (l : List ℕ). stands l j) (sym (front_image d (actions_of before) (actions_of after) ok image rest front is)) (shows d.bytes start);
-                  told = silent before after j ok front;
+                  stand = subst (λ (l : List ℕ). stands l j) (sym (front_image d (actions_of before) (actions_of after) ok image rest prefix is)) (shows d.bytes start);
+                  told = silent before after j ok prefix;
                 };
           };
       at_rest = λ d rest start. subst (λ (l : List Action). IsAtRest (after_actions d l)) (sym e) (rests_synced d ok rest);
@@ -239,7 +239,7 @@ emit_failed_still ch bytes a b part =
       | inl same ↦
           record { device = part.device; left = part.left; added = []; grew = same ∙ sym (append-nil a.trace); still = tt }
       | inr sends ↦
-          record { device = part.device; left = part.left; added = Emit ch sends.front false ∷ []; grew = sends.added; still = (refl, tt) }
+          record { device = part.device; left = part.left; added = Emit ch sends.prefix false ∷ []; grew = sends.added; still = (refl, tt) }
     ]
 
 -- nothing was done, and what is still one after the other
@@ -257,7 +257,7 @@ still_then a b c first second =
     }
 
 -- the actions of leveled steps, and the level of what they send
-pub actions_of-leveled : (level : ℕ) (actions : List Action) → actions_of (leveled level actions) ≡ actions
+pub actions_of-leveled : (level : ℕ) (actions : List Action) → actions_of (with_levels level actions) ≡ actions
 actions_of-leveled level [] = refl
 actions_of-leveled level (a ∷ x) = ap (λ (l : List Action). a ∷ l) (actions_of-leveled level x)
 
@@ -269,6 +269,6 @@ sent_level_most (Emit ch (byte ∷ bytes) ok) level = omega arith
 sent_level_most (Dial ch) level = omega arith
 sent_level_most (Close ch) level = omega arith
 
-pub sent_leveled : (level : ℕ) (actions : List Action) → SentUpTo level (leveled level actions)
+pub sent_leveled : (level : ℕ) (actions : List Action) → SentUpTo level (with_levels level actions)
 sent_leveled level [] = tt
 sent_leveled level (a ∷ x) = (sent_level_most a level, sent_leveled level x)

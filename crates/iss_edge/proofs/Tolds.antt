@@ -72,27 +72,27 @@ emits-sent ch bytes a b p = ap (sent_on ch.0) p.trace ∙ sent_on-emit ch bytes 
 
 -- the bytes that went out, and those that did not
 pub record SentPart (ch : ℕ) (bytes : List ℕ) (before now : List Action) : Type 0 where
-  pub front : List ℕ
+  pub prefix : List ℕ
   pub back : List ℕ
-  pub cut : bytes ≡ front ++ back
-  pub sent : sent_on ch now ≡ sent_on ch before ++ front
+  pub cut : bytes ≡ prefix ++ back
+  pub sent : sent_on ch now ≡ sent_on ch before ++ prefix
 
--- an emit that failed sent a front of its bytes
+-- an emit that failed sent a prefix of its bytes
 pub emits_part-sent : (ch : Channel) (bytes : List ℕ) (a b : World) → EmitsPart ch bytes a b → SentPart ch.0 bytes a.trace b.trace
 emits_part-sent ch bytes a b p =
     elim p.trace [
       | inl same ↦
           record {
-            front = [];
+            prefix = [];
             back = bytes;
             cut = refl;
             sent = ap (sent_on ch.0) same ∙ sym (append-nil (sent_on ch.0 a.trace));
           }
       | inr sends ↦
           record {
-            front = sends.front;
+            prefix = sends.prefix;
             back = sends.back;
             cut = sends.cut;
-            sent = ap (sent_on ch.0) sends.added ∙ sent_on-emit ch sends.front false a.trace;
+            sent = ap (sent_on ch.0) sends.added ∙ sent_on-emit ch sends.prefix false a.trace;
           }
     ]

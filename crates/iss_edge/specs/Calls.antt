@@ -6,7 +6,7 @@ use Rattle.iss_edge.specs.declared.outside.Action.TheVariants.{Write, Sync, Emit
 use Rattle.iss_edge.specs.declared.outside.Answered.{Answered}
 use Rattle.iss_edge.specs.declared.outside.Answered.TheVariants.{Took}
 use Rattle.iss_edge.specs.World.{World}
-use Rattle.iss_edge.specs.Disk.{spliced}
+use Rattle.iss_edge.specs.Disk.{splice}
 
 -- nothing of what is told has changed
 pub record Same (a b : World) : Type 0 where
@@ -21,7 +21,7 @@ pub record Reads (at : ℕ) (bytes : List ℕ) (a b : World) : Type 0 where
 
 -- the bytes stand on the device from this place on by one action, and all else is the same
 pub record Writes (at : ℕ) (bytes : List ℕ) (a b : World) : Type 0 where
-  pub device : b.device ≡ spliced at bytes a.device
+  pub device : b.device ≡ splice at bytes a.device
   pub left : b.left ≡ a.left
   pub trace : b.trace ≡ a.trace ++ Write at bytes true ∷ []
 
@@ -29,7 +29,7 @@ pub record Writes (at : ℕ) (bytes : List ℕ) (a b : World) : Type 0 where
 pub record TearsWrite (at : ℕ) (bytes : List ℕ) (a b : World) : Type 0 where
   pub torn : List ℕ
   pub whole : length torn ≡ length bytes
-  pub device : b.device ≡ spliced at torn a.device
+  pub device : b.device ≡ splice at torn a.device
   pub added : b.trace ≡ a.trace ++ Write at bytes false ∷ []
 
 -- the write failed: nothing was done, or a part of it was, and what is to come is the same
@@ -62,18 +62,18 @@ pub record Emits (ch : Channel) (bytes : List ℕ) (a b : World) : Type 0 where
   pub left : b.left ≡ a.left
   pub trace : b.trace ≡ a.trace ++ Emit ch bytes true ∷ []
 
--- one failed action was added, by which a front of the bytes went out on the channel
-pub record SendsFront (ch : Channel) (bytes : List ℕ) (before now : List Action) : Type 0 where
-  pub front : List ℕ
+-- one failed action was added, by which a prefix of the bytes went out on the channel
+pub record SendsPrefix (ch : Channel) (bytes : List ℕ) (before now : List Action) : Type 0 where
+  pub prefix : List ℕ
   pub back : List ℕ
-  pub cut : bytes ≡ front ++ back
-  pub added : now ≡ before ++ Emit ch front false ∷ []
+  pub cut : bytes ≡ prefix ++ back
+  pub added : now ≡ before ++ Emit ch prefix false ∷ []
 
--- the bytes did not all go out: no action was added, or a failed one with a front of them, and all else is the same
+-- the bytes did not all go out: no action was added, or a failed one with a prefix of them, and all else is the same
 pub record EmitsPart (ch : Channel) (bytes : List ℕ) (a b : World) : Type 0 where
   pub device : b.device ≡ a.device
   pub left : b.left ≡ a.left
-  pub trace : (b.trace ≡ a.trace) ⊎ SendsFront ch bytes a.trace b.trace
+  pub trace : (b.trace ≡ a.trace) ⊎ SendsPrefix ch bytes a.trace b.trace
 
 -- the heard list is as before
 abbrev pub HearsNothing : List Answered → List Answered → Type 0
@@ -84,6 +84,6 @@ abbrev pub Hears : Answered → List Answered → List Answered → Type 0
 Hears item before now = now ≡ before ++ item ∷ []
 
 -- what is heard of a call that takes: the bytes that it put into the buffer, or that it failed
-abbrev pub taken : Channel → List ℕ → Result ℕ Failed → Answered
-taken ch buffer (Ok count) = Took ch (Some (take count buffer))
-taken ch buffer (Err e) = Took ch None
+abbrev pub heard_take : Channel → List ℕ → Result ℕ Failed → Answered
+heard_take ch buffer (Ok count) = Took ch (Some (take count buffer))
+heard_take ch buffer (Err e) = Took ch None

@@ -4,8 +4,8 @@ use Rattle.iss_edge.specs.declared.outside.Action.{Action}
 use Rattle.iss_edge.specs.declared.outside.Action.TheVariants.{Write, Sync, Emit, Dial, Close}
 
 -- these bytes in the place of as many from this place on
-abbrev pub spliced : ℕ → List ℕ → List ℕ → List ℕ
-spliced at new bytes = take at bytes ++ new ++ drop (at + length new) bytes
+abbrev pub splice : ℕ → List ℕ → List ℕ → List ℕ
+splice at new bytes = take at bytes ++ new ++ drop (at + length new) bytes
 
 -- a write of these bytes at this place touches that place
 abbrev pub touches : ℕ → List ℕ → ℕ → Bool
@@ -21,14 +21,14 @@ pub record Disk : Type 0 where
   pub failed : ℕ → Bool
 
 -- a device on which no write is under way
-abbrev pub resting : List ℕ → Disk
-resting bytes = record { bytes = bytes; touched = λ place. false; failed = λ place. false }
+abbrev pub disk_at_rest : List ℕ → Disk
+disk_at_rest bytes = record { bytes = bytes; touched = λ place. false; failed = λ place. false }
 
 -- the device once this was done
 abbrev pub after_action : Disk → Action → Disk
 after_action d (Write at bytes ok) =
     record {
-      bytes = if ok then spliced at bytes d.bytes else d.bytes;
+      bytes = if ok then splice at bytes d.bytes else d.bytes;
       touched = λ place. touches at bytes place || d.touched place;
       failed = λ place. if touches at bytes place then not ok else d.failed place;
     }

@@ -6,9 +6,9 @@ abbrev pub alone_on_input : List ℕ → ℕ → List ℕ
 alone_on_input bytes ch = if ch == 0 then bytes else []
 
 -- a value that is told as long as the test holds
-abbrev pub told_while : {A : Type 0} → Bool → A → Option A
-told_while true x = Some x
-told_while false x = None
+abbrev pub told_if : {A : Type 0} → Bool → A → Option A
+told_if true x = Some x
+told_if false x = None
 
 -- the counts where no call can fail but those on the device, on input and on output
 abbrev pub stream_faults : ℕ → ℕ → ℕ → Faults

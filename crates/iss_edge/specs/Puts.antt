@@ -3,7 +3,7 @@ use Rattle.std.specs.Prelude.{◌≡◌, ℕ, suc, ◌+◌, ◌≤◌, Bool, tru
 use Rattle.iss_edge.specs.declared.outside.Action.{Action}
 use Rattle.iss_edge.specs.declared.outside.Action.TheVariants.{Write, Sync, Emit, Dial, Close}
 use Rattle.iss_edge.specs.World.{World}
-use Rattle.iss_edge.specs.Disk.{spliced}
+use Rattle.iss_edge.specs.Disk.{splice}
 
 -- these bytes from this place on
 pub record Put : Type 0 where
@@ -17,14 +17,14 @@ one_put at bytes = record { at = at; bytes = bytes } ∷ []
 -- the device's bytes once these puts were made, in order
 abbrev pub after_puts : List ℕ → List Put → List ℕ
 after_puts bytes [] = bytes
-after_puts bytes (put ∷ puts) = after_puts (spliced put.at put.bytes bytes) puts
+after_puts bytes (put ∷ puts) = after_puts (splice put.at put.bytes bytes) puts
 
 -- the actions of these puts where all went well
 abbrev pub actions_of_puts : List Put → List Action
 actions_of_puts [] = []
 actions_of_puts (put ∷ puts) = Write put.at put.bytes true ∷ Sync true ∷ actions_of_puts puts
 
--- the actions of these puts, or a front of them, of which the last may have failed
+-- the actions of these puts, or a prefix of them, of which the last may have failed
 abbrev pub Ran : List Put → List Action → Type 0
 Ran puts [] = Unit {0}
 Ran [] (action ∷ more) = ⊥
@@ -40,7 +40,7 @@ pub record Puts (puts : List Put) (a b : World) : Type 0 where
   pub left : b.left ≡ a.left
   pub trace : b.trace ≡ a.trace ++ actions_of_puts puts
 
--- A front of these puts was made, the next one maybe in part. What is to come is the same, and what the device reads is open.
+-- A prefix of these puts was made, the next one maybe in part. What is to come is the same, and what the device reads is open.
 pub record PutsPart (puts : List Put) (a b : World) : Type 0 where
   pub left : b.left ≡ a.left
   pub actions : List Action
@@ -48,14 +48,14 @@ pub record PutsPart (puts : List Put) (a b : World) : Type 0 where
   pub ran : Ran puts actions
 
 -- this many syncs succeeded before, and these actions have more
-abbrev pub synced : ℕ → List Action → ℕ
-synced n [] = n
-synced n (Write at bytes ok ∷ actions) = synced n actions
-synced n (Sync true ∷ actions) = synced (suc n) actions
-synced n (Sync false ∷ actions) = synced n actions
-synced n (Emit ch bytes ok ∷ actions) = synced n actions
-synced n (Dial ch ∷ actions) = synced n actions
-synced n (Close ch ∷ actions) = synced n actions
+abbrev pub syncs_after : ℕ → List Action → ℕ
+syncs_after n [] = n
+syncs_after n (Write at bytes ok ∷ actions) = syncs_after n actions
+syncs_after n (Sync true ∷ actions) = syncs_after (suc n) actions
+syncs_after n (Sync false ∷ actions) = syncs_after n actions
+syncs_after n (Emit ch bytes ok ∷ actions) = syncs_after n actions
+syncs_after n (Dial ch ∷ actions) = syncs_after n actions
+syncs_after n (Close ch ∷ actions) = syncs_after n actions
 
 -- These puts are within the device. At each of their moments, begun with these bytes at rest, what a stop leaves has P, at the
 -- number of syncs that succeeded until then: the bytes before each put, those with any bytes where the put goes, and at last all.
@@ -64,5 +64,5 @@ Holds P n bytes [] = P n bytes
 Holds P n bytes (put ∷ puts) =
     (put.at + length put.bytes ≤ length bytes)
     × P n bytes
-    × ((torn : List ℕ) → length torn ≡ length put.bytes → P n (spliced put.at torn bytes))
-    × Holds P (suc n) (spliced put.at put.bytes bytes) puts
+    × ((torn : List ℕ) → length torn ≡ length put.bytes → P n (splice put.at torn bytes))
+    × Holds P (suc n) (splice put.at put.bytes bytes) puts

@@ -86,6 +86,6 @@ pub record AddsStill (a b : World) : Type 0 where
   pub still : AreStill added
 
 -- all of these actions, at one level
-abbrev pub leveled : ℕ → List Action → List Step
-leveled level [] = []
-leveled level (action ∷ actions) = record { action = action; level = level } ∷ leveled level actions
+abbrev pub with_levels : ℕ → List Action → List Step
+with_levels level [] = []
+with_levels level (action ∷ actions) = record { action = action; level = level } ∷ with_levels level actions

@@ -4,7 +4,7 @@ ghost use Rattle.std.specs.Prelude.{◌≡◌, ℕ, ◌+◌, ◌<◌, ◌≤◌,
 ghost use Rattle.iss_edge.specs.declared.outside.Answered.{Answered};
 ghost use Rattle.iss_edge.specs.declared.outside.Answered.TheVariants.{Emitted};
 ghost use Rattle.iss_edge.specs.World.{World, Told, Faults, HasCause};
-ghost use Rattle.iss_edge.specs.Calls.{Same, Reads, Writes, WritesPart, Syncs, SyncsPart, Takes, Emits, EmitsPart, Hears, HearsNothing, taken};
+ghost use Rattle.iss_edge.specs.Calls.{Same, Reads, Writes, WritesPart, Syncs, SyncsPart, Takes, Emits, EmitsPart, Hears, HearsNothing, heard_take};
 
 use crate::{Channel, Failed};
 
@@ -57,7 +57,7 @@ pub trait Edge {
         ensures heard { Told HearsNothing (heard self.old) (heard self.new) }
         ensures kept { extent self.new ≡ extent self.old };
 
-    /// Takes the next bytes of channel 0 into the front of `buf`, which is not empty, and answers how many. It answers 0
+    /// Takes the next bytes of channel 0 into the start of `buf`, which is not empty, and returns how many. It returns 0
     /// exactly at the end of the channel's bytes. Where it fails, it took none, and what `buf` holds is open.
     fn take(&mut self, ch: Channel, buf: &mut [u8]) -> Result<usize, Failed>
         requires channel { ch.0 ≡ 0 }
@@ -67,10 +67,10 @@ pub trait Edge {
             (λ count. Told (Takes ch count buf.new) (told self.old) (told self.new)) }
         ensures unchanged { OnErr result (Told Same (told self.old) (told self.new)) }
         ensures cause { HasCause (λ f. f.input) (faults self.old) (faults self.new) result }
-        ensures heard { Told (Hears (taken ch buf.new result)) (heard self.old) (heard self.new) }
+        ensures heard { Told (Hears (heard_take ch buf.new result)) (heard self.old) (heard self.new) }
         ensures kept { extent self.new ≡ extent self.old };
 
-    /// Sends the bytes out on channel 0. Where it fails, a front of them may have gone out.
+    /// Sends the bytes out on channel 0. Where it fails, a prefix of them may have gone out.
     fn emit(&mut self, ch: Channel, bytes: &[u8]) -> Result<(), Failed>
         requires channel { ch.0 ≡ 0 }
         ensures emitted { OnOk result (Told (Emits ch bytes.now) (told self.old) (told self.new)) }

@@ -4,8 +4,8 @@ ghost use Rattle.std.specs.Prelude.{◌≡◌, ◌+◌, ◌-◌, ◌^◌, ◌≤
 ghost use Rattle.std.proofs.Common.{sym};
 ghost use Rattle.iss_edge.specs.World.{Told, Rose};
 ghost use Rattle.iss_edge.specs.Calls.{Hears};
-ghost use Rattle.iss_edge.specs.Disk.{spliced};
-ghost use Rattle.iss_edge.specs.Memory.{alone_on_input, told_while, stream_faults};
+ghost use Rattle.iss_edge.specs.Disk.{splice};
+ghost use Rattle.iss_edge.specs.Memory.{alone_on_input, told_if, stream_faults};
 ghost use Rattle.iss_edge.specs.declared.outside.Action.TheVariants.{Write, Sync, Emit};
 ghost use Rattle.iss_edge.specs.declared.outside.Answered.TheVariants.{Took, Emitted};
 
@@ -106,7 +106,7 @@ impl Edge for MemoryEdge {
       trace = m.trace.items;
     }) };
 
-    ghost heard = { λ m. told_while m.heard.whole m.heard.answers.items };
+    ghost heard = { λ m. told_if m.heard.whole m.heard.answers.items };
 
     ghost faults = { λ m. stream_faults m.disk_faults m.input_faults m.output_faults };
 
@@ -195,7 +195,7 @@ fn copy_from(device: &[u8], at: usize, buf: &mut [u8])
 /// Copies the bytes over the device from this place on.
 fn copy_into(device: &mut Vec<u8>, at: usize, bytes: &[u8])
     requires { at + length bytes.now ≤ vec_len device.old }
-    ensures spliced { device.new.items ≡ spliced at bytes.now device.old.items }
+    ensures spliced { device.new.items ≡ splice at bytes.now device.old.items }
     ensures len { vec_len device.new ≡ vec_len device.old }
 {
     device[at..at + bytes.len()].copy_from_slice(bytes);
@@ -226,7 +226,7 @@ fn note_sync(trace: &mut Vec<Action>, ok: bool) -> Result<(), AllocError>
     Ok(())
 }
 
-/// Copies the input from this place on into the front of the buffer, as much as fits, and answers how much.
+/// Copies the input from this place on into the start of the buffer, as much as fits, and returns how much.
 fn copy_next(input: &[u8], at: usize, buf: &mut [u8]) -> usize
     requires { at ≤ length input.now }
     ensures count { result ≡ min (length buf.old) (length input.now - at) }
@@ -323,8 +323,8 @@ fn count(faults: &mut u64) -> Failed
 fn fail(faults: &mut u64, heard: &mut Heard, answer: Answered) -> Failed
     ensures later { faults.old ≤ faults.new }
     ensures counted { Rose faults.old faults.new }
-    ensures heard { Told (Hears answer) (told_while heard.old.whole heard.old.answers.items)
-        (told_while heard.new.whole heard.new.answers.items) }
+    ensures heard { Told (Hears answer) (told_if heard.old.whole heard.old.answers.items)
+        (told_if heard.new.whole heard.new.answers.items) }
 {
     if heard.answers.push(answer).is_err() {
         heard.whole = false;

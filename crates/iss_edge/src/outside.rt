@@ -32,7 +32,7 @@ pub enum Action {
     Write { at: u64, bytes: Bytes, ok: bool },
     /// All that was written was to be made to last.
     Sync { ok: bool },
-    /// These bytes went out on the channel. Where it failed, they are a front of what was to go out.
+    /// These bytes went out on the channel. Where it failed, they are a prefix of what was to go out.
     Emit { ch: Channel, bytes: Bytes, ok: bool },
     /// This channel was opened from our side.
     Dial { ch: Channel },

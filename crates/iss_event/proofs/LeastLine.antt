@@ -20,7 +20,7 @@ use Rattle.iss_event.specs.declared.line.Line.{Line}
 use Rattle.iss_event.specs.declared.line.FormFault.{FormFault}
 use Rattle.iss_event.specs.declared.line.FormFault.TheVariants.{Long, Field}
 use Rattle.iss_event.specs.declared.line.LineFault.{LineFault}
-use Rattle.iss_event.specs.Fields.{unless_null, field, required}
+use Rattle.iss_event.specs.Fields.{unless_null, field, required_field}
 use Rattle.iss_event.specs.Names.{name_text}
 use Rattle.iss_event.specs.Values.{kind_of}
 use Rattle.iss_event.specs.Objects.{if_object, object_of}
@@ -59,7 +59,7 @@ one_more-above : (b : Bool) (n m : ℕ) → n ≤ m → one_more b n ≤ suc m
 one_more-above true n m h = omega arith
 one_more-above false n m h = omega arith
 
--- what stands in front of other tokens, where it is allowed, is one good token at most
+-- what stands before other tokens, where it is allowed, is one good token at most
 allowed-good : (b : Bool) (t : Token) (k : Place → List Token) (next : Place) (n : ℕ) → good (k next) ≤ n → good (if_allowed b t k next) ≤ suc n
 allowed-good true t k next n h = one_more-above (is_good t) (good (k next)) n h
 allowed-good false t k next n h = omega arith
@@ -102,7 +102,7 @@ one_more-below : (b : Bool) (n m : ℕ) → n ≤ m → n ≤ one_more b m
 one_more-below true n m h = omega arith
 one_more-below false n m h = h
 
--- tokens in front take none away
+-- tokens before take none away
 rest-good : (xs ys : List Token) → good ys ≤ good (xs ++ ys)
 rest-good [] ys = omega arith
 rest-good (x ∷ xs) ys = one_more-below (is_good x) (good ys) (good (xs ++ ys)) (rest-good xs ys)
@@ -183,10 +183,10 @@ where_found (Some d) form fault P h = always (ok_or (option_and_then form (unles
 
 -- what holds where the object has a member `type` holds where the object says something
 found_line-member : (mode : Mode) (o : Option Data) (P : Type 0) → (has_member (name_text name.Kind) o ≡ true → P) → IfOk (found_line mode o) (λ said. P)
-unfolding object_line required field
+unfolding object_line required_field field
 found_line-member mode None P h = tt
 found_line-member mode (Some d) P h =
-    then_always (required (kind_of mode) name.Kind d) (kind_line mode d) P (where_found (get (name_text name.Kind) d) (kind_of mode) (Field name.Kind) P h)
+    then_always (required_field (kind_of mode) name.Kind d) (kind_line mode d) P (where_found (get (name_text name.Kind) d) (kind_of mode) (Field name.Kind) P h)
 
 -- what holds of a line that says something holds where long ones are refused
 unless_long : (b : Bool) (r : Result Line FormFault) (P : Type 0) → IfOk r (λ said. P) → IfOk (cond b (Err Long) r) (λ said. P)

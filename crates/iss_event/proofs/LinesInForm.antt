@@ -13,10 +13,10 @@ use Rattle.iss_event.specs.declared.line.FormFault.{FormFault}
 use Rattle.iss_event.specs.declared.line.FormFault.TheVariants.{Long, NotBuilt}
 use Rattle.iss_event.specs.declared.line.LineFault.{LineFault}
 use Rattle.iss_event.specs.declared.line.LineFault.TheVariants.{Form, OutOfMemory}
-use Rattle.iss_event.specs.Fields.{required}
+use Rattle.iss_event.specs.Fields.{required_field}
 use Rattle.iss_event.specs.Values.{kind_of}
 use Rattle.iss_event.specs.Objects.{object_of}
-use Rattle.iss_event.specs.Rows.{◌>>=◌, user_row, card_row, move_row, product_row, load_row, authorization_row}
+use Rattle.iss_event.specs.Rows.{◌>>=◌, user_input, card_input, move_input, product_input, load_input, authorization_input}
 use Rattle.iss_event.specs.Readings.{has_stamp, has_gateway, kind_line, object_line, found_line, line_read, Reads}
 use Rattle.iss_event.proofs.RowsInForm.{IsGood, user_row-good, card_row-good, move_row-good, product_row-good, load_row-good, authorization_row-good}
 
@@ -42,13 +42,13 @@ taken : (b : Bool) (r : Result Input FormFault) → (b ≡ false → IfOk r IsGo
 taken b r h = unless b NotBuilt (r >>= λ said. Ok (record { input = said; at = None })) (λ built. with_no_stamp r (h built))
 
 kind_line-good : (mode : Mode) (d : Data) (k : Kind) → IfOk (kind_line mode d k) IsGoodLine
-kind_line-good mode d kind.User = taken (has_stamp mode d) (user_row d) (λ built. user_row-good d)
-kind_line-good mode d kind.Card = taken (has_stamp mode d) (card_row d) (λ built. card_row-good d)
-kind_line-good mode d kind.Move = taken (has_stamp mode d) (move_row d) (λ built. move_row-good d)
+kind_line-good mode d kind.User = taken (has_stamp mode d) (user_input d) (λ built. user_row-good d)
+kind_line-good mode d kind.Card = taken (has_stamp mode d) (card_input d) (λ built. card_row-good d)
+kind_line-good mode d kind.Move = taken (has_stamp mode d) (move_input d) (λ built. move_row-good d)
 kind_line-good mode d kind.Product =
-    taken (has_stamp mode d || has_gateway d) (product_row d) (λ built. product_row-good d (neither (has_stamp mode d) (has_gateway d) built))
-kind_line-good mode d kind.Load = taken (has_stamp mode d) (load_row d) (λ built. load_row-good d)
-kind_line-good mode d kind.Authorization = taken (has_stamp mode d) (authorization_row d) (λ built. authorization_row-good d)
+    taken (has_stamp mode d || has_gateway d) (product_input d) (λ built. product_row-good d (neither (has_stamp mode d) (has_gateway d) built))
+kind_line-good mode d kind.Load = taken (has_stamp mode d) (load_input d) (λ built. load_row-good d)
+kind_line-good mode d kind.Authorization = taken (has_stamp mode d) (authorization_input d) (λ built. authorization_row-good d)
 kind_line-good mode d _ = tt
 
 then_kind : (r : Result Kind FormFault) (mode : Mode) (d : Data) → IfOk (r >>= kind_line mode d) IsGoodLine
@@ -58,7 +58,7 @@ then_kind (Err fault) mode d = tt
 found_line-good : (mode : Mode) (o : Option Data) → IfOk (found_line mode o) IsGoodLine
 unfolding object_line
 found_line-good mode None = tt
-found_line-good mode (Some d) = then_kind (required (kind_of mode) name.Kind d) mode d
+found_line-good mode (Some d) = then_kind (required_field (kind_of mode) name.Kind d) mode d
 
 line_read-good : (mode : Mode) (line : List ℕ) → IfOk (line_read mode line) IsGoodLine
 unfolding line_read

@@ -17,18 +17,18 @@ unfoldable pub field : Name → Data → Option Data
 field name d = option_and_then unless_null (get (name_text name) d)
 
 -- the field in that form, which is bad where it is absent or not of the form
-unfoldable pub required : {A : Type 0} → (Data → Option A) → Name → Data → Result A FormFault
-required form name d = ok_or (option_and_then form (field name d)) (Field name)
+unfoldable pub required_field : {A : Type 0} → (Data → Option A) → Name → Data → Result A FormFault
+required_field form name d = ok_or (option_and_then form (field name d)) (Field name)
 
 -- what was found in that form, or a value where nothing was
-abbrev pub found_or : {A : Type 0} → (Data → Option A) → A → Name → Option Data → Result A FormFault
-found_or form absent name None = Ok absent
-found_or form absent name (Some found) = ok_or (form found) (Field name)
+abbrev pub field_or : {A : Type 0} → (Data → Option A) → A → Name → Option Data → Result A FormFault
+field_or form absent name None = Ok absent
+field_or form absent name (Some found) = ok_or (form found) (Field name)
 
 -- the field in that form, or a value where it is absent; it is bad where it isn't of the form
-unfoldable pub optional_or : {A : Type 0} → (Data → Option A) → A → Name → Data → Result A FormFault
-optional_or form absent name d = found_or form absent name (field name d)
+unfoldable pub optional_field_or : {A : Type 0} → (Data → Option A) → A → Name → Data → Result A FormFault
+optional_field_or form absent name d = field_or form absent name (field name d)
 
 -- the field in that form, where it is there; it is bad where it isn't of the form
-unfoldable pub optional : {A : Type 0} → (Data → Option A) → Name → Data → Result (Option A) FormFault
-optional form name d = found_or (λ found. option_map Some (form found)) None name (field name d)
+unfoldable pub optional_field : {A : Type 0} → (Data → Option A) → Name → Data → Result (Option A) FormFault
+optional_field form name d = field_or (λ found. option_map Some (form found)) None name (field name d)

@@ -14,9 +14,9 @@ use Rattle.iss_event.specs.declared.line.FormFault.TheVariants.{Long, Json, NotB
 use Rattle.iss_event.specs.declared.line.LineFault.{LineFault}
 use Rattle.iss_event.specs.declared.line.LineFault.TheVariants.{Form, OutOfMemory}
 use Rattle.iss_event.specs.Objects.{object_of}
-use Rattle.iss_event.specs.Fields.{field, required}
+use Rattle.iss_event.specs.Fields.{field, required_field}
 use Rattle.iss_event.specs.Values.{kind_of, funding_of}
-use Rattle.iss_event.specs.Rows.{◌>>=◌, row}
+use Rattle.iss_event.specs.Rows.{◌>>=◌, input_of_kind}
 
 -- the line says when it happened; a client's member `at` says nothing
 abbrev pub has_stamp : Mode → Data → Bool
@@ -46,13 +46,13 @@ not_built mode _ d = true
 -- what an object of this kind says
 abbrev pub kind_line : Mode → Data → Kind → Result Line FormFault
 kind_line mode d kind = if not_built mode kind d then Err NotBuilt else do
-  said ← row kind d
+  said ← input_of_kind kind d
   Ok (record { input = said; at = None })
 
 -- what an object says, or its first fault
 unfoldable pub object_line : Mode → Data → Result Line FormFault
 object_line mode d = do
-  kind ← required (kind_of mode) name.Kind d
+  kind ← required_field (kind_of mode) name.Kind d
   kind_line mode d kind
 
 -- what an object says, where there is one
@@ -64,7 +64,7 @@ found_line mode (Some d) = object_line mode d
 unfoldable pub line_read : Mode → List ℕ → Result Line FormFault
 line_read mode line = if nat_lt 16384 (length line) then Err Long else found_line mode (object_of line)
 
--- reading gave this, unless memory was wanted, which may happen at any line
+-- reading gave this, unless an allocation failed, which may happen at any line
 abbrev pub Reads : Result Line FormFault → Result Line LineFault → Type 0
 Reads said (Ok line) = said ≡ Ok line
 Reads said (Err (Form fault)) = said ≡ Err fault

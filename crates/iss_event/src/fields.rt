@@ -2,7 +2,7 @@
 ghost use Rattle.std.specs.Prelude.{◌≡◌, option_map};
 ghost use Rattle.serde_json.specs.Find.{as_bool};
 ghost use Rattle.serde_json.specs.View.{view};
-ghost use Rattle.iss_event.specs.Fields.{field, required, optional, optional_or};
+ghost use Rattle.iss_event.specs.Fields.{field, required_field, optional_field, optional_field_or};
 ghost use Rattle.iss_event.specs.Values.{kind_of, token_of, currency_of, amount_of, mcc_of, funding_of, card_state_of, user_state_of, timeout_of, hold_time_of};
 
 use crate::kind::Kind;
@@ -23,85 +23,85 @@ pub(crate) fn field(line: &Value, name: Name) -> Option<&Value>
     if found.is_null() { None } else { Some(found) }
 }
 
-#[tactic(auto, unfolding(crate::specs::Fields::required))]
+#[tactic(auto, unfolding(crate::specs::Fields::required_field))]
 pub(crate) fn required_kind(line: &Value, mode: Mode) -> Result<Kind, FormFault>
-    ensures { result ≡ required (kind_of mode) Name.Kind (view line.now) }
+    ensures { result ≡ required_field (kind_of mode) Name.Kind (view line.now) }
 {
     field(line, Name::Kind)
         .and_then(|found| kind_of(mode, found))
         .ok_or(FormFault::Field(Name::Kind))
 }
 
-#[tactic(auto, unfolding(crate::specs::Fields::required))]
+#[tactic(auto, unfolding(crate::specs::Fields::required_field))]
 pub(crate) fn required_token(line: &Value, name: Name) -> Result<Token, FormFault>
-    ensures { result ≡ required token_of name (view line.now) }
+    ensures { result ≡ required_field token_of name (view line.now) }
 {
     field(line, name)
         .and_then(token_of)
         .ok_or(FormFault::Field(name))
 }
 
-#[tactic(auto, unfolding(crate::specs::Fields::required))]
+#[tactic(auto, unfolding(crate::specs::Fields::required_field))]
 pub(crate) fn required_currency(line: &Value, name: Name) -> Result<Currency, FormFault>
-    ensures { result ≡ required currency_of name (view line.now) }
+    ensures { result ≡ required_field currency_of name (view line.now) }
 {
     field(line, name)
         .and_then(currency_of)
         .ok_or(FormFault::Field(name))
 }
 
-#[tactic(auto, unfolding(crate::specs::Fields::required))]
+#[tactic(auto, unfolding(crate::specs::Fields::required_field))]
 pub(crate) fn required_amount(
     line: &Value,
     name: Name,
     currency: Currency,
 ) -> Result<u64, FormFault>
-    ensures { result ≡ required (amount_of currency) name (view line.now) }
+    ensures { result ≡ required_field (amount_of currency) name (view line.now) }
 {
     field(line, name)
         .and_then(|found| amount_of(currency, found))
         .ok_or(FormFault::Field(name))
 }
 
-#[tactic(auto, unfolding(crate::specs::Fields::required))]
+#[tactic(auto, unfolding(crate::specs::Fields::required_field))]
 pub(crate) fn required_mcc(line: &Value, name: Name) -> Result<u16, FormFault>
-    ensures { result ≡ required mcc_of name (view line.now) }
+    ensures { result ≡ required_field mcc_of name (view line.now) }
 {
     field(line, name)
         .and_then(mcc_of)
         .ok_or(FormFault::Field(name))
 }
 
-#[tactic(auto, unfolding(crate::specs::Fields::required))]
+#[tactic(auto, unfolding(crate::specs::Fields::required_field))]
 pub(crate) fn required_funding(line: &Value, name: Name) -> Result<Funding, FormFault>
-    ensures { result ≡ required funding_of name (view line.now) }
+    ensures { result ≡ required_field funding_of name (view line.now) }
 {
     field(line, name)
         .and_then(funding_of)
         .ok_or(FormFault::Field(name))
 }
 
-#[tactic(auto, unfolding(crate::specs::Fields::required))]
+#[tactic(auto, unfolding(crate::specs::Fields::required_field))]
 pub(crate) fn required_card_state(line: &Value, name: Name) -> Result<CardState, FormFault>
-    ensures { result ≡ required card_state_of name (view line.now) }
+    ensures { result ≡ required_field card_state_of name (view line.now) }
 {
     field(line, name)
         .and_then(card_state_of)
         .ok_or(FormFault::Field(name))
 }
 
-#[tactic(auto, unfolding(crate::specs::Fields::required))]
+#[tactic(auto, unfolding(crate::specs::Fields::required_field))]
 pub(crate) fn required_user_state(line: &Value, name: Name) -> Result<UserState, FormFault>
-    ensures { result ≡ required user_state_of name (view line.now) }
+    ensures { result ≡ required_field user_state_of name (view line.now) }
 {
     field(line, name)
         .and_then(user_state_of)
         .ok_or(FormFault::Field(name))
 }
 
-#[tactic(auto, unfolding(crate::specs::Fields::optional))]
+#[tactic(auto, unfolding(crate::specs::Fields::optional_field))]
 pub(crate) fn optional_token(line: &Value, name: Name) -> Result<Option<Token>, FormFault>
-    ensures { result ≡ optional token_of name (view line.now) }
+    ensures { result ≡ optional_field token_of name (view line.now) }
 {
     match field(line, name) {
         Some(found) => token_of(found).map(Some).ok_or(FormFault::Field(name)),
@@ -109,9 +109,9 @@ pub(crate) fn optional_token(line: &Value, name: Name) -> Result<Option<Token>, 
     }
 }
 
-#[tactic(auto, unfolding(crate::specs::Fields::optional_or))]
+#[tactic(auto, unfolding(crate::specs::Fields::optional_field_or))]
 pub(crate) fn token_or(line: &Value, name: Name, absent: Token) -> Result<Token, FormFault>
-    ensures { result ≡ optional_or token_of absent name (view line.now) }
+    ensures { result ≡ optional_field_or token_of absent name (view line.now) }
 {
     match field(line, name) {
         Some(found) => token_of(found).ok_or(FormFault::Field(name)),
@@ -119,9 +119,9 @@ pub(crate) fn token_or(line: &Value, name: Name, absent: Token) -> Result<Token,
     }
 }
 
-#[tactic(auto, unfolding(crate::specs::Fields::optional_or))]
+#[tactic(auto, unfolding(crate::specs::Fields::optional_field_or))]
 pub(crate) fn bool_or(line: &Value, name: Name, absent: bool) -> Result<bool, FormFault>
-    ensures { result ≡ optional_or as_bool absent name (view line.now) }
+    ensures { result ≡ optional_field_or as_bool absent name (view line.now) }
 {
     match field(line, name) {
         Some(found) => found.as_bool().ok_or(FormFault::Field(name)),
@@ -129,9 +129,9 @@ pub(crate) fn bool_or(line: &Value, name: Name, absent: bool) -> Result<bool, Fo
     }
 }
 
-#[tactic(auto, unfolding(crate::specs::Fields::optional_or))]
+#[tactic(auto, unfolding(crate::specs::Fields::optional_field_or))]
 pub(crate) fn timeout_or(line: &Value, name: Name, absent: u64) -> Result<u64, FormFault>
-    ensures { result ≡ optional_or timeout_of absent name (view line.now) }
+    ensures { result ≡ optional_field_or timeout_of absent name (view line.now) }
 {
     match field(line, name) {
         Some(found) => timeout_of(found).ok_or(FormFault::Field(name)),
@@ -139,9 +139,9 @@ pub(crate) fn timeout_or(line: &Value, name: Name, absent: u64) -> Result<u64, F
     }
 }
 
-#[tactic(auto, unfolding(crate::specs::Fields::optional_or))]
+#[tactic(auto, unfolding(crate::specs::Fields::optional_field_or))]
 pub(crate) fn hold_time_or(line: &Value, name: Name, absent: u64) -> Result<u64, FormFault>
-    ensures { result ≡ optional_or hold_time_of absent name (view line.now) }
+    ensures { result ≡ optional_field_or hold_time_of absent name (view line.now) }
 {
     match field(line, name) {
         Some(found) => hold_time_of(found).ok_or(FormFault::Field(name)),

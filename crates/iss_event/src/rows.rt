@@ -2,7 +2,7 @@
 ghost use Rattle.std.specs.Prelude.{◌≡◌, codes};
 ghost use Rattle.serde_json.specs.View.{view};
 ghost use Rattle.iss_event.specs.Fields.{field};
-ghost use Rattle.iss_event.specs.Rows.{user_row, card_row, card_moved, user_moved, who_moved, move_row, product_row, load_row, authorization_row, row};
+ghost use Rattle.iss_event.specs.Rows.{user_input, card_input, card_move, user_move, whose_move, move_input, product_input, load_input, authorization_input, input_of_kind};
 
 use crate::fields::{
     bool_or, field, hold_time_or, optional_token, required_amount, required_card_state,
@@ -22,7 +22,7 @@ const DEFAULT_HOLD_MS: u64 = 604_800_000;
 
 /// What a line of that kind says, or its first bad field.
 pub(crate) fn row(kind: Kind, line: &Value) -> Result<Input, FormFault>
-    ensures { result ≡ row kind (view line.now) }
+    ensures { result ≡ input_of_kind kind (view line.now) }
 {
     match kind {
         Kind::User => user_row(line),
@@ -35,18 +35,18 @@ pub(crate) fn row(kind: Kind, line: &Value) -> Result<Input, FormFault>
     }
 }
 
-#[tactic(auto, unfolding(crate::specs::Rows::user_row))]
+#[tactic(auto, unfolding(crate::specs::Rows::user_input))]
 fn user_row(line: &Value) -> Result<Input, FormFault>
-    ensures { result ≡ user_row (view line.now) }
+    ensures { result ≡ user_input (view line.now) }
 {
     let token = required_token(line, Name::Token)?;
     let user = required_token(line, Name::User)?;
     Ok(Input::User { token, user })
 }
 
-#[tactic(auto, unfolding(crate::specs::Rows::card_row))]
+#[tactic(auto, unfolding(crate::specs::Rows::card_input))]
 fn card_row(line: &Value) -> Result<Input, FormFault>
-    ensures { result ≡ card_row (view line.now) }
+    ensures { result ≡ card_input (view line.now) }
 {
     let token = required_token(line, Name::Token)?;
     let card = required_token(line, Name::Card)?;
@@ -62,9 +62,9 @@ fn card_row(line: &Value) -> Result<Input, FormFault>
     })
 }
 
-#[tactic(auto, unfolding(crate::specs::Rows::move_row))]
+#[tactic(auto, unfolding(crate::specs::Rows::move_input))]
 fn move_row(line: &Value) -> Result<Input, FormFault>
-    ensures { result ≡ move_row (view line.now) }
+    ensures { result ≡ move_input (view line.now) }
 {
     let token = required_token(line, Name::Token)?;
     let card = optional_token(line, Name::Card)?;
@@ -73,7 +73,7 @@ fn move_row(line: &Value) -> Result<Input, FormFault>
 }
 
 fn who_moved(card: Option<Token>, line: &Value) -> Result<Moved, FormFault>
-    ensures { result ≡ who_moved card (field Name.User (view line.now)) (view line.now) }
+    ensures { result ≡ whose_move card (field Name.User (view line.now)) (view line.now) }
 {
     match (card, field(line, Name::User)) {
         (Some(_), Some(_)) => Err(FormFault::Field(Name::User)),
@@ -83,26 +83,26 @@ fn who_moved(card: Option<Token>, line: &Value) -> Result<Moved, FormFault>
     }
 }
 
-#[tactic(auto, unfolding(crate::specs::Rows::card_moved))]
+#[tactic(auto, unfolding(crate::specs::Rows::card_move))]
 fn card_moved(card: Token, line: &Value) -> Result<Moved, FormFault>
-    ensures { result ≡ card_moved card (view line.now) }
+    ensures { result ≡ card_move card (view line.now) }
 {
     let to = required_card_state(line, Name::To)?;
     Ok(Moved::Card(card, to))
 }
 
-#[tactic(auto, unfolding(crate::specs::Rows::user_moved))]
+#[tactic(auto, unfolding(crate::specs::Rows::user_move))]
 fn user_moved(line: &Value) -> Result<Moved, FormFault>
-    ensures { result ≡ user_moved (view line.now) }
+    ensures { result ≡ user_move (view line.now) }
 {
     let user = required_token(line, Name::User)?;
     let to = required_user_state(line, Name::To)?;
     Ok(Moved::User(user, to))
 }
 
-#[tactic(auto, unfolding(crate::specs::Rows::product_row))]
+#[tactic(auto, unfolding(crate::specs::Rows::product_input))]
 fn product_row(line: &Value) -> Result<Input, FormFault>
-    ensures { result ≡ product_row (view line.now) }
+    ensures { result ≡ product_input (view line.now) }
 {
     let token = required_token(line, Name::Token)?;
     let product = required_token(line, Name::Product)?;
@@ -120,9 +120,9 @@ fn product_row(line: &Value) -> Result<Input, FormFault>
     })
 }
 
-#[tactic(auto, unfolding(crate::specs::Rows::load_row))]
+#[tactic(auto, unfolding(crate::specs::Rows::load_input))]
 fn load_row(line: &Value) -> Result<Input, FormFault>
-    ensures { result ≡ load_row (view line.now) }
+    ensures { result ≡ load_input (view line.now) }
 {
     let token = required_token(line, Name::Token)?;
     let user = required_token(line, Name::User)?;
@@ -136,9 +136,9 @@ fn load_row(line: &Value) -> Result<Input, FormFault>
     })
 }
 
-#[tactic(auto, unfolding(crate::specs::Rows::authorization_row))]
+#[tactic(auto, unfolding(crate::specs::Rows::authorization_input))]
 fn authorization_row(line: &Value) -> Result<Input, FormFault>
-    ensures { result ≡ authorization_row (view line.now) }
+    ensures { result ≡ authorization_input (view line.now) }
 {
     let token = required_token(line, Name::Token)?;
     let card = required_token(line, Name::Card)?;

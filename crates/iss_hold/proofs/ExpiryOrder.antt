@@ -2,7 +2,7 @@
 use Rattle.std.proofs.Common.{◌≡◌, ℕ, nat_le, Bool, true, false, cond, List, [], ◌∷◌, map, fold, filter, refl, sym, ap, ◌∙◌, arith}
 use Rattle.std.proofs.lemmas.Bool.Decides.{nat_tests}
 use Rattle.std.specs.List.{AllByRecursion}
-use Rattle.iss_model.specs.rules.Due.{DueItem, due_txn, txn_due, is_before, placed}
+use Rattle.iss_model.specs.rules.Due.{DueItem, due_txn, txn_due, is_before, items_with}
 use Rattle.iss_hold.specs.declared.hold.Hold.{Hold}
 use Rattle.iss_hold.specs.Holdings.{now_of, holdings_of}
 use Rattle.iss_hold.specs.Expiries.{Expiry, expiry_of, item_of, with_expiry, expiries, txns_due}
@@ -108,17 +108,17 @@ come_first now [] o = refl
 come_first now (a ∷ es) o = come_by now a es (has_come now a) refl o.0 (come_first now es o.1)
 
 -- an expiry as an item, at its place
-placed_items : (es : List Expiry) (x : Expiry) → map item_of (with_expiry es x) ≡ placed (map item_of es) (item_of x)
+placed_items : (es : List Expiry) (x : Expiry) → map item_of (with_expiry es x) ≡ items_with (map item_of es) (item_of x)
 placed_items [] x = refl
 placed_items (a ∷ es) x =
-    elim (before x a) as (λ t. map item_of (cond t (x ∷ a ∷ es) (a ∷ with_expiry es x)) ≡ cond t (item_of x ∷ item_of a ∷ map item_of es) (item_of a ∷ placed (map item_of es) (item_of x))) [
+    elim (before x a) as (λ t. map item_of (cond t (x ∷ a ∷ es) (a ∷ with_expiry es x)) ≡ cond t (item_of x ∷ item_of a ∷ map item_of es) (item_of a ∷ items_with (map item_of es) (item_of x))) [
       | true ↦ refl
       | false ↦ ap (λ (items : List DueItem). item_of a ∷ items) (placed_items es x)
     ]
 
-placed_all : (acc xs : List Expiry) → map item_of (fold with_expiry acc xs) ≡ fold placed (map item_of acc) (map item_of xs)
+placed_all : (acc xs : List Expiry) → map item_of (fold with_expiry acc xs) ≡ fold items_with (map item_of acc) (map item_of xs)
 placed_all acc [] = refl
-placed_all acc (x ∷ xs) = placed_all (with_expiry acc x) xs ∙ ap (λ (items : List DueItem). fold placed items (map item_of xs)) (placed_items acc x)
+placed_all acc (x ∷ xs) = placed_all (with_expiry acc x) xs ∙ ap (λ (items : List DueItem). fold items_with items (map item_of xs)) (placed_items acc x)
 
 items_come : (now : ℕ) (es : List Expiry) → filter (λ item. nat_le item.since now) (map item_of es) ≡ map item_of (filter (has_come now) es)
 items_come now [] = refl
@@ -147,7 +147,7 @@ come_due now hs =
     ap (λ (es : List Expiry). map item_of es)
     (come_first now (expiries hs) (expiries_ordered hs) ∙ filter_fold (has_come now) [] (map expiry_of (filter (λ h. h.live) hs)) tt)
     ∙ placed_all [] (filter (has_come now) (map expiry_of (filter (λ h. h.live) hs)))
-    ∙ ap (λ (items : List DueItem). fold placed [] items)
+    ∙ ap (λ (items : List DueItem). fold items_with [] items)
     (sym (items_come now (map expiry_of (filter (λ h. h.live) hs))) ∙ ap (λ (items : List DueItem). filter (λ item. nat_le item.since now) items) (sym (live_items hs)))
 
 pub due_things : (now : ℕ) (hs : List Hold) → map (λ token. txn_due token) (map (λ e. e.1) (come_of now (expiries hs))) ≡ map (λ item. item.thing) (txns_due (holdings_of hs) now)

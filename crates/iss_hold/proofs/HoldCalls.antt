@@ -18,7 +18,7 @@ use Rattle.iss_model.specs.Sums.{part_key, user_key}
 use Rattle.iss_model.specs.state.Kept.{nothing_kept, kept_at}
 use Rattle.iss_model.specs.rules.Activity.{TxnNow, txn_named}
 use Rattle.iss_model.specs.rules.Facts.{not_below}
-use Rattle.iss_model.specs.rules.Pieces.{Parts, held, let_go, in_all, taken_to_clear, taken_to_release}
+use Rattle.iss_model.specs.rules.Pieces.{Parts, hold_entries, unhold_entries, in_all, taken_to_clear, taken_to_release}
 use Rattle.iss_model.specs.state.Cores.{Holdings, with_hold}
 use Rattle.std.specs.FinMap as finite
 use Rattle.std.specs.Cmp.Lexicographic.{slice_cmp}
@@ -26,7 +26,7 @@ use Rattle.std.specs.Ordering.{nat_cmp}
 use Rattle.iss_hold.specs.declared.hold.Hold.{Hold}
 use Rattle.iss_hold.specs.Holdings.{now_of, part_of, with_part, parts_of, whole_of, part_sums, sums_from, holdings_of}
 use Rattle.iss_model.specs.state.Kept.{AreSmall}
-use Rattle.iss_hold.specs.Entries.{after_holds, made_of, parts_in, let_go_to_clear, let_go_to_release}
+use Rattle.iss_hold.specs.Entries.{after_holds, entries_on, parts_in, clearing_unhold_entries, release_unhold_entries}
 use Rattle.iss_model.proofs.Names.{its_name}
 use Rattle.iss_hold.specs.Sums.{sum_in}
 use Rattle.iss_hold.specs.Indexes.{names, is_of, total_of, by_name, by_user, AreIndexed}
@@ -77,14 +77,14 @@ is_zero n h = grind (arith, nat_tests)
 
 -- more in a part
 more_held : (hs : List Hold) (i : ℕ) (h : Hold) (p : Part) (amount : ℕ) → slice_get hs i ≡ Some h
-    → holdings_of (set hs i (with_part p (part_of p h + amount) h)) ≡ fold with_hold (holdings_of hs) (held h.txn p amount)
+    → holdings_of (set hs i (with_part p (part_of p h + amount) h)) ≡ fold with_hold (holdings_of hs) (hold_entries h.txn p amount)
 more_held hs i h p amount at =
     step_by hs i h p (part_of p h + amount) (pos amount) (amount == 0) at (omega (arith, ints))
     (λ (e : (amount == 0) ≡ true). let none = is_zero amount e in omega arith)
 
 -- less in a part
 less_held : (hs : List Hold) (i : ℕ) (h : Hold) (p : Part) (amount : ℕ) → slice_get hs i ≡ Some h → amount ≤ part_of p h
-    → holdings_of (set hs i (with_part p (part_of p h - amount) h)) ≡ fold with_hold (holdings_of hs) (let_go h.txn p amount)
+    → holdings_of (set hs i (with_part p (part_of p h - amount) h)) ≡ fold with_hold (holdings_of hs) (unhold_entries h.txn p amount)
 less_held hs i h p amount at within =
     step_by hs i h p (part_of p h - amount) (neg_ℤ (pos amount)) (amount == 0) at (omega (arith, ints))
     (λ (e : (amount == 0) ≡ true). let none = is_zero amount e in omega arith)
@@ -92,14 +92,14 @@ less_held hs i h p amount at within =
 -- what is made of the transaction that stands there
 made_there : (hs : List Hold) (name : List ℕ) (i : ℕ) (at : IsAt name hs i) (make : Txn → List Entry)
     → fold with_hold (holdings_of hs) (make at.hold.txn) ≡ after_holds (holdings_of hs) name make
-made_there hs name i at make = ap (λ (o : Option TxnNow). fold with_hold (holdings_of hs) (made_of o make)) (sym at.found)
+made_there hs name i at make = ap (λ (o : Option TxnNow). fold with_hold (holdings_of hs) (entries_on o make)) (sym at.found)
 
 pub added : (hs : List Hold) (name : List ℕ) (i : ℕ) (at : IsAt name hs i) (p : Part) (amount : ℕ) (k : Hold) → k ≡ with_part p (part_of p at.hold + amount) at.hold
-    → holdings_of (set hs i k) ≡ after_holds (holdings_of hs) name (λ t. held t p amount)
+    → holdings_of (set hs i k) ≡ after_holds (holdings_of hs) name (λ t. hold_entries t p amount)
 added hs name i at p amount k e =
     ap (λ (x : Hold). holdings_of (set hs i x)) e
     ∙ more_held hs i at.hold p amount at.is_there
-    ∙ made_there hs name i at (λ t. held t p amount)
+    ∙ made_there hs name i at (λ t. hold_entries t p amount)
 
 fold_on : (h : Holdings) (xs ys : List Entry) → fold with_hold h (xs ++ ys) ≡ fold with_hold (fold with_hold h xs) ys
 fold_on h [] ys = refl
@@ -115,7 +115,7 @@ kept_txn part.P amount h = refl
 kept_txn part.S amount h = refl
 
 three_gone : (hs : List Hold) (i : ℕ) (h : Hold) (p q r : Part) (a b c : ℕ) → slice_get hs i ≡ Some h → a ≤ part_of p h → b ≤ part_of q (go p a h) → c ≤ part_of r (go q b (go p a h))
-    → holdings_of (set hs i (go r c (go q b (go p a h)))) ≡ fold with_hold (holdings_of hs) (let_go h.txn p a ++ let_go h.txn q b ++ let_go h.txn r c)
+    → holdings_of (set hs i (go r c (go q b (go p a h)))) ≡ fold with_hold (holdings_of hs) (unhold_entries h.txn p a ++ unhold_entries h.txn q b ++ unhold_entries h.txn r c)
 three_gone hs i h p q r a b c at ha hb hc =
     let h1 : Hold = go p a h in
     let h2 : Hold = go q b h1 in
@@ -124,12 +124,12 @@ three_gone hs i h p q r a b c at ha hb hc =
     let at2 = get_set (set hs i h1) i h1 h2 at1 in
     ap holdings_of (sym (set_set hs i h2 h3) ∙ ap (λ (xs : List Hold). set xs i h3) (sym (set_set hs i h1 h2)))
     ∙ less_held (set (set hs i h1) i h2) i h2 r c at2 hc
-    ∙ ap₂ (λ (s : Holdings) (t : Txn). fold with_hold s (let_go t r c))
+    ∙ ap₂ (λ (s : Holdings) (t : Txn). fold with_hold s (unhold_entries t r c))
     (less_held (set hs i h1) i h1 q b at1 hb
-    ∙ ap₂ (λ (s : Holdings) (t : Txn). fold with_hold s (let_go t q b)) (less_held hs i h p a at ha) (kept_txn p a h)
-    ∙ sym (fold_on (holdings_of hs) (let_go h.txn p a) (let_go h.txn q b)))
+    ∙ ap₂ (λ (s : Holdings) (t : Txn). fold with_hold s (unhold_entries t q b)) (less_held hs i h p a at ha) (kept_txn p a h)
+    ∙ sym (fold_on (holdings_of hs) (unhold_entries h.txn p a) (unhold_entries h.txn q b)))
     (kept_txn q b h1 ∙ kept_txn p a h)
-    ∙ sym (fold_on (holdings_of hs) (let_go h.txn p a ++ let_go h.txn q b) (let_go h.txn r c))
+    ∙ sym (fold_on (holdings_of hs) (unhold_entries h.txn p a ++ unhold_entries h.txn q b) (unhold_entries h.txn r c))
 
 -- the parts that are kept of a transaction are those of its hold
 kept_part : (hs : List Hold) (name : List ℕ) (i : ℕ) (at : IsAt name hs i) (p : Part) → IsDistinct bytes_eq (names hs)
@@ -154,26 +154,26 @@ parts_there hs name i at d =
 pub cleared : (hs : List Hold) (name : List ℕ) (i : ℕ) (at : IsAt name hs i) (amount : ℕ) (k : Hold) → IsDistinct bytes_eq (names hs)
     → (let taken = taken_to_clear (parts_of at.hold) amount in
     k ≡ record (at.hold) { g = at.hold.g - taken.g; p = at.hold.p - taken.p; s = at.hold.s - taken.s })
-    → holdings_of (set hs i k) ≡ after_holds (holdings_of hs) name (let_go_to_clear (taken_to_clear (parts_in (holdings_of hs) name) amount))
+    → holdings_of (set hs i k) ≡ after_holds (holdings_of hs) name (clearing_unhold_entries (taken_to_clear (parts_in (holdings_of hs) name) amount))
 cleared hs name i at amount k d e =
     let h : Hold = at.hold in
     let taken : Parts = taken_to_clear (parts_of h) amount in
     ap (λ (x : Hold). holdings_of (set hs i x)) e
     ∙ three_gone hs i h part.G part.P part.S taken.g taken.p taken.s at.is_there (omega arith) (omega arith) (omega arith)
-    ∙ made_there hs name i at (let_go_to_clear taken)
-    ∙ ap (λ (parts : Parts). after_holds (holdings_of hs) name (let_go_to_clear (taken_to_clear parts amount))) (parts_there hs name i at d)
+    ∙ made_there hs name i at (clearing_unhold_entries taken)
+    ∙ ap (λ (parts : Parts). after_holds (holdings_of hs) name (clearing_unhold_entries (taken_to_clear parts amount))) (parts_there hs name i at d)
 
 pub released : (hs : List Hold) (name : List ℕ) (i : ℕ) (at : IsAt name hs i) (amount : ℕ) (k : Hold) → IsDistinct bytes_eq (names hs)
     → (let taken = taken_to_release (parts_of at.hold) amount in
     k ≡ record (at.hold) { g = at.hold.g - taken.g; p = at.hold.p - taken.p; s = at.hold.s - taken.s })
-    → holdings_of (set hs i k) ≡ after_holds (holdings_of hs) name (let_go_to_release (taken_to_release (parts_in (holdings_of hs) name) amount))
+    → holdings_of (set hs i k) ≡ after_holds (holdings_of hs) name (release_unhold_entries (taken_to_release (parts_in (holdings_of hs) name) amount))
 released hs name i at amount k d e =
     let h : Hold = at.hold in
     let taken : Parts = taken_to_release (parts_of h) amount in
     ap (λ (x : Hold). holdings_of (set hs i x)) e
     ∙ three_gone hs i h part.P part.G part.S taken.p taken.g taken.s at.is_there (omega arith) (omega arith) (omega arith)
-    ∙ made_there hs name i at (let_go_to_release taken)
-    ∙ ap (λ (parts : Parts). after_holds (holdings_of hs) name (let_go_to_release (taken_to_release parts amount))) (parts_there hs name i at d)
+    ∙ made_there hs name i at (release_unhold_entries taken)
+    ∙ ap (λ (parts : Parts). after_holds (holdings_of hs) name (release_unhold_entries (taken_to_release parts amount))) (parts_there hs name i at d)
 
 -- what is kept of a user is what the holds come to
 pub user_kept : (hs : List Hold) (user : List ℕ) (c : Currency) → kept_at (holdings_of hs).held (user_key user c) ≡ pos (total_of user (iso_number c) hs)
@@ -231,13 +231,13 @@ module _ (hs : List Hold) (places : BTreeMap (List ℕ) ℕ) (sums : BTreeMap (L
   part_small name i at part.S = let whole = whole_small name i at in omega arith
 
   -- the new sum of a user is small where the holdings are said to stay so
-  pub sum_small : (name : List ℕ) (i : ℕ) (at : IsAt name hs i) (p : Part) (amount : ℕ) → AreSmall (after_holds (holdings_of hs) name (λ t. held t p amount)).held
+  pub sum_small : (name : List ℕ) (i : ℕ) (at : IsAt name hs i) (p : Part) (amount : ℕ) → AreSmall (after_holds (holdings_of hs) name (λ t. hold_entries t p amount)).held
       → total_of at.hold.txn.user (iso_number at.hold.txn.currency) hs + amount < 2 ^ 62
   sum_small name i at p amount small =
       let k : Hold = with_part p (part_of p at.hold + amount) at.hold in
       let user = at.hold.txn.user in
       let number = iso_number at.hold.txn.currency in
-      let kept : kept_at (after_holds (holdings_of hs) name (λ t. held t p amount)).held (user_key user at.hold.txn.currency) ≡ pos (total_of user number (set hs i k)) =
+      let kept : kept_at (after_holds (holdings_of hs) name (λ t. hold_entries t p amount)).held (user_key user at.hold.txn.currency) ≡ pos (total_of user number (set hs i k)) =
       ap (λ (s : Holdings). kept_at s.held (user_key user at.hold.txn.currency)) (sym (added hs name i at p amount k refl)) ∙ user_kept (set hs i k) user at.hold.txn.currency in
       let below : pos (total_of user number (set hs i k)) <ℤ pos (2 ^ 62) = subst (λ (z : ℤ). z <ℤ pos (2 ^ 62)) kept (small (user_key user at.hold.txn.currency)).high in
       let total = total_set user number hs i at.hold k at.is_there (same_owner p (part_of p at.hold + amount) at.hold user number) in
@@ -249,7 +249,7 @@ module _ (hs : List Hold) (places : BTreeMap (List ℕ) ℕ) (sums : BTreeMap (L
       by_own true after before whole whole_new amount o t m l = omega arith
       by_own false after before whole whole_new amount o t m l = cc
 
-  -- the indexes behind more in a part
+  -- the indexes after more in a part
   pub indexed_added : (new_sums : BTreeMap (List ℕ × ℕ) ℕ) (name : List ℕ) (i : ℕ) (at : IsAt name hs i) (p : Part) (amount : ℕ) (k : Hold) (key : List ℕ × ℕ) (sum : ℕ)
       → k ≡ with_part p (part_of p at.hold + amount) at.hold
       → key ≡ (at.hold.txn.user, iso_number at.hold.txn.currency)
@@ -273,7 +273,7 @@ module _ (hs : List Hold) (places : BTreeMap (List ℕ) ℕ) (sums : BTreeMap (L
       → sum_in sums key.0 key.1 ≡ total_of at.hold.txn.user (iso_number at.hold.txn.currency) hs
   sum_there name i at key e = ap (λ (k : List ℕ × ℕ). sum_in sums k.0 k.1) e ∙ a.summed at.hold.txn.user (iso_number at.hold.txn.currency)
 
-  -- the indexes behind less in the parts
+  -- the indexes after less in the parts
   pub indexed_taken : (new_sums : BTreeMap (List ℕ × ℕ) ℕ) (name : List ℕ) (i : ℕ) (at : IsAt name hs i) (taken : Parts) (k : Hold) (key : List ℕ × ℕ) (sum : ℕ)
       → taken.g ≤ at.hold.g → taken.p ≤ at.hold.p → taken.s ≤ at.hold.s
       → k ≡ record (at.hold) { g = at.hold.g - taken.g; p = at.hold.p - taken.p; s = at.hold.s - taken.s }

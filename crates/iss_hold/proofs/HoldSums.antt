@@ -12,7 +12,7 @@ use Rattle.iss_hold.specs.declared.hold.Hold.{Hold}
 use Rattle.iss_hold.specs.Holdings.{now_of, part_of, with_part, whole_of, part_sums, user_sums, sums_from, holdings_of}
 use Rattle.iss_hold.proofs.KeptChanges.{as_one, comes_last}
 
--- a change may come behind all holds
+-- a change may come after all holds
 sums_last : (f : Hold → List Change) (m : Kept) (d : Change) (hs : List Hold) → sums_from f (after_change m d) hs ≡ after_change (sums_from f m hs) d
 sums_last f m d [] = refl
 sums_last f m d (h ∷ hs) = ap (λ (sums : Kept). sums_from f sums hs) (comes_last m d (f h)) ∙ sums_last f (after_changes m (f h)) d hs

@@ -1,4 +1,4 @@
--- The indexes agree with the holds behind each change.
+-- The indexes agree with the holds after each change.
 use Rattle.std.proofs.Common.{◌≡◌, ℕ, zero, suc, ◌+◌, ◌<◌, ◌^◌, nat_eq, ◌==◌, Bool, true, false, cond, ◌&&◌, ◌||◌, List, [], ◌∷◌, ◌++◌, map, length, set, refl, sym, ap, ap₂, ◌∙◌, subst, arith}
 use Rattle.std.specs.Prelude.{Option, Some, None, IsSome, is_some, slice_get, unwrap_or}
 use Rattle.std.specs.List.{IsDistinct, list_any}
@@ -27,13 +27,13 @@ use Rattle.iss_hold.proofs.Places.{place_more, no_place, has_place}
 use Rattle.iss_hold.proofs.Beginnings.{begun, entries_more}
 use Rattle.iss_hold.proofs.Endings.{ended, expiries_less, expiries_same}
 
--- what was there stays there behind one more
+-- what was there stays there after one more
 there_before : {A : Type 0} (xs : List A) (x : A) (i : ℕ) (y : A) → slice_get xs i ≡ Some y → slice_get (xs ++ x ∷ []) i ≡ Some y
 there_before [] x i y e = cc
 there_before (a ∷ xs) x zero y e = e
 there_before (a ∷ xs) x (suc i) y e = there_before xs x i y e
 
--- what is there behind one more was there, or is it
+-- what is there after one more was there, or is it
 there_or_last : (P : Hold → Type 0) (hs : List Hold) (h : Hold) → ((i : ℕ) (k : Hold) → slice_get hs i ≡ Some k → P k) → P h
     → (i : ℕ) (k : Hold) → slice_get (hs ++ h ∷ []) i ≡ Some k → P k
 there_or_last P [] h all own zero k e = let same : h ≡ k = cc in subst P same own

@@ -14,7 +14,7 @@ use Rattle.iss_model.proofs.KeptSums.{kept_at-after_change}
 same_kept : (m n : Kept) → ((key : List ℕ) → map.get m key ≡ map.get n key) → m ≡ n
 same_kept m n h = map.same_map nat_list_cmp_total (map.slice_cmp-IsAntisymmetric map.nat_cmp-IsAntisymmetric) m n h
 
--- what a map has behind a change
+-- what a map has after a change
 pub get_after : (m : Kept) (c : Change) (key : List ℕ) → map.get (after_change m c) key ≡ cond (bytes_eq c.key key) (Some (kept_at m c.key +ℤ c.by)) (map.get m key)
 get_after m c key =
     map.get-insert nat_list_cmp_total m c.key (kept_at m c.key +ℤ c.by) key

@@ -1,4 +1,4 @@
--- How far the holdings of a test reach behind each call.
+-- How far the holdings of a test reach after each call.
 use Rattle.std.proofs.Common.{◌≡◌, ℕ, ◌+◌, ◌<◌, ◌≤◌, ◌^◌, nat_lt, ◌==◌, ℤ, pos, ◌+ℤ◌, Bool, true, false, cond, ◌&&◌, ◌||◌, List, [], ◌∷◌, ◌++◌, fold, refl, sym, ap, ◌∙◌, subst, arith}
 use Rattle.std.proofs.lemmas.Int.{ints}
 use Rattle.std.proofs.lemmas.Bool.Decides.{nat_tests}
@@ -16,12 +16,12 @@ use Rattle.iss_model.specs.declared.entry.Entry.TheVariants as entry
 use Rattle.iss_model.specs.Sums.{user_key}
 use Rattle.iss_model.specs.state.Kept.{Kept, nothing_kept, kept_at, after_change}
 use Rattle.iss_model.specs.rules.Activity.{TxnNow, txn_named}
-use Rattle.iss_model.specs.rules.Pieces.{held}
+use Rattle.iss_model.specs.rules.Pieces.{hold_entries}
 use Rattle.iss_model.specs.state.Cores.{Holdings, with_hold, with_txn, is_live}
 use Rattle.iss_model.proofs.Names.{its_name}
 use Rattle.iss_model.proofs.KeptSums.{kept_at-after_change}
 use Rattle.iss_model.specs.state.Kept.{AreSmall}
-use Rattle.iss_hold.specs.Entries.{made_of, after_holds}
+use Rattle.iss_hold.specs.Entries.{entries_on, after_holds}
 use Rattle.iss_hold.specs.Bounds.{AreBelow, IsWithin, AreWithin}
 
 below_apart : (a n : ℕ) → nat_lt a n ≡ true → (n == a) ≡ false
@@ -70,7 +70,7 @@ same_txns h [] = refl
 same_txns h (e ∷ es) = same_txns (with_hold h e) es
 
 pub txns_stay : (h : Holdings) (name : List ℕ) (make : Txn → List Entry) → (after_holds h name make).txns ≡ h.txns
-txns_stay h name make = same_txns h (made_of (txn_named name h.txns) make)
+txns_stay h name make = same_txns h (entries_on (txn_named name h.txns) make)
 
 found_last : (name : List ℕ) (ts : List TxnNow) (t : TxnNow) → bytes_eq t.txn.token name ≡ true → is_some (txn_named name (ts ++ t ∷ [])) ≡ true
 found_last name [] t e = ap (λ (b : Bool). is_some (cond b (Some t) None)) e
@@ -104,14 +104,14 @@ held_by : (h : Holdings) (t : Txn) (p : Part) (amount bound : ℕ) (none : Bool)
 held_by h t p amount bound true w = wider h.held bound (bound + amount) (omega arith) w
 held_by h t p amount bound false w = changed_within h.held (user_key t.user t.currency) bound amount w
 
-added_by : (h : Holdings) (o : Option TxnNow) (p : Part) (amount bound : ℕ) → AreWithin bound h.held → AreWithin (bound + amount) (fold with_hold h (made_of o (λ t. held t p amount))).held
+added_by : (h : Holdings) (o : Option TxnNow) (p : Part) (amount bound : ℕ) → AreWithin bound h.held → AreWithin (bound + amount) (fold with_hold h (entries_on o (λ t. hold_entries t p amount))).held
 added_by h None p amount bound w = wider h.held bound (bound + amount) (omega arith) w
 added_by h (Some now) p amount bound w = held_by h now.txn p amount bound (amount == 0) w
 
 pub within_added : (h : Holdings) (name : List ℕ) (p : Part) (amount bound more : ℕ) → bound + amount ≤ more → AreWithin bound h.held
-    → AreWithin more (after_holds h name (λ t. held t p amount)).held
+    → AreWithin more (after_holds h name (λ t. hold_entries t p amount)).held
 within_added h name p amount bound more le w =
-    wider (after_holds h name (λ t. held t p amount)).held (bound + amount) more le (added_by h (txn_named name h.txns) p amount bound w)
+    wider (after_holds h name (λ t. hold_entries t p amount)).held (bound + amount) more le (added_by h (txn_named name h.txns) p amount bound w)
 
 pub within_small : (m : Kept) (bound : ℕ) → bound < 2 ^ 62 → AreWithin bound m → AreSmall m
 within_small m bound b w k = let at = w k in record { low = omega (arith, ints, at.low); high = omega (arith, ints, at.high) }

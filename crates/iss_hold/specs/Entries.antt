@@ -7,7 +7,7 @@ use Rattle.iss_model.specs.Sums.{part_key}
 use Rattle.iss_model.specs.state.Kept.{kept_at}
 use Rattle.iss_model.specs.rules.Activity.{TxnNow, txn_named}
 use Rattle.iss_model.specs.rules.Facts.{not_below}
-use Rattle.iss_model.specs.rules.Pieces.{Parts, let_go}
+use Rattle.iss_model.specs.rules.Pieces.{Parts, unhold_entries}
 use Rattle.iss_model.specs.state.Cores.{Holdings, with_hold}
 
 -- a transaction was started and hasn't ended
@@ -16,13 +16,13 @@ live_now None = false
 live_now (Some now) = now.live
 
 -- the entries that are made of a transaction
-abbrev pub made_of : Option TxnNow → (Txn → List Entry) → List Entry
-made_of None make = []
-made_of (Some now) make = make now.txn
+abbrev pub entries_on : Option TxnNow → (Txn → List Entry) → List Entry
+entries_on None make = []
+entries_on (Some now) make = make now.txn
 
 -- the holdings after the holds that are made of a started transaction
 abbrev pub after_holds : Holdings → List ℕ → (Txn → List Entry) → Holdings
-after_holds h txn make = fold with_hold h (made_of (txn_named txn h.txns) make)
+after_holds h txn make = fold with_hold h (entries_on (txn_named txn h.txns) make)
 
 -- what a transaction holds, by part
 abbrev pub parts_in : Holdings → List ℕ → Parts
@@ -34,9 +34,9 @@ parts_in h txn =
     }
 
 -- a clearing lets these parts go: the gateway's, the programme's, the user's own
-abbrev pub let_go_to_clear : Parts → Txn → List Entry
-let_go_to_clear taken t = let_go t part.G taken.g ++ let_go t part.P taken.p ++ let_go t part.S taken.s
+abbrev pub clearing_unhold_entries : Parts → Txn → List Entry
+clearing_unhold_entries taken t = unhold_entries t part.G taken.g ++ unhold_entries t part.P taken.p ++ unhold_entries t part.S taken.s
 
 -- a release lets these parts go: the programme's, the gateway's, the user's own
-abbrev pub let_go_to_release : Parts → Txn → List Entry
-let_go_to_release taken t = let_go t part.P taken.p ++ let_go t part.G taken.g ++ let_go t part.S taken.s
+abbrev pub release_unhold_entries : Parts → Txn → List Entry
+release_unhold_entries taken t = unhold_entries t part.P taken.p ++ unhold_entries t part.G taken.g ++ unhold_entries t part.S taken.s

@@ -1,12 +1,12 @@
 -- Which transactions expire, and in which order.
 use Rattle.std.specs.Prelude.{ℕ, nat_le, List, [], ◌∷◌, map, filter, fold, if◌then◌else◌}
-use Rattle.iss_model.specs.rules.Due.{DueItem, txn_due, due_txn, is_before, placed}
+use Rattle.iss_model.specs.rules.Due.{DueItem, txn_due, due_txn, is_before, items_with}
 use Rattle.iss_model.specs.state.Cores.{Holdings}
 use Rattle.iss_hold.specs.declared.hold.Hold.{Hold}
 
 -- the live transactions whose expiry has come, by expiry and the number of the authorisation's record
 abbrev pub txns_due : Holdings → ℕ → List DueItem
-txns_due h now = fold placed [] (filter (λ item. nat_le item.since now) (map due_txn (filter (λ t. t.live) h.txns)))
+txns_due h now = fold items_with [] (filter (λ item. nat_le item.since now) (map due_txn (filter (λ t. t.live) h.txns)))
 
 -- a transaction's expiry and its authorisation's record, with its token
 abbrev pub Expiry : Type 0

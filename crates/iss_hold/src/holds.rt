@@ -6,10 +6,10 @@ ghost use Rattle.iss_model.specs.Sums.{part_key, user_key};
 ghost use Rattle.iss_model.specs.state.Kept.{nothing_kept, kept_at};
 ghost use Rattle.iss_model.specs.rules.Activity.{txn_named};
 ghost use Rattle.iss_model.specs.rules.Due.{txn_due};
-ghost use Rattle.iss_model.specs.rules.Pieces.{held, in_all, taken_to_clear, taken_to_release};
+ghost use Rattle.iss_model.specs.rules.Pieces.{hold_entries, in_all, taken_to_clear, taken_to_release};
 ghost use Rattle.iss_model.specs.state.Cores.{with_txn, with_end};
 ghost use Rattle.iss_model.specs.state.Kept.{AreSmall};
-ghost use Rattle.iss_hold.specs.Entries.{live_now, after_holds, parts_in, let_go_to_clear, let_go_to_release};
+ghost use Rattle.iss_hold.specs.Entries.{live_now, after_holds, parts_in, clearing_unhold_entries, release_unhold_entries};
 ghost use Rattle.iss_hold.specs.Expiries.{txns_due};
 
 use crate::hold::{Hold, Taken};
@@ -79,7 +79,7 @@ impl Holds {
         }
     }
 
-    /// Begins a transaction, which holds nothing yet. The later calls on it take no memory. Where memory is wanted
+    /// Begins a transaction, which holds nothing yet. The later calls on it take no memory. Where an allocation fails
     /// all stays as it was.
     pub fn start(&mut self, txn: &Txn) -> Result<(), AllocError>
         requires unknown { txn_named txn.now.token self.old.txns ≡ None }
@@ -97,8 +97,8 @@ impl Holds {
     /// Holds more in a part of a transaction.
     pub fn add(&mut self, txn: &Token, part: Part, amount: u64)
         requires started { IsSome (txn_named txn.now self.old.txns) }
-        requires small { AreSmall (after_holds self.old txn.now (λ t. held t part amount)).held }
-        ensures { self.new ≡ after_holds self.old txn.now (λ t. held t part amount) }
+        requires small { AreSmall (after_holds self.old txn.now (λ t. hold_entries t part amount)).held }
+        ensures { self.new ≡ after_holds self.old txn.now (λ t. hold_entries t part amount) }
     {
         let place = place_of(&self.places, txn);
         let before = self.holds[place];
@@ -112,7 +112,7 @@ impl Holds {
     /// user's own.
     pub fn take_clear(&mut self, txn: &Token, amount: u64) -> Taken
         requires { IsSome (txn_named txn.now self.old.txns) }
-        ensures holdings { self.new ≡ after_holds self.old txn.now (let_go_to_clear (taken_to_clear (parts_in self.old txn.now) amount)) }
+        ensures holdings { self.new ≡ after_holds self.old txn.now (clearing_unhold_entries (taken_to_clear (parts_in self.old txn.now) amount)) }
         ensures taken { let taken = taken_to_clear (parts_in self.old txn.now) amount in
             result ≡ record { g = taken.g; p = taken.p; s = taken.s; rest = amount - in_all taken } }
     {
@@ -130,7 +130,7 @@ impl Holds {
     /// user's own.
     pub fn take_release(&mut self, txn: &Token, amount: u64) -> Taken
         requires { IsSome (txn_named txn.now self.old.txns) }
-        ensures holdings { self.new ≡ after_holds self.old txn.now (let_go_to_release (taken_to_release (parts_in self.old txn.now) amount)) }
+        ensures holdings { self.new ≡ after_holds self.old txn.now (release_unhold_entries (taken_to_release (parts_in self.old txn.now) amount)) }
         ensures taken { let taken = taken_to_release (parts_in self.old txn.now) amount in
             result ≡ record { g = taken.g; p = taken.p; s = taken.s; rest = amount - in_all taken } }
     {

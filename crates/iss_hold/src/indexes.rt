@@ -59,7 +59,7 @@ pub(crate) fn begin_sum(
     Ok(())
 }
 
-/// Enters a transaction's place and its expiry, or neither where memory is wanted.
+/// Enters a transaction's place and its expiry, or neither where an allocation fails.
 pub(crate) fn enter(
     places: &mut BTreeMap<Token, usize>,
     order: &mut BTreeMap<(u64, u32), Token>,

@@ -2,7 +2,7 @@
 use Rattle.std.proofs.Common.{◌≡◌, ℕ, zero, suc, ◌+◌, ◌<◌, ◌≤◌, List, [], ◌∷◌, ◌++◌, length, take, drop, Option, inl, inr, refl, sym, ap, subst, append-nil, arith}
 use Rattle.iss_edge.specs.declared.outside.Action.{Action}
 use Rattle.iss_edge.specs.World.{World, Told}
-use Rattle.iss_edge.specs.Disk.{spliced}
+use Rattle.iss_edge.specs.Disk.{splice}
 use Rattle.iss_edge.specs.Puts.{one_put, after_puts, Ran, Puts, PutsPart, Holds}
 use Rattle.iss_edge.specs.Stretches.{StandsUpTo, GoesOn}
 use Rattle.iss_edge.proofs.Tolds.{told_map, told_then, told_self}
@@ -10,15 +10,15 @@ use Rattle.iss_edge.proofs.PutLemmas.{puts_then, part_more, part_then, part_all}
 use Rattle.iss_edge.proofs.PutStretches.{puts_good, puts_go_on}
 use Rattle.iss_edge.proofs.StretchLemmas.{none_goes_on, good_up}
 use Rattle.iss_journal.specs.Place.{Place, free_at}
-use Rattle.iss_journal.specs.Region.{Region, behind, EndsWith, ShowsClosed, ShowsFirmly, RestsFirst, StandsFirst}
+use Rattle.iss_journal.specs.Region.{Region, append_bytes, EndsWith, ShowsClosed, ShowsFirmly, RestsFirst, StandsFirst}
 use Rattle.iss_journal.specs.Append.{ComesNext, append_puts, AppendsGood, AppendsGoing}
 use Rattle.iss_journal.proofs.Gates.{splice_behind, splice_gate, gate_open, gate_shut, one_byte}
 
 module _ (region : Region) (bodies : List (List ℕ)) (j : ℕ) (body : List ℕ) (place : Place) (comes : ComesNext region bodies j body place) where
-  -- the record stands whole behind its gate: it is shown, or left behind, or the gate is closed
-  gate_moment : (gate : ℕ) (rest image : List ℕ) → place.gate + length (behind body) < place.to → EndsWith region (take j bodies) gate (behind body ++ rest) image → StandsUpTo (StandsFirst region bodies) j (j + 1) image
+  -- the record stands whole after its gate: it is shown, or left behind, or the gate is closed
+  gate_moment : (gate : ℕ) (rest image : List ℕ) → place.gate + length (append_bytes body) < place.to → EndsWith region (take j bodies) gate (append_bytes body ++ rest) image → StandsUpTo (StandsFirst region bodies) j (j + 1) image
   gate_moment zero rest image room ends =
-      record { i = j; low = omega arith; high = omega arith; stand = inl (record { rest = behind body ++ rest; ends = ends }) }
+      record { i = j; low = omega arith; high = omega arith; stand = inl (record { rest = append_bytes body ++ rest; ends = ends }) }
   gate_moment (suc zero) rest image room ends =
       record {
         i = j + 1;
@@ -46,51 +46,51 @@ module _ (region : Region) (bodies : List (List ℕ)) (j : ℕ) (body : List ℕ
       record { i = j; low = omega arith; high = omega arith; stand = inl closed }
 
   -- at each moment of the two puts
-  append_holds : (image : List ℕ) → place.gate + length (behind body) < place.to → ShowsClosed region (take j bodies) image → Holds (λ n image. StandsUpTo (StandsFirst region bodies) j (j + 1) image) 0 image (append_puts place.gate (behind body))
+  append_holds : (image : List ℕ) → place.gate + length (append_bytes body) < place.to → ShowsClosed region (take j bodies) image → Holds (λ n image. StandsUpTo (StandsFirst region bodies) j (j + 1) image) 0 image (append_puts place.gate (append_bytes body))
   unfolding append_puts
   append_holds image room closed =
-      let frame = behind body in
+      let frame = append_bytes body in
       let rest = closed.rest in
       let fits : place.gate + 1 + length frame ≤ region.to = omega (arith, room, comes.to) in
       let within : place.gate + 1 + length frame ≤ length image = omega (arith, fits, closed.ends.whole, closed.ends.inside) in
-      let staged : EndsWith region (take j bodies) 0 (frame ++ drop (length frame) rest) (spliced (place.gate + 1) frame image) = splice_behind region (take j bodies) place.gate frame rest image comes.here fits closed.ends in
-      let opened : (gate : ℕ) → StandsUpTo (StandsFirst region bodies) j (j + 1) (spliced place.gate (gate ∷ []) (spliced (place.gate + 1) frame image)) =
-      λ gate. gate_moment gate (drop (length frame) rest) (spliced place.gate (gate ∷ []) (spliced (place.gate + 1) frame image)) room (splice_gate region (take j bodies) place.gate 0 gate (frame ++ drop (length frame) rest) (spliced (place.gate + 1) frame image) comes.here staged) in (
+      let staged : EndsWith region (take j bodies) 0 (frame ++ drop (length frame) rest) (splice (place.gate + 1) frame image) = splice_behind region (take j bodies) place.gate frame rest image comes.here fits closed.ends in
+      let opened : (gate : ℕ) → StandsUpTo (StandsFirst region bodies) j (j + 1) (splice place.gate (gate ∷ []) (splice (place.gate + 1) frame image)) =
+      λ gate. gate_moment gate (drop (length frame) rest) (splice place.gate (gate ∷ []) (splice (place.gate + 1) frame image)) room (splice_gate region (take j bodies) place.gate 0 gate (frame ++ drop (length frame) rest) (splice (place.gate + 1) frame image) comes.here staged) in (
         within,
         stands_still image closed,
         λ torn whole.
-            stands_still (spliced (place.gate + 1) torn image) (record {
+            stands_still (splice (place.gate + 1) torn image) (record {
               rest = torn ++ drop (length torn) rest;
               ends = splice_behind region (take j bodies) place.gate torn rest image comes.here (omega (arith, fits, whole)) closed.ends;
             }),
         (
           omega (arith, room, comes.to, staged.whole, staged.inside),
-          stands_still (spliced (place.gate + 1) frame image) (record { rest = frame ++ drop (length frame) rest; ends = staged }),
+          stands_still (splice (place.gate + 1) frame image) (record { rest = frame ++ drop (length frame) rest; ends = staged }),
           λ torn whole.
               let byte = one_byte torn whole in
-              subst (λ (l : List ℕ). StandsUpTo (StandsFirst region bodies) j (j + 1) (spliced place.gate l (spliced (place.gate + 1) frame image))) (sym byte.1) (opened byte.0),
+              subst (λ (l : List ℕ). StandsUpTo (StandsFirst region bodies) j (j + 1) (splice place.gate l (splice (place.gate + 1) frame image))) (sym byte.1) (opened byte.0),
           opened 1,
         ),
       )
 
   -- and after them
-  append_ends : (image : List ℕ) → place.gate + length (behind body) < place.to → ShowsClosed region (take j bodies) image → RestsFirst region bodies (after_puts image (append_puts place.gate (behind body))) (j + 1)
+  append_ends : (image : List ℕ) → place.gate + length (append_bytes body) < place.to → ShowsClosed region (take j bodies) image → RestsFirst region bodies (after_puts image (append_puts place.gate (append_bytes body))) (j + 1)
   unfolding append_puts
   append_ends image room closed =
-      let frame = behind body in
+      let frame = append_bytes body in
       let rest = closed.rest in
       let fits : place.gate + 1 + length frame ≤ region.to = omega (arith, room, comes.to) in
-      let staged : EndsWith region (take j bodies) 0 (frame ++ drop (length frame) rest) (spliced (place.gate + 1) frame image) = splice_behind region (take j bodies) place.gate frame rest image comes.here fits closed.ends in
-      let opened : EndsWith region (take j bodies) 1 (frame ++ drop (length frame) rest) (spliced place.gate (1 ∷ []) (spliced (place.gate + 1) frame image)) = splice_gate region (take j bodies) place.gate 0 1 (frame ++ drop (length frame) rest) (spliced (place.gate + 1) frame image) comes.here staged in
-      subst (λ (l : List (List ℕ)). ShowsClosed region l (spliced place.gate (1 ∷ []) (spliced (place.gate + 1) frame image))) (sym comes.next) (record {
+      let staged : EndsWith region (take j bodies) 0 (frame ++ drop (length frame) rest) (splice (place.gate + 1) frame image) = splice_behind region (take j bodies) place.gate frame rest image comes.here fits closed.ends in
+      let opened : EndsWith region (take j bodies) 1 (frame ++ drop (length frame) rest) (splice place.gate (1 ∷ []) (splice (place.gate + 1) frame image)) = splice_gate region (take j bodies) place.gate 0 1 (frame ++ drop (length frame) rest) (splice (place.gate + 1) frame image) comes.here staged in
+      subst (λ (l : List (List ℕ)). ShowsClosed region l (splice place.gate (1 ∷ []) (splice (place.gate + 1) frame image))) (sym comes.next) (record {
         rest = drop (length frame) rest;
-        ends = gate_open region (take j bodies) body (drop (length frame) rest) (spliced place.gate (1 ∷ []) (spliced (place.gate + 1) frame image)) comes.is_body (omega (arith, room, comes.here, comes.to)) opened;
+        ends = gate_open region (take j bodies) body (drop (length frame) rest) (splice place.gate (1 ∷ []) (splice (place.gate + 1) frame image)) comes.is_body (omega (arith, room, comes.here, comes.to)) opened;
       })
 
 -- a frame that fits ends within the region
-fitting : (place : Place) (frame body : List ℕ) → place.gate < place.to → length frame ≤ free_at place → frame ≡ behind body → place.gate + length (behind body) < place.to
+fitting : (place : Place) (frame body : List ℕ) → place.gate < place.to → length frame ≤ free_at place → frame ≡ append_bytes body → place.gate + length (append_bytes body) < place.to
 fitting place frame body within fits is =
-    let same : length frame ≡ length (behind body) = ap length is in
+    let same : length frame ≡ length (append_bytes body) = ap length is in
     omega (arith, within, fits, same)
 
 -- the two puts made in part

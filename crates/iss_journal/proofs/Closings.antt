@@ -4,7 +4,7 @@ use Rattle.std.proofs.lemmas.List.{get_or_at, set_split, set-set}
 use Rattle.iss_edge.specs.declared.outside.Action.{Action}
 use Rattle.iss_edge.specs.World.{World, Told}
 use Rattle.iss_edge.specs.Calls.{Same}
-use Rattle.iss_edge.specs.Disk.{after_actions, spliced}
+use Rattle.iss_edge.specs.Disk.{after_actions, splice}
 use Rattle.iss_edge.specs.Puts.{one_put, actions_of_puts, Ran, Puts, PutsPart, Holds}
 use Rattle.iss_edge.specs.Stretches.{Step, actions_of, StandsUpTo, GoesOn}
 use Rattle.iss_edge.proofs.Tolds.{told_map, told_then}
@@ -12,18 +12,18 @@ use Rattle.iss_edge.proofs.PutLemmas.{part_all}
 use Rattle.iss_edge.proofs.PutStretches.{puts_good, puts_go_on}
 use Rattle.iss_edge.proofs.StretchLemmas.{none_goes_on}
 use Rattle.iss_journal.specs.Place.{Place}
-use Rattle.iss_journal.specs.Region.{Region, front_of, EndsWith, Shows, ShowsClosed, LeavesBehind, ShowsFirmly, RestsFirst}
+use Rattle.iss_journal.specs.Region.{Region, bytes_before_gate, EndsWith, Shows, ShowsClosed, LeavesBehind, ShowsFirmly, RestsFirst}
 use Rattle.iss_journal.specs.Opening.{ReadsGate, OpensFirst, OpenedOrOneMore, IsEndGate, ClosesGood, ClosesGoing}
 use Rattle.iss_journal.proofs.Gates.{splice_gate, one_byte}
 
 -- the byte at the end gate
-gate_byte : (region : Region) (bodies : List (List ℕ)) (gate : ℕ) (rest image : List ℕ) → EndsWith region bodies gate rest image → get_or image (length (front_of region bodies)) 0 ≡ gate
+gate_byte : (region : Region) (bodies : List (List ℕ)) (gate : ℕ) (rest image : List ℕ) → EndsWith region bodies gate rest image → get_or image (length (bytes_before_gate region bodies)) 0 ≡ gate
 gate_byte region bodies gate rest image ends =
-    ap (λ (l : List ℕ). get_or l (length (front_of region bodies)) 0) ends.is
-    ∙ get_or_at (front_of region bodies) gate rest 0 (length (front_of region bodies)) refl
+    ap (λ (l : List ℕ). get_or l (length (bytes_before_gate region bodies)) 0) ends.is
+    ∙ get_or_at (bytes_before_gate region bodies) gate rest 0 (length (bytes_before_gate region bodies)) refl
 
 -- records whose end gate is 0 are shown with an end gate of 0
-closed_by_byte : (region : Region) (bodies : List (List ℕ)) (image : List ℕ) → get_or image (length (front_of region bodies)) 0 ≡ 0 → Shows region bodies image → ShowsClosed region bodies image
+closed_by_byte : (region : Region) (bodies : List (List ℕ)) (image : List ℕ) → get_or image (length (bytes_before_gate region bodies)) 0 ≡ 0 → Shows region bodies image → ShowsClosed region bodies image
 closed_by_byte region bodies image none shows =
     let same : shows.gate ≡ 0 = sym (gate_byte region bodies shows.gate shows.rest image shows.ends) ∙ none in
     record { rest = shows.rest; ends = subst (λ (g : ℕ). EndsWith region bodies g shows.rest image) same shows.ends }
@@ -38,14 +38,14 @@ shows_firm region bodies image firm =
     elim firm [ inl closed ↦ shows_closed region bodies image closed | inr left ↦ left.1.shows ]
 
 -- one byte over another is a byte set
-spliced_one : (at byte : ℕ) (bytes : List ℕ) → at < length bytes → spliced at (byte ∷ []) bytes ≡ set bytes at byte
+spliced_one : (at byte : ℕ) (bytes : List ℕ) → at < length bytes → splice at (byte ∷ []) bytes ≡ set bytes at byte
 spliced_one at byte bytes lt =
     append_assoc (take at bytes) (byte ∷ []) (drop (at + 1) bytes)
     ∙ ap (λ (n : ℕ). take at bytes ++ byte ∷ drop n bytes) (add-one at)
     ∙ sym (set_split bytes at byte lt)
 
 module _ (region : Region) (bodies : List (List ℕ)) (j : ℕ) (place : Place) (is_end : IsEndGate region (take j bodies) place) (start : List ℕ) where
-  here_is : place.gate ≡ length (front_of region (take j bodies))
+  here_is : place.gate ≡ length (bytes_before_gate region (take j bodies))
   here_is = sym is_end.here
 
   within_image : (image : List ℕ) → Shows region (take j bodies) image → place.gate < length image
@@ -55,22 +55,22 @@ module _ (region : Region) (bodies : List (List ℕ)) (j : ℕ) (place : Place) 
   stands_at image stand = record { i = j; low = omega arith; high = omega arith; stand = stand }
 
   -- the end gate before a record left behind, with any byte in its place
-  torn_gate : (body : List ℕ) (byte : ℕ) (image : List ℕ) → LeavesBehind region (take j bodies) body start → LeavesBehind region (take j bodies) body image → OpenedOrOneMore region bodies start (spliced place.gate (byte ∷ []) image) j
+  torn_gate : (body : List ℕ) (byte : ℕ) (image : List ℕ) → LeavesBehind region (take j bodies) body start → LeavesBehind region (take j bodies) body image → OpenedOrOneMore region bodies start (splice place.gate (byte ∷ []) image) j
   torn_gate body zero image at_start left =
       inl (inl (record {
         rest = left.shows.rest;
         ends = splice_gate region (take j bodies) place.gate left.shows.gate 0 left.shows.rest image is_end.here left.shows.ends;
       }))
   torn_gate body (suc zero) image at_start left =
-      let set_is : set image (length (front_of region (take j bodies))) 1 ≡ spliced place.gate (1 ∷ []) image =
+      let set_is : set image (length (bytes_before_gate region (take j bodies))) 1 ≡ splice place.gate (1 ∷ []) image =
       ap (λ (n : ℕ). set image n 1) is_end.here ∙ sym (spliced_one place.gate 1 image (within_image image left.shows)) in
       inr (body, at_start, subst (λ (l : List ℕ). ShowsClosed region (take j bodies ++ body ∷ []) l) set_is left.opened)
   torn_gate body (suc (suc byte)) image at_start left =
-      let now = spliced place.gate (suc (suc byte) ∷ []) image in
-      let front = front_of region (take j bodies) in
-      let set_is : set image (length front) 1 ≡ set now (length front) 1 =
-      sym (set-set image (length front) (suc (suc byte)) 1)
-      ∙ ap (λ (l : List ℕ). set l (length front) 1) (ap (λ (n : ℕ). set image n (suc (suc byte))) is_end.here ∙ sym (spliced_one place.gate (suc (suc byte)) image (within_image image left.shows))) in
+      let now = splice place.gate (suc (suc byte) ∷ []) image in
+      let prefix = bytes_before_gate region (take j bodies) in
+      let set_is : set image (length prefix) 1 ≡ set now (length prefix) 1 =
+      sym (set-set image (length prefix) (suc (suc byte)) 1)
+      ∙ ap (λ (l : List ℕ). set l (length prefix) 1) (ap (λ (n : ℕ). set image n (suc (suc byte))) is_end.here ∙ sym (spliced_one place.gate (suc (suc byte)) image (within_image image left.shows))) in
       inl
       (inr (
         body,
@@ -93,7 +93,7 @@ module _ (region : Region) (bodies : List (List ℕ)) (j : ℕ) (place : Place) 
         | inr left ↦ left
       ]
 
-  closed_now : (image : List ℕ) → Shows region (take j bodies) image → ShowsClosed region (take j bodies) (spliced place.gate (0 ∷ []) image)
+  closed_now : (image : List ℕ) → Shows region (take j bodies) image → ShowsClosed region (take j bodies) (splice place.gate (0 ∷ []) image)
   closed_now image shows =
       record {
         rest = shows.rest;
@@ -111,8 +111,8 @@ module _ (region : Region) (bodies : List (List ℕ)) (j : ℕ) (place : Place) 
         stands_at image (inl opens.firm),
         λ torn one.
             let byte = one_byte torn one in
-            stands_at (spliced place.gate torn image) (subst (λ (l : List ℕ). OpenedOrOneMore region bodies start (spliced place.gate l image) j) (sym byte.1) (torn_gate left.0 byte.0 image at_start left.1)),
-        stands_at (spliced place.gate (0 ∷ []) image) (inl (inl (closed_now image shows))),
+            stands_at (splice place.gate torn image) (subst (λ (l : List ℕ). OpenedOrOneMore region bodies start (splice place.gate l image) j) (sym byte.1) (torn_gate left.0 byte.0 image at_start left.1)),
+        stands_at (splice place.gate (0 ∷ []) image) (inl (inl (closed_now image shows))),
       )
 
   -- where the end gate is 0 already
@@ -181,7 +181,7 @@ close_wholly place gate a b c other read made =
           puts_go_on (OpensFirst region bodies a.device) (OpenedOrOneMore region bodies a.device) (RestsFirst region bodies) j j (one_put place.gate (0 ∷ [])) steps (close_holds region bodies j place is_end a.device (λ none. other (sym read.there ∙ none))) (λ bytes opens.
           closed_now region bodies j place is_end a.device bytes (shows_firm region (take j bodies) bytes opens.firm)) all;
       closed = λ region bodies is_end shows.
-          subst (λ (l : List ℕ). ShowsClosed region bodies l) (sym (made.device ∙ ap (λ (l : List ℕ). spliced place.gate (0 ∷ []) l) read.same.device)) (record {
+          subst (λ (l : List ℕ). ShowsClosed region bodies l) (sym (made.device ∙ ap (λ (l : List ℕ). splice place.gate (0 ∷ []) l) read.same.device)) (record {
             rest = shows.rest;
             ends = splice_gate region bodies place.gate shows.gate 0 shows.rest a.device is_end.here shows.ends;
           });

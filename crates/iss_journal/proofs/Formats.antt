@@ -6,7 +6,7 @@ use Rattle.std.proofs.lemmas.List.{take_at}
 use Rattle.iss_edge.specs.declared.outside.Action.{Action}
 use Rattle.iss_edge.specs.World.{World, Told}
 use Rattle.iss_edge.specs.Calls.{Reads}
-use Rattle.iss_edge.specs.Disk.{after_actions, spliced}
+use Rattle.iss_edge.specs.Disk.{after_actions, splice}
 use Rattle.iss_edge.specs.Puts.{one_put, after_puts, actions_of_puts, Ran, Puts, PutsPart, Holds}
 use Rattle.iss_edge.proofs.Tolds.{told_map, told_then}
 use Rattle.iss_edge.proofs.Images.{rest_image}
@@ -40,11 +40,11 @@ headed : (instance : ℕ) (rest : List ℕ) → 1 ∷ (tail_of instance ++ rest)
 unfolding header tail_of
 headed instance rest = refl
 
--- a byte over the first one, and bytes behind it
-over_first : (byte : ℕ) (bytes : List ℕ) → spliced 0 (byte ∷ []) bytes ≡ byte ∷ drop 1 bytes
+-- a byte over the first one, and bytes after it
+over_first : (byte : ℕ) (bytes : List ℕ) → splice 0 (byte ∷ []) bytes ≡ byte ∷ drop 1 bytes
 over_first byte bytes = refl
 
-over_rest : (first : ℕ) (new rest : List ℕ) → spliced 1 new (first ∷ rest) ≡ first ∷ (new ++ drop (length new) rest)
+over_rest : (first : ℕ) (new rest : List ℕ) → splice 1 new (first ∷ rest) ≡ first ∷ (new ++ drop (length new) rest)
 over_rest first new rest =
     let next : 1 + length new ≡ suc (length new) = omega arith in
     ap (λ (n : ℕ). first ∷ (new ++ drop n (first ∷ rest))) next
@@ -67,7 +67,7 @@ length-headed : (byte : ℕ) (instance : ℕ) (start : List ℕ) → 17 ≤ leng
 length-headed byte instance start least =
     omega (arith, least, length-append (tail_of instance) (drop 16 (drop 1 start)), length-tail instance, length-drop 16 (drop 1 start), length-drop 1 start)
 
--- with this byte in the first place, behind it the tail
+-- with this byte in the first place, after it the tail
 first_gate : (instance : ℕ) (start : List ℕ) (syncs byte : ℕ) (image : List ℕ) → 17 ≤ length start → image ≡ byte ∷ (tail_of instance ++ drop 16 (drop 1 start)) → FormatLeaves instance start (suc syncs) image
 first_gate instance start syncs zero image least is =
     inl (unformatted zero (tail_of instance ++ drop 16 (drop 1 start)) image is (λ one. omega (arith, one)))
@@ -76,16 +76,16 @@ first_gate instance start syncs (suc zero) image least is =
 first_gate instance start syncs (suc (suc byte)) image least is =
     inl (unformatted (suc (suc byte)) (tail_of instance ++ drop 16 (drop 1 start)) image is (λ one. omega (arith, one)))
 
--- the bytes once the tail stands behind a closed first byte
+-- the bytes once the tail stands after a closed first byte
 abbrev closed_first : ℕ → List ℕ → List ℕ
-closed_first instance start = spliced 1 (tail_of instance) (spliced 0 (0 ∷ []) start)
+closed_first instance start = splice 1 (tail_of instance) (splice 0 (0 ∷ []) start)
 
 closed_first_is : (instance : ℕ) (start : List ℕ) → closed_first instance start ≡ 0 ∷ (tail_of instance ++ drop 16 (drop 1 start))
 closed_first_is instance start =
     over_rest 0 (tail_of instance) (drop 1 start)
     ∙ ap (λ (n : ℕ). 0 ∷ (tail_of instance ++ drop n (drop 1 start))) (length-tail instance)
 
-gate_over : (instance : ℕ) (start : List ℕ) (byte : ℕ) → spliced 0 (byte ∷ []) (closed_first instance start) ≡ byte ∷ (tail_of instance ++ drop 16 (drop 1 start))
+gate_over : (instance : ℕ) (start : List ℕ) (byte : ℕ) → splice 0 (byte ∷ []) (closed_first instance start) ≡ byte ∷ (tail_of instance ++ drop 16 (drop 1 start))
 gate_over instance start byte =
     over_first byte (closed_first instance start)
     ∙ ap (λ (l : List ℕ). byte ∷ drop 1 l) (closed_first_is instance start)
@@ -94,25 +94,25 @@ gate_over instance start byte =
 pub format_holds : (instance : ℕ) (start : List ℕ) → 17 ≤ length start → Holds (FormatLeaves instance start) 0 start (format_puts instance)
 unfolding format_puts
 format_holds instance start least =
-    let first : length (spliced 0 (0 ∷ []) start) ≡ length start = omega (arith, least, length-drop 1 start) in
+    let first : length (splice 0 (0 ∷ []) start) ≡ length start = omega (arith, least, length-drop 1 start) in
     let whole : length (closed_first instance start) ≡ length start = ap length (closed_first_is instance start) ∙ length-headed 0 instance start least in (
       omega (arith, least),
       refl,
       λ torn one.
           let byte = one_byte torn one in
-          ap (λ (l : List ℕ). drop 1 (spliced 0 l start)) byte.1,
+          ap (λ (l : List ℕ). drop 1 (splice 0 l start)) byte.1,
       (
         omega (arith, least, first, length-tail instance),
-        inl (unformatted 0 (drop 1 start) (spliced 0 (0 ∷ []) start) (over_first 0 start) (λ one. omega (arith, one))),
+        inl (unformatted 0 (drop 1 start) (splice 0 (0 ∷ []) start) (over_first 0 start) (λ one. omega (arith, one))),
         λ torn size.
-            inl (unformatted 0 (torn ++ drop (length torn) (drop 1 start)) (spliced 1 torn (spliced 0 (0 ∷ []) start)) (over_rest 0 torn (drop 1 start)) (λ one. omega (arith, one))),
+            inl (unformatted 0 (torn ++ drop (length torn) (drop 1 start)) (splice 1 torn (splice 0 (0 ∷ []) start)) (over_rest 0 torn (drop 1 start)) (λ one. omega (arith, one))),
         (
           omega (arith, least, whole),
           first_gate instance start 1 0 (closed_first instance start) least (closed_first_is instance start),
           λ torn one.
               let byte = one_byte torn one in
-              subst (λ (l : List ℕ). FormatLeaves instance start 2 (spliced 0 l (closed_first instance start))) (sym byte.1) (first_gate instance start 1 byte.0 (spliced 0 (byte.0 ∷ []) (closed_first instance start)) least (gate_over instance start byte.0)),
-          first_gate instance start 2 1 (spliced 0 (1 ∷ []) (closed_first instance start)) least (gate_over instance start 1),
+              subst (λ (l : List ℕ). FormatLeaves instance start 2 (splice 0 l (closed_first instance start))) (sym byte.1) (first_gate instance start 1 byte.0 (splice 0 (byte.0 ∷ []) (closed_first instance start)) least (gate_over instance start byte.0)),
+          first_gate instance start 2 1 (splice 0 (1 ∷ []) (closed_first instance start)) least (gate_over instance start 1),
         ),
       ),
     )

@@ -4,14 +4,14 @@ use Rattle.std.specs.Int.{w32, to_be_bytes, from_be_bytes}
 use Rattle.std.proofs.lemmas.List.{append_cancel_left, take-append-drop, take_at, drop_at, drop_more, get_or-drop}
 use Rattle.std.proofs.lemmas.Nat.{from_be_bytes-to_be_bytes_4}
 use Rattle.iss_journal.specs.Place.{Place}
-use Rattle.iss_journal.specs.Region.{Region, IsBody, AreBodies, spelled, behind, need_of, framed, front_of, EndsWith, Shows}
+use Rattle.iss_journal.specs.Region.{Region, IsBody, AreBodies, with_length, append_bytes, need_of, frames, bytes_before_gate, EndsWith, Shows}
 use Rattle.iss_journal.specs.Opening.{RecordAt, WrongLength, BadAt, IsEndGate}
 use Rattle.iss_journal.specs.Reading.{ReadUpTo, BeginsToRead, ReadsOn, ReadsToTheEnd, BadShowsNothing}
 use Rattle.iss_journal.proofs.Records.{front-push, are_bodies-push, length-spelled, SameSpelled, same_spelled}
 
 pub begins_to_read : BeginsToRead
 begins_to_read region device whole inside within here =
-    let nil : front_of region [] ≡ region.below = append-nil region.below in
+    let nil : bytes_before_gate region [] ≡ region.below = append-nil region.below in
     record {
       whole = whole;
       inside = inside;
@@ -25,10 +25,10 @@ begins_to_read region device whole inside within here =
 
 pub reads_on : ReadsOn
 reads_on region bodies body place device read found =
-    let front = front_of region bodies in
+    let prefix = bytes_before_gate region bodies in
     let rest = drop (place.gate + need_of body) device in
-    let longer : length (front_of region (bodies ++ body ∷ [])) ≡ place.gate + need_of body =
-    omega (arith, ap length (front-push region bodies body), length-append front (1 ∷ spelled body), length-spelled body, read.end_gate.here) in
+    let longer : length (bytes_before_gate region (bodies ++ body ∷ [])) ≡ place.gate + need_of body =
+    omega (arith, ap length (front-push region bodies body), length-append prefix (1 ∷ with_length body), length-spelled body, read.end_gate.here) in
     record {
       whole = read.whole;
       inside = read.inside;
@@ -37,16 +37,16 @@ reads_on region bodies body place device read found =
       within = found.room;
       is =
           read.is
-          ∙ ap (λ (l : List ℕ). front ++ l) found.there
-          ∙ sym (append_assoc front (1 ∷ spelled body) rest)
+          ∙ ap (λ (l : List ℕ). prefix ++ l) found.there
+          ∙ sym (append_assoc prefix (1 ∷ with_length body) rest)
           ∙ ap (λ (l : List ℕ). l ++ rest) (sym (front-push region bodies body));
     }
 
 -- the gate, and what follows it
-gate_and_rest : (region : Region) (bodies : List (List ℕ)) (place : Place) (device : List ℕ) → ReadUpTo region bodies place device → device ≡ front_of region bodies ++ get_or device place.gate 0 ∷ drop (place.gate + 1) device
+gate_and_rest : (region : Region) (bodies : List (List ℕ)) (place : Place) (device : List ℕ) → ReadUpTo region bodies place device → device ≡ bytes_before_gate region bodies ++ get_or device place.gate 0 ∷ drop (place.gate + 1) device
 gate_and_rest region bodies place device read =
     let here : place.gate < length device = omega (arith, read.within, read.inside, read.whole, read.end_gate.to) in
-    read.is ∙ ap (λ (l : List ℕ). front_of region bodies ++ l) (drop_more device place.gate 0 here)
+    read.is ∙ ap (λ (l : List ℕ). bytes_before_gate region bodies ++ l) (drop_more device place.gate 0 here)
 
 pub reads_to_the_end : ReadsToTheEnd
 reads_to_the_end region bodies place device read shut =
@@ -63,26 +63,26 @@ reads_to_the_end region bodies place device read shut =
       };
     }
 
--- what is left of a list of records behind those that it begins with
+-- what is left of a list of records after those that it begins with
 record NextOf (bodies others : List (List ℕ)) (gate : ℕ) (rest tail : List ℕ) : Type 0 where
   left : List (List ℕ)
   sound : AreBodies left
-  size : length (framed others) ≡ length (framed bodies) + length (framed left)
-  is : tail ≡ framed left ++ gate ∷ rest
+  size : length (frames others) ≡ length (frames bodies) + length (frames left)
+  is : tail ≡ frames left ++ gate ∷ rest
 
-length-framed : (body : List ℕ) (bodies : List (List ℕ)) → length (framed (body ∷ bodies)) ≡ need_of body + length (framed bodies)
-length-framed body bodies = omega (arith, length-append (spelled body) (framed bodies), length-spelled body)
+length-framed : (body : List ℕ) (bodies : List (List ℕ)) → length (frames (body ∷ bodies)) ≡ need_of body + length (frames bodies)
+length-framed body bodies = omega (arith, length-append (with_length body) (frames bodies), length-spelled body)
 
 -- records that stand before an open gate are the first of each list that the device shows
-first_of : (bodies others : List (List ℕ)) (gate : ℕ) (rest tail : List ℕ) → AreBodies bodies → AreBodies others → (gate ≡ 1 → ⊥) → framed bodies ++ tail ≡ framed others ++ gate ∷ rest → NextOf bodies others gate rest tail
+first_of : (bodies others : List (List ℕ)) (gate : ℕ) (rest tail : List ℕ) → AreBodies bodies → AreBodies others → (gate ≡ 1 → ⊥) → frames bodies ++ tail ≡ frames others ++ gate ∷ rest → NextOf bodies others gate rest tail
 first_of [] others gate rest tail sound_b sound_o shut e =
     record { left = others; sound = sound_o; size = omega arith; is = e }
 first_of (b ∷ bodies) [] gate rest tail sound_b sound_o shut e = let one : gate ≡ 1 = cc in absurd (shut one)
 first_of (b ∷ bodies) (o ∷ others) gate rest tail sound_b sound_o shut e =
-    let tails : (spelled b ++ framed bodies) ++ tail ≡ (spelled o ++ framed others) ++ gate ∷ rest = ap (λ (l : List ℕ). drop 1 l) e in
-    let grouped : spelled b ++ (framed bodies ++ tail) ≡ spelled o ++ (framed others ++ gate ∷ rest) =
-    sym (append_assoc (spelled b) (framed bodies) tail) ∙ tails ∙ append_assoc (spelled o) (framed others) (gate ∷ rest) in
-    let same : SameSpelled b o (framed bodies ++ tail) (framed others ++ gate ∷ rest) = same_spelled b o (framed bodies ++ tail) (framed others ++ gate ∷ rest) sound_b.0 sound_o.0 grouped in
+    let tails : (with_length b ++ frames bodies) ++ tail ≡ (with_length o ++ frames others) ++ gate ∷ rest = ap (λ (l : List ℕ). drop 1 l) e in
+    let grouped : with_length b ++ (frames bodies ++ tail) ≡ with_length o ++ (frames others ++ gate ∷ rest) =
+    sym (append_assoc (with_length b) (frames bodies) tail) ∙ tails ∙ append_assoc (with_length o) (frames others) (gate ∷ rest) in
+    let same : SameSpelled b o (frames bodies ++ tail) (frames others ++ gate ∷ rest) = same_spelled b o (frames bodies ++ tail) (frames others ++ gate ∷ rest) sound_b.0 sound_o.0 grouped in
     let next : NextOf bodies others gate rest tail = first_of bodies others gate rest tail sound_b.1 sound_o.1 shut same.rest in
     record {
       left = next.left;
@@ -91,8 +91,8 @@ first_of (b ∷ bodies) (o ∷ others) gate rest tail sound_b sound_o shut e =
       is = next.is;
     }
 
--- no record of 1 to 8192 bytes within the region stands behind a gate with a wrong length
-not_bad : (left : List (List ℕ)) (place : Place) (gate : ℕ) (rest device : List ℕ) → AreBodies left → (gate ≡ 1 → ⊥) → place.gate + length (framed left) < place.to → drop place.gate device ≡ framed left ++ gate ∷ rest → get_or device place.gate 0 ≡ get_or (drop place.gate device) 0 0 → BadAt place device → ⊥
+-- no record of 1 to 8192 bytes within the region stands after a gate with a wrong length
+not_bad : (left : List (List ℕ)) (place : Place) (gate : ℕ) (rest device : List ℕ) → AreBodies left → (gate ≡ 1 → ⊥) → place.gate + length (frames left) < place.to → drop place.gate device ≡ frames left ++ gate ∷ rest → get_or device place.gate 0 ≡ get_or (drop place.gate device) 0 0 → BadAt place device → ⊥
 not_bad [] place gate rest device sound shut room is first bad =
     shut (sym (first ∙ ap (λ (l : List ℕ). get_or l 0 0) is) ∙ bad.open_gate)
 not_bad (body ∷ left) place gate rest device sound shut room is first bad =
@@ -118,12 +118,12 @@ not_bad (body ∷ left) place gate rest device sound shut room is first bad =
 pub bad_shows_nothing : BadShowsNothing
 bad_shows_nothing region bodies others place device read bad shows =
     let tail = drop place.gate device in
-    let both : front_of region bodies ++ tail ≡ front_of region others ++ shows.gate ∷ shows.rest = sym read.is ∙ shows.ends.is in
-    let grouped : region.below ++ (framed bodies ++ tail) ≡ region.below ++ (framed others ++ shows.gate ∷ shows.rest) =
-    sym (append_assoc region.below (framed bodies) tail) ∙ both ∙ append_assoc region.below (framed others) (shows.gate ∷ shows.rest) in
+    let both : bytes_before_gate region bodies ++ tail ≡ bytes_before_gate region others ++ shows.gate ∷ shows.rest = sym read.is ∙ shows.ends.is in
+    let grouped : region.below ++ (frames bodies ++ tail) ≡ region.below ++ (frames others ++ shows.gate ∷ shows.rest) =
+    sym (append_assoc region.below (frames bodies) tail) ∙ both ∙ append_assoc region.below (frames others) (shows.gate ∷ shows.rest) in
     let next : NextOf bodies others shows.gate shows.rest tail =
-    first_of bodies others shows.gate shows.rest tail read.sound shows.ends.sound shows.shut (append_cancel_left region.below (framed bodies ++ tail) (framed others ++ shows.gate ∷ shows.rest) grouped) in
-    let room : place.gate + length (framed next.left) < place.to =
-    omega (arith, next.size, shows.ends.within, read.end_gate.here, read.end_gate.to, length-append region.below (framed bodies), length-append region.below (framed others)) in
+    first_of bodies others shows.gate shows.rest tail read.sound shows.ends.sound shows.shut (append_cancel_left region.below (frames bodies ++ tail) (frames others ++ shows.gate ∷ shows.rest) grouped) in
+    let room : place.gate + length (frames next.left) < place.to =
+    omega (arith, next.size, shows.ends.within, read.end_gate.here, read.end_gate.to, length-append region.below (frames bodies), length-append region.below (frames others)) in
     let first : get_or device place.gate 0 ≡ get_or tail 0 0 = ap (λ (n : ℕ). get_or device n 0) (sym (add-zero place.gate)) ∙ sym (get_or-drop place.gate device 0 0) in
     not_bad next.left place shows.gate shows.rest device next.sound shows.shut room next.is first bad

@@ -28,7 +28,7 @@ gate_read at gate a b buf rest is read =
     ∙ ap (λ (l : List ℕ). get_or l 0 0) (sym read.bytes_there)
     ∙ ap (λ (l : List ℕ). get_or l 0 0) is
 
--- the four bytes behind a gate
+-- the four bytes after a gate
 length_read : (at gate n : ℕ) (buf device : List ℕ) → buf ≡ gate ∷ to_be_bytes w32 n → buf ≡ take (length buf) (drop at device) → take 4 (drop (at + 1) device) ≡ to_be_bytes w32 n
 length_read at gate n buf device is read =
     let five : take 5 (drop at device) ≡ gate ∷ to_be_bytes w32 n = sym (read ∙ ap (λ (l : List ℕ). take (length l) (drop at device)) is) ∙ is in

@@ -8,7 +8,7 @@ use Rattle.iss_edge.specs.Calls.{Same, Reads}
 use Rattle.iss_edge.proofs.Tolds.{told_map, told_then, same_then}
 use Rattle.iss_journal.specs.declared.fault.JournalFault.TheVariants.{Disk, BadRecord, OutOfMemory}
 use Rattle.iss_journal.specs.Place.{Place}
-use Rattle.iss_journal.specs.Region.{IsBody, spelled, need_of}
+use Rattle.iss_journal.specs.Region.{IsBody, with_length, need_of}
 use Rattle.iss_journal.specs.Opening.{ReadsHead, RecordAt, BadAt, Finds}
 
 pub same_then_told : (x y z : Option World) → Told Same x y → Told Same y z → Told Same x z
@@ -61,7 +61,7 @@ finds_wrong place gate n at fits x y one no_fit test head =
     none : (fits : Bool) → fits ≡ false → IsTrue fits ↔ ((0 < n) × (n ≤ 8192) × (5 + n < place.to - place.gate)) → (0 < n) × (n ≤ 8192) × (5 + n < place.to - place.gate) → ⊥
     none fits e t good = false≢true (sym e ∙ t.1 good)
 
--- a body behind its head
+-- a body after its head
 record_at : (place : Place) (n : ℕ) (body : List ℕ) (device : List ℕ) → IsBody body → length body ≡ n → 5 + n < place.to - place.gate → get_or device place.gate 0 ≡ 1 → take 4 (drop (place.gate + 1) device) ≡ to_be_bytes w32 n → body ≡ take (length body) (drop (place.gate + 5) device) → RecordAt place body device
 record_at place n body device is_body size room open_gate four read =
     let gate = place.gate in
@@ -76,7 +76,7 @@ record_at place n body device is_body size room open_gate four read =
     sym (take-append-drop (length body) (drop (gate + 5) device))
     ∙ ap (λ (l : List ℕ). l ++ drop (length body) (drop (gate + 5) device)) (sym read)
     ∙ ap (λ (l : List ℕ). body ++ l) last in
-    let rest : drop (gate + 1) device ≡ spelled body ++ drop (gate + need_of body) device =
+    let rest : drop (gate + 1) device ≡ with_length body ++ drop (gate + need_of body) device =
     sym (take-append-drop 4 (drop (gate + 1) device))
     ∙ ap (λ (l : List ℕ). l ++ drop 4 (drop (gate + 1) device)) (four ∙ ap (λ (k : ℕ). to_be_bytes w32 k) (sym size))
     ∙ ap (λ (l : List ℕ). to_be_bytes w32 (length body) ++ l) (five ∙ tail)
@@ -105,7 +105,7 @@ finds_body place gate n body x y z one some most room size head =
 abbrev at_place : ℕ → ℕ → Place
 at_place gate to = record { gate = gate; to = to }
 
--- the place behind a record
+-- the place after a record
 pub moved_on : (place now : Place) (gate to n : ℕ) (body : List ℕ) → place ≡ record { gate = gate; to = to } → now ≡ record { gate = gate + (5 + n); to = to } → length body ≡ n → now ≡ record { gate = place.gate + need_of body; to = place.to }
 moved_on place now gate to n body from is size =
     is

@@ -38,7 +38,7 @@ OnFull (Err (BadRecord place)) P = Unit {0}
 OnFull (Err OutOfMemory) P = Unit {0}
 OnFull (Ok value) P = Unit {0}
 
--- a fault of the disk, or want of memory
+-- a fault of the disk, or a failed allocation
 abbrev pub DiskOrMemory : {T : Type 0} → Result T JournalFault → Type 0
 DiskOrMemory (Ok value) = Unit {0}
 DiskOrMemory (Err Disk) = Unit {0}

@@ -3,11 +3,11 @@ use Rattle.std.specs.Prelude.{◌≡◌, ◌⊎◌, ℕ, zero, suc, List, [], �
 use Rattle.iss_edge.specs.declared.outside.Action.{Action}
 use Rattle.iss_edge.specs.World.{World}
 use Rattle.iss_edge.specs.Disk.{Disk, after_actions, IsAtRest, IsImage}
-use Rattle.iss_edge.specs.Puts.{Put, one_put, actions_of_puts, Puts, PutsPart, synced}
+use Rattle.iss_edge.specs.Puts.{Put, one_put, actions_of_puts, Puts, PutsPart, syncs_after}
 use Rattle.iss_journal.specs.Header.{signature, instance_bytes, header, HasInstance, IsUnformatted}
 use Rattle.iss_journal.specs.Region.{Region, ShowsClosed}
 
--- the whole device behind the header of this instance
+-- the whole device after the header of this instance
 abbrev pub whole_device : ℕ → ℕ → Region
 whole_device instance size = record { below = header instance; to = size; size = size }
 
@@ -27,11 +27,11 @@ FormatLeaves instance start zero image = drop 1 image ≡ drop 1 start
 FormatLeaves instance start (suc syncs) image =
     IsUnformatted image ⊎ ShowsClosed (whole_device instance (length start)) [] image
 
--- these puts were made, or a front of their actions, and what each image of each of their moments is, begun at rest
+-- these puts were made, or a prefix of their actions, and what each image of each of their moments is, begun at rest
 pub record FormatsGood (instance : ℕ) (a b : World) : Type 0 where
   pub part : PutsPart (format_puts instance) a b
   pub each : (d : Disk) → IsAtRest d → d.bytes ≡ a.device → (before rest : List Action) → part.actions ≡ before ++ rest
-      → (image : List ℕ) → IsImage (after_actions d before) image → FormatLeaves instance a.device (synced 0 before) image
+      → (image : List ℕ) → IsImage (after_actions d before) image → FormatLeaves instance a.device (syncs_after 0 before) image
 
 -- the device has the instance and stands for no records, and once at rest a stop leaves just that
 pub record Formats (instance : ℕ) (a b : World) : Type 0 where

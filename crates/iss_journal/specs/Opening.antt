@@ -8,15 +8,15 @@ use Rattle.iss_edge.specs.Stretches.{Step, actions_of, IsGood, GoesOn}
 use Rattle.iss_journal.specs.declared.fault.JournalFault.{JournalFault}
 use Rattle.iss_journal.specs.declared.fault.JournalFault.TheVariants.{Disk, NotFormatted, BadRecord, Full, OutOfMemory}
 use Rattle.iss_journal.specs.Place.{Place}
-use Rattle.iss_journal.specs.Region.{Region, IsBody, spelled, need_of, front_of, Shows, ShowsClosed, LeavesBehind, ShowsFirmly, RestsFirst}
+use Rattle.iss_journal.specs.Region.{Region, IsBody, with_length, need_of, bytes_before_gate, Shows, ShowsClosed, LeavesBehind, ShowsFirmly, RestsFirst}
 
--- the gate is open, a body stands behind it, and behind that there is place for a gate within the region
+-- the gate is open, a body stands after it, and after that there is place for a gate within the region
 pub record RecordAt (place : Place) (body device : List ℕ) : Type 0 where
   pub is_body : IsBody body
   pub room : place.gate + need_of body < place.to
-  pub there : drop place.gate device ≡ 1 ∷ (spelled body ++ drop (place.gate + need_of body) device)
+  pub there : drop place.gate device ≡ 1 ∷ (with_length body ++ drop (place.gate + need_of body) device)
 
--- the four bytes behind the gate spell a length that is wrong: it is 0, over 8192, or passes the region's end
+-- the four bytes after the gate spell a length that is wrong: it is 0, over 8192, or passes the region's end
 pub record WrongLength (place : Place) (device : List ℕ) : Type 0 where
   pub n : ℕ
   pub small : n < 2 ^ 32
@@ -38,7 +38,7 @@ Finds place (Err OutOfMemory) a b = Unit {0}
 Finds place (Err NotFormatted) a b = ⊥
 Finds place (Err (Full free need)) a b = ⊥
 
--- A body moves the place on to the gate behind it, which is within the region; nothing else does. A bad record is named by its gate.
+-- A body moves the place on to the gate after it, which is within the region; nothing else does. A bad record is named by its gate.
 abbrev pub MovesOn : Place → Place → Result (Option (List ℕ)) JournalFault → Type 0
 MovesOn place now (Ok None) = now ≡ place
 MovesOn place now (Ok (Some body)) =
@@ -64,7 +64,7 @@ OpenedOrOneMore region bodies start image i =
 
 -- the end gate of these records stands at this place
 pub record IsEndGate (region : Region) (bodies : List (List ℕ)) (place : Place) : Type 0 where
-  pub here : length (front_of region bodies) ≡ place.gate
+  pub here : length (bytes_before_gate region bodies) ≡ place.gate
   pub to : region.to ≡ place.to
 
 -- The end gate was made 0, or a part of that was done, or nothing, and that is good where the end gate of the first j records stands
@@ -90,7 +90,7 @@ pub record ReadsGate (at gate : ℕ) (a b : World) : Type 0 where
   pub there : slice_index a.device at ≡ gate
   pub same : Same a b
 
--- This gate stands at this place, and behind it this length in four bytes, or 0 where the region ends before a record could. Nothing
+-- This gate stands at this place, and after it this length in four bytes, or 0 where the region ends before a record could. Nothing
 -- of what is told has changed.
 pub record ReadsHead (place : Place) (gate n : ℕ) (a b : World) : Type 0 where
   pub there : slice_index a.device place.gate ≡ gate

@@ -1,7 +1,7 @@
 -- What a scan has read, and what a device shows once it has come to an end.
 use Rattle.std.specs.Prelude.{◌≡◌, ℕ, ◌+◌, ◌<◌, ◌≤◌, List, [], ◌∷◌, ◌++◌, length, take, drop, slice_index}
 use Rattle.iss_journal.specs.Place.{Place}
-use Rattle.iss_journal.specs.Region.{Region, AreBodies, need_of, front_of, Shows}
+use Rattle.iss_journal.specs.Region.{Region, AreBodies, need_of, bytes_before_gate, Shows}
 use Rattle.iss_journal.specs.Opening.{RecordAt, BadAt, IsEndGate}
 
 -- on this device these records stand before this gate, which is within the region
@@ -11,7 +11,7 @@ pub record ReadUpTo (region : Region) (bodies : List (List ℕ)) (place : Place)
   pub sound : AreBodies bodies
   pub end_gate : IsEndGate region bodies place
   pub within : place.gate < place.to
-  pub is : device ≡ front_of region bodies ++ drop place.gate device
+  pub is : device ≡ bytes_before_gate region bodies ++ drop place.gate device
 
 -- nothing is read yet at the region's first gate
 abbrev pub BeginsToRead : Type 0

@@ -1,4 +1,4 @@
--- A journal on a region of a device: records behind gates, and what a device shows of them.
+-- A journal on a region of a device: records after gates, and what a device shows of them.
 use Rattle.std.specs.Prelude.{◌≡◌, ◌⊎◌, ℕ, ◌+◌, ◌<◌, ◌≤◌, List, [], ◌∷◌, ◌++◌, length, take, slice_set}
 use Rattle.std.specs.Int.{w32, to_be_bytes}
 
@@ -18,36 +18,36 @@ abbrev pub AreBodies : List (List ℕ) → Type 0
 AreBodies [] = Unit {0}
 AreBodies (body ∷ bodies) = IsBody body × AreBodies bodies
 
--- a body behind its length in four bytes, the highest first
-abbrev pub spelled : List ℕ → List ℕ
-spelled body = to_be_bytes w32 (length body) ++ body
+-- a body after its length in four bytes, the highest first
+abbrev pub with_length : List ℕ → List ℕ
+with_length body = to_be_bytes w32 (length body) ++ body
 
--- what one write puts behind the end gate: a record's length and body, and a closed gate behind them
-abbrev pub behind : List ℕ → List ℕ
-behind body = spelled body ++ 0 ∷ []
+-- what one write puts after the end gate: a record's length and body, and a closed gate after them
+abbrev pub append_bytes : List ℕ → List ℕ
+append_bytes body = with_length body ++ 0 ∷ []
 
--- how many bytes a record takes behind the gate before it, with the closed gate that follows it
+-- how many bytes a record takes after the gate before it, with the closed gate that follows it
 abbrev pub need_of : List ℕ → ℕ
 need_of body = 5 + length body
 
--- these records, each behind an open gate
-abbrev pub framed : List (List ℕ) → List ℕ
-framed [] = []
-framed (body ∷ bodies) = 1 ∷ (spelled body ++ framed bodies)
+-- these records, each after an open gate
+abbrev pub frames : List (List ℕ) → List ℕ
+frames [] = []
+frames (body ∷ bodies) = 1 ∷ (with_length body ++ frames bodies)
 
--- all that stands before the gate behind these records
-abbrev pub front_of : Region → List (List ℕ) → List ℕ
-front_of region bodies = region.below ++ framed bodies
+-- all that stands before the gate after these records
+abbrev pub bytes_before_gate : Region → List (List ℕ) → List ℕ
+bytes_before_gate region bodies = region.below ++ frames bodies
 
--- The image is a device of the region's size, with these records, behind them this gate within the region, and then the rest.
+-- The image is a device of the region's size, with these records, after them this gate within the region, and then the rest.
 pub record EndsWith (region : Region) (bodies : List (List ℕ)) (gate : ℕ) (rest image : List ℕ) : Type 0 where
   pub whole : length image ≡ region.size
   pub inside : region.to ≤ region.size
   pub sound : AreBodies bodies
-  pub within : length (front_of region bodies) < region.to
-  pub is : image ≡ front_of region bodies ++ gate ∷ rest
+  pub within : length (bytes_before_gate region bodies) < region.to
+  pub is : image ≡ bytes_before_gate region bodies ++ gate ∷ rest
 
--- the image shows these records: behind them stands a gate that is not open, and what follows it is not looked at
+-- the image shows these records: after them stands a gate that is not open, and what follows it is not looked at
 pub record Shows (region : Region) (bodies : List (List ℕ)) (image : List ℕ) : Type 0 where
   pub gate : ℕ
   pub shut : gate ≡ 1 → ⊥
@@ -62,7 +62,7 @@ pub record ShowsClosed (region : Region) (bodies : List (List ℕ)) (image : Lis
 -- The image shows these records, and this one is left behind: with the end gate made 1 it would show it too, with an end gate of 0.
 pub record LeavesBehind (region : Region) (bodies : List (List ℕ)) (body image : List ℕ) : Type 0 where
   pub shows : Shows region bodies image
-  pub opened : ShowsClosed region (bodies ++ body ∷ []) (slice_set image (length (front_of region bodies)) 1)
+  pub opened : ShowsClosed region (bodies ++ body ∷ []) (slice_set image (length (bytes_before_gate region bodies)) 1)
 
 -- the image shows these records firmly: its end gate is 0, or one record is left behind
 abbrev pub ShowsFirmly : Region → List (List ℕ) → List ℕ → Type 0

@@ -1,18 +1,18 @@
 //! What an append writes.
 
 ghost use Rattle.std.specs.Prelude.{◌≡◌, ◌≤◌, length, IfOk};
-ghost use Rattle.iss_journal.specs.Region.{behind};
+ghost use Rattle.iss_journal.specs.Region.{append_bytes};
 
 use std::alloc::{AllocError, Global};
 use std::marker::Model;
 
-/// A gate behind which no record stands.
+/// A gate after which no record stands.
 pub(crate) const CLOSED: u8 = 0;
 
-/// A gate behind which a record stands.
+/// A gate after which a record stands.
 pub(crate) const OPEN: u8 = 1;
 
-/// A record's body with its length before it, in four bytes with the highest first, and a closed gate behind it.
+/// A record's body with its length before it, in four bytes with the highest first, and a closed gate after it.
 #[derive(Debug, Drop)]
 pub struct Frame {
     bytes: Vec<u8>,
@@ -31,7 +31,7 @@ impl Frame {
     pub fn of(alloc: Global, body: &[u8]) -> Result<Frame, AllocError>
         requires some { 1 ≤ length body.now }
         requires most { length body.now ≤ 8192 }
-        ensures { IfOk result (λ frame. frame ≡ behind body.now) }
+        ensures { IfOk result (λ frame. frame ≡ append_bytes body.now) }
     {
         let mut bytes = Vec::with_capacity(alloc, body.len() + 5)?;
         bytes.extend_from_slice(&(body.len() as u32).to_be_bytes())?;

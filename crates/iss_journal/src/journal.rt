@@ -103,7 +103,7 @@ impl Journal {
         self.to - 1 - self.gate
     }
 
-    /// Adds the frame's record. It makes the frame last behind the end gate, and then opens the gate, so that a stop at any
+    /// Adds the frame's record. It makes the frame last after the end gate, and then opens the gate, so that a stop at any
     /// moment leaves the old records or also the new one. Once it succeeds a stop leaves the new one. After a fault of the
     /// disk the journal is not to be used again.
     #[tactic(auto, using(crate::proofs::Appends::append_refused, crate::proofs::Appends::append_unwritten, crate::proofs::Appends::append_unopened, crate::proofs::Appends::append_done, crate::proofs::Appends::append_done_good, iss_edge::proofs::ToldPuts::hears_nothing))]

@@ -1,7 +1,7 @@
-//! A journal on a region of a device: records behind gates, of which a stop loses none that was acknowledged.
+//! A journal on a region of a device: records after gates, of which a stop loses none that was acknowledged.
 //!
-//! A record stands behind a gate byte of 1, its body's length before it; a gate byte other than 1 ends the records. A record
-//! is written behind the end gate, and made to last before that gate is opened.
+//! A record stands after a gate byte of 1, its body's length before it; a gate byte other than 1 ends the records. A record
+//! is written after the end gate, and made to last before that gate is opened.
 //!
 //! It may cite `iss_edge`.
 //! It must not cite the model: a record is bytes here.

@@ -14,7 +14,7 @@ use std::alloc::Global;
 /// How many bytes stand before a record's body: a gate and a length.
 pub(crate) const HEAD: u64 = 5;
 
-/// A gate and the length behind it.
+/// A gate and the length after it.
 #[derive(Clone, Copy)]
 pub(crate) struct Head {
     pub(crate) gate: u8,
@@ -36,7 +36,7 @@ pub(crate) fn read_gate<E: Edge>(edge: &mut E, at: u64) -> Result<u8, Failed>
     Ok(buf[0])
 }
 
-/// The gate at this place and the length behind it, or 0 where the region ends before a record could.
+/// The gate at this place and the length after it, or 0 where the region ends before a record could.
 #[tactic(auto, using(crate::proofs::Readings::reads_short, crate::proofs::Readings::reads_head))]
 pub(crate) fn read_head<E: Edge>(edge: &mut E, at: u64, to: u64) -> Result<Head, Failed>
     requires gate { at < to }

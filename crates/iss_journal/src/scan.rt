@@ -52,7 +52,7 @@ impl Scan {
     }
 
     /// The next record's body, or `None` exactly at a gate that is not open. `BadRecord` names an open gate exactly where the
-    /// length behind it is 0, over 8192, or passes the region's end. Where it does not give a body the scan is as before.
+    /// length after it is 0, over 8192, or passes the region's end. Where it does not give a body the scan is as before.
     #[tactic(auto, using(crate::proofs::Scans::finds_no_disk, crate::proofs::Scans::finds_no_memory, crate::proofs::Scans::finds_shut, crate::proofs::Scans::finds_wrong, crate::proofs::Scans::finds_body, crate::proofs::Scans::head_same, crate::proofs::Scans::same_then_told, crate::proofs::Scans::body_same, iss_edge::proofs::ToldPuts::hears_nothing))]
     pub fn next<E: Edge>(
         &mut self,
@@ -82,7 +82,7 @@ impl Scan {
     }
 
     /// The journal, once `next` has answered `None`. Where the end gate is another than 0 it becomes 0, so that the record
-    /// behind it, if one was left there, never stands.
+    /// after it, if one was left there, never stands.
     #[tactic(auto, using(crate::proofs::Closings::close_shut, crate::proofs::Closings::close_shut_good, crate::proofs::Closings::close_part, crate::proofs::Closings::close_done, crate::proofs::Closings::close_done_good, crate::proofs::Closings::close_unread, iss_edge::proofs::ToldPuts::hears_nothing))]
     pub fn finish<E: Edge>(self, edge: &mut E) -> Result<Journal, JournalFault>
         requires { self.to ≤ E.extent edge.old }

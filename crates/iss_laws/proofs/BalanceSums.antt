@@ -19,7 +19,7 @@ use Rattle.iss_model.specs.Currencies.{iso_number, same_currency}
 use Rattle.iss_model.specs.Sums.{changed_at, account_key, balance_changes}
 use Rattle.iss_model.specs.rules.Facts.{balance_in}
 use Rattle.iss_model.specs.rules.Histories.{History, history_facts, history_of}
-use Rattle.iss_model.specs.texts.BalanceLines.{posted_accounts, is_reported_before, placed, joined, accounts_of}
+use Rattle.iss_model.specs.texts.BalanceLines.{posted_accounts, is_reported_before, accounts_with, accounts_with_once, accounts_of}
 use Rattle.iss_laws.specs.Balances.{currency_of, stays, in_currency, BalancesAddUp}
 use Rattle.iss_laws.proofs.Posts.{posts_stay}
 
@@ -71,10 +71,10 @@ either_place : (t : Bool) (key : List ℕ) (xs ys : List Account) (n : ℕ) → 
 either_place true key xs ys n p q = p
 either_place false key xs ys n p q = q
 
-placed_times : (key : List ℕ) (a : Account) (accounts : List Account) → times key (placed a accounts) ≡ cond (bytes_eq key (account_key a)) (suc (times key accounts)) (times key accounts)
+placed_times : (key : List ℕ) (a : Account) (accounts : List Account) → times key (accounts_with a accounts) ≡ cond (bytes_eq key (account_key a)) (suc (times key accounts)) (times key accounts)
 placed_times key a [] = refl
 placed_times key a (b ∷ others) =
-    either_place (is_reported_before a b) key (a ∷ b ∷ others) (b ∷ placed a others) _ refl
+    either_place (is_reported_before a b) key (a ∷ b ∷ others) (b ∷ accounts_with a others) _ refl
     (ap (λ n. cond (bytes_eq key (account_key b)) (suc n) n) (placed_times key a others) ∙ swapped (bytes_eq key (account_key a)) (bytes_eq key (account_key b)) (times key others))
 
 known_first : (b : Bool) (n : ℕ) (others : Bool) → (b || others) ≡ true → (others ≡ true → 1 ≤ n) → 1 ≤ cond b (suc n) n
@@ -114,28 +114,28 @@ unknown_times a (b ∷ others) h = unknown_first (bytes_eq (account_key a) (acco
 
 joined_by : (known : Bool) (key : List ℕ) (a : Account) (accounts : List Account) → AtMostOnce accounts
     → list_any (λ b. bytes_eq (account_key a) (account_key b)) accounts ≡ known
-    → times key (cond known accounts (placed a accounts)) ≡ cond (bytes_eq key (account_key a)) 1 (times key accounts)
+    → times key (cond known accounts (accounts_with a accounts)) ≡ cond (bytes_eq key (account_key a)) 1 (times key accounts)
 joined_by true key a accounts most h = is_known (bytes_eq key (account_key a)) key a accounts most (bytes_eq-Decides key (account_key a)).0 (known_times a accounts h)
 joined_by false key a accounts most h =
     placed_times key a accounts ∙ is_unknown (bytes_eq key (account_key a)) key a accounts (bytes_eq-Decides key (account_key a)).0 (unknown_times a accounts h)
 
-joined_times : (key : List ℕ) (a : Account) (accounts : List Account) → AtMostOnce accounts → times key (joined accounts a) ≡ cond (bytes_eq key (account_key a)) 1 (times key accounts)
+joined_times : (key : List ℕ) (a : Account) (accounts : List Account) → AtMostOnce accounts → times key (accounts_with_once accounts a) ≡ cond (bytes_eq key (account_key a)) 1 (times key accounts)
 joined_times key a accounts most = joined_by (list_any (λ b. bytes_eq (account_key a) (account_key b)) accounts) key a accounts most refl
 
-joined_most : (a : Account) (accounts : List Account) → AtMostOnce accounts → AtMostOnce (joined accounts a)
+joined_most : (a : Account) (accounts : List Account) → AtMostOnce accounts → AtMostOnce (accounts_with_once accounts a)
 joined_most a accounts most key = rw (joined_times key a accounts most) (one_or (bytes_eq key (account_key a)) (times key accounts) (most key))
 
-stays_once : (key : List ℕ) (xs accounts : List Account) → AtMostOnce accounts → times key accounts ≡ 1 → times key (fold joined accounts xs) ≡ 1
+stays_once : (key : List ℕ) (xs accounts : List Account) → AtMostOnce accounts → times key accounts ≡ 1 → times key (fold accounts_with_once accounts xs) ≡ 1
 stays_once key [] accounts most once = once
 stays_once key (x ∷ xs) accounts most once =
-    stays_once key xs (joined accounts x) (joined_most x accounts most) (joined_times key x accounts most ∙ one_still (bytes_eq key (account_key x)) (times key accounts) once)
+    stays_once key xs (accounts_with_once accounts x) (joined_most x accounts most) (joined_times key x accounts most ∙ one_still (bytes_eq key (account_key x)) (times key accounts) once)
 
-all_once : (xs accounts : List Account) → AtMostOnce accounts → Once (fold joined accounts xs) xs
+all_once : (xs accounts : List Account) → AtMostOnce accounts → Once (fold accounts_with_once accounts xs) xs
 all_once [] accounts most = tt
 all_once (x ∷ xs) accounts most =
     let is_x : bytes_eq (account_key x) (account_key x) ≡ true = (bytes_eq-Decides (account_key x) (account_key x)).1 refl in (
-      stays_once (account_key x) xs (joined accounts x) (joined_most x accounts most) (joined_times (account_key x) x accounts most ∙ ap (λ b. cond b 1 (times (account_key x) accounts)) is_x),
-      all_once xs (joined accounts x) (joined_most x accounts most),
+      stays_once (account_key x) xs (accounts_with_once accounts x) (joined_most x accounts most) (joined_times (account_key x) x accounts most ∙ ap (λ b. cond b 1 (times (account_key x) accounts)) is_x),
+      all_once xs (accounts_with_once accounts x) (joined_most x accounts most),
     )
 
 -- ---- sums over the accounts of a currency

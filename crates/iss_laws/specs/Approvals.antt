@@ -52,7 +52,7 @@ abbrev pub stands_in : Entry → Bool
 stands_in (entry.Stood set product user amount at) = true
 stands_in _ = false
 
--- the programme stood in for this event: the next decision behind a row that says so is the event's
+-- the programme stood in for this event: the next decision after a row that says so is the event's
 abbrev pub stood_for : List ℕ → List Row → Bool
 stood_for token [] = false
 stood_for token (row ∷ rows) =

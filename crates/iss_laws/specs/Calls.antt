@@ -1,5 +1,5 @@
 -- Each call to the gateway is opened once and closed at most once. It has one void exactly where it failed or was abandoned.
--- A call that was funded has its money posted, by the first post behind its closing, and no other post comes from the gateway.
+-- A call that was funded has its money posted, by the first post after its closing, and no other post comes from the gateway.
 use Rattle.std.specs.Prelude.{ℕ, Bool, true, false, ◌&&◌, ◌==◌, nat_le, List, [], ◌∷◌, find, Option, Some, None}
 use Rattle.std.specs.List.{list_all}
 use Rattle.std.specs.Str.{bytes_eq}
@@ -95,7 +95,7 @@ is_paid_by number None row = false
 is_paid_by number (Some c) None = false
 is_paid_by number (Some c) (Some row) = row.number == number && pays c.opened row.entry
 
--- an entry that closes a call as funded is followed by its post, which is the first one behind it
+-- an entry that closes a call as funded is followed by its post, which is the first one after it
 abbrev pub followed_by : Facts → ℕ → Entry → Option Row → Bool
 followed_by f number (entry.Closed call how.Funded) post = is_paid_by number (call_in f call.0) post
 followed_by f number (entry.Closed call how.Refused) post = true
@@ -103,7 +103,7 @@ followed_by f number (entry.Closed call (how.Failed why)) post = true
 followed_by f number (entry.Closed call how.Abandoned) post = true
 followed_by f number _ post = true
 
--- the same of a row, with the rows behind it
+-- the same of a row, with the rows after it
 abbrev pub is_followed : Facts → Row → List Row → Bool
 is_followed f row rows = followed_by f row.number row.entry (find (λ next. is_post next.entry) rows)
 

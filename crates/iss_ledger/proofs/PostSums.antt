@@ -12,7 +12,7 @@ use Rattle.iss_model.specs.state.Kept.{Kept, nothing_kept, kept_at, after_change
 use Rattle.iss_model.proofs.Names.{one_name, its_name}
 use Rattle.iss_model.proofs.KeptSums.{kept_at-after_change}
 use Rattle.iss_model.specs.state.Kept.{IsSmall, AreSmall}
-use Rattle.iss_ledger.specs.Posts.{after_post, moved}
+use Rattle.iss_ledger.specs.Posts.{after_post, moved_amount}
 use Rattle.iss_ledger.proofs.TreeSums.{put_twice, put_back}
 use Rattle.iss_ledger.specs.Trees.{with_sum}
 
@@ -52,17 +52,17 @@ steps_by m from to amount false e = refl
 
 -- a post in two steps
 pub in_steps : (m : Kept) (from to : Account) (amount : ℕ)
-    → after_change (after_change m (by (account_key to) (pos (moved from to amount)))) (by (account_key from) (neg_ℤ (pos (moved from to amount)))) ≡ after_post m from to amount
+    → after_change (after_change m (by (account_key to) (pos (moved_amount from to amount)))) (by (account_key from) (neg_ℤ (pos (moved_amount from to amount)))) ≡ after_post m from to amount
 unfolding two_steps
 in_steps m from to amount = steps_by m (account_key from) (account_key to) amount (bytes_eq (account_key from) (account_key to)) refl
 
 -- the sum after the second step is small
 pub second_small : (m : Kept) (from to : Account) (amount : ℕ) → AreSmall (after_post m from to amount)
-    → IsSmall (kept_at (after_change m (by (account_key to) (pos (moved from to amount)))) (account_key from) +ℤ neg_ℤ (pos (moved from to amount)))
+    → IsSmall (kept_at (after_change m (by (account_key to) (pos (moved_amount from to amount)))) (account_key from) +ℤ neg_ℤ (pos (moved_amount from to amount)))
 second_small m from to amount k =
     subst (λ (z : ℤ). IsSmall z)
     (ap (λ (sums : Kept). kept_at sums (account_key from)) (sym (in_steps m from to amount))
-    ∙ at_its_key (after_change m (by (account_key to) (pos (moved from to amount)))) (account_key from) (neg_ℤ (pos (moved from to amount))))
+    ∙ at_its_key (after_change m (by (account_key to) (pos (moved_amount from to amount)))) (account_key from) (neg_ℤ (pos (moved_amount from to amount))))
     (k (account_key from))
 
 -- and so is the one after the first
@@ -82,7 +82,7 @@ first_by m from to amount false e h k =
     nothing_more z = omega (arith, ints)
 
 pub first_small : (m : Kept) (from to : Account) (amount : ℕ) → AreSmall m → AreSmall (after_post m from to amount)
-    → IsSmall (kept_at m (account_key to) +ℤ pos (moved from to amount))
+    → IsSmall (kept_at m (account_key to) +ℤ pos (moved_amount from to amount))
 first_small m from to amount h k =
     first_by m (account_key from) (account_key to) amount (bytes_eq (account_key from) (account_key to)) refl (h (account_key to))
     (subst (λ (sums : Kept). IsSmall (kept_at sums (account_key to))) (sym (in_steps m from to amount)) (k (account_key to)))
@@ -92,31 +92,31 @@ pub small_change : (before : ℤ) (amount : ℕ) → IsSmall before → IsSmall 
 small_change before amount h k = omega (arith, ints)
 
 -- a small change fits 64 bits
-pub moved_fits : (m : Kept) (from to : Account) (amount : ℕ) → AreSmall m → AreSmall (after_post m from to amount) → moved from to amount < 2 ^ 63
-moved_fits m from to amount h k = small_change (kept_at m (account_key to)) (moved from to amount) (h (account_key to)) (first_small m from to amount h k)
+pub moved_fits : (m : Kept) (from to : Account) (amount : ℕ) → AreSmall m → AreSmall (after_post m from to amount) → moved_amount from to amount < 2 ^ 63
+moved_fits m from to amount h k = small_change (kept_at m (account_key to)) (moved_amount from to amount) (h (account_key to)) (first_small m from to amount h k)
 
 -- the same, where the keys, the amounts and the sums have other names
 module _ (m first : Kept) (from to : Account) (amount : ℕ) (debited credited : List ℕ) (less more : ℤ)
     (to_is : credited ≡ account_key to) (from_is : debited ≡ account_key from)
-    (more_is : more ≡ pos (moved from to amount)) (less_is : less ≡ neg_ℤ (pos (moved from to amount)))
+    (more_is : more ≡ pos (moved_amount from to amount)) (less_is : less ≡ neg_ℤ (pos (moved_amount from to amount)))
     (first_is : first ≡ after_change m (by credited more)) where
-  first_named : first ≡ after_change m (by (account_key to) (pos (moved from to amount)))
+  first_named : first ≡ after_change m (by (account_key to) (pos (moved_amount from to amount)))
   first_named = first_is ∙ ap₂ (λ (k : List ℕ) (z : ℤ). after_change m (by k z)) to_is more_is
 
   pub posted_so : (second : Kept) → second ≡ after_change first (by debited less) → second ≡ after_post m from to amount
   posted_so second e =
       e ∙ ap (λ (sums : Kept). after_change sums (by debited less)) first_named
-      ∙ ap₂ (λ (k : List ℕ) (z : ℤ). after_change (after_change m (by (account_key to) (pos (moved from to amount)))) (by k z)) from_is less_is
+      ∙ ap₂ (λ (k : List ℕ) (z : ℤ). after_change (after_change m (by (account_key to) (pos (moved_amount from to amount)))) (by k z)) from_is less_is
       ∙ in_steps m from to amount
 
   pub debit_small : AreSmall (after_post m from to amount) → IsSmall (kept_at first debited +ℤ less)
   debit_small k =
       subst (λ (z : ℤ). IsSmall z)
       (sym (ap₂ (λ (sums : Kept) (z : ℤ). kept_at sums debited +ℤ z) first_named less_is
-      ∙ ap (λ (key : List ℕ). kept_at (after_change m (by (account_key to) (pos (moved from to amount)))) key +ℤ neg_ℤ (pos (moved from to amount))) from_is))
+      ∙ ap (λ (key : List ℕ). kept_at (after_change m (by (account_key to) (pos (moved_amount from to amount)))) key +ℤ neg_ℤ (pos (moved_amount from to amount))) from_is))
       (second_small m from to amount k)
 
-pub credit_small : (m : Kept) (from to : Account) (amount : ℕ) (credited : List ℕ) (more : ℤ) → credited ≡ account_key to → more ≡ pos (moved from to amount)
+pub credit_small : (m : Kept) (from to : Account) (amount : ℕ) (credited : List ℕ) (more : ℤ) → credited ≡ account_key to → more ≡ pos (moved_amount from to amount)
     → AreSmall m → AreSmall (after_post m from to amount) → IsSmall (kept_at m credited +ℤ more)
 credit_small m from to amount credited more to_is more_is h k =
     subst (λ (z : ℤ). IsSmall z) (sym (ap₂ (λ (key : List ℕ) (z : ℤ). kept_at m key +ℤ z) to_is more_is)) (first_small m from to amount h k)

@@ -6,7 +6,7 @@ ghost use Rattle.std.specs.Cmp.Lexicographic.{slice_cmp};
 ghost use Rattle.iss_model.specs.state.Kept.{kept_at, after_change};
 ghost use Rattle.iss_ledger.specs.Trees.{kept_in, IsInOrder, with_sum};
 ghost use Rattle.iss_model.specs.state.Kept.{IsSmall, AreSmall};
-ghost use Rattle.iss_ledger.specs.Posts.{after_post, moved};
+ghost use Rattle.iss_ledger.specs.Posts.{after_post, moved_amount};
 
 use crate::key::AccountKey;
 use iss_model::Account;
@@ -22,7 +22,7 @@ pub(crate) fn sum_at(sums: &BTreeMap<AccountKey, i64>, key: &AccountKey) -> i64
     sums.get(key).copied().unwrap_or(0)
 }
 
-/// Moves an amount from one account to another. Where memory is wanted the sums stay as they were.
+/// Moves an amount from one account to another. Where an allocation fails the sums stay as they were.
 pub(crate) fn post(
     sums: &mut BTreeMap<AccountKey, i64>,
     from: &Account,
@@ -49,8 +49,8 @@ pub(crate) fn post(
 
 /// What a post moves: nothing where both accounts are one.
 fn moved(from: &Account, to: &Account, amount: u64) -> i64
-    requires { moved from.now to.now amount < 2 ^ 63 }
-    ensures { result ≡ pos (moved from.now to.now amount) }
+    requires { moved_amount from.now to.now amount < 2 ^ 63 }
+    ensures { result ≡ pos (moved_amount from.now to.now amount) }
 {
     if AccountKey::new(from) == AccountKey::new(to) {
         0
@@ -59,7 +59,7 @@ fn moved(from: &Account, to: &Account, amount: u64) -> i64
     }
 }
 
-/// Adds to the sum at a key. Where memory is wanted the sums stay as they were.
+/// Adds to the sum at a key. Where an allocation fails the sums stay as they were.
 #[tactic(auto, using(crate::proofs::TreeSums::sums_put))]
 fn change(sums: &mut BTreeMap<AccountKey, i64>, key: AccountKey, by: i64) -> Result<(), AllocError>
     requires order { IsInOrder sums.old }

@@ -13,7 +13,7 @@ is_digit byte = nat_le 48 byte && nat_le byte 57
 abbrev pub digits_value : List ℕ → ℕ
 digits_value digits = fold (λ value digit. 10 * value + (digit - 48)) 0 digits
 
--- digits without a zero in front, save a lone zero
+-- digits without a leading zero, save a lone zero
 abbrev pub is_whole_text : List ℕ → Bool
 is_whole_text text = nat_lt 0 (length text) && list_all is_digit text && (length text == 1 || not (slice_index text 0 == 48))
 
@@ -59,7 +59,7 @@ whole_amount_read n c = if_form is_amount (n * unit_of c)
 abbrev pub whole_limit_read : ℕ → Currency → Option ℕ
 whole_limit_read n c = if_form is_limit (n * unit_of c)
 
--- the last digits of a number, so many of them, with zeros in front where it has fewer
+-- the last digits of a number, so many of them, with leading zeros where it has fewer
 abbrev pub last_digits : ℕ → ℕ → List ℕ
 last_digits zero n = []
 last_digits (suc places) n = last_digits places (n / 10) ++ (48 + n % 10) ∷ []

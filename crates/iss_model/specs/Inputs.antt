@@ -41,18 +41,18 @@ event_token (input.Answer call outcome) = None
 event_token (input.Ack notice) = None
 event_token input.Time = None
 
--- a text behind its length, so that what follows it can't be taken for a part of it
-abbrev pub spelled : List ℕ → List ℕ
-spelled text = length text ∷ text
+-- a text after its length, so that what follows it can't be taken for a part of it
+abbrev pub with_length : List ℕ → List ℕ
+with_length text = length text ∷ text
 
 -- true or false
-abbrev pub flag : Bool → List ℕ
-flag b = if b then 1 ∷ [] else 0 ∷ []
+abbrev pub flag_contents : Bool → List ℕ
+flag_contents b = if b then 1 ∷ [] else 0 ∷ []
 
 -- a number that may be left out
-abbrev pub optional : Option ℕ → List ℕ
-optional None = 0 ∷ []
-optional (Some n) = 1 ∷ n ∷ []
+abbrev pub optional_contents : Option ℕ → List ℕ
+optional_contents None = 0 ∷ []
+optional_contents (Some n) = 1 ∷ n ∷ []
 
 -- who funds, as a number
 abbrev pub funding_number : Funding → ℕ
@@ -89,45 +89,45 @@ outcome_number outcome.Application = 4
 
 -- who is moved, and to which state
 abbrev pub moved_contents : Moved → List ℕ
-moved_contents (moved.Card card to) = 1 ∷ spelled card ++ card_state_number to ∷ []
-moved_contents (moved.User user to) = 2 ∷ spelled user ++ user_state_number to ∷ []
+moved_contents (moved.Card card to) = 1 ∷ with_length card ++ card_state_number to ∷ []
+moved_contents (moved.User user to) = 2 ∷ with_length user ++ user_state_number to ∷ []
 
 -- whose purchases a control counts
 abbrev pub association_contents : Association → List ℕ
 association_contents association.Anybody = 0 ∷ []
-association_contents (association.User user) = 1 ∷ spelled user
-association_contents (association.Product product) = 2 ∷ spelled product
+association_contents (association.User user) = 1 ∷ with_length user
+association_contents (association.Product product) = 2 ∷ with_length product
 
 -- at which merchants a control counts
 abbrev pub scope_contents : Scope → List ℕ
 scope_contents scope.All = 0 ∷ []
 scope_contents (scope.Mcc mcc) = 1 ∷ mcc ∷ []
-scope_contents (scope.Group group) = 2 ∷ spelled group
-scope_contents (scope.Mid mid) = 3 ∷ spelled mid
+scope_contents (scope.Group group) = 2 ∷ with_length group
+scope_contents (scope.Mid mid) = 3 ∷ with_length mid
 
 -- All that an input says, as one list: its kind, then its fields. Two inputs say the same exactly where these lists are equal.
 abbrev pub contents : Input → List ℕ
-contents (input.User token user) = 1 ∷ spelled token ++ spelled user
-contents (input.Card token card user product active) = 2 ∷ spelled token ++ spelled card ++ spelled user ++ spelled product ++ flag active
-contents (input.Move token who) = 3 ∷ spelled token ++ moved_contents who
+contents (input.User token user) = 1 ∷ with_length token ++ with_length user
+contents (input.Card token card user product active) = 2 ∷ with_length token ++ with_length card ++ with_length user ++ with_length product ++ flag_contents active
+contents (input.Move token who) = 3 ∷ with_length token ++ moved_contents who
 contents (input.Product token product currency funding timeout_ms hold_ms) =
-    4 ∷ spelled token ++ spelled product ++ iso_number currency ∷ funding_number funding ∷ timeout_ms ∷ hold_ms ∷ []
-contents (input.Group token group mccs) = 5 ∷ spelled token ++ spelled group ++ spelled mccs
+    4 ∷ with_length token ++ with_length product ++ iso_number currency ∷ funding_number funding ∷ timeout_ms ∷ hold_ms ∷ []
+contents (input.Group token group mccs) = 5 ∷ with_length token ++ with_length group ++ with_length mccs
 contents (input.Control token control currency window amount_limit usage_limit association scope active) =
-    6 ∷ spelled token ++ spelled control ++ iso_number currency ∷ window_number window ∷ optional amount_limit ++ optional usage_limit
-    ++ association_contents association ++ scope_contents scope ++ flag active
+    6 ∷ with_length token ++ with_length control ++ iso_number currency ∷ window_number window ∷ optional_contents amount_limit ++ optional_contents usage_limit
+    ++ association_contents association ++ scope_contents scope ++ flag_contents active
 contents (input.Set token set product currency connection timeout application max day_limit active) =
-    7 ∷ spelled token ++ spelled set ++ spelled product ++ iso_number currency ∷ flag connection ++ flag timeout ++ flag application
-    ++ max ∷ day_limit ∷ flag active
-contents (input.Switch token product on) = 8 ∷ spelled token ++ spelled product ++ flag on
-contents (input.Load token user currency amount) = 9 ∷ spelled token ++ spelled user ++ iso_number currency ∷ amount ∷ []
+    7 ∷ with_length token ++ with_length set ++ with_length product ++ iso_number currency ∷ flag_contents connection ++ flag_contents timeout ++ flag_contents application
+    ++ max ∷ day_limit ∷ flag_contents active
+contents (input.Switch token product on) = 8 ∷ with_length token ++ with_length product ++ flag_contents on
+contents (input.Load token user currency amount) = 9 ∷ with_length token ++ with_length user ++ iso_number currency ∷ amount ∷ []
 contents (input.Authorization token card currency amount mcc mid) =
-    10 ∷ spelled token ++ spelled card ++ iso_number currency ∷ amount ∷ mcc ∷ [] ++ spelled mid
-contents (input.Increment token txn currency amount) = 11 ∷ spelled token ++ spelled txn ++ iso_number currency ∷ amount ∷ []
-contents (input.Reversal token txn currency amount) = 12 ∷ spelled token ++ spelled txn ++ iso_number currency ∷ amount ∷ []
+    10 ∷ with_length token ++ with_length card ++ iso_number currency ∷ amount ∷ mcc ∷ [] ++ with_length mid
+contents (input.Increment token txn currency amount) = 11 ∷ with_length token ++ with_length txn ++ iso_number currency ∷ amount ∷ []
+contents (input.Reversal token txn currency amount) = 12 ∷ with_length token ++ with_length txn ++ iso_number currency ∷ amount ∷ []
 contents (input.Clearing token txn currency amount last) =
-    13 ∷ spelled token ++ spelled txn ++ iso_number currency ∷ amount ∷ flag last
-contents (input.Refund token txn currency amount) = 14 ∷ spelled token ++ spelled txn ++ iso_number currency ∷ amount ∷ []
+    13 ∷ with_length token ++ with_length txn ++ iso_number currency ∷ amount ∷ flag_contents last
+contents (input.Refund token txn currency amount) = 14 ∷ with_length token ++ with_length txn ++ iso_number currency ∷ amount ∷ []
 contents (input.Answer call outcome) = 15 ∷ call.0 ∷ outcome_number outcome ∷ []
 contents (input.Ack notice) = 16 ∷ notice ∷ []
 contents input.Time = 17 ∷ []

@@ -1,9 +1,9 @@
--- A text at the front of an array of 36 bytes, with zeros behind it.
+-- A text at the start of an array of 36 bytes, with zeros after it.
 use Rattle.std.specs.Prelude.{◌≡◌, ℕ, ◌-◌, ◌≤◌, List, ◌++◌, length, take, drop, replicate}
 use Rattle.std.proofs.Common.{sym, ◌∙◌, ap, arith}
 use Rattle.std.proofs.lemmas.List.{take-append-drop, length-take}
 
--- these 36 bytes are a text of this length and zeros behind it
+-- these 36 bytes are a text of this length and zeros after it
 pub record IsPadded (bytes : List ℕ) (len : ℕ) : Type 0 where
   pub size : length bytes ≡ 36
   pub fits : len ≤ 36
@@ -13,7 +13,7 @@ pub record IsPadded (bytes : List ℕ) (len : ℕ) : Type 0 where
 pub padded_len : (bytes : List ℕ) (len : ℕ) → IsPadded bytes len → length (take len bytes) ≡ len
 padded_len bytes len h = omega (arith, length-take len bytes, h.size, h.fits)
 
--- the text and zeros behind it are the 36 bytes again
+-- the text and zeros after it are the 36 bytes again
 pub padded_back : (bytes : List ℕ) (len : ℕ) → IsPadded bytes len → take len bytes ++ replicate (36 - length (take len bytes)) 0 ≡ bytes
 padded_back bytes len h =
     ap (λ n. take len bytes ++ replicate (36 - n) 0) (padded_len bytes len h)

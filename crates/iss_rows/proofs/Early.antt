@@ -20,17 +20,17 @@ use Rattle.iss_model.specs.declared.decision.Reason.{Reason}
 use Rattle.iss_model.specs.declared.decision.Reason.TheVariants as reason
 use Rattle.iss_model.specs.declared.decision.Verdict.TheVariants as verdict
 use Rattle.iss_model.specs.rules.Settings.{card_named, product_made, products_of, product_named, is_active_user, is_active_card}
-use Rattle.iss_model.specs.rules.Controls.{ControlPut, ControlNow, control_put, control_now, controls_of, counting, firsts}
+use Rattle.iss_model.specs.rules.Controls.{ControlPut, ControlNow, control_put, control_now, controls_of, counted_control, firsts}
 use Rattle.iss_model.specs.rules.Activity.{TxnNow, CallNow, txn_began, txn_now, txns_of, call_opened, call_now, calls_of, is_asked}
 use Rattle.iss_model.specs.rules.Facts.{Facts, available_in}
 use Rattle.iss_model.specs.rules.Asks.{Ask, breach, declines, txn_begun, usage_of}
 use Rattle.iss_model.specs.rules.Reasons.{first_reason, is_some_with, user_is}
 use Rattle.iss_model.specs.rules.CardReasons.{is_account_funded, is_in_currency, lacks_funds, control_breach, first_ask, authorization_reason}
 use Rattle.iss_model.specs.Currencies.{same_currency}
-use Rattle.iss_model.specs.rules.Pieces.{held}
-use Rattle.iss_model.specs.rules.CardEntries.{authorized, gateway_asked}
-use Rattle.iss_model.specs.rules.Due.{DueItem, due_call, due_txn, due_items, placed, is_quiet}
-use Rattle.iss_model.specs.rules.Judging.{judge, judged_at, judged_on}
+use Rattle.iss_model.specs.rules.Pieces.{hold_entries}
+use Rattle.iss_model.specs.rules.CardEntries.{authorization_entries, gateway_ask_entries}
+use Rattle.iss_model.specs.rules.Due.{DueItem, due_call, due_txn, due_items, items_with, is_quiet}
+use Rattle.iss_model.specs.rules.Judging.{judge, judgement_at, judgement_on}
 use Rattle.iss_model.specs.rules.Keeper.{Growth, grow}
 use Rattle.iss_model.specs.rules.Stepping.{step, after_due, settle, own_entries, authorization_ask, entries_of, unless_declined}
 use Rattle.iss_rows.specs.Early.{is_early_product, is_early_entry, all_early, are_early, are_spelled, IsEarly, is_short, purchase_reason, purchased}
@@ -41,7 +41,7 @@ use Rattle.iss_model.specs.Forms.{is_hold_time}
 use Rattle.iss_model.specs.texts.Spelling.{has_spelling}
 use Rattle.iss_rows.specs.declared.plain.entries.Purchase.{Purchase}
 use Rattle.iss_rows.specs.Purchases.{purchased_on, purchased_of, purchase_entries}
-use Rattle.iss_model.specs.rules.Histories.{History, history_facts, history_keeper, time_of, numbered}
+use Rattle.iss_model.specs.rules.Histories.{History, history_facts, history_keeper, time_of, numbered_rows}
 
 both_true : (s t : Bool) → s ≡ true → t ≡ true → (s && t) ≡ true
 both_true s t p q = rw (p, q) refl
@@ -95,7 +95,7 @@ early_named f e name = passing_found (λ product. bytes_eq product.name name) is
 -- there is no control
 pub early_controls : (rows : List Row) → are_early rows ≡ true → controls_of rows ≡ []
 early_controls rows h =
-    ap (λ (puts : List ControlPut). map (counting rows) (map (control_now puts) (firsts (λ put. put.control.name) puts)))
+    ap (λ (puts : List ControlPut). map (counted_control rows) (map (control_now puts) (firsts (λ put. put.control.name) puts)))
     (none_made (λ row. control_put row.number row.entry) (λ row. no_control row.number row.entry) rows h)
 
 -- there is no call
@@ -127,8 +127,8 @@ due_later all (row ∷ rows) h =
 -- nothing is due
 pub early_due : (h : History) → are_early h.rows ≡ true → due_items (history_facts h) 0 ≡ []
 early_due h e =
-    ap (λ (calls : List CallNow). fold placed [] (filter (λ item. nat_le item.since 0) (map due_call (filter is_asked calls) ++ map due_txn (filter (λ t. t.live) (txns_of h.rows))))) (early_calls h.rows e)
-    ∙ ap (λ (items : List DueItem). fold placed [] items) (due_later h.rows h.rows e)
+    ap (λ (calls : List CallNow). fold items_with [] (filter (λ item. nat_le item.since 0) (map due_call (filter is_asked calls) ++ map due_txn (filter (λ t. t.live) (txns_of h.rows))))) (early_calls h.rows e)
+    ∙ ap (λ (items : List DueItem). fold items_with [] items) (due_later h.rows h.rows e)
 
 -- when nothing is due, nothing is settled
 pub early_after : (h : History) → are_early h.rows ≡ true → after_due history_keeper h 0 ≡ record { world = h; entries = [] }
@@ -163,12 +163,12 @@ step_grown h i at taken grown entries start early up made added =
 
 -- an input at stamp 0 is judged on what stands
 pub early_judge : (h : History) (i : Input) → are_early h.rows ≡ true → time_of h.records ≡ 0
-    → judge history_keeper h i 0 ≡ judged_on true (history_facts h) (history_facts h) i 0
+    → judge history_keeper h i 0 ≡ judgement_on true (history_facts h) (history_facts h) i 0
 unfolding judge
 early_judge h i e t =
-    ap (λ (now : ℕ). judged_at history_keeper h i (max 0 now)) t
-    ∙ ap (λ (items : List DueItem). judged_on (is_quiet items) (history_facts h) (history_facts (after_due history_keeper h 0).world) i 0) (early_due h e)
-    ∙ ap (λ (g : Growth History). judged_on true (history_facts h) (history_facts g.world) i 0) (early_after h e)
+    ap (λ (now : ℕ). judgement_at history_keeper h i (max 0 now)) t
+    ∙ ap (λ (items : List DueItem). judgement_on (is_quiet items) (history_facts h) (history_facts (after_due history_keeper h 0).world) i 0) (early_due h e)
+    ∙ ap (λ (g : Growth History). judgement_on true (history_facts h) (history_facts g.world) i 0) (early_after h e)
 
 no_breach : (f : Facts) → f.controls ≡ [] → (ask : Ask) → breach f ask ≡ None
 no_breach f e ask = ap (λ (controls : List ControlNow). option_map (λ c. c.control.name) (find (declines f ask) controls)) e
@@ -225,23 +225,23 @@ early_reason f e token card currency amount mcc mid at = reason_of_known f e tok
 
 -- an authorisation of an account product makes just that
 pub early_authorized : (f : Facts) (t : Txn) (amount at : ℕ) → is_account_funded t.funding ≡ true → nat_le 1 amount ≡ true
-    → authorized f (Some (first_ask t.token amount at t)) ≡ purchased t amount at
+    → authorization_entries f (Some (first_ask t.token amount at t)) ≡ purchased t amount at
 early_authorized f t amount at own some =
-    ap (λ (b : Bool). entry.Began t ∷ entry.Usage (usage_of t (pos amount) (pos 1) at) ∷ cond b (held t part.S amount ++ entry.Decided t.token verdict.Approved ∷ []) (gateway_asked (product_named t.product f.products) f (first_ask t.token amount at t))) own
+    ap (λ (b : Bool). entry.Began t ∷ entry.Usage (usage_of t (pos amount) (pos 1) at) ∷ cond b (hold_entries t part.S amount ++ entry.Decided t.token verdict.Approved ∷ []) (gateway_ask_entries (product_named t.product f.products) f (first_ask t.token amount at t))) own
     ∙ ap (λ (zero : Bool). entry.Began t ∷ entry.Usage (usage_of t (pos amount) (pos 1) at) ∷ cond zero [] (entry.Hold t.token t.user t.currency part.S (pos amount) ∷ []) ++ entry.Decided t.token verdict.Approved ∷ []) (not_nothing amount some)
   where
     not_nothing : (n : ℕ) → nat_le 1 n ≡ true → nat_eq n 0 ≡ false
     not_nothing n h = grind (arith, nat_tests)
 
 purchased_by : (f : Facts) (p : Purchase) (c : Card) (known : Option Product) → Passes is_early_product known → nat_le 1 p.amount ≡ true
-    → authorized f (option_map (first_ask p.token p.amount p.at) (option_map (λ product. txn_begun f c product p.token p.currency p.mcc p.mid p.at) known))
+    → authorization_entries f (option_map (first_ask p.token p.amount p.at) (option_map (λ product. txn_begun f c product p.token p.currency p.mcc p.mid p.at) known))
     ≡ purchased_of known f p c
 purchased_by f p c (Some product) early some =
     early_authorized f (txn_begun f c product p.token p.currency p.mcc p.mid p.at) p.amount p.at (and_parts (is_account_funded product.funding) (is_hold_time product.hold_ms) early).0 some
 purchased_by f p c None early some = refl
 
 purchased_with : (f : Facts) → list_all is_early_product f.products ≡ true → (p : Purchase) → nat_le 1 p.amount ≡ true → (known : Option Card)
-    → authorized f (option_map (first_ask p.token p.amount p.at) (option_and_then (λ c. option_map (λ product. txn_begun f c product p.token p.currency p.mcc p.mid p.at) (product_named c.product f.products)) known))
+    → authorization_entries f (option_map (first_ask p.token p.amount p.at) (option_and_then (λ c. option_map (λ product. txn_begun f c product p.token p.currency p.mcc p.mid p.at) (product_named c.product f.products)) known))
     ≡ purchased_on known f p
 purchased_with f e p some None = refl
 purchased_with f e p some (Some c) = purchased_by f p c (product_named c.product f.products) (early_named f e c.product) some
@@ -250,7 +250,7 @@ purchased_with f e p some (Some c) = purchased_by f p c (product_named c.product
 pub early_purchase : (f : Facts) → f.controls ≡ [] → list_all is_early_product f.products ≡ true → (p : Purchase) → nat_le 1 p.amount ≡ true
     → entries_of (input.Authorization p.token p.card p.currency p.amount p.mcc p.mid) p.at f ≡ purchase_entries p f
 early_purchase f none one p some =
-    ap (λ (why : Option Reason). unless_declined why p.token (authorized f (authorization_ask f p.token p.card p.currency p.amount p.mcc p.mid p.at))) (early_reason f none p.token p.card p.currency p.amount p.mcc p.mid p.at)
+    ap (λ (why : Option Reason). unless_declined why p.token (authorization_entries f (authorization_ask f p.token p.card p.currency p.amount p.mcc p.mid p.at))) (early_reason f none p.token p.card p.currency p.amount p.mcc p.mid p.at)
     ∙ ap (λ (es : List Entry). unless_declined (purchase_reason f p.card p.currency p.amount) p.token es) (purchased_with f one p some (card_named p.card f.cards))
 
 unless_early : (why : Option Reason) (token : List ℕ) (entries : List Entry) → all_early entries ≡ true → all_early (unless_declined why token entries) ≡ true
@@ -274,14 +274,14 @@ pub early_purchase_entries : (f : Facts) → list_all is_early_product f.product
 early_purchase_entries f one p start =
     unless_early (purchase_reason f p.card p.currency p.amount) p.token (purchased_on (card_named p.card f.cards) f p) (early_on f one p start (card_named p.card f.cards))
 
-early_numbered : (n : ℕ) (entries : List Entry) → are_early (numbered n entries) ≡ all_early entries
+early_numbered : (n : ℕ) (entries : List Entry) → are_early (numbered_rows n entries) ≡ all_early entries
 early_numbered n [] = refl
 early_numbered n (e ∷ es) = ap (λ (b : Bool). is_early_entry e && b) (early_numbered n es)
 
 -- rows of the plain book stay so with such entries
-pub early_more : (rows : List Row) (n : ℕ) (entries : List Entry) → are_early rows ≡ true → all_early entries ≡ true → are_early (rows ++ numbered n entries) ≡ true
+pub early_more : (rows : List Row) (n : ℕ) (entries : List Entry) → are_early rows ≡ true → all_early entries ≡ true → are_early (rows ++ numbered_rows n entries) ≡ true
 early_more rows n entries h e =
-    list_all-append (λ (row : Row). is_early_entry row.entry) rows (numbered n entries) ∙ both_true _ _ h (early_numbered n entries ∙ e)
+    list_all-append (λ (row : Row). is_early_entry row.entry) rows (numbered_rows n entries) ∙ both_true _ _ h (early_numbered n entries ∙ e)
 
 -- and the time stays at the start
 pub early_time : (rs : List Record) (r : Record) → time_of rs ≡ 0 → r.at ≡ 0 → time_of (rs ++ r ∷ []) ≡ 0
@@ -290,7 +290,7 @@ early_time rs r t e = fold-append _ 0 rs (r ∷ []) ∙ ap (λ (now : ℕ). max 
 -- the book stays so, whether or not the rows could be added
 pub early_added : {A B : Type 0} (records : List Record) (rows new : List Row) (n : ℕ) (entries : List Entry) (result : Result A B)
     → IsEarly (record { records = records; rows = rows }) → all_early entries ≡ true
-    → OnOk result (new ≡ rows ++ numbered n entries) → OnErr result (new ≡ rows) → IsEarly (record { records = records; rows = new })
+    → OnOk result (new ≡ rows ++ numbered_rows n entries) → OnErr result (new ≡ rows) → IsEarly (record { records = records; rows = new })
 early_added records rows new n entries (Ok x) early all added same =
     record { start = early.start; rows = ap are_early added ∙ early_more rows n entries early.rows all; spelled = early.spelled }
 early_added records rows new n entries (Err x) early all added same = record { start = early.start; rows = ap are_early same ∙ early.rows; spelled = early.spelled }

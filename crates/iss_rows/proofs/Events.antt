@@ -8,8 +8,8 @@ use Rattle.iss_model.specs.declared.input.Record.{Record}
 use Rattle.iss_model.specs.declared.entry.Row.{Row}
 use Rattle.iss_model.specs.Inputs.{is_event, is_text, event_token}
 use Rattle.iss_model.specs.rules.Facts.{Facts, Accepted, event_in}
-use Rattle.iss_model.specs.rules.Histories.{History, history_facts, accepted_from}
-use Rattle.iss_model.specs.rules.Judging.{told_by, event_answer, refusal}
+use Rattle.iss_model.specs.rules.Histories.{History, history_facts, events_from}
+use Rattle.iss_model.specs.rules.Judging.{repeat_or_conflict, event_answer, refusal}
 use Rattle.iss_core.specs.Built.{is_built}
 use Rattle.iss_rows.specs.Repeats.{event_from, told_by_rows}
 
@@ -26,7 +26,7 @@ found_or_later token a rest false e =
     ap (λ (b : Bool). cond b (Some a) (find (λ (x : Accepted). is_event token x.input) rest)) (sym (text_of_none token (event_token a.input) e))
 
 abbrev events_from : ℕ → List Record → List Accepted
-events_from n records = filter (λ a. is_some (event_token a.input)) (accepted_from n records)
+events_from n records = filter (λ a. is_some (event_token a.input)) (events_from n records)
 
 first_event : (token : List ℕ) (n : ℕ) (records : List Record) → find (λ (a : Accepted). is_event token a.input) (events_from n records) ≡ event_from n token records
 first_event token n [] = refl
@@ -60,7 +60,7 @@ pub answered_by_book : (h : History) (records : List Record) (rows : List Row) (
 answered_by_book h records rows i token answer view taken named told =
     let facts : Facts = history_facts (record { records = records; rows = rows }) in
     told
-    ∙ ap (told_by facts i token) (sym (event_in_records (record { records = records; rows = rows }) token))
+    ∙ ap (repeat_or_conflict facts i token) (sym (event_in_records (record { records = records; rows = rows }) token))
     ∙ ap (event_told facts i) named
     ∙ sym (early_refusal true facts i taken)
     ∙ ap (λ (h : History). refusal true (history_facts h) (history_facts h) i) view

@@ -18,12 +18,12 @@ use Rattle.iss_top.specs.Dry.{reading_of, dry_output}
 use Rattle.iss_top.proofs.Feeding.{some_parts}
 use Rattle.iss_rows.specs.Dry.{told_of, line_text, line_next, lines_text, text_to_come}
 
--- bytes in front of what stands in front of the first part
+-- bytes before what stands before the first part
 onto_first-append : (a b : List ℕ) (parts : List (List ℕ)) → onto_first a (onto_first b parts) ≡ onto_first (a ++ b) parts
 onto_first-append a b [] = refl
 onto_first-append a b (p ∷ ps) = ap (λ (q : List ℕ). q ∷ ps) (sym (append_assoc a b p))
 
--- a byte that ends no line goes behind the line
+-- a byte that ends no line goes after the line
 pub to_come-byte : (h : History) (line : List ℕ) (b : ℕ) (rest : List ℕ) → nat_eq b 10 ≡ false → text_to_come h line (b ∷ rest) ≡ text_to_come h (line ++ b ∷ []) rest
 unfolding text_to_come
 to_come-byte h line b rest e =
@@ -106,7 +106,7 @@ unfolding text_to_come
 output_to_come input =
     transcript-parts nothing_yet (parts_of input) ∙ ap (lines_text nothing_yet) (sym (some_parts input))
 
--- What went out, and what is to come, makes up the whole output: so it is at the start, behind each byte, and at the end.
+-- What went out, and what is to come, makes up the whole output: so it is at the start, after each byte, and at the end.
 abbrev pub IsOnItsWay : List ℕ → List ℕ → History → List ℕ → List ℕ → Type 0
 IsOnItsWay input told h line rest = dry_output input ≡ told ++ text_to_come h line rest
 

@@ -12,9 +12,9 @@ use Rattle.iss_core.specs.Built.{is_built}
 use Rattle.iss_rows.specs.Early.{IsEarly}
 use Rattle.iss_rows.proofs.Early.{early_judge}
 use Rattle.iss_model.specs.rules.Stepping.{step}
-use Rattle.iss_model.specs.rules.Judging.{judged_as, refusal}
+use Rattle.iss_model.specs.rules.Judging.{judgement_as, refusal}
 use Rattle.iss_model.specs.rules.Histories.{History, history_facts, history_keeper}
-use Rattle.iss_model.specs.run.Transcripts.{sound, Told, told_by_reaction, after_line, at_level, bytes_of}
+use Rattle.iss_model.specs.run.Transcripts.{sound, LineReply, reply_by_reaction, after_line, at_level, bytes_of}
 use Rattle.iss_event.specs.declared.line.Line.{Line}
 use Rattle.iss_event.specs.declared.line.Mode.TheVariants.{Lines}
 use Rattle.iss_event.specs.declared.line.FormFault.{FormFault}
@@ -40,23 +40,23 @@ new_reaction : (h : History) → IsEarly h → (i : Input) → is_built i ≡ tr
 unfolding reaction
 new_reaction h e i early unknown =
     ap (reaction_as history_keeper h i 0) (early_judge h i e.rows e.start)
-    ∙ ap (λ (o : Option Answer). reaction_as history_keeper h i 0 (judged_as o true i 0)) unknown
+    ∙ ap (λ (o : Option Answer). reaction_as history_keeper h i 0 (judgement_as o true i 0)) unknown
     ∙ ap (λ (said : List Said). record (made_by h i) { said = (made_by h i).said ++ said }) (no_time i early)
     ∙ ap (λ (said : List Said). record (made_by h i) { said = said }) (append-nil (made_by h i).said)
 
-pub judged_new : (h : History) → IsEarly h → (i : Input) → is_built i ≡ true → refusal true (history_facts h) (history_facts h) i ≡ None → after_line history_keeper h (sound i None) ≡ told_by_reaction history_keeper (made_by h i)
-judged_new h e i early unknown = ap (told_by_reaction history_keeper) (new_reaction h e i early unknown)
+pub judged_new : (h : History) → IsEarly h → (i : Input) → is_built i ≡ true → refusal true (history_facts h) (history_facts h) i ≡ None → after_line history_keeper h (sound i None) ≡ reply_by_reaction history_keeper (made_by h i)
+judged_new h e i early unknown = ap (reply_by_reaction history_keeper) (new_reaction h e i early unknown)
 
 -- a new input of the plain book makes its record
 pub new_history : (h : History) → IsEarly h → (i : Input) → is_built i ≡ true → refusal true (history_facts h) (history_facts h) i ≡ None
     → (after_line history_keeper h (sound i None)).world ≡ (step history_keeper h (record_of i)).world
-new_history h e i early unknown = ap (λ (t : Told History). t.world) (judged_new h e i early unknown)
+new_history h e i early unknown = ap (λ (t : LineReply History). t.world) (judged_new h e i early unknown)
 
 -- and is told what its entries send out
 pub new_texts : (h : History) → IsEarly h → (i : Input) → is_built i ≡ true → refusal true (history_facts h) (history_facts h) i ≡ None
     → bytes_of (after_line history_keeper h (sound i None)).texts ≡ entries_text (step history_keeper h (record_of i)).entries
 new_texts h e i early unknown =
-    ap (λ (t : Told History). bytes_of t.texts) (judged_new h e i early unknown)
+    ap (λ (t : LineReply History). bytes_of t.texts) (judged_new h e i early unknown)
     ∙ bytes_of_said (length (made_by h i).world.records) (step history_keeper h (record_of i)).entries
 
 -- an event that stands changes nothing, and is told its answer
@@ -64,8 +64,8 @@ answered : (h : History) → IsEarly h → (i : Input) (a : Answer) → refusal 
     → after_line history_keeper h (sound i None) ≡ record { world = h; texts = at_level (length h.records) (answer_text a ∷ []) }
 unfolding reaction
 answered h e i a told =
-    ap (λ (j : Judged). told_by_reaction history_keeper (reaction_as history_keeper h i 0 j)) (early_judge h i e.rows e.start)
-    ∙ ap (λ (o : Option Answer). told_by_reaction history_keeper (reaction_as history_keeper h i 0 (judged_as o true i 0))) told
+    ap (λ (j : Judged). reply_by_reaction history_keeper (reaction_as history_keeper h i 0 j)) (early_judge h i e.rows e.start)
+    ∙ ap (λ (o : Option Answer). reply_by_reaction history_keeper (reaction_as history_keeper h i 0 (judgement_as o true i 0))) told
 
 -- the same with the stamp as it comes in the code
 told_at : (h : History) → IsEarly h → (i : Input) (at : Option ℕ) → at ≡ None → (a : Answer) → refusal true (history_facts h) (history_facts h) i ≡ Some a
@@ -76,11 +76,11 @@ told_at h e i at none a told = ap (λ (at : Option ℕ). after_line history_keep
 pub text_told : (h : History) → IsEarly h → (i : Input) (at : Option ℕ) → at ≡ None → (a : Answer) → refusal true (history_facts h) (history_facts h) i ≡ Some a
     → (text : List ℕ) → text ≡ answer_text a → text ≡ bytes_of (after_line history_keeper h (sound i at)).texts
 text_told h e i at none a told text said =
-    said ∙ sym (bytes_of_one (length h.records) (answer_text a)) ∙ ap (λ (t : Told History). bytes_of t.texts) (sym (told_at h e i at none a told))
+    said ∙ sym (bytes_of_one (length h.records) (answer_text a)) ∙ ap (λ (t : LineReply History). bytes_of t.texts) (sym (told_at h e i at none a told))
 
 pub history_kept : (h : History) → IsEarly h → (i : Input) (at : Option ℕ) → at ≡ None → (a : Answer) → refusal true (history_facts h) (history_facts h) i ≡ Some a
     → h ≡ (after_line history_keeper h (sound i at)).world
-history_kept h e i at none a told = ap (λ (t : Told History). t.world) (sym (told_at h e i at none a told))
+history_kept h e i at none a told = ap (λ (t : LineReply History). t.world) (sym (told_at h e i at none a told))
 
 pub history_grown : (h : History) → IsEarly h → (i : Input) (at : Option ℕ) (stamp : ℕ) → at ≡ None → stamp ≡ 0 → is_built i ≡ true → refusal true (history_facts h) (history_facts h) i ≡ None
     → (new : History) → new ≡ (step history_keeper h (record { at = stamp; input = i })).world → new ≡ (after_line history_keeper h (sound i at)).world

@@ -1,12 +1,12 @@
 -- What the lines of a dry run are told on the plain book, in a row.
 use Rattle.std.specs.Prelude.{ℕ, List, [], ◌∷◌, ◌++◌, if◌then◌else◌}
 use Rattle.iss_model.specs.rules.Histories.{History, history_keeper}
-use Rattle.iss_model.specs.run.Transcripts.{Told, after_line, bytes_of}
+use Rattle.iss_model.specs.run.Transcripts.{LineReply, after_line, bytes_of}
 use Rattle.iss_top.specs.Lines.{is_blank, onto_first, parts_of}
 use Rattle.iss_top.specs.Dry.{reading_of}
 
 -- what is told of a line that is not blank, and what then stands
-abbrev pub told_of : History → List ℕ → Told History
+abbrev pub told_of : History → List ℕ → LineReply History
 told_of h line = after_line history_keeper h (reading_of line)
 
 -- what a line is told: nothing where it is blank

@@ -23,7 +23,7 @@ fn is_sync(action: Option<&Action>, went_well: bool) -> bool {
     matches!(action, Some(Action::Sync { ok }) if *ok == went_well)
 }
 
-/// Whether these are a front of what formatting with instance 7 does, of which the last went so.
+/// Whether these are a prefix of what formatting with instance 7 does, of which the last went so.
 fn are_formatting(actions: &[Action], last_went_well: bool) -> bool {
     let count = actions.len();
     let went = |number: usize| number < count || last_went_well;

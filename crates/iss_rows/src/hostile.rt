@@ -351,7 +351,7 @@ fn hostile_products_are_told_their_faults(rt: HostRuntime) -> Result<(), Fail> {
     Ok(())
 }
 
-/// A user's line with blanks behind it, so that it has so many bytes, and a line feed.
+/// A user's line with blanks after it, so that it has so many bytes, and a line feed.
 fn padded_user(alloc: Global, length: usize) -> Result<String, AllocError> {
     let mut line = String::from_str(alloc, r#"{"type":"user","token":"t1","user":"u1"}"#)?;
     for _ in line.len()..length {

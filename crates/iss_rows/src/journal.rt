@@ -244,7 +244,7 @@ fn names_a_bad_record_by_its_gate(rt: HostRuntime) -> Result<(), Fail> {
         let mut edge = device_of(alloc, &device, &[])?;
         assert!(rt; matches!(open(alloc, &mut edge), Err(JournalFault::BadRecord(16))));
     }
-    // The longest record here leaves one byte for the gate behind it.
+    // The longest record here leaves one byte for the gate after it.
     let mut device = ONE_RECORD;
     device[17..21].copy_from_slice(&[0, 0, 0, 26]);
     device[47] = 0;

@@ -1,4 +1,4 @@
-//! The core on a user, a card, a load and a purchase, and what it answers behind them.
+//! The core on a user, a card, a load and a purchase, and what it answers after them.
 ghost use Rattle.std.specs.Prelude.{IfOk, IfSome};
 ghost use Rattle.iss_top.specs.Start.{IsAtStart};
 
@@ -19,7 +19,7 @@ const LINES: [&str; 4] = [
 const OTHER: &str =
     r#"{"type":"authorization","token":"a1","card":"c1","currency":"USD","amount":"20.01","mcc":"5411","mid":"m1"}"#;
 
-/// The core behind a line and the entries that it made: `None` where the line is no new event.
+/// The core after a line and the entries that it made: `None` where the line is no new event.
 fn taken(alloc: Global, core: Core, line: &str) -> Result<Option<(Core, Vec<Entry>)>, AllocError>
     requires start { IsAtStart core.state }
     ensures { IfOk result (λ next. IfSome next (λ x. IsAtStart x.0.state)) }
@@ -37,7 +37,7 @@ fn taken(alloc: Global, core: Core, line: &str) -> Result<Option<(Core, Vec<Entr
     }
 }
 
-/// The core of instance 7 behind lines: `None` where one of them is no new event.
+/// The core of instance 7 after lines: `None` where one of them is no new event.
 fn core_behind(alloc: Global, lines: &[&str]) -> Result<Option<Core>, AllocError>
     ensures { IfOk result (λ behind. IfSome behind (λ core. IsAtStart core.state)) }
 {
@@ -79,7 +79,7 @@ fn sums(core: &Core, user: &Token) -> [i64; 3] {
     ]
 }
 
-/// Whether the core behind all lines has their numbers, and the accounts of the programme and the user.
+/// Whether the core after all lines has their numbers, and the accounts of the programme and the user.
 fn stands(alloc: Global) -> Result<bool, AllocError> {
     match (core_behind(alloc, &LINES)?, Token::new(b"u1")) {
         (Some(core), Some(user)) => Ok(

@@ -23,7 +23,7 @@ use Rattle.iss_model.specs.rules.Facts.{Facts, balance_in, held_in}
 use Rattle.iss_model.specs.rules.Asks.{used_in}
 use Rattle.iss_model.specs.rules.Activity.{is_asked}
 use Rattle.iss_model.specs.rules.Histories.{History, nothing_yet, history_facts, history_keeper}
-use Rattle.iss_model.specs.run.Sayings.{Said, decided, asked, noticed, told, reaction}
+use Rattle.iss_model.specs.run.Sayings.{Said, decided, asked, noticed, answered, reaction}
 
 -- an input, the stamp that its line gives, or 0, and what is said of it
 pub record Step : Type 0 where
@@ -32,12 +32,12 @@ pub record Step : Type 0 where
   pub said : List Said
 
 -- a step whose line gives no stamp
-abbrev pub now : Input → List Said → Step
-now i said = record { input = i; at = 0; said = said }
+abbrev pub step : Input → List Said → Step
+step i said = record { input = i; at = 0; said = said }
 
 -- a step whose line gives a stamp
-abbrev pub stamped : ℕ → Input → List Said → Step
-stamped at i said = record { input = i; at = at; said = said }
+abbrev pub step_at : ℕ → Input → List Said → Step
+step_at at i said = record { input = i; at = at; said = said }
 
 -- the balances of the gateway, the network, the programme and user u1 in a currency, and what is held of u1
 pub record Sheet : Type 0 where
@@ -111,8 +111,8 @@ dollars gateway network programme user held =
     record { currency = Usd; gateway = gateway; network = network; programme = programme; user = user; held = held }
 
 -- so many open calls, pending notices and records
-abbrev pub counted : ℕ → ℕ → ℕ → Tally
-counted calls notices records = record { calls = calls; notices = notices; records = records }
+abbrev pub tally : ℕ → ℕ → ℕ → Tally
+tally calls notices records = record { calls = calls; notices = notices; records = records }
 
 -- user u1
 abbrev pub new_user : Input
@@ -176,20 +176,20 @@ abbrev pub call_number : ℕ → CallId
 call_number n = record { 0 = n }
 
 -- the gateway's answer to a call
-abbrev pub answers : ℕ → Outcome → Input
-answers call outcome = input.Answer (call_number call) outcome
+abbrev pub gateway_answer : ℕ → Outcome → Input
+gateway_answer call outcome = input.Answer (call_number call) outcome
 
 -- the event is done
-abbrev pub done : String → List Said
-done token = decided (codes token) verdict.Done ∷ []
+abbrev pub is_done : String → List Said
+is_done token = decided (codes token) verdict.Done ∷ []
 
 -- the event is approved
-abbrev pub approved : String → List Said
-approved token = decided (codes token) verdict.Approved ∷ []
+abbrev pub is_approved : String → List Said
+is_approved token = decided (codes token) verdict.Approved ∷ []
 
 -- the event is declined
-abbrev pub declined : String → Reason → List Said
-declined token why = decided (codes token) (verdict.Declined why) ∷ []
+abbrev pub is_declined : String → Reason → List Said
+is_declined token why = decided (codes token) (verdict.Declined why) ∷ []
 
 -- the gateway is asked at a stamp, and has 3 seconds to answer
 abbrev pub request : Method → ℕ → String → String → ℕ → ℕ → List Said
@@ -224,13 +224,13 @@ notice number method txn call amount gateway =
     }) ∷ []
 
 -- the event stands with the same contents, and is told its reply again
-abbrev pub repeated : String → Reply → List Said
-repeated token reply = told (answer.Repeat (codes token) reply) ∷ []
+abbrev pub is_repeat : String → Reply → List Said
+is_repeat token reply = answered (answer.Repeat (codes token) reply) ∷ []
 
 -- the event stands with other contents, by this record
-abbrev pub in_conflict : String → ℕ → List Said
-in_conflict token number = told (answer.Conflict (codes token) number) ∷ []
+abbrev pub is_conflict : String → ℕ → List Said
+is_conflict token number = answered (answer.Conflict (codes token) number) ∷ []
 
 -- the call was closed before
-abbrev pub late : ℕ → How → List Said
-late call how = told (answer.Late (call_number call) how) ∷ []
+abbrev pub is_late : ℕ → How → List Said
+is_late call how = answered (answer.Late (call_number call) how) ∷ []

@@ -9,25 +9,25 @@ use Rattle.iss_model.specs.declared.input.Input.TheVariants as input
 use Rattle.iss_model.specs.declared.decision.Reason.TheVariants as reason
 use Rattle.iss_model.specs.declared.decision.Reply.TheVariants as reply
 use Rattle.iss_model.specs.declared.decision.Answer.TheVariants as answer
-use Rattle.iss_model.specs.run.Sayings.{acked, told}
-use Rattle.iss_scripts.specs.Scripts.{Script, now, stamped, dollars, owes, counted, new_user, card_of, gateway_product, amount_control, purchase, reversal, clearing, final_clearing, refund, call_number, answers, done, approved, declined, request, notice, repeated, late}
+use Rattle.iss_model.specs.run.Sayings.{acked, answered}
+use Rattle.iss_scripts.specs.Scripts.{Script, step, step_at, dollars, owes, tally, new_user, card_of, gateway_product, amount_control, purchase, reversal, clearing, final_clearing, refund, call_number, gateway_answer, is_done, is_approved, is_declined, request, notice, is_repeat, is_late}
 
 -- a call is funded; until then its purchase is pending, and a later answer is late
 abbrev pub funded_by_the_gateway : Script
 funded_by_the_gateway =
     record {
       steps =
-          now gateway_product (done "p1")
-          ∷ now new_user (done "t1")
-          ∷ now (card_of "g") (done "t2")
-          ∷ stamped 1000 (purchase "a1" 6000) (request method.Authorization 1 "a1" "a1" 6000 1000)
-          ∷ now (purchase "a1" 6000) (repeated "a1" reply.Pending)
-          ∷ now (answers 1 outcome.Funded) (approved "a1")
-          ∷ now (answers 1 outcome.Funded) (late 1 how.Funded)
-          ∷ now (answers 2 outcome.Funded) (told (answer.UnknownCall (call_number 2)) ∷ [])
+          step gateway_product (is_done "p1")
+          ∷ step new_user (is_done "t1")
+          ∷ step (card_of "g") (is_done "t2")
+          ∷ step_at 1000 (purchase "a1" 6000) (request method.Authorization 1 "a1" "a1" 6000 1000)
+          ∷ step (purchase "a1" 6000) (is_repeat "a1" reply.Pending)
+          ∷ step (gateway_answer 1 outcome.Funded) (is_approved "a1")
+          ∷ step (gateway_answer 1 outcome.Funded) (is_late 1 how.Funded)
+          ∷ step (gateway_answer 2 outcome.Funded) (answered (answer.UnknownCall (call_number 2)) ∷ [])
           ∷ [];
       sheets = dollars (owes 6000) (pos 0) (pos 0) (pos 6000) (pos 6000) ∷ [];
-      tally = counted 0 0 5;
+      tally = tally 0 0 5;
     }
 
 -- an open call counts against a control, and a refused one gives its use back
@@ -35,17 +35,17 @@ abbrev pub refused_by_the_gateway : Script
 refused_by_the_gateway =
     record {
       steps =
-          now gateway_product (done "p1")
-          ∷ now new_user (done "t1")
-          ∷ now (card_of "g") (done "t2")
-          ∷ now (amount_control window.Day 10000) (done "t4")
-          ∷ now (purchase "a1" 6000) (request method.Authorization 1 "a1" "a1" 6000 0)
-          ∷ now (purchase "a2" 6000) (declined "a2" (reason.Control (codes "v1")))
-          ∷ now (answers 1 outcome.Refused) (declined "a1" reason.GatewayDeclined)
-          ∷ now (purchase "a3" 6000) (request method.Authorization 2 "a3" "a3" 6000 0)
+          step gateway_product (is_done "p1")
+          ∷ step new_user (is_done "t1")
+          ∷ step (card_of "g") (is_done "t2")
+          ∷ step (amount_control window.Day 10000) (is_done "t4")
+          ∷ step (purchase "a1" 6000) (request method.Authorization 1 "a1" "a1" 6000 0)
+          ∷ step (purchase "a2" 6000) (is_declined "a2" (reason.Control (codes "v1")))
+          ∷ step (gateway_answer 1 outcome.Refused) (is_declined "a1" reason.GatewayDeclined)
+          ∷ step (purchase "a3" 6000) (request method.Authorization 2 "a3" "a3" 6000 0)
           ∷ [];
       sheets = dollars (pos 0) (pos 0) (pos 0) (pos 0) (pos 0) ∷ [];
-      tally = counted 1 0 8;
+      tally = tally 1 0 8;
     }
 
 -- a call is open
@@ -53,13 +53,13 @@ abbrev pub open_call : Script
 open_call =
     record {
       steps =
-          now gateway_product (done "p1")
-          ∷ now new_user (done "t1")
-          ∷ now (card_of "g") (done "t2")
-          ∷ stamped 1000 (purchase "a1" 6000) (request method.Authorization 1 "a1" "a1" 6000 1000)
+          step gateway_product (is_done "p1")
+          ∷ step new_user (is_done "t1")
+          ∷ step (card_of "g") (is_done "t2")
+          ∷ step_at 1000 (purchase "a1" 6000) (request method.Authorization 1 "a1" "a1" 6000 1000)
           ∷ [];
       sheets = dollars (pos 0) (pos 0) (pos 0) (pos 0) (pos 0) ∷ [];
-      tally = counted 1 0 4;
+      tally = tally 1 0 4;
     }
 
 -- a refused call declines its purchase
@@ -67,14 +67,14 @@ abbrev pub refused_call : Script
 refused_call =
     record {
       steps =
-          now gateway_product (done "p1")
-          ∷ now new_user (done "t1")
-          ∷ now (card_of "g") (done "t2")
-          ∷ stamped 1000 (purchase "a1" 6000) (request method.Authorization 1 "a1" "a1" 6000 1000)
-          ∷ now (answers 1 outcome.Refused) (declined "a1" reason.GatewayDeclined)
+          step gateway_product (is_done "p1")
+          ∷ step new_user (is_done "t1")
+          ∷ step (card_of "g") (is_done "t2")
+          ∷ step_at 1000 (purchase "a1" 6000) (request method.Authorization 1 "a1" "a1" 6000 1000)
+          ∷ step (gateway_answer 1 outcome.Refused) (is_declined "a1" reason.GatewayDeclined)
           ∷ [];
       sheets = dollars (pos 0) (pos 0) (pos 0) (pos 0) (pos 0) ∷ [];
-      tally = counted 0 0 5;
+      tally = tally 0 0 5;
     }
 
 -- an answer in the last millisecond counts
@@ -82,14 +82,14 @@ abbrev pub answer_in_time : Script
 answer_in_time =
     record {
       steps =
-          now gateway_product (done "p1")
-          ∷ now new_user (done "t1")
-          ∷ now (card_of "g") (done "t2")
-          ∷ stamped 1000 (purchase "a1" 6000) (request method.Authorization 1 "a1" "a1" 6000 1000)
-          ∷ stamped 3999 (answers 1 outcome.Funded) (approved "a1")
+          step gateway_product (is_done "p1")
+          ∷ step new_user (is_done "t1")
+          ∷ step (card_of "g") (is_done "t2")
+          ∷ step_at 1000 (purchase "a1" 6000) (request method.Authorization 1 "a1" "a1" 6000 1000)
+          ∷ step_at 3999 (gateway_answer 1 outcome.Funded) (is_approved "a1")
           ∷ [];
       sheets = dollars (owes 6000) (pos 0) (pos 0) (pos 6000) (pos 6000) ∷ [];
-      tally = counted 0 0 5;
+      tally = tally 0 0 5;
     }
 
 -- an answer at the deadline finds the call timed out and voided
@@ -97,14 +97,14 @@ abbrev pub answer_too_late : Script
 answer_too_late =
     record {
       steps =
-          now gateway_product (done "p1")
-          ∷ now new_user (done "t1")
-          ∷ now (card_of "g") (done "t2")
-          ∷ stamped 1000 (purchase "a1" 6000) (request method.Authorization 1 "a1" "a1" 6000 1000)
-          ∷ stamped 4000 (answers 1 outcome.Funded) (notice 1 method.Void "a1" (Some (call_number 1)) 6000 0 ++ declined "a1" reason.GatewayTimeout ++ late 1 (how.Failed failure.Timeout))
+          step gateway_product (is_done "p1")
+          ∷ step new_user (is_done "t1")
+          ∷ step (card_of "g") (is_done "t2")
+          ∷ step_at 1000 (purchase "a1" 6000) (request method.Authorization 1 "a1" "a1" 6000 1000)
+          ∷ step_at 4000 (gateway_answer 1 outcome.Funded) (notice 1 method.Void "a1" (Some (call_number 1)) 6000 0 ++ is_declined "a1" reason.GatewayTimeout ++ is_late 1 (how.Failed failure.Timeout))
           ∷ [];
       sheets = dollars (pos 0) (pos 0) (pos 0) (pos 0) (pos 0) ∷ [];
-      tally = counted 0 1 5;
+      tally = tally 0 1 5;
     }
 
 -- a reversal of a pending purchase abandons its call, and the notice of it is acknowledged once
@@ -112,18 +112,18 @@ abbrev pub reversed_while_pending : Script
 reversed_while_pending =
     record {
       steps =
-          now gateway_product (done "p1")
-          ∷ now new_user (done "t1")
-          ∷ now (card_of "g") (done "t2")
-          ∷ stamped 1000 (purchase "a1" 6000) (request method.Authorization 1 "a1" "a1" 6000 1000)
-          ∷ now (reversal "r1" "a1" 6000) (notice 1 method.Void "a1" (Some (call_number 1)) 6000 0 ++ declined "a1" reason.Reversed ++ done "r1")
-          ∷ now (answers 1 outcome.Funded) (late 1 how.Abandoned)
-          ∷ now (input.Ack 1) (acked 1 ∷ [])
-          ∷ now (input.Ack 1) (told (answer.Already 1) ∷ [])
-          ∷ now (reversal "r2" "a1" 100) (declined "r2" reason.TxnClosed)
+          step gateway_product (is_done "p1")
+          ∷ step new_user (is_done "t1")
+          ∷ step (card_of "g") (is_done "t2")
+          ∷ step_at 1000 (purchase "a1" 6000) (request method.Authorization 1 "a1" "a1" 6000 1000)
+          ∷ step (reversal "r1" "a1" 6000) (notice 1 method.Void "a1" (Some (call_number 1)) 6000 0 ++ is_declined "a1" reason.Reversed ++ is_done "r1")
+          ∷ step (gateway_answer 1 outcome.Funded) (is_late 1 how.Abandoned)
+          ∷ step (input.Ack 1) (acked 1 ∷ [])
+          ∷ step (input.Ack 1) (answered (answer.Already 1) ∷ [])
+          ∷ step (reversal "r2" "a1" 100) (is_declined "r2" reason.TxnClosed)
           ∷ [];
       sheets = dollars (pos 0) (pos 0) (pos 0) (pos 0) (pos 0) ∷ [];
-      tally = counted 0 0 7;
+      tally = tally 0 0 7;
     }
 
 -- a purchase is cleared twice: the programme pays what the gateway didn't fund
@@ -131,16 +131,16 @@ abbrev pub cleared_in_parts : Script
 cleared_in_parts =
     record {
       steps =
-          now gateway_product (done "p1")
-          ∷ now new_user (done "t1")
-          ∷ now (card_of "g") (done "t2")
-          ∷ now (purchase "a1" 2000) (request method.Authorization 1 "a1" "a1" 2000 0)
-          ∷ now (answers 1 outcome.Funded) (approved "a1")
-          ∷ now (clearing "k1" "a1" 1500) (notice 1 method.Capture "a1" None 1500 0 ++ done "k1")
-          ∷ now (final_clearing "k2" "a1" 700) (notice 2 method.Capture "a1" None 700 0 ++ done "k2")
+          step gateway_product (is_done "p1")
+          ∷ step new_user (is_done "t1")
+          ∷ step (card_of "g") (is_done "t2")
+          ∷ step (purchase "a1" 2000) (request method.Authorization 1 "a1" "a1" 2000 0)
+          ∷ step (gateway_answer 1 outcome.Funded) (is_approved "a1")
+          ∷ step (clearing "k1" "a1" 1500) (notice 1 method.Capture "a1" None 1500 0 ++ is_done "k1")
+          ∷ step (final_clearing "k2" "a1" 700) (notice 2 method.Capture "a1" None 700 0 ++ is_done "k2")
           ∷ [];
       sheets = dollars (owes 2000) (pos 2200) (owes 200) (pos 0) (pos 0) ∷ [];
-      tally = counted 0 2 7;
+      tally = tally 0 2 7;
     }
 
 -- a refund of a cent more than was cleared is declined
@@ -148,17 +148,17 @@ abbrev pub refund_of_too_much : Script
 refund_of_too_much =
     record {
       steps =
-          now gateway_product (done "p1")
-          ∷ now new_user (done "t1")
-          ∷ now (card_of "g") (done "t2")
-          ∷ now (purchase "a1" 2000) (request method.Authorization 1 "a1" "a1" 2000 0)
-          ∷ now (answers 1 outcome.Funded) (approved "a1")
-          ∷ now (clearing "k1" "a1" 1500) (notice 1 method.Capture "a1" None 1500 0 ++ done "k1")
-          ∷ now (final_clearing "k2" "a1" 700) (notice 2 method.Capture "a1" None 700 0 ++ done "k2")
-          ∷ now (refund "b1" "a1" 2201) (declined "b1" reason.RefundOver)
+          step gateway_product (is_done "p1")
+          ∷ step new_user (is_done "t1")
+          ∷ step (card_of "g") (is_done "t2")
+          ∷ step (purchase "a1" 2000) (request method.Authorization 1 "a1" "a1" 2000 0)
+          ∷ step (gateway_answer 1 outcome.Funded) (is_approved "a1")
+          ∷ step (clearing "k1" "a1" 1500) (notice 1 method.Capture "a1" None 1500 0 ++ is_done "k1")
+          ∷ step (final_clearing "k2" "a1" 700) (notice 2 method.Capture "a1" None 700 0 ++ is_done "k2")
+          ∷ step (refund "b1" "a1" 2201) (is_declined "b1" reason.RefundOver)
           ∷ [];
       sheets = dollars (owes 2000) (pos 2200) (owes 200) (pos 0) (pos 0) ∷ [];
-      tally = counted 0 2 8;
+      tally = tally 0 2 8;
     }
 
 -- the last clearing lets the rest go back to the gateway
@@ -166,15 +166,15 @@ abbrev pub cleared_for_less : Script
 cleared_for_less =
     record {
       steps =
-          now gateway_product (done "p1")
-          ∷ now new_user (done "t1")
-          ∷ now (card_of "g") (done "t2")
-          ∷ now (purchase "a1" 5000) (request method.Authorization 1 "a1" "a1" 5000 0)
-          ∷ now (answers 1 outcome.Funded) (approved "a1")
-          ∷ now (final_clearing "k1" "a1" 100) (notice 1 method.Capture "a1" None 100 4900 ++ done "k1")
+          step gateway_product (is_done "p1")
+          ∷ step new_user (is_done "t1")
+          ∷ step (card_of "g") (is_done "t2")
+          ∷ step (purchase "a1" 5000) (request method.Authorization 1 "a1" "a1" 5000 0)
+          ∷ step (gateway_answer 1 outcome.Funded) (is_approved "a1")
+          ∷ step (final_clearing "k1" "a1" 100) (notice 1 method.Capture "a1" None 100 4900 ++ is_done "k1")
           ∷ [];
       sheets = dollars (owes 100) (pos 100) (pos 0) (pos 0) (pos 0) ∷ [];
-      tally = counted 0 1 6;
+      tally = tally 0 1 6;
     }
 
 -- a purchase is cleared a day later
@@ -182,13 +182,13 @@ abbrev pub cleared_the_next_day : Script
 cleared_the_next_day =
     record {
       steps =
-          now gateway_product (done "p1")
-          ∷ now new_user (done "t1")
-          ∷ now (card_of "g") (done "t2")
-          ∷ stamped 1000 (purchase "a1" 6000) (request method.Authorization 1 "a1" "a1" 6000 1000)
-          ∷ now (answers 1 outcome.Funded) (approved "a1")
-          ∷ stamped 86400000 (final_clearing "k1" "a1" 6000) (notice 1 method.Capture "a1" None 6000 0 ++ done "k1")
+          step gateway_product (is_done "p1")
+          ∷ step new_user (is_done "t1")
+          ∷ step (card_of "g") (is_done "t2")
+          ∷ step_at 1000 (purchase "a1" 6000) (request method.Authorization 1 "a1" "a1" 6000 1000)
+          ∷ step (gateway_answer 1 outcome.Funded) (is_approved "a1")
+          ∷ step_at 86400000 (final_clearing "k1" "a1" 6000) (notice 1 method.Capture "a1" None 6000 0 ++ is_done "k1")
           ∷ [];
       sheets = dollars (owes 6000) (pos 6000) (pos 0) (pos 0) (pos 0) ∷ [];
-      tally = counted 0 1 6;
+      tally = tally 0 1 6;
     }

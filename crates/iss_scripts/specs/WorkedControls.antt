@@ -6,23 +6,23 @@ use Rattle.iss_model.specs.declared.setting.Association.TheVariants as associati
 use Rattle.iss_model.specs.declared.setting.Scope.TheVariants as scope
 use Rattle.iss_model.specs.declared.input.Input.TheVariants as input
 use Rattle.iss_model.specs.declared.decision.Reason.TheVariants as reason
-use Rattle.iss_scripts.specs.Scripts.{Script, now, stamped, dollars, owes, counted, new_user, card_of, load, amount_control, purchase_at, purchase, increment, reversal, done, approved, declined}
+use Rattle.iss_scripts.specs.Scripts.{Script, step, step_at, dollars, owes, tally, new_user, card_of, load, amount_control, purchase_at, purchase, increment, reversal, is_done, is_approved, is_declined}
 
 -- a control of 100.00 a day lets that much through, and no cent more
 abbrev pub limit_of_a_day : Script
 limit_of_a_day =
     record {
       steps =
-          now new_user (done "t1")
-          ∷ now (card_of "default") (done "t2")
-          ∷ now (load "t3" Usd 50000) (done "t3")
-          ∷ now (amount_control window.Day 10000) (done "t4")
-          ∷ now (purchase "a1" 6000) (approved "a1")
-          ∷ now (purchase "a2" 4000) (approved "a2")
-          ∷ now (purchase "a3" 1) (declined "a3" (reason.Control (codes "v1")))
+          step new_user (is_done "t1")
+          ∷ step (card_of "default") (is_done "t2")
+          ∷ step (load "t3" Usd 50000) (is_done "t3")
+          ∷ step (amount_control window.Day 10000) (is_done "t4")
+          ∷ step (purchase "a1" 6000) (is_approved "a1")
+          ∷ step (purchase "a2" 4000) (is_approved "a2")
+          ∷ step (purchase "a3" 1) (is_declined "a3" (reason.Control (codes "v1")))
           ∷ [];
       sheets = dollars (pos 0) (pos 0) (owes 50000) (pos 50000) (pos 10000) ∷ [];
-      tally = counted 0 0 7;
+      tally = tally 0 0 7;
     }
 
 -- a new day begins at midnight UTC
@@ -30,16 +30,16 @@ abbrev pub next_day : Script
 next_day =
     record {
       steps =
-          now new_user (done "t1")
-          ∷ now (card_of "default") (done "t2")
-          ∷ now (load "t3" Usd 50000) (done "t3")
-          ∷ now (amount_control window.Day 10000) (done "t4")
-          ∷ stamped 86399999 (purchase "a1" 10000) (approved "a1")
-          ∷ stamped 86400000 (purchase "a2" 10000) (approved "a2")
-          ∷ stamped 86400000 (purchase "a3" 1) (declined "a3" (reason.Control (codes "v1")))
+          step new_user (is_done "t1")
+          ∷ step (card_of "default") (is_done "t2")
+          ∷ step (load "t3" Usd 50000) (is_done "t3")
+          ∷ step (amount_control window.Day 10000) (is_done "t4")
+          ∷ step_at 86399999 (purchase "a1" 10000) (is_approved "a1")
+          ∷ step_at 86400000 (purchase "a2" 10000) (is_approved "a2")
+          ∷ step_at 86400000 (purchase "a3" 1) (is_declined "a3" (reason.Control (codes "v1")))
           ∷ [];
       sheets = dollars (pos 0) (pos 0) (owes 50000) (pos 50000) (pos 20000) ∷ [];
-      tally = counted 0 0 7;
+      tally = tally 0 0 7;
     }
 
 -- a new week begins on Sunday
@@ -47,16 +47,16 @@ abbrev pub next_week : Script
 next_week =
     record {
       steps =
-          now new_user (done "t1")
-          ∷ now (card_of "default") (done "t2")
-          ∷ now (load "t3" Usd 50000) (done "t3")
-          ∷ now (amount_control window.Week 10000) (done "t4")
-          ∷ stamped 259199999 (purchase "a1" 10000) (approved "a1")
-          ∷ stamped 259200000 (purchase "a2" 10000) (approved "a2")
-          ∷ stamped 259200000 (purchase "a3" 1) (declined "a3" (reason.Control (codes "v1")))
+          step new_user (is_done "t1")
+          ∷ step (card_of "default") (is_done "t2")
+          ∷ step (load "t3" Usd 50000) (is_done "t3")
+          ∷ step (amount_control window.Week 10000) (is_done "t4")
+          ∷ step_at 259199999 (purchase "a1" 10000) (is_approved "a1")
+          ∷ step_at 259200000 (purchase "a2" 10000) (is_approved "a2")
+          ∷ step_at 259200000 (purchase "a3" 1) (is_declined "a3" (reason.Control (codes "v1")))
           ∷ [];
       sheets = dollars (pos 0) (pos 0) (owes 50000) (pos 50000) (pos 20000) ∷ [];
-      tally = counted 0 0 7;
+      tally = tally 0 0 7;
     }
 
 -- a new month begins on the first
@@ -64,16 +64,16 @@ abbrev pub next_month : Script
 next_month =
     record {
       steps =
-          now new_user (done "t1")
-          ∷ now (card_of "default") (done "t2")
-          ∷ now (load "t3" Usd 50000) (done "t3")
-          ∷ now (amount_control window.Month 10000) (done "t4")
-          ∷ stamped 2678399999 (purchase "a1" 10000) (approved "a1")
-          ∷ stamped 2678400000 (purchase "a2" 10000) (approved "a2")
-          ∷ stamped 2678400000 (purchase "a3" 1) (declined "a3" (reason.Control (codes "v1")))
+          step new_user (is_done "t1")
+          ∷ step (card_of "default") (is_done "t2")
+          ∷ step (load "t3" Usd 50000) (is_done "t3")
+          ∷ step (amount_control window.Month 10000) (is_done "t4")
+          ∷ step_at 2678399999 (purchase "a1" 10000) (is_approved "a1")
+          ∷ step_at 2678400000 (purchase "a2" 10000) (is_approved "a2")
+          ∷ step_at 2678400000 (purchase "a3" 1) (is_declined "a3" (reason.Control (codes "v1")))
           ∷ [];
       sheets = dollars (pos 0) (pos 0) (owes 50000) (pos 50000) (pos 20000) ∷ [];
-      tally = counted 0 0 7;
+      tally = tally 0 0 7;
     }
 
 -- a lifetime has one window
@@ -81,16 +81,16 @@ abbrev pub lifetime : Script
 lifetime =
     record {
       steps =
-          now new_user (done "t1")
-          ∷ now (card_of "default") (done "t2")
-          ∷ now (load "t3" Usd 50000) (done "t3")
-          ∷ now (amount_control window.Lifetime 10000) (done "t4")
-          ∷ stamped 0 (purchase "a1" 10000) (approved "a1")
-          ∷ stamped 1 (purchase "a2" 10000) (declined "a2" (reason.Control (codes "v1")))
-          ∷ stamped 1 (purchase "a3" 1) (declined "a3" (reason.Control (codes "v1")))
+          step new_user (is_done "t1")
+          ∷ step (card_of "default") (is_done "t2")
+          ∷ step (load "t3" Usd 50000) (is_done "t3")
+          ∷ step (amount_control window.Lifetime 10000) (is_done "t4")
+          ∷ step_at 0 (purchase "a1" 10000) (is_approved "a1")
+          ∷ step_at 1 (purchase "a2" 10000) (is_declined "a2" (reason.Control (codes "v1")))
+          ∷ step_at 1 (purchase "a3" 1) (is_declined "a3" (reason.Control (codes "v1")))
           ∷ [];
       sheets = dollars (pos 0) (pos 0) (owes 50000) (pos 50000) (pos 10000) ∷ [];
-      tally = counted 0 0 7;
+      tally = tally 0 0 7;
     }
 
 -- a control of one purchase at a group of merchants counts there alone
@@ -98,17 +98,17 @@ abbrev pub group_of_merchants : Script
 group_of_merchants =
     record {
       steps =
-          now new_user (done "t1")
-          ∷ now (card_of "default") (done "t2")
-          ∷ now (load "t3" Usd 50000) (done "t3")
-          ∷ now (input.Group (codes "t5") (codes "food") (5411 ∷ 5812 ∷ [])) (done "t5")
-          ∷ now (input.Control (codes "t6") (codes "v2") Usd window.Lifetime None (Some 1) association.Anybody (scope.Group (codes "food")) true) (done "t6")
-          ∷ now (purchase "a1" 100) (approved "a1")
-          ∷ now (purchase "a2" 100) (declined "a2" (reason.Control (codes "v2")))
-          ∷ now (purchase_at 5542 "a3" 100) (approved "a3")
+          step new_user (is_done "t1")
+          ∷ step (card_of "default") (is_done "t2")
+          ∷ step (load "t3" Usd 50000) (is_done "t3")
+          ∷ step (input.Group (codes "t5") (codes "food") (5411 ∷ 5812 ∷ [])) (is_done "t5")
+          ∷ step (input.Control (codes "t6") (codes "v2") Usd window.Lifetime None (Some 1) association.Anybody (scope.Group (codes "food")) true) (is_done "t6")
+          ∷ step (purchase "a1" 100) (is_approved "a1")
+          ∷ step (purchase "a2" 100) (is_declined "a2" (reason.Control (codes "v2")))
+          ∷ step (purchase_at 5542 "a3" 100) (is_approved "a3")
           ∷ [];
       sheets = dollars (pos 0) (pos 0) (owes 50000) (pos 50000) (pos 200) ∷ [];
-      tally = counted 0 0 8;
+      tally = tally 0 0 8;
     }
 
 -- a purchase before the control was put counts neither with its amount nor with its reversal
@@ -116,17 +116,17 @@ abbrev pub purchase_before_the_control : Script
 purchase_before_the_control =
     record {
       steps =
-          now new_user (done "t1")
-          ∷ now (card_of "default") (done "t2")
-          ∷ now (load "t3" Usd 50000) (done "t3")
-          ∷ now (purchase "a1" 9000) (approved "a1")
-          ∷ now (amount_control window.Day 10000) (done "t4")
-          ∷ now (purchase "a2" 10000) (approved "a2")
-          ∷ now (reversal "r1" "a1" 9000) (done "r1")
-          ∷ now (purchase "a3" 1) (declined "a3" (reason.Control (codes "v1")))
+          step new_user (is_done "t1")
+          ∷ step (card_of "default") (is_done "t2")
+          ∷ step (load "t3" Usd 50000) (is_done "t3")
+          ∷ step (purchase "a1" 9000) (is_approved "a1")
+          ∷ step (amount_control window.Day 10000) (is_done "t4")
+          ∷ step (purchase "a2" 10000) (is_approved "a2")
+          ∷ step (reversal "r1" "a1" 9000) (is_done "r1")
+          ∷ step (purchase "a3" 1) (is_declined "a3" (reason.Control (codes "v1")))
           ∷ [];
       sheets = dollars (pos 0) (pos 0) (owes 50000) (pos 50000) (pos 10000) ∷ [];
-      tally = counted 0 0 8;
+      tally = tally 0 0 8;
     }
 
 -- a control of one transaction counts its increments, and each transaction by itself
@@ -134,15 +134,15 @@ abbrev pub limit_of_a_transaction : Script
 limit_of_a_transaction =
     record {
       steps =
-          now new_user (done "t1")
-          ∷ now (card_of "default") (done "t2")
-          ∷ now (load "t3" Usd 50000) (done "t3")
-          ∷ now (amount_control window.Transaction 10000) (done "t4")
-          ∷ now (purchase "a1" 6000) (approved "a1")
-          ∷ now (increment "i1" "a1" 4000) (approved "i1")
-          ∷ now (increment "i2" "a1" 1) (declined "i2" (reason.Control (codes "v1")))
-          ∷ now (purchase "a2" 10000) (approved "a2")
+          step new_user (is_done "t1")
+          ∷ step (card_of "default") (is_done "t2")
+          ∷ step (load "t3" Usd 50000) (is_done "t3")
+          ∷ step (amount_control window.Transaction 10000) (is_done "t4")
+          ∷ step (purchase "a1" 6000) (is_approved "a1")
+          ∷ step (increment "i1" "a1" 4000) (is_approved "i1")
+          ∷ step (increment "i2" "a1" 1) (is_declined "i2" (reason.Control (codes "v1")))
+          ∷ step (purchase "a2" 10000) (is_approved "a2")
           ∷ [];
       sheets = dollars (pos 0) (pos 0) (owes 50000) (pos 50000) (pos 20000) ∷ [];
-      tally = counted 0 0 8;
+      tally = tally 0 0 8;
     }

@@ -8,21 +8,21 @@ use Rattle.iss_model.specs.declared.decision.Reason.TheVariants as reason
 use Rattle.iss_model.specs.declared.decision.Verdict.TheVariants as verdict
 use Rattle.iss_model.specs.declared.decision.Reply.TheVariants as reply
 use Rattle.iss_model.specs.declared.decision.Answer.TheVariants as answer
-use Rattle.iss_model.specs.run.Sayings.{timed, told}
-use Rattle.iss_scripts.specs.Scripts.{Script, now, stamped, dollars, owes, counted, new_user, card_of, load, purchase, increment, reversal, clearing, final_clearing, refund, done, approved, declined, repeated, in_conflict}
+use Rattle.iss_model.specs.run.Sayings.{timed, answered}
+use Rattle.iss_scripts.specs.Scripts.{Script, step, step_at, dollars, owes, tally, new_user, card_of, load, purchase, increment, reversal, clearing, final_clearing, refund, is_done, is_approved, is_declined, is_repeat, is_conflict}
 
 -- a purchase of all that the user has is approved, and held
 abbrev pub purchase_of_all : Script
 purchase_of_all =
     record {
       steps =
-          now new_user (done "t1")
-          ∷ now (card_of "default") (done "t2")
-          ∷ now (load "t3" Usd 5000) (done "t3")
-          ∷ now (purchase "a1" 5000) (approved "a1")
+          step new_user (is_done "t1")
+          ∷ step (card_of "default") (is_done "t2")
+          ∷ step (load "t3" Usd 5000) (is_done "t3")
+          ∷ step (purchase "a1" 5000) (is_approved "a1")
           ∷ [];
       sheets = dollars (pos 0) (pos 0) (owes 5000) (pos 5000) (pos 5000) ∷ [];
-      tally = counted 0 0 4;
+      tally = tally 0 0 4;
     }
 
 -- a purchase of a cent more is declined
@@ -30,13 +30,13 @@ abbrev pub purchase_of_more : Script
 purchase_of_more =
     record {
       steps =
-          now new_user (done "t1")
-          ∷ now (card_of "default") (done "t2")
-          ∷ now (load "t3" Usd 5000) (done "t3")
-          ∷ now (purchase "a1" 5001) (declined "a1" reason.InsufficientFunds)
+          step new_user (is_done "t1")
+          ∷ step (card_of "default") (is_done "t2")
+          ∷ step (load "t3" Usd 5000) (is_done "t3")
+          ∷ step (purchase "a1" 5001) (is_declined "a1" reason.InsufficientFunds)
           ∷ [];
       sheets = dollars (pos 0) (pos 0) (owes 5000) (pos 5000) (pos 0) ∷ [];
-      tally = counted 0 0 4;
+      tally = tally 0 0 4;
     }
 
 -- a purchase that is sent again is told its reply again, and changes nothing
@@ -44,14 +44,14 @@ abbrev pub repeated_purchase : Script
 repeated_purchase =
     record {
       steps =
-          now new_user (done "t1")
-          ∷ now (card_of "default") (done "t2")
-          ∷ now (load "t3" Usd 5000) (done "t3")
-          ∷ now (purchase "a1" 5000) (approved "a1")
-          ∷ now (purchase "a1" 5000) (repeated "a1" (reply.Decided verdict.Approved))
+          step new_user (is_done "t1")
+          ∷ step (card_of "default") (is_done "t2")
+          ∷ step (load "t3" Usd 5000) (is_done "t3")
+          ∷ step (purchase "a1" 5000) (is_approved "a1")
+          ∷ step (purchase "a1" 5000) (is_repeat "a1" (reply.Decided verdict.Approved))
           ∷ [];
       sheets = dollars (pos 0) (pos 0) (owes 5000) (pos 5000) (pos 5000) ∷ [];
-      tally = counted 0 0 4;
+      tally = tally 0 0 4;
     }
 
 -- a purchase that is sent again with another amount is in conflict with its record
@@ -59,15 +59,15 @@ abbrev pub changed_purchase : Script
 changed_purchase =
     record {
       steps =
-          now new_user (done "t1")
-          ∷ now (card_of "default") (done "t2")
-          ∷ now (load "t3" Usd 5000) (done "t3")
-          ∷ now (purchase "a1" 5000) (approved "a1")
-          ∷ now (purchase "a1" 4900) (in_conflict "a1" 4)
-          ∷ now (load "t5" Usd 100) (done "t5")
+          step new_user (is_done "t1")
+          ∷ step (card_of "default") (is_done "t2")
+          ∷ step (load "t3" Usd 5000) (is_done "t3")
+          ∷ step (purchase "a1" 5000) (is_approved "a1")
+          ∷ step (purchase "a1" 4900) (is_conflict "a1" 4)
+          ∷ step (load "t5" Usd 100) (is_done "t5")
           ∷ [];
       sheets = dollars (pos 0) (pos 0) (owes 5100) (pos 5100) (pos 5000) ∷ [];
-      tally = counted 0 0 5;
+      tally = tally 0 0 5;
     }
 
 -- a purchase is raised, partly reversed and cleared beyond what is held, out of the user's balance: nothing is held then, and it ends
@@ -75,16 +75,16 @@ abbrev pub raised_reversed_cleared : Script
 raised_reversed_cleared =
     record {
       steps =
-          now new_user (done "t1")
-          ∷ now (card_of "default") (done "t2")
-          ∷ now (load "t3" Usd 5000) (done "t3")
-          ∷ now (purchase "a1" 2000) (approved "a1")
-          ∷ now (increment "i1" "a1" 1000) (approved "i1")
-          ∷ now (reversal "r1" "a1" 500) (done "r1")
-          ∷ now (clearing "k1" "a1" 3000) (done "k1")
+          step new_user (is_done "t1")
+          ∷ step (card_of "default") (is_done "t2")
+          ∷ step (load "t3" Usd 5000) (is_done "t3")
+          ∷ step (purchase "a1" 2000) (is_approved "a1")
+          ∷ step (increment "i1" "a1" 1000) (is_approved "i1")
+          ∷ step (reversal "r1" "a1" 500) (is_done "r1")
+          ∷ step (clearing "k1" "a1" 3000) (is_done "k1")
           ∷ [];
       sheets = dollars (pos 0) (pos 3000) (owes 5000) (pos 2000) (pos 0) ∷ [];
-      tally = counted 0 0 7;
+      tally = tally 0 0 7;
     }
 
 -- a refund may not pass what was cleared, and an ended purchase is not raised
@@ -92,19 +92,19 @@ abbrev pub refunded_once : Script
 refunded_once =
     record {
       steps =
-          now new_user (done "t1")
-          ∷ now (card_of "default") (done "t2")
-          ∷ now (load "t3" Usd 5000) (done "t3")
-          ∷ now (purchase "a1" 2000) (approved "a1")
-          ∷ now (increment "i1" "a1" 1000) (approved "i1")
-          ∷ now (reversal "r1" "a1" 500) (done "r1")
-          ∷ now (clearing "k1" "a1" 3000) (done "k1")
-          ∷ now (refund "b1" "a1" 3001) (declined "b1" reason.RefundOver)
-          ∷ now (refund "b2" "a1" 3000) (done "b2")
-          ∷ now (increment "i2" "a1" 100) (declined "i2" reason.TxnClosed)
+          step new_user (is_done "t1")
+          ∷ step (card_of "default") (is_done "t2")
+          ∷ step (load "t3" Usd 5000) (is_done "t3")
+          ∷ step (purchase "a1" 2000) (is_approved "a1")
+          ∷ step (increment "i1" "a1" 1000) (is_approved "i1")
+          ∷ step (reversal "r1" "a1" 500) (is_done "r1")
+          ∷ step (clearing "k1" "a1" 3000) (is_done "k1")
+          ∷ step (refund "b1" "a1" 3001) (is_declined "b1" reason.RefundOver)
+          ∷ step (refund "b2" "a1" 3000) (is_done "b2")
+          ∷ step (increment "i2" "a1" 100) (is_declined "i2" reason.TxnClosed)
           ∷ [];
       sheets = dollars (pos 0) (pos 0) (owes 5000) (pos 5000) (pos 0) ∷ [];
-      tally = counted 0 0 10;
+      tally = tally 0 0 10;
     }
 
 -- one millisecond before a week is over, nothing is due
@@ -112,14 +112,14 @@ abbrev pub before_expiry : Script
 before_expiry =
     record {
       steps =
-          now new_user (done "t1")
-          ∷ now (card_of "default") (done "t2")
-          ∷ now (load "t3" Usd 5000) (done "t3")
-          ∷ now (purchase "a1" 5000) (approved "a1")
-          ∷ stamped 604799999 input.Time (told answer.Idle ∷ [])
+          step new_user (is_done "t1")
+          ∷ step (card_of "default") (is_done "t2")
+          ∷ step (load "t3" Usd 5000) (is_done "t3")
+          ∷ step (purchase "a1" 5000) (is_approved "a1")
+          ∷ step_at 604799999 input.Time (answered answer.Idle ∷ [])
           ∷ [];
       sheets = dollars (pos 0) (pos 0) (owes 5000) (pos 5000) (pos 5000) ∷ [];
-      tally = counted 0 0 4;
+      tally = tally 0 0 4;
     }
 
 -- a week after the purchase what it held is let go
@@ -127,15 +127,15 @@ abbrev pub after_expiry : Script
 after_expiry =
     record {
       steps =
-          now new_user (done "t1")
-          ∷ now (card_of "default") (done "t2")
-          ∷ now (load "t3" Usd 5000) (done "t3")
-          ∷ now (purchase "a1" 5000) (approved "a1")
-          ∷ stamped 604799999 input.Time (told answer.Idle ∷ [])
-          ∷ stamped 604800000 input.Time (timed ∷ [])
+          step new_user (is_done "t1")
+          ∷ step (card_of "default") (is_done "t2")
+          ∷ step (load "t3" Usd 5000) (is_done "t3")
+          ∷ step (purchase "a1" 5000) (is_approved "a1")
+          ∷ step_at 604799999 input.Time (answered answer.Idle ∷ [])
+          ∷ step_at 604800000 input.Time (timed ∷ [])
           ∷ [];
       sheets = dollars (pos 0) (pos 0) (owes 5000) (pos 5000) (pos 0) ∷ [];
-      tally = counted 0 0 5;
+      tally = tally 0 0 5;
     }
 
 -- a clearing is taken after the purchase has expired
@@ -143,16 +143,16 @@ abbrev pub cleared_after_expiry : Script
 cleared_after_expiry =
     record {
       steps =
-          now new_user (done "t1")
-          ∷ now (card_of "default") (done "t2")
-          ∷ now (load "t3" Usd 5000) (done "t3")
-          ∷ now (purchase "a1" 5000) (approved "a1")
-          ∷ stamped 604799999 input.Time (told answer.Idle ∷ [])
-          ∷ stamped 604800000 input.Time (timed ∷ [])
-          ∷ now (final_clearing "k1" "a1" 5000) (done "k1")
+          step new_user (is_done "t1")
+          ∷ step (card_of "default") (is_done "t2")
+          ∷ step (load "t3" Usd 5000) (is_done "t3")
+          ∷ step (purchase "a1" 5000) (is_approved "a1")
+          ∷ step_at 604799999 input.Time (answered answer.Idle ∷ [])
+          ∷ step_at 604800000 input.Time (timed ∷ [])
+          ∷ step (final_clearing "k1" "a1" 5000) (is_done "k1")
           ∷ [];
       sheets = dollars (pos 0) (pos 5000) (owes 5000) (pos 0) (pos 0) ∷ [];
-      tally = counted 0 0 6;
+      tally = tally 0 0 6;
     }
 
 -- a suspended card declines, a terminated one stays so, and a card needs a known user
@@ -160,16 +160,16 @@ abbrev pub states_of_a_card : Script
 states_of_a_card =
     record {
       steps =
-          now new_user (done "t1")
-          ∷ now (card_of "default") (done "t2")
-          ∷ now (input.Move (codes "t6") (moved.Card (codes "c1") card_state.Suspended)) (done "t6")
-          ∷ now (purchase "a1" 100) (declined "a1" reason.CardState)
-          ∷ now (input.Move (codes "t7") (moved.Card (codes "c1") card_state.Terminated)) (done "t7")
-          ∷ now (input.Move (codes "t8") (moved.Card (codes "c1") card_state.Active)) (declined "t8" (reason.MoveCard card_state.Terminated card_state.Active))
-          ∷ now (input.Card (codes "t9") (codes "c2") (codes "u9") (codes "default") true) (declined "t9" reason.UserUnknown)
+          step new_user (is_done "t1")
+          ∷ step (card_of "default") (is_done "t2")
+          ∷ step (input.Move (codes "t6") (moved.Card (codes "c1") card_state.Suspended)) (is_done "t6")
+          ∷ step (purchase "a1" 100) (is_declined "a1" reason.CardState)
+          ∷ step (input.Move (codes "t7") (moved.Card (codes "c1") card_state.Terminated)) (is_done "t7")
+          ∷ step (input.Move (codes "t8") (moved.Card (codes "c1") card_state.Active)) (is_declined "t8" (reason.MoveCard card_state.Terminated card_state.Active))
+          ∷ step (input.Card (codes "t9") (codes "c2") (codes "u9") (codes "default") true) (is_declined "t9" reason.UserUnknown)
           ∷ [];
       sheets = dollars (pos 0) (pos 0) (pos 0) (pos 0) (pos 0) ∷ [];
-      tally = counted 0 0 7;
+      tally = tally 0 0 7;
     }
 
 -- loads in yen, dinars and dollars keep their own balances
@@ -177,13 +177,13 @@ abbrev pub loads_in_three_currencies : Script
 loads_in_three_currencies =
     record {
       steps =
-          now new_user (done "t1")
-          ∷ now (load "l1" Jpy 1500) (done "l1")
-          ∷ now (load "l3" Kwd 1234) (done "l3")
-          ∷ now (load "l4" Usd 1000) (done "l4")
+          step new_user (is_done "t1")
+          ∷ step (load "l1" Jpy 1500) (is_done "l1")
+          ∷ step (load "l3" Kwd 1234) (is_done "l3")
+          ∷ step (load "l4" Usd 1000) (is_done "l4")
           ∷ [];
       sheets = record (dollars (pos 0) (pos 0) (owes 1500) (pos 1500) (pos 0)) { currency = Jpy } ∷ record (dollars (pos 0) (pos 0) (owes 1234) (pos 1234) (pos 0)) { currency = Kwd } ∷ dollars (pos 0) (pos 0) (owes 1000) (pos 1000) (pos 0) ∷ [];
-      tally = counted 0 0 4;
+      tally = tally 0 0 4;
     }
 
 -- the greatest amount is taken
@@ -191,9 +191,9 @@ abbrev pub greatest_load : Script
 greatest_load =
     record {
       steps =
-          now new_user (done "t1")
-          ∷ now (load "l5" Usd 1000000000) (done "l5")
+          step new_user (is_done "t1")
+          ∷ step (load "l5" Usd 1000000000) (is_done "l5")
           ∷ [];
       sheets = dollars (pos 0) (pos 0) (owes 1000000000) (pos 1000000000) (pos 0) ∷ [];
-      tally = counted 0 0 2;
+      tally = tally 0 0 2;
     }

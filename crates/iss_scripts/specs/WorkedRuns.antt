@@ -13,7 +13,7 @@ use Rattle.iss_model.specs.run.Transcripts.{Reading, sound, Text}
 use Rattle.iss_model.specs.run.Runs.{Run, run_after, transcript_of}
 use Rattle.iss_model.specs.texts.DrillLines.{DrillTotals}
 use Rattle.iss_model.specs.texts.BalanceLines.{balance_lines}
-use Rattle.iss_scripts.specs.Scripts.{Script, history_after, call_number, gateway_product, new_user, card_of, purchase, answers}
+use Rattle.iss_scripts.specs.Scripts.{Script, history_after, call_number, gateway_product, new_user, card_of, purchase, gateway_answer}
 
 -- a device of this size and instance that holds no record
 abbrev pub fresh_device : ℕ → ℕ → Run
@@ -78,11 +78,11 @@ request_again =
 
 -- the gateway funds that call
 abbrev pub funded_answer : List Reading
-funded_answer = line (answers 1 outcome.Funded) ∷ []
+funded_answer = line (gateway_answer 1 outcome.Funded) ∷ []
 
 -- the call's deadline goes by, and then its answer comes
 abbrev pub late_answer : List Reading
-late_answer = line_at 4000 (answers 1 outcome.Funded) ∷ []
+late_answer = line_at 4000 (gateway_answer 1 outcome.Funded) ∷ []
 
 -- the same device with no room for one more byte
 abbrev pub without_room : Run → Run

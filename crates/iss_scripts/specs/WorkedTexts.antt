@@ -6,13 +6,13 @@ use Rattle.iss_model.specs.declared.call.Failure.TheVariants as failure
 use Rattle.iss_model.specs.declared.call.How.TheVariants as how
 use Rattle.iss_model.specs.declared.decision.Reason.TheVariants as reason
 use Rattle.iss_model.specs.declared.decision.Answer.TheVariants as answer
-use Rattle.iss_model.specs.run.Sayings.{Said, acked, timed, told}
+use Rattle.iss_model.specs.run.Sayings.{Said, acked, timed, answered}
 use Rattle.iss_model.specs.run.Transcripts.{said_text}
-use Rattle.iss_scripts.specs.Scripts.{request, notice, call_number, done, approved, declined, late}
+use Rattle.iss_scripts.specs.Scripts.{request, notice, call_number, is_done, is_approved, is_declined, is_late}
 use Prim.Native.String.{String}
 pub use Rattle.std.specs.Fmt.{digits}
 
--- what is said is worded so, with a line feed behind it
+-- what is said is worded so, with a line feed after it
 abbrev pub Reads : List Said → String → Type 0
 Reads said text = map said_text said ≡ (codes text ++ 10 ∷ []) ∷ []
 
@@ -55,49 +55,49 @@ RefundNoticeLine =
 -- an event that is done
 abbrev pub DoneEventLine : Type 0
 DoneEventLine =
-    Reads (done "t1")
-    "{\"event\":\"t1\",\"reply\":\"done\"}"
+    Reads (is_done "t1")
+    "{\"event\":\"t1\",\"reply\":\"is_done\"}"
 
 -- an event that is approved
 abbrev pub ApprovedEventLine : Type 0
 ApprovedEventLine =
-    Reads (approved "a1")
-    "{\"event\":\"a1\",\"reply\":\"approved\"}"
+    Reads (is_approved "a1")
+    "{\"event\":\"a1\",\"reply\":\"is_approved\"}"
 
 -- an event that a control declined
 abbrev pub DeclinedByAControlLine : Type 0
 DeclinedByAControlLine =
-    Reads (declined "a3" (reason.Control (codes "v1")))
-    "{\"event\":\"a3\",\"reason\":\"CONTROL:v1\",\"reply\":\"declined\"}"
+    Reads (is_declined "a3" (reason.Control (codes "v1")))
+    "{\"event\":\"a3\",\"reason\":\"CONTROL:v1\",\"reply\":\"is_declined\"}"
 
 -- a move that is not allowed
 abbrev pub DeclinedMoveLine : Type 0
 DeclinedMoveLine =
-    Reads (declined "t8" (reason.MoveCard card_state.Terminated card_state.Active))
-    "{\"event\":\"t8\",\"reason\":\"MOVE:TERMINATED:ACTIVE\",\"reply\":\"declined\"}"
+    Reads (is_declined "t8" (reason.MoveCard card_state.Terminated card_state.Active))
+    "{\"event\":\"t8\",\"reason\":\"MOVE:TERMINATED:ACTIVE\",\"reply\":\"is_declined\"}"
 
 -- a late answer
 abbrev pub LateAnswerLine : Type 0
 LateAnswerLine =
-    Reads (late 1 how.Funded)
-    "{\"call\":1,\"reply\":\"late\",\"state\":\"FUNDED\"}"
+    Reads (is_late 1 how.Funded)
+    "{\"call\":1,\"reply\":\"is_late\",\"state\":\"FUNDED\"}"
 
 -- an answer to a call that has timed out
 abbrev pub TimedOutCallLine : Type 0
 TimedOutCallLine =
-    Reads (late 1 (how.Failed failure.Timeout))
-    "{\"call\":1,\"reply\":\"late\",\"state\":\"TIMEOUT\"}"
+    Reads (is_late 1 (how.Failed failure.Timeout))
+    "{\"call\":1,\"reply\":\"is_late\",\"state\":\"TIMEOUT\"}"
 
 -- an answer to a call that was abandoned
 abbrev pub AbandonedCallLine : Type 0
 AbandonedCallLine =
-    Reads (late 1 how.Abandoned)
-    "{\"call\":1,\"reply\":\"late\",\"state\":\"ABANDONED\"}"
+    Reads (is_late 1 how.Abandoned)
+    "{\"call\":1,\"reply\":\"is_late\",\"state\":\"ABANDONED\"}"
 
 -- an answer to an unknown call
 abbrev pub UnknownCallLine : Type 0
 UnknownCallLine =
-    Reads (told (answer.UnknownCall (call_number 2)) ∷ [])
+    Reads (answered (answer.UnknownCall (call_number 2)) ∷ [])
     "{\"call\":2,\"reply\":\"unknown\"}"
 
 -- a taken acknowledgement
@@ -109,13 +109,13 @@ AcknowledgedLine =
 -- an acknowledgement that was taken before
 abbrev pub AcknowledgedBeforeLine : Type 0
 AcknowledgedBeforeLine =
-    Reads (told (answer.Already 1) ∷ [])
+    Reads (answered (answer.Already 1) ∷ [])
     "{\"notice\":1,\"reply\":\"already\"}"
 
 -- a time at which nothing is due
 abbrev pub IdleLine : Type 0
 IdleLine =
-    Reads (told answer.Idle ∷ [])
+    Reads (answered answer.Idle ∷ [])
     "{\"reply\":\"idle\"}"
 
 -- a time at which something was due

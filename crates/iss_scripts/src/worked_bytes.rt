@@ -4,7 +4,7 @@ ghost use Rattle.iss_model.specs.declared.input.Input.TheVariants.{Ack, Time};
 ghost use Rattle.iss_model.specs.declared.input.Outcome.TheVariants.{Connection};
 ghost use Rattle.iss_model.specs.declared.currency.Currency.TheVariants.{Eur};
 ghost use Rattle.iss_model.specs.declared.setting.Window.TheVariants.{Week};
-ghost use Rattle.iss_scripts.specs.Scripts.{new_user, card_of, gateway_product, connection_set, switch_on, purchase, load, increment, reversal, final_clearing, refund, amount_control, answers};
+ghost use Rattle.iss_scripts.specs.Scripts.{new_user, card_of, gateway_product, connection_set, switch_on, purchase, load, increment, reversal, final_clearing, refund, amount_control, gateway_answer};
 ghost use Rattle.iss_model.specs.texts.Spelling.{spelling};
 ghost use Rattle.iss_scripts.specs.WorkedSpellings.{IsSpelled, IsNone, recorded, user_spelled, full_control, control_of_nothing, count_of_one, group_of_two, activation, closing};
 
@@ -27,7 +27,7 @@ pub fn worked_spellings()
     ensures reversal { IsSpelled 0 (reversal "r1" "a1" 100) "0c000000000000000002723102613103480000000000000064" }
     ensures clearing { IsSpelled 0 (final_clearing "k1" "a1" 3820) "0d0000000000000000026b3102613103480000000000000eec01" }
     ensures refund { IsSpelled 0 (refund "f1" "a1" 1000000000) "0e00000000000000000266310261310348000000003b9aca00" }
-    ensures answer { IsSpelled 2000 (answers 1 Connection) "0f00000000000007d00000000103" }
+    ensures answer { IsSpelled 2000 (gateway_answer 1 Connection) "0f00000000000007d00000000103" }
     ensures acknowledgement { IsSpelled 0 (Ack 4294967295) "100000000000000000ffffffff" }
     ensures time { IsSpelled 253370764799999 Time "110000e6707a6eafff" }
     ensures one_more { IsNone (user_spelled ++ 0 ∷ []) }
@@ -44,5 +44,5 @@ pub fn worked_spellings()
     ensures group_that_falls { IsNone (spelling (recorded 0 (group_of_two 5812 5411))) }
     ensures code_twice { IsNone (spelling (recorded 0 (group_of_two 5411 5411))) }
     ensures code_of_five_digits { IsNone (spelling (recorded 0 (group_of_two 5411 10000))) }
-    ensures call_0 { IsNone (spelling (recorded 0 (answers 0 Connection))) }
+    ensures call_0 { IsNone (spelling (recorded 0 (gateway_answer 0 Connection))) }
 {}

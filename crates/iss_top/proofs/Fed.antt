@@ -4,7 +4,7 @@ use Rattle.std.proofs.lemmas.List.{take-append-drop, take_more}
 use Rattle.iss_edge.specs.World.{World}
 use Rattle.iss_model.specs.state.Cores.{CoreState}
 use Rattle.iss_top.specs.Lines.{kept_with}
-use Rattle.iss_top.specs.Progress.{line_text, line_next, text_to_come, Says, SaysFront, Fed, FedPart}
+use Rattle.iss_top.specs.Progress.{line_text, line_next, text_to_come, Says, SaysPrefix, Fed, FedPart}
 use Rattle.iss_top.proofs.Saying.{says_nothing, says_then}
 use Rattle.iss_top.proofs.Feeding.{to_come-kept, to_come-end}
 
@@ -25,11 +25,11 @@ pub part_nothing : (h : CoreState) (line piece : List ℕ) (a : World) → FedPa
 part_nothing h line piece a =
     record { text = []; says = says_nothing a; onward = λ rest. record { back = text_to_come h line (piece ++ rest); cut = refl } }
 
--- a line ended, and a front of what it is told went out
-pub part_end : (h : CoreState) (line : List ℕ) (a b : World) → SaysFront (line_text h line) a b → FedPart h line (10 ∷ []) a b
+-- a line ended, and a prefix of what it is told went out
+pub part_end : (h : CoreState) (line : List ℕ) (a b : World) → SaysPrefix (line_text h line) a b → FedPart h line (10 ∷ []) a b
 part_end h line a b s =
     record {
-      text = s.front;
+      text = s.prefix;
       says = s.says;
       onward =
           λ rest.
@@ -38,7 +38,7 @@ part_end h line a b s =
             cut =
                 to_come-end h line rest
                 ∙ ap (λ (t : List ℕ). t ++ text_to_come (line_next h line) [] rest) s.cut
-                ∙ append_assoc s.front s.back (text_to_come (line_next h line) [] rest);
+                ∙ append_assoc s.prefix s.back (text_to_come (line_next h line) [] rest);
           };
     }
 
@@ -72,7 +72,7 @@ part_then h h1 l l1 p q a b c f g =
           };
     }
 
--- a front of a piece is a part of it
+-- a prefix of a piece is a part of it
 pub part_more : (h : CoreState) (l p more : List ℕ) (a b : World) → FedPart h l p a b → FedPart h l (p ++ more) a b
 part_more h l p more a b f =
     record {

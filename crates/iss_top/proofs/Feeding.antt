@@ -8,7 +8,7 @@ use Rattle.iss_model.specs.declared.input.Record.{Record}
 use Rattle.iss_model.specs.declared.decision.Judged.{Judged}
 use Rattle.iss_model.specs.declared.decision.Judged.TheVariants as judged
 use Rattle.iss_model.specs.rules.Judging.{judge}
-use Rattle.iss_model.specs.state.Cores.{CoreState, taken_up, core_facts, core_keeper}
+use Rattle.iss_model.specs.state.Cores.{CoreState, with_record, core_facts, core_keeper}
 use Rattle.iss_core.proofs.Stepped.{all_entered_count}
 use Rattle.iss_model.specs.run.Transcripts.{sound, after_line, bytes_of}
 use Rattle.iss_model.specs.run.Sayings.{reaction, reaction_as}
@@ -23,15 +23,15 @@ use Rattle.iss_event.specs.declared.line.FormFault.{FormFault}
 use Rattle.iss_event.specs.Readings.{line_read}
 use Rattle.iss_event.proofs.LeastLine.{least_line}
 use Rattle.iss_top.specs.Lines.{is_blank_byte, is_blank, onto_first, parts_of, kept_with}
-use Rattle.iss_top.specs.Dry.{reading_of, as_reading, told_of}
+use Rattle.iss_top.specs.Dry.{reading_of, as_reading, reply_of_line}
 use Rattle.iss_top.specs.Progress.{line_text, line_next, lines_text, text_to_come}
 
--- bytes in front of what stands in front of the first part
+-- bytes before what stands before the first part
 onto_first-append : (a b : List ℕ) (parts : List (List ℕ)) → onto_first a (onto_first b parts) ≡ onto_first (a ++ b) parts
 onto_first-append a b [] = refl
 onto_first-append a b (p ∷ ps) = ap (λ (q : List ℕ). q ∷ ps) (sym (append_assoc a b p))
 
--- a byte that ends no line goes behind the line
+-- a byte that ends no line goes after the line
 pub to_come-byte : (h : CoreState) (line : List ℕ) (b : ℕ) (rest : List ℕ) → nat_eq b 10 ≡ false → text_to_come h line (b ∷ rest) ≡ text_to_come h (line ++ b ∷ []) rest
 unfolding text_to_come
 to_come-byte h line b rest e =
@@ -74,13 +74,13 @@ alike_reading line other a = ap as_reading (long_reading line a.long ∙ sym (lo
 alike_text : (h : CoreState) (line other : List ℕ) → IsAlike line other → line_text h line ≡ line_text h other
 unfolding line_text
 alike_text h line other a =
-    ap (λ (t : Bool). cond t [] (bytes_of (told_of h line).texts)) a.blank
+    ap (λ (t : Bool). cond t [] (bytes_of (reply_of_line h line).texts)) a.blank
     ∙ ap (λ r. cond (is_blank other) [] (bytes_of (after_line core_keeper h r).texts)) (alike_reading line other a)
 
 alike_next : (h : CoreState) (line other : List ℕ) → IsAlike line other → line_next h line ≡ line_next h other
 unfolding line_next
 alike_next h line other a =
-    ap (λ (t : Bool). cond t h (told_of h line).world) a.blank
+    ap (λ (t : Bool). cond t h (reply_of_line h line).world) a.blank
     ∙ ap (λ r. cond (is_blank other) h (after_line core_keeper h r).world) (alike_reading line other a)
 
 alike_more : (line other more : List ℕ) → IsAlike line other → IsAlike (line ++ more) (other ++ more)
@@ -140,7 +140,7 @@ to_come-kept_as h line b rest false e =
     let long : 16384 < length line = grind (arith, nat_tests) in
     to_come-alike h _ (line ++ b ∷ []) rest (kept_long line b long (is_blank_byte b) refl)
 
--- a byte that ends no line goes behind what is kept of the line
+-- a byte that ends no line goes after what is kept of the line
 pub to_come-kept : (h : CoreState) (line : List ℕ) (b : ℕ) (rest : List ℕ) → nat_eq b 10 ≡ false → text_to_come h line (b ∷ rest) ≡ text_to_come h (kept_with line b) rest
 to_come-kept h line b rest e =
     to_come-byte h line b rest e ∙ sym (to_come-kept_as h line b rest (nat_lt (length line) 16385) refl)
@@ -163,7 +163,7 @@ due_count at (item ∷ items) g =
 step_count : (h : CoreState) (r : Record) → (step core_keeper h r).world.count ≡ h.count + 1
 unfolding step
 step_count h r =
-    let taken = taken_up h r in
+    let taken = with_record h r in
     let ready : Growth CoreState = fold (settle core_keeper r.at) (record { world = taken; entries = [] }) (due_items (core_facts taken) r.at) in
     all_entered_count ready.world (own_entries r (core_facts ready.world)) ∙ due_count r.at (due_items (core_facts taken) r.at) (record { world = taken; entries = [] })
 
@@ -182,7 +182,7 @@ read_room : (h : CoreState) (line : List ℕ) (o : Result Line FormFault) → li
 read_room h line (Ok said) e = omega (arith, sound_count h said.input said.at, least_line Lines line said e)
 read_room h line (Err fault) e = omega arith
 
-next_room_as : (h : CoreState) (line : List ℕ) (blank : Bool) → 5 * (cond blank h (told_of h line).world).count ≤ 5 * h.count + length line + 1
+next_room_as : (h : CoreState) (line : List ℕ) (blank : Bool) → 5 * (cond blank h (reply_of_line h line).world).count ≤ 5 * h.count + length line + 1
 unfolding reading_of
 next_room_as h line true = omega arith
 next_room_as h line false = read_room h line (line_read Lines line) refl

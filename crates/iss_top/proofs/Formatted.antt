@@ -4,7 +4,7 @@ use Rattle.iss_edge.specs.declared.outside.Action.{Action}
 use Rattle.iss_edge.specs.World.{World, Told, Faults, Rose}
 use Rattle.iss_edge.specs.Calls.{Same}
 use Rattle.iss_edge.specs.Disk.{Disk, after_actions, IsAtRest, IsImage}
-use Rattle.iss_edge.specs.Puts.{synced}
+use Rattle.iss_edge.specs.Puts.{syncs_after}
 use Rattle.iss_edge.proofs.Images.{rest_image}
 use Rattle.iss_edge.proofs.Tolds.{told_self, same_self, later_self}
 use Rattle.iss_journal.specs.declared.fault.JournalFault.{JournalFault}
@@ -15,7 +15,7 @@ use Rattle.iss_top.specs.FormatRuns.{FormatRun}
 
 -- before anything is done, a stop leaves the device as it is
 untouched_moment : (instance : ℕ) (a : World) (d : Disk) → IsAtRest d → d.bytes ≡ a.device → (before rest : List Action) → [] ≡ before ++ rest
-    → (image : List ℕ) → IsImage (after_actions d before) image → FormatLeaves instance a.device (synced 0 before) image
+    → (image : List ℕ) → IsImage (after_actions d before) image → FormatLeaves instance a.device (syncs_after 0 before) image
 untouched_moment instance a d rest same [] after cut image is = ap (λ (l : List ℕ). drop 1 l) (rest_image d image rest is ∙ same)
 untouched_moment instance a d rest same (x ∷ xs) after cut image is = cc
 

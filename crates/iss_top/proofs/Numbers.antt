@@ -3,12 +3,12 @@ use Rattle.std.proofs.Common.{◌≡◌, ℕ, ◌+◌, ◌-◌, ◌*◌, ◌<◌
 use Rattle.std.specs.List.{list_all}
 use Rattle.std.proofs.lemmas.Bool.Decides.{nat_tests}
 use Rattle.iss_model.specs.Amounts.{is_digit}
-use Rattle.iss_top.specs.Words.{within, value_behind, number_behind, command_said}
+use Rattle.iss_top.specs.Words.{within, value_after, number_after, command_of_words}
 
 above : (least most n : ℕ) → most < n → within least most n ≡ None
 above least most n h = grind (arith, nat_tests)
 
-value_above : (least most n : ℕ) (ds : List ℕ) → most < n → within least most (value_behind n ds) ≡ None
+value_above : (least most n : ℕ) (ds : List ℕ) → most < n → within least most (value_after n ds) ≡ None
 value_above least most n [] h = above least most n h
 value_above least most n (d ∷ ds) h = value_above least most (10 * n + (d - 48)) ds (omega arith)
 
@@ -17,21 +17,21 @@ either true o h = h
 either false o h = refl
 
 -- more digits never bring it down again
-pub stays_great : (least most n : ℕ) (ds : List ℕ) → most < n → number_behind n least most ds ≡ None
+pub stays_great : (least most n : ℕ) (ds : List ℕ) → most < n → number_after n least most ds ≡ None
 stays_great least most n ds h = either (list_all is_digit ds) _ (value_above least most n ds h)
 
 -- words of another number than 1 and 4 are no command
 module _ {A : Type 0} (f : A → List ℕ) where
-  pub two_or_three : (ws : List A) → 2 ≤ length ws → length ws < 4 → None ≡ command_said (map f ws)
-  unfolding command_said
+  pub two_or_three : (ws : List A) → 2 ≤ length ws → length ws < 4 → None ≡ command_of_words (map f ws)
+  unfolding command_of_words
   two_or_three [] low high = absurd (omega (arith, low))
   two_or_three (a ∷ []) low high = absurd (omega (arith, low))
   two_or_three (a ∷ b ∷ []) low high = refl
   two_or_three (a ∷ b ∷ c ∷ []) low high = refl
   two_or_three (a ∷ b ∷ c ∷ d ∷ ws) low high = absurd (omega (arith, high))
 
-  pub five_or_more : (ws : List A) → 5 ≤ length ws → None ≡ command_said (map f ws)
-  unfolding command_said
+  pub five_or_more : (ws : List A) → 5 ≤ length ws → None ≡ command_of_words (map f ws)
+  unfolding command_of_words
   five_or_more [] low = absurd (omega (arith, low))
   five_or_more (a ∷ []) low = absurd (omega (arith, low))
   five_or_more (a ∷ b ∷ []) low = absurd (omega (arith, low))

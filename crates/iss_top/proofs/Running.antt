@@ -8,8 +8,8 @@ use Rattle.iss_model.specs.state.Cores.{CoreState, no_core, core_keeper}
 use Rattle.iss_agreement.proofs.CoreOfBook.{core_transcript}
 use Rattle.iss_model.specs.run.Transcripts.{Text, transcript, bytes_of}
 use Rattle.iss_top.specs.Lines.{is_blank, parts_of, lines_of}
-use Rattle.iss_top.specs.Dry.{reading_of, told_of, dry_output}
-use Rattle.iss_top.specs.Progress.{line_text, line_next, lines_text, text_to_come, Says, SaysFront, Fed, Begins, FedPart}
+use Rattle.iss_top.specs.Dry.{reading_of, reply_of_line, dry_output}
+use Rattle.iss_top.specs.Progress.{line_text, line_next, lines_text, text_to_come, Says, SaysPrefix, Fed, Begins, FedPart}
 use Rattle.iss_top.specs.Runs.{Passes, IsOnItsWay, DryRun}
 use Rattle.iss_top.proofs.Saying.{sends_nothing, sends_then, sends_on}
 use Rattle.iss_top.proofs.Feeding.{to_come-last, some_parts}
@@ -22,11 +22,11 @@ bytes_of-append (x ∷ xs) ys =
     ap (λ (rest : List ℕ). x.bytes ++ rest) (bytes_of-append xs ys) ∙ sym (append_assoc x.bytes (bytes_of xs) (bytes_of ys))
 
 first_part : (h : CoreState) (p : List ℕ) (more : List (List ℕ)) (rest : List ℕ) (blank : Bool)
-    → bytes_of (transcript core_keeper h (map reading_of more)) ≡ rest → (s : List ℕ) → bytes_of (transcript core_keeper (told_of h p).world (map reading_of more)) ≡ s
-    → bytes_of (transcript core_keeper h (map reading_of (cond (not blank) (p ∷ more) more))) ≡ cond blank [] (bytes_of (told_of h p).texts) ++ cond blank rest s
+    → bytes_of (transcript core_keeper h (map reading_of more)) ≡ rest → (s : List ℕ) → bytes_of (transcript core_keeper (reply_of_line h p).world (map reading_of more)) ≡ s
+    → bytes_of (transcript core_keeper h (map reading_of (cond (not blank) (p ∷ more) more))) ≡ cond blank [] (bytes_of (reply_of_line h p).texts) ++ cond blank rest s
 first_part h p more rest true e s f = e
 first_part h p more rest false e s f =
-    bytes_of-append (told_of h p).texts (transcript core_keeper (told_of h p).world (map reading_of more)) ∙ ap (λ (t : List ℕ). bytes_of (told_of h p).texts ++ t) f
+    bytes_of-append (reply_of_line h p).texts (transcript core_keeper (reply_of_line h p).world (map reading_of more)) ∙ ap (λ (t : List ℕ). bytes_of (reply_of_line h p).texts ++ t) f
 
 either_rest : (blank : Bool) (h n : CoreState) (ps : List (List ℕ)) → cond blank (lines_text h ps) (lines_text n ps) ≡ lines_text (cond blank h n) ps
 either_rest true h n ps = refl
@@ -37,8 +37,8 @@ unfolding line_text line_next
 transcript-parts h [] = refl
 transcript-parts h (p ∷ ps) =
     let more = filter (λ (q : List ℕ). not (is_blank q)) ps in
-    first_part h p more (lines_text h ps) (is_blank p) (transcript-parts h ps) (lines_text (told_of h p).world ps) (transcript-parts (told_of h p).world ps)
-    ∙ ap (λ (t : List ℕ). cond (is_blank p) [] (bytes_of (told_of h p).texts) ++ t) (either_rest (is_blank p) h (told_of h p).world ps)
+    first_part h p more (lines_text h ps) (is_blank p) (transcript-parts h ps) (lines_text (reply_of_line h p).world ps) (transcript-parts (reply_of_line h p).world ps)
+    ∙ ap (λ (t : List ℕ). cond (is_blank p) [] (bytes_of (reply_of_line h p).texts) ++ t) (either_rest (is_blank p) h (reply_of_line h p).world ps)
 
 pub output-to_come : (input : List ℕ) → dry_output input ≡ text_to_come no_core [] input
 unfolding text_to_come
@@ -104,7 +104,7 @@ ends_early status took text a b not_done not_long p le f =
       took = took;
       text = text;
       passes = p;
-      front = subst (λ (x : List ℕ). Begins text x) (ap (text_to_come no_core []) (sym p.bytes) ∙ sym (output-to_come (a.left 0))) f;
+      prefix = subst (λ (x : List ℕ). Begins text x) (ap (text_to_come no_core []) (sym p.bytes) ∙ sym (output-to_come (a.left 0))) f;
       whole = λ e. absurd (not_done e);
       long = (λ e. absurd (not_long e), λ e. absurd (omega arith));
       bound = omega arith;
@@ -157,7 +157,7 @@ ends_too_long n count h l buffer a b c le limit w t =
       took = w.took ++ piece;
       text = w.text;
       passes = p;
-      front =
+      prefix =
           record {
             back = text_to_come h l (piece ++ c.left 0);
             cut =
@@ -192,7 +192,7 @@ ends_well n h l buffer a b c d limit w t s =
       took = w.took;
       text = w.text ++ line_text h l;
       passes = p;
-      front = record { back = []; cut = all ∙ sym (append-nil (w.text ++ line_text h l)) };
+      prefix = record { back = []; cut = all ∙ sym (append-nil (w.text ++ line_text h l)) };
       whole = λ e. (sym all, last);
       long = (λ e. cc, λ e. absurd (omega (arith, w.count)));
       bound = omega (arith, w.count);
@@ -200,13 +200,13 @@ ends_well n h l buffer a b c d limit w t s =
 
 -- the input ended, and its last line was told in part
 pub ends_in_last : (status n : ℕ) (h : CoreState) (l buffer : List ℕ) (a b c d : World) → (status ≡ 0 → ⊥) → (status ≡ 8 → ⊥) → n ≤ MOST_INPUT
-    → IsOnItsWay n h l a b → Takes (record { 0 = 0 }) 0 buffer b c → SaysFront (line_text h l) c d → DryRun status a d
+    → IsOnItsWay n h l a b → Takes (record { 0 = 0 }) 0 buffer b c → SaysPrefix (line_text h l) c d → DryRun status a d
 ends_in_last status n h l buffer a b c d not_done not_long limit w t s =
     let over : b.left 0 ≡ [] = t.ends.0 refl in
     let none : c.left 0 ≡ [] = nothing_left (take 0 buffer) (c.left 0) (sym t.bytes ∙ over) in
     let last : d.left 0 ≡ [] = ap (λ (f : ℕ → List ℕ). f 0) s.says.left ∙ none in
-    ends_early status w.took (w.text ++ s.front) a d not_done not_long
-    (passes_said w.took w.text s.front a c d (subst (λ (x : List ℕ). Passes x w.text a c) (append-nil w.took) (passes_taken w.took w.text buffer 0 a b c w.passes t)) s.says)
+    ends_early status w.took (w.text ++ s.prefix) a d not_done not_long
+    (passes_said w.took w.text s.prefix a c d (subst (λ (x : List ℕ). Passes x w.text a c) (append-nil w.took) (passes_taken w.took w.text buffer 0 a b c w.passes t)) s.says)
     (omega (arith, w.count))
     (record {
       back = s.back;
@@ -214,5 +214,5 @@ ends_in_last status n h l buffer a b c d not_done not_long limit w t s =
           ap (λ (x : List ℕ). text_to_come no_core [] (w.took ++ x)) last
           ∙ w.onward []
           ∙ ap (λ (x : List ℕ). w.text ++ x) (to_come-last h l ∙ s.cut)
-          ∙ sym (append_assoc w.text s.front s.back);
+          ∙ sym (append_assoc w.text s.prefix s.back);
     })

@@ -4,9 +4,9 @@ use Rattle.std.proofs.lemmas.List.Folds.{list_all-append}
 use Rattle.iss_edge.specs.declared.outside.Action.{Action}
 use Rattle.iss_edge.specs.declared.outside.Action.TheVariants.{Emit}
 use Rattle.iss_edge.specs.World.{World, sent_on}
-use Rattle.iss_edge.specs.Calls.{Emits, SendsFront, EmitsPart}
+use Rattle.iss_edge.specs.Calls.{Emits, SendsPrefix, EmitsPart}
 use Rattle.iss_edge.proofs.Tolds.{sent_on-append}
-use Rattle.iss_top.specs.Progress.{is_output, Sends, Says, SaysFront}
+use Rattle.iss_top.specs.Progress.{is_output, Sends, Says, SaysPrefix}
 
 pub sends_nothing : (a : World) → Sends [] a a
 sends_nothing a =
@@ -51,10 +51,10 @@ says_emitted text a b e =
           };
     }
 
-front_sent : (text : List ℕ) (a b : World) → EmitsPart (record { 0 = 0 }) text a b → SendsFront (record { 0 = 0 }) text a.trace b.trace → SaysFront text a b
+front_sent : (text : List ℕ) (a b : World) → EmitsPart (record { 0 = 0 }) text a b → SendsPrefix (record { 0 = 0 }) text a.trace b.trace → SaysPrefix text a b
 front_sent text a b e sends =
     record {
-      front = sends.front;
+      prefix = sends.prefix;
       back = sends.back;
       cut = sends.cut;
       says =
@@ -63,23 +63,23 @@ front_sent text a b e sends =
             sends =
                 record {
                   device = e.device;
-                  actions = Emit (record { 0 = 0 }) sends.front false ∷ [];
+                  actions = Emit (record { 0 = 0 }) sends.prefix false ∷ [];
                   grew = sends.added;
                   outputs = refl;
-                  sent = append-nil sends.front;
+                  sent = append-nil sends.prefix;
                 };
           };
     }
 
-nothing_sent : (text : List ℕ) (a b : World) → EmitsPart (record { 0 = 0 }) text a b → b.trace ≡ a.trace → SaysFront text a b
+nothing_sent : (text : List ℕ) (a b : World) → EmitsPart (record { 0 = 0 }) text a b → b.trace ≡ a.trace → SaysPrefix text a b
 nothing_sent text a b e same =
     record {
-      front = [];
+      prefix = [];
       back = text;
       cut = refl;
       says = record { left = e.left; sends = sends_on [] a a b (sends_nothing a) e.device same };
     }
 
-pub says_front : (text : List ℕ) (a b : World) → EmitsPart (record { 0 = 0 }) text a b → SaysFront text a b
+pub says_front : (text : List ℕ) (a b : World) → EmitsPart (record { 0 = 0 }) text a b → SaysPrefix text a b
 says_front text a b e =
     elim e.trace [ inl same ↦ nothing_sent text a b e same | inr sends ↦ front_sent text a b e sends ]

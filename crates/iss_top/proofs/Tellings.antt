@@ -16,7 +16,7 @@ use Rattle.iss_model.specs.rules.Stepping.{step}
 use Rattle.iss_model.specs.rules.Judging.{judge}
 use Rattle.iss_model.specs.state.Cores.{CoreState, core_keeper}
 use Rattle.iss_model.specs.run.Sayings.{Said, said_by, said_of_time, reaction, reaction_as, reaction_to_record}
-use Rattle.iss_model.specs.run.Transcripts.{sound, faulty, Told, told_by_reaction, after_line, at_level, bytes_of, said_text, entry_texts}
+use Rattle.iss_model.specs.run.Transcripts.{sound, faulty, LineReply, reply_by_reaction, after_line, at_level, bytes_of, said_text, entry_texts}
 use Rattle.iss_core.specs.Values.{IsQuiet}
 use Rattle.iss_core.proofs.Quiet.{new_record}
 use Rattle.iss_core.proofs.Stepped.{step_time}
@@ -25,9 +25,9 @@ use Rattle.iss_event.specs.declared.line.Mode.TheVariants.{Lines}
 use Rattle.iss_event.specs.declared.line.FormFault.{FormFault}
 use Rattle.iss_event.specs.Readings.{line_read}
 use Rattle.iss_event.specs.FormLines.{form_text}
-use Rattle.iss_top.specs.Dry.{reading_of, as_reading, told_of, entry_text, entries_text}
+use Rattle.iss_top.specs.Dry.{reading_of, as_reading, reply_of_line, entry_text, entries_text}
 use Rattle.iss_top.specs.Start.{IsAtStart}
-use Rattle.iss_top.specs.Tells.{Tells, Records}
+use Rattle.iss_top.specs.Tells.{Replies, Records}
 
 -- a level is no part of the bytes
 pub bytes_of-at_level : (level : ℕ) (texts : List (List ℕ)) → bytes_of (at_level level texts) ≡ concat texts
@@ -74,49 +74,49 @@ no_time _ h = refl
 
 -- an input that isn't new changes nothing, and is told its answer
 pub answer_tells : (s : CoreState) (i : Input) (at : Option ℕ) (stamp : ℕ) (a : Answer) (text : List ℕ) → stamp ≡ unwrap_or at 0 → judged.Told a ≡ judge core_keeper s i stamp → text ≡ answer_text a
-    → Tells (after_line core_keeper s (sound i at)) s text
+    → Replies (after_line core_keeper s (sound i at)) s text
 unfolding reaction
 answer_tells s i at stamp a text is told said =
     let judged_so : judged.Told a ≡ judge core_keeper s i (unwrap_or at 0) = told ∙ ap (judge core_keeper s i) is in
     let answered : record { world = s; texts = at_level s.count (answer_text a ∷ []) } ≡ after_line core_keeper s (sound i at) =
-    ap (λ (j : Judged). told_by_reaction core_keeper (reaction_as core_keeper s i (unwrap_or at 0) j)) judged_so in
+    ap (λ (j : Judged). reply_by_reaction core_keeper (reaction_as core_keeper s i (unwrap_or at 0) j)) judged_so in
     record {
-      state = ap (λ (t : Told CoreState). t.world) answered;
-      bytes = said ∙ sym (bytes_of_one s.count (answer_text a)) ∙ ap (λ (t : Told CoreState). bytes_of t.texts) answered;
+      state = ap (λ (t : LineReply CoreState). t.world) answered;
+      bytes = said ∙ sym (bytes_of_one s.count (answer_text a)) ∙ ap (λ (t : LineReply CoreState). bytes_of t.texts) answered;
     }
 
 -- a new one makes its record, and is told what its entries send out
 pub record_tells : (s : CoreState) (i : Input) (at : Option ℕ) (stamp : ℕ) (r : Record) (after : CoreState) (text : List ℕ) → stamp ≡ unwrap_or at 0 → judged.New r ≡ judge core_keeper s i stamp → is_built i ≡ true
-    → Records s r after text → Tells (after_line core_keeper s (sound i at)) after text
+    → Records s r after text → Replies (after_line core_keeper s (sound i at)) after text
 unfolding reaction
 record_tells s i at stamp r after text is fresh built records =
     let made = reaction_to_record core_keeper s r in
     let judged_so : judged.New r ≡ judge core_keeper s i (unwrap_or at 0) = fresh ∙ ap (judge core_keeper s i) is in
-    let told_so : told_by_reaction core_keeper made ≡ after_line core_keeper s (sound i at) =
-    ap (λ (said : List Said). told_by_reaction core_keeper (record made { said = said })) (sym (append-nil made.said))
-    ∙ ap (λ (said : List Said). told_by_reaction core_keeper (record made { said = made.said ++ said })) (sym (no_time i built))
-    ∙ ap (λ (j : Judged). told_by_reaction core_keeper (reaction_as core_keeper s i (unwrap_or at 0) j)) judged_so in
+    let told_so : reply_by_reaction core_keeper made ≡ after_line core_keeper s (sound i at) =
+    ap (λ (said : List Said). reply_by_reaction core_keeper (record made { said = said })) (sym (append-nil made.said))
+    ∙ ap (λ (said : List Said). reply_by_reaction core_keeper (record made { said = made.said ++ said })) (sym (no_time i built))
+    ∙ ap (λ (j : Judged). reply_by_reaction core_keeper (reaction_as core_keeper s i (unwrap_or at 0) j)) judged_so in
     record {
-      state = records.state ∙ ap (λ (t : Told CoreState). t.world) told_so;
+      state = records.state ∙ ap (λ (t : LineReply CoreState). t.world) told_so;
       bytes =
           records.bytes
           ∙ sym (bytes_of_said made.world.count (step core_keeper s r).entries)
-          ∙ ap (λ (t : Told CoreState). bytes_of t.texts) told_so;
+          ∙ ap (λ (t : LineReply CoreState). bytes_of t.texts) told_so;
     }
 
 -- a line with a fault changes nothing, and is told it
-pub fault_tells : (s : CoreState) (line : List ℕ) (fault : FormFault) (text : List ℕ) → line_read Lines line ≡ Err fault → text ≡ form_text fault → Tells (told_of s line) s text
+pub fault_tells : (s : CoreState) (line : List ℕ) (fault : FormFault) (text : List ℕ) → line_read Lines line ≡ Err fault → text ≡ form_text fault → Replies (reply_of_line s line) s text
 fault_tells s line fault text e said =
-    let told : told_of s line ≡ record { world = s; texts = at_level s.count (form_text fault ∷ []) } = ap (after_line core_keeper s) (reading_faulty line fault e) in
+    let told : reply_of_line s line ≡ record { world = s; texts = at_level s.count (form_text fault ∷ []) } = ap (after_line core_keeper s) (reading_faulty line fault e) in
     record {
-      state = ap (λ (t : Told CoreState). t.world) (sym told);
-      bytes = said ∙ sym (bytes_of_one s.count (form_text fault)) ∙ ap (λ (t : Told CoreState). bytes_of t.texts) (sym told);
+      state = ap (λ (t : LineReply CoreState). t.world) (sym told);
+      bytes = said ∙ sym (bytes_of_one s.count (form_text fault)) ∙ ap (λ (t : LineReply CoreState). bytes_of t.texts) (sym told);
     }
 
 -- a line that is read is told as its input
-pub read_tells : (s after : CoreState) (line text : List ℕ) (said : Line) → line_read Lines line ≡ Ok said → Tells (after_line core_keeper s (sound said.input said.at)) after text → Tells (told_of s line) after text
+pub read_tells : (s after : CoreState) (line text : List ℕ) (said : Line) → line_read Lines line ≡ Ok said → Replies (after_line core_keeper s (sound said.input said.at)) after text → Replies (reply_of_line s line) after text
 read_tells s after line text said e tells =
-    subst (λ (t : Told CoreState). Tells t after text) (ap (after_line core_keeper s) (sym (reading_sound line said e))) tells
+    subst (λ (t : LineReply CoreState). Replies t after text) (ap (after_line core_keeper s) (sym (reading_sound line said e))) tells
 
 -- ---- at the start
 
@@ -137,7 +137,7 @@ record_then s i stamp r start zero fresh =
     let is = new_record s i stamp r (quiet_then s stamp start zero) fresh in
     record { at = ap (λ (x : Record). x.at) (sym is) ∙ max_start stamp s.now zero start.time; input = ap (λ (x : Record). x.input) (sym is) }
 
--- and behind it the core is at the start again
+-- and after it the core is at the start again
 pub start_then : (s after : CoreState) (r : Record) → IsAtStart s → r.at ≡ 0 → after ≡ (step core_keeper s r).world → IsQuiet after r.at → IsAtStart after
 start_then s after r start zero is quiet =
     record {

@@ -4,7 +4,7 @@ use Rattle.iss_edge.specs.World.{World, Told}
 use Rattle.iss_edge.proofs.Tolds.{told_map, told_then, told_self}
 use Rattle.iss_model.specs.state.Cores.{CoreState}
 use Rattle.iss_top.specs.Lines.{kept_with}
-use Rattle.iss_top.specs.Progress.{line_text, line_next, Says, SaysFront, Fed, FedPart}
+use Rattle.iss_top.specs.Progress.{line_text, line_next, Says, SaysPrefix, Fed, FedPart}
 use Rattle.iss_top.proofs.Saying.{says_nothing}
 use Rattle.iss_top.proofs.Feeding.{next_room}
 use Rattle.iss_top.proofs.Fed.{fed_nothing, fed_byte, fed_end, part_nothing, part_end, fed_further, part_at}
@@ -17,13 +17,13 @@ pub told_end : (h h' : CoreState) (line said line' : List ℕ) (x y : Option Wor
 told_end h h' line said line' x y same next empty told =
     rw (← same, next, empty) (told_map (Says (line_text h said)) (Fed h said (10 ∷ []) (line_next h said) []) x y (λ a b. fed_end h said a b) told)
 
-pub told_part_end : (h : CoreState) (line said : List ℕ) (x y : Option World) → said ≡ line → Told (SaysFront (line_text h said)) x y → Told (FedPart h line (10 ∷ [])) x y
+pub told_part_end : (h : CoreState) (line said : List ℕ) (x y : Option World) → said ≡ line → Told (SaysPrefix (line_text h said)) x y → Told (FedPart h line (10 ∷ [])) x y
 told_part_end h line said x y same told =
-    rw (← same) (told_map (SaysFront (line_text h said)) (FedPart h said (10 ∷ [])) x y (λ a b. part_end h said a b) told)
+    rw (← same) (told_map (SaysPrefix (line_text h said)) (FedPart h said (10 ∷ [])) x y (λ a b. part_end h said a b) told)
 
 -- nothing went out
-pub told_no_text : (text : List ℕ) (x : Option World) → Told (SaysFront text) x x
-told_no_text text x = told_self (SaysFront text) x (λ a. record { front = []; back = text; cut = refl; says = says_nothing a })
+pub told_no_text : (text : List ℕ) (x : Option World) → Told (SaysPrefix text) x x
+told_no_text text x = told_self (SaysPrefix text) x (λ a. record { prefix = []; back = text; cut = refl; says = says_nothing a })
 
 pub told_part_nothing : (h : CoreState) (line piece : List ℕ) (x : Option World) → Told (FedPart h line piece) x x
 told_part_nothing h line piece x = told_self (FedPart h line piece) x (λ a. part_nothing h line piece a)

@@ -9,7 +9,7 @@ use Rattle.iss_model.specs.state.Cores.{CoreState, no_core}
 use Rattle.iss_top.specs.declared.stop.Stop.{Stop}
 use Rattle.iss_top.specs.declared.stop.Stop.TheVariants as stop
 use Rattle.iss_top.specs.Statuses.{status_of}
-use Rattle.iss_top.specs.Progress.{line_text, Says, SaysFront, Fed, FedPart, TellingCause}
+use Rattle.iss_top.specs.Progress.{line_text, Says, SaysPrefix, Fed, FedPart, ReplyCause}
 use Rattle.iss_top.specs.Runs.{IsOnItsWay, DryRun}
 use Rattle.iss_top.proofs.Running.{way_begins, way_goes_on, ends_at_start, ends_at_input, ends_in_piece, ends_too_long, ends_well, ends_in_last}
 
@@ -27,7 +27,7 @@ told_three R S T U x y z w f p q r =
 pub told_way_begins : (x : Option World) → Told (IsOnItsWay 0 no_core []) x x
 told_way_begins x = told_self (IsOnItsWay 0 no_core []) x way_begins
 
--- memory was wanted at the start
+-- an allocation failed at the start
 pub told_not_begun : (x : Option World) → Told (DryRun 7) x x
 told_not_begun x = told_self (DryRun 7) x ends_at_start
 
@@ -47,19 +47,19 @@ told_too_long n count h l buffer x y z le limit p q =
     told_then (IsOnItsWay n h l) (Takes (record { 0 = 0 }) count buffer) (DryRun 8) x y z (λ a b c u v. ends_too_long n count h l buffer a b c le limit u v) p q
 
 -- telling ends with status 5 or 7
-telling_not_done : (before now : Faults) (s : Stop) → TellingCause before now s → status_of {A = Unit {0}} (Err s) ≡ 0 → ⊥
+telling_not_done : (before now : Faults) (s : Stop) → ReplyCause before now s → status_of {A = Unit {0}} (Err s) ≡ 0 → ⊥
 telling_not_done before now stop.Input cause e = absurd cause
 telling_not_done before now stop.Output cause e = cc
 telling_not_done before now stop.Memory cause e = cc
 telling_not_done before now stop.InputLong cause e = absurd cause
 
-telling_not_long : (before now : Faults) (s : Stop) → TellingCause before now s → status_of {A = Unit {0}} (Err s) ≡ 8 → ⊥
+telling_not_long : (before now : Faults) (s : Stop) → ReplyCause before now s → status_of {A = Unit {0}} (Err s) ≡ 8 → ⊥
 telling_not_long before now stop.Input cause e = absurd cause
 telling_not_long before now stop.Output cause e = cc
 telling_not_long before now stop.Memory cause e = cc
 telling_not_long before now stop.InputLong cause e = absurd cause
 
-pub told_piece_fails : (s : Stop) (before now : Faults) (n count : ℕ) (h : CoreState) (l buffer piece : List ℕ) (x y z w : Option World) → TellingCause before now s → count ≤ length buffer → n + count ≤ MOST_INPUT
+pub told_piece_fails : (s : Stop) (before now : Faults) (n count : ℕ) (h : CoreState) (l buffer piece : List ℕ) (x y z w : Option World) → ReplyCause before now s → count ≤ length buffer → n + count ≤ MOST_INPUT
     → piece ≡ take count buffer → Told (IsOnItsWay n h l) x y → Told (Takes (record { 0 = 0 }) count buffer) y z → Told (FedPart h l piece) z w → Told (DryRun (status_of {A = Unit {0}} (Err s))) x w
 told_piece_fails s before now n count h l buffer piece x y z w cause le limit is p q r =
     told_three (IsOnItsWay n h l) (Takes (record { 0 = 0 }) count buffer) (FedPart h l (take count buffer)) (DryRun (status_of {A = Unit {0}} (Err s))) x y z w
@@ -75,12 +75,12 @@ told_last_done n count h l said buffer x y z w le none same p q r =
     p (subst (λ k. Told (Takes (record { 0 = 0 }) k buffer) y z) none q) (subst (λ (t : List ℕ). Told (Says (line_text h t)) z w) same r)
 
 -- the last line was told in part
-pub told_last_fails : (s : Stop) (before now : Faults) (n count : ℕ) (h : CoreState) (l said buffer : List ℕ) (x y z w : Option World) → TellingCause before now s → n ≤ MOST_INPUT → count ≡ 0 → said ≡ l
-    → Told (IsOnItsWay n h l) x y → Told (Takes (record { 0 = 0 }) count buffer) y z → Told (SaysFront (line_text h said)) z w → Told (DryRun (status_of {A = Unit {0}} (Err s))) x w
+pub told_last_fails : (s : Stop) (before now : Faults) (n count : ℕ) (h : CoreState) (l said buffer : List ℕ) (x y z w : Option World) → ReplyCause before now s → n ≤ MOST_INPUT → count ≡ 0 → said ≡ l
+    → Told (IsOnItsWay n h l) x y → Told (Takes (record { 0 = 0 }) count buffer) y z → Told (SaysPrefix (line_text h said)) z w → Told (DryRun (status_of {A = Unit {0}} (Err s))) x w
 told_last_fails s before now n count h l said buffer x y z w cause le none same p q r =
-    told_three (IsOnItsWay n h l) (Takes (record { 0 = 0 }) 0 buffer) (SaysFront (line_text h l)) (DryRun (status_of {A = Unit {0}} (Err s))) x y z w
+    told_three (IsOnItsWay n h l) (Takes (record { 0 = 0 }) 0 buffer) (SaysPrefix (line_text h l)) (DryRun (status_of {A = Unit {0}} (Err s))) x y z w
     (λ a b c d u v f. ends_in_last (status_of {A = Unit {0}} (Err s)) n h l buffer a b c d (telling_not_done before now s cause) (telling_not_long before now s cause) le u v f)
-    p (subst (λ k. Told (Takes (record { 0 = 0 }) k buffer) y z) none q) (subst (λ (t : List ℕ). Told (SaysFront (line_text h t)) z w) same r)
+    p (subst (λ k. Told (Takes (record { 0 = 0 }) k buffer) y z) none q) (subst (λ (t : List ℕ). Told (SaysPrefix (line_text h t)) z w) same r)
 
 -- past the limit one byte more is asked for, and before it none that passes the limit
 pub one_too_many : (taken count asked : ℕ) → taken ≤ MOST_INPUT → count ≤ asked → MOST_INPUT < taken + count → (taken ≡ MOST_INPUT → asked ≡ 1) → (taken < MOST_INPUT → taken + asked ≤ MOST_INPUT)

@@ -4,7 +4,7 @@ use Rattle.std.specs.List.{concat, flat_map}
 use Rattle.iss_model.specs.declared.entry.Entry.{Entry}
 use Rattle.iss_model.specs.rules.Histories.{nothing_yet, history_keeper}
 use Rattle.iss_model.specs.state.Cores.{CoreState, core_keeper}
-use Rattle.iss_model.specs.run.Transcripts.{Reading, sound, faulty, Text, Told, transcript, after_line, bytes_of, entry_texts}
+use Rattle.iss_model.specs.run.Transcripts.{Reading, sound, faulty, Text, LineReply, transcript, after_line, bytes_of, entry_texts}
 use Rattle.iss_event.specs.declared.line.Line.{Line}
 use Rattle.iss_event.specs.declared.line.Mode.TheVariants.{Lines}
 use Rattle.iss_event.specs.declared.line.FormFault.{FormFault}
@@ -29,8 +29,8 @@ abbrev pub dry_output : List ℕ → List ℕ
 dry_output input = bytes_of (dry_texts input)
 
 -- what is told of a line that is not blank on a core, and what then stands
-abbrev pub told_of : CoreState → List ℕ → Told CoreState
-told_of s line = after_line core_keeper s (reading_of line)
+abbrev pub reply_of_line : CoreState → List ℕ → LineReply CoreState
+reply_of_line s line = after_line core_keeper s (reading_of line)
 
 -- the text of an entry, where it has one
 abbrev pub entry_text : Entry → List ℕ

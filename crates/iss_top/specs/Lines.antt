@@ -10,12 +10,12 @@ is_blank_byte b = b == 32 || b == 9 || b == 13
 abbrev pub is_blank : List ℕ → Bool
 is_blank line = list_all is_blank_byte line
 
--- these bytes in front of the first part
+-- these bytes before the first part
 abbrev pub onto_first : List ℕ → List (List ℕ) → List (List ℕ)
-onto_first front [] = front ∷ []
-onto_first front (part ∷ parts) = (front ++ part) ∷ parts
+onto_first prefix [] = prefix ∷ []
+onto_first prefix (part ∷ parts) = (prefix ++ part) ∷ parts
 
--- the bytes up to each line feed, and those behind the last one
+-- the bytes up to each line feed, and those after the last one
 abbrev pub parts_of : List ℕ → List (List ℕ)
 parts_of [] = [] ∷ []
 parts_of (b ∷ bs) = if b == 10 then [] ∷ parts_of bs else onto_first (b ∷ []) (parts_of bs)

@@ -9,15 +9,15 @@ use Rattle.iss_model.specs.run.Transcripts.{bytes_of}
 use Rattle.iss_top.specs.declared.stop.Stop.{Stop}
 use Rattle.iss_top.specs.declared.stop.Stop.TheVariants as stop
 use Rattle.iss_top.specs.Lines.{is_blank, onto_first, parts_of}
-use Rattle.iss_top.specs.Dry.{told_of}
+use Rattle.iss_top.specs.Dry.{reply_of_line}
 
 -- what a line is told: nothing where it is blank
 unfoldable pub line_text : CoreState → List ℕ → List ℕ
-line_text s line = if is_blank line then [] else bytes_of (told_of s line).texts
+line_text s line = if is_blank line then [] else bytes_of (reply_of_line s line).texts
 
 -- what stands after a line
 unfoldable pub line_next : CoreState → List ℕ → CoreState
-line_next s line = if is_blank line then s else (told_of s line).world
+line_next s line = if is_blank line then s else (reply_of_line s line).world
 
 -- what lines in a row are told
 abbrev pub lines_text : CoreState → List (List ℕ) → List ℕ
@@ -49,12 +49,12 @@ pub record Says (text : List ℕ) (a b : World) : Type 0 where
   pub left : b.left ≡ a.left
   pub sends : Sends text a b
 
--- nothing was done but that a front of this text went out on channel 0
-pub record SaysFront (text : List ℕ) (a b : World) : Type 0 where
-  pub front : List ℕ
+-- nothing was done but that a prefix of this text went out on channel 0
+pub record SaysPrefix (text : List ℕ) (a b : World) : Type 0 where
+  pub prefix : List ℕ
   pub back : List ℕ
-  pub cut : text ≡ front ++ back
-  pub says : Says front a b
+  pub cut : text ≡ prefix ++ back
+  pub says : Says prefix a b
 
 -- a piece of input was taken in: what it is told went out, and the rest of the input is still to be told
 pub record Fed (s : CoreState) (line piece : List ℕ) (s' : CoreState) (line' : List ℕ) (a b : World) : Type 0 where
@@ -67,20 +67,20 @@ pub record Begins (text whole : List ℕ) : Type 0 where
   pub back : List ℕ
   pub cut : whole ≡ text ++ back
 
--- a piece of input was taken in in part: what went out is the front of what is to be told, whatever comes behind the piece
+-- a piece of input was taken in in part: what went out is the prefix of what is to be told, whatever comes after the piece
 pub record FedPart (s : CoreState) (line piece : List ℕ) (a b : World) : Type 0 where
   pub text : List ℕ
   pub says : Says text a b
   pub onward : (rest : List ℕ) → Begins text (text_to_come s line (piece ++ rest))
 
--- why telling a line may end early: an emit failed, or memory was wanted
-abbrev pub TellingCause : Faults → Faults → Stop → Type 0
-TellingCause before now stop.Input = ⊥
-TellingCause before now stop.Output = Rose before.output now.output
-TellingCause before now stop.Memory = Unit {0}
-TellingCause before now stop.InputLong = ⊥
+-- why telling a line may end early: an emit failed, or an allocation failed
+abbrev pub ReplyCause : Faults → Faults → Stop → Type 0
+ReplyCause before now stop.Input = ⊥
+ReplyCause before now stop.Output = Rose before.output now.output
+ReplyCause before now stop.Memory = Unit {0}
+ReplyCause before now stop.InputLong = ⊥
 
 -- no count has fallen, and telling ended early for a cause
-pub record IsTelling {A : Type 0} (before now : Faults) (result : Result A Stop) : Type 0 where
+pub record IsReplying {A : Type 0} (before now : Faults) (result : Result A Stop) : Type 0 where
   pub later : Later before now
-  pub cause : IfErr result (TellingCause before now)
+  pub cause : IfErr result (ReplyCause before now)

@@ -22,13 +22,13 @@ pub record IsOnItsWay (taken : ℕ) (s : CoreState) (line : List ℕ) (a b : Wor
   pub count : length took ≡ taken
   pub onward : (rest : List ℕ) → text_to_come no_core [] (took ++ rest) ≡ text ++ text_to_come s line rest
 
--- What a dry run with this status did. What went out is a front of what its input is to be told, and all of it at status 0, where the input was read to its end.
+-- What a dry run with this status did. What went out is a prefix of what its input is to be told, and all of it at status 0, where the input was read to its end.
 -- Status 8 comes exactly where 4294967296 bytes were taken and another came.
 pub record DryRun (status : ℕ) (a b : World) : Type 0 where
   pub took : List ℕ
   pub text : List ℕ
   pub passes : Passes took text a b
-  pub front : Begins text (dry_output (a.left 0))
+  pub prefix : Begins text (dry_output (a.left 0))
   pub whole : status ≡ 0 → (text ≡ dry_output (a.left 0)) × (b.left 0 ≡ [])
   pub long : (status ≡ 8) ↔ (length took ≡ MOST_INPUT + 1)
   pub bound : length took ≤ MOST_INPUT + 1

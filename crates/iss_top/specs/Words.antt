@@ -10,7 +10,7 @@ use Rattle.iss_top.specs.declared.words.Command.TheVariants.{Dry, Format}
 abbrev pub within : ℕ → ℕ → ℕ → Option ℕ
 within least most n = if nat_le least n && nat_le n most then Some n else None
 
--- the number that a word says, where it is from the least to the most: decimal digits without a zero in front, save a lone zero
+-- the number that a word says, where it is from the least to the most: decimal digits without a leading zero, save a lone zero
 abbrev pub number_in : ℕ → ℕ → List ℕ → Option ℕ
 number_in least most word = if is_whole_text word then within least most (digits_value word) else None
 
@@ -25,33 +25,33 @@ format_of (Some size) None = None
 format_of None instance = None
 
 -- `dry`
-abbrev pub dry_said : List ℕ → Option Command
-dry_said name = if bytes_eq name (codes "dry") then Some Dry else None
+abbrev pub dry_command : List ℕ → Option Command
+dry_command name = if bytes_eq name (codes "dry") then Some Dry else None
 
 -- `format DEVICE SIZE INSTANCE`, with a size of 17 to 4294967296 and an instance below 2^48
-abbrev pub format_said : List ℕ → List ℕ → List ℕ → List ℕ → Option Command
-format_said name device size instance =
+abbrev pub format_command : List ℕ → List ℕ → List ℕ → List ℕ → Option Command
+format_command name device size instance =
     if bytes_eq name (codes "format") && is_device device
     then format_of (number_in 17 4294967296 size) (number_in 0 281474976710655 instance)
     else None
 
 -- what the words ask for
-unfoldable pub command_said : List (List ℕ) → Option Command
-command_said (name ∷ []) = dry_said name
-command_said (name ∷ device ∷ size ∷ instance ∷ []) = format_said name device size instance
-command_said words = None
+unfoldable pub command_of_words : List (List ℕ) → Option Command
+command_of_words (name ∷ []) = dry_command name
+command_of_words (name ∷ device ∷ size ∷ instance ∷ []) = format_command name device size instance
+command_of_words words = None
 
 -- digits without a zero before another
 abbrev pub is_unpadded : List ℕ → Bool
 is_unpadded digits = nat_lt 0 (length digits) && (length digits == 1 || not (slice_index digits 0 == 48))
 
--- the number that digits spell behind those of another number
-abbrev pub value_behind : ℕ → List ℕ → ℕ
-value_behind start digits = fold (λ value digit. 10 * value + (digit - 48)) start digits
+-- the number that digits spell after those of another number
+abbrev pub value_after : ℕ → List ℕ → ℕ
+value_after start digits = fold (λ value digit. 10 * value + (digit - 48)) start digits
 
 -- that number, where these are digits and it is from the least to the most
-abbrev pub number_behind : ℕ → ℕ → ℕ → List ℕ → Option ℕ
-number_behind start least most digits = if list_all is_digit digits then within least most (value_behind start digits) else None
+abbrev pub number_after : ℕ → ℕ → ℕ → List ℕ → Option ℕ
+number_after start least most digits = if list_all is_digit digits then within least most (value_after start digits) else None
 
 -- a command's numbers are in their ranges
 abbrev pub IsInRange : Command → Type 0

@@ -7,20 +7,20 @@ ghost use Rattle.iss_model.specs.state.Cores.{core_keeper};
 ghost use Rattle.iss_model.specs.Forms.{is_in_form};
 ghost use Rattle.iss_model.specs.run.Transcripts.{sound, after_line, bytes_of};
 ghost use Rattle.iss_core.specs.Values.{IsNext};
-ghost use Rattle.iss_top.specs.Dry.{told_of, entries_text};
+ghost use Rattle.iss_top.specs.Dry.{reply_of_line, entries_text};
 ghost use Rattle.iss_top.specs.Start.{IsAtStart};
-ghost use Rattle.iss_top.specs.Tells.{Tells, Records};
+ghost use Rattle.iss_top.specs.Tells.{Replies, Records};
 
 use iss_core::Core;
 use iss_event::{Line, LineFault, Mode, form_line, read_line, reply_line, told_line};
 use iss_model::{Entry, Judged, Record, Reply};
 use std::alloc::{AllocError, Global};
 
-/// Takes a line that is not blank, and answers the core behind it with what the line is told.
+/// Takes a line that is not blank, and returns the core after it with what the line is told.
 pub(crate) fn answer(alloc: Global, core: Core, line: &[u8]) -> Result<(Core, Vec<u8>), AllocError>
     requires room { core.state.count < MOST_RECORDS }
     requires start { IsAtStart core.state }
-    ensures told { IfOk result (λ x. Tells (told_of core.state line.now) x.0.state x.1.items) }
+    ensures told { IfOk result (λ x. Replies (reply_of_line core.state line.now) x.0.state x.1.items) }
     ensures start { IfOk result (λ x. IsAtStart x.0.state) }
 {
     match read_line(alloc, line, Mode::Lines) {
@@ -40,7 +40,7 @@ fn decide(alloc: Global, core: Core, said: Line) -> Result<(Core, Vec<u8>), Allo
     requires input_form { IsTrue (is_in_form said.input) }
     requires built { is_built said.input ≡ true }
     requires no_stamp { said.at ≡ None }
-    ensures told { IfOk result (λ x. Tells (after_line core_keeper core.state (sound said.input said.at)) x.0.state x.1.items) }
+    ensures told { IfOk result (λ x. Replies (after_line core_keeper core.state (sound said.input said.at)) x.0.state x.1.items) }
     ensures start { IfOk result (λ x. IsAtStart x.0.state) }
 {
     match core.judge(&said.input, said.at.unwrap_or(0))? {
@@ -53,7 +53,7 @@ fn decide(alloc: Global, core: Core, said: Line) -> Result<(Core, Vec<u8>), Allo
     }
 }
 
-/// Takes up a record that is next, and answers the core behind it with the texts of its entries.
+/// Takes up a record that is next, and returns the core after it with the texts of its entries.
 fn take_up(alloc: Global, core: Core, accepted: &Record) -> Result<(Core, Vec<u8>), AllocError>
     requires room { core.state.count < MOST_RECORDS }
     requires start { IsAtStart core.state }

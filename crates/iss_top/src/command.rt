@@ -2,7 +2,7 @@
 ghost use Rattle.std.specs.Prelude.{◌≡◌, ◌↔◌, ◌==◌, None, map, string_bytes, IsTrue};
 ghost use Rattle.std.specs.List.{list_any};
 ghost use Rattle.iss_edge.specs.World.{Told, Rose};
-ghost use Rattle.iss_top.specs.Words.{command_said, statuses, IsOtherSize, OnDry, OnFormat};
+ghost use Rattle.iss_top.specs.Words.{command_of_words, statuses, IsOtherSize, OnDry, OnFormat};
 ghost use Rattle.iss_top.specs.Runs.{DryRun, EndsWell};
 ghost use Rattle.iss_top.specs.FormatRuns.{FormatRun};
 
@@ -16,23 +16,23 @@ use std::alloc::Global;
 /// The status of words that are no command.
 const USAGE: u8 = 2;
 
-/// Does all that the program does, by the words behind the program's name, and answers the exit status.
+/// Does all that the program does, by the words after the program's name, and returns the exit status.
 ///
 /// The one word `dry` reads event lines from channel 0 to its end and writes what they are told, one line of JSON
 /// (RFC 8259) each. `format DEVICE SIZE INSTANCE` makes the device, of SIZE bytes, one of this instance that stands for
 /// no records. The statuses are 0 for a run that came to its end, 2 for words that are no command, 3 where the input
 /// failed, 4 where the device has another size, 5 where the output failed, 6 where a call on the device failed, 7 where
-/// memory was wanted, and 8 where the input has more than 4294967296 bytes.
+/// an allocation failed, and 8 where the input has more than 4294967296 bytes.
 pub fn run<E: Edge>(alloc: Global, words: &[String], edge: &mut E) -> u8
     // No other status, by the words.
-    ensures known { IsTrue (list_any (λ status. result == status) (statuses (command_said (map string_bytes words.now)))) }
+    ensures known { IsTrue (list_any (λ status. result == status) (statuses (command_of_words (map string_bytes words.now)))) }
 
     // The words decide over 2, and then nothing is done.
-    ensures usage { (result ≡ 2) ↔ (command_said (map string_bytes words.now) ≡ None) }
+    ensures usage { (result ≡ 2) ↔ (command_of_words (map string_bytes words.now) ≡ None) }
     ensures untouched { result ≡ 2 → edge.new ≡ edge.old }
 
     // The device's size decides over 4, and then nothing is done.
-    ensures other_size { (result ≡ 4) ↔ IsOtherSize (command_said (map string_bytes words.now)) (E.extent edge.old) }
+    ensures other_size { (result ≡ 4) ↔ IsOtherSize (command_of_words (map string_bytes words.now)) (E.extent edge.old) }
     ensures unwritten { result ≡ 4 → edge.new ≡ edge.old }
 
     // The outside is at fault where it is blamed.
@@ -40,15 +40,15 @@ pub fn run<E: Edge>(alloc: Global, words: &[String], edge: &mut E) -> u8
     ensures output_fault { result ≡ 5 → Rose (E.faults edge.old).output (E.faults edge.new).output }
     ensures disk_fault { result ≡ 6 → Rose (E.faults edge.old).disk (E.faults edge.new).disk }
 
-    // Of a dry run what went out is the transcript of the input's lines, or a front of it; 8 comes exactly at its number.
-    // Where the outside isn't at fault, and the input isn't too long, it comes to its end, or wants memory.
-    ensures transcript { OnDry (command_said (map string_bytes words.now))
+    // Of a dry run what went out is the transcript of the input's lines, or a prefix of it; 8 comes exactly at its number.
+    // Where the outside isn't at fault, and the input isn't too long, it comes to its end, or an allocation fails.
+    ensures transcript { OnDry (command_of_words (map string_bytes words.now))
         (Told (DryRun result) (E.told edge.old) (E.told edge.new)) }
-    ensures complete { OnDry (command_said (map string_bytes words.now))
+    ensures complete { OnDry (command_of_words (map string_bytes words.now))
         (Told (EndsWell (E.faults edge.old) (E.faults edge.new) result) (E.told edge.old) (E.told edge.new)) }
 
     // What formatting does.
-    ensures formatting { OnFormat (command_said (map string_bytes words.now)) (λ size instance.
+    ensures formatting { OnFormat (command_of_words (map string_bytes words.now)) (λ size instance.
         FormatRun size instance (E.extent edge.old) result (E.faults edge.old) (E.faults edge.new) (E.told edge.old) (E.told edge.new)) }
 {
     match command_of(words) {

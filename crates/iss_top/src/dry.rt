@@ -54,7 +54,7 @@ fn room_after(taken: u64) -> usize
     (MOST_INPUT - taken).min(PIECE as u64) as usize
 }
 
-/// Takes at most so many bytes into the front of the buffer.
+/// Takes at most so many bytes into the start of the buffer.
 fn take_piece<E: Edge>(edge: &mut E, buffer: &mut [u8], room: usize) -> Result<usize, Stop>
     requires some { 0 < room }
     requires within { room ≤ length buffer.old }

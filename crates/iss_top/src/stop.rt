@@ -11,7 +11,7 @@ pub(crate) enum Stop {
     Input,
     /// An emit failed.
     Output,
-    /// Memory was wanted.
+    /// An allocation failed.
     Memory,
     /// The input has more than 4294967296 bytes.
     InputLong,

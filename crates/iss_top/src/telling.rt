@@ -3,7 +3,7 @@ ghost use Rattle.std.specs.Prelude.{◌≡◌, ◌<◌, IfOk, OnOk, OnErr};
 ghost use Rattle.iss_model.specs.declared.limits.TheConstants.{MOST_RECORDS};
 ghost use Rattle.iss_edge.specs.World.{Told};
 ghost use Rattle.iss_top.specs.Start.{IsAtStart};
-ghost use Rattle.iss_top.specs.Progress.{line_text, line_next, Says, SaysFront, IsTelling};
+ghost use Rattle.iss_top.specs.Progress.{line_text, line_next, Says, SaysPrefix, IsReplying};
 
 use crate::answer::answer;
 use crate::buffer::is_blank;
@@ -12,7 +12,7 @@ use iss_core::Core;
 use iss_edge::{Channel, Edge};
 use std::alloc::Global;
 
-/// Writes what a line is told, and answers the core behind it. A blank line is told nothing.
+/// Writes what a line is told, and returns the core after it. A blank line is told nothing.
 #[tactic(auto, using(crate::proofs::Saying::says_nothing), unfolding(crate::specs::Progress::line_text, crate::specs::Progress::line_next))]
 pub(crate) fn tell_line<E: Edge>(
     alloc: Global,
@@ -25,8 +25,8 @@ pub(crate) fn tell_line<E: Edge>(
     ensures next { IfOk result (λ next. next.state ≡ line_next core.state line.now) }
     ensures start { IfOk result (λ next. IsAtStart next.state) }
     ensures told { OnOk result (Told (Says (line_text core.state line.now)) (E.told edge.old) (E.told edge.new)) }
-    ensures part { OnErr result (Told (SaysFront (line_text core.state line.now)) (E.told edge.old) (E.told edge.new)) }
-    ensures telling { IsTelling (E.faults edge.old) (E.faults edge.new) result }
+    ensures part { OnErr result (Told (SaysPrefix (line_text core.state line.now)) (E.told edge.old) (E.told edge.new)) }
+    ensures telling { IsReplying (E.faults edge.old) (E.faults edge.new) result }
 {
     if is_blank(line) {
         return Ok(core);
@@ -38,8 +38,8 @@ pub(crate) fn tell_line<E: Edge>(
 
 fn write<E: Edge>(edge: &mut E, text: &[u8]) -> Result<(), Stop>
     ensures told { OnOk result (Told (Says text.now) (E.told edge.old) (E.told edge.new)) }
-    ensures part { OnErr result (Told (SaysFront text.now) (E.told edge.old) (E.told edge.new)) }
-    ensures telling { IsTelling (E.faults edge.old) (E.faults edge.new) result }
+    ensures part { OnErr result (Told (SaysPrefix text.now) (E.told edge.old) (E.told edge.new)) }
+    ensures telling { IsReplying (E.faults edge.old) (E.faults edge.new) result }
 {
     match edge.emit(Channel(0), text) {
         Ok(()) => Ok(()),

@@ -1,7 +1,7 @@
 //! What the words of a run ask for.
 ghost use Rattle.std.specs.Prelude.{◌≡◌, ◌≤◌, map, string_bytes, IfOk, IfSome};
 ghost use Rattle.std.specs.Result.{result_ok};
-ghost use Rattle.iss_top.specs.Words.{is_device, is_unpadded, number_behind, number_in, dry_said, format_said, command_said, IsInRange};
+ghost use Rattle.iss_top.specs.Words.{is_device, is_unpadded, number_after, number_in, dry_command, format_command, command_of_words, IsInRange};
 
 /// The most bytes that the name of a device has.
 const LONGEST_NAME: usize = 4096;
@@ -28,12 +28,12 @@ pub enum Command {
 #[derive(Debug, Clone, Copy)]
 pub struct Usage;
 
-/// What the words behind the program's name ask for.
+/// What the words after the program's name ask for.
 ///
-/// A number is decimal digits without a sign, and without a zero in front but in `0` itself. DEVICE has 1 to 4096 bytes
+/// A number is decimal digits without a sign, and without a leading zero but in `0` itself. DEVICE has 1 to 4096 bytes
 /// and doesn't begin with `-`, SIZE is 17 to 4294967296, and INSTANCE is 0 to 281474976710655.
 pub fn command_of(words: &[String]) -> Result<Command, Usage>
-    ensures said { result_ok result ≡ command_said (map string_bytes words.now) }
+    ensures said { result_ok result ≡ command_of_words (map string_bytes words.now) }
     ensures ranges { IfOk result IsInRange }
 {
     match said(words) {
@@ -43,9 +43,9 @@ pub fn command_of(words: &[String]) -> Result<Command, Usage>
 }
 
 /// The command that the words say, where they say one.
-#[tactic(auto, using(crate::proofs::Numbers::two_or_three, crate::proofs::Numbers::five_or_more), unfolding(crate::specs::Words::command_said))]
+#[tactic(auto, using(crate::proofs::Numbers::two_or_three, crate::proofs::Numbers::five_or_more), unfolding(crate::specs::Words::command_of_words))]
 fn said(words: &[String]) -> Option<Command>
-    ensures said { result ≡ command_said (map string_bytes words.now) }
+    ensures said { result ≡ command_of_words (map string_bytes words.now) }
     ensures ranges { IfSome result IsInRange }
 {
     match words {
@@ -62,7 +62,7 @@ fn said(words: &[String]) -> Option<Command>
 
 /// What a word by itself asks for.
 fn dry_said(name: &str) -> Option<Command>
-    ensures said { result ≡ dry_said name.now }
+    ensures said { result ≡ dry_command name.now }
     ensures ranges { IfSome result IsInRange }
 {
     (name == "dry").then_some(Command::Dry)
@@ -70,7 +70,7 @@ fn dry_said(name: &str) -> Option<Command>
 
 /// What four words ask for.
 fn format_said(name: &str, device: &[u8], size: &[u8], instance: &[u8]) -> Option<Command>
-    ensures said { result ≡ format_said name.now device.now size.now instance.now }
+    ensures said { result ≡ format_command name.now device.now size.now instance.now }
     ensures ranges { IfSome result IsInRange }
 {
     if name != "format" || !is_device(device) {
@@ -98,7 +98,7 @@ fn number_in(least: u64, most: u64, word: &[u8]) -> Option<u64>
     ensures range { IfSome result (λ n. (least ≤ n) × (n ≤ most)) }
 {
     if is_unpadded(word) {
-        number_behind(0, least, most, word)
+        number_after(0, least, most, word)
     } else {
         None
     }
@@ -115,11 +115,11 @@ fn is_unpadded(digits: &[u8]) -> bool
     }
 }
 
-/// The number that digits spell behind those of `start`, where it is from `least` to `most`.
+/// The number that digits spell after those of `start`, where it is from `least` to `most`.
 #[tactic(auto, using(crate::proofs::Numbers::stays_great))]
-fn number_behind(start: u64, least: u64, most: u64, digits: &[u8]) -> Option<u64>
+fn number_after(start: u64, least: u64, most: u64, digits: &[u8]) -> Option<u64>
     requires { most ≤ 281474976710655 }
-    ensures said { result ≡ number_behind start least most digits.now }
+    ensures said { result ≡ number_after start least most digits.now }
     ensures range { IfSome result (λ n. (least ≤ n) × (n ≤ most)) }
 {
     let mut number = start;

@@ -22,7 +22,7 @@ use Rattle.iss_model.specs.rules.Activity.{TxnNow, CallNow, is_asked}
 use Rattle.iss_model.specs.rules.Facts.{Facts, txn_in, call_in, next_notice, next_call, not_below}
 use Rattle.iss_model.specs.rules.Asks.{Ask, usage_of, ask_usage, call_ask}
 use Rattle.iss_model.specs.rules.CardReasons.{is_account_funded}
-use Rattle.iss_model.specs.rules.Pieces.{only_where, only_gateway, posted, held, let_go, user_account, Parts, parts_held, in_all, left_of, taken_to_clear, released, noticed, voided, abandoned, after_abandoned, ended, ask_declined, ask_funded, stood_in}
+use Rattle.iss_model.specs.rules.Pieces.{only_where, only_gateway, post_entries, hold_entries, unhold_entries, user_account, Parts, parts_held, in_all, left_of, taken_to_clear, release_entries, notice_entry, void_entry, abandonment_entries, notice_after_abandonment, end_entries, declined_ask_entries, funded_ask_entries, stand_in_entries}
 
 -- the method of a call for an ask
 abbrev pub ask_method : Ask → Method
@@ -47,72 +47,72 @@ call_for f product ask =
     }
 
 -- the gateway is asked, save where the product's switch is on: then the programme stands in
-abbrev pub gateway_asked : Option Product → Facts → Ask → List Entry
-gateway_asked None f ask = []
-gateway_asked (Some product) f ask =
-    if is_named_in f.switched product.name then stood_in (next_notice f) f ask failure.Switch ask.at
+abbrev pub gateway_ask_entries : Option Product → Facts → Ask → List Entry
+gateway_ask_entries None f ask = []
+gateway_ask_entries (Some product) f ask =
+    if is_named_in f.switched product.name then stand_in_entries (next_notice f) f ask failure.Switch ask.at
     else entry.Opened (call_for f product ask) ∷ []
 
 -- an ask is paid from the user's own balance, which is held, or the gateway decides
-abbrev pub funding_sought : Facts → Ask → List Entry
-funding_sought f ask =
-    if is_account_funded ask.txn.funding then held ask.txn part.S ask.amount ++ entry.Decided ask.event verdict.Approved ∷ []
-    else gateway_asked (product_named ask.txn.product f.products) f ask
+abbrev pub funding_entries : Facts → Ask → List Entry
+funding_entries f ask =
+    if is_account_funded ask.txn.funding then hold_entries ask.txn part.S ask.amount ++ entry.Decided ask.event verdict.Approved ∷ []
+    else gateway_ask_entries (product_named ask.txn.product f.products) f ask
 
 -- an authorisation begins its transaction, counts as use, and seeks funding
-abbrev pub authorized : Facts → Option Ask → List Entry
-authorized f None = []
-authorized f (Some ask) = entry.Began ask.txn ∷ entry.Usage (ask_usage ask) ∷ funding_sought f ask
+abbrev pub authorization_entries : Facts → Option Ask → List Entry
+authorization_entries f None = []
+authorization_entries f (Some ask) = entry.Began ask.txn ∷ entry.Usage (ask_usage ask) ∷ funding_entries f ask
 
 -- an increment counts as use, and seeks funding
-abbrev pub incremented : Facts → Option Ask → List Entry
-incremented f None = []
-incremented f (Some ask) = entry.Usage (ask_usage ask) ∷ funding_sought f ask
+abbrev pub increment_entries : Facts → Option Ask → List Entry
+increment_entries f None = []
+increment_entries f (Some ask) = entry.Usage (ask_usage ask) ∷ funding_entries f ask
 
 -- a reversal abandons the calls, lets go up to its amount, ends a transaction that then holds nothing, and tells the gateway what was let go
-abbrev pub reversed : Facts → List ℕ → ℕ → Option TxnNow → List Entry
-reversed f token amount None = []
-reversed f token amount (Some now) =
+abbrev pub reversal_entries : Facts → List ℕ → ℕ → Option TxnNow → List Entry
+reversal_entries f token amount None = []
+reversal_entries f token amount (Some now) =
     let t = now.txn in
     let parts = parts_held f t in
     let freed = min amount (in_all parts) in
     let gateway = min (freed - parts.p) parts.g in
-    abandoned (next_notice f) f t reason.Reversed
-    ++ released t parts freed
+    abandonment_entries (next_notice f) f t reason.Reversed
+    ++ release_entries t parts freed
     ++ (if freed == in_all parts then entry.Ended t.token ∷ [] else [])
-    ++ only_gateway t (only_where freed (noticed (after_abandoned (next_notice f) f t) method.Reversal t None freed gateway ∷ []))
+    ++ only_gateway t (only_where freed (notice_entry (notice_after_abandonment (next_notice f) f t) method.Reversal t None freed gateway ∷ []))
     ++ entry.Decided token verdict.Done ∷ []
 
 -- a clearing takes from the hold, the rest comes from the programme for a gateway product, and the network gets all of it;
 -- the rest counts as use at this stamp
-abbrev pub cleared_from : Txn → Parts → ℕ → ℕ → List Entry
-cleared_from t taken amount at =
+abbrev pub clearing_money_entries : Txn → Parts → ℕ → ℕ → List Entry
+clearing_money_entries t taken amount at =
     let excess = amount - in_all taken in
-    let_go t part.G taken.g ++ let_go t part.P taken.p ++ let_go t part.S taken.s
-    ++ only_gateway t (posted t (account.Programme t.currency) (user_account t) excess)
-    ++ posted t (user_account t) (account.Network t.currency) amount
+    unhold_entries t part.G taken.g ++ unhold_entries t part.P taken.p ++ unhold_entries t part.S taken.s
+    ++ only_gateway t (post_entries t (account.Programme t.currency) (user_account t) excess)
+    ++ post_entries t (user_account t) (account.Network t.currency) amount
     ++ only_where excess (entry.Usage (usage_of t (pos excess) (pos 0) at) ∷ [])
 
 -- the end of a transaction with a clearing, and the notice with the gateway's part that is let go by it
-abbrev pub cleared_to_end : Facts → Txn → Parts → ℕ → List Entry
-cleared_to_end f t rest amount =
-    ended (next_notice f) f t rest reason.Cleared
-    ++ only_gateway t (noticed (after_abandoned (next_notice f) f t) method.Capture t None amount rest.g ∷ [])
+abbrev pub last_clearing_entries : Facts → Txn → Parts → ℕ → List Entry
+last_clearing_entries f t rest amount =
+    end_entries (next_notice f) f t rest reason.Cleared
+    ++ only_gateway t (notice_entry (notice_after_abandonment (next_notice f) f t) method.Capture t None amount rest.g ∷ [])
 
 -- the notice of a clearing that doesn't end its transaction
-abbrev pub cleared_on : Facts → Txn → ℕ → List Entry
-cleared_on f t amount = only_gateway t (noticed (next_notice f) method.Capture t None amount 0 ∷ [])
+abbrev pub further_clearing_entries : Facts → Txn → ℕ → List Entry
+further_clearing_entries f t amount = only_gateway t (notice_entry (next_notice f) method.Capture t None amount 0 ∷ [])
 
--- a clearing ends a live transaction where it is the last one, or nothing is held behind it
-abbrev pub cleared : Facts → List ℕ → ℕ → Bool → ℕ → Option TxnNow → List Entry
-cleared f token amount last at None = []
-cleared f token amount last at (Some now) =
+-- a clearing ends a live transaction where it is the last one, or nothing is held after it
+abbrev pub clearing_entries : Facts → List ℕ → ℕ → Bool → ℕ → Option TxnNow → List Entry
+clearing_entries f token amount last at None = []
+clearing_entries f token amount last at (Some now) =
     let t = now.txn in
     let parts = parts_held f t in
     let taken = taken_to_clear parts amount in
     let rest = left_of parts taken in
-    cleared_from t taken amount at
-    ++ (if now.live && (last || in_all rest == 0) then cleared_to_end f t rest amount else cleared_on f t amount)
+    clearing_money_entries t taken amount at
+    ++ (if now.live && (last || in_all rest == 0) then last_clearing_entries f t rest amount else further_clearing_entries f t amount)
     ++ entry.Decided token verdict.Done ∷ []
 
 -- what the programme has paid for a transaction, hasn't got back and doesn't hold
@@ -120,46 +120,46 @@ abbrev pub owed_to_programme : Facts → Txn → ℕ
 owed_to_programme f t = not_below (f.paid t.token -ℤ pos (parts_held f t).p)
 
 -- a refund comes back from the network; for a gateway product the programme gets first what it is owed, and the gateway the rest
-abbrev pub refunded : Facts → List ℕ → ℕ → Option TxnNow → List Entry
-refunded f token amount None = []
-refunded f token amount (Some now) =
+abbrev pub refund_entries : Facts → List ℕ → ℕ → Option TxnNow → List Entry
+refund_entries f token amount None = []
+refund_entries f token amount (Some now) =
     let t = now.txn in
     let programme = min amount (owed_to_programme f t) in
     let gateway = amount - programme in
-    posted t (account.Network t.currency) (user_account t) amount
+    post_entries t (account.Network t.currency) (user_account t) amount
     ++ only_gateway t (
-    posted t (user_account t) (account.Programme t.currency) programme
-    ++ posted t (user_account t) (account.Gateway t.currency) gateway
-    ++ noticed (next_notice f) method.Refund t None amount gateway ∷ []
+    post_entries t (user_account t) (account.Programme t.currency) programme
+    ++ post_entries t (user_account t) (account.Gateway t.currency) gateway
+    ++ notice_entry (next_notice f) method.Refund t None amount gateway ∷ []
     )
     ++ entry.Decided token verdict.Done ∷ []
 
 -- a call fails: it is closed and voided, and the programme stands in or the ask is declined
-abbrev pub call_failed : Facts → Opened → Txn → Failure → ℕ → List Entry
-call_failed f o t why at =
+abbrev pub failed_call_entries : Facts → Opened → Txn → Failure → ℕ → List Entry
+failed_call_entries f o t why at =
     entry.Closed o.call (how.Failed why)
-    ∷ voided (next_notice f) t o
-    ∷ stood_in (next_notice f + 1) f (call_ask o t) why at
+    ∷ void_entry (next_notice f) t o
+    ∷ stand_in_entries (next_notice f + 1) f (call_ask o t) why at
 
 -- the gateway's answer to a call
-abbrev pub answered_as : Outcome → Facts → Opened → Txn → ℕ → List Entry
-answered_as outcome.Funded f o t at =
-    entry.Closed o.call how.Funded ∷ ask_funded (call_ask o t) (account.Gateway t.currency) part.G
-answered_as outcome.Refused f o t at =
-    entry.Closed o.call how.Refused ∷ ask_declined (call_ask o t) reason.GatewayDeclined
-answered_as outcome.Connection f o t at = call_failed f o t failure.Connection at
-answered_as outcome.Application f o t at = call_failed f o t failure.Application at
+abbrev pub outcome_entries : Outcome → Facts → Opened → Txn → ℕ → List Entry
+outcome_entries outcome.Funded f o t at =
+    entry.Closed o.call how.Funded ∷ funded_ask_entries (call_ask o t) (account.Gateway t.currency) part.G
+outcome_entries outcome.Refused f o t at =
+    entry.Closed o.call how.Refused ∷ declined_ask_entries (call_ask o t) reason.GatewayDeclined
+outcome_entries outcome.Connection f o t at = failed_call_entries f o t failure.Connection at
+outcome_entries outcome.Application f o t at = failed_call_entries f o t failure.Application at
 
 -- entries for a transaction, where it is known
-abbrev pub of_txn : (Txn → List Entry) → Option TxnNow → List Entry
-of_txn make None = []
-of_txn make (Some now) = make now.txn
+abbrev pub entries_of_txn : (Txn → List Entry) → Option TxnNow → List Entry
+entries_of_txn make None = []
+entries_of_txn make (Some now) = make now.txn
 
 -- entries of a call that is asked, with its transaction; a call that isn't makes none
-abbrev pub of_asked : (Opened → Txn → List Entry) → Option CallNow → Facts → List Entry
-of_asked make None f = []
-of_asked make (Some c) f = if is_asked c then of_txn (make c.opened) (txn_in f c.opened.txn) else []
+abbrev pub entries_of_asked : (Opened → Txn → List Entry) → Option CallNow → Facts → List Entry
+entries_of_asked make None f = []
+entries_of_asked make (Some c) f = if is_asked c then entries_of_txn (make c.opened) (txn_in f c.opened.txn) else []
 
 -- the entries of the gateway's answer to a call that is asked
-abbrev pub answered : CallId → Outcome → ℕ → Facts → List Entry
-answered call outcome at f = of_asked (λ o t. answered_as outcome f o t at) (call_in f call.0) f
+abbrev pub answer_entries : CallId → Outcome → ℕ → Facts → List Entry
+answer_entries call outcome at f = entries_of_asked (λ o t. outcome_entries outcome f o t at) (call_in f call.0) f

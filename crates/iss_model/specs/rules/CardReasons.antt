@@ -11,7 +11,7 @@ use Rattle.iss_model.specs.declared.decision.Reason.TheVariants as reason
 use Rattle.iss_model.specs.Currencies.{same_currency}
 use Rattle.iss_model.specs.rules.Settings.{card_named, product_named, is_active_user, is_active_card}
 use Rattle.iss_model.specs.rules.Activity.{TxnNow}
-use Rattle.iss_model.specs.rules.Facts.{Facts, available_in, asked_of}
+use Rattle.iss_model.specs.rules.Facts.{Facts, available_in, asked_calls_of}
 use Rattle.iss_model.specs.rules.Asks.{Ask, breach, txn_begun, is_authorization}
 use Rattle.iss_model.specs.rules.Reasons.{first_reason, is_some_with, user_is}
 
@@ -65,7 +65,7 @@ authorization_reason f card currency ask =
 
 -- the call of the transaction's authorisation is asked
 abbrev pub is_pending : Facts → Txn → Bool
-is_pending f t = list_any (λ c. is_authorization c.opened.method) (asked_of f t.token)
+is_pending f t = list_any (λ c. is_authorization c.opened.method) (asked_calls_of f t.token)
 
 -- why an increment is declined
 abbrev pub increment_reason : Facts → Option TxnNow → Currency → Option Ask → Option Reason

@@ -18,7 +18,7 @@ use Rattle.iss_model.specs.declared.entry.Entry.TheVariants as entry
 use Rattle.iss_model.specs.Currencies.{same_currency}
 use Rattle.iss_model.specs.Calendar.{window_at}
 use Rattle.iss_model.specs.Sums.{Change, int_key, sum_at}
-use Rattle.iss_model.specs.rules.Settings.{latest}
+use Rattle.iss_model.specs.rules.Settings.{latest_of}
 
 -- the first of each name, in their order
 abbrev pub firsts : {A : Type 0} → (A → List ℕ) → List A → List A
@@ -74,7 +74,7 @@ control_replaced first last =
 -- a control is its first row, with what may be replaced of its last
 abbrev pub control_now : List ControlPut → ControlPut → ControlPut
 control_now puts first =
-    let last = latest first (filter (λ put. bytes_eq put.control.name first.control.name) puts) in
+    let last = latest_of first (filter (λ put. bytes_eq put.control.name first.control.name) puts) in
     record first { control = control_replaced first.control last.control }
 
 -- the controls of the book as they stand, in the order of their first rows
@@ -113,7 +113,7 @@ set_replaced first last =
 
 -- a set is its first row, with what may be replaced of its last
 abbrev pub set_now : List Set → Set → Set
-set_now puts first = set_replaced first (latest first (filter (λ put. bytes_eq put.name first.name) puts))
+set_now puts first = set_replaced first (latest_of first (filter (λ put. bytes_eq put.name first.name) puts))
 
 -- the sets of the book as they stand, in the order of their first rows
 abbrev pub sets_of : List Row → List Set
@@ -175,8 +175,8 @@ pub record ControlNow : Type 0 where
   pub times : List ℕ → ℤ
 
 -- a control with its sums over the whole book
-abbrev pub counting : List Row → ControlPut → ControlNow
-counting rows put =
+abbrev pub counted_control : List Row → ControlPut → ControlNow
+counted_control rows put =
     record {
       first = put.number;
       control = put.control;
@@ -186,7 +186,7 @@ counting rows put =
 
 -- the controls of the book, in the order of their first rows, with what they have counted
 abbrev pub controls_of : List Row → List ControlNow
-controls_of rows = map (counting rows) (control_puts_of rows)
+controls_of rows = map (counted_control rows) (control_puts_of rows)
 
 -- the control of this name
 abbrev pub control_named : List ℕ → List ControlNow → Option ControlNow

@@ -7,8 +7,8 @@ use Rattle.iss_model.specs.declared.decision.Reason.TheVariants as reason
 use Rattle.iss_model.specs.declared.entry.Entry.{Entry}
 use Rattle.iss_model.specs.rules.Activity.{TxnNow, CallNow, is_asked}
 use Rattle.iss_model.specs.rules.Facts.{Facts, txn_in, call_in, next_notice}
-use Rattle.iss_model.specs.rules.Pieces.{only_where, only_gateway, parts_held, in_all, noticed, after_abandoned, ended}
-use Rattle.iss_model.specs.rules.CardEntries.{call_failed, of_asked}
+use Rattle.iss_model.specs.rules.Pieces.{only_where, only_gateway, parts_held, in_all, notice_entry, notice_after_abandonment, end_entries}
+use Rattle.iss_model.specs.rules.CardEntries.{failed_call_entries, entries_of_asked}
 
 -- what is due, by name: a call's number, or a transaction's token
 pub data DueThing : Type 0 where
@@ -38,14 +38,14 @@ is_before a b =
     || a.since == b.since && (nat_lt a.rank b.rank || a.rank == b.rank && nat_lt a.number b.number)
 
 -- an item at its place among ordered ones
-abbrev pub placed : List DueItem → DueItem → List DueItem
-placed [] item = item ∷ []
-placed (first ∷ rest) item = if is_before item first then item ∷ first ∷ rest else first ∷ placed rest item
+abbrev pub items_with : List DueItem → DueItem → List DueItem
+items_with [] item = item ∷ []
+items_with (first ∷ rest) item = if is_before item first then item ∷ first ∷ rest else first ∷ items_with rest item
 
 -- the asked calls whose deadline has come and the live transactions whose expiry has come, in their order
 abbrev pub due_items : Facts → ℕ → List DueItem
 due_items f at =
-    fold placed [] (filter (λ item. nat_le item.since at)
+    fold items_with [] (filter (λ item. nat_le item.since at)
     (map due_call (filter is_asked f.calls) ++ map due_txn (filter (λ t. t.live) f.txns)))
 
 -- nothing is due
@@ -54,19 +54,19 @@ is_quiet [] = true
 is_quiet (item ∷ items) = false
 
 -- a transaction expires: it ends, and the gateway is told what was let go
-abbrev pub expired : Facts → Txn → List Entry
-expired f t =
+abbrev pub expiry_entries : Facts → Txn → List Entry
+expiry_entries f t =
     let parts = parts_held f t in
-    ended (next_notice f) f t parts reason.Expired
+    end_entries (next_notice f) f t parts reason.Expired
     ++ only_gateway t (only_where (in_all parts)
-    (noticed (after_abandoned (next_notice f) f t) method.Expiry t None (in_all parts) parts.g ∷ []))
+    (notice_entry (notice_after_abandonment (next_notice f) f t) method.Expiry t None (in_all parts) parts.g ∷ []))
 
 -- a transaction that an earlier item has ended is passed over
-abbrev pub expired_if_live : Facts → Option TxnNow → List Entry
-expired_if_live f None = []
-expired_if_live f (Some now) = if now.live then expired f now.txn else []
+abbrev pub live_expiry_entries : Facts → Option TxnNow → List Entry
+live_expiry_entries f None = []
+live_expiry_entries f (Some now) = if now.live then expiry_entries f now.txn else []
 
 -- what settling a due thing makes at a moment: an unanswered call has timed out, a transaction expires, and what an earlier item settled is passed over
 abbrev pub thing_entries : DueThing → ℕ → Facts → List Entry
-thing_entries (call_due number) at f = of_asked (λ o t. call_failed f o t failure.Timeout at) (call_in f number) f
-thing_entries (txn_due token) at f = expired_if_live f (txn_in f token)
+thing_entries (call_due number) at f = entries_of_asked (λ o t. failed_call_entries f o t failure.Timeout at) (call_in f number) f
+thing_entries (txn_due token) at f = live_expiry_entries f (txn_in f token)

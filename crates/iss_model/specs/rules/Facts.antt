@@ -67,13 +67,13 @@ abbrev pub event_in : Facts → List ℕ → Option Accepted
 event_in f token = find (λ a. is_event token a.input) f.accepted
 
 -- what is told of an event that was decided, or not yet
-abbrev pub replied : Option Decision → Reply
-replied None = Pending
-replied (Some d) = Decided d.verdict
+abbrev pub reply_of_decision : Option Decision → Reply
+reply_of_decision None = Pending
+reply_of_decision (Some d) = Decided d.verdict
 
 -- an event's verdict, or that its call is still open
 abbrev pub reply_in : Facts → List ℕ → Reply
-reply_in f token = replied (find (λ d. bytes_eq d.event token) f.decisions)
+reply_in f token = reply_of_decision (find (λ d. bytes_eq d.event token) f.decisions)
 
 -- what is told of an event, where it stands
 abbrev pub event_reply : Facts → List ℕ → Option Reply
@@ -101,8 +101,8 @@ abbrev pub part_in : Facts → List ℕ → Part → ℕ
 part_in f txn part = not_below (f.parts (part_key txn part))
 
 -- what stood in for a product and user on the day of a stamp
-abbrev pub stood_in : Facts → List ℕ → List ℕ → ℕ → ℤ
-stood_in f product user at = f.stood (stood_key product user at)
+abbrev pub stand_in_sum : Facts → List ℕ → List ℕ → ℕ → ℤ
+stand_in_sum f product user at = f.stood (stood_key product user at)
 
 -- the transaction of this token
 abbrev pub txn_in : Facts → List ℕ → Option TxnNow
@@ -113,8 +113,8 @@ abbrev pub call_in : Facts → ℕ → Option CallNow
 call_in f number = call_numbered number f.calls
 
 -- the asked calls of a transaction, by number
-abbrev pub asked_of : Facts → List ℕ → List CallNow
-asked_of f txn = filter (λ c. is_asked c && bytes_eq c.opened.txn txn) f.calls
+abbrev pub asked_calls_of : Facts → List ℕ → List CallNow
+asked_calls_of f txn = filter (λ c. is_asked c && bytes_eq c.opened.txn txn) f.calls
 
 -- notices are numbered from 1, in the order in which they are made
 abbrev pub next_notice : Facts → ℕ

@@ -29,13 +29,13 @@ abbrev pub time_of : List Record → ℕ
 time_of rs = fold (λ now r. max now r.at) 0 rs
 
 -- each record with its number, from the number n on
-abbrev pub accepted_from : ℕ → List Record → List Accepted
-accepted_from n [] = []
-accepted_from n (r ∷ rs) = record { number = n; at = r.at; input = r.input } ∷ accepted_from (n + 1) rs
+abbrev pub events_from : ℕ → List Record → List Accepted
+events_from n [] = []
+events_from n (r ∷ rs) = record { number = n; at = r.at; input = r.input } ∷ events_from (n + 1) rs
 
 -- the accepted events with the numbers of their records
 abbrev pub events_of : List Record → List Accepted
-events_of rs = filter (λ a. is_some (event_token a.input)) (accepted_from 1 rs)
+events_of rs = filter (λ a. is_some (event_token a.input)) (events_from 1 rs)
 
 -- the facts of a history: each a sum or a filter over all its rows, or all its records
 abbrev pub history_facts : History → Facts
@@ -66,8 +66,8 @@ history_facts h =
     }
 
 -- entries as rows of the record of this number
-abbrev pub numbered : ℕ → List Entry → List Row
-numbered n entries = map (λ entry. record { number = n; entry = entry }) entries
+abbrev pub numbered_rows : ℕ → List Entry → List Row
+numbered_rows n entries = map (λ entry. record { number = n; entry = entry }) entries
 
 -- the book as a keeper
 abbrev pub history_keeper : Keeper History
@@ -75,7 +75,7 @@ history_keeper =
     record {
       facts = history_facts;
       take_up = λ h r. record h { records = h.records ++ r ∷ [] };
-      add = λ h entries. record h { rows = h.rows ++ numbered (length h.records) entries };
+      add = λ h entries. record h { rows = h.rows ++ numbered_rows (length h.records) entries };
     }
 
 -- the history that these records make, one after the other
@@ -87,7 +87,7 @@ pub record Follows (h : History) (r : Record) : Type 0 where
   pub stamp : time_of h.records ≤ r.at
   pub is_new : judge history_keeper h r.input r.at ≡ judged.New r
 
--- each record follows on those before it, behind this history
+-- each record follows on those before it, after this history
 abbrev pub IsLegalAfter : History → List Record → Type 0
 IsLegalAfter h [] = Unit {0}
 IsLegalAfter h (r ∷ rs) = Follows h r × IsLegalAfter (step history_keeper h r).world rs

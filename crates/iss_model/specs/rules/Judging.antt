@@ -17,25 +17,25 @@ use Rattle.iss_model.specs.rules.Keeper.{Keeper}
 use Rattle.iss_model.specs.rules.Stepping.{after_due}
 
 -- an event that stands is a repeat where all its fields are the same, and else in conflict with its first record
-abbrev pub told_by : Facts → Input → List ℕ → Option Accepted → Option Answer
-told_by f i token None = None
-told_by f i token (Some first) =
+abbrev pub repeat_or_conflict : Facts → Input → List ℕ → Option Accepted → Option Answer
+repeat_or_conflict f i token None = None
+repeat_or_conflict f i token (Some first) =
     if same_contents first.input i then Some (answer.Repeat token (reply_in f token))
     else Some (answer.Conflict token first.number)
 
 -- what an event is told, by the first record of its token
 abbrev pub event_answer : Facts → Input → List ℕ → Option Answer
-event_answer f i token = told_by f i token (event_in f token)
+event_answer f i token = repeat_or_conflict f i token (event_in f token)
 
 -- a call that is closed is told how
-abbrev pub late_if_closed : CallId → Option How → Option Answer
-late_if_closed call None = None
-late_if_closed call (Some how) = Some (answer.Late call how)
+abbrev pub late_answer : CallId → Option How → Option Answer
+late_answer call None = None
+late_answer call (Some how) = Some (answer.Late call how)
 
 -- an answer to a call that was never opened, or is closed
 abbrev pub call_answer : CallId → Option CallNow → Option Answer
 call_answer call None = Some (answer.UnknownCall call)
-call_answer call (Some c) = late_if_closed call c.how
+call_answer call (Some c) = late_answer call c.how
 
 -- an acknowledgement of a notice that was never made, or is acknowledged
 abbrev pub notice_answer : Facts → ℕ → Option Answer
@@ -83,20 +83,20 @@ is_ack (input.Ack notice) = true
 is_ack _ = false
 
 -- An input that isn't refused is new. One that is refused is told so; where something is due, a time record goes before its answer.
-abbrev pub judged_as : Option Answer → Bool → Input → ℕ → Judged
-judged_as None quiet i at = judged.New (record { at = at; input = i })
-judged_as (Some a) quiet i at =
+abbrev pub judgement_as : Option Answer → Bool → Input → ℕ → Judged
+judgement_as None quiet i at = judged.New (record { at = at; input = i })
+judgement_as (Some a) quiet i at =
     if quiet || is_ack i then judged.Told a else judged.Clock (record { at = at; input = input.Time })
 
 -- what judging comes to on the facts before and after what is due
-abbrev pub judged_on : Bool → Facts → Facts → Input → ℕ → Judged
-judged_on quiet before after i at = judged_as (refusal quiet before after i) quiet i at
+abbrev pub judgement_on : Bool → Facts → Facts → Input → ℕ → Judged
+judgement_on quiet before after i at = judgement_as (refusal quiet before after i) quiet i at
 
 -- an input judged at a moment, on what stands before and after what is due then
-abbrev pub judged_at : {W : Type 0} → Keeper W → W → Input → ℕ → Judged
-judged_at k w i at =
-    judged_on (is_quiet (due_items (k.facts w) at)) (k.facts w) (k.facts (after_due k w at).world) i at
+abbrev pub judgement_at : {W : Type 0} → Keeper W → W → Input → ℕ → Judged
+judgement_at k w i at =
+    judgement_on (is_quiet (due_items (k.facts w) at)) (k.facts w) (k.facts (after_due k w at).world) i at
 
 -- An input at a stamp is judged at the later of that stamp and the time.
 unfoldable pub judge : {W : Type 0} → Keeper W → W → Input → ℕ → Judged
-judge k w i stamp = judged_at k w i (max stamp (k.facts w).now)
+judge k w i stamp = judgement_at k w i (max stamp (k.facts w).now)

@@ -19,7 +19,7 @@ use Rattle.iss_model.specs.declared.decision.Verdict.TheVariants as verdict
 use Rattle.iss_model.specs.declared.entry.Entry.{Entry}
 use Rattle.iss_model.specs.declared.entry.Entry.TheVariants as entry
 use Rattle.iss_model.specs.rules.Activity.{CallNow}
-use Rattle.iss_model.specs.rules.Facts.{Facts, part_in, asked_of}
+use Rattle.iss_model.specs.rules.Facts.{Facts, part_in, asked_calls_of}
 use Rattle.iss_model.specs.rules.Asks.{Ask, usage_of, call_ask, ask_given_back}
 use Rattle.iss_model.specs.rules.CardReasons.{is_account_funded}
 use Rattle.iss_model.specs.rules.StandIns.{Stand, allowed, over_limit, uncovered, stand}
@@ -33,16 +33,16 @@ abbrev pub only_gateway : Txn → List Entry → List Entry
 only_gateway t entries = if is_account_funded t.funding then [] else entries
 
 -- an amount goes from one account to another for a transaction
-abbrev pub posted : Txn → Account → Account → ℕ → List Entry
-posted t from to amount = only_where amount (entry.Post from to amount (Some t.token) ∷ [])
+abbrev pub post_entries : Txn → Account → Account → ℕ → List Entry
+post_entries t from to amount = only_where amount (entry.Post from to amount (Some t.token) ∷ [])
 
 -- a transaction holds more of its user
-abbrev pub held : Txn → Part → ℕ → List Entry
-held t part amount = only_where amount (entry.Hold t.token t.user t.currency part (pos amount) ∷ [])
+abbrev pub hold_entries : Txn → Part → ℕ → List Entry
+hold_entries t part amount = only_where amount (entry.Hold t.token t.user t.currency part (pos amount) ∷ [])
 
 -- a transaction holds less of its user
-abbrev pub let_go : Txn → Part → ℕ → List Entry
-let_go t part amount = only_where amount (entry.Hold t.token t.user t.currency part (neg_ℤ (pos amount)) ∷ [])
+abbrev pub unhold_entries : Txn → Part → ℕ → List Entry
+unhold_entries t part amount = only_where amount (entry.Hold t.token t.user t.currency part (neg_ℤ (pos amount)) ∷ [])
 
 -- the account of a transaction's user
 abbrev pub user_account : Txn → Account
@@ -82,21 +82,21 @@ taken_to_clear parts amount =
     record { g = g; p = p; s = min (amount - g - p) parts.s }
 
 -- so much less is used of a transaction, at its authorisation's stamp
-abbrev pub use_returned : Txn → ℕ → List Entry
-use_returned t amount = only_where amount (entry.Usage (usage_of t (neg_ℤ (pos amount)) (pos 0) t.at) ∷ [])
+abbrev pub use_return_entries : Txn → ℕ → List Entry
+use_return_entries t amount = only_where amount (entry.Usage (usage_of t (neg_ℤ (pos amount)) (pos 0) t.at) ∷ [])
 
 -- an amount is let go: the programme gets its part back from the user, then the gateway its own, and the use is returned
-abbrev pub released : Txn → Parts → ℕ → List Entry
-released t parts amount =
+abbrev pub release_entries : Txn → Parts → ℕ → List Entry
+release_entries t parts amount =
     let taken = taken_to_release parts amount in
-    let_go t part.P taken.p ++ posted t (user_account t) (account.Programme t.currency) taken.p
-    ++ let_go t part.G taken.g ++ posted t (user_account t) (account.Gateway t.currency) taken.g
-    ++ let_go t part.S taken.s
-    ++ use_returned t amount
+    unhold_entries t part.P taken.p ++ post_entries t (user_account t) (account.Programme t.currency) taken.p
+    ++ unhold_entries t part.G taken.g ++ post_entries t (user_account t) (account.Gateway t.currency) taken.g
+    ++ unhold_entries t part.S taken.s
+    ++ use_return_entries t amount
 
 -- a notice of this number
-abbrev pub noticed : ℕ → Method → Txn → Option CallId → ℕ → ℕ → Entry
-noticed number method t call amount gateway =
+abbrev pub notice_entry : ℕ → Method → Txn → Option CallId → ℕ → ℕ → Entry
+notice_entry number method t call amount gateway =
     entry.Notice (record {
       number = number;
       method = method;
@@ -109,48 +109,48 @@ noticed number method t call amount gateway =
     })
 
 -- the gateway is told that a call has ended: it must undo or refuse it
-abbrev pub voided : ℕ → Txn → Opened → Entry
-voided number t o = noticed number method.Void t (Some o.call) o.amount 0
+abbrev pub void_entry : ℕ → Txn → Opened → Entry
+void_entry number t o = notice_entry number method.Void t (Some o.call) o.amount 0
 
 -- a call is abandoned: closed, voided, its use given back, and its event declined
-abbrev pub abandoned_call : ℕ → Txn → Reason → Opened → List Entry
-abandoned_call number t why o =
+abbrev pub abandoned_call_entries : ℕ → Txn → Reason → Opened → List Entry
+abandoned_call_entries number t why o =
     entry.Closed o.call how.Abandoned
-    ∷ voided number t o
+    ∷ void_entry number t o
     ∷ entry.Usage (ask_given_back (call_ask o t))
     ∷ entry.Decided o.event (verdict.Declined why)
     ∷ []
 
 -- calls are abandoned one by one, with notices from this number on
-abbrev pub abandoned_calls : ℕ → Txn → Reason → List CallNow → List Entry
-abandoned_calls number t why [] = []
-abandoned_calls number t why (c ∷ cs) = abandoned_call number t why c.opened ++ abandoned_calls (number + 1) t why cs
+abbrev pub abandoned_calls_entries : ℕ → Txn → Reason → List CallNow → List Entry
+abandoned_calls_entries number t why [] = []
+abandoned_calls_entries number t why (c ∷ cs) = abandoned_call_entries number t why c.opened ++ abandoned_calls_entries (number + 1) t why cs
 
 -- the asked calls of a transaction are abandoned
-abbrev pub abandoned : ℕ → Facts → Txn → Reason → List Entry
-abandoned number f t why = abandoned_calls number t why (asked_of f t.token)
+abbrev pub abandonment_entries : ℕ → Facts → Txn → Reason → List Entry
+abandonment_entries number f t why = abandoned_calls_entries number t why (asked_calls_of f t.token)
 
 -- the number of the next notice, when the asked calls of a transaction have been abandoned
-abbrev pub after_abandoned : ℕ → Facts → Txn → ℕ
-after_abandoned number f t = number + length (asked_of f t.token)
+abbrev pub notice_after_abandonment : ℕ → Facts → Txn → ℕ
+notice_after_abandonment number f t = number + length (asked_calls_of f t.token)
 
 -- a transaction ends: its asked calls are abandoned and all that it still holds is let go
-abbrev pub ended : ℕ → Facts → Txn → Parts → Reason → List Entry
-ended number f t parts why =
-    abandoned number f t why ++ released t parts (in_all parts) ++ entry.Ended t.token ∷ []
+abbrev pub end_entries : ℕ → Facts → Txn → Parts → Reason → List Entry
+end_entries number f t parts why =
+    abandonment_entries number f t why ++ release_entries t parts (in_all parts) ++ entry.Ended t.token ∷ []
 
 -- an ask is declined: its use is given back, and with an authorisation its transaction ends
-abbrev pub ask_declined : Ask → Reason → List Entry
-ask_declined ask why =
+abbrev pub declined_ask_entries : Ask → Reason → List Entry
+declined_ask_entries ask why =
     entry.Usage (ask_given_back ask)
     ∷ (if ask.is_first then entry.Ended ask.txn.token ∷ [] else [])
     ++ entry.Decided ask.event (verdict.Declined why) ∷ []
 
 -- a part of an ask's money is there and held, and the ask approved
-abbrev pub ask_funded : Ask → Account → Part → List Entry
-ask_funded ask from part =
-    posted ask.txn from (user_account ask.txn) ask.amount
-    ++ held ask.txn part ask.amount
+abbrev pub funded_ask_entries : Ask → Account → Part → List Entry
+funded_ask_entries ask from part =
+    post_entries ask.txn from (user_account ask.txn) ask.amount
+    ++ hold_entries ask.txn part ask.amount
     ++ entry.Decided ask.event verdict.Approved ∷ []
 
 -- the reason of an ask that neither the gateway nor a set decides
@@ -161,21 +161,21 @@ failure_reason failure.Application = reason.GatewayApplication
 failure_reason failure.Switch = reason.GatewaySwitch
 
 -- the programme pays in the gateway's place, by a set
-abbrev pub stood_in_by : ℕ → Ask → ℕ → Set → List Entry
-stood_in_by number ask at s =
+abbrev pub set_stand_in_entries : ℕ → Ask → ℕ → Set → List Entry
+set_stand_in_entries number ask at s =
     entry.Stood s.name ask.txn.product ask.txn.user ask.amount at
-    ∷ posted ask.txn (account.Programme ask.txn.currency) (user_account ask.txn) ask.amount
-    ++ held ask.txn part.P ask.amount
-    ++ noticed number method.StandIn ask.txn None ask.amount 0
+    ∷ post_entries ask.txn (account.Programme ask.txn.currency) (user_account ask.txn) ask.amount
+    ++ hold_entries ask.txn part.P ask.amount
+    ++ notice_entry number method.StandIn ask.txn None ask.amount 0
     ∷ entry.Decided ask.event verdict.Approved
     ∷ []
 
 -- what the sets say, as entries: the first notice has this number
-abbrev pub stood_as : Stand → ℕ → Ask → Failure → ℕ → List Entry
-stood_as (allowed s) number ask why at = stood_in_by number ask at s
-stood_as (over_limit s) number ask why at = ask_declined ask (reason.StandInLimit s.name)
-stood_as uncovered number ask why at = ask_declined ask (failure_reason why)
+abbrev pub stand_entries : Stand → ℕ → Ask → Failure → ℕ → List Entry
+stand_entries (allowed s) number ask why at = set_stand_in_entries number ask at s
+stand_entries (over_limit s) number ask why at = declined_ask_entries ask (reason.StandInLimit s.name)
+stand_entries uncovered number ask why at = declined_ask_entries ask (failure_reason why)
 
 -- the programme stands in for the gateway at a stamp, or the ask is declined
-abbrev pub stood_in : ℕ → Facts → Ask → Failure → ℕ → List Entry
-stood_in number f ask why at = stood_as (stand f ask why at) number ask why at
+abbrev pub stand_in_entries : ℕ → Facts → Ask → Failure → ℕ → List Entry
+stand_in_entries number f ask why at = stand_entries (stand f ask why at) number ask why at

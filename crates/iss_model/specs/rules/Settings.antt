@@ -18,8 +18,8 @@ use Rattle.iss_model.specs.declared.entry.Entry.{Entry}
 use Rattle.iss_model.specs.declared.entry.Entry.TheVariants as entry
 
 -- the last of these, or the first value where there is none
-abbrev pub latest : {A : Type 0} → A → List A → A
-latest first later = fold (λ before x. x) first later
+abbrev pub latest_of : {A : Type 0} → A → List A → A
+latest_of first later = fold (λ before x. x) first later
 
 -- the user that an entry makes: a new user is active
 abbrev pub user_made : Entry → Option User
@@ -33,7 +33,7 @@ user_moved name _ = None
 
 -- a user in the state of its last move, or without one as it was made
 abbrev pub user_now : List Row → User → User
-user_now rows user = record user { state = latest user.state (filter_map (λ row. user_moved user.name row.entry) rows) }
+user_now rows user = record user { state = latest_of user.state (filter_map (λ row. user_moved user.name row.entry) rows) }
 
 -- the users of the book, in the order in which they were made
 abbrev pub users_of : List Row → List User
@@ -60,7 +60,7 @@ card_moved name _ = None
 
 -- a card in the state of its last move, or without one as it was made
 abbrev pub card_now : List Row → Card → Card
-card_now rows card = record card { state = latest card.state (filter_map (λ row. card_moved card.name row.entry) rows) }
+card_now rows card = record card { state = latest_of card.state (filter_map (λ row. card_moved card.name row.entry) rows) }
 
 -- the cards of the book, in the order in which they were made
 abbrev pub cards_of : List Row → List Card
@@ -96,7 +96,7 @@ switch_set name _ = None
 
 -- a product's switch is as its last switch row says, and off without one
 abbrev pub is_switched : List Row → List ℕ → Bool
-is_switched rows name = latest false (filter_map (λ row. switch_set name row.entry) rows)
+is_switched rows name = latest_of false (filter_map (λ row. switch_set name row.entry) rows)
 
 -- the names of the products whose switch is on
 abbrev pub switched_of : List Row → List (List ℕ)

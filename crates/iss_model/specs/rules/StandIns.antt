@@ -4,7 +4,7 @@ use Rattle.std.specs.Str.{bytes_eq}
 use Rattle.iss_model.specs.declared.call.Failure.{Failure}
 use Rattle.iss_model.specs.declared.call.Failure.TheVariants as failure
 use Rattle.iss_model.specs.declared.setting.Set.{Set}
-use Rattle.iss_model.specs.rules.Facts.{Facts, stood_in}
+use Rattle.iss_model.specs.rules.Facts.{Facts, stand_in_sum}
 use Rattle.iss_model.specs.rules.Asks.{Ask}
 
 -- what a product's sets say of an ask: a set allows it, or a set covers the failure and doesn't allow so much, or no set covers it
@@ -24,7 +24,7 @@ covers_failure s failure.Switch = true
 abbrev pub allows : Facts → Set → Ask → ℕ → Bool
 allows f s ask at =
     nat_le ask.amount s.max
-    && int_le (stood_in f ask.txn.product ask.txn.user at +ℤ pos ask.amount) (pos s.day_limit)
+    && int_le (stand_in_sum f ask.txn.product ask.txn.user at +ℤ pos ask.amount) (pos s.day_limit)
 
 -- what the set that was found says, where one was found
 abbrev pub stand_by : Facts → Ask → ℕ → Option Set → Stand

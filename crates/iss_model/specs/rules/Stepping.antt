@@ -13,7 +13,7 @@ use Rattle.iss_model.specs.rules.Facts.{Facts, txn_in, is_notice}
 use Rattle.iss_model.specs.rules.Asks.{Ask}
 use Rattle.iss_model.specs.rules.Reasons.{user_reason, card_reason, move_reason, product_reason, group_reason, control_reason, set_reason, switch_reason, load_reason}
 use Rattle.iss_model.specs.rules.CardReasons.{txn_asked, first_ask, further_ask, authorization_reason, increment_reason, reversal_reason, clearing_reason, refund_reason}
-use Rattle.iss_model.specs.rules.CardEntries.{authorized, incremented, reversed, cleared, refunded, answered}
+use Rattle.iss_model.specs.rules.CardEntries.{authorization_entries, increment_entries, reversal_entries, clearing_entries, refund_entries, answer_entries}
 use Rattle.iss_model.specs.rules.Due.{DueItem, due_items, thing_entries}
 use Rattle.iss_model.specs.rules.Keeper.{Keeper, Growth, grow}
 
@@ -23,12 +23,12 @@ unless_declined (Some why) token entries = entry.Decided token (verdict.Declined
 unless_declined None token entries = entries
 
 -- a setting takes effect and is done
-abbrev pub set_by : Input → List ℕ → List Entry
-set_by i token = entry.Conf i ∷ entry.Decided token verdict.Done ∷ []
+abbrev pub setting_entries : Input → List ℕ → List Entry
+setting_entries i token = entry.Conf i ∷ entry.Decided token verdict.Done ∷ []
 
 -- a load moves money from the programme to the user
-abbrev pub loaded : List ℕ → List ℕ → Currency → ℕ → List Entry
-loaded token user currency amount =
+abbrev pub load_entries : List ℕ → List ℕ → Currency → ℕ → List Entry
+load_entries token user currency amount =
     entry.Post (account.Programme currency) (account.User user currency) amount None ∷ entry.Decided token verdict.Done ∷ []
 
 -- an authorisation as an ask, where its card and product are known
@@ -41,44 +41,44 @@ abbrev pub increment_ask : Facts → List ℕ → List ℕ → ℕ → ℕ → O
 increment_ask f token txn amount at = option_map (λ now. further_ask token amount at now.txn) (txn_in f txn)
 
 -- a notice is acknowledged; one that was never made isn't
-abbrev pub acknowledged : Facts → ℕ → List Entry
-acknowledged f notice = if is_notice f notice then entry.Acked notice ∷ [] else []
+abbrev pub acknowledgement_entries : Facts → ℕ → List Entry
+acknowledgement_entries f notice = if is_notice f notice then entry.Acked notice ∷ [] else []
 
 -- the entries of an input at a moment
 abbrev pub entries_of : Input → ℕ → Facts → List Entry
-entries_of (input.User token user) at f = unless_declined (user_reason f user) token (set_by (input.User token user) token)
+entries_of (input.User token user) at f = unless_declined (user_reason f user) token (setting_entries (input.User token user) token)
 entries_of (input.Card token card user product active) at f =
-    unless_declined (card_reason f card user product) token (set_by (input.Card token card user product active) token)
-entries_of (input.Move token who) at f = unless_declined (move_reason f who) token (set_by (input.Move token who) token)
+    unless_declined (card_reason f card user product) token (setting_entries (input.Card token card user product active) token)
+entries_of (input.Move token who) at f = unless_declined (move_reason f who) token (setting_entries (input.Move token who) token)
 entries_of (input.Product token product currency funding timeout_ms hold_ms) at f =
     unless_declined (product_reason f product) token
-    (set_by (input.Product token product currency funding timeout_ms hold_ms) token)
+    (setting_entries (input.Product token product currency funding timeout_ms hold_ms) token)
 entries_of (input.Group token group mccs) at f =
-    unless_declined (group_reason f group) token (set_by (input.Group token group mccs) token)
+    unless_declined (group_reason f group) token (setting_entries (input.Group token group mccs) token)
 entries_of (input.Control token control currency window amount_limit usage_limit association scope active) at f =
     unless_declined (control_reason f control currency window association scope) token
-    (set_by (input.Control token control currency window amount_limit usage_limit association scope active) token)
+    (setting_entries (input.Control token control currency window amount_limit usage_limit association scope active) token)
 entries_of (input.Set token set product currency connection timeout application max day_limit active) at f =
     unless_declined (set_reason f set product currency) token
-    (set_by (input.Set token set product currency connection timeout application max day_limit active) token)
+    (setting_entries (input.Set token set product currency connection timeout application max day_limit active) token)
 entries_of (input.Switch token product on) at f =
-    unless_declined (switch_reason f product) token (set_by (input.Switch token product on) token)
+    unless_declined (switch_reason f product) token (setting_entries (input.Switch token product on) token)
 entries_of (input.Load token user currency amount) at f =
-    unless_declined (load_reason f user) token (loaded token user currency amount)
+    unless_declined (load_reason f user) token (load_entries token user currency amount)
 entries_of (input.Authorization token card currency amount mcc mid) at f =
     let ask = authorization_ask f token card currency amount mcc mid at in
-    unless_declined (authorization_reason f card currency ask) token (authorized f ask)
+    unless_declined (authorization_reason f card currency ask) token (authorization_entries f ask)
 entries_of (input.Increment token txn currency amount) at f =
     let ask = increment_ask f token txn amount at in
-    unless_declined (increment_reason f (txn_in f txn) currency ask) token (incremented f ask)
+    unless_declined (increment_reason f (txn_in f txn) currency ask) token (increment_entries f ask)
 entries_of (input.Reversal token txn currency amount) at f =
-    unless_declined (reversal_reason (txn_in f txn) currency) token (reversed f token amount (txn_in f txn))
+    unless_declined (reversal_reason (txn_in f txn) currency) token (reversal_entries f token amount (txn_in f txn))
 entries_of (input.Clearing token txn currency amount last) at f =
-    unless_declined (clearing_reason (txn_in f txn) currency) token (cleared f token amount last at (txn_in f txn))
+    unless_declined (clearing_reason (txn_in f txn) currency) token (clearing_entries f token amount last at (txn_in f txn))
 entries_of (input.Refund token txn currency amount) at f =
-    unless_declined (refund_reason f (txn_in f txn) currency amount) token (refunded f token amount (txn_in f txn))
-entries_of (input.Answer call outcome) at f = answered call outcome at f
-entries_of (input.Ack notice) at f = acknowledged f notice
+    unless_declined (refund_reason f (txn_in f txn) currency amount) token (refund_entries f token amount (txn_in f txn))
+entries_of (input.Answer call outcome) at f = answer_entries call outcome at f
+entries_of (input.Ack notice) at f = acknowledgement_entries f notice
 entries_of input.Time at f = []
 
 -- a record's own entries

@@ -1,4 +1,4 @@
--- The room of a device: how much of it is free behind the records that stand on it, and which record fits.
+-- The room of a device: how much of it is free after the records that stand on it, and which record fits.
 use Rattle.std.specs.Prelude.{ℕ, ◌+◌, ◌-◌, Bool, nat_le, List, fold, length, Option, Some, None, option_map, if◌then◌else◌}
 use Rattle.iss_model.specs.declared.input.Record.{Record}
 use Rattle.iss_model.specs.declared.decision.Answer.TheVariants as answer
@@ -14,19 +14,19 @@ pub record Room : Type 0 where
 abbrev pub need_of : Record → ℕ
 need_of r = 5 + length (spelling r)
 
--- the place of the gate at which these records end: the first gate is behind the header of 16 bytes
+-- the place of the gate at which these records end: the first gate is after the header of 16 bytes
 abbrev pub end_gate : List Record → ℕ
 end_gate rs = fold (λ place r. place + need_of r) 16 rs
 
--- the bytes that are free behind these records; the last one is kept for the gate at the end
+-- the bytes that are free after these records; the last one is kept for the gate at the end
 abbrev pub free_in : Room → List Record → ℕ
 free_in room rs = room.size - 1 - end_gate rs
 
--- one more record fits behind these
+-- one more record fits after these
 abbrev pub fits : Room → List Record → Record → Bool
 fits room rs r = nat_le (need_of r) (free_in room rs)
 
--- the room when this record was put behind these
+-- the room when this record was put after these
 abbrev pub room_after : Room → List Record → Record → Room
 room_after room rs r = room
 
@@ -36,10 +36,10 @@ where_it_fits None rs r made = made
 where_it_fits (Some room) rs r made = if fits room rs r then made else judged.Told (answer.Full (free_in room rs) (need_of r))
 
 -- what judging comes to in a room
-abbrev pub judged_within : Option Room → List Record → Judged → Judged
-judged_within room rs (judged.New r) = where_it_fits room rs r (judged.New r)
-judged_within room rs (judged.Clock r) = where_it_fits room rs r (judged.Clock r)
-judged_within room rs (judged.Told a) = judged.Told a
+abbrev pub judgement_within : Option Room → List Record → Judged → Judged
+judgement_within room rs (judged.New r) = where_it_fits room rs r (judged.New r)
+judgement_within room rs (judged.Clock r) = where_it_fits room rs r (judged.Clock r)
+judgement_within room rs (judged.Told a) = judged.Told a
 
 -- the record that is made, where one is
 abbrev pub record_made : Judged → Option Record

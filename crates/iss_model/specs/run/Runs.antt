@@ -9,7 +9,7 @@ use Rattle.iss_model.specs.rules.Judging.{judge}
 use Rattle.iss_model.specs.rules.Histories.{History, nothing_yet, history_facts, history_keeper}
 use Rattle.iss_model.specs.run.Sayings.{Said, asked, noticed, reaction_as}
 use Rattle.iss_model.specs.run.Transcripts.{Reading, sound, faulty, Text, at_level, said_text_at}
-use Rattle.iss_model.specs.run.Rooms.{Room, judged_within, record_made, room_left}
+use Rattle.iss_model.specs.run.Rooms.{Room, judgement_within, record_made, room_left}
 
 -- what stands in a run: the instance of its device, the room on it, and the history
 pub record Run : Type 0 where
@@ -27,8 +27,8 @@ pub record Response : Type 0 where
   pub texts : List Text
 
 -- an input is judged at its stamp, and makes its record only where that fits
-abbrev pub judged_in : Run → Input → ℕ → Judged
-judged_in s i stamp = judged_within s.room s.history.records (judge history_keeper s.history i stamp)
+abbrev pub judgement_in : Run → Input → ℕ → Judged
+judgement_in s i stamp = judgement_within s.room s.history.records (judge history_keeper s.history i stamp)
 
 -- what an input is told that was judged so
 abbrev pub response_as : Run → Input → ℕ → Judged → Response
@@ -41,12 +41,12 @@ response_as s i stamp j =
 
 -- a line: its fault alone, or what its input is told
 abbrev pub response : Run → Reading → Response
-response s (sound i at) = let stamp = unwrap_or at 0 in response_as s i stamp (judged_in s i stamp)
+response s (sound i at) = let stamp = unwrap_or at 0 in response_as s i stamp (judgement_in s i stamp)
 response s (faulty text) = record { run = s; texts = at_level (length s.history.records) (text ∷ []) }
 
 -- the record that a line makes, where it makes one
 abbrev pub record_of_line : Run → Reading → Option Record
-record_of_line s (sound i at) = record_made (judged_in s i (unwrap_or at 0))
+record_of_line s (sound i at) = record_made (judgement_in s i (unwrap_or at 0))
 record_of_line s (faulty text) = None
 
 -- the texts of the lines, one after the other
@@ -60,9 +60,9 @@ run_after s [] = s
 run_after s (line ∷ lines) = run_after (response s line).run lines
 
 -- the records that the lines make
-abbrev pub accepted : Run → List Reading → List Record
-accepted s [] = []
-accepted s (line ∷ lines) = option_to_list (record_of_line s line) ++ accepted (response s line).run lines
+abbrev pub accepted_records : Run → List Reading → List Record
+accepted_records s [] = []
+accepted_records s (line ∷ lines) = option_to_list (record_of_line s line) ++ accepted_records (response s line).run lines
 
 -- what a run says before its first line: the requests of the calls that are asked, and then the notices that aren't acknowledged, each by number
 abbrev pub said_first : Facts → List Said

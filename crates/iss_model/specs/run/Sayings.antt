@@ -23,7 +23,7 @@ pub data Said : Type 0 where
   noticed : Notice → Said
   acked : ℕ → Said
   timed : Said
-  told : Answer → Said
+  answered : Answer → Said
 
 -- what an entry sends out
 abbrev pub said_by : Entry → List Said
@@ -33,7 +33,7 @@ said_by (entry.Notice notice) = noticed notice ∷ []
 said_by (entry.Acked notice) = acked notice ∷ []
 said_by _ = []
 
--- a time that was taken is told so behind what it made
+-- a time that was taken is told so after what it made
 abbrev pub said_of_time : Input → List Said
 said_of_time input.Time = timed ∷ []
 said_of_time _ = []
@@ -53,7 +53,7 @@ reaction_to_record k w r =
 abbrev pub answer_left : Judged → List Said
 answer_left (judged.New r) = []
 answer_left (judged.Clock r) = []
-answer_left (judged.Told a) = told a ∷ []
+answer_left (judged.Told a) = answered a ∷ []
 
 -- what judging comes to, as a reaction
 abbrev pub reaction_as : {W : Type 0} → Keeper W → W → Input → ℕ → Judged → Reaction W
@@ -63,7 +63,7 @@ reaction_as k w i stamp (judged.New r) =
 reaction_as k w i stamp (judged.Clock r) =
     let reaction = reaction_to_record k w r in
     record reaction { said = reaction.said ++ answer_left (judge k reaction.world i stamp) }
-reaction_as k w i stamp (judged.Told a) = record { world = w; said = told a ∷ [] }
+reaction_as k w i stamp (judged.Told a) = record { world = w; said = answered a ∷ [] }
 
 -- an input at a stamp, on what stands
 unfoldable pub reaction : {W : Type 0} → Keeper W → W → Input → ℕ → Reaction W

@@ -8,7 +8,7 @@ use Rattle.iss_model.specs.texts.Wordings.{reply_line}
 use Rattle.iss_model.specs.texts.GatewayTexts.{request_text, notice_text}
 use Rattle.iss_model.specs.texts.AnswerLines.{answer_text, acked_line, time_line}
 use Rattle.iss_model.specs.rules.Keeper.{Keeper}
-use Rattle.iss_model.specs.run.Sayings.{Said, decided, asked, noticed, acked, timed, told, said_by, Reaction, reaction}
+use Rattle.iss_model.specs.run.Sayings.{Said, decided, asked, noticed, acked, timed, answered, said_by, Reaction, reaction}
 
 -- a line as it was read: an input with the stamp that it gives, or the text of its fault
 pub data Reading : Type 0 where
@@ -21,7 +21,7 @@ pub record Text : Type 0 where
   pub bytes : List ℕ
 
 -- what stands after a line, and the texts that it is told
-pub record Told (W : Type 0) : Type 0 where
+pub record LineReply (W : Type 0) : Type 0 where
   pub world : W
   pub texts : List Text
 
@@ -36,7 +36,7 @@ said_text_at instance (asked opened) = request_text instance opened ++ 10 ∷ []
 said_text_at instance (noticed notice) = notice_text instance notice ++ 10 ∷ []
 said_text_at instance (acked notice) = acked_line notice
 said_text_at instance timed = time_line
-said_text_at instance (told answer) = answer_text answer
+said_text_at instance (answered answer) = answer_text answer
 
 -- what is said, as a line, at instance 0
 abbrev pub said_text : Said → List ℕ
@@ -47,12 +47,12 @@ abbrev pub entry_texts : Entry → List (List ℕ)
 entry_texts e = map said_text (said_by e)
 
 -- what is said of an input as texts, at the level that counts its record
-abbrev pub told_by_reaction : {W : Type 0} → Keeper W → Reaction W → Told W
-told_by_reaction k r = record { world = r.world; texts = at_level (k.facts r.world).count (map said_text r.said) }
+abbrev pub reply_by_reaction : {W : Type 0} → Keeper W → Reaction W → LineReply W
+reply_by_reaction k r = record { world = r.world; texts = at_level (k.facts r.world).count (map said_text r.said) }
 
 -- a line told on what stands: its fault, or what is said of its input
-abbrev pub after_line : {W : Type 0} → Keeper W → W → Reading → Told W
-after_line k w (sound i at) = told_by_reaction k (reaction k w i (unwrap_or at 0))
+abbrev pub after_line : {W : Type 0} → Keeper W → W → Reading → LineReply W
+after_line k w (sound i at) = reply_by_reaction k (reaction k w i (unwrap_or at 0))
 after_line k w (faulty text) = record { world = w; texts = at_level (k.facts w).count (text ∷ []) }
 
 -- the texts of the lines, one after the other

@@ -145,19 +145,19 @@ abbrev pub with_switch : List ProductNow → List ℕ → Bool → List ProductN
 with_switch products name on = map (product_after_switch name on) products
 
 -- the control of this name gets what may be replaced, another one stays as it is
-abbrev pub control_changed : ControlPut → ControlKept → ControlKept
-control_changed put c =
+abbrev pub control_after_put : ControlPut → ControlKept → ControlKept
+control_after_put put c =
     if bytes_eq put.control.name c.control.name then record c { control = control_replaced c.control put.control } else c
 
 -- a control that is put changes the one of its name, or stands as the last one and has counted nothing
 abbrev pub with_control : List ControlKept → ControlPut → List ControlKept
 with_control controls put =
-    if list_any (λ c. bytes_eq c.control.name put.control.name) controls then map (control_changed put) controls
+    if list_any (λ c. bytes_eq c.control.name put.control.name) controls then map (control_after_put put) controls
     else controls ++ record { first = put.number; control = put.control; amounts = nothing_kept; times = nothing_kept } ∷ []
 
 -- a control counts use where it counts it at all
-abbrev pub control_noted : List Group → Entry → ControlKept → ControlKept
-control_noted groups e c =
+abbrev pub control_after_use : List Group → Entry → ControlKept → ControlKept
+control_after_use groups e c =
     let put : ControlPut = record { number = c.first; control = c.control } in
     record c {
       amounts = after_changes c.amounts (counted_changes (λ row. row.amount) groups put e);
@@ -165,13 +165,13 @@ control_noted groups e c =
     }
 
 -- the set of this name gets what may be replaced, another one stays as it is
-abbrev pub set_changed : Set → Set → Set
-set_changed put s = if bytes_eq put.name s.name then set_replaced s put else s
+abbrev pub set_after_put : Set → Set → Set
+set_after_put put s = if bytes_eq put.name s.name then set_replaced s put else s
 
 -- a set that is put changes the one of its name, or stands as the last one
 abbrev pub with_set : List Set → Set → List Set
 with_set sets put =
-    if list_any (λ s. bytes_eq s.name put.name) sets then map (set_changed put) sets else sets ++ put ∷ []
+    if list_any (λ s. bytes_eq s.name put.name) sets then map (set_after_put put) sets else sets ++ put ∷ []
 
 -- a thing that an entry makes is taken up
 abbrev pub with_made : {S A : Type 0} → (S → A → S) → S → Option A → S
@@ -179,48 +179,48 @@ with_made take s None = s
 with_made take s (Some x) = take s x
 
 -- what each setting does
-abbrev pub configured : CoreState → Input → CoreState
-configured s (input.User token user) = record s { cardholders = with_user s.cardholders user }
-configured s (input.Card token card user product active) = record s { cardholders = with_card s.cardholders card user product active }
-configured s (input.Move token (moved.Card card to)) = record s { cardholders = with_card_moved s.cardholders card to }
-configured s (input.Move token (moved.User user to)) = record s { cardholders = with_user_moved s.cardholders user to }
-configured s (input.Product token product currency funding timeout_ms hold_ms) =
+abbrev pub after_setting : CoreState → Input → CoreState
+after_setting s (input.User token user) = record s { cardholders = with_user s.cardholders user }
+after_setting s (input.Card token card user product active) = record s { cardholders = with_card s.cardholders card user product active }
+after_setting s (input.Move token (moved.Card card to)) = record s { cardholders = with_card_moved s.cardholders card to }
+after_setting s (input.Move token (moved.User user to)) = record s { cardholders = with_user_moved s.cardholders user to }
+after_setting s (input.Product token product currency funding timeout_ms hold_ms) =
     record s { products = with_made with_product s.products (product_made (entry.Conf (input.Product token product currency funding timeout_ms hold_ms))) }
-configured s (input.Group token group mccs) = record s { groups = s.groups ++ record { name = group; mccs = mccs } ∷ [] }
-configured s (input.Control token control currency window amount_limit usage_limit association scope active) =
+after_setting s (input.Group token group mccs) = record s { groups = s.groups ++ record { name = group; mccs = mccs } ∷ [] }
+after_setting s (input.Control token control currency window amount_limit usage_limit association scope active) =
     record s {
       controls = with_made with_control s.controls
           (control_put s.count (entry.Conf (input.Control token control currency window amount_limit usage_limit association scope active)));
     }
-configured s (input.Set token set product currency connection timeout application max day_limit active) =
+after_setting s (input.Set token set product currency connection timeout application max day_limit active) =
     record s {
       stand_ins = record (s.stand_ins) {
         sets = with_made with_set s.stand_ins.sets
             (set_put (entry.Conf (input.Set token set product currency connection timeout application max day_limit active)));
       };
     }
-configured s (input.Switch token product on) = record s { products = with_switch s.products product on }
-configured s _ = s
+after_setting s (input.Switch token product on) = record s { products = with_switch s.products product on }
+after_setting s _ = s
 
 -- a transaction begins live, save where one of its token has ended: a token names one transaction for good
 abbrev pub is_live : List TxnNow → List ℕ → Bool
 is_live txns token = not (list_any (λ t. bytes_eq t.txn.token token && not t.live) txns)
 
 -- a transaction that begins has each part, with nothing in it
-abbrev pub parts_begun : Txn → List Change
-parts_begun t = map (λ part. record { key = part_key t.token part; by = pos 0 }) (part.G ∷ part.P ∷ part.S ∷ [])
+abbrev pub begun_part_changes : Txn → List Change
+begun_part_changes t = map (λ part. record { key = part_key t.token part; by = pos 0 }) (part.G ∷ part.P ∷ part.S ∷ [])
 
 -- a transaction that begins holds nothing of its user yet
-abbrev pub held_begun : Txn → List Change
-held_begun t = record { key = user_key t.user t.currency; by = pos 0 } ∷ []
+abbrev pub begun_held_changes : Txn → List Change
+begun_held_changes t = record { key = user_key t.user t.currency; by = pos 0 } ∷ []
 
 -- a transaction begins
 abbrev pub with_txn : Holdings → Txn → Holdings
 with_txn h t =
     record {
       txns = h.txns ++ record { txn = t; live = is_live h.txns t.token } ∷ [];
-      parts = after_changes h.parts (parts_begun t);
-      held = after_changes h.held (held_begun t);
+      parts = after_changes h.parts (begun_part_changes t);
+      held = after_changes h.held (begun_held_changes t);
     }
 
 -- what a hold changes of the parts and of what its user has held
@@ -262,33 +262,33 @@ abbrev pub with_acked : Outbox → ℕ → Outbox
 with_acked o number = record o { pending = filter (λ notice. not (number == notice.number)) o.pending }
 
 -- What each entry does to what a core keeps.
-abbrev pub entered : CoreState → Entry → CoreState
-entered s (entry.Conf i) = configured s i
-entered s (entry.Began txn) = record s { holdings = with_txn s.holdings txn }
-entered s (entry.Opened opened) = record s { calls = s.calls ++ record { opened = opened; how = None } ∷ [] }
-entered s (entry.Closed call how) = record s { calls = with_closed s.calls call how }
-entered s (entry.Decided event verdict) = record s { decisions = s.decisions ++ record { event = event; verdict = verdict } ∷ [] }
-entered s (entry.Post from to amount txn) =
+abbrev pub after_entry : CoreState → Entry → CoreState
+after_entry s (entry.Conf i) = after_setting s i
+after_entry s (entry.Began txn) = record s { holdings = with_txn s.holdings txn }
+after_entry s (entry.Opened opened) = record s { calls = s.calls ++ record { opened = opened; how = None } ∷ [] }
+after_entry s (entry.Closed call how) = record s { calls = with_closed s.calls call how }
+after_entry s (entry.Decided event verdict) = record s { decisions = s.decisions ++ record { event = event; verdict = verdict } ∷ [] }
+after_entry s (entry.Post from to amount txn) =
     record s {
       balances = after_changes s.balances (balance_changes (entry.Post from to amount txn));
       txn_sums = with_post s.txn_sums (entry.Post from to amount txn);
     }
-entered s (entry.Hold txn user currency part amount) =
+after_entry s (entry.Hold txn user currency part amount) =
     record s { holdings = with_hold s.holdings (entry.Hold txn user currency part amount) }
-entered s (entry.Usage row) = record s { controls = map (control_noted s.groups (entry.Usage row)) s.controls }
-entered s (entry.Stood set product user amount at) =
+after_entry s (entry.Usage row) = record s { controls = map (control_after_use s.groups (entry.Usage row)) s.controls }
+after_entry s (entry.Stood set product user amount at) =
     record s {
       stand_ins = record (s.stand_ins) {
         stood = after_changes s.stand_ins.stood (stood_changes (entry.Stood set product user amount at));
       };
     }
-entered s (entry.Notice notice) = record s { outbox = with_notice s.outbox notice }
-entered s (entry.Acked notice) = record s { outbox = with_acked s.outbox notice }
-entered s (entry.Ended txn) = record s { holdings = with_end s.holdings txn }
+after_entry s (entry.Notice notice) = record s { outbox = with_notice s.outbox notice }
+after_entry s (entry.Acked notice) = record s { outbox = with_acked s.outbox notice }
+after_entry s (entry.Ended txn) = record s { holdings = with_end s.holdings txn }
 
 -- a record is counted, and stands among the events where it is one
-abbrev pub taken_up : CoreState → Record → CoreState
-taken_up s r =
+abbrev pub with_record : CoreState → Record → CoreState
+with_record s r =
     let number = s.count + 1 in
     record s {
       now = max s.now r.at;
@@ -297,8 +297,8 @@ taken_up s r =
     }
 
 -- what a control that is kept has counted, by span
-abbrev pub control_told : ControlKept → ControlNow
-control_told c =
+abbrev pub control_facts : ControlKept → ControlNow
+control_facts c =
     record { first = c.first; control = c.control; amounts = kept_at c.amounts; times = kept_at c.times }
 
 -- the facts that a core tells
@@ -314,7 +314,7 @@ core_facts s =
       products = map (λ p. p.product) s.products;
       switched = map (λ p. p.product.name) (filter (λ p. p.on) s.products);
       groups = s.groups;
-      controls = map control_told s.controls;
+      controls = map control_facts s.controls;
       sets = s.stand_ins.sets;
       txns = s.holdings.txns;
       calls = s.calls;
@@ -331,7 +331,7 @@ core_facts s =
 
 -- a core as a keeper: it enters each entry once, and never holds the book
 abbrev pub core_keeper : Keeper CoreState
-core_keeper = record { facts = core_facts; take_up = taken_up; add = λ s entries. fold entered s entries }
+core_keeper = record { facts = core_facts; take_up = with_record; add = λ s entries. fold after_entry s entries }
 
 -- the state that a core comes to by these records
 abbrev pub core_of : List Record → CoreState

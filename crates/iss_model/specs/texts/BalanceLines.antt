@@ -28,18 +28,18 @@ abbrev pub is_reported_before : Account → Account → Bool
 is_reported_before a b = is_lt (slice_cmp nat_cmp (account_key a) (account_key b))
 
 -- an account at its place among others that stand in this order
-abbrev pub placed : Account → List Account → List Account
-placed a [] = a ∷ []
-placed a (b ∷ others) = if is_reported_before a b then a ∷ b ∷ others else b ∷ placed a others
+abbrev pub accounts_with : Account → List Account → List Account
+accounts_with a [] = a ∷ []
+accounts_with a (b ∷ others) = if is_reported_before a b then a ∷ b ∷ others else b ∷ accounts_with a others
 
 -- an account among others, once
-abbrev pub joined : List Account → Account → List Account
-joined accounts a =
-    if list_any (λ b. bytes_eq (account_key a) (account_key b)) accounts then accounts else placed a accounts
+abbrev pub accounts_with_once : List Account → Account → List Account
+accounts_with_once accounts a =
+    if list_any (λ b. bytes_eq (account_key a) (account_key b)) accounts then accounts else accounts_with a accounts
 
 -- the accounts of a book in order
 abbrev pub accounts_of : List Row → List Account
-accounts_of rows = fold joined [] (flat_map (λ row. posted_accounts row.entry) rows)
+accounts_of rows = fold accounts_with_once [] (flat_map (λ row. posted_accounts row.entry) rows)
 
 -- the members that say what an account is, its balance and its currency
 abbrev pub sheet_members : List ℕ → ℤ → Currency → List Member

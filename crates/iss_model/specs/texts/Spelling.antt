@@ -15,7 +15,7 @@ use Rattle.iss_model.specs.declared.input.Record.{Record}
 use Rattle.iss_model.specs.Tokens.{is_token}
 use Rattle.iss_model.specs.Currencies.{iso_number}
 use Rattle.iss_model.specs.Forms.{is_stamp, is_in_form}
-use Rattle.iss_model.specs.Inputs.{spelled, flag, funding_number, window_number, outcome_number, moved_contents, association_contents}
+use Rattle.iss_model.specs.Inputs.{with_length, flag_contents, funding_number, window_number, outcome_number, moved_contents, association_contents}
 
 -- each of these numbers is a byte
 abbrev pub AreBytes : List ℕ → Type 0
@@ -50,10 +50,10 @@ limits_bytes amount_limit usage_limit = limit_bytes 8 amount_limit ++ limit_byte
 abbrev pub scope_bytes : Scope → List ℕ
 scope_bytes scope.All = 0 ∷ []
 scope_bytes (scope.Mcc mcc) = 1 ∷ mcc_bytes mcc
-scope_bytes (scope.Group group) = 2 ∷ spelled group
-scope_bytes (scope.Mid mid) = 3 ∷ spelled mid
+scope_bytes (scope.Group group) = 2 ∷ with_length group
+scope_bytes (scope.Mid mid) = 3 ∷ with_length mid
 
--- the codes of a group, behind their count
+-- the codes of a group, after their count
 abbrev pub mccs_bytes : List ℕ → List ℕ
 mccs_bytes mccs = number_bytes 2 (length mccs) ++ flat_map mcc_bytes mccs
 
@@ -79,37 +79,37 @@ kind_number input.Time = 17
 
 -- what an operation on a transaction has in its bytes
 abbrev pub operation_bytes : List ℕ → List ℕ → Currency → ℕ → List ℕ
-operation_bytes token txn currency amount = spelled token ++ spelled txn ++ currency_bytes currency ++ amount_bytes amount
+operation_bytes token txn currency amount = with_length token ++ with_length txn ++ currency_bytes currency ++ amount_bytes amount
 
--- the fields of an input, one behind the other
+-- the fields of an input, one after the other
 unfoldable pub field_bytes : Input → List ℕ
-field_bytes (input.User token user) = spelled token ++ spelled user
+field_bytes (input.User token user) = with_length token ++ with_length user
 field_bytes (input.Card token card user product active) =
-    spelled token ++ spelled card ++ spelled user ++ spelled product ++ flag active
-field_bytes (input.Move token who) = spelled token ++ moved_contents who
+    with_length token ++ with_length card ++ with_length user ++ with_length product ++ flag_contents active
+field_bytes (input.Move token who) = with_length token ++ moved_contents who
 field_bytes (input.Product token product currency funding timeout_ms hold_ms) =
-    spelled token ++ spelled product ++ currency_bytes currency ++ (funding_number funding ∷ []) ++ number_bytes 4 timeout_ms
+    with_length token ++ with_length product ++ currency_bytes currency ++ (funding_number funding ∷ []) ++ number_bytes 4 timeout_ms
     ++ number_bytes 4 hold_ms
-field_bytes (input.Group token group mccs) = spelled token ++ spelled group ++ mccs_bytes mccs
+field_bytes (input.Group token group mccs) = with_length token ++ with_length group ++ mccs_bytes mccs
 field_bytes (input.Control token control currency window amount_limit usage_limit association scope active) =
-    spelled token ++ spelled control ++ currency_bytes currency ++ (window_number window ∷ []) ++ limits_bytes amount_limit usage_limit
-    ++ association_contents association ++ scope_bytes scope ++ flag active
+    with_length token ++ with_length control ++ currency_bytes currency ++ (window_number window ∷ []) ++ limits_bytes amount_limit usage_limit
+    ++ association_contents association ++ scope_bytes scope ++ flag_contents active
 field_bytes (input.Set token set product currency connection timeout application max day_limit active) =
-    spelled token ++ spelled set ++ spelled product ++ currency_bytes currency ++ flag connection ++ flag timeout ++ flag application
-    ++ amount_bytes max ++ amount_bytes day_limit ++ flag active
-field_bytes (input.Switch token product on) = spelled token ++ spelled product ++ flag on
+    with_length token ++ with_length set ++ with_length product ++ currency_bytes currency ++ flag_contents connection ++ flag_contents timeout ++ flag_contents application
+    ++ amount_bytes max ++ amount_bytes day_limit ++ flag_contents active
+field_bytes (input.Switch token product on) = with_length token ++ with_length product ++ flag_contents on
 field_bytes (input.Load token user currency amount) = operation_bytes token user currency amount
 field_bytes (input.Authorization token card currency amount mcc mid) =
-    operation_bytes token card currency amount ++ mcc_bytes mcc ++ spelled mid
+    operation_bytes token card currency amount ++ mcc_bytes mcc ++ with_length mid
 field_bytes (input.Increment token txn currency amount) = operation_bytes token txn currency amount
 field_bytes (input.Reversal token txn currency amount) = operation_bytes token txn currency amount
-field_bytes (input.Clearing token txn currency amount last) = operation_bytes token txn currency amount ++ flag last
+field_bytes (input.Clearing token txn currency amount last) = operation_bytes token txn currency amount ++ flag_contents last
 field_bytes (input.Refund token txn currency amount) = operation_bytes token txn currency amount
 field_bytes (input.Answer call outcome) = number_bytes 4 call.0 ++ outcome_number outcome ∷ []
 field_bytes (input.Ack notice) = number_bytes 4 notice
 field_bytes input.Time = []
 
--- an input behind its kind and this stamp
+-- an input after its kind and this stamp
 abbrev pub input_bytes : ℕ → Input → List ℕ
 input_bytes at i = kind_number i ∷ (number_bytes 8 at ++ field_bytes i)
 

@@ -38,7 +38,7 @@ member_text m = in_quotes m.name ++ 58 ∷ value_text m.value
 abbrev pub object_text : List Member → List ℕ
 object_text ms = 123 ∷ join_with_byte 44 (map member_text ms) ++ 125 ∷ []
 
--- an object and the line feed behind it
+-- an object and the line feed after it
 abbrev pub line_of : List Member → List ℕ
 line_of ms = object_text ms ++ 10 ∷ []
 
@@ -63,7 +63,7 @@ user_state_text user.Active = codes "ACTIVE"
 user_state_text user.Suspended = codes "SUSPENDED"
 user_state_text user.Closed = codes "CLOSED"
 
--- a reason's name, with what it is about behind a colon
+-- a reason's name, with what it is about after a colon
 unfoldable pub reason_text : Reason → List ℕ
 reason_text reason.Exists = codes "EXISTS"
 reason_text reason.Limit = codes "LIMIT"

@@ -9,7 +9,7 @@ ghost use Rattle.iss_model.specs.rules.Reasons.{is_full};
 ghost use Rattle.iss_model.specs.rules.Stepping.{entries_of, step};
 ghost use Rattle.iss_model.specs.texts.Spelling.{has_spelling};
 ghost use Rattle.iss_model.specs.Forms.{is_in_form, is_amount};
-ghost use Rattle.iss_model.specs.rules.Histories.{history_facts, history_keeper, time_of, numbered};
+ghost use Rattle.iss_model.specs.rules.Histories.{history_facts, history_keeper, time_of, numbered_rows};
 ghost use Rattle.iss_model.specs.rules.Facts.{available_in};
 ghost use Rattle.iss_rows.specs.Early.{all_early, IsEarly};
 ghost use Rattle.iss_rows.specs.Purchases.{purchase_entries};
@@ -302,7 +302,7 @@ fn entries_text(alloc: Global, entries: &[Entry]) -> Result<Vec<u8>, AllocError>
 }
 
 fn numbered(alloc: Global, number: u32, entries: Vec<Entry>) -> Result<Vec<Row>, AllocError>
-    ensures { IfOk result (λ rows. rows.items ≡ numbered number entries.items) }
+    ensures { IfOk result (λ rows. rows.items ≡ numbered_rows number entries.items) }
 {
     entries
         .into_iter()
@@ -316,7 +316,7 @@ fn append_rows(
     number: u32,
     entries: Vec<Entry>,
 ) -> Result<(), AllocError>
-    ensures added { OnOk result (rows.new.items ≡ rows.old.items ++ numbered number entries.items) }
+    ensures added { OnOk result (rows.new.items ≡ rows.old.items ++ numbered_rows number entries.items) }
     ensures unchanged { OnErr result (rows.new.items ≡ rows.old.items) }
 {
     let mut added = numbered(alloc, number, entries)?;

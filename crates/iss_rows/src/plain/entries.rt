@@ -1,6 +1,6 @@
 //! The entries of the inputs that are built.
 ghost use Rattle.std.specs.Prelude.{◌≡◌, ◌<◌, ◌^◌, [], IfOk, Some};
-ghost use Rattle.iss_model.specs.rules.Stepping.{unless_declined, set_by, loaded};
+ghost use Rattle.iss_model.specs.rules.Stepping.{unless_declined, setting_entries, load_entries};
 ghost use Rattle.iss_rows.specs.Early.{purchased};
 
 use iss_model::{Account, Currency, Entry, Input, Part, Reason, Token, Txn, UsageRow, Verdict};
@@ -33,7 +33,7 @@ pub(crate) fn setting_entries(
     input: &Input,
 ) -> Result<Vec<Entry>, AllocError>
     ensures { IfOk result (λ entries. entries.items
-        ≡ unless_declined reason token.now (set_by input.now token.now)) }
+        ≡ unless_declined reason token.now (setting_entries input.now token.now)) }
 {
     match reason {
         Some(why) => declined(alloc, token, why),
@@ -53,7 +53,7 @@ pub(crate) fn load_entries(
     amount: u64,
 ) -> Result<Vec<Entry>, AllocError>
     ensures { IfOk result (λ entries. entries.items
-        ≡ unless_declined reason token.now (loaded token.now user.now currency amount)) }
+        ≡ unless_declined reason token.now (load_entries token.now user.now currency amount)) }
 {
     match reason {
         Some(why) => declined(alloc, token, why),

@@ -4,7 +4,7 @@ use Rattle.std.specs.Ordering.{nat_cmp}
 use Rattle.std.specs.Cmp.Lexicographic.{slice_cmp}
 use Rattle.std.proofs.lemmas.Int.{ints, to_z-of_z}
 use Rattle.iss_ledger.specs.Trees.{kept_in}
-use Rattle.iss_ledger.specs.Posts.{moved}
+use Rattle.iss_ledger.specs.Posts.{moved_amount}
 use Rattle.iss_ledger.proofs.TreeSums.{get_in, same_sums, still_stands}
 use Rattle.iss_ledger.proofs.PostSums.{moved_fits, credit_small, debit_small, posted_so, undone, on_err, on_ok, if_err}
 use Rattle.iss_ledger.proofs.sums.post.Goals as goal
@@ -24,13 +24,13 @@ pub change-requires-clause-small : goal.change-requires-clause-small
 change-requires-clause-small c =
     let fits = moved_fits (kept_in c.args.sums.now) c.args.from.now c.args.to.now c.args.amount c.requires.before c.requires.small in
     credit_small (kept_in c.args.sums.now) c.args.from.now c.args.to.now c.args.amount c.new.result (to_z w64 (of_z w64 c.moved-amount.result)) c.new.ensures
-    (as_bits c.moved-amount.result (moved c.args.from.now c.args.to.now c.args.amount) c.moved-amount.ensures fits)
+    (as_bits c.moved-amount.result (moved_amount c.args.from.now c.args.to.now c.args.amount) c.moved-amount.ensures fits)
     c.requires.before c.requires.small
 
 pub change-debited-requires-clause-small : goal.change-debited-requires-clause-small
 change-debited-requires-clause-small c =
     let fits = moved_fits (kept_in c.args.sums.now) c.args.from.now c.args.to.now c.args.amount c.requires.before c.requires.small in
-    let amount = moved c.args.from.now c.args.to.now c.args.amount in
+    let amount = moved_amount c.args.from.now c.args.to.now c.args.amount in
     debit_small (kept_in c.args.sums.now) (kept_in c.change.new.sums) c.args.from.now c.args.to.now c.args.amount c.new-2.result c.new.result
     (to_z w64 (of_z w64 (pos 0 -ℤ to_z w64 (of_z w64 c.moved-amount.result)))) (to_z w64 (of_z w64 c.moved-amount.result))
     c.new.ensures c.new-2.ensures
@@ -59,7 +59,7 @@ returns-then-is_err-clause-unchanged c =
 pub returns-else-is_err-clause-posted : goal.returns-else-is_err-clause-posted
 returns-else-is_err-clause-posted c =
     let fits = moved_fits (kept_in c.args.sums.now) c.args.from.now c.args.to.now c.args.amount c.requires.before c.requires.small in
-    let amount = moved c.args.from.now c.args.to.now c.args.amount in
+    let amount = moved_amount c.args.from.now c.args.to.now c.args.amount in
     on_ok c.change-debited.result
     (posted_so (kept_in c.args.sums.now) (kept_in c.change.new.sums) c.args.from.now c.args.to.now c.args.amount c.new-2.result c.new.result
     (to_z w64 (of_z w64 (pos 0 -ℤ to_z w64 (of_z w64 c.moved-amount.result)))) (to_z w64 (of_z w64 c.moved-amount.result))

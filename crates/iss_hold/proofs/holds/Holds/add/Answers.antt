@@ -9,7 +9,7 @@ use Rattle.iss_hold.specs.declared.hold.Hold.{Hold}
 use Rattle.iss_hold.specs.Holdings.{part_of, with_part}
 use Rattle.iss_hold.specs.Indexes.{total_of}
 use Rattle.iss_hold.proofs.Places.{IsAt}
-use Rattle.iss_model.specs.rules.Pieces.{held}
+use Rattle.iss_model.specs.rules.Pieces.{hold_entries}
 use Rattle.iss_model.specs.state.Kept.{AreSmall}
 use Rattle.iss_hold.specs.Entries.{after_holds}
 use Rattle.iss_hold.proofs.HoldCalls.{started_place, stands_at, here, part_small, sum_small, sum_stands, sum_there, indexed_added, added}
@@ -42,7 +42,7 @@ overflow_add-sum c =
     c.sum_of.ensures ∙ sum_there hs c.self.inside.places c.self.inside.sums c.self.inside.order c.self.invariant c.args.txn.now c.place_of-place.result at c.user_key-user.result key_is in
     let small : total + c.args.amount < 2 ^ 62 =
     sum_small hs c.self.inside.places c.self.inside.sums c.self.inside.order c.self.invariant c.args.txn.now c.place_of-place.result at c.args.part c.args.amount
-    (subst (λ (h : Holdings). AreSmall (after_holds h c.args.txn.now (λ t. held t c.args.part c.args.amount)).held) (sym c.self.view_is) c.requires.small) in
+    (subst (λ (h : Holdings). AreSmall (after_holds h c.args.txn.now (λ t. hold_entries t c.args.part c.args.amount)).held) (sym c.self.view_is) c.requires.small) in
     omega arith
 
 pub set_sum-requires : goal.set_sum-requires
@@ -68,7 +68,7 @@ with_more-requires c =
     c.sum_of.ensures ∙ sum_there hs c.self.inside.places c.self.inside.sums c.self.inside.order c.self.invariant c.args.txn.now c.place_of-place.result at c.user_key-user.result key_is in
     let small : total + c.args.amount < 2 ^ 62 =
     sum_small hs c.self.inside.places c.self.inside.sums c.self.inside.order c.self.invariant c.args.txn.now c.place_of-place.result at c.args.part c.args.amount
-    (subst (λ (h : Holdings). AreSmall (after_holds h c.args.txn.now (λ t. held t c.args.part c.args.amount)).held) (sym c.self.view_is) c.requires.small) in
+    (subst (λ (h : Holdings). AreSmall (after_holds h c.args.txn.now (λ t. hold_entries t c.args.part c.args.amount)).held) (sym c.self.view_is) c.requires.small) in
     let part : part_of c.args.part c.index.result.now ≡ part_of c.args.part at.hold = ap (λ (h : Hold). part_of c.args.part h) found in
     let below = part_small hs c.self.inside.places c.self.inside.sums c.self.inside.order c.self.invariant c.args.txn.now c.place_of-place.result at c.args.part in
     omega arith
@@ -95,7 +95,7 @@ invariant_of-self c =
     c.sum_of.ensures ∙ sum_there hs c.self.inside.places c.self.inside.sums c.self.inside.order c.self.invariant c.args.txn.now c.place_of-place.result at c.user_key-user.result key_is in
     let small : total + c.args.amount < 2 ^ 62 =
     sum_small hs c.self.inside.places c.self.inside.sums c.self.inside.order c.self.invariant c.args.txn.now c.place_of-place.result at c.args.part c.args.amount
-    (subst (λ (h : Holdings). AreSmall (after_holds h c.args.txn.now (λ t. held t c.args.part c.args.amount)).held) (sym c.self.view_is) c.requires.small) in
+    (subst (λ (h : Holdings). AreSmall (after_holds h c.args.txn.now (λ t. hold_entries t c.args.part c.args.amount)).held) (sym c.self.view_is) c.requires.small) in
     let k_is : c.with_more.result ≡ with_part c.args.part (part_of c.args.part at.hold + c.args.amount) at.hold =
     c.with_more.ensures ∙ ap (λ (h : Hold). with_part c.args.part (part_of c.args.part h + c.args.amount) h) found in
     let new : c.sum_of.result + c.args.amount ≡ total + c.args.amount = ap (λ (n : ℕ). n + c.args.amount) sum in
@@ -111,4 +111,4 @@ returns c =
     let k_is : c.with_more.result ≡ with_part c.args.part (part_of c.args.part at.hold + c.args.amount) at.hold =
     c.with_more.ensures ∙ ap (λ (h : Hold). with_part c.args.part (part_of c.args.part h + c.args.amount) h) found in
     added hs c.args.txn.now c.place_of-place.result at c.args.part c.args.amount c.with_more.result k_is
-    ∙ ap (λ (h : Holdings). after_holds h c.args.txn.now (λ (t : Txn). held t c.args.part c.args.amount)) c.self.view_is
+    ∙ ap (λ (h : Holdings). after_holds h c.args.txn.now (λ (t : Txn). hold_entries t c.args.part c.args.amount)) c.self.view_is

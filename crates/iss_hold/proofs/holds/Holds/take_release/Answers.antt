@@ -10,7 +10,7 @@ use Rattle.iss_hold.specs.Holdings.{parts_of}
 use Rattle.iss_hold.specs.Indexes.{total_of}
 use Rattle.iss_hold.proofs.Places.{IsAt}
 use Rattle.iss_model.specs.rules.Pieces.{Parts, in_all, taken_to_release}
-use Rattle.iss_hold.specs.Entries.{after_holds, parts_in, let_go_to_release}
+use Rattle.iss_hold.specs.Entries.{after_holds, parts_in, release_unhold_entries}
 use Rattle.iss_hold.proofs.HoldCalls.{started_place, stands_at, here, AreWithin, release_within, taken_within, sum_stands, sum_there, indexed_taken, parts_there, released}
 use Rattle.iss_hold.proofs.holds.Holds.take_release.Goals as goal
 
@@ -122,7 +122,7 @@ returns-clause-holdings c =
     let k_is : c.without.result ≡ record (at.hold) { g = at.hold.g - taken.g; p = at.hold.p - taken.p; s = at.hold.s - taken.s } =
     c.without.ensures ∙ (λ j. record (found j) { g = (found j).g - g j; p = (found j).p - p j; s = (found j).s - s j }) in
     released hs c.args.txn.now c.place_of-place.result at c.args.amount c.without.result c.self.invariant.distinct k_is
-    ∙ ap (λ (h : Holdings). after_holds h c.args.txn.now (let_go_to_release (taken_to_release (parts_in h c.args.txn.now) c.args.amount))) c.self.view_is
+    ∙ ap (λ (h : Holdings). after_holds h c.args.txn.now (release_unhold_entries (taken_to_release (parts_in h c.args.txn.now) c.args.amount))) c.self.view_is
 
 pub returns-clause-taken : goal.returns-clause-taken
 unfolding taken_of
