@@ -80,7 +80,11 @@ impl Core {
     /// Takes up a record that is next, and returns the core after it with the entries that it makes. Where an allocation
     /// fails the core is gone. For now the input is of a kind that is built, and nothing is due at the record's stamp;
     /// then nothing is due after it at that stamp either, and no entry is of the gateway.
-    pub fn step(mut self, alloc: Global, accepted: &Record) -> Result<(Core, Vec<Entry>), AllocError>
+    pub fn step(
+        mut self,
+        alloc: Global,
+        accepted: &Record,
+    ) -> Result<(Core, Vec<Entry>), AllocError>
         requires next { IsNext self accepted.now }
         requires input_form { IsTrue (is_in_form accepted.now.input) }
         requires stamp_form { IsTrue (is_stamp accepted.now.at) }

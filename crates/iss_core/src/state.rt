@@ -117,7 +117,11 @@ impl State {
     }
 
     /// Makes the entries of a record that was taken up last, and enters them.
-    pub(crate) fn make(&mut self, alloc: Global, accepted: &Record) -> Result<Vec<Entry>, AllocError>
+    pub(crate) fn make(
+        &mut self,
+        alloc: Global,
+        accepted: &Record,
+    ) -> Result<Vec<Entry>, AllocError>
         requires taken_up { IsTakenUp (state_of self.old) }
         requires built { is_built accepted.now.input ≡ true }
         requires input_form { IsTrue (is_in_form accepted.now.input) }
