@@ -13,8 +13,7 @@ use Rattle.iss_model.specs.declared.currency.Currency.{Currency}
 use Rattle.iss_model.specs.declared.currency.Currency.TheVariants.{Usd, Eur, Gbp, Cad, Aud, Jpy, Kwd}
 use Rattle.iss_model.specs.Forms.{is_limit, is_amount}
 use Rattle.iss_model.specs.Currencies.{decimals_of, unit_of}
-use Rattle.iss_model.specs.Amounts.{is_digit, is_whole_text, is_amount_text, digits_value, amount_digits, point_place, minor_units, limit_read, amount_read, if_form, amount_text, decimals_text}
-use Rattle.iss_amount.specs.Reading.{value_after}
+use Rattle.iss_model.specs.Amounts.{value_after, is_digit, is_whole_text, is_amount_text, digits_value, amount_digits, point_place, minor_units, limit_read, amount_read, if_form, amount_text, decimals_text}
 use Rattle.iss_amount.specs.Laws.{IsReadAgain, IsWrittenAgain}
 
 -- an amount of a form, read from a text with so many decimals

@@ -1,16 +1,8 @@
 -- How the digits of an amount are read, a part at a time.
-use Rattle.std.specs.Prelude.{ℕ, ◌+◌, ◌-◌, ◌*◌, Bool, not, ◌&&◌, ◌||◌, ◌==◌, nat_lt, List, length, slice_index, fold, Option, None, if◌then◌else◌}
+use Rattle.std.specs.Prelude.{ℕ, List, Option, None, if◌then◌else◌}
 use Rattle.std.specs.List.{list_all}
 use Rattle.iss_model.specs.Forms.{is_limit}
-use Rattle.iss_model.specs.Amounts.{is_digit, digits_value, is_whole_text, if_form}
-
--- there are digits, with no zero before another
-abbrev pub is_unpadded : List ℕ → Bool
-is_unpadded digits = nat_lt 0 (length digits) && (length digits == 1 || not (slice_index digits 0 == 48))
-
--- the number that digits spell after those of another number
-abbrev pub value_after : ℕ → List ℕ → ℕ
-value_after start digits = fold (λ value digit. 10 * value + (digit - 48)) start digits
+use Rattle.iss_model.specs.Amounts.{is_digit, digits_value, is_whole_text, value_after, if_form}
 
 -- that number, where these are digits and it is a limit's
 abbrev pub limit_after : ℕ → List ℕ → Option ℕ

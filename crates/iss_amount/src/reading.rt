@@ -1,8 +1,8 @@
 //! Amounts read from text, and from whole numbers of units.
 ghost use Rattle.std.specs.Prelude.{◌≡◌};
 ghost use Rattle.iss_model.specs.Forms.{is_amount, is_limit};
-ghost use Rattle.iss_model.specs.Amounts.{if_form, amount_read, limit_read, whole_amount_read, whole_limit_read};
-ghost use Rattle.iss_amount.specs.Reading.{is_unpadded, limit_after, limit_of_units};
+ghost use Rattle.iss_model.specs.Amounts.{is_unpadded, if_form, amount_read, limit_read, whole_amount_read, whole_limit_read};
+ghost use Rattle.iss_amount.specs.Reading.{limit_after, limit_of_units};
 ghost use Rattle.iss_amount.specs.Laws.{IsWrittenAgain};
 
 use crate::currency::{decimals, unit};

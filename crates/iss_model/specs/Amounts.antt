@@ -17,6 +17,14 @@ digits_value digits = fold (λ value digit. 10 * value + (digit - 48)) 0 digits
 abbrev pub is_whole_text : List ℕ → Bool
 is_whole_text text = nat_lt 0 (length text) && list_all is_digit text && (length text == 1 || not (slice_index text 0 == 48))
 
+-- there are digits, with no zero before another
+abbrev pub is_unpadded : List ℕ → Bool
+is_unpadded digits = nat_lt 0 (length digits) && (length digits == 1 || not (slice_index digits 0 == 48))
+
+-- the number that digits spell after those of another number
+abbrev pub value_after : ℕ → List ℕ → ℕ
+value_after start digits = fold (λ value digit. 10 * value + (digit - 48)) start digits
+
 -- where the point of an amount with so many decimals stands
 abbrev pub point_place : List ℕ → ℕ → ℕ
 point_place text decimals = length text - (decimals + 1)

@@ -2,8 +2,8 @@
 use Rattle.std.proofs.Common.{◌≡◌, ℕ, ◌+◌, ◌-◌, ◌*◌, ◌<◌, ◌≤◌, Bool, true, false, List, [], ◌∷◌, length, map, Option, None, cond, refl, arith}
 use Rattle.std.specs.List.{list_all}
 use Rattle.std.proofs.lemmas.Bool.Decides.{nat_tests}
-use Rattle.iss_model.specs.Amounts.{is_digit}
-use Rattle.iss_top.specs.Words.{within, value_after, number_after, command_of_words}
+use Rattle.iss_model.specs.Amounts.{value_after, is_digit}
+use Rattle.iss_top.specs.Words.{within, number_after, command_of_words}
 
 above : (least most n : ℕ) → most < n → within least most n ≡ None
 above least most n h = grind (arith, nat_tests)

@@ -2,7 +2,7 @@
 use Rattle.std.specs.Prelude.{◌≡◌, ℕ, ◌<◌, ◌≤◌, ◌^◌, ◌+◌, ◌-◌, ◌*◌, Bool, not, ◌&&◌, ◌||◌, ◌==◌, nat_le, nat_lt, List, [], ◌∷◌, length, slice_index, fold, codes, Option, Some, None, if◌then◌else◌}
 use Rattle.std.specs.List.{list_all}
 use Rattle.std.specs.Str.{bytes_eq}
-use Rattle.iss_model.specs.Amounts.{is_digit, digits_value, is_whole_text}
+use Rattle.iss_model.specs.Amounts.{is_digit, digits_value, is_whole_text, value_after}
 use Rattle.iss_top.specs.declared.words.Command.{Command}
 use Rattle.iss_top.specs.declared.words.Command.TheVariants.{Dry, Format}
 
@@ -40,14 +40,6 @@ unfoldable pub command_of_words : List (List ℕ) → Option Command
 command_of_words (name ∷ []) = dry_command name
 command_of_words (name ∷ device ∷ size ∷ instance ∷ []) = format_command name device size instance
 command_of_words words = None
-
--- digits without a zero before another
-abbrev pub is_unpadded : List ℕ → Bool
-is_unpadded digits = nat_lt 0 (length digits) && (length digits == 1 || not (slice_index digits 0 == 48))
-
--- the number that digits spell after those of another number
-abbrev pub value_after : ℕ → List ℕ → ℕ
-value_after start digits = fold (λ value digit. 10 * value + (digit - 48)) start digits
 
 -- that number, where these are digits and it is from the least to the most
 abbrev pub number_after : ℕ → ℕ → ℕ → List ℕ → Option ℕ

@@ -1,7 +1,8 @@
 //! What the words of a run ask for.
 ghost use Rattle.std.specs.Prelude.{◌≡◌, ◌≤◌, map, string_bytes, IfOk, IfSome};
 ghost use Rattle.std.specs.Result.{result_ok};
-ghost use Rattle.iss_top.specs.Words.{is_device, is_unpadded, number_after, number_in, dry_command, format_command, command_of_words, IsInRange};
+ghost use Rattle.iss_model.specs.Amounts.{is_unpadded};
+ghost use Rattle.iss_top.specs.Words.{is_device, number_after, number_in, dry_command, format_command, command_of_words, IsInRange};
 
 /// The most bytes that the name of a device has.
 const LONGEST_NAME: usize = 4096;
