@@ -1,5 +1,5 @@
 //! A line's fields: required or not, each in its form.
-ghost use Rattle.std.specs.Prelude.{◌≡◌, Option, option_map};
+ghost use Rattle.std.specs.Prelude.{◌≡◌, Option, option_and_then, option_map};
 ghost use Rattle.serde_json.specs.Data.{Data};
 ghost use Rattle.serde_json.specs.View.{view};
 ghost use Rattle.iss_event.specs.Fields.{field, required, optional, optional_or};
@@ -28,14 +28,19 @@ pub(crate) fn field(line: &Value, name: Name) -> Option<&Value>
     if found.is_null() { None } else { Some(found) }
 }
 
+/// What the field says, where it is there and of that form.
+pub(crate) fn in_form<F: Form>(line: &Value, name: Name, form: F) -> Option<F::Said>
+    ensures { result ≡ option_and_then (F.said form) (field name (view line.now)) }
+{
+    field(line, name).and_then(|found| form.read(found))
+}
+
 /// What the field says, which has to be there.
 #[tactic(auto, unfolding(crate::specs::Fields::required))]
 pub(crate) fn required<F: Form>(line: &Value, name: Name, form: F) -> Result<F::Said, FormFault>
     ensures { result ≡ required (F.said form) name (view line.now) }
 {
-    field(line, name)
-        .and_then(|found| form.read(found))
-        .ok_or(FormFault::Field(name))
+    in_form(line, name, form).ok_or(FormFault::Field(name))
 }
 
 /// What the field says, where it is there.

@@ -5,7 +5,7 @@ ghost use Rattle.iss_model.specs.Built.{is_built};
 ghost use Rattle.iss_model.specs.Forms.{is_in_form, is_stamp_or_none};
 ghost use Rattle.iss_event.specs.Readings.{Reads, line_read, object_line, not_built, has_stamp, has_gateway};
 
-use crate::fields::{Form, field, required};
+use crate::fields::{field, in_form, required};
 use crate::kind::Kind;
 use crate::object::object_of;
 use crate::rows::row;
@@ -82,7 +82,7 @@ fn has_stamp(mode: Mode, line: &Value) -> bool
 fn has_gateway(line: &Value) -> bool
     ensures { result ≡ has_gateway (view line.now) }
 {
-    match field(line, Name::Funding).and_then(|found| FundingForm.read(found)) {
+    match in_form(line, Name::Funding, FundingForm) {
         Some(Funding::Gateway) => true,
         Some(Funding::Account) | None => false,
     }

@@ -11,7 +11,7 @@ use iss_amount::{from_code, read, whole};
 use iss_model::{CardState, Currency, Funding, Token, UserState};
 use serde_json::Value;
 
-/// A type of line that lines from there may have.
+/// The type of a line from there.
 #[derive(Clone, Copy)]
 pub(crate) struct KindForm(pub(crate) Mode);
 

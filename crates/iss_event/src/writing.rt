@@ -17,6 +17,7 @@ use serde_json::{Value, json};
 use std::alloc::{AllocError, Global};
 
 /// The line that tells what became of an event, with its line feed.
+#[tactic(auto, using(crate::proofs::PlainTexts::line_of_members, crate::proofs::PlainTexts::no_float), unfolding(iss_model::specs::Wordings::reply_line))]
 pub fn reply_line(alloc: Global, event: &Token, reply: &Reply) -> Result<Vec<u8>, AllocError>
     ensures { IfOk result (λ line. line.items ≡ reply_line event.now reply.now) }
 {
@@ -25,6 +26,7 @@ pub fn reply_line(alloc: Global, event: &Token, reply: &Reply) -> Result<Vec<u8>
 }
 
 /// The line that tells an input that makes no record what became of it, with its line feed.
+#[tactic(auto, using(crate::proofs::PlainTexts::line_of_members, crate::proofs::PlainTexts::no_float), unfolding(iss_model::specs::AnswerLines::answer_text))]
 pub fn told_line(alloc: Global, answer: &Answer) -> Result<Vec<u8>, AllocError>
     ensures { IfOk result (λ line. line.items ≡ answer_text answer.now) }
 {
@@ -61,14 +63,16 @@ fn field_line(alloc: Global, name: Name) -> Result<Vec<u8>, AllocError>
 }
 
 fn fault_value(alloc: Global, fault: &str) -> Result<Value, AllocError>
-    ensures { IfOk result (λ value. view value ≡ object_data (fault_members fault.now)) }
+    requires { IsTrue (is_plain fault.now) }
+    ensures data { IfOk result (λ value. view value ≡ object_data (fault_members fault.now)) }
+    ensures plain { OnOk result (IsTrue (are_plain (fault_members fault.now))) }
 {
     json!(in alloc; {"fault": fault, "reply": "form"})
 }
 
 fn field_value(alloc: Global, name: Name) -> Result<Value, AllocError>
     ensures data { IfOk result (λ value. view value ≡ object_data (field_members name)) }
-    ensures plain { OnOk result (IsTrue (is_plain (name_text name))) }
+    ensures plain { OnOk result (IsTrue (are_plain (field_members name))) }
 {
     let field = name.text();
     json!(in alloc; {"fault": "FIELD", "field": field, "reply": "form"})
