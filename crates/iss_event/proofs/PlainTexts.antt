@@ -32,7 +32,7 @@ token_bytes_are_plain (b ∷ bs) h =
 pub token_is_plain : (bs : List ℕ) → is_token bs ≡ true → is_plain bs ≡ true
 token_is_plain bs h = token_bytes_are_plain bs (both (nat_le 1 (length bs) && nat_le (length bs) 36) (list_all is_token_byte bs) h).1
 
--- nor in two plain texts behind one another
+-- nor in one plain text after another
 pub is_plain-append : (xs ys : List ℕ) → is_plain xs ≡ true → is_plain ys ≡ true → is_plain (xs ++ ys) ≡ true
 is_plain-append xs ys first second = list_all-append is_plain_byte xs ys ∙ ap₂ ◌&&◌ first second
 
@@ -79,12 +79,12 @@ object-plain : (ms : List Member) → are_plain ms ≡ true → compact_text (ob
 object-plain [] h = refl
 object-plain (m ∷ ms) h = ap (λ (t : List ℕ). 123 ∷ t) (members-plain m ms h)
 
--- the compact text of such members, and the line feed behind it
+-- the compact text of such members and a line feed are their line
 line-plain : (ms : List Member) (d : Data) (line : List ℕ) → d ≡ object_data ms → are_plain ms ≡ true → line ≡ compact_text d ++ 10 ∷ [] → line ≡ line_of ms
 line-plain ms d line data_is plain is =
     is ∙ ap (λ (t : List ℕ). t ++ 10 ∷ []) (ap compact_text data_is ∙ object-plain ms plain)
 
--- such a line, where it was written
+-- that line, where it was written
 pub line_of_members : (ms : List Member) (d : Data) (r : Result (Vec ℕ Global) AllocError) → IfOk r (λ (line : Vec ℕ Global). line.items ≡ compact_text d ++ 10 ∷ [])
     → d ≡ object_data ms → are_plain ms ≡ true → IfOk r (λ (line : Vec ℕ Global). line.items ≡ line_of ms)
 line_of_members ms d (Ok line) is data_is plain = line-plain ms d line.items data_is plain is

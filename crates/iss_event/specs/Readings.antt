@@ -64,7 +64,7 @@ found_line mode (Some d) = object_line mode d
 unfoldable pub line_read : Mode → List ℕ → Result Line FormFault
 line_read mode line = if nat_lt 16384 (length line) then Err Long else found_line mode (object_of line)
 
--- reading gave this, unless memory was wanted, which may happen at any line
+-- reading gave this, unless an allocation failed, which may happen at any line
 abbrev pub Reads : Result Line FormFault → Result Line LineFault → Type 0
 Reads said (Ok line) = said ≡ Ok line
 Reads said (Err (Form fault)) = said ≡ Err fault

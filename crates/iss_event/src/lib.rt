@@ -1,7 +1,7 @@
 //! Event lines: what a line of input says, and the lines that are told.
 //!
-//! A line is one JSON object. What its bytes mean, and which fault is told of a line that isn't good, are definitions
-//! in `specs/`, apart from the code.
+//! A line is one JSON object. What its bytes mean, and which fault is told of a bad line, are definitions in `specs/`,
+//! apart from the code.
 #![tactic(auto)]
 
 mod fields;

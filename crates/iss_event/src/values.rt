@@ -11,7 +11,7 @@ use iss_amount::{from_code, read, whole};
 use iss_model::{CardState, Currency, Funding, Token, UserState};
 use serde_json::Value;
 
-/// The type of a line from there.
+/// A type that lines of that mode may have.
 #[derive(Clone, Copy)]
 pub(crate) struct KindForm(pub(crate) Mode);
 

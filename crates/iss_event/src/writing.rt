@@ -1,12 +1,11 @@
 //! The lines that are told.
-ghost use Rattle.std.specs.Prelude.{◌≡◌, [], ◌∷◌, ◌++◌, false, IfOk, OnOk, IsTrue, codes, string_bytes};
+ghost use Rattle.std.specs.Prelude.{◌≡◌, [], ◌∷◌, ◌++◌, false, IfOk, OnOk, IsTrue, codes};
 ghost use Rattle.serde_json.specs.View.{view};
 ghost use Rattle.serde_json.specs.Written.{has_float, compact_text};
 ghost use Rattle.iss_model.specs.AnswerLines.{answer_members, answer_text, how_text, reply_member};
 ghost use Rattle.iss_model.specs.Wordings.{reply_members, reply_line, fault_line, line_of, with_number, with_text};
 ghost use Rattle.iss_model.specs.declared.decision.Answer.TheVariants as answer;
 ghost use Rattle.iss_event.specs.FormLines.{fault_members, field_members, form_text};
-ghost use Rattle.iss_event.specs.Names.{name_text};
 ghost use Rattle.iss_event.specs.Plain.{object_data, is_plain, are_plain};
 ghost use Rattle.iss_event.specs.Reasons.{reply_is_plain};
 
