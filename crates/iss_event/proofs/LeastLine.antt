@@ -59,7 +59,7 @@ one_more-above : (b : Bool) (n m : ℕ) → n ≤ m → one_more b n ≤ suc m
 one_more-above true n m h = omega arith
 one_more-above false n m h = omega arith
 
--- what stands before other tokens, where it is allowed, is one good token at most
+-- what comes before other tokens, where it is allowed, is one good token at most
 allowed-good : (b : Bool) (t : Token) (k : Place → List Token) (next : Place) (n : ℕ) → good (k next) ≤ n → good (if_allowed b t k next) ≤ suc n
 allowed-good true t k next n h = one_more-above (is_good t) (good (k next)) n h
 allowed-good false t k next n h = omega arith
@@ -102,7 +102,7 @@ one_more-below : (b : Bool) (n m : ℕ) → n ≤ m → n ≤ one_more b m
 one_more-below true n m h = omega arith
 one_more-below false n m h = h
 
--- tokens before take none away
+-- tokens before others take none away
 rest-good : (xs ys : List Token) → good ys ≤ good (xs ++ ys)
 rest-good [] ys = omega arith
 rest-good (x ∷ xs) ys = one_more-below (is_good x) (good ys) (good (xs ++ ys)) (rest-good xs ys)

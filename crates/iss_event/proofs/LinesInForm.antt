@@ -2,7 +2,7 @@
 use Rattle.std.proofs.Common.{◌≡◌, ℕ, ◌||◌, Bool, true, false, nat_lt, List, length, Option, Some, None, Result, Ok, Err, IfOk, cond, refl, subst}
 use Rattle.serde_json.specs.Data.{Data}
 use Rattle.iss_model.specs.declared.input.Input.{Input}
-use Rattle.iss_event.specs.Built.{is_built}
+use Rattle.iss_model.specs.Built.{is_built}
 use Rattle.iss_model.specs.Forms.{is_in_form, is_stamp_or_none}
 use Rattle.iss_event.specs.declared.name.Name.TheVariants as name
 use Rattle.iss_event.specs.declared.kind.Kind.{Kind}

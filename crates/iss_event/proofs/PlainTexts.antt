@@ -1,11 +1,12 @@
 -- The compact text of members of which JSON escapes nothing is their plain spelling.
-use Rattle.std.proofs.Common.{◌≡◌, ℕ, ◌&&◌, Bool, true, false, nat_le, List, [], ◌∷◌, ◌++◌, map, length, refl, sym, ap, ap₂, ◌∙◌, arith, append_assoc}
+use Rattle.std.proofs.Common.{◌≡◌, ℕ, ◌&&◌, Bool, true, false, nat_le, List, [], ◌∷◌, ◌++◌, map, length, Result, Ok, Err, IfOk, Vec, Global, refl, sym, ap, ap₂, ◌∙◌, arith, append_assoc}
 use Rattle.std.specs.List.{list_all, join_with_byte}
 use Rattle.std.proofs.lemmas.Bool.Decides.{nat_tests}
 use Rattle.std.proofs.lemmas.List.Folds.{list_all-append}
 use Rattle.json.specs.Print.{escape_byte, escape, quoted}
 use Rattle.serde_json.specs.Data.{Data}
 use Rattle.serde_json.specs.Written.{has_float, members_have_float, compact_text, members_text}
+use Rattle.std.specs.declared.alloc.AllocError.{AllocError}
 use Rattle.iss_model.specs.Tokens.{is_token, is_token_byte}
 use Rattle.iss_model.specs.declared.decision.Verdict.TheVariants.{Done, Approved, Declined}
 use Rattle.iss_model.specs.declared.decision.Reply.{Reply}
@@ -31,7 +32,7 @@ token_bytes_are_plain (b ∷ bs) h =
 pub token_is_plain : (bs : List ℕ) → is_token bs ≡ true → is_plain bs ≡ true
 token_is_plain bs h = token_bytes_are_plain bs (both (nat_le 1 (length bs) && nat_le (length bs) 36) (list_all is_token_byte bs) h).1
 
--- nor in two plain texts after one another
+-- nor in one plain text after another
 pub is_plain-append : (xs ys : List ℕ) → is_plain xs ≡ true → is_plain ys ≡ true → is_plain (xs ++ ys) ≡ true
 is_plain-append xs ys first second = list_all-append is_plain_byte xs ys ∙ ap₂ ◌&&◌ first second
 
@@ -78,10 +79,16 @@ object-plain : (ms : List Member) → are_plain ms ≡ true → compact_text (ob
 object-plain [] h = refl
 object-plain (m ∷ ms) h = ap (λ (t : List ℕ). 123 ∷ t) (members-plain m ms h)
 
--- the compact text of such members, and the line feed after it
-pub line-plain : (ms : List Member) (d : Data) (line : List ℕ) → d ≡ object_data ms → are_plain ms ≡ true → line ≡ compact_text d ++ 10 ∷ [] → line ≡ line_of ms
+-- the compact text of such members and a line feed are their line
+line-plain : (ms : List Member) (d : Data) (line : List ℕ) → d ≡ object_data ms → are_plain ms ≡ true → line ≡ compact_text d ++ 10 ∷ [] → line ≡ line_of ms
 line-plain ms d line data_is plain is =
     is ∙ ap (λ (t : List ℕ). t ++ 10 ∷ []) (ap compact_text data_is ∙ object-plain ms plain)
+
+-- that line, where it was written
+pub line_of_members : (ms : List Member) (d : Data) (r : Result (Vec ℕ Global) AllocError) → IfOk r (λ (line : Vec ℕ Global). line.items ≡ compact_text d ++ 10 ∷ [])
+    → d ≡ object_data ms → are_plain ms ≡ true → IfOk r (λ (line : Vec ℕ Global). line.items ≡ line_of ms)
+line_of_members ms d (Ok line) is data_is plain = line-plain ms d line.items data_is plain is
+line_of_members ms d (Err fault) is data_is plain = tt
 
 value-has_no_float : (v : Value) → has_float (value_data v) ≡ false
 value-has_no_float (worded text) = refl
@@ -92,8 +99,8 @@ members-have_no_float [] = refl
 members-have_no_float (m ∷ ms) = rw (value-has_no_float m.value) (members-have_no_float ms)
 
 -- members have no floats
-pub object-has_no_float : (ms : List Member) (d : Data) → d ≡ object_data ms → has_float d ≡ false
-object-has_no_float ms d is = ap has_float is ∙ members-have_no_float ms
+pub no_float : (ms : List Member) (d : Data) → d ≡ object_data ms → has_float d ≡ false
+no_float ms d is = ap has_float is ∙ members-have_no_float ms
 
 -- two plain texts with a colon between
 pub moves_plain : (xs ys : List ℕ) → is_plain xs ≡ true → is_plain ys ≡ true → is_plain (xs ++ 58 ∷ [] ++ ys) ≡ true

@@ -9,7 +9,7 @@ use Rattle.iss_model.specs.declared.setting.Funding.TheVariants.{Account, Gatewa
 use Rattle.iss_model.specs.declared.setting.Moved.{Moved}
 use Rattle.iss_model.specs.declared.input.Input.{Input}
 use Rattle.iss_model.specs.declared.input.Input.TheVariants as input
-use Rattle.iss_event.specs.Built.{is_built}
+use Rattle.iss_model.specs.Built.{is_built}
 use Rattle.iss_model.specs.rules.CardReasons.{is_account_funded}
 use Rattle.iss_model.specs.Forms.{is_amount, is_mcc, is_timeout, is_hold_time, is_in_form}
 use Rattle.iss_event.specs.declared.name.Name.{Name}

@@ -28,7 +28,7 @@ kind_of_text text =
     else if bytes_eq text (codes "time") then Some kind.Time
     else None
 
--- the kind, where a line from there may be of it: no client says what a gateway answered or that time went by
+-- the kind, where a line of that mode may be of it: no client says what a gateway answered or that time went by
 abbrev pub kind_in : Mode → Kind → Option Kind
 kind_in Client kind.Answer = None
 kind_in Client kind.Ack = None

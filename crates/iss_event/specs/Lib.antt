@@ -1,4 +1,3 @@
-pub mod Built
 pub mod Fields
 pub mod FormLines
 pub mod Kinds

@@ -4,7 +4,7 @@ use Rattle.std.specs.List.{list_all}
 use Rattle.serde_json.specs.Data.{Data, number, unsigned, string, object, Members, no_members, member}
 use Rattle.iss_model.specs.texts.Wordings.{Value, worded, counted, Member}
 
--- no control character, quotation mark or backslash
+-- the byte is no control character, quotation mark or backslash
 abbrev pub is_plain_byte : ℕ → Bool
 is_plain_byte b = nat_le 32 b && not (b == 34) && not (b == 92)
 
@@ -12,12 +12,12 @@ is_plain_byte b = nat_le 32 b && not (b == 34) && not (b == 92)
 abbrev pub is_plain : List ℕ → Bool
 is_plain text = list_all is_plain_byte text
 
--- nor in this value
+-- JSON escapes nothing in this value
 abbrev pub value_is_plain : Value → Bool
 value_is_plain (worded text) = is_plain text
 value_is_plain (counted n) = true
 
--- nor in any of these members
+-- JSON escapes nothing in any of these members
 abbrev pub are_plain : List Member → Bool
 are_plain [] = true
 are_plain (m ∷ ms) = is_plain m.name && value_is_plain m.value && are_plain ms

@@ -8,7 +8,7 @@ use Rattle.iss_model.specs.declared.decision.Reply.TheVariants.{Decided}
 use Rattle.iss_model.specs.texts.Wordings.{card_state_text, user_state_text, reason_text}
 use Rattle.iss_event.specs.Plain.{is_plain}
 
--- what the reason is about, after its name
+-- what the reason is about, which its text says after its name
 abbrev pub detail_text : Reason → List ℕ
 detail_text (MoveCard from to) = card_state_text from ++ codes ":" ++ card_state_text to
 detail_text (MoveUser from to) = user_state_text from ++ codes ":" ++ user_state_text to

@@ -28,7 +28,7 @@ if_token text = if is_token text then Some text else None
 unfoldable pub token_of : Data → Option (List ℕ)
 token_of d = option_and_then if_token (as_str d)
 
--- a text that names a kind which lines from there may be of
+-- a text that names a kind which lines of that mode may be of
 unfoldable pub kind_of : Mode → Data → Option Kind
 kind_of mode d = option_and_then (kind_in mode) (option_and_then kind_of_text (as_str d))
 

@@ -1,18 +1,23 @@
 //! A line's fields: required or not, each in its form.
-ghost use Rattle.std.specs.Prelude.{◌≡◌, option_map};
-ghost use Rattle.serde_json.specs.Find.{as_bool};
+ghost use Rattle.std.specs.Prelude.{◌≡◌, Option, option_and_then, option_map};
+ghost use Rattle.serde_json.specs.Data.{Data};
 ghost use Rattle.serde_json.specs.View.{view};
 ghost use Rattle.iss_event.specs.Fields.{field, required_field, optional_field, optional_field_or};
-ghost use Rattle.iss_event.specs.Values.{kind_of, token_of, currency_of, amount_of, mcc_of, funding_of, card_state_of, user_state_of, timeout_of, hold_time_of};
 
-use crate::kind::Kind;
-use crate::values::{
-    amount_of, card_state_of, currency_of, funding_of, hold_time_of, kind_of, mcc_of, timeout_of,
-    token_of, user_state_of,
-};
-use crate::{FormFault, Mode, Name};
-use iss_model::{CardState, Currency, Funding, Token, UserState};
+use crate::{FormFault, Name};
 use serde_json::Value;
+
+/// A form that a field may have.
+pub(crate) trait Form: Copy {
+    /// What a field in this form says.
+    type Said: Drop;
+
+    ghost said: { Self → Data → Option Self.Said };
+
+    /// What that value says, or `None` where it isn't of the form.
+    fn read(self, found: &Value) -> Option<Self::Said>
+        ensures { result ≡ said self (view found.now) };
+}
 
 /// The member of that name; `null` counts as absent.
 #[tactic(auto, unfolding(crate::specs::Fields::field))]
@@ -23,128 +28,48 @@ pub(crate) fn field(line: &Value, name: Name) -> Option<&Value>
     if found.is_null() { None } else { Some(found) }
 }
 
-#[tactic(auto, unfolding(crate::specs::Fields::required_field))]
-pub(crate) fn required_kind(line: &Value, mode: Mode) -> Result<Kind, FormFault>
-    ensures { result ≡ required_field (kind_of mode) Name.Kind (view line.now) }
+/// What the field says, where it is there and of that form.
+pub(crate) fn in_form<F: Form>(line: &Value, name: Name, form: F) -> Option<F::Said>
+    ensures { result ≡ option_and_then (F.said form) (field name (view line.now)) }
 {
-    field(line, Name::Kind)
-        .and_then(|found| kind_of(mode, found))
-        .ok_or(FormFault::Field(Name::Kind))
+    field(line, name).and_then(|found| form.read(found))
 }
 
+/// What the field says, which has to be there.
 #[tactic(auto, unfolding(crate::specs::Fields::required_field))]
-pub(crate) fn required_token(line: &Value, name: Name) -> Result<Token, FormFault>
-    ensures { result ≡ required_field token_of name (view line.now) }
+pub(crate) fn required<F: Form>(line: &Value, name: Name, form: F) -> Result<F::Said, FormFault>
+    ensures { result ≡ required_field (F.said form) name (view line.now) }
 {
-    field(line, name)
-        .and_then(token_of)
-        .ok_or(FormFault::Field(name))
+    in_form(line, name, form).ok_or(FormFault::Field(name))
 }
 
-#[tactic(auto, unfolding(crate::specs::Fields::required_field))]
-pub(crate) fn required_currency(line: &Value, name: Name) -> Result<Currency, FormFault>
-    ensures { result ≡ required_field currency_of name (view line.now) }
-{
-    field(line, name)
-        .and_then(currency_of)
-        .ok_or(FormFault::Field(name))
-}
-
-#[tactic(auto, unfolding(crate::specs::Fields::required_field))]
-pub(crate) fn required_amount(
+/// What the field says, where it is there.
+#[tactic(auto, unfolding(crate::specs::Fields::optional_field))]
+pub(crate) fn optional<F: Form>(
     line: &Value,
     name: Name,
-    currency: Currency,
-) -> Result<u64, FormFault>
-    ensures { result ≡ required_field (amount_of currency) name (view line.now) }
-{
-    field(line, name)
-        .and_then(|found| amount_of(currency, found))
-        .ok_or(FormFault::Field(name))
-}
-
-#[tactic(auto, unfolding(crate::specs::Fields::required_field))]
-pub(crate) fn required_mcc(line: &Value, name: Name) -> Result<u16, FormFault>
-    ensures { result ≡ required_field mcc_of name (view line.now) }
-{
-    field(line, name)
-        .and_then(mcc_of)
-        .ok_or(FormFault::Field(name))
-}
-
-#[tactic(auto, unfolding(crate::specs::Fields::required_field))]
-pub(crate) fn required_funding(line: &Value, name: Name) -> Result<Funding, FormFault>
-    ensures { result ≡ required_field funding_of name (view line.now) }
-{
-    field(line, name)
-        .and_then(funding_of)
-        .ok_or(FormFault::Field(name))
-}
-
-#[tactic(auto, unfolding(crate::specs::Fields::required_field))]
-pub(crate) fn required_card_state(line: &Value, name: Name) -> Result<CardState, FormFault>
-    ensures { result ≡ required_field card_state_of name (view line.now) }
-{
-    field(line, name)
-        .and_then(card_state_of)
-        .ok_or(FormFault::Field(name))
-}
-
-#[tactic(auto, unfolding(crate::specs::Fields::required_field))]
-pub(crate) fn required_user_state(line: &Value, name: Name) -> Result<UserState, FormFault>
-    ensures { result ≡ required_field user_state_of name (view line.now) }
-{
-    field(line, name)
-        .and_then(user_state_of)
-        .ok_or(FormFault::Field(name))
-}
-
-#[tactic(auto, unfolding(crate::specs::Fields::optional_field))]
-pub(crate) fn optional_token(line: &Value, name: Name) -> Result<Option<Token>, FormFault>
-    ensures { result ≡ optional_field token_of name (view line.now) }
+    form: F,
+) -> Result<Option<F::Said>, FormFault>
+    ensures { result ≡ optional_field (F.said form) name (view line.now) }
 {
     match field(line, name) {
-        Some(found) => token_of(found).map(Some).ok_or(FormFault::Field(name)),
+        Some(found) => form.read(found).map(Some).ok_or(FormFault::Field(name)),
         None => Ok(None),
     }
 }
 
+/// What the field says, or `absent` where it isn't there.
 #[tactic(auto, unfolding(crate::specs::Fields::optional_field_or))]
-pub(crate) fn token_or(line: &Value, name: Name, absent: Token) -> Result<Token, FormFault>
-    ensures { result ≡ optional_field_or token_of absent name (view line.now) }
+pub(crate) fn optional_or<F: Form>(
+    line: &Value,
+    name: Name,
+    form: F,
+    absent: F::Said,
+) -> Result<F::Said, FormFault>
+    ensures { result ≡ optional_field_or (F.said form) absent name (view line.now) }
 {
     match field(line, name) {
-        Some(found) => token_of(found).ok_or(FormFault::Field(name)),
-        None => Ok(absent),
-    }
-}
-
-#[tactic(auto, unfolding(crate::specs::Fields::optional_field_or))]
-pub(crate) fn bool_or(line: &Value, name: Name, absent: bool) -> Result<bool, FormFault>
-    ensures { result ≡ optional_field_or as_bool absent name (view line.now) }
-{
-    match field(line, name) {
-        Some(found) => found.as_bool().ok_or(FormFault::Field(name)),
-        None => Ok(absent),
-    }
-}
-
-#[tactic(auto, unfolding(crate::specs::Fields::optional_field_or))]
-pub(crate) fn timeout_or(line: &Value, name: Name, absent: u64) -> Result<u64, FormFault>
-    ensures { result ≡ optional_field_or timeout_of absent name (view line.now) }
-{
-    match field(line, name) {
-        Some(found) => timeout_of(found).ok_or(FormFault::Field(name)),
-        None => Ok(absent),
-    }
-}
-
-#[tactic(auto, unfolding(crate::specs::Fields::optional_field_or))]
-pub(crate) fn hold_time_or(line: &Value, name: Name, absent: u64) -> Result<u64, FormFault>
-    ensures { result ≡ optional_field_or hold_time_of absent name (view line.now) }
-{
-    match field(line, name) {
-        Some(found) => hold_time_of(found).ok_or(FormFault::Field(name)),
+        Some(found) => form.read(found).ok_or(FormFault::Field(name)),
         None => Ok(absent),
     }
 }

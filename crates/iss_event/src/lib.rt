@@ -1,10 +1,7 @@
 //! Event lines: what a line of input says, and the lines that are told.
 //!
-//! A line is one JSON object. What its bytes mean, and which fault is told of a line that isn't good, are definitions
-//! in `specs/`, apart from the code.
-//!
-//! It may cite `iss_model`, `iss_amount` and `serde_json`.
-//! It must not cite the core: it reads and writes lines, and decides nothing.
+//! A line is one JSON object. What its bytes mean, and which fault is told of a bad line, are definitions in `specs/`,
+//! apart from the code.
 #![tactic(auto)]
 
 mod fields;

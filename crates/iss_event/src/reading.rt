@@ -1,15 +1,15 @@
 //! Reading a line.
 ghost use Rattle.std.specs.Prelude.{◌≡◌, ◌≤◌, length, true, None, IfOk, IsTrue};
 ghost use Rattle.serde_json.specs.View.{view};
-ghost use Rattle.iss_event.specs.Built.{is_built};
+ghost use Rattle.iss_model.specs.Built.{is_built};
 ghost use Rattle.iss_model.specs.Forms.{is_in_form, is_stamp_or_none};
 ghost use Rattle.iss_event.specs.Readings.{Reads, line_read, object_line, not_built, has_stamp, has_gateway};
 
-use crate::fields::{field, required_kind};
+use crate::fields::{field, in_form, required};
 use crate::kind::Kind;
 use crate::object::object_of;
 use crate::rows::row;
-use crate::values::funding_of;
+use crate::values::{FundingForm, KindForm};
 use crate::{FormFault, Line, LineFault, Mode, Name};
 use iss_model::Funding;
 use serde_json::Value;
@@ -50,7 +50,7 @@ fn read(alloc: Global, line: &[u8], mode: Mode) -> Result<Line, LineFault>
 fn read_object(mode: Mode, line: &Value) -> Result<Line, FormFault>
     ensures { result ≡ object_line mode (view line.now) }
 {
-    let kind = required_kind(line, mode)?;
+    let kind = required(line, Name::Kind, KindForm(mode))?;
     if is_not_built(mode, kind, line) {
         return Err(FormFault::NotBuilt);
     }
@@ -82,7 +82,7 @@ fn has_stamp(mode: Mode, line: &Value) -> bool
 fn has_gateway(line: &Value) -> bool
     ensures { result ≡ has_gateway (view line.now) }
 {
-    match field(line, Name::Funding).and_then(funding_of) {
+    match in_form(line, Name::Funding, FundingForm) {
         Some(Funding::Gateway) => true,
         Some(Funding::Account) | None => false,
     }

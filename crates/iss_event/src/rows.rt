@@ -4,12 +4,12 @@ ghost use Rattle.serde_json.specs.View.{view};
 ghost use Rattle.iss_event.specs.Fields.{field};
 ghost use Rattle.iss_event.specs.Rows.{user_input, card_input, card_move, user_move, whose_move, move_input, product_input, load_input, authorization_input, input_of_kind};
 
-use crate::fields::{
-    bool_or, field, hold_time_or, optional_token, required_amount, required_card_state,
-    required_currency, required_funding, required_mcc, required_token, required_user_state,
-    timeout_or, token_or,
-};
+use crate::fields::{field, optional, optional_or, required};
 use crate::kind::Kind;
+use crate::values::{
+    AmountForm, CardStateForm, CurrencyForm, FlagForm, FundingForm, HoldTimeForm, MccForm,
+    TimeoutForm, TokenForm, UserStateForm,
+};
 use crate::{FormFault, Name};
 use iss_model::{Input, Moved, Token};
 use serde_json::Value;
@@ -39,8 +39,8 @@ pub(crate) fn row(kind: Kind, line: &Value) -> Result<Input, FormFault>
 fn user_row(line: &Value) -> Result<Input, FormFault>
     ensures { result ≡ user_input (view line.now) }
 {
-    let token = required_token(line, Name::Token)?;
-    let user = required_token(line, Name::User)?;
+    let token = required(line, Name::Token, TokenForm)?;
+    let user = required(line, Name::User, TokenForm)?;
     Ok(Input::User { token, user })
 }
 
@@ -48,11 +48,11 @@ fn user_row(line: &Value) -> Result<Input, FormFault>
 fn card_row(line: &Value) -> Result<Input, FormFault>
     ensures { result ≡ card_input (view line.now) }
 {
-    let token = required_token(line, Name::Token)?;
-    let card = required_token(line, Name::Card)?;
-    let user = required_token(line, Name::User)?;
-    let product = token_or(line, Name::Product, default_product())?;
-    let active = bool_or(line, Name::Active, true)?;
+    let token = required(line, Name::Token, TokenForm)?;
+    let card = required(line, Name::Card, TokenForm)?;
+    let user = required(line, Name::User, TokenForm)?;
+    let product = optional_or(line, Name::Product, TokenForm, default_product())?;
+    let active = optional_or(line, Name::Active, FlagForm, true)?;
     Ok(Input::Card {
         token,
         card,
@@ -66,8 +66,8 @@ fn card_row(line: &Value) -> Result<Input, FormFault>
 fn move_row(line: &Value) -> Result<Input, FormFault>
     ensures { result ≡ move_input (view line.now) }
 {
-    let token = required_token(line, Name::Token)?;
-    let card = optional_token(line, Name::Card)?;
+    let token = required(line, Name::Token, TokenForm)?;
+    let card = optional(line, Name::Card, TokenForm)?;
     let who = who_moved(card, line)?;
     Ok(Input::Move { token, who })
 }
@@ -87,7 +87,7 @@ fn who_moved(card: Option<Token>, line: &Value) -> Result<Moved, FormFault>
 fn card_moved(card: Token, line: &Value) -> Result<Moved, FormFault>
     ensures { result ≡ card_move card (view line.now) }
 {
-    let to = required_card_state(line, Name::To)?;
+    let to = required(line, Name::To, CardStateForm)?;
     Ok(Moved::Card(card, to))
 }
 
@@ -95,8 +95,8 @@ fn card_moved(card: Token, line: &Value) -> Result<Moved, FormFault>
 fn user_moved(line: &Value) -> Result<Moved, FormFault>
     ensures { result ≡ user_move (view line.now) }
 {
-    let user = required_token(line, Name::User)?;
-    let to = required_user_state(line, Name::To)?;
+    let user = required(line, Name::User, TokenForm)?;
+    let to = required(line, Name::To, UserStateForm)?;
     Ok(Moved::User(user, to))
 }
 
@@ -104,12 +104,12 @@ fn user_moved(line: &Value) -> Result<Moved, FormFault>
 fn product_row(line: &Value) -> Result<Input, FormFault>
     ensures { result ≡ product_input (view line.now) }
 {
-    let token = required_token(line, Name::Token)?;
-    let product = required_token(line, Name::Product)?;
-    let currency = required_currency(line, Name::Currency)?;
-    let funding = required_funding(line, Name::Funding)?;
-    let timeout_ms = timeout_or(line, Name::TimeoutMs, DEFAULT_TIMEOUT_MS)?;
-    let hold_ms = hold_time_or(line, Name::HoldMs, DEFAULT_HOLD_MS)?;
+    let token = required(line, Name::Token, TokenForm)?;
+    let product = required(line, Name::Product, TokenForm)?;
+    let currency = required(line, Name::Currency, CurrencyForm)?;
+    let funding = required(line, Name::Funding, FundingForm)?;
+    let timeout_ms = optional_or(line, Name::TimeoutMs, TimeoutForm, DEFAULT_TIMEOUT_MS)?;
+    let hold_ms = optional_or(line, Name::HoldMs, HoldTimeForm, DEFAULT_HOLD_MS)?;
     Ok(Input::Product {
         token,
         product,
@@ -124,10 +124,10 @@ fn product_row(line: &Value) -> Result<Input, FormFault>
 fn load_row(line: &Value) -> Result<Input, FormFault>
     ensures { result ≡ load_input (view line.now) }
 {
-    let token = required_token(line, Name::Token)?;
-    let user = required_token(line, Name::User)?;
-    let currency = required_currency(line, Name::Currency)?;
-    let amount = required_amount(line, Name::Amount, currency)?;
+    let token = required(line, Name::Token, TokenForm)?;
+    let user = required(line, Name::User, TokenForm)?;
+    let currency = required(line, Name::Currency, CurrencyForm)?;
+    let amount = required(line, Name::Amount, AmountForm(currency))?;
     Ok(Input::Load {
         token,
         user,
@@ -140,12 +140,12 @@ fn load_row(line: &Value) -> Result<Input, FormFault>
 fn authorization_row(line: &Value) -> Result<Input, FormFault>
     ensures { result ≡ authorization_input (view line.now) }
 {
-    let token = required_token(line, Name::Token)?;
-    let card = required_token(line, Name::Card)?;
-    let currency = required_currency(line, Name::Currency)?;
-    let amount = required_amount(line, Name::Amount, currency)?;
-    let mcc = required_mcc(line, Name::Mcc)?;
-    let mid = required_token(line, Name::Mid)?;
+    let token = required(line, Name::Token, TokenForm)?;
+    let card = required(line, Name::Card, TokenForm)?;
+    let currency = required(line, Name::Currency, CurrencyForm)?;
+    let amount = required(line, Name::Amount, AmountForm(currency))?;
+    let mcc = required(line, Name::Mcc, MccForm)?;
+    let mid = required(line, Name::Mid, TokenForm)?;
     Ok(Input::Authorization {
         token,
         card,

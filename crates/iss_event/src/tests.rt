@@ -70,62 +70,6 @@ fn reads_moves(rt: HostRuntime) -> Result<(), Fail> {
 }
 
 #[test]
-fn the_first_bad_field_of_a_move(rt: HostRuntime) -> Result<(), Fail> {
-    let lines = [
-        (r#"{"type":"move","card":1}"#, Some(Name::Token)),
-        (
-            r#"{"type":"move","token":"m","to":"ACTIVE"}"#,
-            Some(Name::Card),
-        ),
-        (
-            r#"{"type":"move","token":"m","card":"","user":"u","to":1}"#,
-            Some(Name::Card),
-        ),
-        (
-            r#"{"type":"move","token":"m","card":"c","user":"u","to":1}"#,
-            Some(Name::User),
-        ),
-        (
-            r#"{"type":"move","token":"m","card":"c","user":2,"to":"ACTIVE"}"#,
-            Some(Name::User),
-        ),
-        (
-            r#"{"type":"move","token":"m","user":"a b","to":1}"#,
-            Some(Name::User),
-        ),
-        (r#"{"type":"move","token":"m","card":"c"}"#, Some(Name::To)),
-        (
-            r#"{"type":"move","token":"m","card":"c","to":"CLOSED"}"#,
-            Some(Name::To),
-        ),
-        (
-            r#"{"type":"move","token":"m","user":"u","to":"UNACTIVATED"}"#,
-            Some(Name::To),
-        ),
-        (
-            r#"{"type":"move","token":"m","user":"u","to":"TERMINATED"}"#,
-            Some(Name::To),
-        ),
-        (
-            r#"{"type":"move","token":"m","card":"c","to":"UNACTIVATED"}"#,
-            None,
-        ),
-        (
-            r#"{"type":"move","token":"m","card":"c","to":"SUSPENDED"}"#,
-            None,
-        ),
-        (
-            r#"{"type":"move","token":"m","card":null,"user":"u","to":"ACTIVE"}"#,
-            None,
-        ),
-    ];
-    for (text, field) in lines {
-        assert_eq!(rt; fault_of(rt.alloc(), text)?, field.map(FormFault::Field));
-    }
-    Ok(())
-}
-
-#[test]
 fn reads_products(rt: HostRuntime) -> Result<(), Fail> {
     let lines = [
         (
@@ -134,19 +78,9 @@ fn reads_products(rt: HostRuntime) -> Result<(), Fail> {
             604_800_000,
         ),
         (
-            r#"{"type":"product","token":"p","product":"x","currency":"USD","funding":"ACCOUNT","timeout_ms":null,"hold_ms":86400000}"#,
-            3000,
-            86_400_000,
-        ),
-        (
             r#"{"type":"product","token":"p","product":"x","currency":"USD","funding":"ACCOUNT","timeout_ms":1,"hold_ms":2678400000}"#,
             1,
             2_678_400_000,
-        ),
-        (
-            r#"{"type":"product","token":"p","product":"x","currency":"USD","funding":"ACCOUNT","timeout_ms":60000,"hold_ms":null}"#,
-            60_000,
-            604_800_000,
         ),
     ];
     for (text, timeout, hold) in lines {
@@ -162,82 +96,6 @@ fn reads_products(rt: HostRuntime) -> Result<(), Fail> {
     }
     Ok(())
 }
-
-#[test]
-fn the_first_fault_of_a_product(rt: HostRuntime) -> Result<(), Fail> {
-    let lines = [
-        (
-            r#"{"type":"product","product":1}"#,
-            FormFault::Field(Name::Token),
-        ),
-        (
-            r#"{"type":"product","token":"p","currency":1}"#,
-            FormFault::Field(Name::Product),
-        ),
-        (
-            r#"{"type":"product","token":"p","product":"x","currency":"usd"}"#,
-            FormFault::Field(Name::Currency),
-        ),
-        (
-            r#"{"type":"product","token":"p","product":"x","currency":"KWD","timeout_ms":0}"#,
-            FormFault::Field(Name::Funding),
-        ),
-        (
-            r#"{"type":"product","token":"p","product":"x","currency":"KWD","funding":"gateway"}"#,
-            FormFault::Field(Name::Funding),
-        ),
-        (
-            r#"{"type":"product","token":"p","product":"x","currency":"KWD","funding":"ACCOUNT","timeout_ms":0,"hold_ms":0}"#,
-            FormFault::Field(Name::TimeoutMs),
-        ),
-        (
-            r#"{"type":"product","token":"p","product":"x","currency":"KWD","funding":"ACCOUNT","timeout_ms":60001}"#,
-            FormFault::Field(Name::TimeoutMs),
-        ),
-        (
-            r#"{"type":"product","token":"p","product":"x","currency":"KWD","funding":"ACCOUNT","timeout_ms":3000.0}"#,
-            FormFault::Field(Name::TimeoutMs),
-        ),
-        (
-            r#"{"type":"product","token":"p","product":"x","currency":"KWD","funding":"ACCOUNT","hold_ms":86399999}"#,
-            FormFault::Field(Name::HoldMs),
-        ),
-        (
-            r#"{"type":"product","token":"p","product":"x","currency":"KWD","funding":"ACCOUNT","hold_ms":2678400001}"#,
-            FormFault::Field(Name::HoldMs),
-        ),
-        (
-            r#"{"type":"product","token":"p","product":"x","currency":"KWD","funding":"ACCOUNT","hold_ms":"86400000"}"#,
-            FormFault::Field(Name::HoldMs),
-        ),
-        (
-            r#"{"type":"product","token":7,"funding":"GATEWAY","hold_ms":0}"#,
-            FormFault::NotBuilt,
-        ),
-        (
-            r#"{"type":"product","token":7,"funding":"ACCOUNT","funding":"GATEWAY"}"#,
-            FormFault::NotBuilt,
-        ),
-        (
-            r#"{"type":"product","token":7,"funding":"GATEWAY","funding":"ACCOUNT"}"#,
-            FormFault::Field(Name::Token),
-        ),
-        (
-            r#"{"type":"product","token":7,"funding":"ACCOUNT","at":-1}"#,
-            FormFault::NotBuilt,
-        ),
-        (r#"{"type":"group","token":7}"#, FormFault::NotBuilt),
-        (
-            r#"{"type":"products","token":7,"funding":"GATEWAY"}"#,
-            FormFault::Field(Name::Kind),
-        ),
-    ];
-    for (text, fault) in lines {
-        assert_eq!(rt; fault_of(rt.alloc(), text)?, Some(fault));
-    }
-    Ok(())
-}
-
 /// The amount of a load whose line ends in that currency and amount, or `None` where the amount is its first bad field.
 fn loaded(alloc: Global, currency: &str, amount: &str) -> Result<Option<u64>, LineFault> {
     match read_load(alloc, currency, amount) {
@@ -271,21 +129,9 @@ fn amounts_in_the_currency_of_their_line(rt: HostRuntime) -> Result<(), Fail> {
         ("JPY", r#""1500""#, Some(1500)),
         ("JPY", r#""1500.00""#, None),
         ("KWD", r#""1.234""#, Some(1234)),
-        ("KWD", r#""1.23""#, None),
         ("USD", "10", Some(1000)),
-        ("EUR", "10", Some(1000)),
-        ("JPY", "10", Some(10)),
         ("KWD", "10", Some(10_000)),
-        ("USD", "10.5", None),
         ("USD", "10.0", None),
-        ("USD", "0", None),
-        ("USD", r#""0.00""#, None),
-        ("GBP", r#""0.01""#, Some(1)),
-        ("USD", r#""010.00""#, None),
-        ("CAD", r#""10000000.00""#, Some(1_000_000_000)),
-        ("USD", r#""10000000.01""#, None),
-        ("AUD", "10000001", None),
-        ("USD", "18446744073709551616", None),
         ("USD", "null", None),
     ];
     for (currency, text, amount) in amounts {
@@ -308,30 +154,57 @@ fn reads_an_authorization(rt: HostRuntime) -> Result<(), Fail> {
         _ => false,
     };
     assert!(rt; right);
+    Ok(())
+}
+
+#[test]
+fn the_first_fault_of_a_line(rt: HostRuntime) -> Result<(), Fail> {
     let lines = [
+        (r#"[{"type":"user"}]"#, FormFault::Json),
         (
-            r#"{"type":"authorization","token":"a","card":"c","currency":"BTC","amount":true}"#,
-            Name::Currency,
+            r#"{"type":"products","token":7,"funding":"GATEWAY"}"#,
+            FormFault::Field(Name::Kind),
+        ),
+        (r#"{"type":"group","token":7}"#, FormFault::NotBuilt),
+        (
+            r#"{"type":"move","token":"m","to":"ACTIVE"}"#,
+            FormFault::Field(Name::Card),
         ),
         (
-            r#"{"type":"authorization","token":"a","card":"c","currency":"JPY","amount":"1.00","mcc":1}"#,
-            Name::Amount,
+            r#"{"type":"move","token":"m","card":"c","user":"u","to":1}"#,
+            FormFault::Field(Name::User),
         ),
         (
-            r#"{"type":"authorization","token":"a","card":"c","currency":"JPY","amount":1,"mcc":"54111"}"#,
-            Name::Mcc,
+            r#"{"type":"move","token":"m","user":"u","to":"UNACTIVATED"}"#,
+            FormFault::Field(Name::To),
+        ),
+        (
+            r#"{"type":"product","token":"p","product":"x","currency":"usd"}"#,
+            FormFault::Field(Name::Currency),
+        ),
+        (
+            r#"{"type":"product","token":"p","product":"x","currency":"KWD","funding":"ACCOUNT","timeout_ms":60001}"#,
+            FormFault::Field(Name::TimeoutMs),
+        ),
+        (
+            r#"{"type":"product","token":"p","product":"x","currency":"KWD","funding":"ACCOUNT","hold_ms":86399999}"#,
+            FormFault::Field(Name::HoldMs),
+        ),
+        (
+            r#"{"type":"product","token":7,"funding":"ACCOUNT","funding":"GATEWAY"}"#,
+            FormFault::NotBuilt,
+        ),
+        (
+            r#"{"type":"product","token":7,"funding":"ACCOUNT","at":-1}"#,
+            FormFault::NotBuilt,
         ),
         (
             r#"{"type":"authorization","token":"a","card":"c","currency":"JPY","amount":1,"mcc":"541x"}"#,
-            Name::Mcc,
-        ),
-        (
-            r#"{"type":"authorization","token":"a","card":"c","currency":"JPY","amount":1,"mcc":"9999"}"#,
-            Name::Mid,
+            FormFault::Field(Name::Mcc),
         ),
     ];
-    for (text, field) in lines {
-        assert_eq!(rt; fault_of(rt.alloc(), text)?, Some(FormFault::Field(field)));
+    for (text, fault) in lines {
+        assert_eq!(rt; fault_of(rt.alloc(), text)?, Some(fault));
     }
     Ok(())
 }
@@ -343,10 +216,6 @@ fn tells_replies(rt: HostRuntime) -> Result<(), Fail> {
         (
             Reply::Decided(Verdict::Done),
             "{\"event\":\"a1\",\"reply\":\"done\"}\n",
-        ),
-        (
-            Reply::Decided(Verdict::Approved),
-            "{\"event\":\"a1\",\"reply\":\"approved\"}\n",
         ),
         (Reply::Pending, "{\"event\":\"a1\",\"reply\":\"pending\"}\n"),
     ];
@@ -366,20 +235,8 @@ fn tells_why_an_event_is_declined(rt: HostRuntime) -> Result<(), Fail> {
             "{\"event\":\"a1\",\"reason\":\"EXISTS\",\"reply\":\"declined\"}\n",
         ),
         (
-            Reason::Limit,
-            "{\"event\":\"a1\",\"reason\":\"LIMIT\",\"reply\":\"declined\"}\n",
-        ),
-        (
-            Reason::ProductUnknown,
-            "{\"event\":\"a1\",\"reason\":\"PRODUCT_UNKNOWN\",\"reply\":\"declined\"}\n",
-        ),
-        (
             Reason::MoveCard(CardState::Unactivated, CardState::Suspended),
             "{\"event\":\"a1\",\"reason\":\"MOVE:UNACTIVATED:SUSPENDED\",\"reply\":\"declined\"}\n",
-        ),
-        (
-            Reason::MoveUser(UserState::Closed, UserState::Active),
-            "{\"event\":\"a1\",\"reason\":\"MOVE:CLOSED:ACTIVE\",\"reply\":\"declined\"}\n",
         ),
         (
             Reason::Control(token("v1")?),

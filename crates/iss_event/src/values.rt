@@ -1,52 +1,91 @@
-//! What the value of a field says, by the field's form.
+//! The forms of fields: what the value of a field says.
 ghost use Rattle.std.specs.Prelude.{◌≡◌, ◌-◌, ◌≤◌, Some, None, IfSome, if◌then◌else◌};
-ghost use Rattle.serde_json.specs.View.{view};
+ghost use Rattle.serde_json.specs.Find.{as_bool};
 ghost use Rattle.iss_model.specs.Amounts.{is_digit};
 ghost use Rattle.iss_event.specs.Values.{kind_of, token_of, currency_of, amount_of, mcc_of, mcc_of_text, funding_of, funding_of_text, card_state_of, card_state_of_text, user_state_of, user_state_of_text, timeout_of, hold_time_of};
 
 use crate::Mode;
+use crate::fields::Form;
 use crate::kind::{Kind, kind_in, kind_of_text};
 use iss_amount::{from_code, read, whole};
 use iss_model::{CardState, Currency, Funding, Token, UserState};
 use serde_json::Value;
 
-#[tactic(auto, unfolding(crate::specs::Values::kind_of))]
-pub(crate) fn kind_of(mode: Mode, found: &Value) -> Option<Kind>
-    ensures { result ≡ kind_of mode (view found.now) }
-{
-    kind_in(mode, kind_of_text(found.as_str()?)?)
-}
+/// A type that lines of that mode may have.
+#[derive(Clone, Copy)]
+pub(crate) struct KindForm(pub(crate) Mode);
 
-#[tactic(auto, unfolding(crate::specs::Values::token_of))]
-pub(crate) fn token_of(found: &Value) -> Option<Token>
-    ensures { result ≡ token_of (view found.now) }
-{
-    Token::new(found.as_str()?.as_bytes())
-}
+impl Form for KindForm {
+    type Said = Kind;
 
-#[tactic(auto, unfolding(crate::specs::Values::currency_of))]
-pub(crate) fn currency_of(found: &Value) -> Option<Currency>
-    ensures { result ≡ currency_of (view found.now) }
-{
-    from_code(found.as_str()?.as_bytes())
-}
+    ghost said = { λ form. kind_of form.0 };
 
-/// An amount in minor units, of a text such as `10.00` or of a number of whole units.
-#[tactic(auto, unfolding(crate::specs::Values::amount_of))]
-pub(crate) fn amount_of(currency: Currency, found: &Value) -> Option<u64>
-    ensures { result ≡ amount_of currency (view found.now) }
-{
-    match found.as_str() {
-        Some(text) => read(text.as_bytes(), currency),
-        None => whole(found.as_u64()?, currency),
+    #[tactic(auto, unfolding(crate::specs::Values::kind_of))]
+    fn read(self, found: &Value) -> Option<Kind> {
+        kind_in(self.0, kind_of_text(found.as_str()?)?)
     }
 }
 
-#[tactic(auto, unfolding(crate::specs::Values::mcc_of))]
-pub(crate) fn mcc_of(found: &Value) -> Option<u16>
-    ensures { result ≡ mcc_of (view found.now) }
-{
-    mcc_of_text(found.as_str()?.as_bytes())
+#[derive(Clone, Copy)]
+pub(crate) struct TokenForm;
+
+impl Form for TokenForm {
+    type Said = Token;
+
+    ghost said = { λ _. token_of };
+
+    #[tactic(auto, unfolding(crate::specs::Values::token_of))]
+    fn read(self, found: &Value) -> Option<Token> {
+        Token::new(found.as_str()?.as_bytes())
+    }
+}
+
+/// The code of a currency.
+#[derive(Clone, Copy)]
+pub(crate) struct CurrencyForm;
+
+impl Form for CurrencyForm {
+    type Said = Currency;
+
+    ghost said = { λ _. currency_of };
+
+    #[tactic(auto, unfolding(crate::specs::Values::currency_of))]
+    fn read(self, found: &Value) -> Option<Currency> {
+        from_code(found.as_str()?.as_bytes())
+    }
+}
+
+/// An amount in minor units of that currency, of a text such as `10.00` or of a number of whole units.
+#[derive(Clone, Copy)]
+pub(crate) struct AmountForm(pub(crate) Currency);
+
+impl Form for AmountForm {
+    type Said = u64;
+
+    ghost said = { λ form. amount_of form.0 };
+
+    #[tactic(auto, unfolding(crate::specs::Values::amount_of))]
+    fn read(self, found: &Value) -> Option<u64> {
+        match found.as_str() {
+            Some(text) => read(text.as_bytes(), self.0),
+            None => whole(found.as_u64()?, self.0),
+        }
+    }
+}
+
+/// Four digits.
+#[derive(Clone, Copy)]
+pub(crate) struct MccForm;
+
+impl Form for MccForm {
+    type Said = u16;
+
+    ghost said = { λ _. mcc_of };
+
+    #[tactic(auto, unfolding(crate::specs::Values::mcc_of))]
+    fn read(self, found: &Value) -> Option<u16> {
+        mcc_of_text(found.as_str()?.as_bytes())
+    }
 }
 
 #[tactic(auto, unfolding(crate::specs::Values::mcc_of_text))]
@@ -70,77 +109,105 @@ fn digit(byte: u8) -> Option<u16>
     }
 }
 
-#[tactic(auto, unfolding(crate::specs::Values::funding_of))]
-pub(crate) fn funding_of(found: &Value) -> Option<Funding>
-    ensures { result ≡ funding_of (view found.now) }
-{
-    funding_of_text(found.as_str()?)
-}
+#[derive(Clone, Copy)]
+pub(crate) struct FundingForm;
 
-#[tactic(auto, unfolding(crate::specs::Values::funding_of_text))]
-fn funding_of_text(text: &str) -> Option<Funding>
-    ensures { result ≡ funding_of_text text.now }
-{
-    match text {
-        "ACCOUNT" => Some(Funding::Account),
-        "GATEWAY" => Some(Funding::Gateway),
-        _ => None,
+impl Form for FundingForm {
+    type Said = Funding;
+
+    ghost said = { λ _. funding_of };
+
+    #[tactic(auto, unfolding(crate::specs::Values::funding_of, crate::specs::Values::funding_of_text))]
+    fn read(self, found: &Value) -> Option<Funding> {
+        match found.as_str()? {
+            "ACCOUNT" => Some(Funding::Account),
+            "GATEWAY" => Some(Funding::Gateway),
+            _ => None,
+        }
     }
 }
 
-#[tactic(auto, unfolding(crate::specs::Values::card_state_of))]
-pub(crate) fn card_state_of(found: &Value) -> Option<CardState>
-    ensures { result ≡ card_state_of (view found.now) }
-{
-    card_state_of_text(found.as_str()?)
-}
+#[derive(Clone, Copy)]
+pub(crate) struct CardStateForm;
 
-#[tactic(auto, unfolding(crate::specs::Values::card_state_of_text))]
-fn card_state_of_text(text: &str) -> Option<CardState>
-    ensures { result ≡ card_state_of_text text.now }
-{
-    match text {
-        "UNACTIVATED" => Some(CardState::Unactivated),
-        "ACTIVE" => Some(CardState::Active),
-        "SUSPENDED" => Some(CardState::Suspended),
-        "TERMINATED" => Some(CardState::Terminated),
-        _ => None,
+impl Form for CardStateForm {
+    type Said = CardState;
+
+    ghost said = { λ _. card_state_of };
+
+    #[tactic(auto, unfolding(crate::specs::Values::card_state_of, crate::specs::Values::card_state_of_text))]
+    fn read(self, found: &Value) -> Option<CardState> {
+        match found.as_str()? {
+            "UNACTIVATED" => Some(CardState::Unactivated),
+            "ACTIVE" => Some(CardState::Active),
+            "SUSPENDED" => Some(CardState::Suspended),
+            "TERMINATED" => Some(CardState::Terminated),
+            _ => None,
+        }
     }
 }
 
-#[tactic(auto, unfolding(crate::specs::Values::user_state_of))]
-pub(crate) fn user_state_of(found: &Value) -> Option<UserState>
-    ensures { result ≡ user_state_of (view found.now) }
-{
-    user_state_of_text(found.as_str()?)
+#[derive(Clone, Copy)]
+pub(crate) struct UserStateForm;
+
+impl Form for UserStateForm {
+    type Said = UserState;
+
+    ghost said = { λ _. user_state_of };
+
+    #[tactic(auto, unfolding(crate::specs::Values::user_state_of, crate::specs::Values::user_state_of_text))]
+    fn read(self, found: &Value) -> Option<UserState> {
+        match found.as_str()? {
+            "ACTIVE" => Some(UserState::Active),
+            "SUSPENDED" => Some(UserState::Suspended),
+            "CLOSED" => Some(UserState::Closed),
+            _ => None,
+        }
+    }
 }
 
-#[tactic(auto, unfolding(crate::specs::Values::user_state_of_text))]
-fn user_state_of_text(text: &str) -> Option<UserState>
-    ensures { result ≡ user_state_of_text text.now }
-{
-    match text {
-        "ACTIVE" => Some(UserState::Active),
-        "SUSPENDED" => Some(UserState::Suspended),
-        "CLOSED" => Some(UserState::Closed),
-        _ => None,
+/// `true` or `false`.
+#[derive(Clone, Copy)]
+pub(crate) struct FlagForm;
+
+impl Form for FlagForm {
+    type Said = bool;
+
+    ghost said = { λ _. as_bool };
+
+    fn read(self, found: &Value) -> Option<bool> {
+        found.as_bool()
     }
 }
 
 /// A product's time for an answer: a millisecond to a minute.
-#[tactic(auto, unfolding(crate::specs::Values::timeout_of))]
-pub(crate) fn timeout_of(found: &Value) -> Option<u64>
-    ensures { result ≡ timeout_of (view found.now) }
-{
-    let ms = found.as_u64()?;
-    (1..=60_000).contains(&ms).then_some(ms)
+#[derive(Clone, Copy)]
+pub(crate) struct TimeoutForm;
+
+impl Form for TimeoutForm {
+    type Said = u64;
+
+    ghost said = { λ _. timeout_of };
+
+    #[tactic(auto, unfolding(crate::specs::Values::timeout_of))]
+    fn read(self, found: &Value) -> Option<u64> {
+        let ms = found.as_u64()?;
+        (1..=60_000).contains(&ms).then_some(ms)
+    }
 }
 
 /// A product's time for a hold: a day to 31 days.
-#[tactic(auto, unfolding(crate::specs::Values::hold_time_of))]
-pub(crate) fn hold_time_of(found: &Value) -> Option<u64>
-    ensures { result ≡ hold_time_of (view found.now) }
-{
-    let ms = found.as_u64()?;
-    (86_400_000..=2_678_400_000).contains(&ms).then_some(ms)
+#[derive(Clone, Copy)]
+pub(crate) struct HoldTimeForm;
+
+impl Form for HoldTimeForm {
+    type Said = u64;
+
+    ghost said = { λ _. hold_time_of };
+
+    #[tactic(auto, unfolding(crate::specs::Values::hold_time_of))]
+    fn read(self, found: &Value) -> Option<u64> {
+        let ms = found.as_u64()?;
+        (86_400_000..=2_678_400_000).contains(&ms).then_some(ms)
+    }
 }

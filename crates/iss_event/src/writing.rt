@@ -1,12 +1,11 @@
 //! The lines that are told.
-ghost use Rattle.std.specs.Prelude.{◌≡◌, [], ◌∷◌, ◌++◌, false, IfOk, OnOk, IsTrue, codes, string_bytes};
+ghost use Rattle.std.specs.Prelude.{◌≡◌, [], ◌∷◌, ◌++◌, false, IfOk, OnOk, IsTrue, codes};
 ghost use Rattle.serde_json.specs.View.{view};
 ghost use Rattle.serde_json.specs.Written.{has_float, compact_text};
 ghost use Rattle.iss_model.specs.texts.AnswerLines.{answer_members, answer_text, how_text, reply_member};
 ghost use Rattle.iss_model.specs.texts.Wordings.{reply_members, reply_line, fault_line, line_of, with_number, with_text};
 ghost use Rattle.iss_model.specs.declared.decision.Answer.TheVariants as answer;
 ghost use Rattle.iss_event.specs.FormLines.{fault_members, field_members, form_text};
-ghost use Rattle.iss_event.specs.Names.{name_text};
 ghost use Rattle.iss_event.specs.Plain.{object_data, is_plain, are_plain};
 ghost use Rattle.iss_event.specs.Reasons.{reply_is_plain};
 
@@ -17,6 +16,7 @@ use serde_json::{Value, json};
 use std::alloc::{AllocError, Global};
 
 /// The line that tells what became of an event, with its line feed.
+#[tactic(auto, using(crate::proofs::PlainTexts::line_of_members, crate::proofs::PlainTexts::no_float), unfolding(iss_model::specs::texts::Wordings::reply_line))]
 pub fn reply_line(alloc: Global, event: &Token, reply: &Reply) -> Result<Vec<u8>, AllocError>
     ensures { IfOk result (λ line. line.items ≡ reply_line event.now reply.now) }
 {
@@ -25,6 +25,7 @@ pub fn reply_line(alloc: Global, event: &Token, reply: &Reply) -> Result<Vec<u8>
 }
 
 /// The line that tells an input that makes no record what became of it, with its line feed.
+#[tactic(auto, using(crate::proofs::PlainTexts::line_of_members, crate::proofs::PlainTexts::no_float), unfolding(iss_model::specs::texts::AnswerLines::answer_text))]
 pub fn told_line(alloc: Global, answer: &Answer) -> Result<Vec<u8>, AllocError>
     ensures { IfOk result (λ line. line.items ≡ answer_text answer.now) }
 {
@@ -61,14 +62,16 @@ fn field_line(alloc: Global, name: Name) -> Result<Vec<u8>, AllocError>
 }
 
 fn fault_value(alloc: Global, fault: &str) -> Result<Value, AllocError>
-    ensures { IfOk result (λ value. view value ≡ object_data (fault_members fault.now)) }
+    requires { IsTrue (is_plain fault.now) }
+    ensures data { IfOk result (λ value. view value ≡ object_data (fault_members fault.now)) }
+    ensures plain { OnOk result (IsTrue (are_plain (fault_members fault.now))) }
 {
     json!(in alloc; {"fault": fault, "reply": "form"})
 }
 
 fn field_value(alloc: Global, name: Name) -> Result<Value, AllocError>
     ensures data { IfOk result (λ value. view value ≡ object_data (field_members name)) }
-    ensures plain { OnOk result (IsTrue (is_plain (name_text name))) }
+    ensures plain { OnOk result (IsTrue (are_plain (field_members name))) }
 {
     let field = name.text();
     json!(in alloc; {"fault": "FIELD", "field": field, "reply": "form"})
