@@ -24,7 +24,7 @@ use Rattle.iss_event.specs.Fields.{unless_null, field, required_field}
 use Rattle.iss_event.specs.Names.{name_text}
 use Rattle.iss_event.specs.Values.{kind_of}
 use Rattle.iss_event.specs.Objects.{if_object, object_of}
-use Rattle.iss_event.specs.Rows.{◌>>=◌}
+use Rattle.iss_event.specs.Inputs.{◌>>=◌}
 use Rattle.iss_event.specs.Readings.{kind_line, object_line, found_line, line_read, Reads}
 
 -- ---- a text has no more good tokens than bytes

@@ -2,5 +2,5 @@ pub mod LeastLine
 pub mod LinesInForm
 pub mod ObjectLemmas
 pub mod PlainTexts
-pub mod RowsInForm
+pub mod InputsInForm
 pub mod ValuesInForm

@@ -2,7 +2,7 @@
 use Rattle.std.proofs.Common.{◌≡◌, ℕ, ◌||◌, Bool, true, false, nat_lt, List, length, Option, Some, None, Result, Ok, Err, IfOk, cond, refl, subst}
 use Rattle.serde_json.specs.Data.{Data}
 use Rattle.iss_model.specs.declared.input.Input.{Input}
-use Rattle.iss_model.specs.Built.{is_built}
+use Rattle.iss_event.specs.Built.{is_built}
 use Rattle.iss_model.specs.Forms.{is_in_form, is_stamp_or_none}
 use Rattle.iss_event.specs.declared.name.Name.TheVariants as name
 use Rattle.iss_event.specs.declared.kind.Kind.{Kind}
@@ -16,9 +16,9 @@ use Rattle.iss_event.specs.declared.line.LineFault.TheVariants.{Form, OutOfMemor
 use Rattle.iss_event.specs.Fields.{required_field}
 use Rattle.iss_event.specs.Values.{kind_of}
 use Rattle.iss_event.specs.Objects.{object_of}
-use Rattle.iss_event.specs.Rows.{◌>>=◌, user_input, card_input, move_input, product_input, load_input, authorization_input}
+use Rattle.iss_event.specs.Inputs.{◌>>=◌, user_input, card_input, move_input, product_input, load_input, authorization_input}
 use Rattle.iss_event.specs.Readings.{has_stamp, has_gateway, kind_line, object_line, found_line, line_read, Reads}
-use Rattle.iss_event.proofs.RowsInForm.{IsGood, user_row-good, card_row-good, move_row-good, product_row-good, load_row-good, authorization_row-good}
+use Rattle.iss_event.proofs.InputsInForm.{IsGood, user_input-good, card_input-good, move_input-good, product_input-good, load_input-good, authorization_input-good}
 
 -- the line's input is good, and it has no stamp
 abbrev IsGoodLine : Line → Type 0
@@ -36,19 +36,19 @@ neither : (a b : Bool) → (a || b) ≡ false → b ≡ false
 neither true b h = cc
 neither false b h = h
 
--- a good row makes a good line, where the line is taken
+-- a good input makes a good line, where the line is taken
 taken : (b : Bool) (r : Result Input FormFault) → (b ≡ false → IfOk r IsGood)
     → IfOk (cond b (Err NotBuilt) (r >>= λ said. Ok (record { input = said; at = None }))) IsGoodLine
 taken b r h = unless b NotBuilt (r >>= λ said. Ok (record { input = said; at = None })) (λ built. with_no_stamp r (h built))
 
 kind_line-good : (mode : Mode) (d : Data) (k : Kind) → IfOk (kind_line mode d k) IsGoodLine
-kind_line-good mode d kind.User = taken (has_stamp mode d) (user_input d) (λ built. user_row-good d)
-kind_line-good mode d kind.Card = taken (has_stamp mode d) (card_input d) (λ built. card_row-good d)
-kind_line-good mode d kind.Move = taken (has_stamp mode d) (move_input d) (λ built. move_row-good d)
+kind_line-good mode d kind.User = taken (has_stamp mode d) (user_input d) (λ built. user_input-good d)
+kind_line-good mode d kind.Card = taken (has_stamp mode d) (card_input d) (λ built. card_input-good d)
+kind_line-good mode d kind.Move = taken (has_stamp mode d) (move_input d) (λ built. move_input-good d)
 kind_line-good mode d kind.Product =
-    taken (has_stamp mode d || has_gateway d) (product_input d) (λ built. product_row-good d (neither (has_stamp mode d) (has_gateway d) built))
-kind_line-good mode d kind.Load = taken (has_stamp mode d) (load_input d) (λ built. load_row-good d)
-kind_line-good mode d kind.Authorization = taken (has_stamp mode d) (authorization_input d) (λ built. authorization_row-good d)
+    taken (has_stamp mode d || has_gateway d) (product_input d) (λ built. product_input-good d (neither (has_stamp mode d) (has_gateway d) built))
+kind_line-good mode d kind.Load = taken (has_stamp mode d) (load_input d) (λ built. load_input-good d)
+kind_line-good mode d kind.Authorization = taken (has_stamp mode d) (authorization_input d) (λ built. authorization_input-good d)
 kind_line-good mode d _ = tt
 
 then_kind : (r : Result Kind FormFault) (mode : Mode) (d : Data) → IfOk (r >>= kind_line mode d) IsGoodLine

@@ -1,3 +1,4 @@
+pub mod Built
 pub mod Fields
 pub mod FormLines
 pub mod Kinds
@@ -6,5 +7,5 @@ pub mod Objects
 pub mod Plain
 pub mod Readings
 pub mod Reasons
-pub mod Rows
+pub mod Inputs
 pub mod Values

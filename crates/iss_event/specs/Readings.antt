@@ -16,7 +16,7 @@ use Rattle.iss_event.specs.declared.line.LineFault.TheVariants.{Form, OutOfMemor
 use Rattle.iss_event.specs.Objects.{object_of}
 use Rattle.iss_event.specs.Fields.{field, required_field}
 use Rattle.iss_event.specs.Values.{kind_of, funding_of}
-use Rattle.iss_event.specs.Rows.{◌>>=◌, input_of_kind}
+use Rattle.iss_event.specs.Inputs.{◌>>=◌, input_of_kind}
 
 -- the line says when it happened; a client's member `at` says nothing
 abbrev pub has_stamp : Mode → Data → Bool

@@ -2,16 +2,19 @@
 //!
 //! A line is one JSON object. What its bytes mean, and which fault is told of a bad line, are definitions in `specs/`,
 //! apart from the code.
+//!
+//! It may cite `iss_model`, `iss_amount` and `serde_json`.
+//! It must not cite the core: it reads and writes lines, and decides nothing.
 #![tactic(auto)]
 
 mod fields;
+mod inputs;
 mod kind;
 mod line;
 mod name;
 mod object;
 mod reading;
 mod reason;
-mod rows;
 mod values;
 mod writing;
 

@@ -1,22 +1,20 @@
 //! Reading a line.
 ghost use Rattle.std.specs.Prelude.{◌≡◌, ◌≤◌, length, true, None, IfOk, IsTrue};
 ghost use Rattle.serde_json.specs.View.{view};
-ghost use Rattle.iss_model.specs.Built.{is_built};
+ghost use Rattle.iss_event.specs.Built.{is_built};
 ghost use Rattle.iss_model.specs.Forms.{is_in_form, is_stamp_or_none};
 ghost use Rattle.iss_event.specs.Readings.{Reads, line_read, object_line, not_built, has_stamp, has_gateway};
 
 use crate::fields::{field, in_form, required};
+use crate::inputs::input_of_kind;
 use crate::kind::Kind;
 use crate::object::object_of;
-use crate::rows::row;
 use crate::values::{FundingForm, KindForm};
 use crate::{FormFault, Line, LineFault, Mode, Name};
 use iss_model::Funding;
+use iss_model::limits::LONGEST_LINE;
 use serde_json::Value;
 use std::alloc::Global;
-
-/// The most bytes that a line may have.
-const LONGEST_LINE: usize = 16384;
 
 /// What a line says, without the line feed that ends it, or its first fault: `Long`, `Json`, `Field(Kind)` where its
 /// type is bad, `NotBuilt` where it is of a kind that isn't taken yet, or the first bad field in the order of its type.
@@ -54,7 +52,7 @@ fn read_object(mode: Mode, line: &Value) -> Result<Line, FormFault>
     if is_not_built(mode, kind, line) {
         return Err(FormFault::NotBuilt);
     }
-    let input = row(kind, line)?;
+    let input = input_of_kind(kind, line)?;
     Ok(Line { input, at: None })
 }
 

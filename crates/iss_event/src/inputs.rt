@@ -2,7 +2,7 @@
 ghost use Rattle.std.specs.Prelude.{◌≡◌, codes};
 ghost use Rattle.serde_json.specs.View.{view};
 ghost use Rattle.iss_event.specs.Fields.{field};
-ghost use Rattle.iss_event.specs.Rows.{user_input, card_input, card_move, user_move, whose_move, move_input, product_input, load_input, authorization_input, input_of_kind};
+ghost use Rattle.iss_event.specs.Inputs.{user_input, card_input, card_move, user_move, whose_move, move_input, product_input, load_input, authorization_input, input_of_kind};
 
 use crate::fields::{field, optional, optional_or, required};
 use crate::kind::Kind;
@@ -21,22 +21,22 @@ const DEFAULT_TIMEOUT_MS: u64 = 3_000;
 const DEFAULT_HOLD_MS: u64 = 604_800_000;
 
 /// What a line of that kind says, or its first bad field.
-pub(crate) fn row(kind: Kind, line: &Value) -> Result<Input, FormFault>
+pub(crate) fn input_of_kind(kind: Kind, line: &Value) -> Result<Input, FormFault>
     ensures { result ≡ input_of_kind kind (view line.now) }
 {
     match kind {
-        Kind::User => user_row(line),
-        Kind::Card => card_row(line),
-        Kind::Move => move_row(line),
-        Kind::Product => product_row(line),
-        Kind::Load => load_row(line),
-        Kind::Authorization => authorization_row(line),
+        Kind::User => user_input(line),
+        Kind::Card => card_input(line),
+        Kind::Move => move_input(line),
+        Kind::Product => product_input(line),
+        Kind::Load => load_input(line),
+        Kind::Authorization => authorization_input(line),
         _ => Err(FormFault::NotBuilt),
     }
 }
 
-#[tactic(auto, unfolding(crate::specs::Rows::user_input))]
-fn user_row(line: &Value) -> Result<Input, FormFault>
+#[tactic(auto, unfolding(crate::specs::Inputs::user_input))]
+fn user_input(line: &Value) -> Result<Input, FormFault>
     ensures { result ≡ user_input (view line.now) }
 {
     let token = required(line, Name::Token, TokenForm)?;
@@ -44,8 +44,8 @@ fn user_row(line: &Value) -> Result<Input, FormFault>
     Ok(Input::User { token, user })
 }
 
-#[tactic(auto, unfolding(crate::specs::Rows::card_input))]
-fn card_row(line: &Value) -> Result<Input, FormFault>
+#[tactic(auto, unfolding(crate::specs::Inputs::card_input))]
+fn card_input(line: &Value) -> Result<Input, FormFault>
     ensures { result ≡ card_input (view line.now) }
 {
     let token = required(line, Name::Token, TokenForm)?;
@@ -62,8 +62,8 @@ fn card_row(line: &Value) -> Result<Input, FormFault>
     })
 }
 
-#[tactic(auto, unfolding(crate::specs::Rows::move_input))]
-fn move_row(line: &Value) -> Result<Input, FormFault>
+#[tactic(auto, unfolding(crate::specs::Inputs::move_input))]
+fn move_input(line: &Value) -> Result<Input, FormFault>
     ensures { result ≡ move_input (view line.now) }
 {
     let token = required(line, Name::Token, TokenForm)?;
@@ -83,7 +83,7 @@ fn who_moved(card: Option<Token>, line: &Value) -> Result<Moved, FormFault>
     }
 }
 
-#[tactic(auto, unfolding(crate::specs::Rows::card_move))]
+#[tactic(auto, unfolding(crate::specs::Inputs::card_move))]
 fn card_moved(card: Token, line: &Value) -> Result<Moved, FormFault>
     ensures { result ≡ card_move card (view line.now) }
 {
@@ -91,7 +91,7 @@ fn card_moved(card: Token, line: &Value) -> Result<Moved, FormFault>
     Ok(Moved::Card(card, to))
 }
 
-#[tactic(auto, unfolding(crate::specs::Rows::user_move))]
+#[tactic(auto, unfolding(crate::specs::Inputs::user_move))]
 fn user_moved(line: &Value) -> Result<Moved, FormFault>
     ensures { result ≡ user_move (view line.now) }
 {
@@ -100,8 +100,8 @@ fn user_moved(line: &Value) -> Result<Moved, FormFault>
     Ok(Moved::User(user, to))
 }
 
-#[tactic(auto, unfolding(crate::specs::Rows::product_input))]
-fn product_row(line: &Value) -> Result<Input, FormFault>
+#[tactic(auto, unfolding(crate::specs::Inputs::product_input))]
+fn product_input(line: &Value) -> Result<Input, FormFault>
     ensures { result ≡ product_input (view line.now) }
 {
     let token = required(line, Name::Token, TokenForm)?;
@@ -120,8 +120,8 @@ fn product_row(line: &Value) -> Result<Input, FormFault>
     })
 }
 
-#[tactic(auto, unfolding(crate::specs::Rows::load_input))]
-fn load_row(line: &Value) -> Result<Input, FormFault>
+#[tactic(auto, unfolding(crate::specs::Inputs::load_input))]
+fn load_input(line: &Value) -> Result<Input, FormFault>
     ensures { result ≡ load_input (view line.now) }
 {
     let token = required(line, Name::Token, TokenForm)?;
@@ -136,8 +136,8 @@ fn load_row(line: &Value) -> Result<Input, FormFault>
     })
 }
 
-#[tactic(auto, unfolding(crate::specs::Rows::authorization_input))]
-fn authorization_row(line: &Value) -> Result<Input, FormFault>
+#[tactic(auto, unfolding(crate::specs::Inputs::authorization_input))]
+fn authorization_input(line: &Value) -> Result<Input, FormFault>
     ensures { result ≡ authorization_input (view line.now) }
 {
     let token = required(line, Name::Token, TokenForm)?;

@@ -1,4 +1,4 @@
--- What each row gives is in form, and of a kind that the program is built for.
+-- What the fields of each type give is in form, and of a kind that the program is built for.
 use Rattle.std.proofs.Common.{codes, ◌≡◌, ℕ, Bool, true, false, List, Option, Some, None, option_and_then, Result, Ok, Err, IfOk, IfSome, refl}
 use Rattle.std.specs.Option.{ok_or}
 use Rattle.serde_json.specs.Data.{Data}
@@ -9,7 +9,7 @@ use Rattle.iss_model.specs.declared.setting.Funding.TheVariants.{Account, Gatewa
 use Rattle.iss_model.specs.declared.setting.Moved.{Moved}
 use Rattle.iss_model.specs.declared.input.Input.{Input}
 use Rattle.iss_model.specs.declared.input.Input.TheVariants as input
-use Rattle.iss_model.specs.Built.{is_built}
+use Rattle.iss_event.specs.Built.{is_built}
 use Rattle.iss_model.specs.rules.CardReasons.{is_account_funded}
 use Rattle.iss_model.specs.Forms.{is_amount, is_mcc, is_timeout, is_hold_time, is_in_form}
 use Rattle.iss_event.specs.declared.name.Name.{Name}
@@ -19,7 +19,7 @@ use Rattle.iss_event.specs.declared.line.FormFault.TheVariants.{Field}
 use Rattle.iss_event.specs.Fields.{field, required_field, field_or, optional_field, optional_field_or}
 use Rattle.iss_event.specs.Values.{token_of, currency_of, amount_of, mcc_of, funding_of, timeout_of, hold_time_of}
 use Rattle.iss_event.specs.Readings.{is_gateway, has_gateway}
-use Rattle.iss_event.specs.Rows.{◌>>=◌, user_input, card_input, whose_move, move_input, product_input, load_input, authorization_input}
+use Rattle.iss_event.specs.Inputs.{◌>>=◌, user_input, card_input, whose_move, move_input, product_input, load_input, authorization_input}
 use Rattle.iss_event.proofs.ValuesInForm.{Meets, amount_of-meets, mcc_of-meets, timeout_of-meets, hold_time_of-meets}
 
 -- ---- fields
@@ -46,7 +46,7 @@ optional_or-is : {A : Type 0} (form : Data → Option A) (absent : A) (name : Na
 unfolding optional_field_or
 optional_or-is form absent name d P given h = found_or-is form absent name (field name d) P given h
 
--- ---- rows
+-- ---- inputs
 
 -- the input is in form, and the program is built for it
 abbrev pub IsGood : Input → Type 0
@@ -59,18 +59,18 @@ of_user : (t u : Text) → IfOk (t >>= λ token. u >>= λ user. Ok (input.User t
 of_user (Ok token) (Ok user) = (refl, refl)
 of_user _ _ = tt
 
-pub user_row-good : (d : Data) → IfOk (user_input d) IsGood
+pub user_input-good : (d : Data) → IfOk (user_input d) IsGood
 unfolding user_input
-user_row-good d = of_user (required_field token_of name.Token d) (required_field token_of name.User d)
+user_input-good d = of_user (required_field token_of name.Token d) (required_field token_of name.User d)
 
 of_card : (t c u p : Text) (a : Result Bool FormFault)
     → IfOk (t >>= λ token. c >>= λ card. u >>= λ user. p >>= λ product. a >>= λ active. Ok (input.Card token card user product active)) IsGood
 of_card (Ok token) (Ok card) (Ok user) (Ok product) (Ok active) = (refl, refl)
 of_card _ _ _ _ _ = tt
 
-pub card_row-good : (d : Data) → IfOk (card_input d) IsGood
+pub card_input-good : (d : Data) → IfOk (card_input d) IsGood
 unfolding card_input
-card_row-good d =
+card_input-good d =
     of_card (required_field token_of name.Token d) (required_field token_of name.Card d) (required_field token_of name.User d)
     (optional_field_or token_of (codes "default") name.Product d) (optional_field_or as_bool true name.Active d)
 
@@ -83,9 +83,9 @@ of_move : (t : Text) (c : Result (Option (List ℕ)) FormFault) (w : Option (Lis
 of_move (Ok token) (Ok card) w = of_moved token (w card)
 of_move _ _ _ = tt
 
-pub move_row-good : (d : Data) → IfOk (move_input d) IsGood
+pub move_input-good : (d : Data) → IfOk (move_input d) IsGood
 unfolding move_input
-move_row-good d = of_move (required_field token_of name.Token d) (optional_field token_of name.Card d) (λ card. whose_move card (field name.User d) d)
+move_input-good d = of_move (required_field token_of name.Token d) (optional_field token_of name.Card d) (λ card. whose_move card (field name.User d) d)
 
 abbrev IsAccount : Funding → Type 0
 IsAccount funding = is_account_funded funding ≡ true
@@ -105,9 +105,9 @@ of_product : (t p : Text) (c : Result Currency FormFault) (f : Result Funding Fo
 of_product (Ok token) (Ok product) (Ok currency) (Ok funding) (Ok timeout_ms) (Ok hold_ms) by_account timeout hold = (rw (timeout, hold), by_account)
 of_product _ _ _ _ _ _ _ _ _ = tt
 
-pub product_row-good : (d : Data) → has_gateway d ≡ false → IfOk (product_input d) IsGood
+pub product_input-good : (d : Data) → has_gateway d ≡ false → IfOk (product_input d) IsGood
 unfolding product_input
-product_row-good d other =
+product_input-good d other =
     of_product (required_field token_of name.Token d) (required_field token_of name.Product d) (required_field currency_of name.Currency d)
     (required_field funding_of name.Funding d) (optional_field_or timeout_of 3000 name.TimeoutMs d) (optional_field_or hold_time_of 604800000 name.HoldMs d)
     (account d other)
@@ -127,9 +127,9 @@ of_load _ _ _ _ _ = tt
 amount-is : (d : Data) (c : Currency) → IfOk (required_field (amount_of c) name.Amount d) (Meets is_amount)
 amount-is d c = required-is (amount_of c) name.Amount d (Meets is_amount) (amount_of-meets c)
 
-pub load_row-good : (d : Data) → IfOk (load_input d) IsGood
+pub load_input-good : (d : Data) → IfOk (load_input d) IsGood
 unfolding load_input
-load_row-good d =
+load_input-good d =
     of_load (required_field token_of name.Token d) (required_field token_of name.User d) (required_field currency_of name.Currency d)
     (λ currency. required_field (amount_of currency) name.Amount d) (amount-is d)
 
@@ -144,9 +144,9 @@ of_authorization : (t c : Text) (u : Result Currency FormFault) (a : Currency �
 of_authorization (Ok token) (Ok card) (Ok currency) a m i h g = of_asked token card currency (a currency) m i (h currency) g
 of_authorization _ _ _ _ _ _ _ _ = tt
 
-pub authorization_row-good : (d : Data) → IfOk (authorization_input d) IsGood
+pub authorization_input-good : (d : Data) → IfOk (authorization_input d) IsGood
 unfolding authorization_input
-authorization_row-good d =
+authorization_input-good d =
     of_authorization (required_field token_of name.Token d) (required_field token_of name.Card d) (required_field currency_of name.Currency d)
     (λ currency. required_field (amount_of currency) name.Amount d) (required_field mcc_of name.Mcc d) (required_field token_of name.Mid d)
     (amount-is d) (required-is mcc_of name.Mcc d (Meets is_mcc) mcc_of-meets)
