@@ -68,23 +68,23 @@ fn move_input(line: &Value) -> Result<Input, FormFault>
 {
     let token = required(line, Name::Token, TokenForm)?;
     let card = optional(line, Name::Card, TokenForm)?;
-    let who = who_moved(card, line)?;
+    let who = whose_move(card, line)?;
     Ok(Input::Move { token, who })
 }
 
-fn who_moved(card: Option<Token>, line: &Value) -> Result<Moved, FormFault>
+fn whose_move(card: Option<Token>, line: &Value) -> Result<Moved, FormFault>
     ensures { result ≡ whose_move card (field Name.User (view line.now)) (view line.now) }
 {
     match (card, field(line, Name::User)) {
         (Some(_), Some(_)) => Err(FormFault::Field(Name::User)),
-        (Some(card), None) => card_moved(card, line),
-        (None, Some(_)) => user_moved(line),
+        (Some(card), None) => card_move(card, line),
+        (None, Some(_)) => user_move(line),
         (None, None) => Err(FormFault::Field(Name::Card)),
     }
 }
 
 #[tactic(auto, unfolding(crate::specs::Inputs::card_move))]
-fn card_moved(card: Token, line: &Value) -> Result<Moved, FormFault>
+fn card_move(card: Token, line: &Value) -> Result<Moved, FormFault>
     ensures { result ≡ card_move card (view line.now) }
 {
     let to = required(line, Name::To, CardStateForm)?;
@@ -92,7 +92,7 @@ fn card_moved(card: Token, line: &Value) -> Result<Moved, FormFault>
 }
 
 #[tactic(auto, unfolding(crate::specs::Inputs::user_move))]
-fn user_moved(line: &Value) -> Result<Moved, FormFault>
+fn user_move(line: &Value) -> Result<Moved, FormFault>
     ensures { result ≡ user_move (view line.now) }
 {
     let user = required(line, Name::User, TokenForm)?;
