@@ -12,6 +12,7 @@ mod decision;
 mod entry;
 mod input;
 mod mccs;
+mod named;
 mod runs;
 mod setting;
 mod spelled;
@@ -32,6 +33,7 @@ pub use decision::{Answer, Judged, Reason, Reply, Verdict};
 pub use entry::{Entry, Row};
 pub use input::{Input, Outcome, Record};
 pub use mccs::Mccs;
+pub use named::Named;
 pub use runs::runs_are_told_their_transcript;
 pub use setting::{
     Association, Card, CardState, Control, Funding, Moved, Product, Scope, Set, User, UserState,
