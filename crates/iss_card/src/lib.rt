@@ -2,12 +2,10 @@
 #![tactic(auto)]
 
 mod cards;
-mod issued;
 mod moves;
 mod standing;
 #[cfg(test)]
 mod tests;
-mod users;
 
 pub use cards::{CardFault, Cards};
 pub use standing::Standing;
