@@ -1,11 +1,11 @@
--- Numbers of two and of three digits, with zeros in front.
+-- Numbers of two and of three digits, with leading zeros.
 use Rattle.std.proofs.Common.{◌≡◌, ℕ, ◌+◌, ◌<◌, ◌≤◌, ◌/◌, ◌%◌, false, List, [], ◌∷◌, ◌++◌, ⊎_elim, refl, ap, ◌∙◌, arith}
 use Rattle.std.specs.Fmt.{decimal, padded_integral, format_spec, char_count}
 use Rattle.std.proofs.lemmas.Bool.{cases_lt}
 use Rattle.std.proofs.lemmas.Fmt.{decimal_digit, decimal_step}
 use Rattle.iss_model.specs.Amounts.{last_digits}
 
--- a number's text behind zeros, up to so many places
+-- a number's text after leading zeros, up to so many places
 abbrev padded_to : ℕ → List ℕ → List ℕ
 padded_to width text = padded_integral (format_spec 32 0 4 width 18446744073709551615) false [] text
 

@@ -24,7 +24,7 @@ read_in form text places = cond (is_amount_text text places) (if_form form (digi
 own : IsNumeralModel (λ ds. list_all is_digit ds ≡ true) (value_behind 0)
 own = numerals_by_fold _ (search rules) value_behind (search rules)
 
--- digits without a zero in front
+-- digits without a leading zero
 record IsUnpadded (ds : List ℕ) : Type 0 where
   some : 0 < length ds
   digits : list_all is_digit ds ≡ true
@@ -39,7 +39,7 @@ unpadded ds e = record { some = grind (arith, nat_tests); digits = grind (arith,
 positive : (n : ℕ) → int_lt (pos n) (pos 0) ≡ false
 positive n = search rules
 
--- a number's text has no zero in front
+-- a number's text has no leading zero
 unpadded_decimal : (n : ℕ) → n < 2 ^ 64 → IsUnpadded (decimal n)
 unpadded_decimal n h = record {
   some = decimal_nonempty n h;

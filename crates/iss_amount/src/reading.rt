@@ -72,7 +72,7 @@ fn checked_limit(n: u64) -> Option<u64>
     (n <= GREATEST_LIMIT).then_some(n)
 }
 
-/// The number of a text of digits with no zero in front.
+/// The number of a text of digits with no leading zero.
 fn read_units(text: &[u8]) -> Option<u64>
     ensures { result ≡ limit_of_units text.now }
 {
@@ -83,7 +83,7 @@ fn read_units(text: &[u8]) -> Option<u64>
     }
 }
 
-/// There are digits, with no zero before another.
+/// There are digits, with no leading zero before another.
 fn is_unpadded(digits: &[u8]) -> bool
     ensures { result ≡ is_unpadded digits.now }
 {
@@ -94,7 +94,7 @@ fn is_unpadded(digits: &[u8]) -> bool
     }
 }
 
-/// The number that digits spell behind those of `start`, up to the greatest limit.
+/// The number that digits spell after those of `start`, up to the greatest limit.
 #[tactic(auto, using(crate::proofs::Readings::stays_great))]
 fn read_behind(start: u64, digits: &[u8]) -> Option<u64>
     ensures { result ≡ limit_behind start digits.now }
