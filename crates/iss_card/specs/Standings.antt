@@ -35,7 +35,7 @@ is_unknown (Known user product card holder) = false
 abbrev pub have_holders : List User → List Card → Bool
 have_holders users cards = list_all (λ card. is_some (user_named card.user users)) cards
 
--- the reason that a fault gives; a failed allocation is none
+-- the reason that a fault gives; a failed allocation gives none
 abbrev pub fault_reason : CardFault → Option Reason
 fault_reason fault.UserUnknown = Some reason.UserUnknown
 fault_reason fault.CardUnknown = Some reason.CardUnknown

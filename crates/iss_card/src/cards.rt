@@ -6,10 +6,9 @@ ghost use Rattle.iss_model.specs.rules.Reasons.{first_reason, user_move_reason, 
 ghost use Rattle.iss_model.specs.state.Cores.{no_core, with_user, with_user_moved, with_card, with_card_moved};
 ghost use Rattle.iss_card.specs.Standings.{standing_in, is_unknown, reason_of_result};
 
-use crate::issued::Issued;
 use crate::moves::{card_may_move, first_card_state, user_may_move};
 use crate::standing::Standing;
-use crate::users::Users;
+use iss_index::Index;
 use iss_model::{Card, CardState, Token, User, UserState};
 use std::alloc::{AllocError, Global};
 use std::marker::Model;
@@ -31,8 +30,8 @@ pub enum CardFault {
 /// Users and their cards, in the order in which they were added.
 #[derive(Drop)]
 pub struct Cards {
-    users: Users,
-    issued: Issued,
+    users: Index<User>,
+    issued: Index<Card>,
 }
 
 impl Model for Cards {
@@ -54,12 +53,12 @@ impl Cards {
         ensures { result ≡ no_core.cardholders }
     {
         Cards {
-            users: Users::new(alloc),
-            issued: Issued::new(alloc),
+            users: Index::new(alloc),
+            issued: Index::new(alloc),
         }
     }
 
-    /// Adds an active user.
+    /// Adds an active user. `Exists` where there is one of that name.
     pub fn add_user(&mut self, user: &Token) -> Result<(), CardFault>
         ensures added { OnOk result (self.new ≡ with_user self.old user.now) }
         ensures refused { OnErr result (self.new ≡ self.old) }
@@ -69,14 +68,15 @@ impl Cards {
         if self.users.get(user).is_some() {
             return Err(CardFault::Exists);
         }
-        self.users.add(&User {
+        self.users.add(User {
             name: *user,
             state: UserState::Active,
         })?;
         Ok(())
     }
 
-    /// Adds a card of a user, which is active or waits to be activated. Whether there is such a product isn't asked.
+    /// Adds a card of a user, which is active or waits to be activated. `UserUnknown` where there is no such user, else `Exists`
+    /// where there is a card of that name. Whether the product exists isn't checked.
     pub fn add_card(
         &mut self,
         card: &Token,
@@ -95,7 +95,7 @@ impl Cards {
         if self.issued.get(card).is_some() {
             return Err(CardFault::Exists);
         }
-        self.issued.add(&Card {
+        self.issued.add(Card {
             name: *card,
             user: *user,
             product: *product,
@@ -104,7 +104,7 @@ impl Cards {
         Ok(())
     }
 
-    /// Moves a user to a state.
+    /// Moves a user to a state. `UserUnknown` where there is no such user, `MoveUser` where the move isn't allowed.
     pub fn move_user(&mut self, user: &Token, to: UserState) -> Result<(), CardFault>
         ensures moved { OnOk result (self.new ≡ with_user_moved self.old user.now to) }
         ensures refused { OnErr result (self.new ≡ self.old) }
@@ -117,11 +117,15 @@ impl Cards {
         if !user_may_move(found.state, to) {
             return Err(CardFault::MoveUser(found.state, to));
         }
-        self.users.set_state(user, to);
+        let moved = User {
+            state: to,
+            ..*found
+        };
+        self.users.set(moved);
         Ok(())
     }
 
-    /// Moves a card to a state.
+    /// Moves a card to a state. `CardUnknown` where there is no such card, `MoveCard` where the move isn't allowed.
     pub fn move_card(&mut self, card: &Token, to: CardState) -> Result<(), CardFault>
         ensures moved { OnOk result (self.new ≡ with_card_moved self.old card.now to) }
         ensures refused { OnErr result (self.new ≡ self.old) }
@@ -134,11 +138,15 @@ impl Cards {
         if !card_may_move(found.state, to) {
             return Err(CardFault::MoveCard(found.state, to));
         }
-        self.issued.set_state(card, to);
+        let moved = Card {
+            state: to,
+            ..*found
+        };
+        self.issued.set(moved);
         Ok(())
     }
 
-    /// Whose card it is, of which product, and the states of both.
+    /// Whose card it is, of which product, and the states of the card and of its user.
     pub fn standing(&self, card: &Token) -> Standing
         ensures value { result ≡ standing_in self.now card.now }
         ensures unknown { is_unknown result ≡ is_none (card_named card.now self.now.cards) }

@@ -1,16 +1,11 @@
 //! Users and their cards: who stands, in which state, and which moves are allowed.
-//!
-//! It may cite `iss_model` and `iss_index`.
-//! It must not cite the other parts of the core.
 #![tactic(auto)]
 
 mod cards;
-mod issued;
 mod moves;
 mod standing;
 #[cfg(test)]
 mod tests;
-mod users;
 
 pub use cards::{CardFault, Cards};
 pub use standing::Standing;

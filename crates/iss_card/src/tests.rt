@@ -23,7 +23,7 @@ fn one_card(alloc: Global, name: &Token, active: bool) -> Result<Cards, CardFaul
     Ok(cards)
 }
 
-/// What a card in the first state answers to a move to the second, and its state then.
+/// What a move of a card from the first state to the second returns, and the states after it.
 fn card_moved(
     alloc: Global,
     name: &Token,
@@ -35,8 +35,8 @@ fn card_moved(
         CardState::Unactivated | CardState::Active => {}
         CardState::Suspended | CardState::Terminated => cards.move_card(name, from)?,
     }
-    let answer = cards.move_card(name, to);
-    Ok((answer, states_of(&cards, name)))
+    let result = cards.move_card(name, to);
+    Ok((result, states_of(&cards, name)))
 }
 
 #[test]
@@ -70,7 +70,7 @@ fn moves_of_cards(rt: HostRuntime) -> Result<(), Fail> {
     Ok(())
 }
 
-/// What a user in the first state answers to a move to the second, and its state then, as its card tells it.
+/// What a move of a user from the first state to the second returns, and the states after it, as the user's card tells them.
 fn user_moved(
     alloc: Global,
     name: &Token,
@@ -82,8 +82,8 @@ fn user_moved(
         UserState::Active => {}
         UserState::Suspended | UserState::Closed => cards.move_user(name, from)?,
     }
-    let answer = cards.move_user(name, to);
-    Ok((answer, states_of(&cards, name)))
+    let result = cards.move_user(name, to);
+    Ok((result, states_of(&cards, name)))
 }
 
 #[test]
@@ -110,8 +110,8 @@ fn moves_of_users(rt: HostRuntime) -> Result<(), Fail> {
     Ok(())
 }
 
-/// What the calls answer in turn, where a user and its card have the first name and nobody has the second.
-fn answers(cards: &mut Cards, name: &Token, nobody: &Token) -> [Result<(), CardFault>; 8] {
+/// What the calls return in turn, where a user and its card have the first name and nobody has the second.
+fn results(cards: &mut Cards, name: &Token, nobody: &Token) -> [Result<(), CardFault>; 8] {
     [
         cards.move_card(name, CardState::Suspended),
         cards.move_card(name, CardState::Terminated),
@@ -124,7 +124,7 @@ fn answers(cards: &mut Cards, name: &Token, nobody: &Token) -> [Result<(), CardF
     ]
 }
 
-/// A card is suspended and ended, and can't be taken up again. Names are taken once, and nobody has no card.
+/// A card is suspended and ended, and can't be activated again. A name is taken once, and nobody has no card.
 #[test]
 fn life_of_a_card(rt: HostRuntime) -> Result<(), Fail> {
     let (name, nobody) = (token("c1")?, token("nobody")?);
@@ -140,7 +140,7 @@ fn life_of_a_card(rt: HostRuntime) -> Result<(), Fail> {
         Err(CardFault::Exists),
         Err(CardFault::UserUnknown),
     ];
-    assert_eq!(rt; answers(&mut cards, &name, &nobody), wanted);
+    assert_eq!(rt; results(&mut cards, &name, &nobody), wanted);
     assert_eq!(rt; states_of(&cards, &nobody), None);
     assert_eq!(rt; cards.user(&name), Some(UserState::Active));
     Ok(())

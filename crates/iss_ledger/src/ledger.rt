@@ -43,7 +43,7 @@ impl Ledger {
         })
     }
 
-    /// Moves an amount of minor units from one account to another. Where an allocation fails all stays as it was.
+    /// Moves an amount of minor units from one account to another. Where allocation fails all stays as it was.
     pub fn post(&mut self, from: &Account, to: &Account, amount: u64) -> Result<(), AllocError>
         requires { AreSmall (after_post self.old from.now to.now amount) }
         ensures posted { OnOk result (self.new ≡ after_post self.old from.now to.now amount) }

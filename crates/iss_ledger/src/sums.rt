@@ -22,7 +22,7 @@ pub(crate) fn sum_at(sums: &BTreeMap<AccountKey, i64>, key: &AccountKey) -> i64
     sums.get(key).copied().unwrap_or(0)
 }
 
-/// Moves an amount from one account to another. Where an allocation fails the sums stay as they were.
+/// Moves an amount from one account to another. Where allocation fails the sums stay as they were.
 pub(crate) fn post(
     sums: &mut BTreeMap<AccountKey, i64>,
     from: &Account,
@@ -59,7 +59,7 @@ fn moved(from: &Account, to: &Account, amount: u64) -> i64
     }
 }
 
-/// Adds to the sum at a key. Where an allocation fails the sums stay as they were.
+/// Adds to the sum at a key. Where allocation fails the sums stay as they were.
 #[tactic(auto, using(crate::proofs::TreeSums::sums_put))]
 fn change(sums: &mut BTreeMap<AccountKey, i64>, key: AccountKey, by: i64) -> Result<(), AllocError>
     requires order { IsInOrder sums.old }

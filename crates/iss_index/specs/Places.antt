@@ -5,8 +5,6 @@ use Rattle.std.specs.Cmp.Lexicographic.{slice_cmp}
 use Rattle.std.specs.List.{IsDistinct}
 use Rattle.std.specs.Ordering.{nat_cmp}
 use Rattle.std.specs.Str.{bytes_eq}
-use Rattle.iss_model.specs.declared.setting.User.{User}
-use Rattle.iss_model.specs.declared.setting.Card.{Card}
 
 -- the place of a name, counted from 0
 abbrev pub place_of : List ℕ → List (List ℕ) → Option ℕ
@@ -18,10 +16,6 @@ pub record IsIndexed (places : BTreeMap (List ℕ) ℕ) (names : List (List ℕ)
   pub found : (name : List ℕ) → get (slice_cmp nat_cmp) places name ≡ place_of name names
   pub apart : IsDistinct bytes_eq names
 
--- the users' names
-abbrev pub user_names : List User → List (List ℕ)
-user_names users = map (λ user. user.name) users
-
--- the cards' names
-abbrev pub card_names : List Card → List (List ℕ)
-card_names cards = map (λ card. card.name) cards
+-- a list with this change of each thing of a name
+abbrev pub changed_at : {A : Type 0} → (A → List ℕ) → List ℕ → (A → A) → List A → List A
+changed_at name_of name change things = map (λ t. if bytes_eq name (name_of t) then change t else t) things

@@ -1,5 +1,6 @@
 -- What a tree with the places of names says of a list of things that have these names.
 use Rattle.std.proofs.Common.{◌≡◌, ℕ, zero, suc, ◌<◌, Bool, true, false, cond, List, [], ◌∷◌, ◌++◌, length, map, find, Option, Some, None, slice_get, get_or, set, BTreeMap, refl, sym, ap, ap₂, subst, ◌∙◌, arith}
+use Rattle.std.specs.Prelude.{IfSome}
 use Rattle.std.specs.BTreeMap.{get}
 use Rattle.std.specs.Cmp.Lexicographic.{slice_cmp}
 use Rattle.std.specs.List.{AllByRecursion, IsDistinct}
@@ -9,7 +10,7 @@ use Rattle.std.specs.Str.{bytes_eq}
 use Rattle.std.proofs.lemmas.Map.Text.{is_eq-slice_cmp}
 use Rattle.std.proofs.lemmas.Option.{slice_get-get_or, same_Some, none-some}
 use Rattle.iss_model.proofs.Names.{one_name, name-sym}
-use Rattle.iss_card.specs.Places.{place_of, IsIndexed}
+use Rattle.iss_index.specs.Places.{place_of, IsIndexed, changed_at}
 
 -- the place after one more name
 abbrev pub later : Option ℕ → Option ℕ
@@ -32,6 +33,11 @@ later_first (Some j) is =
     let one : suc j ≡ zero = same_Some (suc j) zero is in
     omega (arith, one)
 
+not_first : (i : ℕ) → Some zero ≡ Some (suc i) → ⊥
+not_first i is =
+    let one : zero ≡ suc i = same_Some zero (suc i) is in
+    omega (arith, one)
+
 -- a place is in the list
 within : (name : List ℕ) (ns : List (List ℕ)) (i : ℕ) → place_of name ns ≡ Some i → i < length ns
 within name [] i is = absurd (none-some i is)
@@ -39,16 +45,13 @@ within name (n ∷ ns) zero is = omega arith
 within name (n ∷ ns) (suc i) is = at (bytes_eq name n) refl (within name ns i)
   where
     at : (b : Bool) → bytes_eq name n ≡ b → (place_of name ns ≡ Some i → i < length ns) → suc i < length (n ∷ ns)
-    at true e rest =
-        let first : Some zero ≡ Some (suc i) = rw e at is in
-        let one : zero ≡ suc i = same_Some zero (suc i) first in
-        absurd (omega (arith, one))
+    at true e rest = absurd (not_first i (rw e at is))
     at false e rest =
         let next : later (place_of name ns) ≡ Some (suc i) = rw e at is in
         let below : i < length ns = rest (later_is (place_of name ns) i next) in
         omega (arith, below)
 
--- the place of a name after one that the list lacks
+-- the place of a name where a name that the list lacks is added to it
 place-last : (q k : List ℕ) (ns : List (List ℕ)) → place_of k ns ≡ None
     → place_of q (ns ++ k ∷ []) ≡ cond (bytes_eq k q) (Some (length ns)) (place_of q ns)
 place-last q k [] none = ap (λ (b : Bool). cond b (Some zero) None) (name-sym q k)
@@ -177,23 +180,19 @@ module _ {A : Type 0} (nm : A → List ℕ) where
           let next : named name xs ≡ None = rw here at none in
           rw e (ap later (rest next))
 
-  -- the thing of this name is changed, another one stays
-  abbrev pub changed : List ℕ → (A → A) → List A → List A
-  changed name f xs = map (λ x. cond (bytes_eq name (nm x)) (f x) x) xs
-
-  unchanged : (name : List ℕ) (f : A → A) (xs : List A) → Lacks name (map nm xs) → xs ≡ changed name f xs
+  unchanged : (name : List ℕ) (f : A → A) (xs : List A) → Lacks name (map nm xs) → xs ≡ changed_at nm name f xs
   unchanged name f [] lacks = refl
   unchanged name f (x ∷ xs) lacks =
       let here : bytes_eq name (nm x) ≡ false = lacks.0 in
       rw here (ap (λ (ys : List A). x ∷ ys) (unchanged name f xs lacks.1))
 
   -- a name without a place changes nothing
-  pub unplaced-changed : (name : List ℕ) (f : A → A) (xs : List A) → place_of name (map nm xs) ≡ None → xs ≡ changed name f xs
+  unplaced-changed : (name : List ℕ) (f : A → A) (xs : List A) → place_of name (map nm xs) ≡ None → xs ≡ changed_at nm name f xs
   unplaced-changed name f [] none = refl
   unplaced-changed name f (x ∷ xs) none = at (bytes_eq name (nm x)) refl (unplaced-changed name f xs)
     where
-      at : (b : Bool) → bytes_eq name (nm x) ≡ b → (place_of name (map nm xs) ≡ None → xs ≡ changed name f xs)
-          → x ∷ xs ≡ changed name f (x ∷ xs)
+      at : (b : Bool) → bytes_eq name (nm x) ≡ b → (place_of name (map nm xs) ≡ None → xs ≡ changed_at nm name f xs)
+          → x ∷ xs ≡ changed_at nm name f (x ∷ xs)
       at true e rest =
           let first : Some zero ≡ None = rw e at none in
           absurd (none-some zero (sym first))
@@ -201,38 +200,73 @@ module _ {A : Type 0} (nm : A → List ℕ) where
           let next : later (place_of name (map nm xs)) ≡ None = rw e at none in
           rw e (ap (λ (ys : List A). x ∷ ys) (rest (later_none (place_of name (map nm xs)) next)))
 
-  -- what is written at a name's place changes the thing of that name alone
-  pub placed-changed : (name : List ℕ) (f : A → A) (xs : List A) (i : ℕ) (d : A) → place_of name (map nm xs) ≡ Some i
-      → IsDistinct bytes_eq (map nm xs) → d ≡ get_or xs i d → set xs i (f d) ≡ changed name f xs
-  placed-changed name f [] i d is apart own = refl
-  placed-changed name f (x ∷ xs) zero d is apart own = at (bytes_eq name (nm x)) refl
+  -- what is put in the place of the thing of its name is that thing changed
+  put-changed : (name : List ℕ) (f : A → A) (xs : List A) (i : ℕ) (y : A) → place_of name (map nm xs) ≡ Some i → IsDistinct bytes_eq (map nm xs)
+      → IfSome (named name xs) (λ x. f x ≡ y) → set xs i y ≡ changed_at nm name f xs
+  put-changed name f [] i y is apart makes = refl
+  put-changed name f (x ∷ xs) zero y is apart makes = at (bytes_eq name (nm x)) refl
     where
-      at : (b : Bool) → bytes_eq name (nm x) ≡ b → f d ∷ xs ≡ changed name f (x ∷ xs)
+      at : (b : Bool) → bytes_eq name (nm x) ≡ b → y ∷ xs ≡ changed_at nm name f (x ∷ xs)
       at true e =
+          let here : bytes_eq (nm x) name ≡ true = name-sym (nm x) name ∙ e in
+          let made : f x ≡ y = rw here at makes in
           rw e
-          (ap₂ (λ (y : A) (ys : List A). f y ∷ ys) own
+          (ap₂ (λ (z : A) (zs : List A). z ∷ zs) (sym made)
           (unchanged name f xs (others name (nm x) (map nm xs) e apart)))
       at false e =
           let next : later (place_of name (map nm xs)) ≡ Some zero = rw e at is in
           absurd (later_first (place_of name (map nm xs)) next)
-  placed-changed name f (x ∷ xs) (suc i) d is apart own =
-      at (bytes_eq name (nm x)) refl (λ place. placed-changed name f xs i d place (rest_apart (nm x) (map nm xs) apart) own)
+  put-changed name f (x ∷ xs) (suc i) y is apart makes =
+      at (bytes_eq name (nm x)) refl (λ place. put-changed name f xs i y place (rest_apart (nm x) (map nm xs) apart))
     where
-      at : (b : Bool) → bytes_eq name (nm x) ≡ b → (place_of name (map nm xs) ≡ Some i → set xs i (f d) ≡ changed name f xs)
-          → x ∷ set xs i (f d) ≡ changed name f (x ∷ xs)
-      at true e rest =
-          let first : Some zero ≡ Some (suc i) = rw e at is in
-          let one : zero ≡ suc i = same_Some zero (suc i) first in
-          absurd (omega (arith, one))
+      at : (b : Bool) → bytes_eq name (nm x) ≡ b
+          → (place_of name (map nm xs) ≡ Some i → IfSome (named name xs) (λ d. f d ≡ y) → set xs i y ≡ changed_at nm name f xs)
+          → x ∷ set xs i y ≡ changed_at nm name f (x ∷ xs)
+      at true e rest = absurd (not_first i (rw e at is))
+      at false e rest =
+          let here : bytes_eq (nm x) name ≡ false = name-sym (nm x) name ∙ e in
+          let next : later (place_of name (map nm xs)) ≡ Some (suc i) = rw e at is in
+          rw e (ap (λ (ys : List A). x ∷ ys) (rest (later_is (place_of name (map nm xs)) i next) (rw here at makes)))
+
+  -- a thing that is put in the place of the one of its name leaves the names
+  names-put : (name : List ℕ) (xs : List A) (i : ℕ) (y : A) → place_of name (map nm xs) ≡ Some i → nm y ≡ name → map nm (set xs i y) ≡ map nm xs
+  names-put name [] i y is same = refl
+  names-put name (x ∷ xs) zero y is same = at (bytes_eq name (nm x)) refl
+    where
+      at : (b : Bool) → bytes_eq name (nm x) ≡ b → nm y ∷ map nm xs ≡ nm x ∷ map nm xs
+      at true e = ap (λ (n : List ℕ). n ∷ map nm xs) (same ∙ one_name name (nm x) e)
+      at false e =
+          let next : later (place_of name (map nm xs)) ≡ Some zero = rw e at is in
+          absurd (later_first (place_of name (map nm xs)) next)
+  names-put name (x ∷ xs) (suc i) y is same = at (bytes_eq name (nm x)) refl (λ place. names-put name xs i y place same)
+    where
+      at : (b : Bool) → bytes_eq name (nm x) ≡ b → (place_of name (map nm xs) ≡ Some i → map nm (set xs i y) ≡ map nm xs)
+          → nm x ∷ map nm (set xs i y) ≡ nm x ∷ map nm xs
+      at true e rest = absurd (not_first i (rw e at is))
       at false e rest =
           let next : later (place_of name (map nm xs)) ≡ Some (suc i) = rw e at is in
-          rw e (ap (λ (ys : List A). x ∷ ys) (rest (later_is (place_of name (map nm xs)) i next)))
+          ap (λ (ns : List (List ℕ)). nm x ∷ ns) (rest (later_is (place_of name (map nm xs)) i next))
 
-  -- what is written over a thing of the same name leaves the names
-  pub names-set : (xs : List A) (i : ℕ) (d y : A) → d ≡ get_or xs i d → nm y ≡ nm d → map nm (set xs i y) ≡ map nm xs
-  names-set [] i d y own same = refl
-  names-set (x ∷ xs) zero d y own same = ap (λ (n : List ℕ). n ∷ map nm xs) (same ∙ ap nm own)
-  names-set (x ∷ xs) (suc i) d y own same = ap (λ (ns : List (List ℕ)). nm x ∷ ns) (names-set xs i d y own same)
+  -- what is found by a name has that name
+  found-name : (name : List ℕ) (xs : List A) (d : A) → named name xs ≡ Some d → nm d ≡ name
+  found-name name [] d is = absurd (none-some d is)
+  found-name name (x ∷ xs) d is = at (bytes_eq (nm x) name) refl (found-name name xs d)
+    where
+      at : (b : Bool) → bytes_eq (nm x) name ≡ b → (named name xs ≡ Some d → nm d ≡ name) → nm d ≡ name
+      at true e rest =
+          let first : Some x ≡ Some d = rw e at is in
+          subst (λ (y : A). nm y ≡ name) (same_Some x d first) (one_name (nm x) name e)
+      at false e rest = rest (rw e at is)
+
+  -- a thing that was found by its name, and is put back changed
+  pub found-changed : (name : List ℕ) (f : A → A) (before after : List A) (d : A) → Some d ≡ named name before
+      → ((g : A → A) → IfSome (named (nm d) before) (λ x. g x ≡ f d) → after ≡ changed_at nm (nm d) g before)
+      → after ≡ changed_at nm name f before
+  found-changed name f before after d is put =
+      let same : nm d ≡ name = found-name name before d (sym is) in
+      let found : Some d ≡ named (nm d) before = is ∙ ap (λ (n : List ℕ). named n before) (sym same) in
+      put f (subst (λ (o : Option A). IfSome o (λ x. f x ≡ f d)) found refl)
+      ∙ ap (λ (n : List ℕ). changed_at nm n f before) same
 
   names-last : (xs : List A) (y : A) → map nm (xs ++ y ∷ []) ≡ map nm xs ++ nm y ∷ []
   names-last [] y = refl
@@ -244,7 +278,7 @@ module _ {A : Type 0} (nm : A → List ℕ) where
 
   -- What a tree with the places finds, by the name that a call was given.
   module _ (places : BTreeMap (List ℕ) ℕ) (xs : List A) (name key : List ℕ) (indexed : IsIndexed places (map nm xs)) (same : key ≡ name) where
-    pub place-found : (got : Option ℕ) → got ≡ get (slice_cmp nat_cmp) places key → place_of name (map nm xs) ≡ got
+    place-found : (got : Option ℕ) → got ≡ get (slice_cmp nat_cmp) places key → place_of name (map nm xs) ≡ got
     place-found got is =
         sym (is ∙ indexed.found key ∙ ap (λ (k : List ℕ). place_of k (map nm xs)) same)
 
@@ -262,6 +296,23 @@ module _ {A : Type 0} (nm : A → List ℕ) where
     pub none-named : None ≡ get (slice_cmp nat_cmp) places key → None ≡ named name xs
     none-named is = sym (named-place name xs ∙ ap (λ (o : Option ℕ). option_and_then (λ i. slice_get xs i) o) (place-found None is))
 
+    pub none-changed : None ≡ get (slice_cmp nat_cmp) places key → (f : A → A) → xs ≡ changed_at nm name f xs
+    none-changed is f = unplaced-changed name f xs (place-found None is)
+
+    pub found-put : (i : ℕ) (y : A) → Some i ≡ get (slice_cmp nat_cmp) places key → (f : A → A) → IfSome (named name xs) (λ x. f x ≡ y) → set xs i y ≡ changed_at nm name f xs
+    found-put i y is f makes = put-changed name f xs i y (place-found (Some i) is) indexed.apart makes
+
+    pub found-placed : (i : ℕ) (y : A) → Some i ≡ get (slice_cmp nat_cmp) places key → set xs i y ≡ changed_at nm name (λ x. y) xs
+    found-placed i y is = found-put i y is (λ x. y) (itself (named name xs))
+      where
+        itself : (o : Option A) → IfSome o (λ x. y ≡ y)
+        itself None = tt
+        itself (Some x) = refl
+
+    -- a tree serves each list with the same names
+    pub found-indexed : (i : ℕ) (y : A) → Some i ≡ get (slice_cmp nat_cmp) places key → nm y ≡ name → IsIndexed places (map nm (set xs i y))
+    found-indexed i y is own = subst (IsIndexed places) (sym (names-put name xs i y (place-found (Some i) is) own)) indexed
+
   -- a tree that has the place of one more thing
   pub indexed-push : (places after : BTreeMap (List ℕ) ℕ) (xs ys : List A) (y : A) (key : List ℕ) (len : ℕ) → IsIndexed places (map nm xs)
       → named (nm y) xs ≡ None → key ≡ nm y → len ≡ length xs
@@ -272,7 +323,3 @@ module _ {A : Type 0} (nm : A → List ℕ) where
       (indexed_last places after (map nm xs) key len indexed
       (ap (λ (k : List ℕ). place_of k (map nm xs)) same ∙ unplaced (nm y) xs none)
       (is ∙ sym (names-len xs)) noted)
-
--- a tree serves each list with the same names
-pub same_names : (places : BTreeMap (List ℕ) ℕ) (before after : List (List ℕ)) → IsIndexed places before → after ≡ before → IsIndexed places after
-same_names places before after indexed is = subst (IsIndexed places) (sym is) indexed
