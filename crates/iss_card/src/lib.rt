@@ -1,4 +1,7 @@
 //! Users and their cards: who stands, in which state, and which moves are allowed.
+//!
+//! It may cite `iss_model` and `iss_index`.
+//! It must not cite the other parts of the core.
 #![tactic(auto)]
 
 mod cards;

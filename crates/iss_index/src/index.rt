@@ -30,7 +30,7 @@ impl<T: Named> Model for Index<T> {
 }
 
 impl<T: Named + Drop> Index<T> {
-    /// No things. Nothing is allocated.
+    /// An index without things. Nothing is allocated.
     pub fn new(alloc: Global) -> Index<T>
         ensures { result ≡ [] }
     {
@@ -63,7 +63,8 @@ impl<T: Named + Drop> Index<T> {
 
     /// Puts a thing in the place of the one of its name. Does nothing where there is none.
     ///
-    /// Names are distinct: so a change that makes `thing` of the one that is found, made to each thing of that name, gives the same list.
+    /// Names are distinct, so any change that makes `thing` of the one that is found gives the same list where it is made to
+    /// each thing of that name.
     pub fn set(&mut self, thing: T)
         ensures placed { self.new ≡ changed_at T.name_of (T.name_of thing) (λ t. thing) self.old }
         ensures changed { (change : T → T) → IfSome (find (λ t. bytes_eq (T.name_of t) (T.name_of thing)) self.old) (λ t. change t ≡ thing)

@@ -20,7 +20,7 @@ fn state_of(users: &Index<User>, name: &Token) -> Option<UserState> {
     Some(users.get(name)?.state)
 }
 
-/// The states of two users and of nobody, after the second user is suspended.
+/// Which of three additions are of a new name, and the states of two users and of nobody once the second is suspended.
 fn states_then(
     alloc: Global,
     first: &Token,

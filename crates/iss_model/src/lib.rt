@@ -15,6 +15,7 @@ mod entry;
 mod input;
 pub mod limits;
 mod mccs;
+mod named;
 mod numbered;
 mod setting;
 mod token;
@@ -27,6 +28,7 @@ pub use decision::{Answer, Judged, Reason, Reply, Verdict};
 pub use entry::{Entry, Row};
 pub use input::{Input, Outcome, Record};
 pub use mccs::Mccs;
+pub use named::Named;
 pub use numbered::Numbered;
 pub use setting::{
     Association, Card, CardState, Control, Funding, Moved, Product, Scope, Set, User, UserState,
