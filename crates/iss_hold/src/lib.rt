@@ -6,8 +6,9 @@
 mod hold;
 mod holds;
 mod indexes;
+mod table;
 #[cfg(test)]
 mod tests;
 
-pub use hold::Taken;
+pub use hold::{Hold, Taken};
 pub use holds::Holds;
