@@ -1,8 +1,9 @@
 -- Expiries in their order: one more, one less, and those that have come.
-use Rattle.std.proofs.Common.{◌≡◌, ℕ, nat_le, Bool, true, false, cond, List, [], ◌∷◌, map, fold, filter, refl, sym, ap, ◌∙◌, arith}
+use Rattle.std.proofs.Common.{◌≡◌, ℕ, nat_le, Bool, true, false, cond, List, [], ◌∷◌, map, fold, filter, length, not, ◌<◌, refl, sym, ap, ◌∙◌, arith}
+use Rattle.std.specs.Prelude.{Some, slice_get}
 use Rattle.std.proofs.lemmas.Bool.Decides.{nat_tests}
 use Rattle.std.specs.List.{AllByRecursion}
-use Rattle.iss_model.specs.rules.Due.{DueItem, due_txn, txn_due, is_before, items_with}
+use Rattle.iss_model.specs.rules.Due.{DueItem, due_txn, txn_due, is_before, is_quiet, items_with}
 use Rattle.iss_hold.specs.declared.hold.Hold.{Hold}
 use Rattle.iss_hold.specs.Holdings.{now_of, holdings_of}
 use Rattle.iss_hold.specs.Expiries.{Expiry, expiry_of, item_of, with_expiry, expiries, txns_due}
@@ -152,3 +153,18 @@ come_due now hs =
 
 pub due_things : (now : ℕ) (hs : List Hold) → map (λ token. txn_due token) (map (λ e. e.1) (come_of now (expiries hs))) ≡ map (λ item. item.thing) (txns_due (holdings_of hs) now)
 due_things now hs = things (come_of now (expiries hs)) ∙ ap (λ (items : List DueItem). map (λ item. item.thing) items) (come_due now hs)
+
+-- whether the first one has come says whether any has
+pub first_come : (now : ℕ) (es : List Expiry) (k : ℕ × ℕ) (token : List ℕ) → slice_get es 0 ≡ Some (k, token) → nat_le k.0 now ≡ not (is_quiet (map item_of (come_of now es)))
+first_come now [] k token e = cc
+first_come now (a ∷ es) k token e =
+    let one : a ≡ (k, token) = cc in
+    ap (λ (x : Expiry). nat_le x.0.0 now) (sym one) ∙ by (has_come now a)
+  where
+    by : (t : Bool) → t ≡ not (is_quiet (map item_of (cond t (a ∷ come_of now es) [])))
+    by true = refl
+    by false = refl
+
+pub no_first : (now : ℕ) (es : List Expiry) → (0 < length es → ⊥) → false ≡ not (is_quiet (map item_of (come_of now es)))
+no_first now [] h = refl
+no_first now (a ∷ es) h = absurd (h (omega arith))

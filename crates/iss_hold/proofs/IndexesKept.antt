@@ -1,5 +1,5 @@
 -- The indexes agree with the holds after each change.
-use Rattle.std.proofs.Common.{◌≡◌, ℕ, zero, suc, ◌+◌, ◌<◌, ◌^◌, nat_eq, ◌==◌, Bool, true, false, cond, ◌&&◌, ◌||◌, List, [], ◌∷◌, ◌++◌, map, length, set, refl, sym, ap, ap₂, ◌∙◌, subst, arith}
+use Rattle.std.proofs.Common.{◌≡◌, ℕ, zero, suc, ◌<◌, ◌^◌, nat_eq, ◌==◌, Bool, true, false, cond, ◌||◌, List, [], ◌∷◌, ◌++◌, map, length, set, refl, sym, ap, ◌∙◌, subst, arith}
 use Rattle.std.specs.Prelude.{Option, Some, None, IsSome, is_some, slice_get, unwrap_or}
 use Rattle.std.specs.List.{IsDistinct, list_any}
 use Rattle.std.specs.Cmp.{nat_eq_equiv}
@@ -16,14 +16,14 @@ use Rattle.iss_model.specs.rules.Activity.{TxnNow, txn_named}
 use Rattle.iss_model.specs.Currencies.{iso_number}
 use Rattle.iss_model.proofs.Names.{one_name}
 use Rattle.iss_hold.specs.declared.hold.Hold.{Hold}
-use Rattle.iss_hold.specs.Holdings.{now_of, whole_of}
+use Rattle.iss_hold.specs.Holdings.{now_of}
 use Rattle.iss_hold.specs.Expiries.{Expiry}
-use Rattle.iss_hold.specs.Indexes.{names, origins, place_in, is_of, total_of, by_name, by_user, by_expiry, AreIndexed}
+use Rattle.iss_hold.specs.Indexes.{names, origins, place_in, total_of, by_name, by_user, by_expiry, AreSummed, AreIndexed}
 use Rattle.iss_hold.specs.Sums.{sum_in}
-use Rattle.iss_hold.proofs.IndexCalls.{user_test, both_true, one_number}
 use Rattle.iss_hold.proofs.HoldSums.{map_set}
 use Rattle.iss_hold.proofs.HoldTotals.{total_set, total_more}
-use Rattle.iss_hold.proofs.Places.{place_more, no_place, has_place}
+use Rattle.iss_hold.proofs.Changes.{there_or_set}
+use Rattle.iss_hold.proofs.Places.{IsReplaced, place_more, no_place, has_place}
 use Rattle.iss_hold.proofs.Beginnings.{begun, entries_more}
 use Rattle.iss_hold.proofs.Endings.{ended, expiries_less, expiries_same}
 
@@ -81,19 +81,23 @@ indexed_more hs places more_places sums more_sums order more_order t a unknown n
       distinct =
           subst (λ (xs : List (List ℕ)). IsDistinct bytes_eq xs) (sym ns)
           (IsDistinct-push nat_list_eq_equiv (names hs) t.token a.distinct (no_place t.token (names hs) none));
-      placed = λ name.
-          placed.0 name
-          ∙ ap (λ (b : Bool). cond b (Some (length hs)) (tree.get by_name places name)) (is_eq-slice_cmp t.token name)
-          ∙ new_place (bytes_eq t.token name) (tree.get by_name places name) (place_in name (names hs)) (length hs) (length (names hs)) (a.placed name)
-          (sym (length_map (λ (h : Hold). h.txn.token) hs))
-          (λ (e : bytes_eq t.token name ≡ true). ap (λ (n : List ℕ). place_in n (names hs)) (sym (one_name t.token name e)) ∙ none_some (place_in t.token (names hs)) none)
-          ∙ sym (place_more name (names hs) t.token)
-          ∙ ap (λ (xs : List (List ℕ)). place_in name xs) (sym ns);
-      summed = λ user number. same user number ∙ a.summed user number ∙ sym (total_more user number hs (begun t) refl);
-      standing =
-          there_or_last (λ (h : Hold). IsSome (tree.get by_user more_sums (h.txn.user, iso_number h.txn.currency))) hs (begun t)
-          (λ i h e. stay h.txn.user (iso_number h.txn.currency) (a.standing i h e)) own;
-      small = λ user number. subst (λ (n : ℕ). n < 2 ^ 62) (sym (total_more user number hs (begun t) refl)) (a.small user number);
+      placed = record {
+        place = λ name.
+            placed.0 name
+            ∙ ap (λ (b : Bool). cond b (Some (length hs)) (tree.get by_name places name)) (is_eq-slice_cmp t.token name)
+            ∙ new_place (bytes_eq t.token name) (tree.get by_name places name) (place_in name (names hs)) (length hs) (length (names hs)) (a.placed.place name)
+            (sym (length_map (λ (h : Hold). h.txn.token) hs))
+            (λ (e : bytes_eq t.token name ≡ true). ap (λ (n : List ℕ). place_in n (names hs)) (sym (one_name t.token name e)) ∙ none_some (place_in t.token (names hs)) none)
+            ∙ sym (place_more name (names hs) t.token)
+            ∙ ap (λ (xs : List (List ℕ)). place_in name xs) (sym ns);
+      };
+      summed = record {
+        summed = λ user number. same user number ∙ a.summed.summed user number ∙ sym (total_more user number hs (begun t) refl);
+        standing =
+            there_or_last (λ (h : Hold). IsSome (tree.get by_user more_sums (h.txn.user, iso_number h.txn.currency))) hs (begun t)
+            (λ i h e. stay h.txn.user (iso_number h.txn.currency) (a.summed.standing i h e)) own;
+        small = λ user number. subst (λ (n : ℕ). n < 2 ^ 62) (sym (total_more user number hs (begun t) refl)) (a.summed.small user number);
+      };
       once =
           subst (λ (xs : List ℕ). IsDistinct nat_eq xs) (sym (map_push (λ (h : Hold). h.txn.origin) hs (begun t)))
           (IsDistinct-push nat_eq_equiv (origins hs) t.origin a.once (sym (no_origin t.origin hs) ∙ new_origin));
@@ -101,69 +105,20 @@ indexed_more hs places more_places sums more_sums order more_order t a unknown n
       rising = rising;
     }
 
--- what is there when one is replaced
-there_or_set : (P : Hold → Type 0) (hs : List Hold) (i : ℕ) (k : Hold) → ((j : ℕ) (h : Hold) → slice_get hs j ≡ Some h → P h) → P k
-    → (j : ℕ) (h : Hold) → slice_get (set hs i k) j ≡ Some h → P h
-there_or_set P [] i k all own j h e = cc
-there_or_set P (x ∷ hs) zero k all own zero h e = let same : k ≡ h = cc in subst P same own
-there_or_set P (x ∷ hs) zero k all own (suc j) h e = all (suc j) h e
-there_or_set P (x ∷ hs) (suc i) k all own zero h e = all zero h e
-there_or_set P (x ∷ hs) (suc i) k all own (suc j) h e = there_or_set P hs i k (λ l y f. all (suc l) y f) own j h e
-
-sum_by : (b : Bool) (sum total before whole whole_new : ℕ) (o : Option ℕ) → unwrap_or o 0 ≡ before
-    → total + cond b whole 0 ≡ before + cond b whole_new 0 → (b ≡ true → sum + whole ≡ before + whole_new) → unwrap_or (cond b (Some sum) o) 0 ≡ total
-sum_by true sum total before whole whole_new o e f g = let h = g refl in omega arith
-sum_by false sum total before whole whole_new o e f g = omega arith
-
-stands_by : (b : Bool) (n : ℕ) (o : Option ℕ) → IsSome o → IsSome (cond b (Some n) o)
-stands_by true n o h = refl
-stands_by false n o h = h
-
--- a hold of a transaction changes, and the sum of its user with it
-pub indexed_set : (hs : List Hold) (places : BTreeMap (List ℕ) ℕ) (sums new_sums : BTreeMap (List ℕ × ℕ) ℕ) (order : BTreeMap (ℕ × ℕ) (List ℕ)) (i : ℕ) (h k : Hold) (sum : ℕ)
-    → AreIndexed hs places sums order
-    → slice_get hs i ≡ Some h → k.txn ≡ h.txn → k.live ≡ h.live
-    → tree.Updates by_user sums new_sums (h.txn.user, iso_number h.txn.currency) (Some sum)
-    → sum + whole_of h ≡ total_of h.txn.user (iso_number h.txn.currency) hs + whole_of k
-    → sum < 2 ^ 62
-    → AreIndexed (set hs i k) places new_sums order
-indexed_set hs places sums new_sums order i h k sum a at txn live updates adds fits =
-    let user = h.txn.user in
-    let number = iso_number h.txn.currency in
-    let ns : names (set hs i k) ≡ names hs = map_set (λ (x : Hold). x.txn.token) hs i h k at (ap (λ (t : Txn). t.token) txn) in
-    let os : origins (set hs i k) ≡ origins hs = map_set (λ (x : Hold). x.txn.origin) hs i h k at (ap (λ (t : Txn). t.origin) txn) in
-    let own : (u : List ℕ) (n : ℕ) → is_of u n k ≡ is_of u n h = λ u n. ap (λ (t : Txn). bytes_eq t.user u && (iso_number t.currency == n)) txn in
-    let same_total : (u : List ℕ) (n : ℕ) → is_of u n h ≡ true → sum + whole_of h ≡ total_of u n hs + whole_of k =
-    λ u n e. adds ∙ ap₂ (λ (v : List ℕ) (m : ℕ). total_of v m hs + whole_of k)
-    (one_name user u (both_true (bytes_eq user u) (number == n) e).0) (one_number number n (both_true (bytes_eq user u) (number == n) e).1) in
-    let summed : (u : List ℕ) (n : ℕ) → unwrap_or (tree.get by_user new_sums (u, n)) 0 ≡ total_of u n (set hs i k) =
-    λ u n.
-    ap (λ (o : Option ℕ). unwrap_or o 0)
-    (updates.0 (u, n) ∙ ap (λ (b : Bool). cond b (Some sum) (tree.get by_user sums (u, n))) (user_test (user, number) (u, n)))
-    ∙ sum_by (is_of u n h) sum (total_of u n (set hs i k)) (total_of u n hs) (whole_of h) (whole_of k) (tree.get by_user sums (u, n))
-    (a.summed u n) (total_set u n hs i h k at (own u n)) (same_total u n) in
+-- a hold takes the place of another of its transaction, where the sums agree again
+pub indexed_set : {hs : List Hold} {places : BTreeMap (List ℕ) ℕ} {sums new_sums : BTreeMap (List ℕ × ℕ) ℕ} {order : BTreeMap (ℕ × ℕ) (List ℕ)} {i : ℕ} {h k : Hold}
+    → AreIndexed hs places sums order → IsReplaced hs i h k → AreSummed (set hs i k) new_sums → AreIndexed (set hs i k) places new_sums order
+indexed_set {hs} {places} {sums} {new_sums} {order} {i} {h} {k} a s summed =
+    let ns : names (set hs i k) ≡ names hs = map_set (λ (x : Hold). x.txn.token) hs i h k s.is_there (ap (λ (t : TxnNow). t.txn.token) (sym s.same)) in
+    let os : origins (set hs i k) ≡ origins hs = map_set (λ (x : Hold). x.txn.origin) hs i h k s.is_there (ap (λ (t : TxnNow). t.txn.origin) (sym s.same)) in
     record {
       distinct = subst (λ (xs : List (List ℕ)). IsDistinct bytes_eq xs) (sym ns) a.distinct;
-      placed = λ name. a.placed name ∙ ap (λ (xs : List (List ℕ)). place_in name xs) (sym ns);
+      placed = record { place = λ name. a.placed.place name ∙ ap (λ (xs : List (List ℕ)). place_in name xs) (sym ns) };
       summed = summed;
-      standing =
-          there_or_set (λ (x : Hold). IsSome (tree.get by_user new_sums (x.txn.user, iso_number x.txn.currency))) hs i k
-          (λ j x e. subst (λ (o : Option ℕ). IsSome o) (sym (updates.0 (x.txn.user, iso_number x.txn.currency)))
-          (stands_by (is_at (by_user (user, number)) (x.txn.user, iso_number x.txn.currency)) sum (tree.get by_user sums (x.txn.user, iso_number x.txn.currency)) (a.standing j x e)))
-          (subst (λ (t : Txn). IsSome (tree.get by_user new_sums (t.user, iso_number t.currency))) (sym txn)
-          (subst (λ (o : Option ℕ). IsSome o) (sym (updates.0 (user, number)))
-          (stands_by (is_at (by_user (user, number)) (user, number)) sum (tree.get by_user sums (user, number)) (a.standing i h at))));
-      small = λ u n.
-          small_by (is_of u n h) (total_of u n (set hs i k)) (total_of u n hs) (whole_of h) (whole_of k) sum (total_set u n hs i h k at (own u n)) (same_total u n) (a.small u n) fits;
       once = subst (λ (xs : List ℕ). IsDistinct nat_eq xs) (sym os) a.once;
-      ordered = a.ordered ∙ sym (expiries_same hs i h k at txn live);
+      ordered = a.ordered ∙ sym (expiries_same hs i h k s.is_there (ap (λ (t : TxnNow). t.txn) (sym s.same)) (ap (λ (t : TxnNow). t.live) (sym s.same)));
       rising = a.rising;
     }
-  where
-    small_by : (b : Bool) (total before whole whole_new sum : ℕ) → total + cond b whole 0 ≡ before + cond b whole_new 0
-        → (b ≡ true → sum + whole ≡ before + whole_new) → before < 2 ^ 62 → sum < 2 ^ 62 → total < 2 ^ 62
-    small_by true total before whole whole_new sum e g p q = let h = g refl in omega arith
-    small_by false total before whole whole_new sum e g p q = omega arith
 
 same_total_end : (user : List ℕ) (number : ℕ) (hs : List Hold) (i : ℕ) (h : Hold) → slice_get hs i ≡ Some h → total_of user number (set hs i (ended h)) ≡ total_of user number hs
 same_total_end user number hs i h at = let e = total_set user number hs i h (ended h) at refl in omega arith
@@ -180,12 +135,14 @@ indexed_end hs places sums order new_order i h a at entries rising =
     let os : origins (set hs i (ended h)) ≡ origins hs = map_set (λ (x : Hold). x.txn.origin) hs i h (ended h) at refl in
     record {
       distinct = subst (λ (xs : List (List ℕ)). IsDistinct bytes_eq xs) (sym ns) a.distinct;
-      placed = λ name. a.placed name ∙ ap (λ (xs : List (List ℕ)). place_in name xs) (sym ns);
-      summed = λ u n. a.summed u n ∙ sym (same_total_end u n hs i h at);
-      standing =
-          there_or_set (λ (x : Hold). IsSome (tree.get by_user sums (x.txn.user, iso_number x.txn.currency))) hs i (ended h)
-          (λ j x e. a.standing j x e) (a.standing i h at);
-      small = λ u n. subst (λ (m : ℕ). m < 2 ^ 62) (sym (same_total_end u n hs i h at)) (a.small u n);
+      placed = record { place = λ name. a.placed.place name ∙ ap (λ (xs : List (List ℕ)). place_in name xs) (sym ns) };
+      summed = record {
+        summed = λ u n. a.summed.summed u n ∙ sym (same_total_end u n hs i h at);
+        standing =
+            there_or_set (λ (x : Hold). IsSome (tree.get by_user sums (x.txn.user, iso_number x.txn.currency))) hs i (ended h)
+            (λ j x e. a.summed.standing j x e) (a.summed.standing i h at);
+        small = λ u n. subst (λ (m : ℕ). m < 2 ^ 62) (sym (same_total_end u n hs i h at)) (a.summed.small u n);
+      };
       once = subst (λ (xs : List ℕ). IsDistinct nat_eq xs) (sym os) a.once;
       ordered =
           entries ∙ ap (λ (es : List Expiry). remove_entry (is_at (by_expiry (h.txn.expires, h.txn.origin))) es) a.ordered
@@ -201,10 +158,12 @@ indexed_none hs places sums order e p s o rising =
     subst (λ (xs : List Hold). AreIndexed xs places sums order) (sym e)
     (record {
       distinct = tt;
-      placed = λ name. ap (λ (es : List (List ℕ × ℕ)). lookup (is_at (by_name name)) es) p;
-      summed = λ user number. ap (λ (es : List ((List ℕ × ℕ) × ℕ)). unwrap_or (lookup (is_at (by_user (user, number))) es) 0) s;
-      standing = λ i h h_is. cc;
-      small = λ user number. omega arith;
+      placed = record { place = λ name. ap (λ (es : List (List ℕ × ℕ)). lookup (is_at (by_name name)) es) p };
+      summed = record {
+        summed = λ user number. ap (λ (es : List ((List ℕ × ℕ) × ℕ)). unwrap_or (lookup (is_at (by_user (user, number))) es) 0) s;
+        standing = λ i h h_is. cc;
+        small = λ user number. omega arith;
+      };
       once = tt;
       ordered = o;
       rising = rising;
@@ -213,4 +172,4 @@ indexed_none hs places sums order e p s o rising =
 pub no_place_yet : (hs : List Hold) (places : BTreeMap (List ℕ) ℕ) (sums : BTreeMap (List ℕ × ℕ) ℕ) (order : BTreeMap (ℕ × ℕ) (List ℕ)) (name : List ℕ)
     → AreIndexed hs places sums order → txn_named name (map now_of hs) ≡ None → tree.get by_name places name ≡ None
 no_place_yet hs places sums order name a unknown =
-    a.placed name ∙ none_some (place_in name (names hs)) (has_place name hs ∙ ap (λ (o : Option TxnNow). is_some o) unknown)
+    a.placed.place name ∙ none_some (place_in name (names hs)) (has_place name hs ∙ ap (λ (o : Option TxnNow). is_some o) unknown)

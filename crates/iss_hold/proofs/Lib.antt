@@ -6,6 +6,7 @@ pub mod ExpiryOrder
 pub mod Beginnings
 pub mod Endings
 pub mod IndexCalls
+pub mod Changes
 pub mod IndexesKept
 pub mod HoldCalls
 pub mod TestBounds

@@ -1,58 +1,80 @@
 -- The place of a name, and what stands there.
-use Rattle.std.proofs.Common.{◌≡◌, ℕ, suc, ◌<◌, Bool, true, false, cond, List, [], ◌∷◌, ◌++◌, map, length, refl, sym, ap, ◌∙◌, subst, arith}
+use Rattle.std.proofs.Common.{◌≡◌, ℕ, zero, suc, ◌<◌, Bool, true, false, cond, List, [], ◌∷◌, ◌++◌, get_or, map, length, refl, sym, ap, ◌∙◌, subst, arith}
 use Rattle.std.specs.Prelude.{Option, Some, None, is_some, slice_get}
 use Rattle.std.specs.Option.{option_map}
 use Rattle.std.specs.List.{list_any}
 use Rattle.std.specs.Str.{bytes_eq}
+use Rattle.std.specs.BTreeMap as tree
+use Rattle.std.specs.BTreeMap.{BTreeMap}
 use Rattle.iss_model.proofs.Names.{one_name, name-sym}
-use Rattle.iss_model.specs.rules.Activity.{txn_named}
+use Rattle.iss_model.specs.rules.Activity.{TxnNow, txn_named}
 use Rattle.iss_hold.specs.declared.hold.Hold.{Hold}
 use Rattle.iss_hold.specs.Holdings.{now_of}
-use Rattle.iss_hold.specs.Indexes.{names, place_in}
+use Rattle.iss_hold.specs.Indexes.{names, place_in, by_name, ArePlaced, IsAt}
 
--- what is found of a name at a place
-pub record IsAt (name : List ℕ) (holds : List Hold) (i : ℕ) : Type 0 where
-  pub hold : Hold
-  pub is_there : slice_get holds i ≡ Some hold
-  pub named : hold.txn.token ≡ name
-  pub found : txn_named name (map now_of holds) ≡ Some (now_of hold)
-  pub inside : i < length holds
+one_less : (o : Option ℕ) (i : ℕ) → option_map suc o ≡ Some (suc i) → o ≡ Some i
+one_less None i e = cc
+one_less (Some j) i e = cc
 
-later : (o : Option ℕ) (i : ℕ) → option_map suc o ≡ Some i → (j : ℕ) × (o ≡ Some j) × (i ≡ suc j)
-later None i e = cc
-later (Some j) i e = (j, refl, cc)
+not_first : (o : Option ℕ) (P : Type 0) → option_map suc o ≡ Some 0 → P
+not_first None P e = cc
+not_first (Some j) P e = cc
 
-here : (i : ℕ) → Some 0 ≡ Some i → 0 ≡ i
-here i e = cc
+inside_by : (b : Bool) (o : Option ℕ) (i n : ℕ) → ((j : ℕ) → o ≡ Some j → j < n) → cond b (Some 0) (option_map suc o) ≡ Some i → i < suc n
+inside_by b o zero n rest p = omega arith
+inside_by true o (suc i) n rest p = cc
+inside_by false o (suc i) n rest p = let below = rest i (one_less o i p) in omega arith
 
-is_at_by : (name : List ℕ) (h : Hold) (hs : List Hold) (i : ℕ) (b : Bool) → bytes_eq h.txn.token name ≡ b
-    → ((j : ℕ) → place_in name (names hs) ≡ Some j → IsAt name hs j)
-    → cond b (Some 0) (option_map suc (place_in name (names hs))) ≡ Some i → IsAt name (h ∷ hs) i
-is_at_by name h hs i true e rest p =
-    subst (λ (k : ℕ). IsAt name (h ∷ hs) k) (here i p)
-    (record {
-      hold = h;
-      is_there = refl;
-      named = one_name h.txn.token name e;
-      found = ap (λ (b : Bool). cond b (Some (now_of h)) (txn_named name (map now_of hs))) e;
-      inside = omega arith;
-    })
-is_at_by name h hs i false e rest p =
-    let l = later (place_in name (names hs)) i p in
-    let at = rest l.0 l.1 in
-    let below = at.inside in
-    subst (λ (k : ℕ). IsAt name (h ∷ hs) k) (sym l.2)
-    (record {
-      hold = at.hold;
-      is_there = at.is_there;
-      named = at.named;
-      found = ap (λ (b : Bool). cond b (Some (now_of h)) (txn_named name (map now_of hs))) e ∙ at.found;
-      inside = omega arith;
-    })
+inside_list : (name : List ℕ) (hs : List Hold) (i : ℕ) → place_in name (names hs) ≡ Some i → i < length hs
+inside_list name [] i e = cc
+inside_list name (x ∷ hs) i e = inside_by (bytes_eq x.txn.token name) (place_in name (names hs)) i (length hs) (λ j. inside_list name hs j) e
 
-pub is_at : (name : List ℕ) (hs : List Hold) (i : ℕ) → place_in name (names hs) ≡ Some i → IsAt name hs i
-is_at name [] i e = cc
-is_at name (h ∷ hs) i e = is_at_by name h hs i (bytes_eq h.txn.token name) refl (λ j. is_at name hs j) e
+-- a place is one of the list's
+pub inside : {hs : List Hold} {places : BTreeMap (List ℕ) ℕ} {i : ℕ} (name : List ℕ) → ArePlaced hs places → Some i ≡ tree.get by_name places name → i < length hs
+inside {hs} {places} {i} name placed e = inside_list name hs i (sym (placed.place name) ∙ sym e)
+
+is_at_by : (name : List ℕ) (x : Hold) (hs : List Hold) (i : ℕ) (h : Hold) (b : Bool) → bytes_eq x.txn.token name ≡ b
+    → ((j : ℕ) → place_in name (names hs) ≡ Some j → h ≡ get_or hs j h → IsAt name hs j h)
+    → cond b (Some 0) (option_map suc (place_in name (names hs))) ≡ Some i → h ≡ get_or (x ∷ hs) i h → IsAt name (x ∷ hs) i h
+is_at_by name x hs zero h true e rest p g =
+    subst (λ (y : Hold). IsAt name (x ∷ hs) 0 y) (sym g)
+    (record { is_there = refl; named = one_name x.txn.token name e; found = ap (λ (b : Bool). cond b (Some (now_of x)) (txn_named name (map now_of hs))) e })
+is_at_by name x hs (suc i) h true e rest p g = cc
+is_at_by name x hs zero h false e rest p g = not_first (place_in name (names hs)) (IsAt name (x ∷ hs) 0 h) p
+is_at_by name x hs (suc i) h false e rest p g =
+    let at = rest i (one_less (place_in name (names hs)) i p) g in
+    record { is_there = at.is_there; named = at.named; found = ap (λ (b : Bool). cond b (Some (now_of x)) (txn_named name (map now_of hs))) e ∙ at.found }
+
+is_at_list : (name : List ℕ) (hs : List Hold) (i : ℕ) (h : Hold) → place_in name (names hs) ≡ Some i → h ≡ get_or hs i h → IsAt name hs i h
+is_at_list name [] i h e g = cc
+is_at_list name (x ∷ hs) i h e g = is_at_by name x hs i h (bytes_eq x.txn.token name) refl (λ j. is_at_list name hs j h) e g
+
+-- what stands at the place of a name
+pub is_at : {name : List ℕ} {hs : List Hold} {places : BTreeMap (List ℕ) ℕ} {i : ℕ} {h : Hold} → ArePlaced hs places → Some i ≡ tree.get by_name places name → h ≡ get_or hs i h → IsAt name hs i h
+is_at {name} {hs} {places} {i} {h} placed e g = is_at_list name hs i h (sym (placed.place name) ∙ sym e) g
+
+-- a hold stands at a place that another of its transaction may take
+pub record IsReplaced (hs : List Hold) (i : ℕ) (h k : Hold) : Type 0 where
+  pub is_there : slice_get hs i ≡ Some h
+  pub same : now_of h ≡ now_of k
+
+pub replaced : {hs : List Hold} {i : ℕ} {h : Hold} (k : Hold) → option_map now_of (slice_get hs i) ≡ Some (now_of k) → h ≡ get_or hs i h → IsReplaced hs i h k
+replaced {hs} {i} {h} k e g = by hs i e g
+  where
+    by : (xs : List Hold) (j : ℕ) → option_map now_of (slice_get xs j) ≡ Some (now_of k) → h ≡ get_or xs j h → IsReplaced xs j h k
+    by [] j f q = cc
+    by (x ∷ xs) zero f q =
+        let same : now_of x ≡ now_of k = unwrapped f in
+        record { is_there = ap (λ (y : Hold). Some y) (sym q); same = ap now_of q ∙ same }
+      where
+        unwrapped : {t u : TxnNow} → Some t ≡ Some u → t ≡ u
+        unwrapped f = cc
+    by (x ∷ xs) (suc j) f q = let r = by xs j f q in record { is_there = r.is_there; same = r.same }
+
+pub stood_inside : (hs : List Hold) (i : ℕ) (t : TxnNow) → option_map now_of (slice_get hs i) ≡ Some t → i < length hs
+stood_inside [] i t e = cc
+stood_inside (x ∷ hs) zero t e = omega arith
+stood_inside (x ∷ hs) (suc i) t e = let below = stood_inside hs i t e in omega arith
 
 has_place_by : (name : List ℕ) (h : Hold) (hs : List Hold) (b : Bool) → bytes_eq h.txn.token name ≡ b
     → is_some (place_in name (names hs)) ≡ is_some (txn_named name (map now_of hs))

@@ -1,5 +1,5 @@
 -- How far the holdings of a test reach.
-use Rattle.std.specs.Prelude.{◌≡◌, ℕ, nat_lt, ℤ, pos, neg_ℤ, ◌≤ℤ◌, true, List}
+use Rattle.std.specs.Prelude.{◌≡◌, ℕ, nat_lt, ℤ, pos, neg_ℤ, ◌≤ℤ◌, ◌<ℤ◌, ◌^◌, true, List}
 use Rattle.std.specs.List.{list_all}
 use Rattle.iss_model.specs.state.Kept.{Kept, kept_at}
 use Rattle.iss_model.specs.state.Cores.{Holdings}
@@ -16,3 +16,11 @@ pub record IsWithin (bound : ℕ) (sum : ℤ) : Type 0 where
 -- each sum lies within a bound
 abbrev pub AreWithin : ℕ → Kept → Type 0
 AreWithin bound sums = (key : List ℕ) → IsWithin bound (kept_at sums key)
+
+-- each sum is below 2^62
+abbrev pub AreLow : Kept → Type 0
+AreLow sums = (key : List ℕ) → kept_at sums key <ℤ pos (2 ^ 62)
+
+-- each sum is at most a bound
+abbrev pub AreUpTo : ℕ → Kept → Type 0
+AreUpTo bound sums = (key : List ℕ) → kept_at sums key ≤ℤ pos bound

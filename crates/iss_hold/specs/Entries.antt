@@ -1,5 +1,5 @@
 -- What calls on a started transaction do to the holdings, by the entries that are made of it.
-use Rattle.std.specs.Prelude.{ℕ, Bool, false, List, [], ◌++◌, fold, Option, Some, None}
+use Rattle.std.specs.Prelude.{ℕ, ◌-◌, Bool, false, List, [], ◌++◌, fold, Option, Some, None}
 use Rattle.iss_model.specs.declared.account.Part.TheVariants as part
 use Rattle.iss_model.specs.declared.txn.Txn.{Txn}
 use Rattle.iss_model.specs.declared.entry.Entry.{Entry}
@@ -7,8 +7,9 @@ use Rattle.iss_model.specs.Sums.{part_key}
 use Rattle.iss_model.specs.state.Kept.{kept_at}
 use Rattle.iss_model.specs.rules.Activity.{TxnNow, txn_named}
 use Rattle.iss_model.specs.rules.Facts.{not_below}
-use Rattle.iss_model.specs.rules.Pieces.{Parts, unhold_entries}
+use Rattle.iss_model.specs.rules.Pieces.{Parts, in_all, unhold_entries}
 use Rattle.iss_model.specs.state.Cores.{Holdings, with_hold}
+use Rattle.iss_hold.specs.declared.hold.Taken.{Taken}
 
 -- a transaction was started and hasn't ended
 abbrev pub live_now : Option TxnNow → Bool
@@ -40,3 +41,11 @@ clearing_unhold_entries taken t = unhold_entries t part.G taken.g ++ unhold_entr
 -- a release lets these parts go: the programme's, the gateway's, the user's own
 abbrev pub release_unhold_entries : Parts → Txn → List Entry
 release_unhold_entries taken t = unhold_entries t part.P taken.p ++ unhold_entries t part.G taken.g ++ unhold_entries t part.S taken.s
+
+-- these parts of an amount, and its rest
+abbrev pub taken_in_all : Parts → ℕ → Taken
+taken_in_all taken amount = record { g = taken.g; p = taken.p; s = taken.s; rest = amount - in_all taken }
+
+-- the parts that were taken
+abbrev pub parts_taken : Taken → Parts
+parts_taken taken = record { g = taken.g; p = taken.p; s = taken.s }

@@ -1,5 +1,5 @@
 -- What transactions hold, as it is kept for each of them.
-use Rattle.std.specs.Prelude.{ℕ, ◌+◌, pos, List, [], ◌∷◌, map, fold}
+use Rattle.std.specs.Prelude.{ℕ, ◌+◌, ◌-◌, pos, List, [], ◌∷◌, map, fold}
 use Rattle.iss_model.specs.declared.account.Part.{Part}
 use Rattle.iss_model.specs.declared.account.Part.TheVariants as part
 use Rattle.iss_model.specs.Sums.{Change, part_key, user_key}
@@ -28,6 +28,10 @@ with_part part.S amount hold = record hold { s = amount }
 -- the parts of a hold
 abbrev pub parts_of : Hold → Parts
 parts_of hold = record { g = hold.g; p = hold.p; s = hold.s }
+
+-- a hold without these parts
+abbrev pub without_parts : Parts → Hold → Hold
+without_parts taken hold = record hold { g = hold.g - taken.g; p = hold.p - taken.p; s = hold.s - taken.s }
 
 -- all that a hold holds
 abbrev pub whole_of : Hold → ℕ

@@ -9,8 +9,10 @@ use Rattle.std.specs.Cmp.Lexicographic.{slice_cmp}
 use Rattle.std.specs.BTreeMap as tree
 use Rattle.std.specs.BTreeMap.{BTreeMap}
 use Rattle.iss_model.specs.Currencies.{iso_number}
+use Rattle.iss_model.specs.rules.Activity.{txn_named}
 use Rattle.iss_hold.specs.declared.hold.Hold.{Hold}
-use Rattle.iss_hold.specs.Holdings.{whole_of}
+use Rattle.iss_hold.specs.declared.table.Table.{Table}
+use Rattle.iss_hold.specs.Holdings.{now_of, whole_of}
 use Rattle.iss_hold.specs.Expiries.{expiries}
 
 -- the tokens of the transactions, in the order in which they began
@@ -45,13 +47,31 @@ by_user a b = ordering_then (slice_cmp nat_cmp a.0 b.0) (nat_cmp a.1 b.1)
 abbrev pub by_expiry : (ℕ × ℕ) → (ℕ × ℕ) → Ordering
 by_expiry a b = ordering_then (nat_cmp a.0 b.0) (nat_cmp a.1 b.1)
 
--- the indexes agree with the holds: each name has its place, each user its sum, and the expiries are in their order
-pub record AreIndexed (holds : List Hold) (places : BTreeMap (List ℕ) ℕ) (sums : BTreeMap (List ℕ × ℕ) ℕ) (order : BTreeMap (ℕ × ℕ) (List ℕ)) : Type 0 where
-  pub distinct : IsDistinct bytes_eq (names holds)
-  pub placed : (name : List ℕ) → tree.get by_name places name ≡ place_in name (names holds)
+-- what a started transaction holds, and its place
+pub record IsAt (name : List ℕ) (holds : List Hold) (place : ℕ) (hold : Hold) : Type 0 where
+  pub is_there : slice_get holds place ≡ Some hold
+  pub named : hold.txn.token ≡ name
+  pub found : txn_named name (map now_of holds) ≡ Some (now_of hold)
+
+-- each name has its place
+pub record ArePlaced (holds : List Hold) (places : BTreeMap (List ℕ) ℕ) : Type 0 where
+  pub place : (name : List ℕ) → tree.get by_name places name ≡ place_in name (names holds)
+
+-- each user's sum is what the user's holds come to, it stands where there is one, and it is small
+pub record AreSummed (holds : List Hold) (sums : BTreeMap (List ℕ × ℕ) ℕ) : Type 0 where
   pub summed : (user : List ℕ) (number : ℕ) → unwrap_or (tree.get by_user sums (user, number)) 0 ≡ total_of user number holds
   pub standing : (i : ℕ) (hold : Hold) → slice_get holds i ≡ Some hold → IsSome (tree.get by_user sums (hold.txn.user, iso_number hold.txn.currency))
   pub small : (user : List ℕ) (number : ℕ) → total_of user number holds < 2 ^ 62
+
+-- the indexes agree with the holds: each name has its place, each user its sum, and the expiries are in their order
+pub record AreIndexed (holds : List Hold) (places : BTreeMap (List ℕ) ℕ) (sums : BTreeMap (List ℕ × ℕ) ℕ) (order : BTreeMap (ℕ × ℕ) (List ℕ)) : Type 0 where
+  pub distinct : IsDistinct bytes_eq (names holds)
+  pub placed : ArePlaced holds places
+  pub summed : AreSummed holds sums
   pub once : IsDistinct nat_eq (origins holds)
   pub ordered : order.entries ≡ expiries holds
   pub rising : tree.IsOrdered by_expiry order
+
+-- a table's indexes agree with its holds
+abbrev pub IsIndexed : Table → Type 0
+IsIndexed table = AreIndexed table.holds.items table.places table.sums table.order

@@ -1,18 +1,19 @@
 //! What one transaction holds.
-ghost use Rattle.std.specs.Prelude.{◌≡◌, true, false, ◌+◌, ◌-◌, ◌^◌, ◌<◌};
-ghost use Rattle.iss_model.specs.rules.Pieces.{in_all, taken_to_clear, taken_to_release};
-ghost use Rattle.iss_hold.specs.Holdings.{part_of, with_part, parts_of};
+ghost use Rattle.std.specs.Prelude.{◌≡◌, true, false, ◌+◌, ◌-◌, ◌^◌, ◌<◌, ◌≤◌};
+ghost use Rattle.iss_model.specs.rules.Pieces.{taken_to_clear, taken_to_release};
+ghost use Rattle.iss_hold.specs.Holdings.{part_of, with_part, parts_of, whole_of, without_parts};
+ghost use Rattle.iss_hold.specs.Entries.{taken_in_all, parts_taken};
 
 use iss_model::{Part, Txn};
 
 /// A transaction, whether it hasn't ended, and what it holds of its user, by who funds it.
 #[derive(Clone, Copy)]
-pub(crate) struct Hold {
-    pub(crate) txn: Txn,
-    pub(crate) live: bool,
-    pub(crate) g: u64,
-    pub(crate) p: u64,
-    pub(crate) s: u64,
+pub struct Hold {
+    pub txn: Txn,
+    pub live: bool,
+    pub g: u64,
+    pub p: u64,
+    pub s: u64,
 }
 
 /// What was taken from a hold, by who funds it, and the rest that the hold had nothing for.
@@ -22,16 +23,6 @@ pub struct Taken {
     pub p: u64,
     pub s: u64,
     pub rest: u64,
-}
-
-impl Taken {
-    /// All that was taken.
-    pub(crate) fn whole(&self) -> u64
-        requires { self.now.g + self.now.p + self.now.s < 2 ^ 64 }
-        ensures { result ≡ self.now.g + self.now.p + self.now.s }
-    {
-        self.g + self.p + self.s
-    }
 }
 
 impl Hold {
@@ -58,6 +49,14 @@ impl Hold {
         }
     }
 
+    /// All that is held.
+    pub(crate) fn whole(&self) -> u64
+        requires { whole_of self.now < 2 ^ 64 }
+        ensures { result ≡ whole_of self.now }
+    {
+        self.g + self.p + self.s
+    }
+
     /// The hold with more in a part.
     pub(crate) fn with_more(&self, part: Part, amount: u64) -> Hold
         requires { part_of part self.now + amount < 2 ^ 64 }
@@ -72,9 +71,23 @@ impl Hold {
         hold
     }
 
+    /// The hold with less in a part.
+    pub(crate) fn with_less(&self, part: Part, amount: u64) -> Hold
+        requires { amount ≤ part_of part self.now }
+        ensures { result ≡ with_part part (part_of part self.now - amount) self.now }
+    {
+        let mut hold = *self;
+        match part {
+            Part::G => hold.g -= amount,
+            Part::P => hold.p -= amount,
+            Part::S => hold.s -= amount,
+        }
+        hold
+    }
+
     /// The hold without what was taken from it.
     pub(crate) fn without(&self, taken: &Taken) -> Hold
-        ensures { result ≡ record (self.now) { g = self.now.g - taken.now.g; p = self.now.p - taken.now.p; s = self.now.s - taken.now.s } }
+        ensures { result ≡ without_parts (parts_taken taken.now) self.now }
     {
         Hold {
             g: self.g.saturating_sub(taken.g),
@@ -96,8 +109,7 @@ impl Hold {
 
     /// What a clearing takes: the gateway's part first, then the programme's, then the user's own.
     pub(crate) fn taken_to_clear(&self, amount: u64) -> Taken
-        ensures { let taken = taken_to_clear (parts_of self.now) amount in
-            result ≡ record { g = taken.g; p = taken.p; s = taken.s; rest = amount - in_all taken } }
+        ensures { result ≡ taken_in_all (taken_to_clear (parts_of self.now) amount) amount }
     {
         let g = amount.min(self.g);
         let p = (amount - g).min(self.p);
@@ -112,8 +124,7 @@ impl Hold {
 
     /// What a release takes: the programme's part first, then the gateway's, then the user's own.
     pub(crate) fn taken_to_release(&self, amount: u64) -> Taken
-        ensures { let taken = taken_to_release (parts_of self.now) amount in
-            result ≡ record { g = taken.g; p = taken.p; s = taken.s; rest = amount - in_all taken } }
+        ensures { result ≡ taken_in_all (taken_to_release (parts_of self.now) amount) amount }
     {
         let p = amount.min(self.p);
         let g = (amount - p).min(self.g);

@@ -1,19 +1,22 @@
 //! All transactions with what they hold.
-ghost use Rattle.std.specs.Prelude.{◌≡◌, ◌-◌, ◌==◌, [], false, map, filter, IsSome, None, IfOk, OnOk, OnErr};
+ghost use Rattle.std.specs.Prelude.{◌≡◌, ◌≤◌, ◌<◌, ◌^◌, ◌-◌, ◌==◌, [], false, not, map, IsSome, IfSome, None, IfOk, OnOk, OnErr};
 ghost use Rattle.std.specs.List.{list_any};
 ghost use Rattle.std.specs.Option.{option_copied, option_map};
 ghost use Rattle.iss_model.specs.Sums.{part_key, user_key};
 ghost use Rattle.iss_model.specs.state.Kept.{nothing_kept, kept_at};
 ghost use Rattle.iss_model.specs.rules.Activity.{txn_named};
-ghost use Rattle.iss_model.specs.rules.Due.{txn_due};
-ghost use Rattle.iss_model.specs.rules.Pieces.{hold_entries, in_all, taken_to_clear, taken_to_release};
+ghost use Rattle.iss_model.specs.rules.Facts.{not_below};
+ghost use Rattle.iss_model.specs.rules.Due.{txn_due, is_quiet};
+ghost use Rattle.iss_model.specs.rules.Pieces.{hold_entries, unhold_entries, in_all, taken_to_clear, taken_to_release};
 ghost use Rattle.iss_model.specs.state.Cores.{with_txn, with_end};
-ghost use Rattle.iss_model.specs.state.Kept.{AreSmall};
+ghost use Rattle.iss_hold.specs.Bounds.{AreLow};
+ghost use Rattle.iss_hold.specs.Holdings.{now_of, parts_of, whole_of};
 ghost use Rattle.iss_hold.specs.Entries.{live_now, after_holds, parts_in, clearing_unhold_entries, release_unhold_entries};
 ghost use Rattle.iss_hold.specs.Expiries.{txns_due};
 
 use crate::hold::{Hold, Taken};
-use crate::indexes::{begin_sum, enter, place_of, set_sum, sum_of, user_key};
+use crate::indexes::{begin_sum, enter, sum_of, user_key};
+use crate::table::Table;
 use iss_model::{Currency, Part, Token, Txn};
 use std::alloc::{AllocError, Global};
 use std::collections::BTreeMap;
@@ -24,10 +27,7 @@ use std::marker::Model;
 /// Contracts see the transactions, the sums by part and the sums by user and currency.
 #[derive(Drop)]
 pub struct Holds {
-    holds: Vec<Hold>,
-    places: BTreeMap<Token, usize>,
-    sums: BTreeMap<(Token, u16), u64>,
-    order: BTreeMap<(u64, u32), Token>,
+    table: Table,
 }
 
 impl Model for Holds {
@@ -39,11 +39,11 @@ impl Model for Holds {
     ghost coded = { holdings_code };
 
     ghost use Rattle.iss_hold.specs.Holdings.{holdings_of};
-    ghost use Rattle.iss_hold.specs.Indexes.{AreIndexed};
+    ghost use Rattle.iss_hold.specs.Indexes.{IsIndexed};
 
-    ghost view = { λ h. holdings_of h.holds.items };
+    ghost view = { λ h. holdings_of h.table.holds.items };
 
-    ghost invariant = { λ h. AreIndexed h.holds.items h.places h.sums h.order };
+    ghost invariant = { λ h. IsIndexed h.table };
 }
 
 impl Holds {
@@ -52,60 +52,79 @@ impl Holds {
         ensures { IfOk result (λ h. h ≡ record { txns = []; parts = nothing_kept; held = nothing_kept }) }
     {
         Ok(Holds {
-            holds: Vec::new(alloc),
-            places: BTreeMap::new(alloc),
-            sums: BTreeMap::new(alloc),
-            order: BTreeMap::new(alloc),
+            table: Table {
+                holds: Vec::new(alloc),
+                places: BTreeMap::new(alloc),
+                sums: BTreeMap::new(alloc),
+                order: BTreeMap::new(alloc),
+            },
         })
+    }
+
+    /// A transaction with what it holds, `None` exactly where it wasn't started.
+    pub fn get(&self, txn: &Token) -> Option<&Hold>
+        ensures txn { option_map (λ hold. now_of hold.now) result ≡ txn_named txn.now self.now.txns }
+        ensures parts { IfSome result (λ hold. parts_of hold.now ≡ parts_in self.now txn.now) }
+        ensures small { IfSome result (λ hold. whole_of hold.now < 2 ^ 62) }
+    {
+        let place = self.table.places.get(txn)?;
+        Some(&self.table.holds[*place])
     }
 
     /// The transaction of a token, `None` exactly where it wasn't started.
     pub fn txn(&self, txn: &Token) -> Option<&Txn>
         ensures { option_copied result ≡ option_map (λ t. t.txn) (txn_named txn.now self.now.txns) }
     {
-        match self.places.get(txn) {
-            Some(place) => Some(&self.holds[*place].txn),
-            None => None,
-        }
+        self.get(txn).map(|hold| &hold.txn)
     }
 
     /// Whether a transaction was started and hasn't ended.
     pub fn is_live(&self, txn: &Token) -> bool
         ensures { result ≡ live_now (txn_named txn.now self.now.txns) }
     {
-        match self.places.get(txn) {
-            Some(place) => self.holds[*place].live,
-            None => false,
-        }
+        self.get(txn).is_some_and(|hold| hold.live)
     }
 
-    /// Begins a transaction, which holds nothing yet. The later calls on it take no memory. Where an allocation fails
-    /// all stays as it was.
+    /// Begins a transaction, which holds nothing yet. The later calls on it take no memory. Where allocation
+    /// fails all stays as it was.
     pub fn start(&mut self, txn: &Txn) -> Result<(), AllocError>
         requires unknown { txn_named txn.now.token self.old.txns ≡ None }
         requires origin { list_any (λ t. txn.now.origin == t.txn.origin) self.old.txns ≡ false }
         ensures started { OnOk result (self.new ≡ with_txn self.old txn.now) }
         ensures unchanged { OnErr result (self.new ≡ self.old) }
     {
-        self.holds.reserve(1)?;
-        begin_sum(&mut self.sums, user_key(&txn.user, txn.currency))?;
-        enter(&mut self.places, &mut self.order, txn, self.holds.len())?;
-        self.holds.push(Hold::begun(txn))?;
+        self.table.holds.reserve(1)?;
+        begin_sum(&mut self.table.sums, user_key(&txn.user, txn.currency))?;
+        enter(
+            &mut self.table.places,
+            &mut self.table.order,
+            txn,
+            self.table.holds.len(),
+        )?;
+        self.table.holds.push(Hold::begun(txn))?;
         Ok(())
     }
 
     /// Holds more in a part of a transaction.
     pub fn add(&mut self, txn: &Token, part: Part, amount: u64)
         requires started { IsSome (txn_named txn.now self.old.txns) }
-        requires small { AreSmall (after_holds self.old txn.now (λ t. hold_entries t part amount)).held }
+        requires small { AreLow (after_holds self.old txn.now (λ t. hold_entries t part amount)).held }
         ensures { self.new ≡ after_holds self.old txn.now (λ t. hold_entries t part amount) }
     {
-        let place = place_of(&self.places, txn);
-        let before = self.holds[place];
-        let user = user_key(&before.txn.user, before.txn.currency);
-        let sum = sum_of(&self.sums, &user) + amount;
-        set_sum(&mut self.sums, &user, sum);
-        self.holds[place] = before.with_more(part, amount);
+        let (place, hold) = self.table.hold_of(txn);
+        let more = hold.with_more(part, amount);
+        self.table.change(place, more);
+    }
+
+    /// Lets an amount of a part of a transaction go.
+    pub fn let_go(&mut self, txn: &Token, part: Part, amount: u64)
+        requires started { IsSome (txn_named txn.now self.old.txns) }
+        requires there { amount ≤ not_below (kept_at self.old.parts (part_key txn.now part)) }
+        ensures { self.new ≡ after_holds self.old txn.now (λ t. unhold_entries t part amount) }
+    {
+        let (place, hold) = self.table.hold_of(txn);
+        let less = hold.with_less(part, amount);
+        self.table.change(place, less);
     }
 
     /// Lets up to an amount go for a clearing: of the gateway's part first, then of the programme's, then of the
@@ -116,13 +135,10 @@ impl Holds {
         ensures taken { let taken = taken_to_clear (parts_in self.old txn.now) amount in
             result ≡ record { g = taken.g; p = taken.p; s = taken.s; rest = amount - in_all taken } }
     {
-        let place = place_of(&self.places, txn);
-        let before = self.holds[place];
-        let taken = before.taken_to_clear(amount);
-        let user = user_key(&before.txn.user, before.txn.currency);
-        let sum = sum_of(&self.sums, &user) - taken.whole();
-        set_sum(&mut self.sums, &user, sum);
-        self.holds[place] = before.without(&taken);
+        let (place, hold) = self.table.hold_of(txn);
+        let taken = hold.taken_to_clear(amount);
+        let left = hold.without(&taken);
+        self.table.change(place, left);
         taken
     }
 
@@ -134,13 +150,10 @@ impl Holds {
         ensures taken { let taken = taken_to_release (parts_in self.old txn.now) amount in
             result ≡ record { g = taken.g; p = taken.p; s = taken.s; rest = amount - in_all taken } }
     {
-        let place = place_of(&self.places, txn);
-        let before = self.holds[place];
-        let taken = before.taken_to_release(amount);
-        let user = user_key(&before.txn.user, before.txn.currency);
-        let sum = sum_of(&self.sums, &user) - taken.whole();
-        set_sum(&mut self.sums, &user, sum);
-        self.holds[place] = before.without(&taken);
+        let (place, hold) = self.table.hold_of(txn);
+        let taken = hold.taken_to_release(amount);
+        let left = hold.without(&taken);
+        self.table.change(place, left);
         taken
     }
 
@@ -149,10 +162,10 @@ impl Holds {
         requires { IsSome (txn_named txn.now self.old.txns) }
         ensures { self.new ≡ with_end self.old txn.now }
     {
-        let place = place_of(&self.places, txn);
-        let ended = self.holds[place].ended();
-        self.order.remove(&(ended.txn.expires, ended.txn.origin));
-        self.holds[place] = ended;
+        let (place, hold) = self.table.hold_of(txn);
+        let expiry = (hold.txn.expires, hold.txn.origin);
+        self.table.order.remove(&expiry);
+        self.table.holds[place] = hold.ended();
     }
 
     /// What a transaction holds in a part, in minor units.
@@ -160,15 +173,25 @@ impl Holds {
         requires { IsSome (txn_named txn.now self.now.txns) }
         ensures { result ≡ kept_at self.now.parts (part_key txn.now part) }
     {
-        let place = place_of(&self.places, txn);
-        self.holds[place].part(part) as i64
+        let (_, hold) = self.table.hold_of(txn);
+        hold.part(part) as i64
     }
 
     /// What all transactions of a user hold in a currency, in minor units.
     pub fn held_by(&self, user: &Token, currency: Currency) -> i64
         ensures { result ≡ kept_at self.now.held (user_key user.now currency) }
     {
-        sum_of(&self.sums, &user_key(user, currency)) as i64
+        sum_of(&self.table.sums, &user_key(user, currency)) as i64
+    }
+
+    /// Whether the expiry of a live transaction has come.
+    pub fn is_due(&self, now: u64) -> bool
+        ensures { result ≡ not (is_quiet (txns_due self.now now)) }
+    {
+        match self.table.order.first_key_value() {
+            Some(((expires, _), _)) => *expires <= now,
+            None => false,
+        }
     }
 
     /// The live transactions whose expiry has come, by expiry and then by the number of the authorisation's record.
@@ -176,7 +199,7 @@ impl Holds {
         ensures { IfOk result (λ v. map (λ token. txn_due token) v.items ≡ map (λ item. item.thing) (txns_due self.now now)) }
     {
         let mut due = Vec::new(alloc);
-        for ((expires, _), token) in &self.order {
+        for ((expires, _), token) in &self.table.order {
             if *expires > now {
                 break;
             }

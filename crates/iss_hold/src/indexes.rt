@@ -9,17 +9,6 @@ use iss_model::{Currency, Token, Txn};
 use std::alloc::AllocError;
 use std::collections::BTreeMap;
 
-/// The place of a transaction that was started.
-pub(crate) fn place_of(places: &BTreeMap<Token, usize>, txn: &Token) -> usize
-    requires { IsSome (tree.get by_name places.now txn.now) }
-    ensures { tree.get by_name places.now txn.now ≡ Some result }
-{
-    match places.get(txn) {
-        Some(place) => *place,
-        None => unreachable!(),
-    }
-}
-
 /// A user and the number of a currency.
 pub(crate) fn user_key(user: &Token, currency: Currency) -> (Token, u16)
     ensures { result ≡ (user.now, iso_number currency) }
@@ -59,7 +48,7 @@ pub(crate) fn begin_sum(
     Ok(())
 }
 
-/// Enters a transaction's place and its expiry, or neither where an allocation fails.
+/// Enters a transaction's place and its expiry, or neither where allocation fails.
 pub(crate) fn enter(
     places: &mut BTreeMap<Token, usize>,
     order: &mut BTreeMap<(u64, u32), Token>,

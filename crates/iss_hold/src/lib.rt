@@ -1,16 +1,14 @@
 //! The holds: what each transaction holds of its user, by who funds it, and what falls due.
 //!
 //! An amount is a whole number of minor units.
-//!
-//! It may cite `iss_model`.
-//! It must not cite the other parts of the core.
 #![tactic(auto)]
 
 mod hold;
 mod holds;
 mod indexes;
+mod table;
 #[cfg(test)]
 mod tests;
 
-pub use hold::Taken;
+pub use hold::{Hold, Taken};
 pub use holds::Holds;

@@ -1,6 +1,6 @@
 //! Transactions walked through their lives, and many of them, against amounts that were added up by hand.
 ghost use Rattle.std.specs.Prelude.{◌<◌, ◌^◌, ◌+◌, ◌*◌, ◌≡◌, OnOk, IfOk, IfSome};
-ghost use Rattle.iss_hold.specs.Bounds.{AreBelow, AreWithin};
+ghost use Rattle.iss_hold.specs.Bounds.{AreBelow, AreUpTo};
 
 use crate::{Holds, Taken};
 use iss_model::{Currency, Funding, Part, Token, Txn};
@@ -31,24 +31,24 @@ fn txn(number: u32, token: &str, user: &str, currency: Currency, expires: u64) -
 fn begin(holds: &mut Holds, txn: &Txn, g: u16, p: u16, s: u16) -> Result<(), AllocError>
     requires few { txn.now.origin < 2 ^ 32 }
     requires below { AreBelow txn.now.origin holds.old }
-    requires within { AreWithin (1000000 * txn.now.origin) holds.old.held }
+    requires within { AreUpTo (1000000 * txn.now.origin) holds.old.held }
     ensures below { OnOk result (AreBelow (txn.now.origin + 1) holds.new) }
-    ensures within { OnOk result (AreWithin (1000000 * (txn.now.origin + 1)) holds.new.held) }
+    ensures within { OnOk result (AreUpTo (1000000 * (txn.now.origin + 1)) holds.new.held) }
 {
     if holds.txn(&txn.token).is_some() {
         return Ok(());
     }
     holds.start(txn)?;
-    holds.add(&txn.token, Part::G, u64::from(g));
-    holds.add(&txn.token, Part::P, u64::from(p));
-    holds.add(&txn.token, Part::S, u64::from(s));
+    for (part, amount) in [(Part::G, g), (Part::P, p), (Part::S, s)] {
+        holds.add(&txn.token, part, u64::from(amount));
+    }
     Ok(())
 }
 
 /// The holds without a transaction.
 fn no_holds(alloc: Global) -> Result<Holds, AllocError>
     ensures below { IfOk result (λ h. AreBelow 0 h) }
-    ensures within { IfOk result (λ h. AreWithin 0 h.held) }
+    ensures within { IfOk result (λ h. AreUpTo 0 h.held) }
 {
     Holds::new(alloc)
 }
@@ -78,6 +78,18 @@ fn release(holds: &mut Holds, txn: &Token, amount: u64) -> Option<Taken> {
     Some(holds.take_release(txn, amount))
 }
 
+/// Lets an amount of the programme's part go, where there is as much.
+fn let_go(holds: &mut Holds, txn: &Token, amount: u64) -> bool {
+    let Some(hold) = holds.get(txn) else {
+        return false;
+    };
+    if hold.p < amount {
+        return false;
+    }
+    holds.let_go(txn, Part::P, amount);
+    true
+}
+
 fn end(holds: &mut Holds, txn: &Token) {
     if holds.txn(txn).is_some() {
         holds.end(txn);
@@ -105,8 +117,26 @@ fn what_is_held(rt: HostRuntime) -> Result<(), Fail> {
     assert_eq!(rt; holds.held_by(&txn.user, Currency::Eur), 0);
     assert_eq!(rt; holds.held_by(&other, Currency::Usd), 0);
     assert!(rt; holds.is_live(&txn.token) && !holds.is_live(&other));
+    assert!(rt;
+        holds.get(&txn.token).is_some_and(|hold| hold.live
+            && [hold.g, hold.p, hold.s] == [50, 20, 30])
+    );
+    assert!(rt; holds.get(&other).is_none());
+    assert!(rt; !holds.is_due(999) && holds.is_due(1000));
     assert_eq!(rt; holds.due(rt.alloc(), 999)?.len(), 0);
     assert_eq!(rt; holds.due(rt.alloc(), 1000)?.len(), 1);
+    Ok(())
+}
+
+#[test]
+fn what_is_let_go(rt: HostRuntime) -> Result<(), Fail> {
+    let Some(txn) = txn(0, "a1", "u1", Currency::Usd, 1000) else {
+        return Ok(());
+    };
+    let mut holds = one_hold(rt.alloc(), &txn)?;
+    assert!(rt; let_go(&mut holds, &txn.token, 5) && !let_go(&mut holds, &txn.token, 16));
+    assert!(rt; parts(&holds, &txn.token) == Some([50, 15, 30]));
+    assert_eq!(rt; holds.held_by(&txn.user, Currency::Usd), 95);
     Ok(())
 }
 
@@ -172,7 +202,7 @@ fn what_is_taken(rt: HostRuntime) -> Result<(), Fail> {
         assert_eq!(rt; holds.held_by(&txn.user, Currency::Usd), held);
     }
     end(&mut holds, &txn.token);
-    assert!(rt; !holds.is_live(&txn.token));
+    assert!(rt; !holds.is_live(&txn.token) && !holds.is_due(1000));
     assert_eq!(rt; holds.due(rt.alloc(), 1000)?.len(), 0);
     Ok(())
 }

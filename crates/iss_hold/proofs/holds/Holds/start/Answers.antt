@@ -13,28 +13,28 @@ use Rattle.iss_hold.proofs.holds.Holds.start.Goals as goal
 
 pub enter-requires : goal.enter-requires
 enter-requires c =
-    no_place_yet c.self.inside.holds.items c.self.inside.places c.self.inside.sums c.self.inside.order c.args.txn.now.token c.self.invariant
+    no_place_yet c.self.inside.table.holds.items c.self.inside.table.places c.self.inside.table.sums c.self.inside.table.order c.args.txn.now.token c.self.invariant
     (subst (λ (h : Holdings). txn_named c.args.txn.now.token h.txns ≡ None) (sym c.self.view_is) c.requires.unknown)
 
 pub invariant_of-self-2 : goal.invariant_of-self-2
 invariant_of-self-2 c =
-    let hs = c.self.inside.holds.items in
+    let hs = c.self.inside.table.holds.items in
     let t = c.args.txn.now in
     let items : c.push.new.self.items ≡ hs ++ begun t ∷ [] =
     c.in_ok-push.ensures.items ∙ ap₂ (λ (xs : List Hold) (h : Hold). xs ++ h ∷ []) c.reserve.ensures.items c.begun.ensures in
-    let len : c.len.result ≡ length hs = c.len.ensures ∙ c.reserve.ensures.len ∙ c.self.inside.holds.ok.0 in
+    let len : c.len.result ≡ length hs = c.len.ensures ∙ c.reserve.ensures.len ∙ c.self.inside.table.holds.ok.0 in
     subst (λ (xs : List Hold). AreIndexed xs c.enter.new.places c.begin_sum.new.sums c.enter.new.order) (sym items)
-    (indexed_more hs c.self.inside.places c.enter.new.places c.self.inside.sums c.begin_sum.new.sums c.self.inside.order c.enter.new.order t c.self.invariant
+    (indexed_more hs c.self.inside.table.places c.enter.new.places c.self.inside.table.sums c.begin_sum.new.sums c.self.inside.table.order c.enter.new.order t c.self.invariant
     (subst (λ (h : Holdings). txn_named t.token h.txns ≡ None) (sym c.self.view_is) c.requires.unknown)
     (subst (λ (h : Holdings). list_any (λ u. t.origin == u.txn.origin) h.txns ≡ false) (sym c.self.view_is) c.requires.origin)
-    (subst (λ (n : ℕ). tree.Updates by_name c.self.inside.places c.enter.new.places t.token (Some n)) len c.in_ok-enter.ensures.placed)
+    (subst (λ (n : ℕ). tree.Updates by_name c.self.inside.table.places c.enter.new.places t.token (Some n)) len c.in_ok-enter.ensures.placed)
     c.begin_sum.ensures.same c.begin_sum.ensures.stay
     (subst (λ (key : List ℕ × ℕ). IsSome (tree.get by_user c.begin_sum.new.sums key)) c.user_key.ensures c.in_ok-begin_sum.ensures.stands)
     c.in_ok-enter.ensures.entered (c.enter.ensures.rising c.self.invariant.rising))
 
 pub returns-clause-started : goal.returns-clause-started
 returns-clause-started c =
-    let hs = c.self.inside.holds.items in
+    let hs = c.self.inside.table.holds.items in
     let t = c.args.txn.now in
     let items : c.push.new.self.items ≡ hs ++ begun t ∷ [] =
     c.in_ok-push.ensures.items ∙ ap₂ (λ (xs : List Hold) (h : Hold). xs ++ h ∷ []) c.reserve.ensures.items c.begun.ensures in
