@@ -25,7 +25,7 @@ use Rattle.iss_model.specs.Inputs.{is_event}
 use Rattle.iss_model.specs.Currencies.{same_currency}
 use Rattle.iss_model.specs.Forms.{is_hold_time, is_amount}
 use Rattle.iss_model.specs.Sums.{user_key}
-use Rattle.iss_model.specs.state.Kept.{AreSmall}
+use Rattle.iss_model.specs.state.Kept.{kept_at, IsSmall, AreSmall}
 use Rattle.iss_model.specs.rules.Settings.{user_named, card_named, product_named, is_active_user, is_active_card}
 use Rattle.iss_model.specs.rules.Activity.{TxnNow, txn_named}
 use Rattle.iss_model.specs.rules.Controls.{ControlNow}
@@ -42,7 +42,7 @@ use Rattle.iss_card.specs.declared.standing.Standing.TheVariants.{Known}
 use Rattle.iss_card.specs.Standings.{standing_of, standing_with}
 use Rattle.iss_hold.specs.Entries as entries_of_holds
 use Rattle.iss_hold.specs.Entries.{after_holds}
-use Rattle.iss_hold.specs.Bounds.{AreWithin}
+use Rattle.iss_hold.specs.Bounds.{AreWithin, AreLow}
 use Rattle.iss_core.specs.declared.state.State.{State}
 use Rattle.iss_core.specs.States.{state_of, with_decision, Made}
 use Rattle.iss_core.specs.declared.purchases.Purchase.{Purchase}
@@ -261,18 +261,21 @@ pub begun_holds : (h first second : Holdings) (t : Txn) (amount : ℕ) → first
 begun_holds h first second t amount started added none some =
     added ∙ ap (λ (x : Holdings). after_holds x t.token (λ y. hold_entries y part.S amount)) started ∙ begun_held h t amount none some
 
--- what is held stays small
-pub begun_small : (count amount : ℕ) (h first : Holdings) (t : Txn) → count < 2 ^ 30 → is_amount amount ≡ true → first ≡ with_txn h t → txn_named t.token h.txns ≡ None
-    → AreWithin ((count - 1) * GREATEST_AMOUNT) h.held → AreSmall (after_holds first t.token (λ x. hold_entries x part.S amount)).held
-begun_small count amount h first t room form started none within =
+-- what is held stays below the greatest sum
+pub begun_low : (count amount : ℕ) (h first : Holdings) (t : Txn) → count < 2 ^ 30 → is_amount amount ≡ true → first ≡ with_txn h t → txn_named t.token h.txns ≡ None
+    → AreWithin ((count - 1) * GREATEST_AMOUNT) h.held → AreLow (after_holds first t.token (λ x. hold_entries x part.S amount)).held
+begun_low count amount h first t room form started none within key =
     let n = (count - 1) * GREATEST_AMOUNT in
     let held_now = with_hold (with_txn h t) (entry.Hold t.token t.user t.currency part.S (pos amount)) in
     let below : (n + 0) + amount < 2 ^ 62 = omega (arith, far_below count amount room (most_amount amount form)) in
+    let small : AreSmall (after_holds first t.token (λ x. hold_entries x part.S amount)).held =
     subst (λ (x : Holdings). AreSmall x.held) (sym (begun_holds h first (after_holds first t.token (λ x. hold_entries x part.S amount)) t amount started refl none (some_amount amount form)))
     (within_small ((n + 0) + amount) held_now.held below
     (within_changed (n + 0) amount (with_txn h t).held (record { key = user_key t.user t.currency; by = pos amount } ∷ [])
     (within_changed n 0 h.held (begun_held_changes t) within (nothing_within (user_key t.user t.currency)))
-    (change_within amount (user_key t.user t.currency))))
+    (change_within amount (user_key t.user t.currency)))) in
+    let at_key : IsSmall (kept_at (after_holds first t.token (λ x. hold_entries x part.S amount)).held key) = small key in
+    at_key.high
 
 -- and the state has the entries of the purchase
 pub begun_state : (s : State) (t : Txn) (amount at : ℕ) (holds : Holdings) (decisions : List Decision) → holds ≡ with_hold (with_txn s.holds t) (entry.Hold t.token t.user t.currency part.S (pos amount))

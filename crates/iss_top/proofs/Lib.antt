@@ -1,4 +1,4 @@
-pub mod Tellings
+pub mod ReplyLemmas
 pub mod Feeding
 pub mod Saying
 pub mod Fed

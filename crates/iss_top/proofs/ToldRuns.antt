@@ -46,24 +46,24 @@ pub told_too_long : (n count : ℕ) (h : CoreState) (l buffer : List ℕ) (x y z
 told_too_long n count h l buffer x y z le limit p q =
     told_then (IsOnItsWay n h l) (Takes (record { 0 = 0 }) count buffer) (DryRun 8) x y z (λ a b c u v. ends_too_long n count h l buffer a b c le limit u v) p q
 
--- telling ends with status 5 or 7
-telling_not_done : (before now : Faults) (s : Stop) → ReplyCause before now s → status_of {A = Unit {0}} (Err s) ≡ 0 → ⊥
-telling_not_done before now stop.Input cause e = absurd cause
-telling_not_done before now stop.Output cause e = cc
-telling_not_done before now stop.Memory cause e = cc
-telling_not_done before now stop.InputLong cause e = absurd cause
+-- replying ends with status 5 or 7
+replying_not_done : (before now : Faults) (s : Stop) → ReplyCause before now s → status_of {A = Unit {0}} (Err s) ≡ 0 → ⊥
+replying_not_done before now stop.Input cause e = absurd cause
+replying_not_done before now stop.Output cause e = cc
+replying_not_done before now stop.Memory cause e = cc
+replying_not_done before now stop.InputLong cause e = absurd cause
 
-telling_not_long : (before now : Faults) (s : Stop) → ReplyCause before now s → status_of {A = Unit {0}} (Err s) ≡ 8 → ⊥
-telling_not_long before now stop.Input cause e = absurd cause
-telling_not_long before now stop.Output cause e = cc
-telling_not_long before now stop.Memory cause e = cc
-telling_not_long before now stop.InputLong cause e = absurd cause
+replying_not_long : (before now : Faults) (s : Stop) → ReplyCause before now s → status_of {A = Unit {0}} (Err s) ≡ 8 → ⊥
+replying_not_long before now stop.Input cause e = absurd cause
+replying_not_long before now stop.Output cause e = cc
+replying_not_long before now stop.Memory cause e = cc
+replying_not_long before now stop.InputLong cause e = absurd cause
 
 pub told_piece_fails : (s : Stop) (before now : Faults) (n count : ℕ) (h : CoreState) (l buffer piece : List ℕ) (x y z w : Option World) → ReplyCause before now s → count ≤ length buffer → n + count ≤ MOST_INPUT
     → piece ≡ take count buffer → Told (IsOnItsWay n h l) x y → Told (Takes (record { 0 = 0 }) count buffer) y z → Told (FedPart h l piece) z w → Told (DryRun (status_of {A = Unit {0}} (Err s))) x w
 told_piece_fails s before now n count h l buffer piece x y z w cause le limit is p q r =
     told_three (IsOnItsWay n h l) (Takes (record { 0 = 0 }) count buffer) (FedPart h l (take count buffer)) (DryRun (status_of {A = Unit {0}} (Err s))) x y z w
-    (λ a b c d u v f. ends_in_piece (status_of {A = Unit {0}} (Err s)) n count h l buffer a b c d (telling_not_done before now s cause) (telling_not_long before now s cause) le limit u v f)
+    (λ a b c d u v f. ends_in_piece (status_of {A = Unit {0}} (Err s)) n count h l buffer a b c d (replying_not_done before now s cause) (replying_not_long before now s cause) le limit u v f)
     p q (subst (λ (t : List ℕ). Told (FedPart h l t) z w) is r)
 
 -- the last line was told
@@ -79,7 +79,7 @@ pub told_last_fails : (s : Stop) (before now : Faults) (n count : ℕ) (h : Core
     → Told (IsOnItsWay n h l) x y → Told (Takes (record { 0 = 0 }) count buffer) y z → Told (SaysPrefix (line_text h said)) z w → Told (DryRun (status_of {A = Unit {0}} (Err s))) x w
 told_last_fails s before now n count h l said buffer x y z w cause le none same p q r =
     told_three (IsOnItsWay n h l) (Takes (record { 0 = 0 }) 0 buffer) (SaysPrefix (line_text h l)) (DryRun (status_of {A = Unit {0}} (Err s))) x y z w
-    (λ a b c d u v f. ends_in_last (status_of {A = Unit {0}} (Err s)) n h l buffer a b c d (telling_not_done before now s cause) (telling_not_long before now s cause) le u v f)
+    (λ a b c d u v f. ends_in_last (status_of {A = Unit {0}} (Err s)) n h l buffer a b c d (replying_not_done before now s cause) (replying_not_long before now s cause) le u v f)
     p (subst (λ k. Told (Takes (record { 0 = 0 }) k buffer) y z) none q) (subst (λ (t : List ℕ). Told (SaysPrefix (line_text h t)) z w) same r)
 
 -- past the limit one byte more is asked for, and before it none that passes the limit

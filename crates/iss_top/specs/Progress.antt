@@ -73,14 +73,14 @@ pub record FedPart (s : CoreState) (line piece : List ℕ) (a b : World) : Type 
   pub says : Says text a b
   pub onward : (rest : List ℕ) → Begins text (text_to_come s line (piece ++ rest))
 
--- why telling a line may end early: an emit failed, or an allocation failed
+-- why replying a line may end early: an emit failed, or an allocation failed
 abbrev pub ReplyCause : Faults → Faults → Stop → Type 0
 ReplyCause before now stop.Input = ⊥
 ReplyCause before now stop.Output = Rose before.output now.output
 ReplyCause before now stop.Memory = Unit {0}
 ReplyCause before now stop.InputLong = ⊥
 
--- no count has fallen, and telling ended early for a cause
+-- no count has fallen, and replying ended early for a cause
 pub record IsReplying {A : Type 0} (before now : Faults) (result : Result A Stop) : Type 0 where
   pub later : Later before now
   pub cause : IfErr result (ReplyCause before now)

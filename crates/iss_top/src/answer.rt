@@ -1,4 +1,4 @@
-//! What a line is told.
+//! The reply to a line.
 ghost use Rattle.std.specs.Prelude.{◌≡◌, ◌<◌, true, None, IfOk, IsTrue};
 ghost use Rattle.std.specs.List.{list_all};
 ghost use Rattle.iss_core.specs.Built.{is_built, is_built_entry};
@@ -16,7 +16,7 @@ use iss_event::{Line, LineFault, Mode, form_line, read_line, reply_line, told_li
 use iss_model::{Entry, Judged, Record, Reply};
 use std::alloc::{AllocError, Global};
 
-/// Takes a line that is not blank, and returns the core after it with what the line is told.
+/// Takes a line that is not blank, and returns the core after it with the reply.
 pub(crate) fn answer(alloc: Global, core: Core, line: &[u8]) -> Result<(Core, Vec<u8>), AllocError>
     requires room { core.state.count < MOST_RECORDS }
     requires start { IsAtStart core.state }
@@ -33,7 +33,7 @@ pub(crate) fn answer(alloc: Global, core: Core, line: &[u8]) -> Result<(Core, Ve
     }
 }
 
-/// Judges the input of a line: one that isn't new is told so, and a new one is a record.
+/// Judges the input of a line: one that isn't new gets its answer, and a new one is a record.
 fn decide(alloc: Global, core: Core, said: Line) -> Result<(Core, Vec<u8>), AllocError>
     requires room { core.state.count < MOST_RECORDS }
     requires start { IsAtStart core.state }
@@ -69,7 +69,7 @@ fn take_up(alloc: Global, core: Core, accepted: &Record) -> Result<(Core, Vec<u8
     Ok((core, text))
 }
 
-/// The texts of entries that are built: each decision is told.
+/// The texts of entries that are built: one for each decision.
 fn entries_text(alloc: Global, entries: &[Entry]) -> Result<Vec<u8>, AllocError>
     requires { list_all is_built_entry entries.now ≡ true }
     ensures { IfOk result (λ text. text.items ≡ entries_text entries.now) }

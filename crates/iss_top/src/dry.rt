@@ -1,4 +1,4 @@
-//! A dry run: the lines of channel 0 are told what becomes of them, with no device.
+//! A dry run: the lines of channel 0 get their replies, with no device.
 ghost use Rattle.std.specs.Prelude.{◌≡◌, ◌+◌, ◌<◌, ◌≤◌, length, IfOk, IfErr, OnErr};
 ghost use Rattle.iss_edge.specs.World.{Told, HasCause};
 ghost use Rattle.iss_edge.specs.Calls.{Takes, Same};
@@ -7,8 +7,8 @@ ghost use Rattle.iss_top.specs.Runs.{DryRun, IsCaused};
 
 use crate::buffer::LineBuffer;
 use crate::feed::feed;
+use crate::replying::send_reply;
 use crate::stop::Stop;
-use crate::telling::tell_line;
 use iss_core::Core;
 use iss_edge::{Channel, Edge};
 use iss_model::limits::MOST_INPUT;
@@ -17,7 +17,7 @@ use std::alloc::Global;
 /// The most bytes that are taken at once.
 const PIECE: usize = 4096;
 
-/// Reads lines to the end of the input and writes what they are told.
+/// Reads lines to the end of the input and writes their replies.
 pub(crate) fn dry<E: Edge>(alloc: Global, edge: &mut E) -> Result<(), Stop>
     ensures ran { Told (DryRun (status_of result)) (E.told edge.old) (E.told edge.new) }
     ensures caused { IsCaused (E.faults edge.old) (E.faults edge.new) result }
@@ -29,7 +29,7 @@ pub(crate) fn dry<E: Edge>(alloc: Global, edge: &mut E) -> Result<(), Stop>
     'input: loop {
         let count = take_piece(edge, &mut buffer, room_after(taken))?;
         if count == 0 {
-            tell_line(alloc, core, line.as_slice(), edge)?;
+            send_reply(alloc, core, line.as_slice(), edge)?;
             return Ok(());
         }
         taken += count as u64;

@@ -5,13 +5,13 @@ ghost use Rattle.iss_top.specs.Progress.{Fed, FedPart, IsReplying};
 ghost use Rattle.iss_top.specs.Start.{IsAtStart};
 
 use crate::buffer::LineBuffer;
+use crate::replying::send_reply;
 use crate::stop::Stop;
-use crate::telling::tell_line;
 use iss_core::Core;
 use iss_edge::Edge;
 use std::alloc::Global;
 
-/// Takes in a piece of the input: each line that ends in it is told. Returns the core after it.
+/// Takes in a piece of the input: each line that ends in it gets its reply. Returns the core after it.
 pub(crate) fn feed<E: Edge>(
     alloc: Global,
     core: Core,
@@ -24,7 +24,7 @@ pub(crate) fn feed<E: Edge>(
     ensures fed { IfOk result (λ next.
         Told (Fed core.state line.old piece.now next.state line.new) (E.told edge.old) (E.told edge.new)) }
     ensures part { OnErr result (Told (FedPart core.state line.old piece.now) (E.told edge.old) (E.told edge.new)) }
-    ensures telling { IsReplying (E.faults edge.old) (E.faults edge.new) result }
+    ensures replying { IsReplying (E.faults edge.old) (E.faults edge.new) result }
     ensures room { IfOk result (λ next. 5 * next.state.count + length line.new
         ≤ 5 * core.state.count + length line.old + length piece.now) }
     ensures start { IfOk result (λ next. IsAtStart next.state) }
@@ -48,7 +48,7 @@ fn feed_byte<E: Edge>(
     ensures fed { IfOk result (λ next.
         Told (Fed core.state line.old (byte ∷ []) next.state line.new) (E.told edge.old) (E.told edge.new)) }
     ensures part { OnErr result (Told (FedPart core.state line.old (byte ∷ [])) (E.told edge.old) (E.told edge.new)) }
-    ensures telling { IsReplying (E.faults edge.old) (E.faults edge.new) result }
+    ensures replying { IsReplying (E.faults edge.old) (E.faults edge.new) result }
     ensures room { IfOk result (λ next. 5 * next.state.count + length line.new
         ≤ 5 * core.state.count + length line.old + 1) }
     ensures start { IfOk result (λ next. IsAtStart next.state) }
@@ -71,12 +71,12 @@ fn end_line<E: Edge>(
     ensures fed { IfOk result (λ next.
         Told (Fed core.state line.old (10 ∷ []) next.state line.new) (E.told edge.old) (E.told edge.new)) }
     ensures part { OnErr result (Told (FedPart core.state line.old (10 ∷ [])) (E.told edge.old) (E.told edge.new)) }
-    ensures telling { IsReplying (E.faults edge.old) (E.faults edge.new) result }
+    ensures replying { IsReplying (E.faults edge.old) (E.faults edge.new) result }
     ensures room { IfOk result (λ next. 5 * next.state.count + length line.new
         ≤ 5 * core.state.count + length line.old + 1) }
     ensures start { IfOk result (λ next. IsAtStart next.state) }
 {
-    let next = tell_line(alloc, core, line.as_slice(), edge)?;
+    let next = send_reply(alloc, core, line.as_slice(), edge)?;
     line.clear();
     Ok(next)
 }

@@ -10,8 +10,8 @@ mod command;
 mod dry;
 mod feed;
 mod format;
+mod replying;
 mod stop;
-mod telling;
 mod words;
 
 pub use command::run;

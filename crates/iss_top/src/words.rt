@@ -19,7 +19,7 @@ const GREATEST_INSTANCE: u64 = 281_474_976_710_655;
 /// What a run is to do.
 #[derive(Debug, Clone, Copy)]
 pub enum Command {
-    /// `dry`: lines are told what becomes of them, with no device.
+    /// `dry`: lines get their replies, with no device.
     Dry,
     /// `format DEVICE SIZE INSTANCE`: the device of so many bytes is made one of this instance that stands for no records.
     Format { size: u64, instance: u64 },

@@ -1,5 +1,5 @@
 use Rattle.std.proofs.lemmas.Result.{IfOk-weaker}
-use Rattle.iss_top.proofs.Tellings.{read_tells, fault_tells}
+use Rattle.iss_top.proofs.ReplyLemmas.{read_tells, fault_tells}
 use Rattle.iss_top.proofs.answer.answer.Goals as goal
 
 pub returns-in-Ok-clause-told : goal.returns-in-Ok-clause-told

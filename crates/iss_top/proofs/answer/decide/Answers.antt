@@ -4,7 +4,7 @@ use Rattle.std.proofs.lemmas.Result.{IfOk-weaker}
 use Rattle.iss_core.specs.Built.{is_built}
 use Rattle.iss_model.specs.Forms.{is_in_form}
 use Rattle.iss_core.proofs.Quiet.{never_clock}
-use Rattle.iss_top.proofs.Tellings.{answer_tells, record_tells, quiet_then, record_then}
+use Rattle.iss_top.proofs.ReplyLemmas.{answer_tells, record_tells, quiet_then, record_then}
 use Rattle.iss_top.proofs.answer.decide.Goals as goal
 
 pub take_up-requires-clause-input_form : goal.take_up-requires-clause-input_form

@@ -1,4 +1,4 @@
-use Rattle.iss_top.proofs.Tellings.{start_then}
+use Rattle.iss_top.proofs.ReplyLemmas.{start_then}
 use Rattle.iss_top.proofs.answer.take_up.Goals as goal
 
 pub returns-clause-start : goal.returns-clause-start

@@ -21,21 +21,21 @@ returns-in_err-count-clause-ran g c =
     c.input.invariant.limit c.input.invariant.told c.in_err-count.ensures.unchanged
     )
 
-pub returns-in_err-tell_line-clause-ran : goal.returns-in_err-tell_line-clause-ran
-returns-in_err-tell_line-clause-ran g c =
-    let failed : c.from_residual-in_err-tell_line.result ≡ Err c.in_err-tell_line.field-0.0 = search rules in
+pub returns-in_err-send_reply-clause-ran : goal.returns-in_err-send_reply-clause-ran
+returns-in_err-send_reply-clause-ran g c =
+    let failed : c.from_residual-in_err-send_reply.result ≡ Err c.in_err-send_reply.field-0.0 = search rules in
     rw failed (
-    told_last_fails c.in_err-tell_line.field-0.0 (g.E.Edge.faults c.take_piece.new.edge) (g.E.Edge.faults c.tell_line.new.edge)
+    told_last_fails c.in_err-send_reply.field-0.0 (g.E.Edge.faults c.take_piece.new.edge) (g.E.Edge.faults c.send_reply.new.edge)
     c.input.taken c.in_ok-count.count c.input.core.state c.input.line c.as_slice.result.now c.take_piece.new.buffer
-    (g.E.Edge.told c.args.edge.now) (g.E.Edge.told c.input.edge) (g.E.Edge.told c.take_piece.new.edge) (g.E.Edge.told c.tell_line.new.edge)
-    c.in_err-tell_line.ensures.telling.cause c.input.invariant.limit c.if-count-eq0.true c.as_slice.ensures c.input.invariant.told c.in_ok-count.ensures.taken c.in_err-tell_line.ensures.part
+    (g.E.Edge.told c.args.edge.now) (g.E.Edge.told c.input.edge) (g.E.Edge.told c.take_piece.new.edge) (g.E.Edge.told c.send_reply.new.edge)
+    c.in_err-send_reply.ensures.replying.cause c.input.invariant.limit c.if-count-eq0.true c.as_slice.ensures c.input.invariant.told c.in_ok-count.ensures.taken c.in_err-send_reply.ensures.part
     )
 
 pub returns-then-count-eq0-clause-ran : goal.returns-then-count-eq0-clause-ran
 returns-then-count-eq0-clause-ran g c =
     told_last_done c.input.taken c.in_ok-count.count c.input.core.state c.input.line c.as_slice.result.now c.take_piece.new.buffer
-    (g.E.Edge.told c.args.edge.now) (g.E.Edge.told c.input.edge) (g.E.Edge.told c.take_piece.new.edge) (g.E.Edge.told c.tell_line.new.edge)
-    c.input.invariant.limit c.if-count-eq0.true c.as_slice.ensures c.input.invariant.told c.in_ok-count.ensures.taken c.in_ok-tell_line.ensures.told
+    (g.E.Edge.told c.args.edge.now) (g.E.Edge.told c.input.edge) (g.E.Edge.told c.take_piece.new.edge) (g.E.Edge.told c.send_reply.new.edge)
+    c.input.invariant.limit c.if-count-eq0.true c.as_slice.ensures c.input.invariant.told c.in_ok-count.ensures.taken c.in_ok-send_reply.ensures.told
 
 pub returns-then-taken-gt-MOST_INPUT-clause-ran : goal.returns-then-taken-gt-MOST_INPUT-clause-ran
 returns-then-taken-gt-MOST_INPUT-clause-ran g c =
@@ -56,7 +56,7 @@ returns-in_err-core-2-clause-ran g c =
     told_piece_fails c.in_err-core-2.field-0.0 (g.E.Edge.faults c.take_piece.new.edge) (g.E.Edge.faults c.feed.new.edge)
     c.input.taken c.in_ok-count.count c.input.core.state c.input.line c.take_piece.new.buffer (take c.in_ok-count.count c.take_piece.new.buffer)
     (g.E.Edge.told c.args.edge.now) (g.E.Edge.told c.input.edge) (g.E.Edge.told c.take_piece.new.edge) (g.E.Edge.told c.feed.new.edge)
-    c.in_err-core-2.ensures.telling.cause within (omega arith) refl c.input.invariant.told c.in_ok-count.ensures.taken c.in_err-core-2.ensures.part
+    c.in_err-core-2.ensures.replying.cause within (omega arith) refl c.input.invariant.told c.in_ok-count.ensures.taken c.in_err-core-2.ensures.part
     )
 
 pub input-preserved : goal.input-preserved
@@ -70,5 +70,5 @@ input-preserved g c =
           told_way_goes_on c.input.taken c.in_ok-count.count c.input.core.state c.in_ok-core-2.core.state c.input.line c.feed.new.line c.take_piece.new.buffer (take c.in_ok-count.count c.take_piece.new.buffer)
           (g.E.Edge.told c.args.edge.now) (g.E.Edge.told c.input.edge) (g.E.Edge.told c.take_piece.new.edge) (g.E.Edge.told c.feed.new.edge)
           within refl c.input.invariant.told c.in_ok-count.ensures.taken c.in_ok-core-2.ensures.fed;
-      later = later_then _ _ _ c.input.invariant.later (later_then _ _ _ c.in_ok-count.ensures.cause.later c.in_ok-core-2.ensures.telling.later);
+      later = later_then _ _ _ c.input.invariant.later (later_then _ _ _ c.in_ok-count.ensures.cause.later c.in_ok-core-2.ensures.replying.later);
     }

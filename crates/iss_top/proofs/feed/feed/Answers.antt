@@ -16,7 +16,7 @@ loop-byte-preserved g c =
       fed =
           told_further c.args.core.state c.loop-byte.next.state c.in_ok-next.next.state c.args.line.now c.loop-byte.line c.feed_byte.new.line c.args.piece.now c.loop-byte.byte-index (get_or c.args.piece.now c.loop-byte.byte-index 0)
           (g.E.Edge.told c.args.edge.now) (g.E.Edge.told c.loop-byte.edge) (g.E.Edge.told c.feed_byte.new.edge) c.loop-byte-test.true refl c.loop-byte.invariant.fed c.in_ok-next.ensures.fed;
-      later = later_then _ _ _ c.loop-byte.invariant.later c.in_ok-next.ensures.telling.later;
+      later = later_then _ _ _ c.loop-byte.invariant.later c.in_ok-next.ensures.replying.later;
       room = omega (arith, c.in_ok-next.ensures.room);
       start = c.in_ok-next.ensures.start;
     }

@@ -1,5 +1,5 @@
 use Rattle.iss_core.proofs.Reaching.{some_amount}
-use Rattle.iss_core.proofs.Purchased.{new_origin, begun_stands, begun_small, begun_holds, begun_state, on_ok}
+use Rattle.iss_core.proofs.Purchased.{new_origin, begun_stands, begun_low, begun_holds, begun_state, on_ok}
 use Rattle.iss_core.proofs.state.State.begin.Goals as goal
 
 pub start-requires-clause-origin : goal.start-requires-clause-origin
@@ -11,7 +11,7 @@ add-requires-clause-started c = begun_stands c.args.self.now.holds c.start.new.s
 
 pub add-requires-clause-small : goal.add-requires-clause-small
 add-requires-clause-small c =
-    begun_small c.args.self.now.count c.args.amount c.args.self.now.holds c.start.new.self c.args.txn.now c.requires.taken_up.room c.requires.amount
+    begun_low c.args.self.now.count c.args.amount c.args.self.now.holds c.start.new.self c.args.txn.now c.requires.taken_up.room c.requires.amount
     c.in_ok-start.ensures.started c.requires.unknown c.requires.taken_up.sound.held
 
 pub returns-clause-state : goal.returns-clause-state

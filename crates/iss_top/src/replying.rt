@@ -1,4 +1,4 @@
-//! Lines are told what becomes of them, on channel 0.
+//! The replies to lines, on channel 0.
 ghost use Rattle.std.specs.Prelude.{◌≡◌, ◌<◌, IfOk, OnOk, OnErr};
 ghost use Rattle.iss_model.specs.declared.limits.TheConstants.{MOST_RECORDS};
 ghost use Rattle.iss_edge.specs.World.{Told};
@@ -12,9 +12,9 @@ use iss_core::Core;
 use iss_edge::{Channel, Edge};
 use std::alloc::Global;
 
-/// Writes what a line is told, and returns the core after it. A blank line is told nothing.
+/// Writes the reply to a line, and returns the core after it. A blank line gets none.
 #[tactic(auto, using(crate::proofs::Saying::says_nothing), unfolding(crate::specs::Progress::line_text, crate::specs::Progress::line_next))]
-pub(crate) fn tell_line<E: Edge>(
+pub(crate) fn send_reply<E: Edge>(
     alloc: Global,
     core: Core,
     line: &[u8],
@@ -26,7 +26,7 @@ pub(crate) fn tell_line<E: Edge>(
     ensures start { IfOk result (λ next. IsAtStart next.state) }
     ensures told { OnOk result (Told (Says (line_text core.state line.now)) (E.told edge.old) (E.told edge.new)) }
     ensures part { OnErr result (Told (SaysPrefix (line_text core.state line.now)) (E.told edge.old) (E.told edge.new)) }
-    ensures telling { IsReplying (E.faults edge.old) (E.faults edge.new) result }
+    ensures replying { IsReplying (E.faults edge.old) (E.faults edge.new) result }
 {
     if is_blank(line) {
         return Ok(core);
@@ -39,7 +39,7 @@ pub(crate) fn tell_line<E: Edge>(
 fn write<E: Edge>(edge: &mut E, text: &[u8]) -> Result<(), Stop>
     ensures told { OnOk result (Told (Says text.now) (E.told edge.old) (E.told edge.new)) }
     ensures part { OnErr result (Told (SaysPrefix text.now) (E.told edge.old) (E.told edge.new)) }
-    ensures telling { IsReplying (E.faults edge.old) (E.faults edge.new) result }
+    ensures replying { IsReplying (E.faults edge.old) (E.faults edge.new) result }
 {
     match edge.emit(Channel(0), text) {
         Ok(()) => Ok(()),
