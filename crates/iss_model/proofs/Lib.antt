@@ -1,4 +1,5 @@
 pub mod TokenTexts
+pub mod TokenOrder
 pub mod Names
 pub mod KeptSums
 pub mod Lists

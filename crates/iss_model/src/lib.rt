@@ -20,6 +20,7 @@ mod numbered;
 mod setting;
 mod token;
 mod txn;
+mod words;
 
 pub use account::{Account, Part};
 pub use call::{CallId, CallState, Failure, How, Method, Notice, Opened};

@@ -3,6 +3,7 @@ ghost use Rattle.std.specs.Prelude.{◌≡◌, ◌↔◌, IsTrue, IsSome, IfSome
 ghost use Rattle.std.specs.List.{list_all};
 ghost use Rattle.iss_model.specs.Tokens.{is_token, is_token_byte};
 
+use crate::words;
 use std::cmp::Ordering;
 use std::hash::{Hash, Hasher};
 use std::marker::Model;
@@ -96,7 +97,7 @@ impl PartialEq for Token {
     ghost laws = { Prim.search (comparing, rules) };
 
     fn eq(&self, other: &Token) -> bool {
-        self.text() == other.text()
+        self.cmp(other).is_eq()
     }
 }
 
@@ -135,7 +136,8 @@ impl Ord for Token {
     ghost matches_eq = { texts_ties };
 
     fn cmp(&self, other: &Token) -> Ordering {
-        self.text().cmp(other.text())
+        // A text is ordered as its array, since zeros are below each byte of a token.
+        words::order(&self.bytes, &other.bytes)
     }
 }
 
