@@ -3,11 +3,10 @@ ghost use Rattle.std.specs.Prelude.{◌≡◌, ◌++◌, OnOk, IfOk};
 ghost use Rattle.iss_model.specs.texts.Spelling.{spelling, field_bytes, kind_number};
 
 use crate::writing::{
-    funding_number, outcome_number, put_amount_limit, put_association, put_currency, put_flag,
-    put_low_u32, put_mccs, put_moved, put_operation, put_scope, put_token, put_u16, put_u32,
-    put_u64, put_usage_limit, window_number,
+    put_amount_limit, put_association, put_currency, put_flag, put_low_u32, put_mccs, put_moved,
+    put_operation, put_scope, put_token, put_u16, put_u32, put_u64, put_usage_limit,
 };
-use iss_model::{Input, Record};
+use iss_model::{Input, Numbered, Record};
 use std::alloc::{AllocError, Global};
 
 /// The one spelling of a record. `decode` reads it again where the record's fields are in form.
@@ -84,7 +83,7 @@ fn put_fields(out: &mut Vec<u8>, input: &Input) -> Result<(), AllocError>
             put_token(out, token)?;
             put_token(out, product)?;
             put_currency(out, *currency)?;
-            out.push(funding_number(*funding))?;
+            out.push(funding.number())?;
             put_low_u32(out, *timeout_ms)?;
             put_low_u32(out, *hold_ms)
         }
@@ -107,7 +106,7 @@ fn put_fields(out: &mut Vec<u8>, input: &Input) -> Result<(), AllocError>
             put_token(out, token)?;
             put_token(out, control)?;
             put_currency(out, *currency)?;
-            out.push(window_number(*window))?;
+            out.push(window.number())?;
             put_amount_limit(out, *amount_limit)?;
             put_usage_limit(out, *usage_limit)?;
             put_association(out, association)?;
@@ -190,7 +189,7 @@ fn put_fields(out: &mut Vec<u8>, input: &Input) -> Result<(), AllocError>
         } => put_operation(out, token, txn, *currency, *amount),
         Input::Answer { call, outcome } => {
             put_u32(out, call.0)?;
-            Ok(out.push(outcome_number(*outcome))?)
+            Ok(out.push(outcome.number())?)
         }
         Input::Ack { notice } => put_u32(out, *notice),
         Input::Time => Ok(()),

@@ -4,13 +4,12 @@
 //! big-endian. `spelling` in `iss_model` is the definition.
 #![tactic(auto)]
 
-mod choices;
 mod contents;
 mod decoding;
 mod encoding;
-mod fields;
 mod groups;
 mod parts;
+mod reader;
 mod rows;
 mod spelled;
 mod writing;
