@@ -3,8 +3,8 @@ ghost use Rattle.std.specs.Prelude.{◌≡◌, ◌++◌, OnOk, IfOk};
 ghost use Rattle.iss_model.specs.texts.Spelling.{spelling, field_bytes, kind_number};
 
 use crate::writing::{
-    put_amount_limit, put_association, put_currency, put_flag, put_low_u32, put_mccs, put_moved,
-    put_operation, put_scope, put_token, put_u16, put_u32, put_u64, put_usage_limit,
+    put_association, put_currency, put_event, put_flag, put_limits, put_low_u32, put_mccs,
+    put_moved, put_operation, put_scope, put_token, put_u16, put_u32, put_u64,
 };
 use iss_model::{Input, Numbered, Record};
 use std::alloc::{AllocError, Global};
@@ -51,10 +51,7 @@ fn put_fields(out: &mut Vec<u8>, input: &Input) -> Result<(), AllocError>
     ensures { OnOk result (out.new.items ≡ out.old.items ++ field_bytes input.now) }
 {
     match input {
-        Input::User { token, user } => {
-            put_token(out, token)?;
-            put_token(out, user)
-        }
+        Input::User { token, user } => put_event(out, token, user),
         Input::Card {
             token,
             card,
@@ -62,10 +59,8 @@ fn put_fields(out: &mut Vec<u8>, input: &Input) -> Result<(), AllocError>
             product,
             active,
         } => {
-            put_token(out, token)?;
-            put_token(out, card)?;
-            put_token(out, user)?;
-            put_token(out, product)?;
+            put_event(out, token, card)?;
+            put_event(out, user, product)?;
             put_flag(out, *active)
         }
         Input::Move { token, who } => {
@@ -80,16 +75,14 @@ fn put_fields(out: &mut Vec<u8>, input: &Input) -> Result<(), AllocError>
             timeout_ms,
             hold_ms,
         } => {
-            put_token(out, token)?;
-            put_token(out, product)?;
+            put_event(out, token, product)?;
             put_currency(out, *currency)?;
             out.push(funding.number())?;
             put_low_u32(out, *timeout_ms)?;
             put_low_u32(out, *hold_ms)
         }
         Input::Group { token, group, mccs } => {
-            put_token(out, token)?;
-            put_token(out, group)?;
+            put_event(out, token, group)?;
             put_mccs(out, mccs)
         }
         Input::Control {
@@ -103,12 +96,10 @@ fn put_fields(out: &mut Vec<u8>, input: &Input) -> Result<(), AllocError>
             scope,
             active,
         } => {
-            put_token(out, token)?;
-            put_token(out, control)?;
+            put_event(out, token, control)?;
             put_currency(out, *currency)?;
             out.push(window.number())?;
-            put_amount_limit(out, *amount_limit)?;
-            put_usage_limit(out, *usage_limit)?;
+            put_limits(out, *amount_limit, *usage_limit)?;
             put_association(out, association)?;
             put_scope(out, scope)?;
             put_flag(out, *active)
@@ -125,8 +116,7 @@ fn put_fields(out: &mut Vec<u8>, input: &Input) -> Result<(), AllocError>
             day_limit,
             active,
         } => {
-            put_token(out, token)?;
-            put_token(out, set)?;
+            put_event(out, token, set)?;
             put_token(out, product)?;
             put_currency(out, *currency)?;
             put_flag(out, *connection)?;
@@ -137,8 +127,7 @@ fn put_fields(out: &mut Vec<u8>, input: &Input) -> Result<(), AllocError>
             put_flag(out, *active)
         }
         Input::Switch { token, product, on } => {
-            put_token(out, token)?;
-            put_token(out, product)?;
+            put_event(out, token, product)?;
             put_flag(out, *on)
         }
         Input::Load {

@@ -2,7 +2,7 @@
 ghost use Rattle.std.specs.Prelude.{◌≡◌, ◌++◌, ◌∷◌, [], OnOk};
 ghost use Rattle.std.specs.List.{flat_map};
 ghost use Rattle.iss_model.specs.Inputs.{spelled, flag, moved_contents, association_contents};
-ghost use Rattle.iss_model.specs.texts.Spelling.{number_bytes, currency_bytes, mcc_bytes, limit_bytes, scope_bytes, mccs_bytes, operation_bytes};
+ghost use Rattle.iss_model.specs.texts.Spelling.{number_bytes, currency_bytes, mcc_bytes, limit_bytes, limits_bytes, scope_bytes, mccs_bytes, operation_bytes};
 
 use iss_model::{Association, Currency, Mccs, Moved, Numbered, Scope, Token};
 use std::alloc::AllocError;
@@ -52,6 +52,14 @@ pub(crate) fn put_token(out: &mut Vec<u8>, token: &Token) -> Result<(), AllocErr
     out.extend_from_slice(text)
 }
 
+/// Two tokens, as an event begins: its own, and that of what it is about.
+pub(crate) fn put_event(out: &mut Vec<u8>, token: &Token, about: &Token) -> Result<(), AllocError>
+    ensures { OnOk result (out.new.items ≡ out.old.items ++ (spelled token.now ++ spelled about.now)) }
+{
+    put_token(out, token)?;
+    put_token(out, about)
+}
+
 pub(crate) fn put_flag(out: &mut Vec<u8>, on: bool) -> Result<(), AllocError>
     ensures { OnOk result (out.new.items ≡ out.old.items ++ flag on) }
 {
@@ -64,7 +72,19 @@ pub(crate) fn put_currency(out: &mut Vec<u8>, currency: Currency) -> Result<(), 
     put_u16(out, currency.number())
 }
 
-pub(crate) fn put_amount_limit(out: &mut Vec<u8>, limit: Option<u64>) -> Result<(), AllocError>
+/// The limits of a control: the most minor units, and the most purchases.
+pub(crate) fn put_limits(
+    out: &mut Vec<u8>,
+    amount: Option<u64>,
+    usage: Option<u32>,
+) -> Result<(), AllocError>
+    ensures { OnOk result (out.new.items ≡ out.old.items ++ limits_bytes amount usage) }
+{
+    put_amount_limit(out, amount)?;
+    put_usage_limit(out, usage)
+}
+
+fn put_amount_limit(out: &mut Vec<u8>, limit: Option<u64>) -> Result<(), AllocError>
     ensures { OnOk result (out.new.items ≡ out.old.items ++ limit_bytes 8 limit) }
 {
     match limit {
@@ -76,7 +96,7 @@ pub(crate) fn put_amount_limit(out: &mut Vec<u8>, limit: Option<u64>) -> Result<
     }
 }
 
-pub(crate) fn put_usage_limit(out: &mut Vec<u8>, limit: Option<u32>) -> Result<(), AllocError>
+fn put_usage_limit(out: &mut Vec<u8>, limit: Option<u32>) -> Result<(), AllocError>
     ensures { OnOk result (out.new.items ≡ out.old.items ++ limit_bytes 4 limit) }
 {
     match limit {
@@ -171,8 +191,7 @@ pub(crate) fn put_operation(
 ) -> Result<(), AllocError>
     ensures { OnOk result (out.new.items ≡ out.old.items ++ operation_bytes token.now about.now currency amount) }
 {
-    put_token(out, token)?;
-    put_token(out, about)?;
+    put_event(out, token, about)?;
     put_currency(out, currency)?;
     put_u64(out, amount)
 }
