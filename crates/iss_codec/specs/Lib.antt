@@ -1,4 +1,4 @@
 pub mod Taking
 pub mod TakingRecords
-pub mod Fronts
+pub mod Readers
 pub mod Meanings

@@ -3,11 +3,10 @@ ghost use Rattle.std.specs.Prelude.{◌≡◌, ◌++◌, OnOk, IfOk};
 ghost use Rattle.iss_model.specs.texts.Spelling.{spelling, field_bytes, kind_number};
 
 use crate::writing::{
-    funding_number, outcome_number, put_amount_limit, put_association, put_currency, put_flag,
-    put_low_u32, put_mccs, put_moved, put_operation, put_scope, put_token, put_u16, put_u32,
-    put_u64, put_usage_limit, window_number,
+    put_association, put_currency, put_event, put_flag, put_limits, put_low_u32, put_mccs,
+    put_moved, put_operation, put_scope, put_token, put_u16, put_u32, put_u64,
 };
-use iss_model::{Input, Record};
+use iss_model::{Input, Numbered, Record};
 use std::alloc::{AllocError, Global};
 
 /// The one spelling of a record. `decode` reads it again where the record's fields are in form.
@@ -52,10 +51,7 @@ fn put_fields(out: &mut Vec<u8>, input: &Input) -> Result<(), AllocError>
     ensures { OnOk result (out.new.items ≡ out.old.items ++ field_bytes input.now) }
 {
     match input {
-        Input::User { token, user } => {
-            put_token(out, token)?;
-            put_token(out, user)
-        }
+        Input::User { token, user } => put_event(out, token, user),
         Input::Card {
             token,
             card,
@@ -63,10 +59,8 @@ fn put_fields(out: &mut Vec<u8>, input: &Input) -> Result<(), AllocError>
             product,
             active,
         } => {
-            put_token(out, token)?;
-            put_token(out, card)?;
-            put_token(out, user)?;
-            put_token(out, product)?;
+            put_event(out, token, card)?;
+            put_event(out, user, product)?;
             put_flag(out, *active)
         }
         Input::Move { token, who } => {
@@ -81,16 +75,14 @@ fn put_fields(out: &mut Vec<u8>, input: &Input) -> Result<(), AllocError>
             timeout_ms,
             hold_ms,
         } => {
-            put_token(out, token)?;
-            put_token(out, product)?;
+            put_event(out, token, product)?;
             put_currency(out, *currency)?;
-            out.push(funding_number(*funding))?;
+            out.push(funding.number())?;
             put_low_u32(out, *timeout_ms)?;
             put_low_u32(out, *hold_ms)
         }
         Input::Group { token, group, mccs } => {
-            put_token(out, token)?;
-            put_token(out, group)?;
+            put_event(out, token, group)?;
             put_mccs(out, mccs)
         }
         Input::Control {
@@ -104,12 +96,10 @@ fn put_fields(out: &mut Vec<u8>, input: &Input) -> Result<(), AllocError>
             scope,
             active,
         } => {
-            put_token(out, token)?;
-            put_token(out, control)?;
+            put_event(out, token, control)?;
             put_currency(out, *currency)?;
-            out.push(window_number(*window))?;
-            put_amount_limit(out, *amount_limit)?;
-            put_usage_limit(out, *usage_limit)?;
+            out.push(window.number())?;
+            put_limits(out, *amount_limit, *usage_limit)?;
             put_association(out, association)?;
             put_scope(out, scope)?;
             put_flag(out, *active)
@@ -126,8 +116,7 @@ fn put_fields(out: &mut Vec<u8>, input: &Input) -> Result<(), AllocError>
             day_limit,
             active,
         } => {
-            put_token(out, token)?;
-            put_token(out, set)?;
+            put_event(out, token, set)?;
             put_token(out, product)?;
             put_currency(out, *currency)?;
             put_flag(out, *connection)?;
@@ -138,8 +127,7 @@ fn put_fields(out: &mut Vec<u8>, input: &Input) -> Result<(), AllocError>
             put_flag(out, *active)
         }
         Input::Switch { token, product, on } => {
-            put_token(out, token)?;
-            put_token(out, product)?;
+            put_event(out, token, product)?;
             put_flag(out, *on)
         }
         Input::Load {
@@ -190,7 +178,7 @@ fn put_fields(out: &mut Vec<u8>, input: &Input) -> Result<(), AllocError>
         } => put_operation(out, token, txn, *currency, *amount),
         Input::Answer { call, outcome } => {
             put_u32(out, call.0)?;
-            Ok(out.push(outcome_number(*outcome))?)
+            Ok(out.push(outcome.number())?)
         }
         Input::Ack { notice } => put_u32(out, *notice),
         Input::Time => Ok(()),

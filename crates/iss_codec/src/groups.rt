@@ -2,55 +2,45 @@
 ghost use Rattle.std.specs.Prelude.{◌≡◌, IfOk, option_map};
 ghost use Rattle.iss_model.specs.Forms.{are_mccs, are_rising};
 ghost use Rattle.iss_codec.specs.Taking.{take_codes, take_mccs};
-ghost use Rattle.iss_codec.specs.Fronts.{field_seen};
+ghost use Rattle.iss_codec.specs.Readers.{taken};
 
-use crate::fields::take_u16;
+use crate::reader::Reader;
 use iss_model::Mccs;
+use iss_model::limits::{GREATEST_MCC, MOST_MCCS};
 use std::alloc::{AllocError, Global};
 
-#[tactic(auto, unfolding(crate::specs::Taking::take_mccs))]
-pub(crate) fn take_mccs(alloc: Global, bytes: &[u8]) -> Result<Option<(Mccs, &[u8])>, AllocError>
-    ensures { IfOk result (λ found. field_seen found ≡ take_mccs bytes.now) }
-{
-    let Some((count, rest)) = take_u16(bytes) else {
-        return Ok(None);
-    };
-    match take_codes(alloc, count, rest)? {
-        Some((codes, rest)) => {
-            if !are_mccs(&codes) {
-                return Ok(None);
-            }
-            Ok(Some((Mccs::from_rising(codes), rest)))
+impl Reader<'_> {
+    #[tactic(auto, unfolding(crate::specs::Taking::take_mccs))]
+    pub(crate) fn take_mccs(&mut self, alloc: Global) -> Result<Option<Mccs>, AllocError>
+        ensures { IfOk result (λ found. taken found self.new.bytes.now ≡ take_mccs self.old.bytes.now) }
+    {
+        let Some(count) = self.take_u16() else {
+            return Ok(None);
+        };
+        match self.take_codes(alloc, count)? {
+            Some(codes) if are_mccs(&codes) => Ok(Some(Mccs::from_rising(codes))),
+            _ => Ok(None),
         }
-        None => Ok(None),
     }
-}
 
-fn take_codes(
-    alloc: Global,
-    count: u16,
-    bytes: &[u8],
-) -> Result<Option<(Vec<u16>, &[u8])>, AllocError>
-    ensures { IfOk result (λ found. option_map (λ x. (x.0.items, x.1.now)) found ≡ take_codes count bytes.now) }
-{
-    let mut codes = Vec::new(alloc);
-    let mut rest = bytes;
-    for _ in 0..count {
-        match take_u16(rest) {
-            Some((code, after)) => {
-                codes.push(code)?;
-                rest = after;
+    fn take_codes(&mut self, alloc: Global, count: u16) -> Result<Option<Vec<u16>>, AllocError>
+        ensures { IfOk result (λ found. taken (option_map (λ codes. codes.items) found) self.new.bytes.now ≡ take_codes count self.old.bytes.now) }
+    {
+        let mut codes = Vec::new(alloc);
+        for _ in 0..count {
+            match self.take_u16() {
+                Some(code) => codes.push(code)?,
+                None => return Ok(None),
             }
-            None => return Ok(None),
         }
+        Ok(Some(codes))
     }
-    Ok(Some((codes, rest)))
 }
 
 fn are_mccs(codes: &[u16]) -> bool
     ensures { result ≡ are_mccs codes.now }
 {
-    !codes.is_empty() && codes.len() <= 1000 && are_rising(codes)
+    !codes.is_empty() && codes.len() <= MOST_MCCS && are_rising(codes)
 }
 
 fn are_rising(codes: &[u16]) -> bool
@@ -61,7 +51,7 @@ fn are_rising(codes: &[u16]) -> bool
         if *code < low {
             return false;
         }
-        if *code > 9999 {
+        if *code > GREATEST_MCC {
             return false;
         }
         low = *code + 1;

@@ -1,14 +1,10 @@
 //! Writing fields, each after what was written before.
 ghost use Rattle.std.specs.Prelude.{◌≡◌, ◌++◌, ◌∷◌, [], OnOk};
 ghost use Rattle.std.specs.List.{flat_map};
-ghost use Rattle.iss_model.specs.Currencies.{iso_number};
-ghost use Rattle.iss_model.specs.Inputs.{with_length, flag_contents, funding_number, window_number, card_state_number, user_state_number, outcome_number, moved_contents, association_contents};
-ghost use Rattle.iss_model.specs.texts.Spelling.{number_bytes, currency_bytes, mcc_bytes, limit_bytes, scope_bytes, mccs_bytes, operation_bytes};
+ghost use Rattle.iss_model.specs.Inputs.{with_length, flag_contents, moved_contents, association_contents};
+ghost use Rattle.iss_model.specs.texts.Spelling.{number_bytes, currency_bytes, mcc_bytes, limit_bytes, limits_bytes, scope_bytes, mccs_bytes, operation_bytes};
 
-use iss_model::{
-    Association, CardState, Currency, Funding, Mccs, Moved, Outcome, Scope, Token, UserState,
-    Window,
-};
+use iss_model::{Association, Currency, Mccs, Moved, Numbered, Scope, Token};
 use std::alloc::AllocError;
 
 #[tactic(auto, unfolding(iss_model::specs::texts::Spelling::number_bytes))]
@@ -56,6 +52,14 @@ pub(crate) fn put_token(out: &mut Vec<u8>, token: &Token) -> Result<(), AllocErr
     out.extend_from_slice(text)
 }
 
+/// Two tokens, as an event begins: its own, and that of what it is about.
+pub(crate) fn put_event(out: &mut Vec<u8>, token: &Token, about: &Token) -> Result<(), AllocError>
+    ensures { OnOk result (out.new.items ≡ out.old.items ++ (with_length token.now ++ with_length about.now)) }
+{
+    put_token(out, token)?;
+    put_token(out, about)
+}
+
 pub(crate) fn put_flag(out: &mut Vec<u8>, on: bool) -> Result<(), AllocError>
     ensures { OnOk result (out.new.items ≡ out.old.items ++ flag_contents on) }
 {
@@ -65,77 +69,22 @@ pub(crate) fn put_flag(out: &mut Vec<u8>, on: bool) -> Result<(), AllocError>
 pub(crate) fn put_currency(out: &mut Vec<u8>, currency: Currency) -> Result<(), AllocError>
     ensures { OnOk result (out.new.items ≡ out.old.items ++ currency_bytes currency) }
 {
-    put_u16(out, iso_number(currency))
+    put_u16(out, currency.number())
 }
 
-fn iso_number(currency: Currency) -> u16
-    ensures { result ≡ iso_number currency }
+/// The limits of a control: the most minor units, and the most purchases.
+pub(crate) fn put_limits(
+    out: &mut Vec<u8>,
+    amount: Option<u64>,
+    usage: Option<u32>,
+) -> Result<(), AllocError>
+    ensures { OnOk result (out.new.items ≡ out.old.items ++ limits_bytes amount usage) }
 {
-    match currency {
-        Currency::Usd => 840,
-        Currency::Eur => 978,
-        Currency::Gbp => 826,
-        Currency::Cad => 124,
-        Currency::Aud => 36,
-        Currency::Jpy => 392,
-        Currency::Kwd => 414,
-    }
+    put_amount_limit(out, amount)?;
+    put_usage_limit(out, usage)
 }
 
-pub(crate) fn funding_number(funding: Funding) -> u8
-    ensures { result ≡ funding_number funding }
-{
-    match funding {
-        Funding::Account => 1,
-        Funding::Gateway => 2,
-    }
-}
-
-pub(crate) fn window_number(window: Window) -> u8
-    ensures { result ≡ window_number window }
-{
-    match window {
-        Window::Transaction => 1,
-        Window::Day => 2,
-        Window::Week => 3,
-        Window::Month => 4,
-        Window::Lifetime => 5,
-    }
-}
-
-pub(crate) fn outcome_number(outcome: Outcome) -> u8
-    ensures { result ≡ outcome_number outcome }
-{
-    match outcome {
-        Outcome::Funded => 1,
-        Outcome::Refused => 2,
-        Outcome::Connection => 3,
-        Outcome::Application => 4,
-    }
-}
-
-fn card_state_number(state: CardState) -> u8
-    ensures { result ≡ card_state_number state }
-{
-    match state {
-        CardState::Unactivated => 1,
-        CardState::Active => 2,
-        CardState::Suspended => 3,
-        CardState::Terminated => 4,
-    }
-}
-
-fn user_state_number(state: UserState) -> u8
-    ensures { result ≡ user_state_number state }
-{
-    match state {
-        UserState::Active => 2,
-        UserState::Suspended => 3,
-        UserState::Closed => 5,
-    }
-}
-
-pub(crate) fn put_amount_limit(out: &mut Vec<u8>, limit: Option<u64>) -> Result<(), AllocError>
+fn put_amount_limit(out: &mut Vec<u8>, limit: Option<u64>) -> Result<(), AllocError>
     ensures { OnOk result (out.new.items ≡ out.old.items ++ limit_bytes 8 limit) }
 {
     match limit {
@@ -147,7 +96,7 @@ pub(crate) fn put_amount_limit(out: &mut Vec<u8>, limit: Option<u64>) -> Result<
     }
 }
 
-pub(crate) fn put_usage_limit(out: &mut Vec<u8>, limit: Option<u32>) -> Result<(), AllocError>
+fn put_usage_limit(out: &mut Vec<u8>, limit: Option<u32>) -> Result<(), AllocError>
     ensures { OnOk result (out.new.items ≡ out.old.items ++ limit_bytes 4 limit) }
 {
     match limit {
@@ -166,12 +115,12 @@ pub(crate) fn put_moved(out: &mut Vec<u8>, who: &Moved) -> Result<(), AllocError
         Moved::Card(card, to) => {
             out.push(1)?;
             put_token(out, card)?;
-            Ok(out.push(card_state_number(*to))?)
+            Ok(out.push(to.number())?)
         }
         Moved::User(user, to) => {
             out.push(2)?;
             put_token(out, user)?;
-            Ok(out.push(user_state_number(*to))?)
+            Ok(out.push(to.number())?)
         }
     }
 }
@@ -242,8 +191,7 @@ pub(crate) fn put_operation(
 ) -> Result<(), AllocError>
     ensures { OnOk result (out.new.items ≡ out.old.items ++ operation_bytes token.now about.now currency amount) }
 {
-    put_token(out, token)?;
-    put_token(out, about)?;
+    put_event(out, token, about)?;
     put_currency(out, currency)?;
     put_u64(out, amount)
 }
