@@ -1,5 +1,5 @@
 -- What a run does, whatever status it ends with.
-use Rattle.std.specs.Prelude.{◌≡◌, ℕ, ◌≤◌, ◌↔◌, ◌⊎◌, List, [], ◌++◌, length, IfErr, Result}
+use Rattle.std.specs.Prelude.{◌≡◌, ◌+◌, ℕ, ◌≤◌, ◌↔◌, ◌⊎◌, List, [], ◌++◌, length, IfErr, Result}
 use Rattle.iss_edge.specs.World.{World, Faults, Later, Rose}
 use Rattle.iss_model.specs.declared.limits.TheConstants.{MOST_INPUT}
 use Rattle.iss_model.specs.state.Cores.{CoreState, no_core}
