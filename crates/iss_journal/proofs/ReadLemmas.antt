@@ -1,11 +1,11 @@
 -- What a scan has read stands on the device.
-use Rattle.std.proofs.Common.{◌≡◌, ◌⊎◌, inl, inr, ℕ, ◌+◌, ◌^◌, ◌<◌, ◌≤◌, List, [], ◌∷◌, ◌++◌, length, take, drop, get_or, refl, sym, ap, ◌∙◌, subst, append_assoc, append-nil, add-zero, arith, length-append, drop-drop}
+use Rattle.std.proofs.Common.{◌≡◌, inl, inr, ℕ, ◌+◌, ◌<◌, List, [], ◌∷◌, ◌++◌, length, take, drop, get_or, refl, sym, ap, ◌∙◌, append_assoc, append-nil, add-zero, arith, length-append, drop-drop}
 use Rattle.std.specs.Int.{w32, to_be_bytes, from_be_bytes}
-use Rattle.std.proofs.lemmas.List.{append_cancel_left, take-append-drop, take_at, drop_at, drop_more, get_or-drop}
+use Rattle.std.proofs.lemmas.List.{append_cancel_left, take-append-drop, drop_more, get_or-drop}
 use Rattle.std.proofs.lemmas.Nat.{from_be_bytes-to_be_bytes_4}
 use Rattle.iss_journal.specs.Place.{Place}
-use Rattle.iss_journal.specs.Region.{Region, IsBody, AreBodies, with_length, append_bytes, need_of, frames, bytes_before_gate, EndsWith, Shows}
-use Rattle.iss_journal.specs.Opening.{RecordAt, WrongLength, BadAt, IsEndGate}
+use Rattle.iss_journal.specs.Region.{Region, AreBodies, with_length, need_of, frames, bytes_before_gate}
+use Rattle.iss_journal.specs.Opening.{BadAt}
 use Rattle.iss_journal.specs.Reading.{ReadUpTo, BeginsToRead, ReadsOn, ReadsToTheEnd, BadShowsNothing}
 use Rattle.iss_journal.proofs.Records.{front-push, are_bodies-push, length-spelled, SameSpelled, same_spelled}
 

@@ -43,7 +43,7 @@ returns-then-taken-gt-MOST_INPUT-clause-ran g c =
     let asked : c.in_ok-count.count ≤ c.room_after.result = c.in_ok-count.ensures.bound in
     let one : c.input.taken ≡ MOST_INPUT → c.room_after.result ≡ 1 = c.room_after.ensures.one_more in
     let more : c.input.taken < MOST_INPUT → c.input.taken + c.room_after.result ≤ MOST_INPUT = c.room_after.ensures.within in
-    let all_but_one : c.input.taken + c.in_ok-count.count ≡ MOST_INPUT + 1 = one_too_many c.input.taken c.in_ok-count.count c.room_after.result c.input.invariant.limit asked c.if-taken-gt-MOST.true one more in
+    let all_but_one : c.input.taken + c.in_ok-count.count ≡ MOST_INPUT + 1 = one_too_many c.input.taken c.in_ok-count.count c.room_after.result c.input.invariant.limit asked c.if-taken-gt-MOST_INPUT.true one more in
     told_too_long c.input.taken c.in_ok-count.count c.input.core.state c.input.line c.take_piece.new.buffer
     (g.E.Edge.told c.args.edge.now) (g.E.Edge.told c.input.edge) (g.E.Edge.told c.take_piece.new.edge)
     within all_but_one c.input.invariant.told c.in_ok-count.ensures.taken
