@@ -1,5 +1,5 @@
 -- Bytes are ordered as the numbers that they spell, some at a time, and texts of tokens as their padded arrays.
-use Rattle.std.proofs.Common.{◌≡◌, ℕ, zero, suc, ◌+◌, ◌-◌, ◌*◌, ◌<◌, ◌≤◌, Bool, true, false, List, [], ◌∷◌, ◌++◌, length, get_or, take, drop, replicate, refl, sym, ap, nat_le, ◌&&◌, ◌∙◌, arith, length-drop, drop-drop}
+use Rattle.std.proofs.Common.{◌≡◌, ℕ, zero, suc, ◌+◌, ◌-◌, ◌*◌, ◌<◌, ◌≤◌, true, false, List, [], ◌∷◌, ◌++◌, length, take, drop, replicate, refl, sym, ap, nat_le, ◌&&◌, ◌∙◌, arith, length-drop, drop-drop}
 use Rattle.std.proofs.lemmas.List.{get_or-drop, drop_all}
 use Rattle.std.proofs.lemmas.Bool.{and_parts}
 use Rattle.std.proofs.lemmas.Bool.Decides.{nat_tests}
@@ -10,9 +10,9 @@ use Rattle.std.specs.Ordering.{nat_cmp, ordering_then, is_ne}
 use Rattle.std.specs.Cmp.Lexicographic.{slice_cmp}
 use Rattle.std.specs.List.{list_all}
 use Rattle.std.specs.Slice.Scan.{big_endian}
-use Rattle.iss_model.specs.Tokens.{is_token, is_token_byte, IsKept}
+use Rattle.iss_model.specs.Tokens.{is_token_byte, IsKept}
 use Rattle.iss_model.specs.texts.Spelling.{AreBytes}
-use Rattle.iss_model.specs.Padding.{IsPadded, padded_back, padded_len}
+use Rattle.iss_model.specs.Padding.{padded_back, padded_len}
 
 next_byte : (a b x y : ℕ) → x < 256 → y < 256 → nat_cmp (a * 256 + x) (b * 256 + y) ≡ ordering_then (nat_cmp a b) (nat_cmp x y)
 next_byte a b x y p q = grind (arith, nat_tests)
