@@ -20,7 +20,6 @@ pub(crate) fn order(a: &[u8; 36], b: &[u8; 36]) -> Ordering
 }
 
 /// The eight bytes from `at` on as a number, the first the greatest.
-#[inline(always)]
 fn word(bytes: &[u8; 36], at: usize) -> u64
     requires { at + 8 ≤ 36 }
     ensures { result ≡ big_endian 0 (take 8 (drop at bytes.now)) }
@@ -38,7 +37,6 @@ fn word(bytes: &[u8; 36], at: usize) -> u64
 }
 
 /// The last four bytes as a number, the first the greatest.
-#[inline(always)]
 fn last_bytes(bytes: &[u8; 36]) -> u32
     ensures { result ≡ big_endian 0 (take 4 (drop 32 bytes.now)) }
 {
