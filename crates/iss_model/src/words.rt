@@ -6,7 +6,7 @@ ghost use Rattle.std.specs.Slice.Scan.{big_endian};
 
 use std::cmp::Ordering;
 
-/// The order of two arrays by their bytes, the first the greatest.
+/// The order of two arrays by their first bytes that differ.
 pub(crate) fn order(a: &[u8; 36], b: &[u8; 36]) -> Ordering
     ensures { result ≡ slice_cmp nat_cmp a.now b.now }
 {
@@ -19,8 +19,7 @@ pub(crate) fn order(a: &[u8; 36], b: &[u8; 36]) -> Ordering
     last_bytes(a).cmp(&last_bytes(b))
 }
 
-/// The eight bytes from `at` on as a number, the first the greatest.
-#[inline(always)]
+/// The eight bytes from `at` on as a big-endian number.
 fn word(bytes: &[u8; 36], at: usize) -> u64
     requires { at + 8 ≤ 36 }
     ensures { result ≡ big_endian 0 (take 8 (drop at bytes.now)) }
@@ -37,8 +36,7 @@ fn word(bytes: &[u8; 36], at: usize) -> u64
     ])
 }
 
-/// The last four bytes as a number, the first the greatest.
-#[inline(always)]
+/// The last four bytes as a big-endian number.
 fn last_bytes(bytes: &[u8; 36]) -> u32
     ensures { result ≡ big_endian 0 (take 4 (drop 32 bytes.now)) }
 {
