@@ -24,7 +24,7 @@ fold_push : {S A : Type 0} (f : S → A → S) (s : S) (xs : List A) (x : A) →
 fold_push f s [] x = refl
 fold_push f s (a ∷ xs) x = fold_push f (f s a) xs x
 
-map_push : {A B : Type 0} (f : A → B) (xs : List A) (x : A) → map f (xs ++ x ∷ []) ≡ map f xs ++ f x ∷ []
+pub map_push : {A B : Type 0} (f : A → B) (xs : List A) (x : A) → map f (xs ++ x ∷ []) ≡ map f xs ++ f x ∷ []
 map_push f [] x = refl
 map_push f (a ∷ xs) x = ap (λ bs. f a ∷ bs) (map_push f xs x)
 

@@ -13,7 +13,7 @@ use Rattle.iss_hold.specs.Holdings.{whole_of}
 use Rattle.iss_hold.specs.Indexes.{is_of, total_of, by_user, AreSummed}
 use Rattle.iss_hold.specs.Sums.{sum_in}
 use Rattle.iss_hold.proofs.Places.{IsReplaced}
-use Rattle.iss_hold.proofs.IndexCalls.{user_test, both_true, one_number}
+use Rattle.iss_hold.proofs.IndexCalls.{stands_by, user_test, both_true, one_number}
 use Rattle.iss_hold.proofs.HoldTotals.{total_set, whole_within}
 
 pub get_set : (hs : List Hold) (i : ℕ) (h k : Hold) → slice_get hs i ≡ Some h → slice_get (set hs i k) i ≡ Some k
@@ -39,10 +39,6 @@ small_by : (b : Bool) (total before whole whole_new : ℕ) → total + cond b wh
     → (b ≡ true → total < 2 ^ 62) → before < 2 ^ 62 → total < 2 ^ 62
 small_by true total before whole whole_new e g p = g refl
 small_by false total before whole whole_new e g p = omega arith
-
-stands_by : (b : Bool) (n : ℕ) (o : Option ℕ) → IsSome o → IsSome (cond b (Some n) o)
-stands_by true n o h = refl
-stands_by false n o h = h
 
 -- a hold takes the place of another of its transaction, and the sum of its user is what the holds then come to
 pub summed_set : (hs : List Hold) (sums new_sums : BTreeMap (List ℕ × ℕ) ℕ) (i : ℕ) (h k : Hold) (sum : ℕ)

@@ -32,6 +32,7 @@ use Rattle.iss_hold.specs.Indexes.{names, is_of, total_of, by_name, ArePlaced, A
 use Rattle.iss_hold.proofs.HoldSums.{holdings_set}
 use Rattle.iss_hold.proofs.HoldTotals.{user_total, part_kept, whole_within, total_set}
 use Rattle.iss_hold.proofs.Places.{has_place}
+use Rattle.iss_hold.proofs.IndexCalls.{none_some}
 use Rattle.iss_hold.proofs.Changes.{get_set}
 
 set_own : (hs : List Hold) (i : ℕ) (h : Hold) → slice_get hs i ≡ Some h → set hs i h ≡ hs
@@ -245,8 +246,4 @@ module _ {name : List ℕ} {hs : List Hold} {i : ℕ} {h : Hold} (at : IsAt name
 -- a name without a place was not started
 pub not_started : {hs : List Hold} {places : BTreeMap (List ℕ) ℕ} (name : List ℕ) → ArePlaced hs places → None ≡ tree.get by_name places name → txn_named name (map now_of hs) ≡ None
 not_started {hs} name placed e =
-    none_of (txn_named name (map now_of hs)) (sym (has_place name hs) ∙ ap (λ (o : Option ℕ). is_some o) (sym (placed.place name) ∙ sym e))
-  where
-    none_of : (o : Option TxnNow) → is_some o ≡ false → o ≡ None
-    none_of None h = refl
-    none_of (Some t) h = cc
+    none_some (txn_named name (map now_of hs)) (sym (has_place name hs) ∙ ap (λ (o : Option ℕ). is_some o) (sym (placed.place name) ∙ sym e))

@@ -38,9 +38,9 @@ same_user a b h =
     let parts = both_true (bytes_eq a.0 b.0) (a.1 == b.1) (sym (user_test a b) ∙ h) in
     λ i. (one_name a.0 b.0 parts.0 i, one_number a.1 b.1 parts.1 i)
 
-not_there : (o : Option ℕ) → is_some o ≡ false → o ≡ None
-not_there None h = refl
-not_there (Some x) h = cc
+pub none_some : {A : Type 0} (o : Option A) → is_some o ≡ false → o ≡ None
+none_some None h = refl
+none_some (Some x) h = cc
 
 begun_by : (b : Bool) (o : Option ℕ) → (b ≡ true → o ≡ None) → unwrap_or (cond b (Some 0) o) 0 ≡ unwrap_or o 0
 begun_by true o h = ap (λ (x : Option ℕ). unwrap_or x 0) (sym (h refl))
@@ -52,9 +52,9 @@ pub begun_same : (m n : BTreeMap (List ℕ × ℕ) ℕ) (key : List ℕ × ℕ) 
 begun_same m n key none u user number =
     ap (λ (o : Option ℕ). unwrap_or o 0) (u.0 (user, number))
     ∙ begun_by (is_at (by_user key) (user, number)) (tree.get by_user m (user, number))
-    (λ (e : is_at (by_user key) (user, number) ≡ true). ap (λ (k : List ℕ × ℕ). tree.get by_user m k) (sym (same_user key (user, number) e)) ∙ not_there (tree.get by_user m key) none)
+    (λ (e : is_at (by_user key) (user, number) ≡ true). ap (λ (k : List ℕ × ℕ). tree.get by_user m k) (sym (same_user key (user, number) e)) ∙ none_some (tree.get by_user m key) none)
 
-stands_by : (b : Bool) (n : ℕ) (o : Option ℕ) → IsSome o → IsSome (cond b (Some n) o)
+pub stands_by : (b : Bool) (n : ℕ) (o : Option ℕ) → IsSome o → IsSome (cond b (Some n) o)
 stands_by true n o h = refl
 stands_by false n o h = h
 

@@ -20,11 +20,12 @@ use Rattle.iss_hold.specs.Holdings.{now_of}
 use Rattle.iss_hold.specs.Expiries.{Expiry}
 use Rattle.iss_hold.specs.Indexes.{names, origins, place_in, total_of, by_name, by_user, by_expiry, AreSummed, AreIndexed}
 use Rattle.iss_hold.specs.Sums.{sum_in}
+use Rattle.iss_hold.proofs.IndexCalls.{none_some}
 use Rattle.iss_hold.proofs.HoldSums.{map_set}
 use Rattle.iss_hold.proofs.HoldTotals.{total_set, total_more}
 use Rattle.iss_hold.proofs.Changes.{there_or_set}
 use Rattle.iss_hold.proofs.Places.{IsReplaced, place_more, no_place, has_place}
-use Rattle.iss_hold.proofs.Beginnings.{begun, entries_more}
+use Rattle.iss_hold.proofs.Beginnings.{map_push, begun, entries_more}
 use Rattle.iss_hold.proofs.Endings.{ended, expiries_less, expiries_same}
 
 -- what was there stays there after one more
@@ -41,10 +42,6 @@ there_or_last P [] h all own (suc i) k e = cc
 there_or_last P (x ∷ hs) h all own zero k e = all zero k e
 there_or_last P (x ∷ hs) h all own (suc i) k e = there_or_last P hs h (λ j y f. all (suc j) y f) own i k e
 
-map_push : {A B : Type 0} (f : A → B) (xs : List A) (x : A) → map f (xs ++ x ∷ []) ≡ map f xs ++ f x ∷ []
-map_push f [] x = refl
-map_push f (a ∷ xs) x = ap (λ bs. f a ∷ bs) (map_push f xs x)
-
 length_map : {A B : Type 0} (f : A → B) (xs : List A) → length (map f xs) ≡ length xs
 length_map f [] = refl
 length_map f (a ∷ xs) = ap suc (length_map f xs)
@@ -57,10 +54,6 @@ new_place false o (Some j) n m e f h = e
 no_origin : (number : ℕ) (hs : List Hold) → list_any (λ t. number == t.txn.origin) (map now_of hs) ≡ list_any (nat_eq number) (origins hs)
 no_origin number [] = refl
 no_origin number (h ∷ hs) = ap (λ (b : Bool). (number == h.txn.origin) || b) (no_origin number hs)
-
-none_some : {A : Type 0} (o : Option A) → is_some o ≡ false → o ≡ None
-none_some None e = refl
-none_some (Some x) e = cc
 
 -- one more transaction: its place, its user's sum and its expiry are there
 pub indexed_more : (hs : List Hold) (places more_places : BTreeMap (List ℕ) ℕ) (sums more_sums : BTreeMap (List ℕ × ℕ) ℕ) (order more_order : BTreeMap (ℕ × ℕ) (List ℕ)) (t : Txn)

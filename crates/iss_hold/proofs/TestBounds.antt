@@ -20,6 +20,7 @@ use Rattle.iss_model.specs.state.Cores.{Holdings, with_hold, with_txn, is_live}
 use Rattle.iss_model.proofs.Names.{its_name}
 use Rattle.iss_model.proofs.KeptSums.{kept_at-after_change}
 use Rattle.iss_hold.specs.Entries.{entries_on, after_holds}
+use Rattle.iss_hold.proofs.IndexCalls.{both_true}
 use Rattle.iss_hold.specs.Bounds.{AreBelow, AreUpTo, AreLow}
 
 below_apart : (a n : ℕ) → nat_lt a n ≡ true → (n == a) ≡ false
@@ -31,14 +32,10 @@ below_more a n h = grind (arith, nat_tests)
 just_below : (n : ℕ) → nat_lt n (n + 1) ≡ true
 just_below n = grind (arith, nat_tests)
 
-both : (a b : Bool) → (a && b) ≡ true → (a ≡ true) × (b ≡ true)
-both true b h = (refl, h)
-both false b h = cc
-
 new_by : (number : ℕ) (ts : List TxnNow) → list_all (λ t. nat_lt t.txn.origin number) ts ≡ true → list_any (λ t. number == t.txn.origin) ts ≡ false
 new_by number [] h = refl
 new_by number (t ∷ ts) h =
-    let parts = both (nat_lt t.txn.origin number) (list_all (λ u. nat_lt u.txn.origin number) ts) h in
+    let parts = both_true (nat_lt t.txn.origin number) (list_all (λ u. nat_lt u.txn.origin number) ts) h in
     ap (λ (b : Bool). b || list_any (λ u. number == u.txn.origin) ts) (below_apart t.txn.origin number parts.0) ∙ new_by number ts parts.1
 
 -- a number above all is new
@@ -48,7 +45,7 @@ new_origin number h b = new_by number h.txns b
 more_by : (number : ℕ) (ts : List TxnNow) → list_all (λ t. nat_lt t.txn.origin number) ts ≡ true → list_all (λ t. nat_lt t.txn.origin (number + 1)) ts ≡ true
 more_by number [] h = refl
 more_by number (t ∷ ts) h =
-    let parts = both (nat_lt t.txn.origin number) (list_all (λ u. nat_lt u.txn.origin number) ts) h in
+    let parts = both_true (nat_lt t.txn.origin number) (list_all (λ u. nat_lt u.txn.origin number) ts) h in
     ap (λ (b : Bool). b && list_all (λ u. nat_lt u.txn.origin (number + 1)) ts) (below_more t.txn.origin number parts.0) ∙ more_by number ts parts.1
 
 pub below_next : (number : ℕ) (h : Holdings) → AreBelow number h → AreBelow (number + 1) h
@@ -57,7 +54,7 @@ below_next number h b = more_by number h.txns b
 pushed_by : (number : ℕ) (ts : List TxnNow) (t : TxnNow) → list_all (λ u. nat_lt u.txn.origin number) ts ≡ true → nat_lt t.txn.origin number ≡ true → list_all (λ u. nat_lt u.txn.origin number) (ts ++ t ∷ []) ≡ true
 pushed_by number [] t h e = ap (λ (b : Bool). b && true) e
 pushed_by number (u ∷ ts) t h e =
-    let parts = both (nat_lt u.txn.origin number) (list_all (λ v. nat_lt v.txn.origin number) ts) h in
+    let parts = both_true (nat_lt u.txn.origin number) (list_all (λ v. nat_lt v.txn.origin number) ts) h in
     ap (λ (b : Bool). b && list_all (λ v. nat_lt v.txn.origin number) (ts ++ t ∷ [])) parts.0 ∙ pushed_by number ts t parts.1 e
 
 below_started : (h : Holdings) (t : Txn) → AreBelow t.origin h → AreBelow (t.origin + 1) (with_txn h t)
