@@ -18,7 +18,7 @@ $(program): $(sources)
 
 # Shows the replies to the first example.
 run: issuer
-	build/issuer dry <examples/first.jsonl
+	build/issuer dry <examples/scripts/purchase_of_all_that_was_loaded.jsonl
 
 # All that a change has to pass.
 test:

@@ -1,8 +1,9 @@
-# What each check begins with: the program that rt ci left, a folder for its files, and what it must end with.
+# What each check begins with: the program that rt ci left, its first example, a folder for its files, and what it must end with.
 set -eu -o pipefail
 cd "$(dirname "${BASH_SOURCE[0]}")/.."
 
 issuer=crates/iss_cli/out/iss_cli
+first=examples/scripts/purchase_of_all_that_was_loaded
 [ -x "$issuer" ] || make issuer >&2
 
 room=$(mktemp -d)

@@ -8,8 +8,8 @@ device=$room/device
 
 # run_format WORDS..: runs the program, which reads no input.
 run_format() {
-    { issue format "$@" && cat >"$room/left"; } <examples/first.jsonl >"$room/out"
-    cmp -s examples/first.jsonl "$room/left" || fail "format $*: it read its input"
+    { issue format "$@" && cat >"$room/left"; } <"$first.jsonl" >"$room/out"
+    cmp -s "$first.jsonl" "$room/left" || fail "format $*: it read its input"
     wrote "format $*" /dev/null
 }
 

@@ -2,8 +2,6 @@
 # Where lines begin and end: no input, blank lines, and a last line without a line feed.
 . "$(dirname "$0")/../program.sh"
 
-replies=crates/iss_cli/stdout
-
 # answered WHAT FILE: on this input the program writes what the file holds.
 answered() {
     issue dry >"$room/out"
@@ -11,15 +9,17 @@ answered() {
     wrote "$1" "$2"
 }
 
-answered 'the first example' $replies <examples/first.jsonl
+answered 'the first example' "$first.out" <"$first.jsonl"
 answered 'no input' /dev/null </dev/null
 printf '\n \n\t\r\n\n  \t' >"$room/blank"
 answered 'blank lines alone' /dev/null <"$room/blank"
+printf '%1000000s' '' >"$room/blank"
+answered 'a million blanks' /dev/null <"$room/blank"
 
 while IFS= read -r line; do
     printf '\n \t\r\n%s\r\n\n' "$line"
-done <examples/first.jsonl >"$room/between"
-answered 'blank lines between' $replies <"$room/between"
+done <"$first.jsonl" >"$room/between"
+answered 'blank lines between' "$first.out" <"$room/between"
 
-head -c -1 examples/first.jsonl >"$room/unended"
-answered 'a last line without a line feed' $replies <"$room/unended"
+head -c -1 "$first.jsonl" >"$room/unended"
+answered 'a last line without a line feed' "$first.out" <"$room/unended"

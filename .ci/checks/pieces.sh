@@ -2,16 +2,16 @@
 # However a pipe brings the input in two pieces, the program writes the same.
 . "$(dirname "$0")/../program.sh"
 
-size=$(wc -c <examples/first.jsonl)
+size=$(wc -c <"$first.jsonl")
 for ((cut = 0; cut <= size; cut++)); do
     # The pause lets the program take the first piece by itself.
     {
-        head -c "$cut" examples/first.jsonl
+        head -c "$cut" "$first.jsonl"
         sleep 0.02
-        tail -c +"$((cut + 1))" examples/first.jsonl
+        tail -c +"$((cut + 1))" "$first.jsonl"
     } | {
         issue dry >"$room/out"
         ended "cut at $cut" 0 ''
     }
-    wrote "cut at $cut" crates/iss_cli/stdout
+    wrote "cut at $cut" "$first.out"
 done

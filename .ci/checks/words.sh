@@ -7,10 +7,10 @@ usage='issuer: usage: dry, format DEVICE SIZE INSTANCE, replay DEVICE, balances 
 # refused WORDS..: the program takes none of these words.
 refused() {
     local what="the words '$*'"
-    { issue "$@" && cat >"$room/left"; } <examples/first.jsonl >"$room/out"
+    { issue "$@" && cat >"$room/left"; } <"$first.jsonl" >"$room/out"
     ended "$what" 2 "$usage"
     wrote "$what" /dev/null
-    cmp -s examples/first.jsonl "$room/left" || fail "$what: it read its input"
+    cmp -s "$first.jsonl" "$room/left" || fail "$what: it read its input"
 }
 
 refused
@@ -19,6 +19,8 @@ refused replay
 refused replay a b
 refused serve d 80 81 0
 refused drill 0
+refused Dry
+refused 'dry '
 refused dry -x
 refused dry dry
 refused ''

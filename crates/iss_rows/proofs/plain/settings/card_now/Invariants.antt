@@ -1,9 +1,0 @@
-use Rattle.std.proofs.Common.{◌≡◌, drop}
-use Rattle.std.specs.List.{filter_map}
-use Rattle.iss_model.specs.Settings.{latest, card_moved}
-use Rattle.iss_rows.proofs.plain.settings.card_now.Given as goal
-
-abbrev pub invariant-loop-row : goal.invariant-loop-row
-invariant-loop-row l =
-    latest l.card.state (filter_map (λ row. card_moved l.card.name row.entry) l.rows)
-    ≡ latest l.state (filter_map (λ row. card_moved l.card.name row.entry) (drop l.row-index l.rows))

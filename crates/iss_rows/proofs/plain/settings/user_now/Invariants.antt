@@ -1,9 +1,0 @@
-use Rattle.std.proofs.Common.{◌≡◌, drop}
-use Rattle.std.specs.List.{filter_map}
-use Rattle.iss_model.specs.Settings.{latest, user_moved}
-use Rattle.iss_rows.proofs.plain.settings.user_now.Given as goal
-
-abbrev pub invariant-loop-row : goal.invariant-loop-row
-invariant-loop-row l =
-    latest l.user.state (filter_map (λ row. user_moved l.user.name row.entry) l.rows)
-    ≡ latest l.state (filter_map (λ row. user_moved l.user.name row.entry) (drop l.row-index l.rows))

@@ -1,4 +1,0 @@
-pub mod Dry
-pub mod Early
-pub mod Purchases
-pub mod Repeats

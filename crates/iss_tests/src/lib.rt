@@ -1,0 +1,15 @@
+//! Tests of the top call over an outside in memory, of the core's calls, and of the journal on devices in memory.
+#![tactic(auto)]
+
+#[cfg(test)]
+mod counts;
+#[cfg(test)]
+mod dry;
+#[cfg(test)]
+mod format;
+#[cfg(test)]
+mod journal;
+#[cfg(test)]
+mod support;
+#[cfg(test)]
+mod views;
