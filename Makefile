@@ -1,12 +1,16 @@
-# Wants the command rt, which proves and builds, on the PATH.
+# Wants the command rt, which proves and builds, on the PATH: `make doctor` tells what else.
 program := crates/iss_cli/out/iss_cli
+first := examples/scripts/purchase_of_all_that_was_loaded.jsonl
 sources := crates.txt HANDLES \
     $(shell find crates -name out -prune -o \( -name '*.rt' -o -name '*.antt' \) -print)
 
-.PHONY: issuer run test bench
+.DEFAULT_GOAL := issuer
+.PHONY: help issuer run crate check try test bench twins doctor
 
-# Proves the program with all that it stands on, and leaves it at build/issuer.
-issuer: build/issuer
+help: ## lists these targets
+	@awk -F ':.*## ' '/^[a-z]+:.*## / { printf "make %-8s %s\n", $$1, $$2 }' Makefile
+
+issuer: build/issuer ## proves the program with all that it stands on, and leaves it at build/issuer
 
 build/issuer: $(program)
 	install -D -m 755 $(program) build/issuer
@@ -16,14 +20,27 @@ $(program): $(sources)
 	cd crates/iss_cli && rt run -- dry </dev/null
 	touch $(program)
 
-# Shows the replies to the first example.
-run: issuer
-	build/issuer dry <examples/scripts/purchase_of_all_that_was_loaded.jsonl
+run: ## shows the replies to the first example after about a minute, by a build that is not proved
+	@echo 'This build is not proved: `make issuer` proves the program, and leaves it at build/issuer.'
+	@cd crates/iss_cli && rt try -- dry <../../$(first)
 
-# All that a change has to pass.
-test:
+crate:
+	@[ -d 'crates/$(CRATE)/src' ] || { echo 'Name a crate, as in CRATE=iss_card.' >&2; exit 1; }
+
+check: crate ## proves one crate, as in make check CRATE=iss_card
+	cd crates/$(CRATE) && rt check
+
+try: crate ## runs one crate's tests without proving them, as in make try CRATE=iss_card
+	cd crates/$(CRATE) && rt try --test
+
+test: ## all that a change has to pass: each proof, wrong body, test and check
 	.ci/run
 
-# Lines per second and memory.
-bench: issuer
+bench: issuer ## lines per second, and memory
 	bash bench/dry.sh
+
+twins: ## lists what stands twice in code, definitions and proofs
+	@bash .ci/twins.sh
+
+doctor: ## tells whether this machine has what the other targets need
+	@bash .ci/doctor.sh

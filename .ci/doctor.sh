@@ -1,0 +1,53 @@
+#!/usr/bin/env bash
+# Tells whether this machine has what proving, building, testing and measuring need. Ends with 1 where something needed is missing.
+set -eu -o pipefail
+cd "$(dirname "$0")/.."
+
+missing=0
+
+# tell MARK WHAT FOUND WHY: one line of the table.
+tell() {
+    printf '%-8s %-12s %-44s %s\n' "$1" "$2" "$3" "$4"
+}
+
+# needed WHAT FOUND WHY: FOUND is empty where it is missing.
+needed() {
+    if [ -n "$2" ]; then
+        tell ok "$1" "$2" "$3"
+    else
+        tell MISSING "$1" '' "$3"
+        missing=1
+    fi
+}
+
+# useful WHAT FOUND WHY: the same for what only some work needs.
+useful() {
+    if [ -n "$2" ]; then
+        tell ok "$1" "$2" "$3"
+    else
+        tell without "$1" '' "$3"
+    fi
+}
+
+# enough WHAT MEGABYTES LEAST WHY: so many are free, and this many are needed.
+enough() {
+    if [ "$2" -ge "$3" ]; then
+        tell ok "$1" "$2 MB free" "$4"
+    else
+        tell MISSING "$1" "$2 MB free of the $3 that are needed" "$4"
+        missing=1
+    fi
+}
+
+kit=$(rt version 2>/dev/null) || kit=
+disk=$(df -Pm . | awk 'NR == 2 { print $4 }')
+memory=$(awk '/^MemAvailable:/ { print int($2 / 1024) }' /proc/meminfo)
+
+needed rt "$kit" 'proves, builds and tests'
+needed bash "$(command -v bash || true)" 'the checks of the built program'
+needed make "$(command -v make || true)" 'the targets that make help lists'
+enough disk "$disk" 5000 'what proofs leave in crates/*/out'
+enough memory "$memory" 3000 'the proof of the largest crate'
+tell ok processors "$(nproc)" 'with four, two crates are proved side by side'
+useful valgrind "$(command -v valgrind || true)" 'counts instructions, which tell growth better than seconds'
+exit "$missing"
