@@ -1,4 +1,4 @@
-# Needs the command rt, which proves and builds, on the PATH: `make doctor` tells what else.
+# Wants the command rt, which proves and builds, on the PATH: `make doctor` tells what else.
 program := crates/iss_cli/out/iss_cli
 first := examples/scripts/purchase_of_all_that_was_loaded.jsonl
 sources := crates.txt HANDLES \
@@ -20,7 +20,7 @@ $(program): $(sources)
 	cd crates/iss_cli && rt run -- dry </dev/null
 	touch $(program)
 
-run: ## shows the replies to the first example, by a build that is made within a minute and not proved
+run: ## shows the replies to the first example after about a minute, by a build that is not proved
 	@echo 'This build is not proved: `make issuer` proves the program, and leaves it at build/issuer.'
 	@cd crates/iss_cli && rt try -- dry <../../$(first)
 
