@@ -1,4 +1,4 @@
-# Wants the command rt, which proves and builds, on the PATH: `make doctor` tells what else.
+# Needs the command rt, which proves and builds, on the PATH: `make doctor` tells what else.
 program := crates/iss_cli/out/iss_cli
 first := examples/scripts/purchase_of_all_that_was_loaded.jsonl
 sources := crates.txt HANDLES \

@@ -1,6 +1,9 @@
 //! The holds: what each transaction holds of its user, by who funds it, and what falls due.
 //!
 //! An amount is a whole number of minor units.
+//!
+//! It may cite `iss_model`.
+//! It must not cite the other parts of the core.
 #![tactic(auto)]
 
 mod hold;

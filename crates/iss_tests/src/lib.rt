@@ -1,4 +1,7 @@
 //! Tests of the top call over an outside in memory, of the core's calls, and of the journal on devices in memory.
+//!
+//! It may cite every crate below.
+//! Nothing may cite it.
 #![tactic(auto)]
 
 #[cfg(test)]

@@ -1,5 +1,5 @@
 use Rattle.std.proofs.Common.{refl, sym, ap, subst, ◌∙◌}
-use Rattle.iss_model.specs.Built.{is_built}
+use Rattle.iss_core.specs.Built.{is_built}
 use Rattle.iss_model.specs.Forms.{is_in_form, is_stamp}
 use Rattle.iss_core.specs.Values.{IsQuiet}
 use Rattle.iss_top.proofs.Tellings.{record_then, start_then}
