@@ -1,4 +1,4 @@
--- Lists that hold one field behind the other come apart in one way.
+-- Lists that hold one field after the other come apart in one way.
 use Rattle.std.proofs.Common.{◌≡◌, ℕ, true, List, [], ◌∷◌, ◌++◌, length, take, drop, get_or, Option, Some, None, refl, sym, ap, ◌∙◌, append_assoc}
 use Rattle.std.proofs.lemmas.List.{take_at, drop_at}
 use Rattle.std.proofs.lemmas.Option.{some_pair_parts}
@@ -18,7 +18,7 @@ use Rattle.iss_codec.specs.Taking.{take_currency}
 use Rattle.iss_codec.proofs.TakenFields.{IsField}
 use Rattle.iss_codec.proofs.TakenParts.{currency_field, flag_field, funding_field, window_field, card_state_field, user_state_field, outcome_field}
 
--- where such lists stand at the front of equal lists, they are of one value, and what is behind them is equal
+-- where such lists stand at the start of equal lists, they are of one value, and what is after them is equal
 pub record IsCut {A : Type 0} (text : A → List ℕ) : Type 0 where
   pub cut : (a b : A) (x y : List ℕ) → text a ++ x ≡ text b ++ y → (a ≡ b) × (x ≡ y)
 
@@ -30,7 +30,7 @@ pub field_cut : {A : Type 0} (taker : List ℕ → Option (A × List ℕ)) (text
 field_cut taker text field =
     record { cut = λ a b x y e. some_pair_parts a b x y (sym (field.again a x refl) ∙ ap taker e ∙ field.again b y refl) }
 
--- two of them, one behind the other
+-- two of them, one after the other
 pub pair_cut : {A B : Type 0} {f : A → List ℕ} {g : B → List ℕ} → IsCut f → IsCut g → IsCut (λ (p : A × B). f p.0 ++ g p.1)
 pair_cut {f = f} {g = g} cut_f cut_g =
     record {

@@ -24,7 +24,7 @@ use Rattle.iss_codec.proofs.Cuts.{IsCut, pair_cut, number_cut, text_cut, flag_cu
 alone : {A : Type 0} {f : A → List ℕ} → IsCut f → (a b : A) → f a ≡ f b → a ≡ b
 alone {f = f} c a b e = (c.cut a b [] [] (append-nil (f a) ∙ e ∙ sym (append-nil (f b)))).0
 
--- behind the kind
+-- after the kind
 rest : (k : ℕ) (x y : List ℕ) → k ∷ x ≡ k ∷ y → x ≡ y
 rest k x y e = ap (λ (l : List ℕ). drop 1 l) e
 

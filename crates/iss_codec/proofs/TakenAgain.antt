@@ -22,7 +22,7 @@ use Rattle.iss_codec.proofs.TakenFields.{IsField, token_field}
 use Rattle.iss_codec.proofs.TakenParts.{amount_field, limit_field, mcc_field, id_field, timeout_field, hold_time_field, funding_field, window_field, outcome_field, currency_field, flag_field, both_limits, have_form, limits_field, mccs_field}
 use Rattle.iss_codec.proofs.TakenChoices.{moved_form, moved_field, association_field, association_form, scope_field, scope_form}
 
--- a field in front of what the next steps read
+-- a field before what the next steps read
 again_step : {A B : Type 0} {taker : List ℕ → Option (A × List ℕ)} {text : A → List ℕ} {form : A → Bool} → IsField taker text form
     → (x : A) (rest : List ℕ) (f : A × List ℕ → Option B) (y : Option B) → form x ≡ true → f (x, rest) ≡ y → (taker (text x ++ rest) >>= f) ≡ y
 again_step field x rest f y h e = ap (λ r. r >>= f) (field.again x rest h) ∙ e

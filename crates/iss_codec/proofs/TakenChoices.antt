@@ -16,13 +16,13 @@ use Rattle.iss_model.specs.texts.Spelling.{AreBytes, scope_bytes, moved_token, a
 use Rattle.iss_model.specs.Numbers.{card_state_numbered, user_state_numbered}
 use Rattle.iss_codec.specs.Taking.{take_byte, take_token, take_numbered, take_mcc, take_moved_card, take_moved_user, take_moved_by, take_moved, take_named, take_association_by, take_association, take_mcc_scope, take_scope_by, take_scope}
 use Rattle.iss_codec.proofs.TakenFields.{bind_some, either_way, IsSplit, IsField, split_on, byte_takes, token_field}
-use Rattle.iss_codec.proofs.TakenParts.{behind, card_state_field, user_state_field, mcc_field}
+use Rattle.iss_codec.proofs.TakenParts.{after_byte, card_state_field, user_state_field, mcc_field}
 
--- a byte in front of what is split
+-- a byte before what is split
 byte_before : (byte : ℕ) (bytes text rest : List ℕ) → IsSplit bytes text rest → IsSplit (byte ∷ bytes) (byte ∷ text) rest
 byte_before byte bytes text rest s = record { parts = ap (λ (t : List ℕ). byte ∷ t) s.parts; fits = s.fits }
 
--- what is known of a part behind its first byte, where that byte is this one
+-- what is known of a part after its first byte, where that byte is this one
 at_byte : {A : Type 0} (text : A → List ℕ) (form : A → Bool) (byte wanted : ℕ) (bytes : List ℕ) (x : A × List ℕ) → nat_eq byte wanted ≡ true
     → IsSplit (wanted ∷ bytes) (text x.0) x.1 × (form x.0 ≡ true) → IsSplit (byte ∷ bytes) (text x.0) x.1 × (form x.0 ≡ true)
 at_byte text form byte wanted bytes x is h =
@@ -75,7 +75,7 @@ moved_field =
           let n = bind_some (take_byte bytes) _ x e in
           let a = byte_takes bytes n.0 fits n.1 in
           let b = moved_by_takes n.0.0 n.0.1 x a.fits n.2 in
-          (behind bytes n.0 (moved_contents x.0) x.1 a b.0, b.1);
+          (after_byte bytes n.0 (moved_contents x.0) x.1 a b.0, b.1);
       again = moved_again;
     }
 
@@ -121,7 +121,7 @@ association_field =
           let n = bind_some (take_byte bytes) _ x e in
           let a = byte_takes bytes n.0 fits n.1 in
           let b = association_by_takes n.0.0 n.0.1 x a.fits n.2 in
-          (behind bytes n.0 (association_contents x.0) x.1 a b.0, b.1);
+          (after_byte bytes n.0 (association_contents x.0) x.1 a b.0, b.1);
       again = association_again;
     }
 
@@ -164,6 +164,6 @@ scope_field =
           let n = bind_some (take_byte bytes) _ x e in
           let a = byte_takes bytes n.0 fits n.1 in
           let b = scope_by_takes n.0.0 n.0.1 x a.fits n.2 in
-          (behind bytes n.0 (scope_bytes x.0) x.1 a b.0, b.1);
+          (after_byte bytes n.0 (scope_bytes x.0) x.1 a b.0, b.1);
       again = scope_again;
     }

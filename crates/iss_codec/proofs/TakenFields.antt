@@ -7,7 +7,7 @@ use Rattle.iss_model.specs.Tokens.{is_token}
 use Rattle.iss_model.specs.Inputs.{spelled}
 use Rattle.iss_model.specs.texts.Spelling.{AreBytes, number_bytes}
 use Rattle.iss_codec.specs.Taking.{◌>>=◌, number_from, take_byte, take_bytes, take_number, take_formed, take_token, take_numbered}
-use Rattle.iss_codec.proofs.NumberBytes.{bytes_behind, IsWide}
+use Rattle.iss_codec.proofs.NumberBytes.{bytes_after, IsWide}
 
 -- a step that gave a value, and the next one on it
 pub bind_some : {A B : Type 0} (r : Option A) (f : A → Option B) (y : B) → (r >>= f) ≡ Some y → (x : A) × (r ≡ Some x) × (f x ≡ Some y)
@@ -24,7 +24,7 @@ pub not_failed : {A : Type 0} (b : Bool) (x y : A) → cond b None (Some x) ≡ 
 not_failed true x y e = absurd cc
 not_failed false x y e = (refl, same_Some x y e)
 
--- what follows from a value, whichever way the test in front of it went
+-- what follows from a value, whichever way the test before it went
 pub either_way : {A P : Type 0} (b : Bool) (x y z : A) → (b ≡ true → x ≡ z → P) → (y ≡ z → P) → cond b x y ≡ z → P
 either_way true x y z first other e = first refl e
 either_way false x y z first other e = other e
@@ -39,7 +39,7 @@ pub record IsField {A : Type 0} (taker : List ℕ → Option (A × List ℕ)) (t
   pub takes : (bytes : List ℕ) (x : A × List ℕ) → AreBytes bytes → taker bytes ≡ Some x → IsSplit bytes (text x.0) x.1 × (form x.0 ≡ true)
   pub again : (x : A) (rest : List ℕ) → form x ≡ true → taker (text x ++ rest) ≡ Some (x, rest)
 
--- two texts behind each other
+-- two texts after each other
 pub split_on : (bytes text middle more rest : List ℕ) → IsSplit bytes text middle → IsSplit middle more rest → IsSplit bytes (text ++ more) rest
 split_on bytes text middle more rest a b =
     record { parts = a.parts ∙ ap (λ (t : List ℕ). text ++ t) b.parts ∙ sym (append_assoc text more rest); fits = b.fits }
@@ -62,7 +62,7 @@ bytes_take n bytes x fits e =
     let g = not_failed (ltb (length bytes) n) (take n bytes, drop n bytes) x e in
     let long : n ≤ length bytes = ltb-false _ _ g.0 in
     subst (λ (y : List ℕ × List ℕ). IsSplit bytes y.0 y.1 × (length y.0 ≡ n)) g.1
-    (record { parts = sym (take-append-drop n bytes); fits = bytes_behind n bytes fits }, omega (arith, length-take n bytes))
+    (record { parts = sym (take-append-drop n bytes); fits = bytes_after n bytes fits }, omega (arith, length-take n bytes))
 
 bytes_again : (text rest : List ℕ) → take_bytes (length text) (text ++ rest) ≡ Some (text, rest)
 unfolding take_bytes
@@ -78,7 +78,7 @@ number_takes width limit wide bytes x fits e =
     let g = not_failed (ltb (length bytes) width) (number_from 0 width bytes, drop width bytes) x e in
     let long : width ≤ length bytes = ltb-false _ _ g.0 in
     subst (λ (y : ℕ × List ℕ). IsSplit bytes (number_bytes width y.0) y.1 × (y.0 < limit)) g.1
-    (record { parts = rw (wide.back bytes long fits) (sym (take-append-drop width bytes)); fits = bytes_behind width bytes fits }, wide.below bytes fits)
+    (record { parts = rw (wide.back bytes long fits) (sym (take-append-drop width bytes)); fits = bytes_after width bytes fits }, wide.below bytes fits)
 
 pub number_again : (width limit : ℕ) → IsWide width limit → (n : ℕ) (rest : List ℕ) → n < limit → take_number width (number_bytes width n ++ rest) ≡ Some (n, rest)
 unfolding take_number

@@ -184,9 +184,9 @@ unfolding take_optional take_byte
 optional_again width most wide None rest h = refl
 optional_again width most wide (Some n) rest h = rw (number_again width most wide n rest (ltb-true _ _ h)) refl
 
--- a field behind a byte that says which one it is
-pub behind : (bytes : List ℕ) (n : ℕ × List ℕ) (text rest : List ℕ) → IsSplit bytes (n.0 ∷ []) n.1 → IsSplit (n.0 ∷ n.1) text rest → IsSplit bytes text rest
-behind bytes n text rest a b = record { parts = a.parts ∙ b.parts; fits = b.fits }
+-- a field after a byte that says which one it is
+pub after_byte : (bytes : List ℕ) (n : ℕ × List ℕ) (text rest : List ℕ) → IsSplit bytes (n.0 ∷ []) n.1 → IsSplit (n.0 ∷ n.1) text rest → IsSplit bytes text rest
+after_byte bytes n text rest a b = record { parts = a.parts ∙ b.parts; fits = b.fits }
 
 pub optional_field : (width most : ℕ) → IsWide width most → IsField (take_optional width) (limit_bytes width) (is_below most)
 unfolding take_optional
@@ -196,7 +196,7 @@ optional_field width most wide =
           let n = bind_some (take_byte bytes) _ x e in
           let a = byte_takes bytes n.0 fits n.1 in
           let b = optional_by_takes width most wide n.0.0 n.0.1 x a.fits n.2 in
-          (behind bytes n.0 (limit_bytes width x.0) x.1 a b.0, b.1);
+          (after_byte bytes n.0 (limit_bytes width x.0) x.1 a b.0, b.1);
       again = optional_again width most wide;
     }
 

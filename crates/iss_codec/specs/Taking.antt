@@ -1,4 +1,4 @@
--- How the bytes of a record are read again: each word takes a field from the front, and gives it with the bytes behind it.
+-- How the bytes of a record are read again: each word takes a field from the start, and gives it with the bytes after it.
 use Rattle.std.specs.Prelude.{ℕ, zero, suc, ◌+◌, ◌*◌, ◌^◌, Bool, ◌==◌, nat_lt, List, [], ◌∷◌, length, take, drop, slice_index, Option, Some, None, if◌then◌else◌}
 use Rattle.iss_model.specs.declared.currency.Currency.{Currency}
 use Rattle.iss_model.specs.declared.setting.Moved.{Moved}
@@ -65,7 +65,7 @@ take_mcc bytes = take_formed 2 is_mcc bytes
 abbrev pub take_id : List ℕ → Option (ℕ × List ℕ)
 take_id bytes = take_formed 4 is_number bytes
 
--- a token behind its length
+-- a token after its length
 unfoldable pub take_token : List ℕ → Option (List ℕ × List ℕ)
 take_token bytes = do
   len ← take_byte bytes
@@ -114,7 +114,7 @@ take_codes (suc n) bytes = do
   others ← take_codes n first.1
   Some (first.0 ∷ others.0, others.1)
 
--- the codes of a group behind their count
+-- the codes of a group after their count
 unfoldable pub take_mccs : List ℕ → Option (List ℕ × List ℕ)
 take_mccs bytes = do
   count ← take_number 2 bytes

@@ -160,7 +160,7 @@ take_fields kind bytes =
     else if kind == 17 then Some (input.Time, bytes)
     else None
 
--- the record at the front, and the bytes behind it
+-- the record at the start, and the bytes after it
 unfoldable pub take_record : List ℕ → Option (Record × List ℕ)
 take_record bytes = do
   kind ← take_byte bytes
@@ -168,7 +168,7 @@ take_record bytes = do
   fields ← take_fields kind.0 at.1
   Some (record { at = at.0; input = fields.0 }, fields.1)
 
--- a record, where nothing is behind it
+-- a record, where nothing is after it
 abbrev pub alone : Record → List ℕ → Option Record
 alone r [] = Some r
 alone r (byte ∷ rest) = None

@@ -1,4 +1,4 @@
-//! Writing fields, each behind what was written before.
+//! Writing fields, each after what was written before.
 ghost use Rattle.std.specs.Prelude.{◌≡◌, ◌++◌, ◌∷◌, [], OnOk};
 ghost use Rattle.std.specs.List.{flat_map};
 ghost use Rattle.iss_model.specs.Inputs.{spelled, flag, moved_contents, association_contents};
