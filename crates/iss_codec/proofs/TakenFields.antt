@@ -55,6 +55,17 @@ pub byte_again : (byte : ℕ) (rest : List ℕ) → take_byte (byte ∷ rest) �
 unfolding take_byte
 byte_again byte rest = refl
 
+-- a field that its first byte tells: what comes after the byte is taken as the byte says
+pub by_byte : {A : Type 0} (by : ℕ → List ℕ → Option (A × List ℕ)) (text : A → List ℕ) (form : A → Bool)
+    → ((byte : ℕ) (bytes : List ℕ) (x : A × List ℕ) → AreBytes bytes → by byte bytes ≡ Some x → IsSplit (byte ∷ bytes) (text x.0) x.1 × (form x.0 ≡ true))
+    → (bytes : List ℕ) (x : A × List ℕ) → AreBytes bytes → (take_byte bytes >>= λ byte. by byte.0 byte.1) ≡ Some x
+    → IsSplit bytes (text x.0) x.1 × (form x.0 ≡ true)
+by_byte by text form others bytes x fits e =
+    let n = bind_some (take_byte bytes) _ x e in
+    let a = byte_takes bytes n.0 fits n.1 in
+    let b = others n.0.0 n.0.1 x a.fits n.2 in
+    (record { parts = a.parts ∙ b.0.parts; fits = b.0.fits }, b.1)
+
 -- so many bytes
 bytes_take : (n : ℕ) (bytes : List ℕ) (x : List ℕ × List ℕ) → AreBytes bytes → take_bytes n bytes ≡ Some x → IsSplit bytes x.0 x.1 × (length x.0 ≡ n)
 unfolding take_bytes
