@@ -7,8 +7,8 @@ use Rattle.std.proofs.lemmas.Bool.{cases_lt}
 use Rattle.iss_model.specs.texts.Spelling.{AreBytes, number_bytes}
 use Rattle.iss_codec.specs.Taking.{number_from}
 
-pub bytes_behind : (n : ℕ) (bytes : List ℕ) → AreBytes bytes → AreBytes (drop n bytes)
-bytes_behind n bytes h i = rw get_or-drop (h (n + i))
+pub bytes_after : (n : ℕ) (bytes : List ℕ) → AreBytes bytes → AreBytes (drop n bytes)
+bytes_after n bytes h i = rw get_or-drop (h (n + i))
 
 bytes_before : (n : ℕ) (bytes : List ℕ) → AreBytes bytes → AreBytes (take n bytes)
 bytes_before n bytes h i =
@@ -24,8 +24,8 @@ pub record IsWide (width limit : ℕ) : Type 0 where
   pub back : (bytes : List ℕ) → width ≤ length bytes → AreBytes bytes → number_bytes width (number_from 0 width bytes) ≡ take width bytes
   pub below : (bytes : List ℕ) → AreBytes bytes → number_from 0 width bytes < limit
 
-front_2 : (bytes : List ℕ) → number_from 0 2 bytes ≡ from_be_bytes w16 (take 2 bytes)
-front_2 bytes = omega (arith, get_or-take 2 bytes 0 0 (omega arith), get_or-take 2 bytes 1 0 (omega arith))
+first_2 : (bytes : List ℕ) → number_from 0 2 bytes ≡ from_be_bytes w16 (take 2 bytes)
+first_2 bytes = omega (arith, get_or-take 2 bytes 0 0 (omega arith), get_or-take 2 bytes 1 0 (omega arith))
 
 pub wide_2 : IsWide 2 65536
 unfolding number_bytes
@@ -33,12 +33,12 @@ wide_2 =
     record {
       size = λ n. refl;
       again = λ n rest lt. omega arith;
-      back = λ bytes long fits. be_bytes_2 (take 2 bytes) _ (omega (arith, length-take 2 bytes)) (bytes_before 2 bytes fits) (front_2 bytes);
+      back = λ bytes long fits. be_bytes_2 (take 2 bytes) _ (omega (arith, length-take 2 bytes)) (bytes_before 2 bytes fits) (first_2 bytes);
       below = λ bytes fits. omega (arith, fits 0, fits 1);
     }
 
-front_4 : (bytes : List ℕ) → number_from 0 4 bytes ≡ from_be_bytes w32 (take 4 bytes)
-front_4 bytes =
+first_4 : (bytes : List ℕ) → number_from 0 4 bytes ≡ from_be_bytes w32 (take 4 bytes)
+first_4 bytes =
     omega (arith, get_or-take 4 bytes 0 0 (omega arith), get_or-take 4 bytes 1 0 (omega arith), get_or-take 4 bytes 2 0 (omega arith), get_or-take 4 bytes 3 0 (omega arith))
 
 pub wide_4 : IsWide 4 4294967296
@@ -47,12 +47,12 @@ wide_4 =
     record {
       size = λ n. refl;
       again = λ n rest lt. omega (arith, from_be_bytes-to_be_bytes_4 n lt);
-      back = λ bytes long fits. be_bytes_4 (take 4 bytes) _ (omega (arith, length-take 4 bytes)) (bytes_before 4 bytes fits) (front_4 bytes);
+      back = λ bytes long fits. be_bytes_4 (take 4 bytes) _ (omega (arith, length-take 4 bytes)) (bytes_before 4 bytes fits) (first_4 bytes);
       below = λ bytes fits. omega (arith, fits 0, fits 1, fits 2, fits 3);
     }
 
-front_8 : (bytes : List ℕ) → number_from 0 8 bytes ≡ from_be_bytes w64 (take 8 bytes)
-front_8 bytes =
+first_8 : (bytes : List ℕ) → number_from 0 8 bytes ≡ from_be_bytes w64 (take 8 bytes)
+first_8 bytes =
     omega (
       arith,
       get_or-take 8 bytes 0 0 (omega arith),
@@ -78,6 +78,6 @@ wide_8 =
     record {
       size = λ n. refl;
       again = again_8;
-      back = λ bytes long fits. be_bytes_8 (take 8 bytes) _ (omega (arith, length-take 8 bytes)) (bytes_before 8 bytes fits) (front_8 bytes);
+      back = λ bytes long fits. be_bytes_8 (take 8 bytes) _ (omega (arith, length-take 8 bytes)) (bytes_before 8 bytes fits) (first_8 bytes);
       below = λ bytes fits. omega (arith, fits 0, fits 1, fits 2, fits 3, fits 4, fits 5, fits 6, fits 7);
     }

@@ -15,8 +15,8 @@ use Rattle.iss_model.specs.Inputs.{with_length, moved_contents, association_cont
 use Rattle.iss_model.specs.texts.Spelling.{AreBytes, scope_bytes, moved_token, association_tokens, scope_tokens}
 use Rattle.iss_model.specs.Numbers.{card_state_numbered, user_state_numbered}
 use Rattle.iss_codec.specs.Taking.{take_byte, take_token, take_numbered, take_mcc, take_moved_card, take_moved_user, take_moved_by, take_moved, take_named, take_association_by, take_association, take_mcc_scope, take_scope_by, take_scope}
-use Rattle.iss_codec.proofs.TakenFields.{bind_some, either_way, IsSplit, IsField, split_on, byte_takes, token_field}
-use Rattle.iss_codec.proofs.TakenParts.{behind, card_state_field, user_state_field, mcc_field}
+use Rattle.iss_codec.proofs.TakenFields.{by_byte, bind_some, either_way, IsSplit, IsField, split_on, token_field}
+use Rattle.iss_codec.proofs.TakenParts.{card_state_field, user_state_field, mcc_field}
 
 -- a byte before what is split
 byte_before : (byte : ℕ) (bytes text rest : List ℕ) → IsSplit bytes text rest → IsSplit (byte ∷ bytes) (byte ∷ text) rest
@@ -69,15 +69,7 @@ moved_again (moved.User user to) rest h =
 
 pub moved_field : IsField take_moved moved_contents moved_form
 unfolding take_moved
-moved_field =
-    record {
-      takes = λ bytes x fits e.
-          let n = bind_some (take_byte bytes) _ x e in
-          let a = byte_takes bytes n.0 fits n.1 in
-          let b = moved_by_takes n.0.0 n.0.1 x a.fits n.2 in
-          (behind bytes n.0 (moved_contents x.0) x.1 a b.0, b.1);
-      again = moved_again;
-    }
+moved_field = record { takes = by_byte take_moved_by moved_contents moved_form moved_by_takes; again = moved_again }
 
 named_takes : {A : Type 0} (make : List ℕ → A) (text : A → List ℕ) (form : A → Bool) (byte : ℕ)
     → ((name : List ℕ) → text (make name) ≡ byte ∷ with_length name) → ((name : List ℕ) → is_token name ≡ true → form (make name) ≡ true)
@@ -115,15 +107,7 @@ association_again (association.Product product) rest h = rw (token_field.again p
 
 pub association_field : IsField take_association association_contents association_form
 unfolding take_association
-association_field =
-    record {
-      takes = λ bytes x fits e.
-          let n = bind_some (take_byte bytes) _ x e in
-          let a = byte_takes bytes n.0 fits n.1 in
-          let b = association_by_takes n.0.0 n.0.1 x a.fits n.2 in
-          (behind bytes n.0 (association_contents x.0) x.1 a b.0, b.1);
-      again = association_again;
-    }
+association_field = record { takes = by_byte take_association_by association_contents association_form association_by_takes; again = association_again }
 
 -- a scope's code is one, and so is its token
 abbrev pub scope_form : Scope → Bool
@@ -158,12 +142,4 @@ scope_again (scope.Mid mid) rest h = rw (token_field.again mid rest (and_parts (
 
 pub scope_field : IsField take_scope scope_bytes scope_form
 unfolding take_scope
-scope_field =
-    record {
-      takes = λ bytes x fits e.
-          let n = bind_some (take_byte bytes) _ x e in
-          let a = byte_takes bytes n.0 fits n.1 in
-          let b = scope_by_takes n.0.0 n.0.1 x a.fits n.2 in
-          (behind bytes n.0 (scope_bytes x.0) x.1 a b.0, b.1);
-      again = scope_again;
-    }
+scope_field = record { takes = by_byte take_scope_by scope_bytes scope_form scope_by_takes; again = scope_again }

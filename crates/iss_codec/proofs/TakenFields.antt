@@ -7,7 +7,7 @@ use Rattle.iss_model.specs.Tokens.{is_token}
 use Rattle.iss_model.specs.Inputs.{with_length}
 use Rattle.iss_model.specs.texts.Spelling.{AreBytes, number_bytes}
 use Rattle.iss_codec.specs.Taking.{◌>>=◌, number_from, take_byte, take_bytes, take_number, take_formed, take_token, take_numbered}
-use Rattle.iss_codec.proofs.NumberBytes.{bytes_behind, IsWide}
+use Rattle.iss_codec.proofs.NumberBytes.{bytes_after, IsWide}
 
 -- a step that gave a value, and the next one on it
 pub bind_some : {A B : Type 0} (r : Option A) (f : A → Option B) (y : B) → (r >>= f) ≡ Some y → (x : A) × (r ≡ Some x) × (f x ≡ Some y)
@@ -55,6 +55,17 @@ pub byte_again : (byte : ℕ) (rest : List ℕ) → take_byte (byte ∷ rest) �
 unfolding take_byte
 byte_again byte rest = refl
 
+-- a field that its first byte tells: what comes after the byte is taken as the byte says
+pub by_byte : {A : Type 0} (by : ℕ → List ℕ → Option (A × List ℕ)) (text : A → List ℕ) (form : A → Bool)
+    → ((byte : ℕ) (bytes : List ℕ) (x : A × List ℕ) → AreBytes bytes → by byte bytes ≡ Some x → IsSplit (byte ∷ bytes) (text x.0) x.1 × (form x.0 ≡ true))
+    → (bytes : List ℕ) (x : A × List ℕ) → AreBytes bytes → (take_byte bytes >>= λ byte. by byte.0 byte.1) ≡ Some x
+    → IsSplit bytes (text x.0) x.1 × (form x.0 ≡ true)
+by_byte by text form others bytes x fits e =
+    let n = bind_some (take_byte bytes) _ x e in
+    let a = byte_takes bytes n.0 fits n.1 in
+    let b = others n.0.0 n.0.1 x a.fits n.2 in
+    (record { parts = a.parts ∙ b.0.parts; fits = b.0.fits }, b.1)
+
 -- so many bytes
 bytes_take : (n : ℕ) (bytes : List ℕ) (x : List ℕ × List ℕ) → AreBytes bytes → take_bytes n bytes ≡ Some x → IsSplit bytes x.0 x.1 × (length x.0 ≡ n)
 unfolding take_bytes
@@ -62,7 +73,7 @@ bytes_take n bytes x fits e =
     let g = not_failed (ltb (length bytes) n) (take n bytes, drop n bytes) x e in
     let long : n ≤ length bytes = ltb-false _ _ g.0 in
     subst (λ (y : List ℕ × List ℕ). IsSplit bytes y.0 y.1 × (length y.0 ≡ n)) g.1
-    (record { parts = sym (take-append-drop n bytes); fits = bytes_behind n bytes fits }, omega (arith, length-take n bytes))
+    (record { parts = sym (take-append-drop n bytes); fits = bytes_after n bytes fits }, omega (arith, length-take n bytes))
 
 bytes_again : (text rest : List ℕ) → take_bytes (length text) (text ++ rest) ≡ Some (text, rest)
 unfolding take_bytes
@@ -78,7 +89,7 @@ number_takes width limit wide bytes x fits e =
     let g = not_failed (ltb (length bytes) width) (number_from 0 width bytes, drop width bytes) x e in
     let long : width ≤ length bytes = ltb-false _ _ g.0 in
     subst (λ (y : ℕ × List ℕ). IsSplit bytes (number_bytes width y.0) y.1 × (y.0 < limit)) g.1
-    (record { parts = rw (wide.back bytes long fits) (sym (take-append-drop width bytes)); fits = bytes_behind width bytes fits }, wide.below bytes fits)
+    (record { parts = rw (wide.back bytes long fits) (sym (take-append-drop width bytes)); fits = bytes_after width bytes fits }, wide.below bytes fits)
 
 pub number_again : (width limit : ℕ) → IsWide width limit → (n : ℕ) (rest : List ℕ) → n < limit → take_number width (number_bytes width n ++ rest) ≡ Some (n, rest)
 unfolding take_number

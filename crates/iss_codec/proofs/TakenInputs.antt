@@ -24,12 +24,12 @@ pub record IsInput (number : ℕ) (bytes : List ℕ) (x : Input × List ℕ) : T
 
 -- A field taken after others, with what follows from it and the steps that are left.
 step : {A B : Type 0} {taker : List ℕ → Option (A × List ℕ)} {text : A → List ℕ} {form : A → Bool} {P : Type 0} → IsField taker text form
-    → (whole front bytes : List ℕ) (f : A × List ℕ → Option B) (y : B) → IsSplit whole front bytes → (taker bytes >>= f) ≡ Some y
-    → ((value : A) (rest : List ℕ) → IsSplit whole (front ++ text value) rest → form value ≡ true → f (value, rest) ≡ Some y → P) → P
-step {taker = taker} field whole front bytes f y before e next =
+    → (whole prefix bytes : List ℕ) (f : A × List ℕ → Option B) (y : B) → IsSplit whole prefix bytes → (taker bytes >>= f) ≡ Some y
+    → ((value : A) (rest : List ℕ) → IsSplit whole (prefix ++ text value) rest → form value ≡ true → f (value, rest) ≡ Some y → P) → P
+step {taker = taker} field whole prefix bytes f y before e next =
     let x = bind_some (taker bytes) f y e in
     let t = field.takes bytes x.0 before.fits x.1 in
-    next x.0.0 x.0.1 (split_on whole front bytes _ x.0.1 before t.0) t.1 x.2
+    next x.0.0 x.0.1 (split_on whole prefix bytes _ x.0.1 before t.0) t.1 x.2
 
 start : (bytes : List ℕ) → AreBytes bytes → IsSplit bytes [] bytes
 start bytes fits = record { parts = refl; fits = fits }

@@ -25,7 +25,7 @@ use Rattle.iss_model.specs.Numbers.{of_number, fundings, windows, card_states, u
 use Rattle.iss_codec.specs.Taking.{take_byte, take_number, take_formed, take_stamp, take_amount, take_limit, take_mcc, take_id, take_numbered, take_flag, take_currency, take_some, take_optional_by, take_optional, take_codes, take_mccs}
 use Rattle.iss_codec.specs.TakingRecords.{take_limits}
 use Rattle.iss_codec.proofs.NumberBytes.{IsWide, wide_2, wide_4, wide_8}
-use Rattle.iss_codec.proofs.TakenFields.{bind_some, passed, either_way, IsSplit, IsField, split_on, byte_takes, number_takes, number_again, formed, numbered}
+use Rattle.iss_codec.proofs.TakenFields.{by_byte, bind_some, passed, either_way, IsSplit, IsField, split_on, byte_takes, number_takes, number_again, formed, numbered}
 
 -- numbers of a form
 
@@ -184,21 +184,10 @@ unfolding take_optional take_byte
 optional_again width most wide None rest h = refl
 optional_again width most wide (Some n) rest h = rw (number_again width most wide n rest (ltb-true _ _ h)) refl
 
--- a field after a byte that says which one it is
-pub behind : (bytes : List ℕ) (n : ℕ × List ℕ) (text rest : List ℕ) → IsSplit bytes (n.0 ∷ []) n.1 → IsSplit (n.0 ∷ n.1) text rest → IsSplit bytes text rest
-behind bytes n text rest a b = record { parts = a.parts ∙ b.parts; fits = b.fits }
-
 pub optional_field : (width most : ℕ) → IsWide width most → IsField (take_optional width) (limit_bytes width) (is_below most)
 unfolding take_optional
 optional_field width most wide =
-    record {
-      takes = λ bytes x fits e.
-          let n = bind_some (take_byte bytes) _ x e in
-          let a = byte_takes bytes n.0 fits n.1 in
-          let b = optional_by_takes width most wide n.0.0 n.0.1 x a.fits n.2 in
-          (behind bytes n.0 (limit_bytes width x.0) x.1 a b.0, b.1);
-      again = optional_again width most wide;
-    }
+    record { takes = by_byte (take_optional_by width) (limit_bytes width) (is_below most) (optional_by_takes width most wide); again = optional_again width most wide }
 
 -- the limits of a control
 

@@ -13,7 +13,7 @@ use Rattle.iss_codec.proofs.TakenParts.{stamp_field}
 use Rattle.iss_codec.proofs.TakenInputs.{fields_take}
 use Rattle.iss_codec.proofs.TakenAgain.{fields_again}
 
--- the record at the front was spelled so
+-- the record at the start was spelled so
 pub record_takes : (bytes : List ℕ) (x : Record × List ℕ) → AreBytes bytes → take_record bytes ≡ Some x → IsSplit bytes (spelling x.0) x.1 × (is_record x.0 ≡ true)
 unfolding take_record spelling
 record_takes bytes x fits e =
@@ -23,8 +23,8 @@ record_takes bytes x fits e =
     let tn = byte_takes bytes n.0 fits n.1 in
     let ta = stamp_field.takes n.0.1 at.0 tn.fits at.1 in
     let ti = fields_take n.0.0 at.0.1 i.0 ta.0.fits i.1 in
-    let behind = split_on n.0.1 (number_bytes 8 at.0.0) at.0.1 (field_bytes i.0.0) i.0.1 ta.0 ti.split in
-    let all = split_on bytes (n.0.0 ∷ []) n.0.1 (number_bytes 8 at.0.0 ++ field_bytes i.0.0) i.0.1 tn behind in
+    let fields = split_on n.0.1 (number_bytes 8 at.0.0) at.0.1 (field_bytes i.0.0) i.0.1 ta.0 ti.split in
+    let all = split_on bytes (n.0.0 ∷ []) n.0.1 (number_bytes 8 at.0.0 ++ field_bytes i.0.0) i.0.1 tn fields in
     let whole : IsSplit bytes (kind_number i.0.0 ∷ (number_bytes 8 at.0.0 ++ field_bytes i.0.0)) i.0.1 =
     subst (λ (k : ℕ). IsSplit bytes (k ∷ (number_bytes 8 at.0.0 ++ field_bytes i.0.0)) i.0.1) (sym ti.kind) all in
     subst (λ y. IsSplit bytes (spelling y.0) y.1 × (is_record y.0 ≡ true)) (same_Some (record { at = at.0.0; input = i.0.0 }, i.0.1) x i.2)

@@ -3,8 +3,8 @@ use Rattle.std.specs.Prelude.{ℕ, List, Option, option_map}
 use Rattle.std.specs.Borrow.{Bor}
 
 -- a field that was taken, with the bytes that are left
-abbrev pub taken : {A : Type 0} → Option A → List ℕ → Option (A × List ℕ)
-taken found left = option_map (λ x. (x, left)) found
+abbrev pub taken_field : {A : Type 0} → Option A → List ℕ → Option (A × List ℕ)
+taken_field found left = option_map (λ x. (x, left)) found
 
 -- bytes that were taken, with those that are left
 abbrev pub taken_bytes : Option (Bor (List ℕ)) → List ℕ → Option (List ℕ × List ℕ)

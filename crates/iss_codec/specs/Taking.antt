@@ -1,4 +1,4 @@
--- How the bytes of a record are read again: each word takes a field from the front, and gives it with the bytes after it.
+-- How the bytes of a record are read again: each word takes a field from the start, and gives it with the bytes after it.
 use Rattle.std.specs.Prelude.{ℕ, zero, suc, ◌+◌, ◌*◌, ◌^◌, Bool, ◌==◌, nat_lt, List, [], ◌∷◌, length, take, drop, slice_index, Option, Some, None, if◌then◌else◌}
 use Rattle.iss_model.specs.declared.currency.Currency.{Currency}
 use Rattle.iss_model.specs.declared.setting.Moved.{Moved}

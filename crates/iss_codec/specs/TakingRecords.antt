@@ -160,7 +160,7 @@ take_fields kind bytes =
     else if kind == 17 then Some (input.Time, bytes)
     else None
 
--- the record at the front, and the bytes after it
+-- the record at the start, and the bytes after it
 unfoldable pub take_record : List ℕ → Option (Record × List ℕ)
 take_record bytes = do
   kind ← take_byte bytes

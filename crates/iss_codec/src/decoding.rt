@@ -2,7 +2,7 @@
 ghost use Rattle.std.specs.Prelude.{◌≡◌, IfOk, IfSome, Some, None};
 ghost use Rattle.iss_model.specs.declared.input.Record.{Record};
 ghost use Rattle.iss_codec.specs.TakingRecords.{take_fields, take_record, record_spelled};
-ghost use Rattle.iss_codec.specs.Readers.{taken};
+ghost use Rattle.iss_codec.specs.Readers.{taken_field};
 ghost use Rattle.iss_codec.specs.Meanings.{IsSpellingOf};
 
 use crate::reader::Reader;
@@ -36,7 +36,7 @@ fn record_spelled(alloc: Global, bytes: &[u8]) -> Result<Option<Record>, AllocEr
 impl Reader<'_> {
     #[tactic(auto, unfolding(crate::specs::TakingRecords::take_record))]
     fn take_record(&mut self, alloc: Global) -> Result<Option<Record>, AllocError>
-        ensures { IfOk result (λ found. taken found self.new.bytes.now ≡ take_record self.old.bytes.now) }
+        ensures { IfOk result (λ found. taken_field found self.new.bytes.now ≡ take_record self.old.bytes.now) }
     {
         let Some(kind) = self.take_byte() else {
             return Ok(None);
@@ -52,7 +52,7 @@ impl Reader<'_> {
 
     #[tactic(auto, unfolding(crate::specs::TakingRecords::take_fields))]
     fn take_fields(&mut self, alloc: Global, kind: u8) -> Result<Option<Input>, AllocError>
-        ensures { IfOk result (λ found. taken found self.new.bytes.now ≡ take_fields kind self.old.bytes.now) }
+        ensures { IfOk result (λ found. taken_field found self.new.bytes.now ≡ take_fields kind self.old.bytes.now) }
     {
         Ok(match kind {
             1 => self.take_user(),

@@ -2,7 +2,7 @@
 ghost use Rattle.std.specs.Prelude.{◌≡◌, IfOk, option_map};
 ghost use Rattle.iss_model.specs.Forms.{are_mccs, are_rising};
 ghost use Rattle.iss_codec.specs.Taking.{take_codes, take_mccs};
-ghost use Rattle.iss_codec.specs.Readers.{taken};
+ghost use Rattle.iss_codec.specs.Readers.{taken_field};
 
 use crate::reader::Reader;
 use iss_model::Mccs;
@@ -12,7 +12,7 @@ use std::alloc::{AllocError, Global};
 impl Reader<'_> {
     #[tactic(auto, unfolding(crate::specs::Taking::take_mccs))]
     pub(crate) fn take_mccs(&mut self, alloc: Global) -> Result<Option<Mccs>, AllocError>
-        ensures { IfOk result (λ found. taken found self.new.bytes.now ≡ take_mccs self.old.bytes.now) }
+        ensures { IfOk result (λ found. taken_field found self.new.bytes.now ≡ take_mccs self.old.bytes.now) }
     {
         let Some(count) = self.take_u16() else {
             return Ok(None);
@@ -24,7 +24,7 @@ impl Reader<'_> {
     }
 
     fn take_codes(&mut self, alloc: Global, count: u16) -> Result<Option<Vec<u16>>, AllocError>
-        ensures { IfOk result (λ found. taken (option_map (λ codes. codes.items) found) self.new.bytes.now ≡ take_codes count self.old.bytes.now) }
+        ensures { IfOk result (λ found. taken_field (option_map (λ codes. codes.items) found) self.new.bytes.now ≡ take_codes count self.old.bytes.now) }
     {
         let mut codes = Vec::new(alloc);
         for _ in 0..count {

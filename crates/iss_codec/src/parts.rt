@@ -3,7 +3,7 @@ ghost use Rattle.std.specs.Prelude.{◌≡◌};
 ghost use Rattle.iss_model.specs.Forms.{are_limits, may_count};
 ghost use Rattle.iss_codec.specs.Taking.{take_moved, take_association, take_scope, take_optional};
 ghost use Rattle.iss_codec.specs.TakingRecords.{take_limits};
-ghost use Rattle.iss_codec.specs.Readers.{taken};
+ghost use Rattle.iss_codec.specs.Readers.{taken_field};
 
 use crate::reader::Reader;
 use iss_model::limits::{GREATEST_LIMIT, GREATEST_USAGE};
@@ -12,7 +12,7 @@ use iss_model::{Association, Moved, Scope, Window};
 impl Reader<'_> {
     #[tactic(auto, unfolding(crate::specs::Taking::take_moved, crate::specs::Taking::take_moved_card, crate::specs::Taking::take_moved_user))]
     pub(crate) fn take_moved(&mut self) -> Option<Moved>
-        ensures { taken result self.new.bytes.now ≡ take_moved self.old.bytes.now }
+        ensures { taken_field result self.new.bytes.now ≡ take_moved self.old.bytes.now }
     {
         match self.take_byte()? {
             1 => Some(Moved::Card(self.take_token()?, self.take_numbered()?)),
@@ -23,7 +23,7 @@ impl Reader<'_> {
 
     #[tactic(auto, unfolding(crate::specs::Taking::take_association, crate::specs::Taking::take_named))]
     pub(crate) fn take_association(&mut self) -> Option<Association>
-        ensures { taken result self.new.bytes.now ≡ take_association self.old.bytes.now }
+        ensures { taken_field result self.new.bytes.now ≡ take_association self.old.bytes.now }
     {
         match self.take_byte()? {
             0 => Some(Association::Anybody),
@@ -35,7 +35,7 @@ impl Reader<'_> {
 
     #[tactic(auto, unfolding(crate::specs::Taking::take_scope, crate::specs::Taking::take_mcc_scope, crate::specs::Taking::take_named))]
     pub(crate) fn take_scope(&mut self) -> Option<Scope>
-        ensures { taken result self.new.bytes.now ≡ take_scope self.old.bytes.now }
+        ensures { taken_field result self.new.bytes.now ≡ take_scope self.old.bytes.now }
     {
         match self.take_byte()? {
             0 => Some(Scope::All),
@@ -49,7 +49,7 @@ impl Reader<'_> {
     /// The limits of a control with this window: the most minor units, and the most purchases.
     #[tactic(auto, unfolding(crate::specs::TakingRecords::take_limits))]
     pub(crate) fn take_limits(&mut self, window: Window) -> Option<(Option<u64>, Option<u32>)>
-        ensures { taken result self.new.bytes.now ≡ take_limits window self.old.bytes.now }
+        ensures { taken_field result self.new.bytes.now ≡ take_limits window self.old.bytes.now }
     {
         let amount = self.take_amount_limit()?;
         let usage = self.take_usage_limit()?;
@@ -58,7 +58,7 @@ impl Reader<'_> {
 
     #[tactic(auto, unfolding(crate::specs::Taking::take_optional))]
     fn take_amount_limit(&mut self) -> Option<Option<u64>>
-        ensures { taken result self.new.bytes.now ≡ take_optional 8 self.old.bytes.now }
+        ensures { taken_field result self.new.bytes.now ≡ take_optional 8 self.old.bytes.now }
     {
         match self.take_byte()? {
             0 => Some(None),
@@ -69,7 +69,7 @@ impl Reader<'_> {
 
     #[tactic(auto, unfolding(crate::specs::Taking::take_optional))]
     fn take_usage_limit(&mut self) -> Option<Option<u32>>
-        ensures { taken result self.new.bytes.now ≡ take_optional 4 self.old.bytes.now }
+        ensures { taken_field result self.new.bytes.now ≡ take_optional 4 self.old.bytes.now }
     {
         match self.take_byte()? {
             0 => Some(None),

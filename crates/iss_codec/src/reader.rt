@@ -2,7 +2,7 @@
 ghost use Rattle.std.specs.Prelude.{◌≡◌, ◌==◌, length};
 ghost use Rattle.iss_model.specs.Forms.{is_timeout, is_hold_time};
 ghost use Rattle.iss_codec.specs.Taking.{take_byte, take_bytes, take_number, take_formed, take_stamp, take_amount, take_limit, take_mcc, take_id, take_token, take_numbered, take_currency};
-ghost use Rattle.iss_codec.specs.Readers.{taken, taken_bytes};
+ghost use Rattle.iss_codec.specs.Readers.{taken_field, taken_bytes};
 
 use byteorder::{BigEndian, ByteOrder};
 use iss_model::limits::{
@@ -32,7 +32,7 @@ impl<'a> Reader<'a> {
 
     #[tactic(auto, unfolding(crate::specs::Taking::take_byte))]
     pub(crate) fn take_byte(&mut self) -> Option<u8>
-        ensures { taken result self.new.bytes.now ≡ take_byte self.old.bytes.now }
+        ensures { taken_field result self.new.bytes.now ≡ take_byte self.old.bytes.now }
     {
         let (byte, rest) = self.bytes.split_first()?;
         self.bytes = rest;
@@ -54,7 +54,7 @@ impl<'a> Reader<'a> {
 
     #[tactic(auto, unfolding(crate::specs::Taking::take_number))]
     pub(crate) fn take_u16(&mut self) -> Option<u16>
-        ensures { taken result self.new.bytes.now ≡ take_number 2 self.old.bytes.now }
+        ensures { taken_field result self.new.bytes.now ≡ take_number 2 self.old.bytes.now }
     {
         if self.bytes.len() < 2 {
             return None;
@@ -66,7 +66,7 @@ impl<'a> Reader<'a> {
 
     #[tactic(auto, unfolding(crate::specs::Taking::take_number))]
     pub(crate) fn take_u32(&mut self) -> Option<u32>
-        ensures { taken result self.new.bytes.now ≡ take_number 4 self.old.bytes.now }
+        ensures { taken_field result self.new.bytes.now ≡ take_number 4 self.old.bytes.now }
     {
         if self.bytes.len() < 4 {
             return None;
@@ -78,7 +78,7 @@ impl<'a> Reader<'a> {
 
     #[tactic(auto, unfolding(crate::specs::Taking::take_number))]
     pub(crate) fn take_u64(&mut self) -> Option<u64>
-        ensures { taken result self.new.bytes.now ≡ take_number 8 self.old.bytes.now }
+        ensures { taken_field result self.new.bytes.now ≡ take_number 8 self.old.bytes.now }
     {
         if self.bytes.len() < 8 {
             return None;
@@ -90,7 +90,7 @@ impl<'a> Reader<'a> {
 
     #[tactic(auto, unfolding(crate::specs::Taking::take_formed))]
     pub(crate) fn take_stamp(&mut self) -> Option<u64>
-        ensures { taken result self.new.bytes.now ≡ take_stamp self.old.bytes.now }
+        ensures { taken_field result self.new.bytes.now ≡ take_stamp self.old.bytes.now }
     {
         let at = self.take_u64()?;
         (at <= LAST_STAMP).then_some(at)
@@ -98,7 +98,7 @@ impl<'a> Reader<'a> {
 
     #[tactic(auto, unfolding(crate::specs::Taking::take_formed))]
     pub(crate) fn take_amount(&mut self) -> Option<u64>
-        ensures { taken result self.new.bytes.now ≡ take_amount self.old.bytes.now }
+        ensures { taken_field result self.new.bytes.now ≡ take_amount self.old.bytes.now }
     {
         let amount = self.take_u64()?;
         (LEAST_AMOUNT..=GREATEST_AMOUNT)
@@ -108,7 +108,7 @@ impl<'a> Reader<'a> {
 
     #[tactic(auto, unfolding(crate::specs::Taking::take_formed))]
     pub(crate) fn take_limit(&mut self) -> Option<u64>
-        ensures { taken result self.new.bytes.now ≡ take_limit self.old.bytes.now }
+        ensures { taken_field result self.new.bytes.now ≡ take_limit self.old.bytes.now }
     {
         let limit = self.take_u64()?;
         (limit <= GREATEST_LIMIT).then_some(limit)
@@ -116,7 +116,7 @@ impl<'a> Reader<'a> {
 
     #[tactic(auto, unfolding(crate::specs::Taking::take_formed))]
     pub(crate) fn take_mcc(&mut self) -> Option<u16>
-        ensures { taken result self.new.bytes.now ≡ take_mcc self.old.bytes.now }
+        ensures { taken_field result self.new.bytes.now ≡ take_mcc self.old.bytes.now }
     {
         let mcc = self.take_u16()?;
         (mcc <= GREATEST_MCC).then_some(mcc)
@@ -125,7 +125,7 @@ impl<'a> Reader<'a> {
     /// The number of a call or notice, from 1.
     #[tactic(auto, unfolding(crate::specs::Taking::take_formed))]
     pub(crate) fn take_id(&mut self) -> Option<u32>
-        ensures { taken result self.new.bytes.now ≡ take_id self.old.bytes.now }
+        ensures { taken_field result self.new.bytes.now ≡ take_id self.old.bytes.now }
     {
         let id = self.take_u32()?;
         (id >= FIRST_NUMBER).then_some(id)
@@ -134,7 +134,7 @@ impl<'a> Reader<'a> {
     /// How long the gateway has to answer, in milliseconds.
     #[tactic(auto, unfolding(crate::specs::Taking::take_formed))]
     pub(crate) fn take_timeout(&mut self) -> Option<u64>
-        ensures { taken result self.new.bytes.now ≡ take_formed 4 is_timeout self.old.bytes.now }
+        ensures { taken_field result self.new.bytes.now ≡ take_formed 4 is_timeout self.old.bytes.now }
     {
         let timeout_ms = u64::from(self.take_u32()?);
         (SHORTEST_TIMEOUT..=LONGEST_TIMEOUT)
@@ -145,7 +145,7 @@ impl<'a> Reader<'a> {
     /// How long an authorisation holds its amount, in milliseconds.
     #[tactic(auto, unfolding(crate::specs::Taking::take_formed))]
     pub(crate) fn take_hold_time(&mut self) -> Option<u64>
-        ensures { taken result self.new.bytes.now ≡ take_formed 4 is_hold_time self.old.bytes.now }
+        ensures { taken_field result self.new.bytes.now ≡ take_formed 4 is_hold_time self.old.bytes.now }
     {
         let hold_ms = u64::from(self.take_u32()?);
         (SHORTEST_HOLD..=LONGEST_HOLD)
@@ -155,7 +155,7 @@ impl<'a> Reader<'a> {
 
     #[tactic(auto, unfolding(crate::specs::Taking::take_token))]
     pub(crate) fn take_token(&mut self) -> Option<Token>
-        ensures { taken result self.new.bytes.now ≡ take_token self.old.bytes.now }
+        ensures { taken_field result self.new.bytes.now ≡ take_token self.old.bytes.now }
     {
         let len = self.take_byte()?;
         Token::new(self.take_bytes(len)?)
@@ -163,14 +163,14 @@ impl<'a> Reader<'a> {
 
     #[tactic(auto, unfolding(crate::specs::Taking::take_numbered))]
     pub(crate) fn take_numbered<T: Numbered>(&mut self) -> Option<T>
-        ensures { taken result self.new.bytes.now ≡ take_numbered T.numbered self.old.bytes.now }
+        ensures { taken_field result self.new.bytes.now ≡ take_numbered T.numbered self.old.bytes.now }
     {
         T::from_number(self.take_byte()?)
     }
 
     #[tactic(auto, unfolding(crate::specs::Taking::take_currency))]
     pub(crate) fn take_currency(&mut self) -> Option<Currency>
-        ensures { taken result self.new.bytes.now ≡ take_currency self.old.bytes.now }
+        ensures { taken_field result self.new.bytes.now ≡ take_currency self.old.bytes.now }
     {
         Currency::from_number(self.take_u16()?)
     }
