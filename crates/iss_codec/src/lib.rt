@@ -2,6 +2,9 @@
 //!
 //! A record is its kind (one byte), its stamp (eight bytes) and the fields of its kind in a row. All numbers are
 //! big-endian. `spelling` in `iss_model` is the definition.
+//!
+//! It may cite `iss_model` and `byteorder`.
+//! It must not cite the journal: it knows one record's bytes alone.
 #![tactic(auto)]
 
 mod contents;
