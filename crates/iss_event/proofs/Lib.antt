@@ -1,6 +1,6 @@
 pub mod LeastLine
 pub mod LinesInForm
 pub mod ObjectLemmas
-pub mod PlainTexts
+pub mod Lines
 pub mod InputsInForm
 pub mod ValuesInForm
