@@ -8,4 +8,5 @@ pub mod Plain
 pub mod Readings
 pub mod Replies
 pub mod Inputs
+pub mod Seen
 pub mod Values
