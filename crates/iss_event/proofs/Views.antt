@@ -7,12 +7,12 @@ use Rattle.json.specs.Find as find
 use Rattle.json.specs.Value.{value_view}
 use Rattle.json.specs.declared.value.Value.{Value}
 use Rattle.std.specs.Borrow.{Bor}
-use Rattle.serde_json.specs.Data.{Num, Data, null, boolean, number, string, array, object, Items, Members, no_members, put}
-use Rattle.serde_json.specs.Find.{get, get_member, as_null, as_str, as_bool, as_number, as_object, as_u64}
+use Rattle.serde_json.specs.Data.{Num, Data, number, array, object, Items, Members, no_members, put}
+use Rattle.serde_json.specs.Find.{get, get_member, as_null, as_str, as_bool, as_number, as_u64}
 use Rattle.serde_json.specs.Read.{number_of, of_json, of_items, of_members}
 use Rattle.serde_json.proofs.Views.{get_member-put, get_member-put_other}
 use Rattle.iss_event.specs.Objects.{if_object}
-use Rattle.iss_event.specs.Seen.{if_fit, data_of, seen, fits, members_fit, is_fit_object}
+use Rattle.iss_event.specs.Seen.{if_fit, data_of, seen, fits, is_fit_object}
 
 -- ---- what a value is
 

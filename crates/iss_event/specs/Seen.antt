@@ -4,9 +4,8 @@ use Rattle.json.specs.Lex.{tokens}
 use Rattle.json.specs.Json as json
 use Rattle.json.specs.Json.{Json}
 use Rattle.json.specs.Find.{as_object}
-use Rattle.json.specs.Value.{value_view, items_view, members_view}
+use Rattle.json.specs.Value.{value_view}
 use Rattle.json.specs.declared.value.Value.{Value}
-use Rattle.std.specs.Borrow.{Bor}
 use Rattle.serde_json.specs.Data.{Data, array, no_items, no_members}
 use Rattle.serde_json.specs.Read.{max_depth, of_json, of_items, of_members}
 
