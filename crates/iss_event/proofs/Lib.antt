@@ -1,6 +1,8 @@
 pub mod LeastLine
 pub mod LinesInForm
 pub mod ObjectLemmas
-pub mod PlainTexts
+pub mod Lines
+pub mod Views
+pub mod Fits
 pub mod InputsInForm
 pub mod ValuesInForm

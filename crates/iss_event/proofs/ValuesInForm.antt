@@ -9,7 +9,10 @@ use Rattle.iss_model.specs.Amounts.{is_digit, digits_value, if_form, is_amount_t
 use Rattle.iss_model.specs.Currencies.{decimals_of, unit_of}
 use Rattle.iss_model.specs.Forms.{is_amount, is_mcc, is_timeout, is_hold_time}
 use Rattle.iss_event.specs.Values.{whole_of, text_or_units, amount_of, mcc_of_text, mcc_of, timeout_of, hold_time_of}
-use Rattle.iss_event.proofs.PlainTexts.{both}
+
+both : (a b : Bool) → (a && b) ≡ true → (a ≡ true) × (b ≡ true)
+both true b h = (refl, h)
+both false b h = cc
 
 -- the number is of this form
 abbrev pub Meets : (ℕ → Bool) → ℕ → Type 0

@@ -6,6 +6,7 @@ pub mod Names
 pub mod Objects
 pub mod Plain
 pub mod Readings
-pub mod Reasons
+pub mod Replies
 pub mod Inputs
+pub mod Seen
 pub mod Values

@@ -1,11 +1,13 @@
 //! A line's fields: required or not, each in its form.
-ghost use Rattle.std.specs.Prelude.{◌≡◌, Option, option_and_then, option_map};
+ghost use Rattle.std.specs.Prelude.{◌≡◌, true, Option, option_and_then, option_map};
 ghost use Rattle.serde_json.specs.Data.{Data};
-ghost use Rattle.serde_json.specs.View.{view};
+ghost use Rattle.json.specs.Value.{value_view};
+ghost use Rattle.iss_event.specs.Seen.{seen, fits};
 ghost use Rattle.iss_event.specs.Fields.{field, required_field, optional_field, optional_field_or};
 
+use crate::found::{is_null, member};
 use crate::{FormFault, Name};
-use serde_json::Value;
+use json::Value;
 
 /// A form that a field may have.
 pub(crate) trait Form: Copy {
@@ -15,30 +17,33 @@ pub(crate) trait Form: Copy {
     ghost said: { Self → Data → Option Self.Said };
 
     /// What that value says, or `None` where it isn't of the form.
-    fn read(self, found: &Value) -> Option<Self::Said>
-        ensures { result ≡ said self (view found.now) };
+    fn read(self, found: &Value<'_>) -> Option<Self::Said>
+        ensures { result ≡ said self (seen found.now) };
 }
 
 /// The member of that name; `null` counts as absent.
 #[tactic(auto, unfolding(crate::specs::Fields::field))]
-pub(crate) fn field(line: &Value, name: Name) -> Option<&Value>
-    ensures { option_map (λ found. view found.now) result ≡ field name (view line.now) }
+pub(crate) fn field<'v, 'a>(line: &'v Value<'a>, name: Name) -> Option<&'v Value<'a>>
+    requires { fits (value_view line.now) ≡ true }
+    ensures { option_map (λ found. seen found.now) result ≡ field name (seen line.now) }
 {
-    let found = line.get(name.text())?;
-    if found.is_null() { None } else { Some(found) }
+    let found = member(line, name.text())?;
+    if is_null(found) { None } else { Some(found) }
 }
 
 /// What the field says, where it is there and of that form.
-pub(crate) fn in_form<F: Form>(line: &Value, name: Name, form: F) -> Option<F::Said>
-    ensures { result ≡ option_and_then (F.said form) (field name (view line.now)) }
+pub(crate) fn in_form<F: Form>(line: &Value<'_>, name: Name, form: F) -> Option<F::Said>
+    requires { fits (value_view line.now) ≡ true }
+    ensures { result ≡ option_and_then (F.said form) (field name (seen line.now)) }
 {
     field(line, name).and_then(|found| form.read(found))
 }
 
 /// What the field says, which has to be there.
 #[tactic(auto, unfolding(crate::specs::Fields::required_field))]
-pub(crate) fn required<F: Form>(line: &Value, name: Name, form: F) -> Result<F::Said, FormFault>
-    ensures { result ≡ required_field (F.said form) name (view line.now) }
+pub(crate) fn required<F: Form>(line: &Value<'_>, name: Name, form: F) -> Result<F::Said, FormFault>
+    requires { fits (value_view line.now) ≡ true }
+    ensures { result ≡ required_field (F.said form) name (seen line.now) }
 {
     in_form(line, name, form).ok_or(FormFault::Field(name))
 }
@@ -46,11 +51,12 @@ pub(crate) fn required<F: Form>(line: &Value, name: Name, form: F) -> Result<F::
 /// What the field says, where it is there.
 #[tactic(auto, unfolding(crate::specs::Fields::optional_field))]
 pub(crate) fn optional<F: Form>(
-    line: &Value,
+    line: &Value<'_>,
     name: Name,
     form: F,
 ) -> Result<Option<F::Said>, FormFault>
-    ensures { result ≡ optional_field (F.said form) name (view line.now) }
+    requires { fits (value_view line.now) ≡ true }
+    ensures { result ≡ optional_field (F.said form) name (seen line.now) }
 {
     match field(line, name) {
         Some(found) => form.read(found).map(Some).ok_or(FormFault::Field(name)),
@@ -61,12 +67,13 @@ pub(crate) fn optional<F: Form>(
 /// What the field says, or `absent` where it isn't there.
 #[tactic(auto, unfolding(crate::specs::Fields::optional_field_or))]
 pub(crate) fn optional_or<F: Form>(
-    line: &Value,
+    line: &Value<'_>,
     name: Name,
     form: F,
     absent: F::Said,
 ) -> Result<F::Said, FormFault>
-    ensures { result ≡ optional_field_or (F.said form) absent name (view line.now) }
+    requires { fits (value_view line.now) ≡ true }
+    ensures { result ≡ optional_field_or (F.said form) absent name (seen line.now) }
 {
     match field(line, name) {
         Some(found) => form.read(found).ok_or(FormFault::Field(name)),

@@ -1,6 +1,7 @@
 //! The fields of each type of line, in order.
-ghost use Rattle.std.specs.Prelude.{◌≡◌, codes};
-ghost use Rattle.serde_json.specs.View.{view};
+ghost use Rattle.std.specs.Prelude.{◌≡◌, true, codes};
+ghost use Rattle.json.specs.Value.{value_view};
+ghost use Rattle.iss_event.specs.Seen.{seen, fits};
 ghost use Rattle.iss_event.specs.Fields.{field};
 ghost use Rattle.iss_event.specs.Inputs.{user_input, card_input, card_move, user_move, whose_move, move_input, product_input, load_input, authorization_input, input_of_kind};
 
@@ -12,7 +13,7 @@ use crate::values::{
 };
 use crate::{FormFault, Name};
 use iss_model::{Input, Moved, Token};
-use serde_json::Value;
+use json::Value;
 
 /// How long a gateway has to answer, in milliseconds, where a product's line doesn't say.
 const DEFAULT_TIMEOUT_MS: u64 = 3_000;
@@ -21,8 +22,9 @@ const DEFAULT_TIMEOUT_MS: u64 = 3_000;
 const DEFAULT_HOLD_MS: u64 = 604_800_000;
 
 /// What a line of that kind says, or its first bad field.
-pub(crate) fn input_of_kind(kind: Kind, line: &Value) -> Result<Input, FormFault>
-    ensures { result ≡ input_of_kind kind (view line.now) }
+pub(crate) fn input_of_kind(kind: Kind, line: &Value<'_>) -> Result<Input, FormFault>
+    requires { fits (value_view line.now) ≡ true }
+    ensures { result ≡ input_of_kind kind (seen line.now) }
 {
     match kind {
         Kind::User => user_input(line),
@@ -36,8 +38,9 @@ pub(crate) fn input_of_kind(kind: Kind, line: &Value) -> Result<Input, FormFault
 }
 
 #[tactic(auto, unfolding(crate::specs::Inputs::user_input))]
-fn user_input(line: &Value) -> Result<Input, FormFault>
-    ensures { result ≡ user_input (view line.now) }
+fn user_input(line: &Value<'_>) -> Result<Input, FormFault>
+    requires { fits (value_view line.now) ≡ true }
+    ensures { result ≡ user_input (seen line.now) }
 {
     let token = required(line, Name::Token, TokenForm)?;
     let user = required(line, Name::User, TokenForm)?;
@@ -45,8 +48,9 @@ fn user_input(line: &Value) -> Result<Input, FormFault>
 }
 
 #[tactic(auto, unfolding(crate::specs::Inputs::card_input))]
-fn card_input(line: &Value) -> Result<Input, FormFault>
-    ensures { result ≡ card_input (view line.now) }
+fn card_input(line: &Value<'_>) -> Result<Input, FormFault>
+    requires { fits (value_view line.now) ≡ true }
+    ensures { result ≡ card_input (seen line.now) }
 {
     let token = required(line, Name::Token, TokenForm)?;
     let card = required(line, Name::Card, TokenForm)?;
@@ -63,8 +67,9 @@ fn card_input(line: &Value) -> Result<Input, FormFault>
 }
 
 #[tactic(auto, unfolding(crate::specs::Inputs::move_input))]
-fn move_input(line: &Value) -> Result<Input, FormFault>
-    ensures { result ≡ move_input (view line.now) }
+fn move_input(line: &Value<'_>) -> Result<Input, FormFault>
+    requires { fits (value_view line.now) ≡ true }
+    ensures { result ≡ move_input (seen line.now) }
 {
     let token = required(line, Name::Token, TokenForm)?;
     let card = optional(line, Name::Card, TokenForm)?;
@@ -72,8 +77,9 @@ fn move_input(line: &Value) -> Result<Input, FormFault>
     Ok(Input::Move { token, who })
 }
 
-fn whose_move(card: Option<Token>, line: &Value) -> Result<Moved, FormFault>
-    ensures { result ≡ whose_move card (field Name.User (view line.now)) (view line.now) }
+fn whose_move(card: Option<Token>, line: &Value<'_>) -> Result<Moved, FormFault>
+    requires { fits (value_view line.now) ≡ true }
+    ensures { result ≡ whose_move card (field Name.User (seen line.now)) (seen line.now) }
 {
     match (card, field(line, Name::User)) {
         (Some(_), Some(_)) => Err(FormFault::Field(Name::User)),
@@ -84,16 +90,18 @@ fn whose_move(card: Option<Token>, line: &Value) -> Result<Moved, FormFault>
 }
 
 #[tactic(auto, unfolding(crate::specs::Inputs::card_move))]
-fn card_move(card: Token, line: &Value) -> Result<Moved, FormFault>
-    ensures { result ≡ card_move card (view line.now) }
+fn card_move(card: Token, line: &Value<'_>) -> Result<Moved, FormFault>
+    requires { fits (value_view line.now) ≡ true }
+    ensures { result ≡ card_move card (seen line.now) }
 {
     let to = required(line, Name::To, CardStateForm)?;
     Ok(Moved::Card(card, to))
 }
 
 #[tactic(auto, unfolding(crate::specs::Inputs::user_move))]
-fn user_move(line: &Value) -> Result<Moved, FormFault>
-    ensures { result ≡ user_move (view line.now) }
+fn user_move(line: &Value<'_>) -> Result<Moved, FormFault>
+    requires { fits (value_view line.now) ≡ true }
+    ensures { result ≡ user_move (seen line.now) }
 {
     let user = required(line, Name::User, TokenForm)?;
     let to = required(line, Name::To, UserStateForm)?;
@@ -101,8 +109,9 @@ fn user_move(line: &Value) -> Result<Moved, FormFault>
 }
 
 #[tactic(auto, unfolding(crate::specs::Inputs::product_input))]
-fn product_input(line: &Value) -> Result<Input, FormFault>
-    ensures { result ≡ product_input (view line.now) }
+fn product_input(line: &Value<'_>) -> Result<Input, FormFault>
+    requires { fits (value_view line.now) ≡ true }
+    ensures { result ≡ product_input (seen line.now) }
 {
     let token = required(line, Name::Token, TokenForm)?;
     let product = required(line, Name::Product, TokenForm)?;
@@ -121,8 +130,9 @@ fn product_input(line: &Value) -> Result<Input, FormFault>
 }
 
 #[tactic(auto, unfolding(crate::specs::Inputs::load_input))]
-fn load_input(line: &Value) -> Result<Input, FormFault>
-    ensures { result ≡ load_input (view line.now) }
+fn load_input(line: &Value<'_>) -> Result<Input, FormFault>
+    requires { fits (value_view line.now) ≡ true }
+    ensures { result ≡ load_input (seen line.now) }
 {
     let token = required(line, Name::Token, TokenForm)?;
     let user = required(line, Name::User, TokenForm)?;
@@ -137,8 +147,9 @@ fn load_input(line: &Value) -> Result<Input, FormFault>
 }
 
 #[tactic(auto, unfolding(crate::specs::Inputs::authorization_input))]
-fn authorization_input(line: &Value) -> Result<Input, FormFault>
-    ensures { result ≡ authorization_input (view line.now) }
+fn authorization_input(line: &Value<'_>) -> Result<Input, FormFault>
+    requires { fits (value_view line.now) ≡ true }
+    ensures { result ≡ authorization_input (seen line.now) }
 {
     let token = required(line, Name::Token, TokenForm)?;
     let card = required(line, Name::Card, TokenForm)?;

@@ -1,50 +1,43 @@
 //! The texts of reasons.
-ghost use Rattle.std.specs.Prelude.{◌≡◌, ◌++◌, IfOk, OnOk, IsTrue, string_bytes, codes};
+ghost use Rattle.std.specs.Prelude.{◌≡◌, ◌++◌, OnOk, codes};
 ghost use Rattle.iss_model.specs.texts.Wordings.{reason_text, card_state_text, user_state_text};
-ghost use Rattle.iss_event.specs.Plain.{is_plain};
-ghost use Rattle.iss_event.specs.Reasons.{detail_text};
+ghost use Rattle.iss_event.specs.Replies.{detail_text};
 
 use iss_model::{CardState, Reason, UserState};
-use std::alloc::{AllocError, Global};
+use std::alloc::AllocError;
 
-/// A reason's name, with what it is about.
-pub(crate) fn reason_text(alloc: Global, reason: &Reason) -> Result<String, AllocError>
-    ensures value { IfOk result (λ text. string_bytes text ≡ reason_text reason.now) }
-    ensures plain { OnOk result (IsTrue (is_plain (reason_text reason.now))) }
+/// Adds a reason's name, with what it is about.
+pub(crate) fn put_reason(out: &mut Vec<u8>, reason: &Reason) -> Result<(), AllocError>
+    ensures { OnOk result (out.new.items ≡ out.old.items ++ reason_text reason.now) }
 {
-    let mut text = String::from_str(alloc, reason_name(reason))?;
-    push_detail(&mut text, reason)?;
-    Ok(text)
+    out.extend_from_slice(reason_name(reason).as_bytes())?;
+    put_detail(out, reason)
 }
 
-#[tactic(auto, using(crate::proofs::PlainTexts::moves_plain, crate::proofs::PlainTexts::token_is_plain))]
-fn push_detail(text: &mut String, reason: &Reason) -> Result<(), AllocError>
-    ensures value { OnOk result (string_bytes text.new
-        ≡ string_bytes text.old ++ detail_text reason.now) }
-    ensures plain { OnOk result (IsTrue (is_plain (detail_text reason.now))) }
+fn put_detail(out: &mut Vec<u8>, reason: &Reason) -> Result<(), AllocError>
+    ensures { OnOk result (out.new.items ≡ out.old.items ++ detail_text reason.now) }
 {
     match reason {
-        Reason::MoveCard(from, to) => push_move(text, card_state_text(*from), card_state_text(*to)),
-        Reason::MoveUser(from, to) => push_move(text, user_state_text(*from), user_state_text(*to)),
-        Reason::Control(name) | Reason::StandInLimit(name) => text.push_str(name.as_str()),
+        Reason::MoveCard(from, to) => put_move(out, card_state_text(*from), card_state_text(*to)),
+        Reason::MoveUser(from, to) => put_move(out, user_state_text(*from), user_state_text(*to)),
+        Reason::Control(name) | Reason::StandInLimit(name) => out.extend_from_slice(name.text()),
         _ => Ok(()),
     }
 }
 
-fn push_move(text: &mut String, from: &str, to: &str) -> Result<(), AllocError>
-    ensures { OnOk result (string_bytes text.new
-        ≡ string_bytes text.old ++ (from.now ++ codes ":" ++ to.now)) }
+fn put_move(out: &mut Vec<u8>, from: &str, to: &str) -> Result<(), AllocError>
+    ensures { OnOk result (out.new.items
+        ≡ out.old.items ++ (from.now ++ codes ":" ++ to.now)) }
 {
-    text.push_str(from)?;
-    text.push_str(":")?;
-    text.push_str(to)
+    out.extend_from_slice(from.as_bytes())?;
+    out.push(b':')?;
+    out.extend_from_slice(to.as_bytes())
 }
 
 /// The reason's name, with a colon where something follows.
 #[tactic(auto, unfolding(iss_model::specs::texts::Wordings::reason_text))]
 fn reason_name(reason: &Reason) -> &'static str
-    ensures whole { reason_text reason.now ≡ result.now ++ detail_text reason.now }
-    ensures plain { IsTrue (is_plain result.now) }
+    ensures { reason_text reason.now ≡ result.now ++ detail_text reason.now }
 {
     match reason {
         Reason::Exists => "EXISTS",
@@ -78,8 +71,7 @@ fn reason_name(reason: &Reason) -> &'static str
 }
 
 fn card_state_text(state: CardState) -> &'static str
-    ensures value { result.now ≡ card_state_text state }
-    ensures plain { IsTrue (is_plain result.now) }
+    ensures { result.now ≡ card_state_text state }
 {
     match state {
         CardState::Unactivated => "UNACTIVATED",
@@ -90,8 +82,7 @@ fn card_state_text(state: CardState) -> &'static str
 }
 
 fn user_state_text(state: UserState) -> &'static str
-    ensures value { result.now ≡ user_state_text state }
-    ensures plain { IsTrue (is_plain result.now) }
+    ensures { result.now ≡ user_state_text state }
 {
     match state {
         UserState::Active => "ACTIVE",

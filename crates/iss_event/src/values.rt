@@ -6,10 +6,11 @@ ghost use Rattle.iss_event.specs.Values.{kind_of, token_of, currency_of, amount_
 
 use crate::Mode;
 use crate::fields::Form;
+use crate::found::{flag, text, whole};
 use crate::kind::{Kind, kind_in, kind_of_text};
-use iss_amount::{from_code, read, whole};
+use iss_amount::{from_code, read, whole as whole_amount};
 use iss_model::{CardState, Currency, Funding, Token, UserState};
-use serde_json::Value;
+use json::Value;
 
 /// A type that lines of that mode may have.
 #[derive(Clone, Copy)]
@@ -21,8 +22,8 @@ impl Form for KindForm {
     ghost said = { λ form. kind_of form.0 };
 
     #[tactic(auto, unfolding(crate::specs::Values::kind_of))]
-    fn read(self, found: &Value) -> Option<Kind> {
-        kind_in(self.0, kind_of_text(found.as_str()?)?)
+    fn read(self, found: &Value<'_>) -> Option<Kind> {
+        kind_in(self.0, kind_of_text(text(found)?)?)
     }
 }
 
@@ -35,8 +36,8 @@ impl Form for TokenForm {
     ghost said = { λ _. token_of };
 
     #[tactic(auto, unfolding(crate::specs::Values::token_of))]
-    fn read(self, found: &Value) -> Option<Token> {
-        Token::new(found.as_str()?.as_bytes())
+    fn read(self, found: &Value<'_>) -> Option<Token> {
+        Token::new(text(found)?.as_bytes())
     }
 }
 
@@ -50,8 +51,8 @@ impl Form for CurrencyForm {
     ghost said = { λ _. currency_of };
 
     #[tactic(auto, unfolding(crate::specs::Values::currency_of))]
-    fn read(self, found: &Value) -> Option<Currency> {
-        from_code(found.as_str()?.as_bytes())
+    fn read(self, found: &Value<'_>) -> Option<Currency> {
+        from_code(text(found)?.as_bytes())
     }
 }
 
@@ -65,10 +66,10 @@ impl Form for AmountForm {
     ghost said = { λ form. amount_of form.0 };
 
     #[tactic(auto, unfolding(crate::specs::Values::amount_of))]
-    fn read(self, found: &Value) -> Option<u64> {
-        match found.as_str() {
+    fn read(self, found: &Value<'_>) -> Option<u64> {
+        match text(found) {
             Some(text) => read(text.as_bytes(), self.0),
-            None => whole(found.as_u64()?, self.0),
+            None => whole_amount(whole(found)?, self.0),
         }
     }
 }
@@ -83,8 +84,8 @@ impl Form for MccForm {
     ghost said = { λ _. mcc_of };
 
     #[tactic(auto, unfolding(crate::specs::Values::mcc_of))]
-    fn read(self, found: &Value) -> Option<u16> {
-        mcc_of_text(found.as_str()?.as_bytes())
+    fn read(self, found: &Value<'_>) -> Option<u16> {
+        mcc_of_text(text(found)?.as_bytes())
     }
 }
 
@@ -118,8 +119,8 @@ impl Form for FundingForm {
     ghost said = { λ _. funding_of };
 
     #[tactic(auto, unfolding(crate::specs::Values::funding_of, crate::specs::Values::funding_of_text))]
-    fn read(self, found: &Value) -> Option<Funding> {
-        match found.as_str()? {
+    fn read(self, found: &Value<'_>) -> Option<Funding> {
+        match text(found)? {
             "ACCOUNT" => Some(Funding::Account),
             "GATEWAY" => Some(Funding::Gateway),
             _ => None,
@@ -136,8 +137,8 @@ impl Form for CardStateForm {
     ghost said = { λ _. card_state_of };
 
     #[tactic(auto, unfolding(crate::specs::Values::card_state_of, crate::specs::Values::card_state_of_text))]
-    fn read(self, found: &Value) -> Option<CardState> {
-        match found.as_str()? {
+    fn read(self, found: &Value<'_>) -> Option<CardState> {
+        match text(found)? {
             "UNACTIVATED" => Some(CardState::Unactivated),
             "ACTIVE" => Some(CardState::Active),
             "SUSPENDED" => Some(CardState::Suspended),
@@ -156,8 +157,8 @@ impl Form for UserStateForm {
     ghost said = { λ _. user_state_of };
 
     #[tactic(auto, unfolding(crate::specs::Values::user_state_of, crate::specs::Values::user_state_of_text))]
-    fn read(self, found: &Value) -> Option<UserState> {
-        match found.as_str()? {
+    fn read(self, found: &Value<'_>) -> Option<UserState> {
+        match text(found)? {
             "ACTIVE" => Some(UserState::Active),
             "SUSPENDED" => Some(UserState::Suspended),
             "CLOSED" => Some(UserState::Closed),
@@ -175,8 +176,8 @@ impl Form for FlagForm {
 
     ghost said = { λ _. as_bool };
 
-    fn read(self, found: &Value) -> Option<bool> {
-        found.as_bool()
+    fn read(self, found: &Value<'_>) -> Option<bool> {
+        flag(found)
     }
 }
 
@@ -190,8 +191,8 @@ impl Form for TimeoutForm {
     ghost said = { λ _. timeout_of };
 
     #[tactic(auto, unfolding(crate::specs::Values::timeout_of))]
-    fn read(self, found: &Value) -> Option<u64> {
-        let ms = found.as_u64()?;
+    fn read(self, found: &Value<'_>) -> Option<u64> {
+        let ms = whole(found)?;
         (1..=60_000).contains(&ms).then_some(ms)
     }
 }
@@ -206,8 +207,8 @@ impl Form for HoldTimeForm {
     ghost said = { λ _. hold_time_of };
 
     #[tactic(auto, unfolding(crate::specs::Values::hold_time_of))]
-    fn read(self, found: &Value) -> Option<u64> {
-        let ms = found.as_u64()?;
+    fn read(self, found: &Value<'_>) -> Option<u64> {
+        let ms = whole(found)?;
         (86_400_000..=2_678_400_000).contains(&ms).then_some(ms)
     }
 }

@@ -1,170 +1,204 @@
-//! The lines that are told.
-ghost use Rattle.std.specs.Prelude.{◌≡◌, [], ◌∷◌, ◌++◌, false, IfOk, OnOk, IsTrue, codes};
-ghost use Rattle.serde_json.specs.View.{view};
-ghost use Rattle.serde_json.specs.Written.{has_float, compact_text};
-ghost use Rattle.iss_model.specs.texts.AnswerLines.{answer_members, answer_text, how_text, reply_member};
-ghost use Rattle.iss_model.specs.texts.Wordings.{reply_members, reply_line, fault_line, line_of, with_number, with_text};
+//! The lines that are told, as bytes after those that are there. Where an allocation fails a part of a line may be there.
+ghost use Rattle.std.specs.Prelude.{◌≡◌, ◌++◌, IfOk, OnOk, decimal};
+ghost use Rattle.iss_model.specs.texts.AnswerLines.{answer_text, how_text};
+ghost use Rattle.iss_model.specs.texts.Wordings.{reply_line, fault_line};
 ghost use Rattle.iss_model.specs.declared.decision.Answer.TheVariants as answer;
-ghost use Rattle.iss_event.specs.FormLines.{fault_members, field_members, form_text};
-ghost use Rattle.iss_event.specs.Plain.{object_data, is_plain, are_plain};
-ghost use Rattle.iss_event.specs.Reasons.{reply_is_plain};
+ghost use Rattle.iss_event.specs.declared.line.FormFault.TheVariants.{Field};
+ghost use Rattle.iss_event.specs.FormLines.{form_text};
+ghost use Rattle.iss_event.specs.Replies.{reply_end, declined_end};
 
-use crate::reason::reason_text;
+use crate::reason::put_reason;
 use crate::{FormFault, Name};
-use iss_model::{Answer, Failure, How, Reason, Reply, Token, Verdict};
-use serde_json::{Value, json};
+use iss_model::{Answer, CallId, Failure, How, Reason, Reply, Token, Verdict};
+use itoa::Buffer;
 use std::alloc::{AllocError, Global};
 
 /// The line that tells what became of an event, with its line feed.
-#[tactic(auto, using(crate::proofs::PlainTexts::line_of_members, crate::proofs::PlainTexts::no_float), unfolding(iss_model::specs::texts::Wordings::reply_line))]
 pub fn reply_line(alloc: Global, event: &Token, reply: &Reply) -> Result<Vec<u8>, AllocError>
     ensures { IfOk result (λ line. line.items ≡ reply_line event.now reply.now) }
 {
-    let value = event_value(alloc, event, reply)?;
-    line_of(alloc, &value)
+    let mut line = Vec::new(alloc);
+    put_reply(&mut line, event, reply)?;
+    Ok(line)
 }
 
 /// The line that tells an input that makes no record what became of it, with its line feed.
-#[tactic(auto, using(crate::proofs::PlainTexts::line_of_members, crate::proofs::PlainTexts::no_float), unfolding(iss_model::specs::texts::AnswerLines::answer_text))]
 pub fn told_line(alloc: Global, answer: &Answer) -> Result<Vec<u8>, AllocError>
     ensures { IfOk result (λ line. line.items ≡ answer_text answer.now) }
 {
-    let value = answer_value(alloc, answer)?;
-    line_of(alloc, &value)
+    let mut line = Vec::new(alloc);
+    put_told(&mut line, answer)?;
+    Ok(line)
 }
 
 /// The line that tells of a fault of form, with its line feed.
-#[tactic(auto, unfolding(crate::specs::FormLines::form_text))]
 pub fn form_line(alloc: Global, fault: &FormFault) -> Result<Vec<u8>, AllocError>
     ensures { IfOk result (λ line. line.items ≡ form_text fault.now) }
 {
-    match fault {
-        FormFault::Long => fault_line(alloc, "LONG"),
-        FormFault::Json => fault_line(alloc, "JSON"),
-        FormFault::Field(name) => field_line(alloc, *name),
-        FormFault::NotBuilt => fault_line(alloc, "NOT_BUILT"),
-    }
+    let mut line = Vec::new(alloc);
+    put_form(&mut line, fault)?;
+    Ok(line)
 }
 
-fn fault_line(alloc: Global, fault: &str) -> Result<Vec<u8>, AllocError>
-    requires { IsTrue (is_plain fault.now) }
-    ensures { IfOk result (λ line. line.items ≡ fault_line fault.now) }
+/// Adds the line that tells what became of an event, with its line feed.
+#[tactic(auto, using(crate::proofs::Lines::reply_after))]
+pub fn put_reply(out: &mut Vec<u8>, event: &Token, reply: &Reply) -> Result<(), AllocError>
+    ensures { OnOk result (out.new.items ≡ out.old.items ++ reply_line event.now reply.now) }
 {
-    let value = fault_value(alloc, fault)?;
-    line_of(alloc, &value)
+    out.extend_from_slice(b"{\"event\":\"")?;
+    out.extend_from_slice(event.text())?;
+    put_reply_end(out, reply)
 }
 
-fn field_line(alloc: Global, name: Name) -> Result<Vec<u8>, AllocError>
-    ensures { IfOk result (λ line. line.items ≡ line_of (field_members name)) }
-{
-    let value = field_value(alloc, name)?;
-    line_of(alloc, &value)
-}
-
-fn fault_value(alloc: Global, fault: &str) -> Result<Value, AllocError>
-    requires { IsTrue (is_plain fault.now) }
-    ensures data { IfOk result (λ value. view value ≡ object_data (fault_members fault.now)) }
-    ensures plain { OnOk result (IsTrue (are_plain (fault_members fault.now))) }
-{
-    json!(in alloc; {"fault": fault, "reply": "form"})
-}
-
-fn field_value(alloc: Global, name: Name) -> Result<Value, AllocError>
-    ensures data { IfOk result (λ value. view value ≡ object_data (field_members name)) }
-    ensures plain { OnOk result (IsTrue (are_plain (field_members name))) }
-{
-    let field = name.text();
-    json!(in alloc; {"fault": "FIELD", "field": field, "reply": "form"})
-}
-
-fn event_value(alloc: Global, event: &Token, reply: &Reply) -> Result<Value, AllocError>
-    ensures data { IfOk result (λ value. view value ≡ object_data (reply_members event.now reply.now)) }
-    ensures plain { OnOk result (IsTrue (are_plain (reply_members event.now reply.now))) }
-{
-    reply_value(alloc, event.as_str(), reply)
-}
-
-fn reply_value(alloc: Global, event: &str, reply: &Reply) -> Result<Value, AllocError>
-    ensures data { IfOk result (λ value. view value
-        ≡ object_data (reply_members event.now reply.now)) }
-    ensures plain { OnOk result (IsTrue (reply_is_plain reply.now)) }
-{
-    match reply {
-        Reply::Decided(Verdict::Done) => undetailed(alloc, event, "done"),
-        Reply::Decided(Verdict::Approved) => undetailed(alloc, event, "approved"),
-        Reply::Decided(Verdict::Declined(reason)) => declined(alloc, event, reason),
-        Reply::Pending => undetailed(alloc, event, "pending"),
-    }
-}
-
-fn undetailed(alloc: Global, event: &str, reply: &str) -> Result<Value, AllocError>
-    ensures { IfOk result (λ value. view value
-        ≡ object_data (with_text (codes "event") event.now
-        ∷ with_text (codes "reply") reply.now ∷ [])) }
-{
-    json!(in alloc; {"event": event, "reply": reply})
-}
-
-fn declined(alloc: Global, event: &str, reason: &Reason) -> Result<Value, AllocError>
-    ensures data { IfOk result (λ value. view value
-        ≡ object_data (reply_members event.now (Reply.Decided (Verdict.Declined reason.now)))) }
-    ensures plain { OnOk result (IsTrue (reply_is_plain
-        (Reply.Decided (Verdict.Declined reason.now)))) }
-{
-    let reason = reason_text(alloc, reason)?;
-    declined_for(alloc, event, reason.as_str())
-}
-
-fn declined_for(alloc: Global, event: &str, reason: &str) -> Result<Value, AllocError>
-    ensures { IfOk result (λ value. view value
-        ≡ object_data (with_text (codes "event") event.now
-        ∷ with_text (codes "reason") reason.now
-        ∷ with_text (codes "reply") (codes "declined") ∷ [])) }
-{
-    json!(in alloc; {"event": event, "reason": reason, "reply": "declined"})
-}
-
-fn answer_value(alloc: Global, answer: &Answer) -> Result<Value, AllocError>
-    ensures data { IfOk result (λ value. view value ≡ object_data (answer_members answer.now)) }
-    ensures plain { OnOk result (IsTrue (are_plain (answer_members answer.now))) }
+/// Adds the line that tells an input that makes no record what became of it, with its line feed.
+#[tactic(auto, using(crate::proofs::Lines::repeat))]
+pub fn put_told(out: &mut Vec<u8>, answer: &Answer) -> Result<(), AllocError>
+    ensures { OnOk result (out.new.items ≡ out.old.items ++ answer_text answer.now) }
 {
     match answer {
-        Answer::Repeat(event, reply) => event_value(alloc, event, reply),
-        Answer::Conflict(event, number) => conflict_value(alloc, event, *number),
-        Answer::Late(call, how) => late_value(alloc, call.0, *how),
-        Answer::UnknownCall(call) => json!(in alloc; {"call": call.0, "reply": "unknown"}),
-        Answer::Already(notice) => json!(in alloc; {"notice": *notice, "reply": "already"}),
-        Answer::UnknownNotice(notice) => json!(in alloc; {"notice": *notice, "reply": "unknown"}),
-        Answer::Idle => json!(in alloc; {"reply": "idle"}),
-        Answer::Full { free, need } => {
-            json!(in alloc; {"free": *free, "need": *need, "reply": "full"})
+        Answer::Repeat(event, reply) => put_reply(out, event, reply),
+        Answer::Conflict(event, number) => put_conflict(out, event, *number),
+        Answer::Late(call, how) => put_late(out, call, *how),
+        Answer::UnknownCall(call) => {
+            put_numbered(out, b"{\"call\":", call.0, b",\"reply\":\"unknown\"}\n")
         }
+        Answer::Already(notice) => {
+            put_numbered(out, b"{\"notice\":", *notice, b",\"reply\":\"already\"}\n")
+        }
+        Answer::UnknownNotice(notice) => {
+            put_numbered(out, b"{\"notice\":", *notice, b",\"reply\":\"unknown\"}\n")
+        }
+        Answer::Idle => put_idle(out),
+        Answer::Full { free, need } => put_full(out, *free, *need),
     }
 }
 
-#[tactic(auto, using(crate::proofs::PlainTexts::token_is_plain))]
-fn conflict_value(alloc: Global, event: &Token, number: u32) -> Result<Value, AllocError>
-    ensures data { IfOk result (λ value. view value
-        ≡ object_data (answer_members (answer.Conflict event.now number))) }
-    ensures plain { OnOk result (IsTrue (are_plain (answer_members (answer.Conflict event.now number)))) }
+/// Adds the line that tells of a fault of form, with its line feed.
+#[tactic(auto, unfolding(crate::specs::FormLines::form_text))]
+pub fn put_form(out: &mut Vec<u8>, fault: &FormFault) -> Result<(), AllocError>
+    ensures { OnOk result (out.new.items ≡ out.old.items ++ form_text fault.now) }
 {
-    let event = event.as_str();
-    json!(in alloc; {"event": event, "record": number, "reply": "conflict"})
+    match fault {
+        FormFault::Long => put_fault(out, b"LONG"),
+        FormFault::Json => put_fault(out, b"JSON"),
+        FormFault::Field(name) => put_bad_field(out, *name),
+        FormFault::NotBuilt => put_fault(out, b"NOT_BUILT"),
+    }
 }
 
-fn late_value(alloc: Global, call: u32, how: How) -> Result<Value, AllocError>
-    ensures data { IfOk result (λ value. view value
-        ≡ object_data (with_number (codes "call") call
-        ∷ reply_member (codes "late") ∷ with_text (codes "state") (how_text how) ∷ [])) }
-    ensures plain { OnOk result (IsTrue (is_plain (how_text how))) }
+fn put_fault(out: &mut Vec<u8>, fault: &[u8]) -> Result<(), AllocError>
+    ensures { OnOk result (out.new.items ≡ out.old.items ++ fault_line fault.now) }
 {
-    let state = how_text(how);
-    json!(in alloc; {"call": call, "reply": "late", "state": state})
+    put_between(out, b"{\"fault\":\"", fault, b"\",\"reply\":\"form\"}\n")
+}
+
+fn put_bad_field(out: &mut Vec<u8>, name: Name) -> Result<(), AllocError>
+    ensures { OnOk result (out.new.items ≡ out.old.items ++ form_text (Field name)) }
+{
+    put_between(
+        out,
+        b"{\"fault\":\"FIELD\",\"field\":\"",
+        name.text().as_bytes(),
+        b"\",\"reply\":\"form\"}\n",
+    )
+}
+
+fn put_reply_end(out: &mut Vec<u8>, reply: &Reply) -> Result<(), AllocError>
+    ensures { OnOk result (out.new.items ≡ out.old.items ++ reply_end reply.now) }
+{
+    match reply {
+        Reply::Decided(Verdict::Done) => out.extend_from_slice(b"\",\"reply\":\"done\"}\n"),
+        Reply::Decided(Verdict::Approved) => out.extend_from_slice(b"\",\"reply\":\"approved\"}\n"),
+        Reply::Decided(Verdict::Declined(reason)) => put_declined_end(out, reason),
+        Reply::Pending => out.extend_from_slice(b"\",\"reply\":\"pending\"}\n"),
+    }
+}
+
+#[tactic(auto, using(crate::proofs::Lines::declined_after))]
+fn put_declined_end(out: &mut Vec<u8>, reason: &Reason) -> Result<(), AllocError>
+    ensures { OnOk result (out.new.items ≡ out.old.items ++ declined_end reason.now) }
+{
+    out.extend_from_slice(b"\",\"reason\":\"")?;
+    put_reason(out, reason)?;
+    out.extend_from_slice(b"\",\"reply\":\"declined\"}\n")
+}
+
+#[tactic(auto, using(crate::proofs::Lines::conflict_after))]
+fn put_conflict(out: &mut Vec<u8>, event: &Token, number: u32) -> Result<(), AllocError>
+    ensures { OnOk result (out.new.items
+        ≡ out.old.items ++ answer_text (answer.Conflict event.now number)) }
+{
+    put_between(out, b"{\"event\":\"", event.text(), b"\",\"record\":")?;
+    put_number(out, u64::from(number))?;
+    out.extend_from_slice(b",\"reply\":\"conflict\"}\n")
+}
+
+#[tactic(auto, using(crate::proofs::Lines::late_after))]
+fn put_late(out: &mut Vec<u8>, call: &CallId, how: How) -> Result<(), AllocError>
+    ensures { OnOk result (out.new.items ≡ out.old.items ++ answer_text (answer.Late call.now how)) }
+{
+    put_numbered(
+        out,
+        b"{\"call\":",
+        call.0,
+        b",\"reply\":\"late\",\"state\":\"",
+    )?;
+    out.extend_from_slice(how_text(how).as_bytes())?;
+    out.extend_from_slice(b"\"}\n")
+}
+
+#[tactic(auto, using(crate::proofs::Lines::full_after))]
+fn put_full(out: &mut Vec<u8>, free: u64, need: u64) -> Result<(), AllocError>
+    ensures { OnOk result (out.new.items ≡ out.old.items ++ answer_text (answer.Full free need)) }
+{
+    out.extend_from_slice(b"{\"free\":")?;
+    put_number(out, free)?;
+    out.extend_from_slice(b",\"need\":")?;
+    put_number(out, need)?;
+    out.extend_from_slice(b",\"reply\":\"full\"}\n")
+}
+
+#[tactic(auto, unfolding(iss_model::specs::texts::AnswerLines::answer_text))]
+fn put_idle(out: &mut Vec<u8>) -> Result<(), AllocError>
+    ensures { OnOk result (out.new.items ≡ out.old.items ++ answer_text answer.Idle) }
+{
+    out.extend_from_slice(b"{\"reply\":\"idle\"}\n")
+}
+
+fn put_number(out: &mut Vec<u8>, number: u64) -> Result<(), AllocError>
+    ensures { OnOk result (out.new.items ≡ out.old.items ++ decimal number) }
+{
+    out.extend_from_slice(Buffer::new().format(number).as_bytes())
+}
+
+fn put_numbered(
+    out: &mut Vec<u8>,
+    prefix: &[u8],
+    number: u32,
+    suffix: &[u8],
+) -> Result<(), AllocError>
+    ensures { OnOk result (out.new.items
+        ≡ out.old.items ++ (prefix.now ++ (decimal number ++ suffix.now))) }
+{
+    put_between(out, prefix, Buffer::new().format(number).as_bytes(), suffix)
+}
+
+fn put_between(
+    out: &mut Vec<u8>,
+    prefix: &[u8],
+    text: &[u8],
+    suffix: &[u8],
+) -> Result<(), AllocError>
+    ensures { OnOk result (out.new.items
+        ≡ out.old.items ++ (prefix.now ++ (text.now ++ suffix.now))) }
+{
+    out.extend_from_slice(prefix)?;
+    out.extend_from_slice(text)?;
+    out.extend_from_slice(suffix)
 }
 
 fn how_text(how: How) -> &'static str
-    ensures value { result.now ≡ how_text how }
-    ensures plain { IsTrue (is_plain result.now) }
+    ensures { result.now ≡ how_text how }
 {
     match how {
         How::Funded => "FUNDED",
@@ -175,14 +209,4 @@ fn how_text(how: How) -> &'static str
         How::Failed(Failure::Switch) => "SWITCH",
         How::Abandoned => "ABANDONED",
     }
-}
-
-/// A value's text and a line feed.
-fn line_of(alloc: Global, value: &Value) -> Result<Vec<u8>, AllocError>
-    requires { has_float (view value.now) ≡ false }
-    ensures { IfOk result (λ line. line.items ≡ compact_text (view value.now) ++ 10 ∷ []) }
-{
-    let mut line = value.to_vec(alloc)?;
-    line.push(b'\n')?;
-    Ok(line)
 }

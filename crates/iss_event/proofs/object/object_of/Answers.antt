@@ -1,13 +1,16 @@
-use Rattle.std.proofs.Common.{sym, ◌∙◌, ◌≡◌, true}
-use Rattle.serde_json.specs.Errors.{IsMemory}
-use Rattle.iss_event.proofs.ObjectLemmas.{object_of_read, object_of_refused}
+use Rattle.std.proofs.Common.{◌≡◌, Option, IfOk, option_map, option_and_then, ap, ◌∙◌, subst}
+use Rattle.serde_json.specs.Data.{Data}
+use Rattle.serde_json.specs.Read.{read}
+use Rattle.iss_event.specs.Objects.{if_object}
+use Rattle.iss_event.specs.Seen.{seen}
+use Rattle.iss_event.proofs.ObjectLemmas.{of_text, of_other}
 use Rattle.iss_event.proofs.object.object_of.Goals as goal
 
-pub returns-in-Ok : goal.returns-in-Ok
-returns-in-Ok c =
-    sym (object_of_read c.args.bytes.now _ c.in-Ok.ensures.ok.0 c.in-Ok.ensures.ok.1 (sym c.is_object.ensures ∙ c.if-is_object.true))
+pub returns-in-Ok-clause-value : goal.returns-in-Ok-clause-value
+returns-in-Ok-clause-value c =
+    let text = c.in-Ok.ensures.cases in
+    subst (λ (o : Option Data). IfOk c.object_of_text.result (λ found. option_map seen found ≡ o))
+    (ap (λ t. option_and_then if_object (read t)) text.0 ∙ of_text c.args.bytes.now text.1) c.object_of_text.ensures.value
 
-pub returns-in-Err-2 : goal.returns-in-Err-2
-returns-in-Err-2 c =
-    let other : IsMemory c.in-Err.error → ⊥ = λ memory. let so : c.is_memory.result ≡ true = c.is_memory.ensures.1 memory in cc in
-    sym (object_of_refused c.args.bytes.now (c.in-Err.ensures.err other))
+pub returns-in-Err-clause-value : goal.returns-in-Err-clause-value
+returns-in-Err-clause-value c = of_other c.args.bytes.now c.in-Err.ensures.cases.0
