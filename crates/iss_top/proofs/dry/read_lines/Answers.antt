@@ -5,7 +5,7 @@ use Rattle.iss_edge.proofs.Tolds.{later_then}
 use Rattle.iss_top.specs.Statuses.{status_of}
 use Rattle.iss_top.specs.declared.stop.Stop.TheVariants as stop
 use Rattle.iss_top.proofs.ToldRuns.{told_way_goes_on, told_not_begun, told_input_fails, told_too_long, told_piece_fails, told_last_done, told_last_fails, one_too_many}
-use Rattle.iss_top.proofs.dry.dry.Goals as goal
+use Rattle.iss_top.proofs.dry.read_lines.Goals as goal
 
 pub returns-in_err-core-clause-ran : goal.returns-in_err-core-clause-ran
 returns-in_err-core-clause-ran g c =
@@ -43,7 +43,7 @@ returns-then-taken-gt-MOST_INPUT-clause-ran g c =
     let asked : c.in_ok-count.count ≤ c.room_after.result = c.in_ok-count.ensures.bound in
     let one : c.input.taken ≡ MOST_INPUT → c.room_after.result ≡ 1 = c.room_after.ensures.one_more in
     let more : c.input.taken < MOST_INPUT → c.input.taken + c.room_after.result ≤ MOST_INPUT = c.room_after.ensures.within in
-    let all_but_one : c.input.taken + c.in_ok-count.count ≡ MOST_INPUT + 1 = one_too_many c.input.taken c.in_ok-count.count c.room_after.result c.input.invariant.limit asked c.if-taken-gt-MOST.true one more in
+    let all_but_one : c.input.taken + c.in_ok-count.count ≡ MOST_INPUT + 1 = one_too_many c.input.taken c.in_ok-count.count c.room_after.result c.input.invariant.limit asked c.if-taken-gt-MOST_INPUT.true one more in
     told_too_long c.input.taken c.in_ok-count.count c.input.core.state c.input.line c.take_piece.new.buffer
     (g.E.Edge.told c.args.edge.now) (g.E.Edge.told c.input.edge) (g.E.Edge.told c.take_piece.new.edge)
     within all_but_one c.input.invariant.told c.in_ok-count.ensures.taken
@@ -63,6 +63,7 @@ pub input-preserved : goal.input-preserved
 input-preserved g c =
     let within : c.in_ok-count.count ≤ length c.take_piece.new.buffer = omega (arith, c.in_ok-count.ensures.bound) in
     record {
+      piece = omega (arith, c.input.invariant.piece);
       limit = omega arith;
       room = omega (arith, c.in_ok-core-2.ensures.room, length-take c.in_ok-count.count c.take_piece.new.buffer);
       start = c.in_ok-core-2.ensures.start;
