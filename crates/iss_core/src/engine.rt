@@ -25,7 +25,7 @@ use std::marker::Model;
 #[derive(Drop)]
 pub struct Core {
     instance: u64,
-    state: State,
+    state: Box<State>,
 }
 
 impl Model for Core {
@@ -40,9 +40,9 @@ impl Model for Core {
     ghost use Rattle.iss_core.specs.States.{state_of};
     ghost use Rattle.iss_core.specs.Sound.{IsSound};
 
-    ghost view = { λ c. record { instance = c.instance; state = state_of c.state } };
+    ghost view = { λ c. record { instance = c.instance; state = state_of c.state.value } };
 
-    ghost invariant = { λ c. IsSound (state_of c.state) };
+    ghost invariant = { λ c. IsSound (state_of c.state.value) };
 }
 
 impl Core {
@@ -54,7 +54,7 @@ impl Core {
     {
         Ok(Core {
             instance,
-            state: State::new(alloc)?,
+            state: Box::new(alloc, State::new(alloc)?)?,
         })
     }
 

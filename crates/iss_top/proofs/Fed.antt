@@ -1,102 +1,129 @@
 -- Pieces of input, taken in one after the other.
-use Rattle.std.proofs.Common.{◌≡◌, ℕ, ◌+◌, ◌<◌, false, nat_eq, List, [], ◌∷◌, ◌++◌, length, get_or, take, drop, refl, sym, ap, subst, ◌∙◌, append_assoc}
-use Rattle.std.proofs.lemmas.List.{take-append-drop, take_more}
+use Rattle.std.proofs.Common.{◌≡◌, ℕ, true, false, nat_eq, List, [], ◌∷◌, ◌++◌, length, fold, refl, sym, ap, ◌∙◌, append_assoc, arith}
+use Rattle.std.proofs.lemmas.Bool.{eqb-true}
 use Rattle.iss_edge.specs.World.{World}
 use Rattle.iss_model.specs.state.Cores.{CoreState}
-use Rattle.iss_top.specs.Lines.{kept_with}
+use Rattle.iss_top.specs.Lines.{has_line_feed, kept_with}
 use Rattle.iss_top.specs.Progress.{line_text, line_next, text_to_come, Says, SaysPrefix, Fed, FedPart}
 use Rattle.iss_top.proofs.Saying.{says_nothing, says_then}
-use Rattle.iss_top.proofs.Feeding.{to_come-kept, to_come-end}
+use Rattle.iss_top.proofs.Feeding.{to_come-run, to_come-kept_run, to_come-end}
 
--- nothing was taken in yet
-pub fed_nothing : (h : CoreState) (line : List ℕ) (a : World) → Fed h line [] h line a a
-fed_nothing h line a = record { text = []; says = says_nothing a; onward = λ rest. refl }
+-- bytes that end no line were kept
+pub fed_run : (h : CoreState) (line bytes : List ℕ) (a : World) → has_line_feed bytes ≡ false → Fed h line bytes h (fold kept_with line bytes) a a
+fed_run h line bytes a e = record { text = []; says = says_nothing a; onward = λ rest. to_come-kept_run h line bytes rest e }
 
--- a byte was kept
-pub fed_byte : (h : CoreState) (line : List ℕ) (b : ℕ) (a : World) → nat_eq b 10 ≡ false → Fed h line (b ∷ []) h (kept_with line b) a a
-fed_byte h line b a e = record { text = []; says = says_nothing a; onward = λ rest. to_come-kept h line b rest e }
+-- a line with these bytes after it is told what this line is told
+abbrev pub IsToldAs : CoreState → List ℕ → List ℕ → List ℕ → Type 0
+IsToldAs h line bytes said = (rest : List ℕ) → text_to_come h line (bytes ++ rest) ≡ text_to_come h said rest
+
+none_left : (line : List ℕ) → nat_eq (length line) 0 ≡ true → line ≡ []
+none_left [] e = refl
+none_left (b ∷ bs) e = absurd (omega (arith, eqb-true (length (b ∷ bs)) 0 e))
+
+-- a line that nothing came of
+pub empty_line : (line shown : List ℕ) → shown ≡ line → nat_eq (length shown) 0 ≡ true → line ≡ []
+empty_line line shown same e = sym same ∙ none_left shown e
+
+-- what came whole is the line
+pub told_as_whole : (h : CoreState) (line bytes : List ℕ) → line ≡ [] → has_line_feed bytes ≡ false → IsToldAs h line bytes bytes
+told_as_whole h line bytes empty e = λ rest. rw empty (to_come-run h [] bytes rest e)
+
+-- what is kept is told as the line
+pub told_as_kept : (h : CoreState) (line bytes said : List ℕ) → said ≡ fold kept_with line bytes → has_line_feed bytes ≡ false → IsToldAs h line bytes said
+told_as_kept h line bytes said kept e = λ rest. rw kept (to_come-kept_run h line bytes rest e)
+
+ended : (h : CoreState) (line bytes said rest : List ℕ) → IsToldAs h line bytes said
+    → text_to_come h line ((bytes ++ 10 ∷ []) ++ rest) ≡ line_text h said ++ text_to_come (line_next h said) [] rest
+ended h line bytes said rest same = ap (text_to_come h line) (append_assoc bytes (10 ∷ []) rest) ∙ same (10 ∷ rest) ∙ to_come-end h said rest
 
 -- a line ended and was told
-pub fed_end : (h : CoreState) (line : List ℕ) (a b : World) → Says (line_text h line) a b → Fed h line (10 ∷ []) (line_next h line) [] a b
-fed_end h line a b s = record { text = line_text h line; says = s; onward = λ rest. to_come-end h line rest }
-
--- nothing went out
-pub part_nothing : (h : CoreState) (line piece : List ℕ) (a : World) → FedPart h line piece a a
-part_nothing h line piece a =
-    record { text = []; says = says_nothing a; onward = λ rest. record { back = text_to_come h line (piece ++ rest); cut = refl } }
+pub fed_line : (h : CoreState) (line bytes said : List ℕ) (a b : World) → IsToldAs h line bytes said → Says (line_text h said) a b
+    → Fed h line (bytes ++ 10 ∷ []) (line_next h said) [] a b
+fed_line h line bytes said a b same s = record { text = line_text h said; says = s; onward = λ rest. ended h line bytes said rest same }
 
 -- a line ended, and a prefix of what it is told went out
-pub part_end : (h : CoreState) (line : List ℕ) (a b : World) → SaysPrefix (line_text h line) a b → FedPart h line (10 ∷ []) a b
-part_end h line a b s =
+pub part_line : (h : CoreState) (line bytes said : List ℕ) (a b : World) → IsToldAs h line bytes said → SaysPrefix (line_text h said) a b
+    → FedPart h line (bytes ++ 10 ∷ []) a b
+part_line h line bytes said a b same s =
     record {
       text = s.prefix;
       says = s.says;
       onward =
           λ rest.
           record {
-            back = s.back ++ text_to_come (line_next h line) [] rest;
+            back = s.back ++ text_to_come (line_next h said) [] rest;
             cut =
-                to_come-end h line rest
-                ∙ ap (λ (t : List ℕ). t ++ text_to_come (line_next h line) [] rest) s.cut
-                ∙ append_assoc s.prefix s.back (text_to_come (line_next h line) [] rest);
+                ended h line bytes said rest same
+                ∙ ap (λ (t : List ℕ). t ++ text_to_come (line_next h said) [] rest) s.cut
+                ∙ append_assoc s.prefix s.back (text_to_come (line_next h said) [] rest);
           };
     }
 
-pub fed_then : (h h1 h2 : CoreState) (l l1 l2 p q : List ℕ) (a b c : World) → Fed h l p h1 l1 a b → Fed h1 l1 q h2 l2 b c → Fed h l (p ++ q) h2 l2 a c
-fed_then h h1 h2 l l1 l2 p q a b c f g =
+-- nothing went out
+pub part_nothing : (h : CoreState) (line piece : List ℕ) (a : World) → FedPart h line piece a a
+part_nothing h line piece a =
+    record { text = []; says = says_nothing a; onward = λ rest. record { back = text_to_come h line (piece ++ rest); cut = refl } }
+
+-- a piece was taken in but for these last bytes
+pub record FedUpTo (s : CoreState) (line piece : List ℕ) (s' : CoreState) (line' last : List ℕ) (a b : World) : Type 0 where
+  pub text : List ℕ
+  pub says : Says text a b
+  pub onward : (rest : List ℕ) → text_to_come s line (piece ++ rest) ≡ text ++ text_to_come s' line' (last ++ rest)
+
+pub upto_begins : (h : CoreState) (line piece : List ℕ) (a : World) → FedUpTo h line piece h line piece a a
+upto_begins h line piece a = record { text = []; says = says_nothing a; onward = λ rest. refl }
+
+-- where the bytes that are left are these and those, and these are the next
+next_of : (h1 : CoreState) (l1 text p q last rest : List ℕ) → last ≡ p ++ q → text ++ text_to_come h1 l1 (last ++ rest) ≡ text ++ text_to_come h1 l1 (p ++ (q ++ rest))
+next_of h1 l1 text p q last rest cut = ap (λ (x : List ℕ). text ++ text_to_come h1 l1 (x ++ rest)) cut ∙ ap (λ (x : List ℕ). text ++ text_to_come h1 l1 x) (append_assoc p q rest)
+
+pub upto_then : (h h1 h2 : CoreState) (l l1 l2 piece p q last : List ℕ) (a b c : World) → last ≡ p ++ q
+    → FedUpTo h l piece h1 l1 last a b → Fed h1 l1 p h2 l2 b c → FedUpTo h l piece h2 l2 q a c
+upto_then h h1 h2 l l1 l2 piece p q last a b c cut f g =
     record {
       text = f.text ++ g.text;
       says = says_then f.text g.text a b c f.says g.says;
       onward =
           λ rest.
-          ap (text_to_come h l) (append_assoc p q rest)
-          ∙ f.onward (q ++ rest)
+          f.onward rest
+          ∙ next_of h1 l1 f.text p q last rest cut
+          ∙ ap (λ (t : List ℕ). f.text ++ t) (g.onward (q ++ rest))
+          ∙ sym (append_assoc f.text g.text (text_to_come h2 l2 (q ++ rest)));
+    }
+
+-- in the next bytes something went wrong
+pub upto_part : (h h1 : CoreState) (l l1 piece p q last : List ℕ) (a b c : World) → last ≡ p ++ q
+    → FedUpTo h l piece h1 l1 last a b → FedPart h1 l1 p b c → FedPart h l piece a c
+upto_part h h1 l l1 piece p q last a b c cut f g =
+    record {
+      text = f.text ++ g.text;
+      says = says_then f.text g.text a b c f.says g.says;
+      onward =
+          λ rest.
+          record {
+            back = (g.onward (q ++ rest)).back;
+            cut =
+                f.onward rest
+                ∙ next_of h1 l1 f.text p q last rest cut
+                ∙ ap (λ (t : List ℕ). f.text ++ t) (g.onward (q ++ rest)).cut
+                ∙ sym (append_assoc f.text g.text (g.onward (q ++ rest)).back);
+          };
+    }
+
+-- the last bytes were taken in
+pub upto_ends : (h h1 h2 : CoreState) (l l1 l2 piece last : List ℕ) (a b c : World) → FedUpTo h l piece h1 l1 last a b → Fed h1 l1 last h2 l2 b c → Fed h l piece h2 l2 a c
+upto_ends h h1 h2 l l1 l2 piece last a b c f g =
+    record {
+      text = f.text ++ g.text;
+      says = says_then f.text g.text a b c f.says g.says;
+      onward =
+          λ rest.
+          f.onward rest
           ∙ ap (λ (t : List ℕ). f.text ++ t) (g.onward rest)
           ∙ sym (append_assoc f.text g.text (text_to_come h2 l2 rest));
     }
 
-pub part_then : (h h1 : CoreState) (l l1 p q : List ℕ) (a b c : World) → Fed h l p h1 l1 a b → FedPart h1 l1 q b c → FedPart h l (p ++ q) a c
-part_then h h1 l l1 p q a b c f g =
-    record {
-      text = f.text ++ g.text;
-      says = says_then f.text g.text a b c f.says g.says;
-      onward =
-          λ rest.
-          record {
-            back = (g.onward rest).back;
-            cut =
-                ap (text_to_come h l) (append_assoc p q rest)
-                ∙ f.onward (q ++ rest)
-                ∙ ap (λ (t : List ℕ). f.text ++ t) (g.onward rest).cut
-                ∙ sym (append_assoc f.text g.text (g.onward rest).back);
-          };
-    }
-
--- a prefix of a piece is a part of it
-pub part_more : (h : CoreState) (l p more : List ℕ) (a b : World) → FedPart h l p a b → FedPart h l (p ++ more) a b
-part_more h l p more a b f =
-    record {
-      text = f.text;
-      says = f.says;
-      onward =
-          λ rest.
-          record {
-            back = (f.onward (more ++ rest)).back;
-            cut = ap (text_to_come h l) (append_assoc p more rest) ∙ (f.onward (more ++ rest)).cut;
-          };
-    }
-
--- one byte further in a piece
-pub fed_further : (h h1 h2 : CoreState) (l l1 l2 piece : List ℕ) (i x : ℕ) (a b c : World) → i < length piece → x ≡ get_or piece i 0
-    → Fed h l (take i piece) h1 l1 a b → Fed h1 l1 (x ∷ []) h2 l2 b c → Fed h l (take (i + 1) piece) h2 l2 a c
-fed_further h h1 h2 l l1 l2 piece i x a b c below is f g =
-    let next : take i piece ++ x ∷ [] ≡ take (i + 1) piece = ap (λ y. take i piece ++ y ∷ []) is ∙ sym (take_more piece i 0 below) in
-    subst (λ (p : List ℕ). Fed h l p h2 l2 a c) next (fed_then h h1 h2 l l1 l2 (take i piece) (x ∷ []) a b c f g)
-
--- at a byte of a piece something went wrong
-pub part_at : (h h1 : CoreState) (l l1 piece : List ℕ) (i x : ℕ) (a b c : World) → i < length piece → x ≡ get_or piece i 0
-    → Fed h l (take i piece) h1 l1 a b → FedPart h1 l1 (x ∷ []) b c → FedPart h l piece a c
-part_at h h1 l l1 piece i x a b c below is f g =
-    let next : take i piece ++ x ∷ [] ≡ take (i + 1) piece = ap (λ y. take i piece ++ y ∷ []) is ∙ sym (take_more piece i 0 below) in
-    let so_far : FedPart h l (take (i + 1) piece) a c = subst (λ (p : List ℕ). FedPart h l p a c) next (part_then h h1 l l1 (take i piece) (x ∷ []) a b c f g) in
-    subst (λ (p : List ℕ). FedPart h l p a c) (take-append-drop (i + 1) piece) (part_more h l (take (i + 1) piece) (drop (i + 1) piece) a c so_far)
+-- the last bytes weren't taken in
+pub upto_stops : (h h1 : CoreState) (l l1 piece last : List ℕ) (a b : World) → FedUpTo h l piece h1 l1 last a b → FedPart h l piece a b
+upto_stops h h1 l l1 piece last a b f =
+    record { text = f.text; says = f.says; onward = λ rest. record { back = text_to_come h1 l1 (last ++ rest); cut = f.onward rest } }

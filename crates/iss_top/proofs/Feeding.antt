@@ -1,5 +1,5 @@
 -- How the text to come shortens with each byte of the input.
-use Rattle.std.proofs.Common.{◌≡◌, ℕ, ◌+◌, ◌-◌, ◌*◌, ◌<◌, ◌≤◌, Bool, true, false, cond, ◌&&◌, nat_eq, nat_lt, List, [], ◌∷◌, ◌++◌, length, take, fold, unwrap_or, Err, refl, sym, ap, ◌∙◌, append-nil, append_assoc, arith, length-append}
+use Rattle.std.proofs.Common.{◌≡◌, ℕ, ◌+◌, ◌-◌, ◌*◌, ◌<◌, ◌≤◌, Bool, true, false, cond, ◌&&◌, ◌||◌, nat_eq, nat_lt, List, [], ◌∷◌, ◌++◌, length, take, fold, unwrap_or, Err, refl, sym, ap, ◌∙◌, append-nil, append_assoc, arith, length-append}
 use Rattle.std.specs.Prelude.{Option, Result, Ok}
 use Rattle.std.proofs.lemmas.List.{length-take}
 use Rattle.std.proofs.lemmas.List.Folds.{list_all-append}
@@ -22,7 +22,7 @@ use Rattle.iss_event.specs.declared.line.Line.{Line}
 use Rattle.iss_event.specs.declared.line.FormFault.{FormFault}
 use Rattle.iss_event.specs.Readings.{line_read}
 use Rattle.iss_event.proofs.LeastLine.{least_line}
-use Rattle.iss_top.specs.Lines.{is_blank_byte, is_blank, onto_first, parts_of, kept_with}
+use Rattle.iss_top.specs.Lines.{has_line_feed, is_blank_byte, is_blank, onto_first, parts_of, kept_with}
 use Rattle.iss_top.specs.Dry.{reading_of, as_reading, reply_of_line}
 use Rattle.iss_top.specs.Progress.{line_text, line_next, lines_text, text_to_come}
 
@@ -32,7 +32,7 @@ onto_first-append a b [] = refl
 onto_first-append a b (p ∷ ps) = ap (λ (q : List ℕ). q ∷ ps) (sym (append_assoc a b p))
 
 -- a byte that ends no line goes after the line
-pub to_come-byte : (h : CoreState) (line : List ℕ) (b : ℕ) (rest : List ℕ) → nat_eq b 10 ≡ false → text_to_come h line (b ∷ rest) ≡ text_to_come h (line ++ b ∷ []) rest
+to_come-byte : (h : CoreState) (line : List ℕ) (b : ℕ) (rest : List ℕ) → nat_eq b 10 ≡ false → text_to_come h line (b ∷ rest) ≡ text_to_come h (line ++ b ∷ []) rest
 unfolding text_to_come
 to_come-byte h line b rest e =
     ap (λ (t : Bool). lines_text h (onto_first line (cond t ([] ∷ parts_of rest) (onto_first (b ∷ []) (parts_of rest))))) e
@@ -141,7 +141,7 @@ to_come-kept_as h line b rest false e =
     to_come-alike h _ (line ++ b ∷ []) rest (kept_long line b long (is_blank_byte b) refl)
 
 -- a byte that ends no line goes after what is kept of the line
-pub to_come-kept : (h : CoreState) (line : List ℕ) (b : ℕ) (rest : List ℕ) → nat_eq b 10 ≡ false → text_to_come h line (b ∷ rest) ≡ text_to_come h (kept_with line b) rest
+to_come-kept : (h : CoreState) (line : List ℕ) (b : ℕ) (rest : List ℕ) → nat_eq b 10 ≡ false → text_to_come h line (b ∷ rest) ≡ text_to_come h (kept_with line b) rest
 to_come-kept h line b rest e =
     to_come-byte h line b rest e ∙ sym (to_come-kept_as h line b rest (nat_lt (length line) 16385) refl)
 
@@ -151,8 +151,35 @@ length-kept_as line b false true = omega arith
 length-kept_as line b false false =
     omega (arith, length-append {A = ℕ} (take (length line - 1) line) (b ∷ []), length-take (length line - 1) line)
 
-pub length-kept : (line : List ℕ) (b : ℕ) → length (kept_with line b) ≤ length line + 1
+length-kept : (line : List ℕ) (b : ℕ) → length (kept_with line b) ≤ length line + 1
 length-kept line b = length-kept_as line b (nat_lt (length line) 16385) (is_blank_byte b)
+
+pub length-kept_run : (line bytes : List ℕ) → length (fold kept_with line bytes) ≤ length line + length bytes
+length-kept_run line [] = omega arith
+length-kept_run line (b ∷ bs) = omega (arith, length-kept line b, length-kept_run (kept_with line b) bs)
+
+neither_first : (s t : Bool) → (s || t) ≡ false → s ≡ false
+neither_first true t e = e
+neither_first false t e = refl
+
+neither_second : (s t : Bool) → (s || t) ≡ false → t ≡ false
+neither_second true t e = cc
+neither_second false t e = e
+
+-- bytes that end no line go after the line
+pub to_come-run : (h : CoreState) (line bytes rest : List ℕ) → has_line_feed bytes ≡ false → text_to_come h line (bytes ++ rest) ≡ text_to_come h (line ++ bytes) rest
+to_come-run h line [] rest e = ap (λ (l : List ℕ). text_to_come h l rest) (sym (append-nil line))
+to_come-run h line (b ∷ bs) rest e =
+    to_come-byte h line b (bs ++ rest) (neither_first (nat_eq b 10) (has_line_feed bs) e)
+    ∙ to_come-run h (line ++ b ∷ []) bs rest (neither_second (nat_eq b 10) (has_line_feed bs) e)
+    ∙ ap (λ (l : List ℕ). text_to_come h l rest) (append_assoc line (b ∷ []) bs)
+
+-- and after what is kept of the line
+pub to_come-kept_run : (h : CoreState) (line bytes rest : List ℕ) → has_line_feed bytes ≡ false → text_to_come h line (bytes ++ rest) ≡ text_to_come h (fold kept_with line bytes) rest
+to_come-kept_run h line [] rest e = refl
+to_come-kept_run h line (b ∷ bs) rest e =
+    to_come-kept h line b (bs ++ rest) (neither_first (nat_eq b 10) (has_line_feed bs) e)
+    ∙ to_come-kept_run h (kept_with line b) bs rest (neither_second (nat_eq b 10) (has_line_feed bs) e)
 
 -- what falls due makes entries and no record
 due_count : (at : ℕ) (items : List DueItem) (g : Growth CoreState) → (fold (settle core_keeper at) g items).world.count ≡ g.world.count

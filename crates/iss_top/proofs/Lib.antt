@@ -1,5 +1,7 @@
 pub mod ReplyLemmas
 pub mod Feeding
+pub mod Keeping
+pub mod Finding
 pub mod Saying
 pub mod Fed
 pub mod ToldFed

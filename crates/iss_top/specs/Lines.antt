@@ -1,7 +1,7 @@
 -- The lines of a list of bytes.
 use Rattle.std.specs.Prelude.{ℕ, ◌-◌, Bool, not, ◌==◌, ◌||◌, nat_lt, List, [], ◌∷◌, ◌++◌, length, take, filter, if◌then◌else◌}
 use Rattle.iss_top.specs.declared.buffer.TheConstants.{KEPT}
-use Rattle.std.specs.List.{list_all}
+use Rattle.std.specs.List.{list_all, list_any}
 
 -- a space, a tab or a carriage return
 abbrev pub is_blank_byte : ℕ → Bool
@@ -9,6 +9,10 @@ is_blank_byte b = b == 32 || b == 9 || b == 13
 
 abbrev pub is_blank : List ℕ → Bool
 is_blank line = list_all is_blank_byte line
+
+-- whether a line ends in these bytes
+abbrev pub has_line_feed : List ℕ → Bool
+has_line_feed bytes = list_any (λ b. b == 10) bytes
 
 -- these bytes before the first part
 abbrev pub onto_first : List ℕ → List (List ℕ) → List (List ℕ)

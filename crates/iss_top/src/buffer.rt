@@ -1,5 +1,5 @@
 //! The line that is being read.
-ghost use Rattle.std.specs.Prelude.{◌≡◌, ◌≤◌, ◌+◌, [], length, OnOk};
+ghost use Rattle.std.specs.Prelude.{◌≡◌, ◌≤◌, ◌+◌, [], length, fold, OnOk};
 ghost use Rattle.iss_top.specs.Lines.{is_blank_byte, is_blank, kept_with};
 
 use iss_model::limits::LONGEST_LINE;
@@ -32,11 +32,14 @@ impl LineBuffer {
         }
     }
 
-    /// Takes one more byte of the line.
-    pub(crate) fn push(&mut self, byte: u8) -> Result<(), AllocError>
-        ensures { OnOk result (self.new ≡ kept_with self.old byte) }
+    /// Takes more bytes of the line.
+    pub(crate) fn extend(&mut self, bytes: &[u8]) -> Result<(), AllocError>
+        ensures { OnOk result (self.new ≡ fold kept_with self.old bytes.now) }
     {
-        push_kept(&mut self.bytes, byte)
+        let room = KEPT.saturating_sub(self.bytes.len());
+        let (short, long) = bytes.split_at(room.min(bytes.len()));
+        self.bytes.extend_from_slice(short)?;
+        push_long(&mut self.bytes, long)
     }
 
     /// Begins the next line.
@@ -51,6 +54,16 @@ impl LineBuffer {
     {
         &self.bytes
     }
+}
+
+/// Takes the bytes of a line that may be longer than what is kept.
+fn push_long(line: &mut Vec<u8>, bytes: &[u8]) -> Result<(), AllocError>
+    ensures { OnOk result (line.new.items ≡ fold kept_with line.old.items bytes.now) }
+{
+    for byte in bytes {
+        push_kept(line, *byte)?;
+    }
+    Ok(())
 }
 
 fn push_kept(line: &mut Vec<u8>, byte: u8) -> Result<(), AllocError>

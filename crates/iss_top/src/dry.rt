@@ -12,22 +12,38 @@ use crate::stop::Stop;
 use iss_core::Core;
 use iss_edge::{Channel, Edge};
 use iss_model::limits::MOST_INPUT;
-use std::alloc::Global;
+use std::alloc::{AllocError, Global};
 
 /// The most bytes that are taken at once.
-const PIECE: usize = 4096;
+const PIECE: usize = 65536;
 
 /// Reads lines to the end of the input and writes their replies.
 pub(crate) fn dry<E: Edge>(alloc: Global, edge: &mut E) -> Result<(), Stop>
     ensures ran { Told (DryRun (status_of result)) (E.told edge.old) (E.told edge.new) }
     ensures caused { IsCaused (E.faults edge.old) (E.faults edge.new) result }
 {
+    let mut buffer = zeros(alloc, PIECE)?;
+    read_lines(alloc, edge, &mut buffer)
+}
+
+fn zeros(alloc: Global, len: usize) -> Result<Vec<u8>, AllocError>
+    ensures { IfOk result (λ bytes. length bytes.items ≡ len) }
+{
+    let bytes = vec![in alloc; 0; len]?;
+    Ok(bytes)
+}
+
+/// Reads lines to the end of the input, in pieces that the buffer has room for, and writes their replies.
+fn read_lines<E: Edge>(alloc: Global, edge: &mut E, buffer: &mut [u8]) -> Result<(), Stop>
+    requires piece { length buffer.old ≡ PIECE }
+    ensures ran { Told (DryRun (status_of result)) (E.told edge.old) (E.told edge.new) }
+    ensures caused { IsCaused (E.faults edge.old) (E.faults edge.new) result }
+{
     let mut core = Core::new(alloc, 0)?;
     let mut line = LineBuffer::new(alloc);
-    let mut buffer = [0; PIECE];
     let mut taken = 0;
     'input: loop {
-        let count = take_piece(edge, &mut buffer, room_after(taken))?;
+        let count = take_piece(edge, buffer, room_after(taken))?;
         if count == 0 {
             send_reply(alloc, core, line.as_slice(), edge)?;
             return Ok(());

@@ -1,6 +1,7 @@
-//! The input, byte by byte.
-ghost use Rattle.std.specs.Prelude.{◌≡◌, ◌+◌, ◌*◌, ◌^◌, ◌≤◌, [], ◌∷◌, length, IfOk, OnErr};
+//! The input, line by line.
+ghost use Rattle.std.specs.Prelude.{◌≡◌, ◌+◌, ◌*◌, ◌^◌, ◌≤◌, [], ◌∷◌, ◌++◌, false, length, IfOk, OnErr};
 ghost use Rattle.iss_edge.specs.World.{Told};
+ghost use Rattle.iss_top.specs.Lines.{has_line_feed};
 ghost use Rattle.iss_top.specs.Progress.{Fed, FedPart, IsReplying};
 ghost use Rattle.iss_top.specs.Start.{IsAtStart};
 
@@ -9,6 +10,7 @@ use crate::replying::send_reply;
 use crate::stop::Stop;
 use iss_core::Core;
 use iss_edge::Edge;
+use memchr::memchr;
 use std::alloc::Global;
 
 /// Takes in a piece of the input: each line that ends in it gets its reply. Returns the core after it.
@@ -30,53 +32,40 @@ pub(crate) fn feed<E: Edge>(
     ensures start { IfOk result (λ next. IsAtStart next.state) }
 {
     let mut next = core;
-    for byte in piece {
-        next = feed_byte(alloc, next, line, edge, *byte)?;
+    let mut rest = piece;
+    'lines: while let Some(at) = memchr(b'\n', rest) {
+        next = end_line(alloc, next, line, edge, &rest[..at])?;
+        rest = &rest[at + 1..];
     }
+    line.extend(rest)?;
     Ok(next)
 }
 
-fn feed_byte<E: Edge>(
-    alloc: Global,
-    core: Core,
-    line: &mut LineBuffer,
-    edge: &mut E,
-    byte: u8,
-) -> Result<Core, Stop>
-    requires room { 5 * core.state.count + length line.old + 1 ≤ 2 ^ 32 }
-    requires start { IsAtStart core.state }
-    ensures fed { IfOk result (λ next.
-        Told (Fed core.state line.old (byte ∷ []) next.state line.new) (E.told edge.old) (E.told edge.new)) }
-    ensures part { OnErr result (Told (FedPart core.state line.old (byte ∷ [])) (E.told edge.old) (E.told edge.new)) }
-    ensures replying { IsReplying (E.faults edge.old) (E.faults edge.new) result }
-    ensures room { IfOk result (λ next. 5 * next.state.count + length line.new
-        ≤ 5 * core.state.count + length line.old + 1) }
-    ensures start { IfOk result (λ next. IsAtStart next.state) }
-{
-    if byte == b'\n' {
-        return end_line(alloc, core, line, edge);
-    }
-    line.push(byte)?;
-    Ok(core)
-}
-
+/// Takes in the last bytes of a line, and the line feed after them. A line that lies whole in a piece isn't copied.
 fn end_line<E: Edge>(
     alloc: Global,
     core: Core,
     line: &mut LineBuffer,
     edge: &mut E,
+    bytes: &[u8],
 ) -> Result<Core, Stop>
-    requires room { 5 * core.state.count + length line.old + 1 ≤ 2 ^ 32 }
+    requires room { 5 * core.state.count + length line.old + length bytes.now + 1 ≤ 2 ^ 32 }
     requires start { IsAtStart core.state }
+    requires one_line { has_line_feed bytes.now ≡ false }
     ensures fed { IfOk result (λ next.
-        Told (Fed core.state line.old (10 ∷ []) next.state line.new) (E.told edge.old) (E.told edge.new)) }
-    ensures part { OnErr result (Told (FedPart core.state line.old (10 ∷ [])) (E.told edge.old) (E.told edge.new)) }
+        Told (Fed core.state line.old (bytes.now ++ 10 ∷ []) next.state line.new) (E.told edge.old) (E.told edge.new)) }
+    ensures part { OnErr result (Told (FedPart core.state line.old (bytes.now ++ 10 ∷ [])) (E.told edge.old) (E.told edge.new)) }
     ensures replying { IsReplying (E.faults edge.old) (E.faults edge.new) result }
     ensures room { IfOk result (λ next. 5 * next.state.count + length line.new
-        ≤ 5 * core.state.count + length line.old + 1) }
+        ≤ 5 * core.state.count + length line.old + length bytes.now + 1) }
     ensures start { IfOk result (λ next. IsAtStart next.state) }
 {
-    let next = send_reply(alloc, core, line.as_slice(), edge)?;
+    let next = if line.as_slice().is_empty() {
+        send_reply(alloc, core, bytes, edge)?
+    } else {
+        line.extend(bytes)?;
+        send_reply(alloc, core, line.as_slice(), edge)?
+    };
     line.clear();
     Ok(next)
 }

@@ -11,4 +11,4 @@ returns-clause-on_book c = λ rs stands.
     let bits : to_z w64 (of_z w64 c.balance.result) ≡ c.balance.result = grind (arith, to_z-of_z) in
     bits
     ∙ told_on_book c.args.self.now rs (λ (f : Facts). balance_in f c.args.account.now) c.balance.result stands
-    (c.balance.ensures ∙ ap (λ x. kept_at x.state.balances (account_key c.args.account.now)) c.self.view_is)
+    (rw c.deref.ensures at c.balance.ensures ∙ ap (λ x. kept_at x.state.balances (account_key c.args.account.now)) c.self.view_is)

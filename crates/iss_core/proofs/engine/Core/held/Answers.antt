@@ -11,4 +11,4 @@ returns-clause-on_book c = λ rs stands.
     let bits : to_z w64 (of_z w64 c.held_by.result) ≡ c.held_by.result = grind (arith, to_z-of_z) in
     bits
     ∙ told_on_book c.args.self.now rs (λ (f : Facts). held_in f c.args.user.now c.args.currency) c.held_by.result stands
-    (c.held_by.ensures ∙ ap (λ x. kept_at x.state.holdings.held (user_key c.args.user.now c.args.currency)) c.self.view_is)
+    (rw c.deref.ensures at c.held_by.ensures ∙ ap (λ x. kept_at x.state.holdings.held (user_key c.args.user.now c.args.currency)) c.self.view_is)

@@ -5,4 +5,6 @@ use Rattle.iss_core.proofs.engine.Core.now.Goals as goal
 
 pub returns-clause-on_book : goal.returns-clause-on_book
 returns-clause-on_book c = λ rs stands.
-    told_on_book c.args.self.now rs (λ (f : Facts). f.now) c.self.inside.state.time stands (ap (λ x. x.state.now) c.self.view_is) ∙ time_of_book rs
+    rw c.deref.ensures (
+    told_on_book c.args.self.now rs (λ (f : Facts). f.now) c.self.inside.state.value.time stands (ap (λ x. x.state.now) c.self.view_is) ∙ time_of_book rs
+    )

@@ -5,7 +5,7 @@ use Rattle.iss_edge.proofs.Tolds.{later_then}
 use Rattle.iss_top.specs.Statuses.{status_of}
 use Rattle.iss_top.specs.declared.stop.Stop.TheVariants as stop
 use Rattle.iss_top.proofs.ToldRuns.{told_way_goes_on, told_not_begun, told_input_fails, told_too_long, told_piece_fails, told_last_done, told_last_fails, one_too_many}
-use Rattle.iss_top.proofs.dry.dry.Goals as goal
+use Rattle.iss_top.proofs.dry.read_lines.Goals as goal
 
 pub returns-in_err-core-clause-ran : goal.returns-in_err-core-clause-ran
 returns-in_err-core-clause-ran g c =
@@ -63,6 +63,7 @@ pub input-preserved : goal.input-preserved
 input-preserved g c =
     let within : c.in_ok-count.count ≤ length c.take_piece.new.buffer = omega (arith, c.in_ok-count.ensures.bound) in
     record {
+      piece = omega (arith, c.input.invariant.piece);
       limit = omega arith;
       room = omega (arith, c.in_ok-core-2.ensures.room, length-take c.in_ok-count.count c.take_piece.new.buffer);
       start = c.in_ok-core-2.ensures.start;
