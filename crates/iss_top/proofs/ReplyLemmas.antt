@@ -72,6 +72,10 @@ no_time : (i : Input) → is_built i ≡ true → said_of_time i ≡ []
 no_time input.Time h = cc
 no_time _ h = refl
 
+-- what is added to an empty text is all of it
+pub added_to_nothing : (before text added : List ℕ) → before ≡ [] → text ≡ before ++ added → text ≡ added
+added_to_nothing before text added empty e = e ∙ ap (λ (xs : List ℕ). xs ++ added) empty
+
 -- an input that isn't new changes nothing, and is told its answer
 pub answer_tells : (s : CoreState) (i : Input) (at : Option ℕ) (stamp : ℕ) (a : Answer) (text : List ℕ) → stamp ≡ unwrap_or at 0 → judged.Told a ≡ judge core_keeper s i stamp → text ≡ answer_text a
     → Replies (after_line core_keeper s (sound i at)) s text

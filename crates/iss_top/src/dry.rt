@@ -9,6 +9,7 @@ use crate::buffer::LineBuffer;
 use crate::feed::feed;
 use crate::replying::send_reply;
 use crate::stop::Stop;
+use crate::workspace::Workspace;
 use iss_core::Core;
 use iss_edge::{Channel, Edge};
 use iss_model::limits::MOST_INPUT;
@@ -41,18 +42,26 @@ fn read_lines<E: Edge>(alloc: Global, edge: &mut E, buffer: &mut [u8]) -> Result
 {
     let mut core = Core::new(alloc, 0)?;
     let mut line = LineBuffer::new(alloc);
+    let mut workspace = Workspace::new(alloc);
     let mut taken = 0;
     'input: loop {
         let count = take_piece(edge, buffer, room_after(taken))?;
         if count == 0 {
-            send_reply(alloc, core, line.as_slice(), edge)?;
+            send_reply(alloc, core, line.as_slice(), &mut workspace, edge)?;
             return Ok(());
         }
         taken += count as u64;
         if taken > MOST_INPUT {
             return Err(Stop::InputLong);
         }
-        core = feed(alloc, core, &mut line, edge, &buffer[..count])?;
+        core = feed(
+            alloc,
+            core,
+            &mut line,
+            &mut workspace,
+            edge,
+            &buffer[..count],
+        )?;
     }
 }
 

@@ -8,6 +8,7 @@ ghost use Rattle.iss_top.specs.Start.{IsAtStart};
 use crate::buffer::LineBuffer;
 use crate::replying::send_reply;
 use crate::stop::Stop;
+use crate::workspace::Workspace;
 use iss_core::Core;
 use iss_edge::Edge;
 use memchr::memchr;
@@ -18,6 +19,7 @@ pub(crate) fn feed<E: Edge>(
     alloc: Global,
     core: Core,
     line: &mut LineBuffer,
+    workspace: &mut Workspace,
     edge: &mut E,
     piece: &[u8],
 ) -> Result<Core, Stop>
@@ -34,7 +36,7 @@ pub(crate) fn feed<E: Edge>(
     let mut next = core;
     let mut rest = piece;
     'lines: while let Some(at) = memchr(b'\n', rest) {
-        next = end_line(alloc, next, line, edge, &rest[..at])?;
+        next = end_line(alloc, next, line, workspace, edge, &rest[..at])?;
         rest = &rest[at + 1..];
     }
     line.extend(rest)?;
@@ -46,6 +48,7 @@ fn end_line<E: Edge>(
     alloc: Global,
     core: Core,
     line: &mut LineBuffer,
+    workspace: &mut Workspace,
     edge: &mut E,
     bytes: &[u8],
 ) -> Result<Core, Stop>
@@ -61,10 +64,10 @@ fn end_line<E: Edge>(
     ensures start { IfOk result (λ next. IsAtStart next.state) }
 {
     let next = if line.as_slice().is_empty() {
-        send_reply(alloc, core, bytes, edge)?
+        send_reply(alloc, core, bytes, workspace, edge)?
     } else {
         line.extend(bytes)?;
-        send_reply(alloc, core, line.as_slice(), edge)?
+        send_reply(alloc, core, line.as_slice(), workspace, edge)?
     };
     line.clear();
     Ok(next)

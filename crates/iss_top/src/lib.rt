@@ -13,6 +13,7 @@ mod format;
 mod replying;
 mod stop;
 mod words;
+mod workspace;
 
 pub use command::run;
 pub use words::{Command, Usage, command_of};

@@ -8,6 +8,7 @@ ghost use Rattle.iss_top.specs.Progress.{line_text, line_next, Says, SaysPrefix,
 use crate::answer::answer;
 use crate::buffer::is_blank;
 use crate::stop::Stop;
+use crate::workspace::Workspace;
 use iss_core::Core;
 use iss_edge::{Channel, Edge};
 use std::alloc::Global;
@@ -18,6 +19,7 @@ pub(crate) fn send_reply<E: Edge>(
     alloc: Global,
     core: Core,
     line: &[u8],
+    workspace: &mut Workspace,
     edge: &mut E,
 ) -> Result<Core, Stop>
     requires room { core.state.count < MOST_RECORDS }
@@ -31,8 +33,10 @@ pub(crate) fn send_reply<E: Edge>(
     if is_blank(line) {
         return Ok(core);
     }
-    let (core, text) = answer(alloc, core, line)?;
-    write(edge, &text)?;
+    let Workspace { scratch, text } = workspace;
+    text.clear();
+    let core = answer(alloc, core, line, scratch, text)?;
+    write(edge, text)?;
     Ok(core)
 }
 

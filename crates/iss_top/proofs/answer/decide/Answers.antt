@@ -4,7 +4,7 @@ use Rattle.std.proofs.lemmas.Result.{IfOk-weaker}
 use Rattle.iss_core.specs.Built.{is_built}
 use Rattle.iss_model.specs.Forms.{is_in_form}
 use Rattle.iss_core.proofs.Quiet.{never_clock}
-use Rattle.iss_top.proofs.ReplyLemmas.{answer_tells, record_tells, quiet_then, record_then}
+use Rattle.iss_top.proofs.ReplyLemmas.{added_to_nothing, answer_tells, record_tells, quiet_then, record_then}
 use Rattle.iss_top.proofs.answer.decide.Goals as goal
 
 pub take_up-requires-clause-input_form : goal.take_up-requires-clause-input_form
@@ -27,7 +27,7 @@ take_up-requires-clause-at_start c =
 pub returns-in-New-clause-told : goal.returns-in-New-clause-told
 returns-in-New-clause-told c =
     IfOk-weaker c.take_up.result _ _
-    (λ x records. record_tells c.args.core.state c.args.said.input c.args.said.at c.unwrap_or.result c.in-New.accepted x.0.state x.1.items c.unwrap_or.ensures
+    (λ next records. record_tells c.args.core.state c.args.said.input c.args.said.at c.unwrap_or.result c.in-New.accepted next.state c.take_up.new.text.items c.unwrap_or.ensures
     (sym c.in-New.is ∙ c.in_ok-accepted.ensures.judged) c.requires.built records)
     c.take_up.ensures.told
 
@@ -39,5 +39,6 @@ unreachable-requires c =
 
 pub returns-clause-told : goal.returns-clause-told
 returns-clause-told c =
-    answer_tells c.args.core.state c.args.said.input c.args.said.at c.unwrap_or.result c.in-Told.answer c.in_ok-text-in-Told.text.items c.unwrap_or.ensures
-    (sym c.in-Told.is ∙ c.in_ok-accepted.ensures.judged) c.in_ok-text-in-Told.ensures
+    answer_tells c.args.core.state c.args.said.input c.args.said.at c.unwrap_or.result c.in-Told.answer c.put_told.new.out.items c.unwrap_or.ensures
+    (sym c.in-Told.is ∙ c.in_ok-accepted.ensures.judged)
+    (added_to_nothing c.args.text.now.items c.put_told.new.out.items _ c.requires.empty c.in_ok-put_told-in-Told.ensures)
