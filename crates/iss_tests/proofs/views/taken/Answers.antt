@@ -2,7 +2,7 @@ use Rattle.std.proofs.Common.{refl, sym, ap, subst, ◌∙◌}
 use Rattle.iss_core.specs.Built.{is_built}
 use Rattle.iss_model.specs.Forms.{is_in_form, is_stamp}
 use Rattle.iss_core.specs.Values.{IsQuiet}
-use Rattle.iss_top.proofs.Tellings.{record_then, start_then}
+use Rattle.iss_top.proofs.ReplyLemmas.{record_then, start_then}
 use Rattle.iss_tests.proofs.views.taken.Goals as goal
 
 pub step-requires-clause-input_form : goal.step-requires-clause-input_form
