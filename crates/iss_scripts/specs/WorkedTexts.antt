@@ -56,43 +56,43 @@ RefundNoticeLine =
 abbrev pub DoneEventLine : Type 0
 DoneEventLine =
     Reads (is_done "t1")
-    "{\"event\":\"t1\",\"reply\":\"is_done\"}"
+    "{\"event\":\"t1\",\"reply\":\"done\"}"
 
 -- an event that is approved
 abbrev pub ApprovedEventLine : Type 0
 ApprovedEventLine =
     Reads (is_approved "a1")
-    "{\"event\":\"a1\",\"reply\":\"is_approved\"}"
+    "{\"event\":\"a1\",\"reply\":\"approved\"}"
 
 -- an event that a control declined
 abbrev pub DeclinedByAControlLine : Type 0
 DeclinedByAControlLine =
     Reads (is_declined "a3" (reason.Control (codes "v1")))
-    "{\"event\":\"a3\",\"reason\":\"CONTROL:v1\",\"reply\":\"is_declined\"}"
+    "{\"event\":\"a3\",\"reason\":\"CONTROL:v1\",\"reply\":\"declined\"}"
 
 -- a move that is not allowed
 abbrev pub DeclinedMoveLine : Type 0
 DeclinedMoveLine =
     Reads (is_declined "t8" (reason.MoveCard card_state.Terminated card_state.Active))
-    "{\"event\":\"t8\",\"reason\":\"MOVE:TERMINATED:ACTIVE\",\"reply\":\"is_declined\"}"
+    "{\"event\":\"t8\",\"reason\":\"MOVE:TERMINATED:ACTIVE\",\"reply\":\"declined\"}"
 
 -- a late answer
 abbrev pub LateAnswerLine : Type 0
 LateAnswerLine =
     Reads (is_late 1 how.Funded)
-    "{\"call\":1,\"reply\":\"is_late\",\"state\":\"FUNDED\"}"
+    "{\"call\":1,\"reply\":\"late\",\"state\":\"FUNDED\"}"
 
 -- an answer to a call that has timed out
 abbrev pub TimedOutCallLine : Type 0
 TimedOutCallLine =
     Reads (is_late 1 (how.Failed failure.Timeout))
-    "{\"call\":1,\"reply\":\"is_late\",\"state\":\"TIMEOUT\"}"
+    "{\"call\":1,\"reply\":\"late\",\"state\":\"TIMEOUT\"}"
 
 -- an answer to a call that was abandoned
 abbrev pub AbandonedCallLine : Type 0
 AbandonedCallLine =
     Reads (is_late 1 how.Abandoned)
-    "{\"call\":1,\"reply\":\"is_late\",\"state\":\"ABANDONED\"}"
+    "{\"call\":1,\"reply\":\"late\",\"state\":\"ABANDONED\"}"
 
 -- an answer to an unknown call
 abbrev pub UnknownCallLine : Type 0
