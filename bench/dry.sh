@@ -1,11 +1,11 @@
 #!/usr/bin/env bash
-# Lines per second and peak memory of `build/issuer dry`.
+# Lines per second, peak memory and instructions a line of `build/issuer dry`.
 #
 # Purchases: the first two lines are a user and a card. Of each ten after them, one loads 1.00 and nine authorise 0.01,
 # which the funds allow. Again: purchases of half as many lines, and then the same lines again. Repeats: one line, again
 # and again. The time is from the first line given to the last reply read. The program's own time, and its peak of memory,
 # are read then. Of nine such measurements the one with the least time of its own is shown, since the machine's speed may
-# change from one to the next.
+# change from one to the next. Instructions, which don't, are counted by valgrind for purchases, where it is there.
 set -eu -o pipefail
 cd "$(dirname "$0")/.."
 
@@ -77,22 +77,40 @@ show() {
     fi
 }
 
-# best INPUT COUNT: of nine measurements, the one with the least time of the program's own.
-best() {
-    for _ in 1 2 3 4 5 6 7 8 9; do
-        measure "$1" "$2"
-    done | sort -n -k 5,5 | head -n 1 | tee "$room/$1-$2"
+# instructions INPUT COUNT: how many the program runs for each line.
+instructions() {
+    if [ "$1" != purchases ] || ! command -v valgrind >/dev/null; then
+        echo -
+        return
+    fi
+    "$1" "$2" >"$room/lines"
+    valgrind --tool=callgrind --callgrind-out-file=/dev/null build/issuer dry <"$room/lines" 2>&1 >/dev/null |
+        awk -v lines="$2" '/Collected/ { printf "%.0f\n", $NF / lines }'
 }
 
-# ratio INPUT: how many times the least time of its own for 20000 lines the program took for 200000.
+# best INPUT COUNT: of nine measurements, the one with the least time of the program's own, and the instructions a line.
+best() {
+    local line
+    line=$(
+        for _ in 1 2 3 4 5 6 7 8 9; do
+            measure "$1" "$2"
+        done | sort -n -k 5,5 | head -n 1
+    )
+    printf '%s %12s\n' "$line" "$(instructions "$1" "$2")" | tee "$room/$1-$2"
+}
+
+# ratio INPUT: how many times the least time of its own, and the instructions, for 20000 lines the program took for 200000.
 ratio() {
     awk -v input="$1" '
-        NR == 1 { few = $5 }
-        NR == 2 { printf "%s: 200000 lines took %.1f times what 20000 took\n", input, $5 / few }
+        NR == 1 { few = $5; ran = $7 }
+        NR == 2 {
+            printf "%s: 200000 lines took %.1f times the time of 20000\n", input, $5 / few
+            if (ran > 0) printf "%s: 200000 lines took %.1f times the instructions of 20000\n", input, 10 * $7 / ran
+        }
     ' "$room/$1-20000" "$room/$1-200000"
 }
 
-printf '%-9s %8s %10s %12s %10s %10s\n' input lines seconds lines/second own 'peak MiB'
+printf '%-9s %8s %10s %12s %10s %10s %12s\n' input lines seconds lines/second own 'peak MiB' instr/line
 for count in 2000 20000 200000; do
     best purchases "$count"
 done
