@@ -157,53 +157,55 @@ fn reads_an_authorization(rt: HostRuntime) -> Result<(), Fail> {
     Ok(())
 }
 
+/// Lines with a fault, and the first one of each.
+const FAULTS: [(&str, FormFault); 12] = [
+    (r#"[{"type":"user"}]"#, FormFault::Json),
+    (
+        r#"{"type":"products","token":7,"funding":"GATEWAY"}"#,
+        FormFault::Field(Name::Kind),
+    ),
+    (r#"{"type":"group","token":7}"#, FormFault::NotBuilt),
+    (
+        r#"{"type":"move","token":"m","to":"ACTIVE"}"#,
+        FormFault::Field(Name::Card),
+    ),
+    (
+        r#"{"type":"move","token":"m","card":"c","user":"u","to":1}"#,
+        FormFault::Field(Name::User),
+    ),
+    (
+        r#"{"type":"move","token":"m","user":"u","to":"UNACTIVATED"}"#,
+        FormFault::Field(Name::To),
+    ),
+    (
+        r#"{"type":"product","token":"p","product":"x","currency":"usd"}"#,
+        FormFault::Field(Name::Currency),
+    ),
+    (
+        r#"{"type":"product","token":"p","product":"x","currency":"KWD","funding":"ACCOUNT","timeout_ms":60001}"#,
+        FormFault::Field(Name::TimeoutMs),
+    ),
+    (
+        r#"{"type":"product","token":"p","product":"x","currency":"KWD","funding":"ACCOUNT","hold_ms":86399999}"#,
+        FormFault::Field(Name::HoldMs),
+    ),
+    (
+        r#"{"type":"product","token":7,"funding":"ACCOUNT","funding":"GATEWAY"}"#,
+        FormFault::NotBuilt,
+    ),
+    (
+        r#"{"type":"product","token":7,"funding":"ACCOUNT","at":-1}"#,
+        FormFault::NotBuilt,
+    ),
+    (
+        r#"{"type":"authorization","token":"a","card":"c","currency":"JPY","amount":1,"mcc":"541x"}"#,
+        FormFault::Field(Name::Mcc),
+    ),
+];
+
 #[test]
 fn the_first_fault_of_a_line(rt: HostRuntime) -> Result<(), Fail> {
-    let lines = [
-        (r#"[{"type":"user"}]"#, FormFault::Json),
-        (
-            r#"{"type":"products","token":7,"funding":"GATEWAY"}"#,
-            FormFault::Field(Name::Kind),
-        ),
-        (r#"{"type":"group","token":7}"#, FormFault::NotBuilt),
-        (
-            r#"{"type":"move","token":"m","to":"ACTIVE"}"#,
-            FormFault::Field(Name::Card),
-        ),
-        (
-            r#"{"type":"move","token":"m","card":"c","user":"u","to":1}"#,
-            FormFault::Field(Name::User),
-        ),
-        (
-            r#"{"type":"move","token":"m","user":"u","to":"UNACTIVATED"}"#,
-            FormFault::Field(Name::To),
-        ),
-        (
-            r#"{"type":"product","token":"p","product":"x","currency":"usd"}"#,
-            FormFault::Field(Name::Currency),
-        ),
-        (
-            r#"{"type":"product","token":"p","product":"x","currency":"KWD","funding":"ACCOUNT","timeout_ms":60001}"#,
-            FormFault::Field(Name::TimeoutMs),
-        ),
-        (
-            r#"{"type":"product","token":"p","product":"x","currency":"KWD","funding":"ACCOUNT","hold_ms":86399999}"#,
-            FormFault::Field(Name::HoldMs),
-        ),
-        (
-            r#"{"type":"product","token":7,"funding":"ACCOUNT","funding":"GATEWAY"}"#,
-            FormFault::NotBuilt,
-        ),
-        (
-            r#"{"type":"product","token":7,"funding":"ACCOUNT","at":-1}"#,
-            FormFault::NotBuilt,
-        ),
-        (
-            r#"{"type":"authorization","token":"a","card":"c","currency":"JPY","amount":1,"mcc":"541x"}"#,
-            FormFault::Field(Name::Mcc),
-        ),
-    ];
-    for (text, fault) in lines {
+    for (text, fault) in FAULTS {
         assert_eq!(rt; fault_of(rt.alloc(), text)?, Some(fault));
     }
     Ok(())

@@ -140,59 +140,61 @@ fn what_is_let_go(rt: HostRuntime) -> Result<(), Fail> {
     Ok(())
 }
 
+/// Whether a call clears or releases, its amount, what it takes, and what is held after it.
+const TAKINGS: [(bool, u64, Taken, i64); 4] = [
+    (
+        true,
+        60,
+        Taken {
+            g: 50,
+            p: 10,
+            s: 0,
+            rest: 0,
+        },
+        40,
+    ),
+    (
+        false,
+        25,
+        Taken {
+            g: 0,
+            p: 10,
+            s: 15,
+            rest: 0,
+        },
+        15,
+    ),
+    (
+        true,
+        100,
+        Taken {
+            g: 0,
+            p: 0,
+            s: 15,
+            rest: 85,
+        },
+        0,
+    ),
+    (
+        false,
+        1,
+        Taken {
+            g: 0,
+            p: 0,
+            s: 0,
+            rest: 1,
+        },
+        0,
+    ),
+];
+
 #[test]
 fn what_is_taken(rt: HostRuntime) -> Result<(), Fail> {
     let Some(txn) = txn(0, "a1", "u1", Currency::Usd, 1000) else {
         return Ok(());
     };
     let mut holds = one_hold(rt.alloc(), &txn)?;
-    let calls = [
-        (
-            true,
-            60,
-            Taken {
-                g: 50,
-                p: 10,
-                s: 0,
-                rest: 0,
-            },
-            40,
-        ),
-        (
-            false,
-            25,
-            Taken {
-                g: 0,
-                p: 10,
-                s: 15,
-                rest: 0,
-            },
-            15,
-        ),
-        (
-            true,
-            100,
-            Taken {
-                g: 0,
-                p: 0,
-                s: 15,
-                rest: 85,
-            },
-            0,
-        ),
-        (
-            false,
-            1,
-            Taken {
-                g: 0,
-                p: 0,
-                s: 0,
-                rest: 1,
-            },
-            0,
-        ),
-    ];
-    for (clears, amount, taken, held) in calls {
+    for (clears, amount, taken, held) in TAKINGS {
         let found = if clears {
             clear(&mut holds, &txn.token, amount)
         } else {
