@@ -1,6 +1,6 @@
 # Needs the command rt, which proves and builds, on the PATH: `make doctor` tells what else.
 program := crates/iss_cli/out/iss_cli
-first := examples/scripts/purchase_of_all_that_was_loaded.jsonl
+first := crates/iss_cli/stdin
 sources := crates.txt HANDLES \
     $(shell find crates -name out -prune -o \( -name '*.rt' -o -name '*.antt' \) -print)
 

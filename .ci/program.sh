@@ -3,7 +3,8 @@ set -eu -o pipefail
 cd "$(dirname "${BASH_SOURCE[0]}")/.."
 
 issuer=crates/iss_cli/out/iss_cli
-first=examples/scripts/purchase_of_all_that_was_loaded
+first_in=crates/iss_cli/stdin
+first_out=crates/iss_cli/stdout
 [ -x "$issuer" ] || make issuer >&2
 
 room=$(mktemp -d)

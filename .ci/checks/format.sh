@@ -8,8 +8,8 @@ device=$room/device
 
 # run_format WORDS..: runs the program, which reads no input.
 run_format() {
-    { issue format "$@" && cat >"$room/left"; } <"$first.jsonl" >"$room/out"
-    cmp -s "$first.jsonl" "$room/left" || fail "format $*: it read its input"
+    { issue format "$@" && cat >"$room/left"; } <"$first_in" >"$room/out"
+    cmp -s "$first_in" "$room/left" || fail "format $*: it read its input"
     wrote "format $*" /dev/null
 }
 

@@ -9,7 +9,7 @@ answered() {
     wrote "$1" "$2"
 }
 
-answered 'the first example' "$first.out" <"$first.jsonl"
+answered 'the first example' "$first_out" <"$first_in"
 answered 'no input' /dev/null </dev/null
 printf '\n \n\t\r\n\n  \t' >"$room/blank"
 answered 'blank lines alone' /dev/null <"$room/blank"
@@ -18,8 +18,8 @@ answered 'a million blanks' /dev/null <"$room/blank"
 
 while IFS= read -r line; do
     printf '\n \t\r\n%s\r\n\n' "$line"
-done <"$first.jsonl" >"$room/between"
-answered 'blank lines between' "$first.out" <"$room/between"
+done <"$first_in" >"$room/between"
+answered 'blank lines between' "$first_out" <"$room/between"
 
-head -c -1 "$first.jsonl" >"$room/unended"
-answered 'a last line without a line feed' "$first.out" <"$room/unended"
+head -c -1 "$first_in" >"$room/unended"
+answered 'a last line without a line feed' "$first_out" <"$room/unended"

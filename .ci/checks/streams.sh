@@ -2,18 +2,18 @@
 # Standard streams that fail: status 5 for output, 3 for input.
 . "$(dirname "$0")/../program.sh"
 
-issue dry <"$first.jsonl" >&-
+issue dry <"$first_in" >&-
 ended 'a closed standard output' 5 'issuer: output fault'
 
 # The reader has ended before the program starts.
 exec {gone}> >(exec true)
 wait $!
-issue dry <"$first.jsonl" >&"$gone"
+issue dry <"$first_in" >&"$gone"
 exec {gone}>&-
 ended 'a standard output whose reader has gone' 5 'issuer: output fault'
 
 if [ -c /dev/full ]; then
-    issue dry <"$first.jsonl" >/dev/full
+    issue dry <"$first_in" >/dev/full
     ended 'a full device as standard output' 5 'issuer: output fault'
 fi
 
@@ -27,5 +27,5 @@ wrote 'a closed standard input' /dev/null
 
 # With nowhere to say it, the status alone tells.
 status=0
-"$issuer" dry <"$first.jsonl" >&- 2>&- || status=$?
+"$issuer" dry <"$first_in" >&- 2>&- || status=$?
 [ "$status" = 5 ] || fail "closed standard output and error: status $status, not 5"

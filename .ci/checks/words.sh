@@ -7,10 +7,10 @@ usage='issuer: usage: dry, format DEVICE SIZE INSTANCE, replay DEVICE, balances 
 # refused WORDS..: the program takes none of these words.
 refused() {
     local what="the words '$*'"
-    { issue "$@" && cat >"$room/left"; } <"$first.jsonl" >"$room/out"
+    { issue "$@" && cat >"$room/left"; } <"$first_in" >"$room/out"
     ended "$what" 2 "$usage"
     wrote "$what" /dev/null
-    cmp -s "$first.jsonl" "$room/left" || fail "$what: it read its input"
+    cmp -s "$first_in" "$room/left" || fail "$what: it read its input"
 }
 
 refused
