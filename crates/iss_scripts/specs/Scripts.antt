@@ -180,16 +180,16 @@ abbrev pub gateway_answer : ℕ → Outcome → Input
 gateway_answer call outcome = input.Answer (call_number call) outcome
 
 -- the event is done
-abbrev pub is_done : String → List Said
-is_done token = decided (codes token) verdict.Done ∷ []
+abbrev pub done_reply : String → List Said
+done_reply token = decided (codes token) verdict.Done ∷ []
 
 -- the event is approved
-abbrev pub is_approved : String → List Said
-is_approved token = decided (codes token) verdict.Approved ∷ []
+abbrev pub approved_reply : String → List Said
+approved_reply token = decided (codes token) verdict.Approved ∷ []
 
 -- the event is declined
-abbrev pub is_declined : String → Reason → List Said
-is_declined token why = decided (codes token) (verdict.Declined why) ∷ []
+abbrev pub declined_reply : String → Reason → List Said
+declined_reply token why = decided (codes token) (verdict.Declined why) ∷ []
 
 -- the gateway is asked at a stamp, and has 3 seconds to answer
 abbrev pub request : Method → ℕ → String → String → ℕ → ℕ → List Said
@@ -224,13 +224,13 @@ notice number method txn call amount gateway =
     }) ∷ []
 
 -- the event stands with the same contents, and is told its reply again
-abbrev pub is_repeat : String → Reply → List Said
-is_repeat token reply = answered (answer.Repeat (codes token) reply) ∷ []
+abbrev pub repeat_reply : String → Reply → List Said
+repeat_reply token reply = answered (answer.Repeat (codes token) reply) ∷ []
 
 -- the event stands with other contents, by this record
-abbrev pub is_conflict : String → ℕ → List Said
-is_conflict token number = answered (answer.Conflict (codes token) number) ∷ []
+abbrev pub conflict_reply : String → ℕ → List Said
+conflict_reply token number = answered (answer.Conflict (codes token) number) ∷ []
 
 -- the call was closed before
-abbrev pub is_late : ℕ → How → List Said
-is_late call how = answered (answer.Late (call_number call) how) ∷ []
+abbrev pub late_reply : ℕ → How → List Said
+late_reply call how = answered (answer.Late (call_number call) how) ∷ []

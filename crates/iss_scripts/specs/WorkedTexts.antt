@@ -8,7 +8,7 @@ use Rattle.iss_model.specs.declared.decision.Reason.TheVariants as reason
 use Rattle.iss_model.specs.declared.decision.Answer.TheVariants as answer
 use Rattle.iss_model.specs.run.Sayings.{Said, acked, timed, answered}
 use Rattle.iss_model.specs.run.Transcripts.{said_text}
-use Rattle.iss_scripts.specs.Scripts.{request, notice, call_number, is_done, is_approved, is_declined, is_late}
+use Rattle.iss_scripts.specs.Scripts.{request, notice, call_number, done_reply, approved_reply, declined_reply, late_reply}
 use Prim.Native.String.{String}
 pub use Rattle.std.specs.Fmt.{digits}
 
@@ -55,43 +55,43 @@ RefundNoticeLine =
 -- an event that is done
 abbrev pub DoneEventLine : Type 0
 DoneEventLine =
-    Reads (is_done "t1")
+    Reads (done_reply "t1")
     "{\"event\":\"t1\",\"reply\":\"done\"}"
 
 -- an event that is approved
 abbrev pub ApprovedEventLine : Type 0
 ApprovedEventLine =
-    Reads (is_approved "a1")
+    Reads (approved_reply "a1")
     "{\"event\":\"a1\",\"reply\":\"approved\"}"
 
 -- an event that a control declined
 abbrev pub DeclinedByAControlLine : Type 0
 DeclinedByAControlLine =
-    Reads (is_declined "a3" (reason.Control (codes "v1")))
+    Reads (declined_reply "a3" (reason.Control (codes "v1")))
     "{\"event\":\"a3\",\"reason\":\"CONTROL:v1\",\"reply\":\"declined\"}"
 
 -- a move that is not allowed
 abbrev pub DeclinedMoveLine : Type 0
 DeclinedMoveLine =
-    Reads (is_declined "t8" (reason.MoveCard card_state.Terminated card_state.Active))
+    Reads (declined_reply "t8" (reason.MoveCard card_state.Terminated card_state.Active))
     "{\"event\":\"t8\",\"reason\":\"MOVE:TERMINATED:ACTIVE\",\"reply\":\"declined\"}"
 
 -- a late answer
 abbrev pub LateAnswerLine : Type 0
 LateAnswerLine =
-    Reads (is_late 1 how.Funded)
+    Reads (late_reply 1 how.Funded)
     "{\"call\":1,\"reply\":\"late\",\"state\":\"FUNDED\"}"
 
 -- an answer to a call that has timed out
 abbrev pub TimedOutCallLine : Type 0
 TimedOutCallLine =
-    Reads (is_late 1 (how.Failed failure.Timeout))
+    Reads (late_reply 1 (how.Failed failure.Timeout))
     "{\"call\":1,\"reply\":\"late\",\"state\":\"TIMEOUT\"}"
 
 -- an answer to a call that was abandoned
 abbrev pub AbandonedCallLine : Type 0
 AbandonedCallLine =
-    Reads (is_late 1 how.Abandoned)
+    Reads (late_reply 1 how.Abandoned)
     "{\"call\":1,\"reply\":\"late\",\"state\":\"ABANDONED\"}"
 
 -- an answer to an unknown call
