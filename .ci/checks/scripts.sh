@@ -1,5 +1,5 @@
 #!/usr/bin/env bash
-# The worked scripts: each is told what stands beside it, and all of them in a row are told as many lines as one by one.
+# The worked scripts: each gets the replies that stand beside it, and all of them in a row get as many lines as one by one.
 . "$(dirname "$0")/../program.sh"
 
 scripts=examples/scripts
@@ -29,4 +29,4 @@ issue dry <"$room/row" >"$room/out"
 ended 'all scripts in a row' 0 ''
 told=$(wc -l <"$room/out")
 apart=$(cat "$scripts"/*.out | wc -l)
-[ "$told" = "$apart" ] || fail "all scripts in a row: $told lines were told, and $apart one by one"
+[ "$told" = "$apart" ] || fail "all scripts in a row: $told lines of replies, and $apart one by one"
