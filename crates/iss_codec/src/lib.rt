@@ -11,9 +11,9 @@ mod contents;
 mod decoding;
 mod encoding;
 mod groups;
+mod kinds;
 mod parts;
 mod reader;
-mod rows;
 mod spelled;
 mod writing;
 
