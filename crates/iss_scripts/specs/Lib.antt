@@ -11,3 +11,8 @@ pub mod WorkedTexts
 pub mod WorkedParts
 pub mod WorkedSpellings
 pub mod WorkedRuns
+pub mod WorkedReasons
+pub mod WorkedCounting
+pub mod WorkedSets
+pub mod WorkedUse
+pub mod WorkedOrder

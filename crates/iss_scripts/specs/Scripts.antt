@@ -6,7 +6,13 @@ use Rattle.iss_model.specs.declared.currency.Currency.TheVariants.{Usd}
 use Rattle.iss_model.specs.declared.account.Account.TheVariants as account
 use Rattle.iss_model.specs.declared.setting.Funding.TheVariants as funding
 use Rattle.iss_model.specs.declared.setting.Window.{Window}
+use Rattle.iss_model.specs.declared.setting.Window.TheVariants as window
+use Rattle.iss_model.specs.declared.setting.CardState.{CardState}
+use Rattle.iss_model.specs.declared.setting.UserState.{UserState}
+use Rattle.iss_model.specs.declared.setting.Moved.TheVariants as moved
+use Rattle.iss_model.specs.declared.setting.Association.{Association}
 use Rattle.iss_model.specs.declared.setting.Association.TheVariants as association
+use Rattle.iss_model.specs.declared.setting.Scope.{Scope}
 use Rattle.iss_model.specs.declared.setting.Scope.TheVariants as scope
 use Rattle.iss_model.specs.declared.call.CallId.{CallId}
 use Rattle.iss_model.specs.declared.call.Method.{Method}
@@ -179,6 +185,39 @@ call_number n = record { 0 = n }
 abbrev pub gateway_answer : ℕ → Outcome → Input
 gateway_answer call outcome = input.Answer (call_number call) outcome
 
+-- a user of this name
+abbrev pub user_of : String → String → Input
+user_of token user = input.User (codes token) (codes user)
+
+-- an active card of a user and a product
+abbrev pub card_for : String → String → String → String → Input
+card_for token card user product = input.Card (codes token) (codes card) (codes user) (codes product) true
+
+-- a load of a user in US dollars
+abbrev pub load_of : String → String → ℕ → Input
+load_of token user amount = input.Load (codes token) (codes user) Usd amount
+
+-- a product in US dollars, funded by the gateway, with so many milliseconds for an answer and holds of a week
+abbrev pub product_of : String → String → ℕ → Input
+product_of token product timeout_ms = input.Product (codes token) (codes product) Usd funding.Gateway timeout_ms 604800000
+
+-- a purchase with a card at the grocer m1
+abbrev pub purchase_by : String → String → ℕ → Input
+purchase_by card token amount = input.Authorization (codes token) (codes card) Usd amount 5411 (codes "m1")
+
+-- card c1 is moved to a state
+abbrev pub card_move : String → CardState → Input
+card_move token to = input.Move (codes token) (moved.Card (codes "c1") to)
+
+-- user u1 is moved to a state
+abbrev pub user_move : String → UserState → Input
+user_move token to = input.Move (codes token) (moved.User (codes "u1") to)
+
+-- a control in US dollars of each day, of at most so much, of whom and where it says
+abbrev pub control_of : String → String → ℕ → Association → Scope → Input
+control_of token control limit association scope =
+    input.Control (codes token) (codes control) Usd window.Day (Some limit) None association scope true
+
 -- the event is done
 abbrev pub done_reply : String → List Said
 done_reply token = decided (codes token) verdict.Done ∷ []
@@ -191,37 +230,45 @@ approved_reply token = decided (codes token) verdict.Approved ∷ []
 abbrev pub declined_reply : String → Reason → List Said
 declined_reply token why = decided (codes token) (verdict.Declined why) ∷ []
 
--- the gateway is asked at a stamp, and has 3 seconds to answer
-abbrev pub request : Method → ℕ → String → String → ℕ → ℕ → List Said
-request method number event txn amount at =
+-- the gateway is asked at a stamp about a purchase of user u1 with a card, and has so many milliseconds to answer
+abbrev pub request_by : String → ℕ → Method → ℕ → String → String → ℕ → ℕ → List Said
+request_by card timeout_ms method number event txn amount at =
     asked (record {
       call = call_number number;
       event = codes event;
       txn = codes txn;
       method = method;
-      card = codes "c1";
+      card = codes card;
       user = codes "u1";
       currency = Usd;
       mcc = 5411;
       mid = codes "m1";
       amount = amount;
       at = at;
-      deadline = at + 3000;
+      deadline = at + timeout_ms;
     }) ∷ []
 
--- the gateway is sent a notice: its amount, and the part that goes back to the gateway
-abbrev pub notice : ℕ → Method → String → Option CallId → ℕ → ℕ → List Said
-notice number method txn call amount gateway =
+-- the gateway is asked at a stamp about a purchase with card c1, and has 3 seconds to answer
+abbrev pub request : Method → ℕ → String → String → ℕ → ℕ → List Said
+request method number event txn amount at = request_by "c1" 3000 method number event txn amount at
+
+-- the gateway is sent a notice about a user: its amount, and the part that goes back to the gateway
+abbrev pub notice_about : String → ℕ → Method → String → Option CallId → ℕ → ℕ → List Said
+notice_about user number method txn call amount gateway =
     noticed (record {
       number = number;
       method = method;
       txn = codes txn;
-      user = codes "u1";
+      user = codes user;
       currency = Usd;
       call = call;
       amount = amount;
       gateway = gateway;
     }) ∷ []
+
+-- the gateway is sent a notice about user u1
+abbrev pub notice : ℕ → Method → String → Option CallId → ℕ → ℕ → List Said
+notice number method txn call amount gateway = notice_about "u1" number method txn call amount gateway
 
 -- the event stands with the same contents, and is told its reply again
 abbrev pub repeat_reply : String → Reply → List Said

@@ -7,6 +7,7 @@
 mod worked;
 mod worked_bytes;
 mod worked_devices;
+mod worked_rules;
 
 pub use worked::{
     worked_amounts, worked_limit, worked_parts, worked_scripts, worked_texts, worked_use,
@@ -14,3 +15,7 @@ pub use worked::{
 };
 pub use worked_bytes::worked_spellings;
 pub use worked_devices::{worked_lines, worked_reports, worked_runs};
+pub use worked_rules::{
+    worked_counting, worked_full_lists, worked_order, worked_reason_texts, worked_reasons,
+    worked_sets,
+};
