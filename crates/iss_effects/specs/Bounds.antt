@@ -2,7 +2,6 @@
 use Rattle.std.specs.Prelude.{List, [], nat_abs, neg_ℤ, pos, ℕ, ℤ, ◌+◌, ◌∷◌, ◌≤ℤ◌}
 use Rattle.iss_model.specs.declared.entry.Entry.{Entry}
 use Rattle.iss_model.specs.declared.entry.Entry.TheVariants as entry
-use Rattle.iss_model.specs.Numbers.{parts}
 use Rattle.iss_model.specs.state.Cores.{ControlKept, CoreState}
 use Rattle.iss_model.specs.state.Kept.{Kept, kept_at}
 

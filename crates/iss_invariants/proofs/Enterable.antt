@@ -8,7 +8,6 @@ use Rattle.iss_model.specs.declared.input.Input.TheVariants as input
 use Rattle.iss_model.specs.declared.limits.TheConstants.{MOST_RECORDS}
 use Rattle.iss_model.specs.declared.setting.Moved.TheVariants as moved
 use Rattle.iss_model.specs.Forms.{is_in_form}
-use Rattle.iss_model.specs.Numbers.{parts}
 use Rattle.iss_model.specs.rules.Due.{DueThing, thing_entries}
 use Rattle.iss_model.specs.rules.Stepping.{entries_of}
 use Rattle.iss_model.specs.state.Cores.{ControlKept, CoreState, after_entry, after_setting, core_facts}

@@ -10,7 +10,6 @@ use Rattle.iss_model.specs.Forms.{is_in_form}
 use Rattle.iss_model.specs.rules.Histories.{History, IsLegal, IsLegalAfter, history_keeper, history_of, nothing_yet}
 use Rattle.iss_model.specs.rules.Settings.{is_named_in}
 use Rattle.iss_model.specs.rules.Stepping.{step}
-use Rattle.iss_model.specs.run.Transcripts.{sound}
 use Rattle.iss_model.specs.state.Cores.{CoreState, core_keeper, core_of, no_core}
 use Rattle.iss_agreement.proofs.CoreOfBook.{core_step, judge_history}
 use Rattle.iss_effects.specs.Needs.{begun_txns}

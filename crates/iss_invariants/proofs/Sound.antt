@@ -9,7 +9,6 @@ use Rattle.iss_model.specs.declared.txn.Txn.{Txn}
 use Rattle.iss_model.specs.rules.Activity.{TxnNow}
 use Rattle.iss_model.specs.rules.Facts.{Accepted}
 use Rattle.iss_model.specs.rules.Settings.{is_named_in}
-use Rattle.iss_model.specs.run.Transcripts.{sound}
 use Rattle.iss_model.specs.state.Cores.{CoreState, after_entry, is_live}
 use Rattle.iss_effects.specs.Bounds.{SumsAreWithin, moved_money, moved_use, total_of}
 use Rattle.iss_effects.specs.Effects.{Paid}

@@ -12,13 +12,11 @@ use Rattle.iss_model.specs.declared.input.Input.{Input}
 use Rattle.iss_model.specs.declared.input.Record.{Record}
 use Rattle.iss_model.specs.declared.txn.Txn.{Txn}
 use Rattle.iss_model.specs.Forms.{is_in_form}
-use Rattle.iss_model.specs.Numbers.{parts}
 use Rattle.iss_model.specs.Sums.{part_key}
 use Rattle.iss_model.specs.rules.Due.{DueThing, thing_entries}
 use Rattle.iss_model.specs.rules.Facts.{Accepted, not_below}
 use Rattle.iss_model.specs.rules.Settings.{is_named_in}
 use Rattle.iss_model.specs.rules.Stepping.{after_due, entries_of, step}
-use Rattle.iss_model.specs.run.Transcripts.{sound}
 use Rattle.iss_model.specs.state.Cores.{CoreState, after_entry, core_facts, core_keeper, no_core, with_record}
 use Rattle.iss_model.specs.state.Kept.{nothing_kept}
 use Rattle.iss_model.proofs.Lists.{all_weaker}

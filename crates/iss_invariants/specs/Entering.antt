@@ -2,7 +2,6 @@
 use Rattle.std.specs.Prelude.{List, [], ◌+◌, ◌∷◌, ◌≡◌}
 use Rattle.iss_model.specs.declared.entry.Entry.{Entry}
 use Rattle.iss_model.specs.declared.entry.Entry.TheVariants as entry
-use Rattle.iss_model.specs.Numbers.{parts}
 use Rattle.iss_model.specs.state.Cores.{ControlKept, CoreState, after_entry}
 use Rattle.iss_model.specs.state.Kept.{AreSmall}
 use Rattle.iss_effects.specs.Needs.{Fits}

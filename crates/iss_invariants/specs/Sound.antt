@@ -8,7 +8,6 @@ use Rattle.iss_model.specs.Forms.{is_in_form}
 use Rattle.iss_model.specs.Inputs.{event_token, is_event}
 use Rattle.iss_model.specs.rules.Facts.{Accepted}
 use Rattle.iss_model.specs.rules.Settings.{is_named_in}
-use Rattle.iss_model.specs.run.Transcripts.{sound}
 use Rattle.iss_model.specs.state.Cores.{CoreState}
 use Rattle.iss_effects.specs.Bounds.{SumsAreWithin}
 use Rattle.iss_effects.specs.Needs.{begun_txns}
