@@ -1,22 +1,26 @@
 -- Where entries are entered, each fits, each notice is the next one, and sums stay small.
-use Rattle.std.proofs.Common.{List, [], ap, arith, refl, sym, true, ℕ, ◌+◌, ◌<◌, ◌^◌, ◌∙◌, ◌∷◌, ◌≡◌, ◌≤◌}
+use Rattle.std.proofs.Common.{List, [], ap, arith, length, refl, sym, true, ℕ, ◌+◌, ◌<◌, ◌^◌, ◌∙◌, ◌∷◌, ◌≡◌, ◌≤◌}
 use Rattle.std.proofs.lemmas.Int.{ints}
 use Rattle.iss_model.specs.declared.entry.Entry.{Entry}
 use Rattle.iss_model.specs.declared.entry.Entry.TheVariants as entry
 use Rattle.iss_model.specs.declared.input.Input.{Input}
 use Rattle.iss_model.specs.declared.input.Input.TheVariants as input
+use Rattle.iss_model.specs.declared.input.Record.{Record}
 use Rattle.iss_model.specs.declared.limits.TheConstants.{MOST_RECORDS}
 use Rattle.iss_model.specs.declared.setting.Moved.TheVariants as moved
 use Rattle.iss_model.specs.Forms.{is_in_form}
+use Rattle.iss_model.specs.Numbers.{parts}
 use Rattle.iss_model.specs.rules.Due.{DueThing, thing_entries}
+use Rattle.iss_model.specs.rules.Histories.{IsLegal}
 use Rattle.iss_model.specs.rules.Stepping.{entries_of}
-use Rattle.iss_model.specs.state.Cores.{ControlKept, CoreState, after_entry, after_setting, core_facts}
+use Rattle.iss_model.specs.state.Cores.{ControlKept, CoreState, after_entry, after_setting, core_facts, core_of}
 use Rattle.iss_model.specs.state.Kept.{AreSmall, Kept, kept_at}
 use Rattle.iss_effects.specs.Bounds.{AreWithin, HaveCounted, IsWithin, SumsAreWithin}
 use Rattle.iss_effects.specs.Needs.{AllFit}
 use Rattle.iss_invariants.specs.Entering.{AreEnterable, HaveCountedSmall, SumsAreSmall}
 use Rattle.iss_invariants.specs.Numbers.{AreNumberedFrom}
-use Rattle.iss_invariants.specs.Sound.{IsReady, IsSoundAt, reach_of}
+use Rattle.iss_invariants.specs.Sound.{AreInForm, IsReady, IsSoundAt, reach_of}
+use Rattle.iss_invariants.proofs.Legal.{records_sound}
 use Rattle.iss_invariants.proofs.Notices.{own_numbered, thing_numbered}
 use Rattle.iss_invariants.proofs.OwnEntries.{own_enters}
 use Rattle.iss_invariants.proofs.Settled.{thing_enters}
@@ -52,6 +56,9 @@ sums_small n m u s room le also h =
 
 pub sound_small : (n : ℕ) (s : CoreState) → n ≤ MOST_RECORDS → IsSoundAt n s → SumsAreSmall s
 sound_small n s room h = sums_small n h.money h.used s room (omega (arith, h.money_within)) (omega (arith, h.use_within)) h.within
+
+pub records_small : (rs : List Record) → length rs ≤ MOST_RECORDS → IsLegal rs → AreInForm rs → SumsAreSmall (core_of rs)
+records_small rs room legal form = sound_small (length rs) (core_of rs) room (records_sound rs legal form)
 
 -- ---- entries one by one
 

@@ -1,11 +1,13 @@
 //! Every state that records make is sound.
 ghost use Rattle.std.specs.Prelude.{◌≡◌, ℕ, ◌+◌, ◌≤◌, true, List, length, fold};
+ghost use Rattle.iss_model.specs.declared.decision.Judged.TheVariants as judged;
 ghost use Rattle.iss_model.specs.declared.input.Record.{Record};
 ghost use Rattle.iss_model.specs.declared.input.Input.{Input};
 ghost use Rattle.iss_model.specs.declared.limits.TheConstants.{MOST_RECORDS};
 ghost use Rattle.iss_model.specs.Forms.{is_in_form};
 ghost use Rattle.iss_model.specs.rules.Due.{DueThing, thing_entries};
 ghost use Rattle.iss_model.specs.rules.Stepping.{entries_of, after_due, step};
+ghost use Rattle.iss_model.specs.rules.Judging.{judge};
 ghost use Rattle.iss_model.specs.rules.Histories.{IsLegal};
 ghost use Rattle.iss_model.specs.state.Cores.{CoreState, no_core, core_facts, core_keeper, core_of, with_record, after_entry};
 ghost use Rattle.iss_invariants.specs.Sound.{IsSoundAt, IsNewEvent, AreInForm, IsReady};
@@ -41,5 +43,12 @@ pub fn due_items_keep_what_is_sound()
 
 /// In a state that is sound for as many records as there may be, each sum lies strictly between -2^62 and 2^62.
 pub fn sums_are_small()
-    ensures { (n : ℕ) → (s : CoreState) → n ≤ MOST_RECORDS → IsSoundAt n s → SumsAreSmall s }
+    ensures sound { (n : ℕ) → (s : CoreState) → n ≤ MOST_RECORDS → IsSoundAt n s → SumsAreSmall s }
+    ensures records { (rs : List Record) → length rs ≤ MOST_RECORDS → IsLegal rs → AreInForm rs → SumsAreSmall (core_of rs) }
+{}
+
+/// A record that is judged new brings no event that was accepted before. This is all that legality is needed for.
+#[tactic(auto, using(crate::proofs::NewEvents::judged_new))]
+pub fn new_records_bring_new_events()
+    ensures { (s : CoreState) → (r : Record) → judge core_keeper s r.input r.at ≡ judged.New r → IsNewEvent s r.input }
 {}
