@@ -71,7 +71,8 @@ all_asked q (c ∷ cs) = by (is_asked c) (q c) refl (all_asked q cs)
 abandonment_fit : (s : CoreState) (number : ℕ) (t : Txn) (why : Reason) (cs : List CallNow) → Stands s t → AllFit s (abandoned_calls_entries number t why cs)
 abandonment_fit s number t why [] stands = tt
 abandonment_fit s number t why (c ∷ cs) stands =
-    (tt, (tt, (record { its = t; stands = stands; of_txn = refl; of_origin = refl; of_user = refl; of_product = refl; of_currency = refl }, (tt, abandonment_fit (fold after_entry s (abandoned_call_entries number t why c.opened)) (number + 1) t why cs stands))))
+    let later = abandonment_fit (fold after_entry s (abandoned_call_entries number t why c.opened)) (number + 1) t why cs stands in
+    (tt, (tt, (record { its = t; stands = stands; of_txn = refl; of_origin = refl; of_user = refl; of_product = refl; of_currency = refl }, (tt, later))))
 
 -- calls that are abandoned use what they asked at most twice, and take that from what is at stake
 abbrev Abandons : CoreState → ℕ → Txn → Reason → List CallNow → Type 0

@@ -37,7 +37,9 @@ asked_after_close n how (d ∷ ds) c e a = by (nat_eq d.opened.call.0 n) refl e 
         → total_asked (map (call_after_close n how) (d ∷ ds)) + at_least_one c.opened.amount ≤ total_asked (d ∷ ds)
     by true e found later =
         let same : d ≡ c = cc in
-        let gone : asked_amount (call_after_close n how d) + at_least_one c.opened.amount ≤ asked_amount d = subst (λ (x : CallNow). asked_amount (call_after_close n how d) + at_least_one x.opened.amount ≤ asked_amount d) same (asked_amount_gone n how d e (ap is_asked same ∙ a)) in
+        let gone : asked_amount (call_after_close n how d) + at_least_one c.opened.amount ≤ asked_amount d =
+        subst (λ (x : CallNow). asked_amount (call_after_close n how d) + at_least_one x.opened.amount ≤ asked_amount d) same
+        (asked_amount_gone n how d e (ap is_asked same ∙ a)) in
         omega (arith, gone, asked_lower n how ds)
     by false e found later = omega (arith, later found, asked_amount_lower n how d)
 

@@ -21,7 +21,7 @@ use Rattle.iss_model.specs.rules.Facts.{Facts, asked_calls_of}
 use Rattle.iss_model.specs.rules.Pieces.{Parts, abandonment_entries, declined_ask_entries, end_entries, failure_reason, funded_ask_entries, hold_entries, in_all, notice_entry, post_entries, release_entries, set_stand_in_entries, stand_entries, stand_in_entries, user_account}
 use Rattle.iss_model.specs.rules.StandIns.{Stand, allowed, over_limit, stand, uncovered}
 use Rattle.iss_model.specs.state.Cores.{CoreState, Holdings, after_entry}
-use Rattle.iss_effects.specs.Effects.{Effect, HoldsParts, Paid}
+use Rattle.iss_effects.specs.Effects.{Effect, HoldsParts, Paid, PaidByAsk}
 use Rattle.iss_effects.specs.Needs.{Stands}
 use Rattle.iss_effects.specs.Stakes.{IsOrderlyState, at_least_one, part_held}
 use Rattle.iss_effects.proofs.Abandonment.{abandonment_effect, abandonment_holdings, given_back_size, least_one}
@@ -96,7 +96,7 @@ set_stand_in_paid s number ask at set h stands =
     subst (λ (es : List Entry). Paid (4 * ask.amount) (2 * ask.amount) s (entry.Stood set.name ask.txn.product ask.txn.user ask.amount at ∷ es)) (three xs ys last)
     (costs (4 * ask.amount) (2 * ask.amount) (and_then e0 (and_then e1 (and_then e2 e3))) (omega arith) (omega arith))
 
-stand_paid : (s : CoreState) (x : Stand) (number : ℕ) (ask : Ask) (why : Failure) (at : ℕ) → IsOrderlyState s → Stands s ask.txn → Paid (4 * at_least_one ask.amount) (2 * at_least_one ask.amount) s (stand_entries x number ask why at)
+stand_paid : (s : CoreState) (x : Stand) (number : ℕ) (ask : Ask) (why : Failure) (at : ℕ) → IsOrderlyState s → Stands s ask.txn → PaidByAsk ask.amount s (stand_entries x number ask why at)
 stand_paid s (allowed set) number ask why at h stands =
     paid_more (4 * at_least_one ask.amount) (2 * at_least_one ask.amount) (set_stand_in_paid s number ask at set h stands) (omega (arith, least_one ask.amount)) (omega (arith, least_one ask.amount))
 stand_paid s (over_limit set) number ask why at h stands =
@@ -105,12 +105,12 @@ stand_paid s uncovered number ask why at h stands =
     paid_more (4 * at_least_one ask.amount) (2 * at_least_one ask.amount) (declined_ask_paid s ask (failure_reason why) h stands) (omega arith) (omega arith)
 
 -- standing in is paid whatever the sets say
-pub stand_in_paid : (s : CoreState) (number : ℕ) (f : Facts) (ask : Ask) (why : Failure) (at : ℕ) → IsOrderlyState s → Stands s ask.txn → Paid (4 * at_least_one ask.amount) (2 * at_least_one ask.amount) s (stand_in_entries number f ask why at)
+pub stand_in_paid : (s : CoreState) (number : ℕ) (f : Facts) (ask : Ask) (why : Failure) (at : ℕ) → IsOrderlyState s → Stands s ask.txn → PaidByAsk ask.amount s (stand_in_entries number f ask why at)
 stand_in_paid s number f ask why at h stands = stand_paid s (stand f ask why at) number ask why at h stands
 
 -- a call that is asked is closed, and pays with what it asked
 pub closing_paid : (s : CoreState) (closed : How) (c : CallNow) (es : List Entry) → IsOrderlyState s → call_numbered c.opened.call.0 s.calls ≡ Some c → is_asked c ≡ true
-    → (IsOrderlyState (after_entry s (entry.Closed c.opened.call closed)) → Paid (4 * at_least_one c.opened.amount) (2 * at_least_one c.opened.amount) (after_entry s (entry.Closed c.opened.call closed)) es)
+    → (IsOrderlyState (after_entry s (entry.Closed c.opened.call closed)) → PaidByAsk c.opened.amount (after_entry s (entry.Closed c.opened.call closed)) es)
     → Paid 0 0 s (entry.Closed c.opened.call closed ∷ es)
 closing_paid s closed c es h found asked rest =
     let e1 = close_effect s c.opened.call closed c h found asked in

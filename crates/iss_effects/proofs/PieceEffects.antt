@@ -123,17 +123,21 @@ release_effect s t parts amount h stands has le =
     let e2 = post_effect s1 t (user_account t) (account.Programme t.currency) taken.p e1.orderly in
     let s2 = fold after_entry s1 (post_entries t (user_account t) (account.Programme t.currency) taken.p) in
     let n2 : Stands s2 t = stands_then t e2 (stands_then t e1 stands) in
-    let g2 : part_held s2.holdings.parts t.token part.G ≡ part_held s.holdings.parts t.token part.G = part_after_post s1 t (user_account t) (account.Programme t.currency) taken.p t.token part.G ∙ unhold_other s t part.P part.G taken.p refl in
-    let o2 : part_held s2.holdings.parts t.token part.S ≡ part_held s.holdings.parts t.token part.S = part_after_post s1 t (user_account t) (account.Programme t.currency) taken.p t.token part.S ∙ unhold_other s t part.P part.S taken.p refl in
+    let g2 : part_held s2.holdings.parts t.token part.G ≡ part_held s.holdings.parts t.token part.G =
+    part_after_post s1 t (user_account t) (account.Programme t.currency) taken.p t.token part.G ∙ unhold_other s t part.P part.G taken.p refl in
+    let o2 : part_held s2.holdings.parts t.token part.S ≡ part_held s.holdings.parts t.token part.S =
+    part_after_post s1 t (user_account t) (account.Programme t.currency) taken.p t.token part.S ∙ unhold_other s t part.P part.S taken.p refl in
     let e3 = unhold_effect s2 t part.G taken.g e2.orderly n2 (omega (arith, has.of_gateway, g2)) in
     let s3 = fold after_entry s2 (unhold_entries t part.G taken.g) in
     let e4 = post_effect s3 t (user_account t) (account.Gateway t.currency) taken.g e3.orderly in
     let s4 = fold after_entry s3 (post_entries t (user_account t) (account.Gateway t.currency) taken.g) in
     let n4 : Stands s4 t = stands_then t e4 (stands_then t e3 n2) in
-    let o4 : part_held s4.holdings.parts t.token part.S ≡ part_held s.holdings.parts t.token part.S = part_after_post s3 t (user_account t) (account.Gateway t.currency) taken.g t.token part.S ∙ unhold_other s2 t part.G part.S taken.g refl ∙ o2 in
+    let o4 : part_held s4.holdings.parts t.token part.S ≡ part_held s.holdings.parts t.token part.S =
+    part_after_post s3 t (user_account t) (account.Gateway t.currency) taken.g t.token part.S ∙ unhold_other s2 t part.G part.S taken.g refl ∙ o2 in
     let e5 = unhold_effect s4 t part.S taken.s e4.orderly n4 (omega (arith, has.of_user, o4)) in
     let s5 = fold after_entry s4 (unhold_entries t part.S taken.s) in
     let e6 = use_return_effect s5 t amount e5.orderly (stands_then t e5 n4) in
     subst (λ (es : List Entry). Effect s es (2 * amount) amount 0 amount)
-    (six (unhold_entries t part.P taken.p) (post_entries t (user_account t) (account.Programme t.currency) taken.p) (unhold_entries t part.G taken.g) (post_entries t (user_account t) (account.Gateway t.currency) taken.g) (unhold_entries t part.S taken.s) (use_return_entries t amount))
+    (six (unhold_entries t part.P taken.p) (post_entries t (user_account t) (account.Programme t.currency) taken.p) (unhold_entries t part.G taken.g)
+    (post_entries t (user_account t) (account.Gateway t.currency) taken.g) (unhold_entries t part.S taken.s) (use_return_entries t amount))
     (comes_to (2 * amount) amount 0 amount (and_then e1 (and_then e2 (and_then e3 (and_then e4 (and_then e5 e6))))) (omega (arith, all)) (omega (arith, all)) (omega (arith, all)))

@@ -167,8 +167,8 @@ sums_within_more m n u v s le also h =
     }
 
 -- where an entry leaves the sums alone, they reach no further
-same_sums : (m u : ℕ) (s t : CoreState) → t.balances ≡ s.balances → t.holdings.held ≡ s.holdings.held → t.holdings.parts ≡ s.holdings.parts → t.txn_sums ≡ s.txn_sums → t.stand_ins.stood ≡ s.stand_ins.stood → HaveCounted u t.controls
-    → SumsAreWithin m u s → SumsAreWithin (m + 0) (u + 0) t
+same_sums : (m u : ℕ) (s t : CoreState) → t.balances ≡ s.balances → t.holdings.held ≡ s.holdings.held → t.holdings.parts ≡ s.holdings.parts → t.txn_sums ≡ s.txn_sums
+    → t.stand_ins.stood ≡ s.stand_ins.stood → HaveCounted u t.controls → SumsAreWithin m u s → SumsAreWithin (m + 0) (u + 0) t
 same_sums m u s t balances held parts sums stood controls h =
     let le : m ≤ m + 0 = omega arith in
     let also : u ≤ u + 0 = omega arith in
@@ -261,5 +261,6 @@ entry_within m u s _ h = same_sums m u s _ refl refl refl refl refl h.controls h
 pub entries_within : (m u : ℕ) (s : CoreState) (es : List Entry) → SumsAreWithin m u s → SumsAreWithin (m + total_of moved_money es) (u + total_of moved_use es) (fold after_entry s es)
 entries_within m u s [] h = sums_within_more m (m + 0) u (u + 0) s (omega arith) (omega arith) h
 entries_within m u s (e ∷ es) h =
-    sums_within_more ((m + moved_money e) + total_of moved_money es) (m + (moved_money e + total_of moved_money es)) ((u + moved_use e) + total_of moved_use es) (u + (moved_use e + total_of moved_use es)) (fold after_entry (after_entry s e) es) (omega arith) (omega arith)
+    sums_within_more ((m + moved_money e) + total_of moved_money es) (m + (moved_money e + total_of moved_money es))
+    ((u + moved_use e) + total_of moved_use es) (u + (moved_use e + total_of moved_use es)) (fold after_entry (after_entry s e) es) (omega arith) (omega arith)
     (entries_within (m + moved_money e) (u + moved_use e) (after_entry s e) es (entry_within m u s e h))

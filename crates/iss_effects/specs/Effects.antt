@@ -7,7 +7,7 @@ use Rattle.iss_model.specs.rules.Pieces.{Parts}
 use Rattle.iss_model.specs.state.Cores.{CoreState, after_entry}
 use Rattle.iss_effects.specs.Bounds.{moved_money, moved_use, total_of}
 use Rattle.iss_effects.specs.Needs.{AllFit, begun_txns}
-use Rattle.iss_effects.specs.Stakes.{IsOrderlyState, at_stake, part_held}
+use Rattle.iss_effects.specs.Stakes.{IsOrderlyState, at_least_one, at_stake, part_held}
 
 -- What entries do that begin no transaction: how far they take the sums of money and of use, and what they put at stake and take from it. Each fits.
 pub record Effect (s : CoreState) (es : List Entry) (moved used up down : ℕ) : Type 0 where
@@ -27,6 +27,10 @@ pub record Paid (more_money more_use : ℕ) (s : CoreState) (es : List Entry) : 
   pub effect : Effect s es moved used up down
   pub money : moved + 2 * up ≤ 2 * down + more_money
   pub usage : used + up ≤ down + more_use
+
+-- Entries are paid by what a closed call of an amount took from what was at stake: four times the amount in money, and twice in use.
+abbrev pub PaidByAsk : ℕ → CoreState → List Entry → Type 0
+PaidByAsk amount s es = Paid (4 * at_least_one amount) (2 * at_least_one amount) s es
 
 -- a transaction holds at least these parts
 pub record HoldsParts (s : CoreState) (t : Txn) (parts : Parts) : Type 0 where

@@ -11,7 +11,7 @@ ghost use Rattle.iss_model.specs.rules.Pieces.{Parts, in_all, release_entries, a
 ghost use Rattle.iss_model.specs.state.Cores.{CoreState};
 ghost use Rattle.iss_effects.specs.Stakes.{at_least_one, total_asked, IsOrderlyState};
 ghost use Rattle.iss_effects.specs.Needs.{Stands};
-ghost use Rattle.iss_effects.specs.Effects.{Effect, Paid, HoldsParts};
+ghost use Rattle.iss_effects.specs.Effects.{Effect, Paid, PaidByAsk, HoldsParts};
 
 /// A release is paid by what it lets go, and an abandonment by what its calls ask, so an end costs nothing.
 /// An ask that is decided costs at most four times what was asked in money and twice in use, whoever decides it.
@@ -28,5 +28,5 @@ pub fn pieces_are_paid()
     ensures funded { (s : CoreState) → (ask : Ask) → (from : Account) → (p : Part) → IsOrderlyState s → Stands s ask.txn
         → Paid (4 * ask.amount) ask.amount s (funded_ask_entries ask from p) }
     ensures stood_in { (s : CoreState) → (number : ℕ) → (f : Facts) → (ask : Ask) → (why : Failure) → (at : ℕ) → IsOrderlyState s → Stands s ask.txn
-        → Paid (4 * at_least_one ask.amount) (2 * at_least_one ask.amount) s (stand_in_entries number f ask why at) }
+        → PaidByAsk ask.amount s (stand_in_entries number f ask why at) }
 {}

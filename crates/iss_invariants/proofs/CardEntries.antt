@@ -25,7 +25,7 @@ use Rattle.iss_model.specs.rules.Settings.{is_named_in, product_named}
 use Rattle.iss_model.specs.rules.Stepping.{load_entries, unless_declined}
 use Rattle.iss_model.specs.state.Cores.{CoreState, after_entry, core_facts}
 use Rattle.iss_model.proofs.Names.{its_name}
-use Rattle.iss_effects.specs.Effects.{Effect, HoldsParts, Paid}
+use Rattle.iss_effects.specs.Effects.{Effect, HoldsParts, Paid, PaidByAsk}
 use Rattle.iss_effects.specs.Needs.{Stands}
 use Rattle.iss_effects.specs.Stakes.{IsOrderlyState, at_least_one, part_held}
 use Rattle.iss_effects.proofs.Abandonment.{abandonment_effect, abandonment_holdings, least_one, one_more}
@@ -46,18 +46,18 @@ load_paid s token user currency amount h = costs amount 0 (calm_effect s (load_e
 
 -- ---- asks for money
 
-gateway_ask_paid : (s : CoreState) (product : Option Product) (f : Facts) (ask : Ask) → IsOrderlyState s → Stands s ask.txn → length f.calls ≡ length s.calls → Paid (4 * at_least_one ask.amount) (2 * at_least_one ask.amount) s (gateway_ask_entries product f ask)
+gateway_ask_paid : (s : CoreState) (product : Option Product) (f : Facts) (ask : Ask) → IsOrderlyState s → Stands s ask.txn → length f.calls ≡ length s.calls → PaidByAsk ask.amount s (gateway_ask_entries product f ask)
 gateway_ask_paid s None f ask h stands same = paid_more (4 * at_least_one ask.amount) (2 * at_least_one ask.amount) (nothing_paid s h) (omega arith) (omega arith)
 gateway_ask_paid s (Some product) f ask h stands same = by (is_named_in f.switched product.name)
   where
-    by : (b : Bool) → Paid (4 * at_least_one ask.amount) (2 * at_least_one ask.amount) s (cond b (stand_in_entries (next_notice f) f ask failure.Switch ask.at) (entry.Opened (call_for f product ask) ∷ []))
+    by : (b : Bool) → PaidByAsk ask.amount s (cond b (stand_in_entries (next_notice f) f ask failure.Switch ask.at) (entry.Opened (call_for f product ask) ∷ []))
     by true = stand_in_paid s (next_notice f) f ask failure.Switch ask.at h stands
     by false = costs (4 * at_least_one ask.amount) (2 * at_least_one ask.amount) (open_effect s (call_for f product ask) h (ap (λ (n : ℕ). n + 1) same)) (omega arith) (omega arith)
 
-funding_paid : (s : CoreState) (f : Facts) (ask : Ask) → IsOrderlyState s → Stands s ask.txn → length f.calls ≡ length s.calls → Paid (4 * at_least_one ask.amount) (2 * at_least_one ask.amount) s (funding_entries f ask)
+funding_paid : (s : CoreState) (f : Facts) (ask : Ask) → IsOrderlyState s → Stands s ask.txn → length f.calls ≡ length s.calls → PaidByAsk ask.amount s (funding_entries f ask)
 funding_paid s f ask h stands same = by (is_account_funded ask.txn.funding)
   where
-    by : (b : Bool) → Paid (4 * at_least_one ask.amount) (2 * at_least_one ask.amount) s (cond b (hold_entries ask.txn part.S ask.amount ++ entry.Decided ask.event verdict.Approved ∷ []) (gateway_ask_entries (product_named ask.txn.product f.products) f ask))
+    by : (b : Bool) → PaidByAsk ask.amount s (cond b (hold_entries ask.txn part.S ask.amount ++ entry.Decided ask.event verdict.Approved ∷ []) (gateway_ask_entries (product_named ask.txn.product f.products) f ask))
     by true =
         let e1 = hold_effect s ask.txn part.S ask.amount h stands in
         let e2 = still_effect (fold after_entry s (hold_entries ask.txn part.S ask.amount)) (entry.Decided ask.event verdict.Approved ∷ []) e1.orderly refl in
@@ -96,7 +96,8 @@ reversal_paid s token amount (Some now) h known =
     let s2 = fold after_entry s1 ys in
     let s3 = fold after_entry s2 zs in
     let e1 = abandonment_effect s (next_notice f) f t reason.Reversed h stands refl in
-    let e2 = release_effect s1 t parts freed e1.orderly (stands_then t e1 stands) (holds_then s s1 t parts (abandonment_holdings s (next_notice f) t reason.Reversed (asked_calls_of f t.token)) (parts_are_held s t)) (omega arith) in
+    let e2 = release_effect s1 t parts freed e1.orderly (stands_then t e1 stands)
+    (holds_then s s1 t parts (abandonment_holdings s (next_notice f) t reason.Reversed (asked_calls_of f t.token)) (parts_are_held s t)) (omega arith) in
     let e3 = end_where s2 (nat_eq freed (in_all parts)) t e2.orderly (stands_then t e2 (stands_then t e1 stands)) in
     let e4 = still_effect s3 ws e3.orderly (still_where (is_account_funded t.funding) (only_where freed notice) (still_where (nat_eq freed 0) notice refl)) in
     let e5 = still_effect (fold after_entry s3 ws) last e4.orderly refl in
@@ -159,10 +160,12 @@ clearing_money_taken s t parts amount at h stands has =
       of_programme = omega (arith, has.of_programme, p1, p2, p3);
       of_user = omega (arith, has.of_user, o1, o2, o3);
     } in
-    let calls : s6.calls ≡ s.calls = all_calm_calls s5 lf c6 ∙ all_calm_calls s4 le c5 ∙ all_calm_calls s3 ld c4 ∙ unhold_calls s2 t part.S taken.s ∙ unhold_calls s1 t part.P taken.p ∙ unhold_calls s t part.G taken.g in
+    let calls : s6.calls ≡ s.calls =
+    all_calm_calls s5 lf c6 ∙ all_calm_calls s4 le c5 ∙ all_calm_calls s3 ld c4 ∙ unhold_calls s2 t part.S taken.s ∙ unhold_calls s1 t part.P taken.p ∙ unhold_calls s t part.G taken.g in
     let whole = la ++ (lb ++ (lc ++ (ld ++ (le ++ lf)))) in
     let state : fold after_entry s whole ≡ s6 =
-    fold-append after_entry s la (lb ++ (lc ++ (ld ++ (le ++ lf)))) ∙ fold-append after_entry s1 lb (lc ++ (ld ++ (le ++ lf))) ∙ fold-append after_entry s2 lc (ld ++ (le ++ lf)) ∙ fold-append after_entry s3 ld (le ++ lf) ∙ fold-append after_entry s4 le lf in
+    fold-append after_entry s la (lb ++ (lc ++ (ld ++ (le ++ lf)))) ∙ fold-append after_entry s1 lb (lc ++ (ld ++ (le ++ lf)))
+    ∙ fold-append after_entry s2 lc (ld ++ (le ++ lf)) ∙ fold-append after_entry s3 ld (le ++ lf) ∙ fold-append after_entry s4 le lf in
     subst (TakenFromHold (2 * amount) amount s t rest) (six la lb lc ld le lf)
     (record {
       its = costs (2 * amount) amount (and_then e1 (and_then e2 (and_then e3 (and_then e4 (and_then e5 e6))))) (omega arith) (omega arith);

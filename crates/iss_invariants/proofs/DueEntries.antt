@@ -69,7 +69,8 @@ outcome_paid outcome.Funded s f c t at h stands found asked =
     let a = c.opened.amount in
     let es = funded_ask_entries (call_ask c.opened t) (account.Gateway t.currency) part.G in
     closing_paid s how.Funded c es h found asked
-    (λ h1. paid_more (4 * at_least_one a) (2 * at_least_one a) (funded_ask_paid (after_entry s (entry.Closed c.opened.call how.Funded)) (call_ask c.opened t) (account.Gateway t.currency) part.G h1 stands) (omega (arith, least_one a)) (omega (arith, least_one a)))
+    (λ h1. paid_more (4 * at_least_one a) (2 * at_least_one a)
+    (funded_ask_paid (after_entry s (entry.Closed c.opened.call how.Funded)) (call_ask c.opened t) (account.Gateway t.currency) part.G h1 stands) (omega (arith, least_one a)) (omega (arith, least_one a)))
 outcome_paid outcome.Refused s f c t at h stands found asked =
     let a = c.opened.amount in
     let es = declined_ask_entries (call_ask c.opened t) reason.GatewayDeclined in
@@ -78,7 +79,8 @@ outcome_paid outcome.Refused s f c t at h stands found asked =
 outcome_paid outcome.Connection s f c t at h stands found asked = failed_call_paid s f c t failure.Connection at h stands found asked
 outcome_paid outcome.Application s f c t at h stands found asked = failed_call_paid s f c t failure.Application at h stands found asked
 
-txn_paid : (s : CoreState) (make : Txn → List Entry) (o : Option TxnNow) → IsOrderlyState s → ((now : TxnNow) → o ≡ Some now → Stands s now.txn) → ((t : Txn) → Stands s t → Paid 0 0 s (make t)) → Paid 0 0 s (entries_of_txn make o)
+txn_paid : (s : CoreState) (make : Txn → List Entry) (o : Option TxnNow) → IsOrderlyState s → ((now : TxnNow) → o ≡ Some now → Stands s now.txn)
+    → ((t : Txn) → Stands s t → Paid 0 0 s (make t)) → Paid 0 0 s (entries_of_txn make o)
 txn_paid s make None h stands each = nothing_paid s h
 txn_paid s make (Some now) h stands each = each now.txn (stands now refl)
 

@@ -1,4 +1,4 @@
-use Rattle.iss_invariants.proofs.Enterable.{sound_small, records_small}
+use Rattle.iss_invariants.proofs.Enterable.{records_small, sound_small}
 use Rattle.iss_invariants.proofs.states.sums_are_small.Goals as goal
 
 pub returns-clause-sound : goal.returns-clause-sound
