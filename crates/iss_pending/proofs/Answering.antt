@@ -1,6 +1,6 @@
 -- What the answer to a call is judged: by the call and its transaction as they stand before anything due.
-use Rattle.std.proofs.Common.{◌≡◌, ℕ, Bool, true, false, not, cond, ◌&&◌, ◌||◌, nat_le, nat_lt, List, [], ◌∷◌, refl, ap, ◌∙◌, arith}
-use Rattle.std.specs.Prelude.{Option, Some, None, is_none}
+use Rattle.std.specs.Prelude.{None, Option, Some, is_none}
+use Rattle.std.proofs.Common.{Bool, List, [], ap, arith, cond, false, nat_le, nat_lt, not, refl, true, ℕ, ◌&&◌, ◌||◌, ◌∙◌, ◌∷◌, ◌≡◌}
 use Rattle.std.specs.List.{list_any}
 use Rattle.std.proofs.lemmas.Bool.Decides.{nat_tests}
 use Rattle.iss_model.specs.declared.call.CallId.{CallId}
@@ -10,16 +10,17 @@ use Rattle.iss_model.specs.declared.decision.Judged.{Judged}
 use Rattle.iss_model.specs.declared.decision.Judged.TheVariants as judged
 use Rattle.iss_model.specs.declared.input.Input.TheVariants as input
 use Rattle.iss_model.specs.declared.input.Outcome.{Outcome}
-use Rattle.iss_model.specs.rules.Activity.{TxnNow, CallNow, call_numbered, is_asked}
-use Rattle.iss_model.specs.rules.Facts.{call_in, txn_in}
+use Rattle.iss_model.specs.rules.Activity.{CallNow, TxnNow, call_numbered, is_asked}
 use Rattle.iss_model.specs.rules.Due.{DueItem, due_items, is_quiet}
+use Rattle.iss_model.specs.rules.Facts.{call_in, txn_in}
+use Rattle.iss_model.specs.rules.Judging.{call_answer, judgement_as, judgement_at, late_answer}
 use Rattle.iss_model.specs.rules.Stepping.{after_due}
-use Rattle.iss_model.specs.rules.Judging.{late_answer, call_answer, judgement_as, judgement_at}
 use Rattle.iss_model.specs.state.Cores.{CoreState, core_facts, core_keeper}
-use Rattle.iss_pending.specs.Well.{IsAsked, known_of, IsWell}
-use Rattle.iss_pending.proofs.CallsAfterDue.{unknown_stays, closed_stays_closed}
+use Rattle.iss_docket.specs.Well.{IsAsked}
+use Rattle.iss_pending.specs.Pending.{IsWell, known_of}
+use Rattle.iss_pending.proofs.CallsAfterDue.{closed_stays_closed, unknown_stays}
+use Rattle.iss_pending.proofs.DueHits.{after_due_fate, due_hits}
 use Rattle.iss_pending.proofs.Fates.{Fate, hits}
-use Rattle.iss_pending.proofs.DueHits.{due_hits, after_due_fate}
 
 pub unknown_answer : (s : CoreState) (call : CallId) (what : Outcome) (at : ℕ) → call_in (core_facts s) call.0 ≡ None
     → judgement_at core_keeper s (input.Answer call what) at ≡ judgement_as (Some (answer.UnknownCall call)) (is_quiet (due_items (core_facts s) at)) (input.Answer call what) at

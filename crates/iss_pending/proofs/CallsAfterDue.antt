@@ -1,6 +1,6 @@
 -- What is told of calls after all that is due: unknown ones stay unknown, closed ones closed, and asked ones are asked until a deadline or an expiry.
-use Rattle.std.proofs.Common.{◌≡◌, ℕ, ◌<◌, Bool, true, false, not, cond, ◌&&◌, ◌||◌, nat_eq, nat_le, nat_lt, List, [], ◌∷◌, map, filter, fold, refl, sym, ap, ◌∙◌, arith}
-use Rattle.std.specs.Prelude.{Option, Some, None, option_map, find}
+use Rattle.std.specs.Prelude.{None, Option, Some, find, option_map}
+use Rattle.std.proofs.Common.{Bool, List, [], ap, arith, cond, false, filter, fold, map, nat_eq, nat_le, nat_lt, not, refl, sym, true, ℕ, ◌&&◌, ◌<◌, ◌||◌, ◌∙◌, ◌∷◌, ◌≡◌}
 use Rattle.std.proofs.lemmas.Bool.Decides.{nat_tests}
 use Rattle.iss_model.specs.declared.call.Failure.TheVariants as failure
 use Rattle.iss_model.specs.declared.call.How.{How}
@@ -9,25 +9,25 @@ use Rattle.iss_model.specs.declared.call.Opened.{Opened}
 use Rattle.iss_model.specs.declared.decision.Reason.{Reason}
 use Rattle.iss_model.specs.declared.decision.Reason.TheVariants as reason
 use Rattle.iss_model.specs.declared.entry.Entry.{Entry}
-use Rattle.iss_model.specs.rules.Activity.{TxnNow, CallNow, txn_named, call_numbered, is_asked}
+use Rattle.iss_model.specs.rules.Activity.{CallNow, TxnNow, call_numbered, is_asked, txn_named}
+use Rattle.iss_model.specs.rules.CardEntries.{entries_of_asked, entries_of_txn, failed_call_entries}
+use Rattle.iss_model.specs.rules.Due.{DueItem, DueThing, call_due, due_items, expiry_entries, live_expiry_entries, thing_entries, txn_due}
 use Rattle.iss_model.specs.rules.Facts.{call_in, txn_in}
-use Rattle.iss_model.specs.rules.CardEntries.{failed_call_entries, entries_of_txn, entries_of_asked}
-use Rattle.iss_model.specs.rules.Reasons.{is_some_with}
-use Rattle.iss_model.specs.rules.Due.{DueThing, call_due, txn_due, DueItem, due_items, expiry_entries, live_expiry_entries, thing_entries}
 use Rattle.iss_model.specs.rules.Keeper.{Growth}
-use Rattle.iss_model.specs.rules.Stepping.{settle, after_due}
-use Rattle.iss_model.specs.state.Cores.{CoreState, call_after_close, after_entry, core_facts, core_keeper}
-use Rattle.iss_model.proofs.Lists.{map-map, map-alike}
-use Rattle.iss_pending.specs.Dockets.{Docket, docket_of, docket_after, is_docketed}
-use Rattle.iss_pending.specs.Well.{known_of, IsWell}
-use Rattle.iss_pending.proofs.Lists.{find-map, none_mapped}
-use Rattle.iss_pending.proofs.Closing.{same_opened}
-use Rattle.iss_pending.proofs.Docketed.{closings}
-use Rattle.iss_pending.proofs.Abandoning.{asked_in, after_closing}
+use Rattle.iss_model.specs.rules.Reasons.{is_some_with}
+use Rattle.iss_model.specs.rules.Stepping.{after_due, settle}
+use Rattle.iss_model.specs.state.Cores.{CoreState, after_entry, call_after_close, core_facts, core_keeper}
+use Rattle.iss_model.proofs.Lists.{map-alike, map-map}
+use Rattle.iss_docket.specs.Dockets.{Docket, docket_after, docket_of, is_docketed}
+use Rattle.iss_docket.proofs.Abandoning.{after_closing, asked_in}
+use Rattle.iss_docket.proofs.Closing.{same_opened}
+use Rattle.iss_docket.proofs.Docketed.{closings}
+use Rattle.iss_docket.proofs.Lists.{find-map, none_mapped}
+use Rattle.iss_pending.specs.Pending.{IsWell, known_of}
 use Rattle.iss_pending.proofs.Due.{failed_closes}
-use Rattle.iss_pending.proofs.Staying.{comes_to}
-use Rattle.iss_pending.proofs.Fates.{Fate, calls_after_closes, expired_calls, sweep_leaves_closed}
 use Rattle.iss_pending.proofs.DueHits.{after_due_fate}
+use Rattle.iss_pending.proofs.Fates.{Fate, calls_after_closes, expired_calls, sweep_leaves_closed}
+use Rattle.iss_pending.proofs.Staying.{comes_to}
 
 -- what is due opens no call ----
 

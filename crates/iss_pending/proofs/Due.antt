@@ -1,37 +1,37 @@
 -- What falls due may be entered, and accounts for each event as before.
-use Rattle.std.proofs.Common.{◌≡◌, ℕ, ◌+◌, Bool, true, false, cond, List, [], ◌∷◌, ◌++◌, filter, refl, ap, ◌∙◌}
-use Rattle.std.specs.Prelude.{Option, Some, None}
+use Rattle.std.specs.Prelude.{None, Option, Some}
+use Rattle.std.proofs.Common.{Bool, List, [], ap, cond, false, filter, refl, true, ℕ, ◌++◌, ◌+◌, ◌∙◌, ◌∷◌, ◌≡◌}
 use Rattle.std.specs.Str.{bytes_eq}
 use Rattle.iss_model.specs.declared.account.Account.TheVariants as account
 use Rattle.iss_model.specs.declared.account.Part.TheVariants as part
 use Rattle.iss_model.specs.declared.call.Failure.{Failure}
 use Rattle.iss_model.specs.declared.call.Failure.TheVariants as failure
-use Rattle.iss_model.specs.declared.call.Method.TheVariants as method
 use Rattle.iss_model.specs.declared.call.How.{How}
 use Rattle.iss_model.specs.declared.call.How.TheVariants as how
+use Rattle.iss_model.specs.declared.call.Method.TheVariants as method
 use Rattle.iss_model.specs.declared.call.Opened.{Opened}
 use Rattle.iss_model.specs.declared.decision.Reason.TheVariants as reason
-use Rattle.iss_model.specs.declared.txn.Txn.{Txn}
-use Rattle.iss_model.specs.declared.input.Outcome.{Outcome}
-use Rattle.iss_model.specs.declared.input.Outcome.TheVariants as outcome
 use Rattle.iss_model.specs.declared.entry.Entry.{Entry}
 use Rattle.iss_model.specs.declared.entry.Entry.TheVariants as entry
-use Rattle.iss_model.specs.rules.Activity.{TxnNow, CallNow, txn_named, call_numbered, is_asked}
-use Rattle.iss_model.specs.rules.Facts.{Facts, asked_calls_of, next_notice}
+use Rattle.iss_model.specs.declared.input.Outcome.{Outcome}
+use Rattle.iss_model.specs.declared.input.Outcome.TheVariants as outcome
+use Rattle.iss_model.specs.declared.txn.Txn.{Txn}
+use Rattle.iss_model.specs.rules.Activity.{CallNow, TxnNow, call_numbered, is_asked, txn_named}
 use Rattle.iss_model.specs.rules.Asks.{call_ask}
+use Rattle.iss_model.specs.rules.CardEntries.{entries_of_asked, entries_of_txn, failed_call_entries, outcome_entries}
+use Rattle.iss_model.specs.rules.Due.{DueThing, call_due, expiry_entries, live_expiry_entries, thing_entries, txn_due}
+use Rattle.iss_model.specs.rules.Facts.{Facts, asked_calls_of, next_notice}
+use Rattle.iss_model.specs.rules.Pieces.{declined_ask_entries, end_entries, funded_ask_entries, in_all, notice_after_abandonment, notice_entry, only_gateway, only_where, parts_held, stand_in_entries}
 use Rattle.iss_model.specs.rules.Reasons.{is_some_with}
 use Rattle.iss_model.specs.rules.StandIns.{stand}
-use Rattle.iss_model.specs.rules.Pieces.{only_where, only_gateway, parts_held, in_all, notice_entry, notice_after_abandonment, end_entries, declined_ask_entries, funded_ask_entries, stand_in_entries}
-use Rattle.iss_model.specs.rules.CardEntries.{failed_call_entries, outcome_entries, entries_of_txn, entries_of_asked}
-use Rattle.iss_model.specs.rules.Due.{DueThing, call_due, txn_due, expiry_entries, live_expiry_entries, thing_entries}
 use Rattle.iss_model.specs.state.Cores.{CoreState, core_facts}
 use Rattle.iss_model.proofs.Names.{one_name}
-use Rattle.iss_pending.specs.Dockets.{Docket, docket_of, is_docketed}
-use Rattle.iss_pending.specs.Well.{has_live, IsAsked, Known, IsWellAmong}
-use Rattle.iss_pending.proofs.Lists.{found_passes}
-use Rattle.iss_pending.proofs.Docketed.{closings, silent, where_silent, gateway_silent, silent_last, end_docketed, Settles, declined_settles, funded_settles, stand_settles}
-use Rattle.iss_pending.proofs.Enters.{Enters, enters_as, enters_none, enters_closed}
-use Rattle.iss_pending.proofs.Abandoning.{end_enters}
+use Rattle.iss_docket.specs.Dockets.{Docket, docket_of, is_docketed}
+use Rattle.iss_docket.specs.Well.{IsAsked, IsWellAmong, Known, has_live}
+use Rattle.iss_docket.proofs.Abandoning.{end_enters}
+use Rattle.iss_docket.proofs.Docketed.{Settles, closings, declined_settles, end_docketed, funded_settles, gateway_silent, silent, silent_last, stand_settles, where_silent}
+use Rattle.iss_docket.proofs.Enters.{Enters, enters_as, enters_closed, enters_none}
+use Rattle.iss_docket.proofs.Lists.{found_passes}
 
 -- ways to close a call ----
 

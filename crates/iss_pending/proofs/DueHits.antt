@@ -1,20 +1,20 @@
 -- Which items are due, and so what becomes of an asked call by all that is due at a moment.
-use Rattle.std.proofs.Common.{◌≡◌, ℕ, Bool, true, false, cond, ◌&&◌, ◌||◌, nat_eq, nat_le, List, [], ◌∷◌, ◌++◌, map, filter, fold, refl, sym, ap, subst, ◌∙◌}
 use Rattle.std.specs.Prelude.{Some}
+use Rattle.std.proofs.Common.{Bool, List, [], ap, cond, false, filter, fold, map, nat_eq, nat_le, refl, subst, sym, true, ℕ, ◌&&◌, ◌++◌, ◌||◌, ◌∙◌, ◌∷◌, ◌≡◌}
 use Rattle.std.specs.List.{list_any}
 use Rattle.std.specs.Str.{bytes_eq}
 use Rattle.std.proofs.lemmas.List.Folds.{list_any-append}
-use Rattle.iss_model.specs.rules.Activity.{TxnNow, CallNow, txn_named, is_asked}
-use Rattle.iss_model.specs.rules.Due.{DueItem, due_call, due_txn, is_before, items_with, due_items}
+use Rattle.iss_model.specs.rules.Activity.{CallNow, TxnNow, is_asked, txn_named}
+use Rattle.iss_model.specs.rules.Due.{DueItem, due_call, due_items, due_txn, is_before, items_with}
 use Rattle.iss_model.specs.rules.Reasons.{is_some_with}
 use Rattle.iss_model.specs.rules.Stepping.{after_due}
 use Rattle.iss_model.specs.state.Cores.{CoreState, core_facts, core_keeper}
 use Rattle.iss_model.proofs.Names.{one_name}
-use Rattle.iss_pending.specs.Dockets.{docket_of}
-use Rattle.iss_pending.specs.Well.{CallsNumberedFrom, HaveOwnTokens, IsAsked, Known, IsWellAmong}
-use Rattle.iss_pending.proofs.Lists.{found_passes, none_found, any_filtered, any_mapped, Lone, lone_any}
-use Rattle.iss_pending.proofs.Closing.{calls_lone}
-use Rattle.iss_pending.proofs.Fates.{hits, Fate, sweep_fate}
+use Rattle.iss_docket.specs.Dockets.{docket_of}
+use Rattle.iss_docket.specs.Well.{CallsNumberedFrom, HaveOwnTokens, IsAsked, IsWellAmong, Known}
+use Rattle.iss_docket.proofs.Closing.{calls_lone}
+use Rattle.iss_docket.proofs.Lists.{Lone, any_filtered, any_mapped, found_passes, lone_any, none_found}
+use Rattle.iss_pending.proofs.Fates.{Fate, hits, sweep_fate}
 
 txns_lone : (k : List ℕ) (ts : List TxnNow) → HaveOwnTokens ts → Lone (λ t. bytes_eq t.txn.token k) ts
 txns_lone k [] h = tt
@@ -90,8 +90,8 @@ due_hits known s at n c t well asked stands =
     any_all_placed p (filter q (calls ++ txns)) []
     ∙ any_filtered p q (calls ++ txns)
     ∙ list_any-append (λ (i : DueItem). nat_le i.since at && hits n k i.thing) calls txns
-    ∙ ap (λ (b : Bool). b || list_any (λ (i : DueItem). nat_le i.since at && hits n k i.thing) txns) (due_calls s.calls at n k c well.numbers asked)
-    ∙ ap (λ (b : Bool). nat_le c.opened.deadline at || b) (due_txns s.holdings.txns at n k t well.tokens stands (ap (is_some_with (λ (t : TxnNow). t.live)) (sym stands) ∙ well.live n c asked))
+    ∙ ap (λ (b : Bool). b || list_any (λ (i : DueItem). nat_le i.since at && hits n k i.thing) txns) (due_calls s.calls at n k c well.calls.numbers asked)
+    ∙ ap (λ (b : Bool). nat_le c.opened.deadline at || b) (due_txns s.holdings.txns at n k t well.txns.tokens stands (ap (is_some_with (λ (t : TxnNow). t.live)) (sym stands) ∙ well.live n c asked))
 
 -- What becomes of an asked call by what is due at a moment: it is closed where its deadline or its transaction's expiry has come, and else stays as it is.
 pub after_due_fate : (known : Known) (s : CoreState) (at n : ℕ) (c : CallNow) (t : TxnNow) → IsWellAmong known (docket_of s) → IsAsked s.calls n c → txn_named c.opened.txn s.holdings.txns ≡ Some t

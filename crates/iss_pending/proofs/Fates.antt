@@ -1,6 +1,6 @@
 -- What becomes of an asked call by what is due.
-use Rattle.std.proofs.Common.{◌≡◌, ℕ, Bool, true, false, cond, ◌&&◌, ◌||◌, nat_eq, List, [], ◌∷◌, ◌++◌, map, filter, fold, refl, sym, ap, subst, ◌∙◌}
-use Rattle.std.specs.Prelude.{Option, Some, None}
+use Rattle.std.specs.Prelude.{None, Option, Some}
+use Rattle.std.proofs.Common.{Bool, List, [], ap, cond, false, filter, fold, map, nat_eq, refl, subst, sym, true, ℕ, ◌&&◌, ◌++◌, ◌||◌, ◌∙◌, ◌∷◌, ◌≡◌}
 use Rattle.std.specs.List.{list_any}
 use Rattle.std.specs.Option.{option_or}
 use Rattle.std.specs.Str.{bytes_eq}
@@ -12,27 +12,27 @@ use Rattle.iss_model.specs.declared.call.Opened.{Opened}
 use Rattle.iss_model.specs.declared.decision.Reason.{Reason}
 use Rattle.iss_model.specs.declared.decision.Reason.TheVariants as reason
 use Rattle.iss_model.specs.declared.decision.Verdict.{Verdict}
-use Rattle.iss_model.specs.declared.txn.Txn.{Txn}
 use Rattle.iss_model.specs.declared.entry.Entry.{Entry}
 use Rattle.iss_model.specs.declared.entry.Entry.TheVariants as entry
-use Rattle.iss_model.specs.rules.Activity.{TxnNow, CallNow, txn_named, call_numbered, is_asked}
-use Rattle.iss_model.specs.rules.CardEntries.{failed_call_entries, entries_of_txn, entries_of_asked}
-use Rattle.iss_model.specs.rules.Due.{DueThing, call_due, txn_due, DueItem, expiry_entries, live_expiry_entries, thing_entries}
+use Rattle.iss_model.specs.declared.txn.Txn.{Txn}
+use Rattle.iss_model.specs.rules.Activity.{CallNow, TxnNow, call_numbered, is_asked, txn_named}
+use Rattle.iss_model.specs.rules.CardEntries.{entries_of_asked, entries_of_txn, failed_call_entries}
+use Rattle.iss_model.specs.rules.Due.{DueItem, DueThing, call_due, expiry_entries, live_expiry_entries, thing_entries, txn_due}
 use Rattle.iss_model.specs.rules.Keeper.{Growth}
 use Rattle.iss_model.specs.rules.Reasons.{is_some_with}
 use Rattle.iss_model.specs.rules.Stepping.{settle}
-use Rattle.iss_model.specs.state.Cores.{CoreState, call_after_close, after_entry, core_facts, core_keeper}
+use Rattle.iss_model.specs.state.Cores.{CoreState, after_entry, call_after_close, core_facts, core_keeper}
 use Rattle.iss_model.proofs.Lists.{neither}
 use Rattle.iss_model.proofs.Names.{one_name}
-use Rattle.iss_pending.specs.Dockets.{Docket, docket_of, docket_after, is_docketed}
-use Rattle.iss_pending.specs.Well.{CallsNumberedFrom, IsAsked, Known, IsWellAmong}
-use Rattle.iss_pending.proofs.Lists.{not_both, inside, number_is, any_filtered, lone_any}
-use Rattle.iss_pending.proofs.Closing.{its_number, same_opened, stays_closed, own_closed, other_stays, stands_after, calls_lone}
-use Rattle.iss_pending.proofs.Entering.{apart_too, call_more}
-use Rattle.iss_pending.proofs.Docketed.{closings}
-use Rattle.iss_pending.proofs.Abandoning.{asked_in, closings_none, after_closing}
-use Rattle.iss_pending.proofs.Due.{Closes, closes_docketed, failed_closes, expiry_docketed, its_token}
-use Rattle.iss_pending.proofs.Staying.{entries_docket, comes_to}
+use Rattle.iss_docket.specs.Dockets.{Docket, docket_after, docket_of, is_docketed}
+use Rattle.iss_docket.specs.Well.{CallsNumberedFrom, IsAsked, IsWellAmong, Known}
+use Rattle.iss_docket.proofs.Abandoning.{after_closing, asked_in, closings_none}
+use Rattle.iss_docket.proofs.Closing.{calls_lone, its_number, other_stays, own_closed, same_opened, stands_after, stays_closed}
+use Rattle.iss_docket.proofs.Docketed.{closings}
+use Rattle.iss_docket.proofs.Entering.{apart_too, call_more}
+use Rattle.iss_docket.proofs.Lists.{any_filtered, inside, lone_any, not_both, number_is}
+use Rattle.iss_pending.proofs.Due.{Closes, closes_docketed, expiry_docketed, failed_closes, its_token}
+use Rattle.iss_pending.proofs.Staying.{comes_to, entries_docket}
 use Rattle.iss_pending.proofs.Steps.{thing_well}
 
 -- a closed call stays as it is ----
@@ -184,7 +184,7 @@ expired_fate known s n c t well asked =
       closed = λ hit. false_from_ne_true (is_asked after.0) (λ h.
           closings_none reason.Expired p t.token n after.0 (record { stands = after.1; asked = h }) (ap (λ (o : Opened). o.txn) after.2 ∙ sym (one_name t.token c.opened.txn hit)));
       left = λ miss. inside (sym after.1
-          ∙ closings_leave reason.Expired cs p n c asked.stands (other_txns s.calls n c t.token well.numbers asked.stands (apart_too t.token c.opened.txn miss)));
+          ∙ closings_leave reason.Expired cs p n c asked.stands (other_txns s.calls n c t.token well.calls.numbers asked.stands (apart_too t.token c.opened.txn miss)));
     }
 
 -- the transaction of an asked call is live

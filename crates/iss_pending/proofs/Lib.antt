@@ -1,14 +1,9 @@
-pub mod Lists
-pub mod Closing
-pub mod Entering
-pub mod Enters
-pub mod Docketed
-pub mod Abandoning
 pub mod Due
 pub mod Own
 pub mod Staying
 pub mod Steps
-pub mod Counts
+pub mod NewEvents
+pub mod Legal
 pub mod Fates
 pub mod DueHits
 pub mod CallsAfterDue

@@ -1,48 +1,49 @@
 -- A record's own entries may be entered where its event is new, and account for it.
-use Rattle.std.proofs.Common.{◌≡◌, ℕ, ◌+◌, ◌-◌, min, Bool, true, false, not, cond, ◌&&◌, ◌||◌, nat_eq, List, [], ◌∷◌, ◌++◌, length, filter, refl, sym, ap, subst, ◌∙◌}
-use Rattle.std.specs.Prelude.{Option, Some, None, is_some, is_none, option_map, option_and_then}
+use Rattle.std.specs.Prelude.{None, Option, Some, is_none, is_some, option_and_then, option_map}
+use Rattle.std.proofs.Common.{Bool, List, [], ap, cond, false, filter, length, min, nat_eq, not, refl, subst, sym, true, ℕ, ◌&&◌, ◌++◌, ◌+◌, ◌-◌, ◌||◌, ◌∙◌, ◌∷◌, ◌≡◌}
 use Rattle.std.specs.List.{list_any}
 use Rattle.std.specs.Option.{option_or}
 use Rattle.std.specs.Str.{bytes_eq}
-use Rattle.std.proofs.lemmas.Bool.{not-false, and_parts}
-use Rattle.iss_model.specs.declared.currency.Currency.{Currency}
+use Rattle.std.proofs.lemmas.Bool.{and_parts, not-false}
 use Rattle.iss_model.specs.declared.account.Account.TheVariants as account
 use Rattle.iss_model.specs.declared.account.Part.TheVariants as part
 use Rattle.iss_model.specs.declared.call.Failure.TheVariants as failure
 use Rattle.iss_model.specs.declared.call.Method.TheVariants as method
 use Rattle.iss_model.specs.declared.call.Opened.{Opened}
+use Rattle.iss_model.specs.declared.currency.Currency.{Currency}
 use Rattle.iss_model.specs.declared.decision.Reason.{Reason}
 use Rattle.iss_model.specs.declared.decision.Reason.TheVariants as reason
 use Rattle.iss_model.specs.declared.decision.Verdict.{Verdict}
 use Rattle.iss_model.specs.declared.decision.Verdict.TheVariants as verdict
+use Rattle.iss_model.specs.declared.entry.Entry.{Entry}
+use Rattle.iss_model.specs.declared.entry.Entry.TheVariants as entry
+use Rattle.iss_model.specs.declared.input.Input.{Input}
+use Rattle.iss_model.specs.declared.input.Input.TheVariants as input
 use Rattle.iss_model.specs.declared.setting.Card.{Card}
 use Rattle.iss_model.specs.declared.setting.Product.{Product}
 use Rattle.iss_model.specs.declared.txn.Txn.{Txn}
-use Rattle.iss_model.specs.declared.input.Input.{Input}
-use Rattle.iss_model.specs.declared.input.Input.TheVariants as input
-use Rattle.iss_model.specs.declared.entry.Entry.{Entry}
-use Rattle.iss_model.specs.declared.entry.Entry.TheVariants as entry
 use Rattle.iss_model.specs.Inputs.{event_token}
-use Rattle.iss_model.specs.rules.Settings.{product_named, card_named, is_named_in, is_active_user, is_active_card}
-use Rattle.iss_model.specs.rules.Activity.{TxnNow, CallNow, txn_named, is_asked}
-use Rattle.iss_model.specs.rules.Facts.{Facts, txn_in, asked_calls_of, next_notice, is_notice}
-use Rattle.iss_model.specs.rules.Asks.{Ask, is_authorization, ask_usage, txn_begun}
+use Rattle.iss_model.specs.rules.Activity.{CallNow, TxnNow, is_asked, txn_named}
+use Rattle.iss_model.specs.rules.Asks.{Ask, ask_usage, is_authorization, txn_begun}
+use Rattle.iss_model.specs.rules.CardEntries.{authorization_entries, call_for, clearing_entries, clearing_money_entries, funding_entries, further_clearing_entries, gateway_ask_entries, increment_entries, last_clearing_entries, outcome_entries, owed_to_programme, refund_entries, reversal_entries}
+use Rattle.iss_model.specs.rules.CardReasons.{authorization_reason, clearing_reason, first_ask, further_ask, increment_reason, is_account_funded, is_in_currency, is_pending, refund_reason, reversal_reason}
+use Rattle.iss_model.specs.rules.Facts.{Facts, asked_calls_of, is_notice, next_notice, txn_in}
+use Rattle.iss_model.specs.rules.Pieces.{Parts, abandoned_calls_entries, end_entries, hold_entries, in_all, left_of, notice_after_abandonment, notice_entry, only_gateway, only_where, parts_held, post_entries, release_entries, stand_in_entries, taken_to_clear, user_account}
+use Rattle.iss_model.specs.rules.Reasons.{card_reason, control_reason, group_reason, is_some_with, load_reason, move_reason, product_reason, set_reason, switch_reason, user_is, user_reason}
+use Rattle.iss_model.specs.rules.Settings.{card_named, is_active_card, is_active_user, is_named_in, product_named}
 use Rattle.iss_model.specs.rules.StandIns.{stand}
-use Rattle.iss_model.specs.rules.Reasons.{is_some_with, user_is, user_reason, card_reason, move_reason, product_reason, group_reason, control_reason, set_reason, switch_reason, load_reason}
-use Rattle.iss_model.specs.rules.CardReasons.{is_account_funded, is_in_currency, is_pending, first_ask, further_ask, authorization_reason, increment_reason, reversal_reason, clearing_reason, refund_reason}
-use Rattle.iss_model.specs.rules.Pieces.{only_where, only_gateway, post_entries, hold_entries, user_account, Parts, parts_held, in_all, left_of, taken_to_clear, release_entries, notice_entry, abandoned_calls_entries, notice_after_abandonment, end_entries, stand_in_entries}
-use Rattle.iss_model.specs.rules.CardEntries.{call_for, gateway_ask_entries, funding_entries, authorization_entries, increment_entries, reversal_entries, clearing_money_entries, last_clearing_entries, further_clearing_entries, clearing_entries, owed_to_programme, refund_entries, outcome_entries}
-use Rattle.iss_model.specs.rules.Stepping.{unless_declined, setting_entries, load_entries, authorization_ask, increment_ask, entries_of}
+use Rattle.iss_model.specs.rules.Stepping.{authorization_ask, entries_of, increment_ask, load_entries, setting_entries, unless_declined}
 use Rattle.iss_model.specs.state.Cores.{CoreState, core_facts, is_live}
-use Rattle.iss_model.proofs.Names.{same_name, its_name}
-use Rattle.iss_pending.specs.Dockets.{Docket, docket_of, docket_after, is_docketed}
-use Rattle.iss_pending.specs.Well.{CallsNumberedFrom, has_live, NoneAskedOf, NonePendingOf, known_of, Known, IsWellAmong}
-use Rattle.iss_pending.proofs.Lists.{not_both, both_so, found_filtered}
-use Rattle.iss_pending.proofs.Entering.{txn_more}
-use Rattle.iss_pending.proofs.Docketed.{closings, silent, both_silent, where_silent, gateway_silent, post_silent, hold_silent, release_silent, clearing_silent, silent_first, silent_last, docketed_both, abandoned_docketed, end_docketed, Settles, stand_settles}
-use Rattle.iss_pending.proofs.Enters.{Enters, enters_as, enters_none, enters_append, enters_decided, enters_began, enters_settled, enters_opened}
-use Rattle.iss_pending.proofs.Abandoning.{IsNewTo, new_decides, abandoned_decides}
-use Rattle.iss_pending.proofs.Due.{outcome_closes, asked_enters, found_live}
+use Rattle.iss_model.proofs.Names.{its_name, same_name}
+use Rattle.iss_docket.specs.Dockets.{Docket, docket_after, docket_of, is_docketed}
+use Rattle.iss_docket.specs.Well.{CallsNumberedFrom, IsWellAmong, Known, NoneAskedOf, NonePendingOf, has_live}
+use Rattle.iss_docket.proofs.Abandoning.{IsNewTo, abandoned_decides, new_decides}
+use Rattle.iss_docket.proofs.Docketed.{Settles, abandoned_docketed, both_silent, clearing_silent, closings, docketed_both, end_docketed, gateway_silent, hold_silent, post_silent, release_silent, silent, silent_first, silent_last, stand_settles, where_silent}
+use Rattle.iss_docket.proofs.Entering.{txn_more}
+use Rattle.iss_docket.proofs.Enters.{Enters, enters_append, enters_as, enters_began, enters_decided, enters_none, enters_opened, enters_settled}
+use Rattle.iss_docket.proofs.Lists.{both_so, found_filtered, never, not_both}
+use Rattle.iss_pending.specs.Pending.{known_of}
+use Rattle.iss_pending.proofs.Due.{asked_enters, found_live, outcome_closes}
 
 -- an ask seeks funding ----
 
@@ -184,7 +185,7 @@ begun_enters s event x well its ask =
         none_opened = λ n c e same. its.new.none_opened n c e (same ∙ ask.its_event);
         undecided = ap (λ (k : List ℕ). list_any (λ d. bytes_eq d.event k) d.decisions) ask.its_event ∙ its.new.undecided;
       };
-      numbers = well.numbers;
+      numbers = well.calls.numbers;
       its_live = begun_live d.txns x.txn none;
       none_pending = λ n c now e method. nobody n c now e;
       alone = λ h. nobody;
@@ -219,21 +220,18 @@ increment_enters s event txn currency amount at (Some now) e well its none =
     let third = first_fails (is_pending f now.txn) reason.TxnPending _ second.1 in
     enters_append (known_of s) d (Some event) (entry.Usage (ask_usage ask) ∷ []) (funding_entries f ask)
     (enters_as (known_of s) d None (entry.Usage (ask_usage ask) ∷ []) [] refl (enters_none (known_of s) d))
-    (funding_enters (known_of s) d f ask (well.known_products txn now e) refl
+    (funding_enters (known_of s) d f ask (well.txns.products txn now e) refl
     (record {
       new = its.new;
-      numbers = well.numbers;
+      numbers = well.calls.numbers;
       its_live = found_live d.txns txn now e (not-false now.live second.0);
       none_pending = λ n c asked same method.
           not_both (is_pending f now.txn)
           (found_filtered (λ (x : CallNow). nat_eq x.opened.call.0 n) (λ (x : CallNow). is_asked x && bytes_eq x.opened.txn now.txn.token) (λ (x : CallNow). is_authorization x.opened.method)
           d.calls c asked.stands (both_so (is_asked c) (bytes_eq c.opened.txn now.txn.token) asked.asked (same_name c.opened.txn now.txn.token same)) method)
           third.0;
-      alone = λ h. no_first h;
+      alone = never;
     }))
-  where
-    no_first : {P : Type 0} → false ≡ true → P
-    no_first h = cc
 
 -- reversals, clearings and refunds ----
 

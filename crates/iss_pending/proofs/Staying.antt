@@ -1,31 +1,30 @@
 -- What entries leave alone: the accepted events, the products that stand; and what they do to a core's docket.
-use Rattle.std.proofs.Common.{◌≡◌, ℕ, ◌+◌, Bool, true, false, cond, List, [], ◌∷◌, ◌++◌, map, filter, fold, refl, sym, ap, subst, ◌∙◌, ◌⊎◌, inl, inr}
-use Rattle.std.specs.Prelude.{Option, Some, None, is_some, find}
+use Rattle.std.specs.Prelude.{None, Option, Some, find, is_some}
+use Rattle.std.proofs.Common.{Bool, List, [], ap, cond, false, filter, fold, inl, inr, map, refl, subst, sym, true, ℕ, ◌++◌, ◌+◌, ◌∙◌, ◌∷◌, ◌≡◌, ◌⊎◌}
 use Rattle.std.specs.Option.{option_or}
 use Rattle.std.specs.Str.{bytes_eq}
 use Rattle.std.proofs.lemmas.List.{append-nil}
 use Rattle.std.proofs.lemmas.List.Folds.{find-append}
-use Rattle.iss_model.specs.declared.setting.Moved.TheVariants as who
-use Rattle.iss_model.specs.declared.setting.Product.{Product}
+use Rattle.iss_model.specs.declared.entry.Entry.{Entry}
+use Rattle.iss_model.specs.declared.entry.Entry.TheVariants as entry
 use Rattle.iss_model.specs.declared.input.Input.{Input}
 use Rattle.iss_model.specs.declared.input.Input.TheVariants as input
 use Rattle.iss_model.specs.declared.input.Record.{Record}
-use Rattle.iss_model.specs.declared.entry.Entry.{Entry}
-use Rattle.iss_model.specs.declared.entry.Entry.TheVariants as entry
+use Rattle.iss_model.specs.declared.setting.Moved.TheVariants as who
+use Rattle.iss_model.specs.declared.setting.Product.{Product}
 use Rattle.iss_model.specs.Inputs.{event_token, is_event, is_text}
-use Rattle.iss_model.specs.rules.Settings.{product_named}
-use Rattle.iss_model.specs.rules.Facts.{Accepted}
 use Rattle.iss_model.specs.rules.Due.{DueItem, thing_entries}
+use Rattle.iss_model.specs.rules.Facts.{Accepted}
 use Rattle.iss_model.specs.rules.Keeper.{Growth}
+use Rattle.iss_model.specs.rules.Settings.{product_named}
 use Rattle.iss_model.specs.rules.Stepping.{settle}
-use Rattle.iss_model.specs.state.Cores.{CoreState, ProductNow, product_after_switch, after_setting, after_entry, with_record, core_facts, core_keeper}
-use Rattle.iss_model.proofs.Lists.{map-map, map-alike}
-use Rattle.iss_model.proofs.Names.{one_name, its_name}
-use Rattle.iss_pending.specs.Dockets.{Docket, docket_of, docket_after, is_docketed}
-use Rattle.iss_pending.specs.Well.{is_accepted, is_product}
-use Rattle.iss_pending.specs.Allowed.{AreAllowed}
-use Rattle.iss_pending.proofs.Lists.{by_either}
-use Rattle.iss_pending.proofs.Enters.{AreAllowedOn, docketed_moves}
+use Rattle.iss_model.specs.state.Cores.{CoreState, ProductNow, after_entry, after_setting, core_facts, core_keeper, product_after_switch, with_record}
+use Rattle.iss_model.proofs.Lists.{map-alike, map-map}
+use Rattle.iss_model.proofs.Names.{its_name, one_name}
+use Rattle.iss_docket.specs.Dockets.{Docket, docket_after, docket_of, is_docketed}
+use Rattle.iss_docket.proofs.Enters.{AreAllowedOn, docketed_moves}
+use Rattle.iss_docket.proofs.Lists.{by_either}
+use Rattle.iss_pending.specs.Pending.{AreAllowed, is_accepted, is_product}
 
 -- the docket ----
 

@@ -1,37 +1,26 @@
--- A step leaves a core well, and so does each legal list of records.
-use Rattle.std.proofs.Common.{◌≡◌, ℕ, max, Bool, true, false, cond, ◌||◌, List, [], ◌∷◌, fold, refl, sym, ap, subst, ◌∙◌}
-use Rattle.std.specs.Prelude.{Option, Some, None, is_some}
+-- A record that is taken up is ready for its entries, and a step keeps a core well.
+use Rattle.std.specs.Prelude.{None, Some}
+use Rattle.std.proofs.Common.{List, [], ap, false, fold, subst, sym, true, ℕ, ◌+◌, ◌∙◌, ◌∷◌, ◌≡◌}
 use Rattle.std.proofs.lemmas.Bool.{false_from_ne_true}
-use Rattle.iss_model.specs.declared.decision.Answer.{Answer}
-use Rattle.iss_model.specs.declared.decision.Answer.TheVariants as answer
-use Rattle.iss_model.specs.declared.decision.Judged.TheVariants as judged
-use Rattle.iss_model.specs.declared.input.Input.{Input}
-use Rattle.iss_model.specs.declared.input.Input.TheVariants as input
-use Rattle.iss_model.specs.declared.input.Record.{Record}
 use Rattle.iss_model.specs.declared.entry.Entry.{Entry}
-use Rattle.iss_model.specs.Inputs.{event_token, same_contents}
-use Rattle.iss_model.specs.rules.Activity.{TxnNow, CallNow, txn_named, call_numbered, is_asked}
-use Rattle.iss_model.specs.rules.Facts.{Facts, Accepted, event_in, reply_in, call_in}
-use Rattle.iss_model.specs.rules.Due.{DueThing, DueItem, due_items, thing_entries, is_quiet}
+use Rattle.iss_model.specs.declared.input.Input.{Input}
+use Rattle.iss_model.specs.declared.input.Record.{Record}
+use Rattle.iss_model.specs.Inputs.{event_token}
+use Rattle.iss_model.specs.rules.Activity.{CallNow, is_asked, txn_named}
+use Rattle.iss_model.specs.rules.Due.{DueItem, DueThing, due_items, thing_entries}
+use Rattle.iss_model.specs.rules.Facts.{Accepted, call_in}
 use Rattle.iss_model.specs.rules.Keeper.{Growth}
-use Rattle.iss_model.specs.rules.Stepping.{entries_of, settle, after_due, step}
-use Rattle.iss_model.specs.rules.Judging.{repeat_or_conflict, event_answer, refusal, is_ack, judgement_as, judge}
-use Rattle.iss_model.specs.rules.Histories.{History, nothing_yet, history_keeper, IsLegalAfter, IsLegal}
-use Rattle.iss_model.specs.state.Cores.{CoreState, no_core, after_entry, with_record, core_facts, core_keeper, core_of}
-use Rattle.iss_agreement.specs.Shown.{shown_state}
-use Rattle.iss_agreement.proofs.Standing.{Fit}
-use Rattle.iss_agreement.proofs.Fitting.{IsGood}
-use Rattle.iss_agreement.proofs.Keepers.{shown, step-kept, step-shown, judge-shown}
-use Rattle.iss_agreement.proofs.BookAndState.{book_kept, nothing_good}
-use Rattle.iss_agreement.proofs.CoreOfBook.{core_shows, core_history}
-use Rattle.iss_pending.specs.Dockets.{Docket, docket_of, docket_after}
-use Rattle.iss_pending.specs.Well.{has_live, is_decided, IsAsked, IsAccounted, Known, is_accepted, known_of, IsNewEvent, IsWellAmong, IsWell}
-use Rattle.iss_pending.specs.Allowed.{AreAllowed, IsReady}
-use Rattle.iss_pending.proofs.Lists.{by_either, not_both, not_some}
-use Rattle.iss_pending.proofs.Enters.{Enters, entered_well}
+use Rattle.iss_model.specs.rules.Stepping.{after_due, entries_of, settle, step}
+use Rattle.iss_model.specs.state.Cores.{CoreState, after_entry, core_facts, core_keeper, with_record}
+use Rattle.iss_docket.specs.Dockets.{Docket, docket_after, docket_of}
+use Rattle.iss_docket.specs.Well.{IsAccounted, IsWellAmong, Known, asked_times, decided_times, has_live, is_decided}
+use Rattle.iss_docket.proofs.Counts.{accounted_once}
+use Rattle.iss_docket.proofs.Enters.{Enters, entered_well}
+use Rattle.iss_docket.proofs.Lists.{by_either, not_both, not_some}
+use Rattle.iss_pending.specs.Pending.{AreAllowed, IsNewEvent, IsReady, IsWell, is_accepted, known_of}
 use Rattle.iss_pending.proofs.Due.{thing_enters}
 use Rattle.iss_pending.proofs.Own.{IsNewOn, own_enters}
-use Rattle.iss_pending.proofs.Staying.{entries_docket, are_allowed, entries_accepted, due_accepted, still_accepted, accepted_with_record, accepted_before_or_now, products_stay}
+use Rattle.iss_pending.proofs.Staying.{accepted_before_or_now, accepted_with_record, are_allowed, due_accepted, entries_accepted, entries_docket, products_stay, still_accepted}
 
 -- more is known ----
 
@@ -39,17 +28,20 @@ more_known : (before known : Known) (d : Docket) → ((k : List ℕ) → before.
     → ((k : List ℕ) → before.products k ≡ true → known.products k ≡ true) → IsWellAmong before d → IsWellAmong known d
 more_known before known d events products well =
     record {
-      numbers = well.numbers;
+      calls = record {
+        numbers = well.calls.numbers;
+        once = well.calls.once;
+        alone = well.calls.alone;
+        events = λ n c e. events c.opened.event (well.calls.events n c e);
+      };
+      txns = record {
+        tokens = well.txns.tokens;
+        events = λ k h. events k (well.txns.events k h);
+        products = λ k t e. products t.txn.product (well.txns.products k t e);
+      };
+      decisions = record { once = well.decisions.once; events = λ k h. events k (well.decisions.events k h) };
       live = well.live;
-      alone = well.alone;
-      once = well.once;
       waits = well.waits;
-      tokens = well.tokens;
-      decided = well.decided;
-      known_calls = λ n c e. events c.opened.event (well.known_calls n c e);
-      known_txns = λ k h. events k (well.known_txns k h);
-      known_decisions = λ k h. events k (well.known_decisions k h);
-      known_products = λ k t e. products t.txn.product (well.known_products k t e);
     }
 
 -- a record that was taken up ----
@@ -65,10 +57,10 @@ ready_event s i ready event e =
     record {
       new = record {
         its_event = ready.accepted event e;
-        none_opened = λ n c stands same. not_both (ready.before.events event) (ap ready.before.events (sym same) ∙ well.known_calls n c stands) unknown;
-        undecided = false_from_ne_true (is_decided s.decisions event) (λ h. not_both (ready.before.events event) (well.known_decisions event h) unknown);
+        none_opened = λ n c stands same. not_both (ready.before.events event) (ap ready.before.events (sym same) ∙ well.calls.events n c stands) unknown;
+        undecided = false_from_ne_true (is_decided s.decisions event) (λ h. not_both (ready.before.events event) (well.decisions.events event h) unknown);
       };
-      unnamed = not_some (txn_named event s.holdings.txns) (λ h. not_both (ready.before.events event) (well.known_txns event h) unknown);
+      unnamed = not_some (txn_named event s.holdings.txns) (λ h. not_both (ready.before.events event) (well.txns.events event h) unknown);
     }
 
 pub ready_taken : (s : CoreState) (r : Record) → IsWell s → IsNewEvent s r.input → IsReady (with_record s r) r.input
@@ -150,113 +142,10 @@ step_well s r new well =
           (accepted_before_or_now s r event (ap (λ (accepted : List Accepted). is_accepted accepted event) (sym same) ∙ h)));
     }
 
--- a record that is judged new is new ----
-
-new_is_none : (answer : Option Answer) (quiet : Bool) (i : Input) (at : ℕ) (r : Record) → judgement_as answer quiet i at ≡ judged.New r → answer ≡ None
-new_is_none None quiet i at r h = refl
-new_is_none (Some a) quiet i at r h = by (quiet || is_ack i) h
-  where
-    by : (b : Bool) → cond b (judged.Told a) (judged.Clock (record { at = at; input = input.Time })) ≡ judged.New r → Some a ≡ None
-    by true h = cc
-    by false h = cc
-
-answer_none : (f : Facts) (i : Input) (token : List ℕ) (o : Option Accepted) → repeat_or_conflict f i token o ≡ None → is_some o ≡ false
-answer_none f i token None h = refl
-answer_none f i token (Some first) h = by (same_contents first.input i) h
-  where
-    by : (b : Bool) → cond b (Some (answer.Repeat token (reply_in f token))) (Some (answer.Conflict token first.number)) ≡ None → true ≡ false
-    by true h = cc
-    by false h = cc
-
-not_refused : (quiet : Bool) (f g : Facts) (i : Input) (event : List ℕ) → event_token i ≡ Some event → refusal quiet f g i ≡ None → is_some (event_in g event) ≡ false
-not_refused quiet f g i event e h = answer_none g i event (event_in g event) (sym (refused i e) ∙ h)
-  where
-    refused : (i : Input) → event_token i ≡ Some event → refusal quiet f g i ≡ event_answer g i event
-    refused (input.User token user) e = let t : token ≡ event = cc in ap (event_answer g (input.User token user)) t
-    refused (input.Card token card user product active) e = let t : token ≡ event = cc in ap (event_answer g (input.Card token card user product active)) t
-    refused (input.Move token who) e = let t : token ≡ event = cc in ap (event_answer g (input.Move token who)) t
-    refused (input.Product token product currency funding timeout_ms hold_ms) e = let t : token ≡ event = cc in ap (event_answer g (input.Product token product currency funding timeout_ms hold_ms)) t
-    refused (input.Group token group mccs) e = let t : token ≡ event = cc in ap (event_answer g (input.Group token group mccs)) t
-    refused (input.Control token control currency window amount_limit usage_limit association scope active) e =
-        let t : token ≡ event = cc in ap (event_answer g (input.Control token control currency window amount_limit usage_limit association scope active)) t
-    refused (input.Set token set product currency connection timeout application max day_limit active) e =
-        let t : token ≡ event = cc in ap (event_answer g (input.Set token set product currency connection timeout application max day_limit active)) t
-    refused (input.Switch token product on) e = let t : token ≡ event = cc in ap (event_answer g (input.Switch token product on)) t
-    refused (input.Load token user currency amount) e = let t : token ≡ event = cc in ap (event_answer g (input.Load token user currency amount)) t
-    refused (input.Authorization token card currency amount mcc mid) e = let t : token ≡ event = cc in ap (event_answer g (input.Authorization token card currency amount mcc mid)) t
-    refused (input.Increment token txn currency amount) e = let t : token ≡ event = cc in ap (event_answer g (input.Increment token txn currency amount)) t
-    refused (input.Reversal token txn currency amount) e = let t : token ≡ event = cc in ap (event_answer g (input.Reversal token txn currency amount)) t
-    refused (input.Clearing token txn currency amount last) e = let t : token ≡ event = cc in ap (event_answer g (input.Clearing token txn currency amount last)) t
-    refused (input.Refund token txn currency amount) e = let t : token ≡ event = cc in ap (event_answer g (input.Refund token txn currency amount)) t
-    refused (input.Answer call outcome) e = cc
-    refused (input.Ack notice) e = cc
-    refused input.Time e = cc
-
-pub judged_new : (s : CoreState) (r : Record) → judge core_keeper s r.input r.at ≡ judged.New r → IsNewEvent s r.input
-unfolding judge
-judged_new s r h event e =
-    let at : ℕ = max r.at s.now in
-    let quiet : Bool = is_quiet (due_items (core_facts s) at) in
-    let after : CoreState = (after_due core_keeper s at).world in
-    let unknown : is_accepted after.accepted event ≡ false =
-    not_refused quiet (core_facts s) (core_facts after) r.input event e (new_is_none (refusal quiet (core_facts s) (core_facts after) r.input) quiet r.input at r h) in
-    ap (λ (accepted : List Accepted). is_accepted accepted event) (sym (due_accepted at (record { world = s; entries = [] }) (due_items (core_facts s) at))) ∙ unknown
-
--- every legal list of records ----
-
-none_stands : {Q : Type 0} (n : ℕ) (c : CallNow) → call_numbered n [] ≡ Some c → Q
-none_stands n c e = cc
-
-none_asked : {Q : Type 0} (n : ℕ) (c : CallNow) → IsAsked [] n c → Q
-none_asked n c now = none_stands n c now.stands
-
-none_named : {Q : Type 0} (t : TxnNow) → None ≡ Some t → Q
-none_named t e = cc
-
-never : {Q : Type 0} → false ≡ true → Q
-never h = cc
-
-pub nothing_well : IsWell no_core
-nothing_well =
-    record {
-      docket = record {
-        numbers = tt;
-        live = λ n c now. none_asked n c now;
-        alone = λ n m c d now then same first. none_asked n c now;
-        once = λ n m c d now then same. none_stands n c now;
-        waits = λ n c now. none_asked n c now;
-        tokens = tt;
-        decided = tt;
-        known_calls = λ n c now. none_stands n c now;
-        known_txns = λ token h. never h;
-        known_decisions = λ event h. never h;
-        known_products = λ token t e. none_named t e;
-      };
-      accounted = λ event h. never h;
-    }
-
-legal_from : (P : CoreState → Type 0) → ((s : CoreState) (r : Record) → IsNewEvent s r.input → P s → P (step core_keeper s r).world)
-    → (h : History) (rs : List Record) → IsGood h → IsLegalAfter h rs → P (shown_state h) → P (fold (λ s r. (step core_keeper s r).world) (shown_state h) rs)
-legal_from P steps h [] good legal start = start
-legal_from P steps h (r ∷ rs) good legal start =
-    let s : CoreState = shown_state h in
-    let moved : step core_keeper s r ≡ shown shown_state (step history_keeper h r) = step-shown history_keeper core_keeper shown_state IsGood Fit book_kept core_shows h r good in
-    let new : judge core_keeper s r.input r.at ≡ judged.New r = judge-shown history_keeper core_keeper shown_state IsGood Fit book_kept core_shows h r.input r.at good ∙ legal.0.is_new in
-    let next : P (step core_keeper s r).world = steps s r (judged_new s r new) start in
-    subst (λ (g : Growth CoreState). P (fold (λ s r. (step core_keeper s r).world) g.world rs)) (sym moved)
-    (legal_from P steps (step history_keeper h r).world rs (step-kept history_keeper IsGood Fit book_kept h r good) legal.1
-    (subst (λ (g : Growth CoreState). P g.world) moved next))
-
--- what holds of no record, and a step keeps, holds of each legal list of records
-pub legal_induction : (P : CoreState → Type 0) → ((s : CoreState) (r : Record) → IsNewEvent s r.input → P s → P (step core_keeper s r).world)
-    → P no_core → (rs : List Record) → IsLegal rs → P (core_of rs)
-legal_induction P steps start rs legal =
-    subst (λ (s : CoreState). P (fold (λ s r. (step core_keeper s r).world) s rs)) (sym (core_history []))
-    (legal_from P steps nothing_yet rs nothing_good legal (subst P (core_history []) start))
-
-pub core_well : (rs : List Record) → IsLegal rs → IsWell (core_of rs)
-core_well rs legal = legal_induction IsWell step_well nothing_well rs legal
-
 -- an asked call's transaction is live
 pub asked_live : (s : CoreState) (n : ℕ) (c : CallNow) → IsWell s → call_in (core_facts s) n ≡ Some c → is_asked c ≡ true → has_live s.holdings.txns c.opened.txn ≡ true
 asked_live s n c well stands asked = well.docket.live n c (record { stands = stands; asked = asked })
+
+-- an accepted event is decided once, or isn't decided and waits for one call
+pub decided_once : (s : CoreState) (event : List ℕ) → IsWell s → is_accepted s.accepted event ≡ true → decided_times s.decisions event + asked_times s.calls event ≡ 1
+decided_once s event well accepted = accounted_once (known_of s) (docket_of s) event well.docket (well.accounted event accepted)

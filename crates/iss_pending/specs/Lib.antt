@@ -1,3 +1,1 @@
-pub mod Dockets
-pub mod Well
-pub mod Allowed
+pub mod Pending

@@ -1,15 +1,17 @@
-//! What holds of the transactions, the calls and the decisions of every core.
+//! What holds of the transactions, the calls and the decisions of every core: what is asked belongs to a live transaction, how an answer
+//! is judged, and that each event is decided once.
 //!
-//! It may cite `iss_model` and `iss_agreement`.
+//! It may cite `iss_model`, `iss_agreement` and `iss_docket`.
 //! It must not cite any body: its laws are of definitions.
 //!
-//! `IsWell s` holds of the state that legal records leave, and a step keeps it. What it says is cited by its fields, of `well : IsWell s`:
-//! `well.accounted event accepted`, and of its docket `well.docket.numbers`, `.live`, `.alone`, `.once`, `.waits`, `.tokens`, `.decided`,
-//! and `.known_calls`, `.known_txns`, `.known_decisions`, `.known_products` (`specs/Well.antt` has a sentence on each).
-//! An asked call is `record { stands = ..; asked = .. }`, by its number.
+//! `IsWell s` holds of each state that legal records leave, and a step keeps it. Of `well : IsWell s`, what it says is cited by its fields:
+//! `well.accounted event accepted`, and of its docket `well.docket.live n c asked`, `well.docket.waits n c asked`,
+//! `well.docket.calls.{numbers, once, alone, events}`, `well.docket.txns.{tokens, events, products}` and
+//! `well.docket.decisions.{once, events}`; `iss_docket/specs/Well.antt` has a sentence on each. There `asked` is
+//! `record { stands = ..; asked = .. }`, of the call of a number.
 //!
-//! Whoever enters entries one by one carries `IsReady` through what is due (`entries_are_allowed`), and reads off `AreAllowed` what each
-//! entry needs: `IsAllowed` is `MayOpen`, `MayClose`, `MayDecide`, `MayEnd`, or that a token is free.
+//! Whoever enters entries one by one carries `IsReady` from the record that is taken up through what is due (`entries_are_allowed`), and
+//! reads off `AreAllowed` what each entry needs: a new token, or a field of `MayOpen`, `MayClose`, `MayDecide` or `MayEnd`.
 #![tactic(auto)]
 
 mod pending;

@@ -10,12 +10,12 @@ ghost use Rattle.iss_model.specs.rules.Stepping.{entries_of, step};
 ghost use Rattle.iss_model.specs.rules.Judging.{judge};
 ghost use Rattle.iss_model.specs.rules.Histories.{IsLegal};
 ghost use Rattle.iss_model.specs.state.Cores.{CoreState, no_core, after_entry, with_record, core_facts, core_keeper, core_of};
-ghost use Rattle.iss_pending.specs.Well.{has_live, decided_times, asked_times, is_accepted, IsNewEvent, IsWell};
-ghost use Rattle.iss_pending.specs.Allowed.{AreAllowed, IsReady};
+ghost use Rattle.iss_docket.specs.Well.{has_live, decided_times, asked_times};
+ghost use Rattle.iss_pending.specs.Pending.{is_accepted, IsNewEvent, IsWell, AreAllowed, IsReady};
 
 /// Legal records leave a core well: its calls, its transactions and its decisions. A step keeps it so where the event is new,
 /// as it is where the record is judged new; and then an asked call's transaction stands and is live.
-#[tactic(auto, using(crate::proofs::Steps::nothing_well, crate::proofs::Steps::core_well, crate::proofs::Steps::step_well, crate::proofs::Steps::judged_new, crate::proofs::Steps::asked_live))]
+#[tactic(auto, using(crate::proofs::Legal::nothing_well, crate::proofs::Legal::core_well))]
 pub fn calls_are_well()
     ensures begins { IsWell no_core }
     ensures records { (rs : List Record) → IsLegal rs → IsWell (core_of rs) }

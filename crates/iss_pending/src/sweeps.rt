@@ -13,7 +13,7 @@ ghost use Rattle.iss_model.specs.rules.Due.{due_items, is_quiet};
 ghost use Rattle.iss_model.specs.rules.Stepping.{after_due};
 ghost use Rattle.iss_model.specs.rules.Judging.{judgement_as, judgement_at};
 ghost use Rattle.iss_model.specs.state.Cores.{CoreState, core_facts, core_keeper};
-ghost use Rattle.iss_pending.specs.Well.{IsWell};
+ghost use Rattle.iss_pending.specs.Pending.{IsWell};
 
 /// All that is due at a moment opens no call, and leaves closed calls as they are. It closes an asked call exactly where
 /// the call's deadline or its transaction's expiry has come; else that call stays as it is.

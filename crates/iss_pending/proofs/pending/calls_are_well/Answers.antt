@@ -1,4 +1,5 @@
-use Rattle.iss_pending.proofs.Steps.{step_well, judged_new, asked_live}
+use Rattle.iss_pending.proofs.NewEvents.{judged_new}
+use Rattle.iss_pending.proofs.Steps.{asked_live, step_well}
 use Rattle.iss_pending.proofs.pending.calls_are_well.Goals as goal
 
 pub returns-clause-steps : goal.returns-clause-steps

@@ -1,4 +1,4 @@
-use Rattle.iss_pending.proofs.Steps.{ready_taken, ready_settled, due_allowed, own_allowed}
+use Rattle.iss_pending.proofs.Steps.{due_allowed, own_allowed, ready_settled, ready_taken}
 use Rattle.iss_pending.proofs.pending.entries_are_allowed.Goals as goal
 
 pub returns-clause-taken : goal.returns-clause-taken

@@ -1,4 +1,4 @@
-use Rattle.iss_pending.proofs.Counts.{decided_once}
+use Rattle.iss_pending.proofs.Steps.{decided_once}
 use Rattle.iss_pending.proofs.pending.events_are_decided_once.Goals as goal
 
 pub returns : goal.returns

@@ -1,4 +1,4 @@
-use Rattle.iss_pending.proofs.Answering.{unknown_answer, closed_answer, open_answer}
+use Rattle.iss_pending.proofs.Answering.{closed_answer, open_answer, unknown_answer}
 use Rattle.iss_pending.proofs.sweeps.answers_are_judged.Goals as goal
 
 pub returns-clause-unknown : goal.returns-clause-unknown

@@ -1,4 +1,4 @@
-use Rattle.iss_pending.proofs.CallsAfterDue.{no_opening, unknown_stays, closed_stays_closed, still_asked, left_as_it_is}
+use Rattle.iss_pending.proofs.CallsAfterDue.{closed_stays_closed, left_as_it_is, no_opening, still_asked, unknown_stays}
 use Rattle.iss_pending.proofs.sweeps.due_items_close_calls.Goals as goal
 
 pub returns-clause-opened : goal.returns-clause-opened

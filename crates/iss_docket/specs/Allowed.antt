@@ -1,19 +1,16 @@
--- What an entry needs of the transactions, the calls and the decisions that it is entered into.
-use Rattle.std.specs.Prelude.{◌≡◌, ℕ, ◌+◌, Bool, true, false, ◌&&◌, List, [], ◌∷◌, length, Some, None}
+-- What an entry needs of the docket that it is put on.
+use Rattle.std.specs.Prelude.{◌≡◌, ℕ, ◌+◌, Bool, true, false, ◌&&◌, List, length, None}
 use Rattle.iss_model.specs.declared.call.CallId.{CallId}
 use Rattle.iss_model.specs.declared.call.Opened.{Opened}
-use Rattle.iss_model.specs.declared.input.Input.{Input}
 use Rattle.iss_model.specs.declared.entry.Entry.{Entry}
 use Rattle.iss_model.specs.declared.entry.Entry.TheVariants as entry
-use Rattle.iss_model.specs.Inputs.{event_token}
 use Rattle.iss_model.specs.rules.Activity.{CallNow, txn_named}
 use Rattle.iss_model.specs.rules.Asks.{is_authorization}
-use Rattle.iss_model.specs.state.Cores.{CoreState, after_entry}
-use Rattle.iss_pending.specs.Dockets.{Docket, docket_of}
-use Rattle.iss_pending.specs.Well.{has_live, is_decided, IsAsked, NoneAskedOf, NoneAskedFor, NoneOpenedFor, NonePendingOf, Known, is_accepted, is_product, IsWellAmong}
+use Rattle.iss_docket.specs.Dockets.{Docket}
+use Rattle.iss_docket.specs.Well.{has_live, is_decided, IsAsked, NoneAskedOf, NonePendingOf, NoneAskedFor, NoneOpenedFor, Known}
 
--- a call that is opened has the next number, and a live transaction with no authorisation's call asked; its event is neither
--- decided nor has a call; and that of an authorisation is the only asked one of its transaction
+-- A call that is opened has the next number, and a live transaction with no authorisation's call asked. Its event is
+-- neither decided nor has a call. That of an authorisation is the only asked call of its transaction.
 pub record MayOpen (d : Docket) (o : Opened) : Type 0 where
   pub number : o.call.0 ≡ length d.calls + 1
   pub its_live : has_live d.txns o.txn ≡ true
@@ -27,7 +24,7 @@ pub record MayClose (d : Docket) (call : CallId) : Type 0 where
   pub its : CallNow
   pub asked : IsAsked d.calls call.0 its
 
--- an event that is decided isn't decided yet, and no call is asked for it
+-- an event that is decided wasn't decided before, and no call is asked for it
 pub record MayDecide (d : Docket) (event : List ℕ) : Type 0 where
   pub undecided : is_decided d.decisions event ≡ false
   pub none_asked : NoneAskedFor d.calls event
@@ -46,23 +43,9 @@ IsAllowed d (entry.Decided event verdict) = MayDecide d event
 IsAllowed d (entry.Ended txn) = MayEnd d txn
 IsAllowed d _ = Unit {0}
 
--- each of these entries may come next in its turn
-abbrev pub AreAllowed : CoreState → List Entry → Type 0
-AreAllowed s [] = Unit {0}
-AreAllowed s (e ∷ es) = IsAllowed (docket_of s) e × AreAllowed (after_entry s e) es
-
--- an entry is of a known event, and begins a transaction of a known product
+-- an entry is of a known event, and begins a transaction of a product that stands
 abbrev pub is_of_known : Known → Entry → Bool
 is_of_known known (entry.Began t) = known.events t.token && known.products t.product
 is_of_known known (entry.Opened o) = known.events o.event
 is_of_known known (entry.Decided event verdict) = known.events event
 is_of_known known _ = true
-
--- A record with this input was taken up, and hasn't made its own entries yet: its event is accepted, and wasn't known before.
-pub record IsReady (s : CoreState) (i : Input) : Type 0 where
-  pub before : Known
-  pub well : IsWellAmong before (docket_of s)
-  pub unknown : (event : List ℕ) → event_token i ≡ Some event → before.events event ≡ false
-  pub accepted : (event : List ℕ) → event_token i ≡ Some event → is_accepted s.accepted event ≡ true
-  pub events_stay : (event : List ℕ) → before.events event ≡ true → is_accepted s.accepted event ≡ true
-  pub products_stay : (name : List ℕ) → before.products name ≡ true → is_product s.products name ≡ true

@@ -1,8 +1,8 @@
 -- What is found in a list, what its filters and maps hold, and a test that passes at one element alone.
-use Rattle.std.proofs.Common.{◌≡◌, ℕ, suc, Bool, true, false, cond, ◌&&◌, ◌||◌, nat_eq, List, [], ◌∷◌, length, map, filter, refl, sym, ap, ◌∙◌, arith, ◌⊎◌, inl, inr}
-use Rattle.std.specs.Prelude.{Option, Some, None, is_some, option_map, find}
-use Rattle.std.specs.Option.{option_or}
+use Rattle.std.specs.Prelude.{None, Option, Some, find, is_some, option_map}
+use Rattle.std.proofs.Common.{Bool, List, [], ap, arith, cond, false, filter, inl, inr, length, map, nat_eq, refl, suc, sym, true, ℕ, ◌&&◌, ◌||◌, ◌∙◌, ◌∷◌, ◌≡◌, ◌⊎◌}
 use Rattle.std.specs.List.{list_any}
+use Rattle.std.specs.Option.{option_or}
 use Rattle.std.proofs.lemmas.Bool.Decides.{nat_tests}
 
 -- alternatives ----
@@ -14,6 +14,9 @@ by_either f g (inr y) = g y
 pub not_both : {P : Type 0} (b : Bool) → b ≡ true → b ≡ false → P
 not_both true h k = cc
 not_both false h k = cc
+
+pub never : {P : Type 0} → false ≡ true → P
+never h = cc
 
 pub both_so : (a b : Bool) → a ≡ true → b ≡ true → (a && b) ≡ true
 both_so true b h k = k

@@ -1,6 +1,6 @@
 -- The asked calls of a transaction are abandoned: what that leaves of calls, and that it may be entered.
-use Rattle.std.proofs.Common.{◌≡◌, ℕ, ◌+◌, ◌≤◌, Bool, true, false, cond, ◌&&◌, ◌||◌, nat_eq, List, [], ◌∷◌, ◌++◌, map, filter, fold, refl, sym, ap, subst, ◌∙◌, arith}
-use Rattle.std.specs.Prelude.{Some, None}
+use Rattle.std.specs.Prelude.{None, Some}
+use Rattle.std.proofs.Common.{Bool, List, [], ap, arith, cond, false, filter, fold, map, nat_eq, refl, subst, sym, true, ℕ, ◌&&◌, ◌++◌, ◌+◌, ◌||◌, ◌∙◌, ◌∷◌, ◌≡◌, ◌≤◌}
 use Rattle.std.specs.List.{list_any}
 use Rattle.std.specs.Str.{bytes_eq}
 use Rattle.std.proofs.lemmas.Bool.Decides.{nat_tests}
@@ -12,17 +12,17 @@ use Rattle.iss_model.specs.declared.decision.Verdict.{Verdict}
 use Rattle.iss_model.specs.declared.decision.Verdict.TheVariants as verdict
 use Rattle.iss_model.specs.declared.entry.Entry.{Entry}
 use Rattle.iss_model.specs.declared.entry.Entry.TheVariants as entry
-use Rattle.iss_model.specs.rules.Activity.{TxnNow, CallNow, is_asked}
+use Rattle.iss_model.specs.rules.Activity.{CallNow, TxnNow, is_asked}
 use Rattle.iss_model.specs.state.Cores.{call_after_close}
 use Rattle.iss_model.proofs.Names.{same_name}
-use Rattle.iss_pending.specs.Dockets.{Docket, docket_after}
-use Rattle.iss_pending.specs.Well.{CallsNumberedFrom, has_live, is_decided, IsAsked, NoneAskedOf, NoneOpenedFor, Known, IsWellAmong}
-use Rattle.iss_pending.specs.Allowed.{MayDecide, MayEnd}
-use Rattle.iss_pending.proofs.Lists.{not_both, both_so, same_number, found_filtered, Each}
-use Rattle.iss_pending.proofs.Closing.{asked_after, asked_before, none_opened_after, all_stand, StandsItself, NumbersGrowFrom, filtered_grow}
-use Rattle.iss_pending.proofs.Entering.{undecided_still}
-use Rattle.iss_pending.proofs.Docketed.{closings}
-use Rattle.iss_pending.proofs.Enters.{Enters, entered_well, enters_none, enters_append, enters_ended, enters_settled, enters_closed}
+use Rattle.iss_docket.specs.Allowed.{MayDecide, MayEnd}
+use Rattle.iss_docket.specs.Dockets.{Docket, docket_after}
+use Rattle.iss_docket.specs.Well.{CallsNumberedFrom, IsAsked, IsWellAmong, Known, NoneAskedOf, NoneOpenedFor, has_live, is_decided}
+use Rattle.iss_docket.proofs.Closing.{NumbersGrowFrom, StandsItself, all_stand, asked_after, asked_before, filtered_grow, none_opened_after}
+use Rattle.iss_docket.proofs.Docketed.{closings}
+use Rattle.iss_docket.proofs.Entering.{undecided_still}
+use Rattle.iss_docket.proofs.Enters.{Enters, entered_well, enters_append, enters_closed, enters_ended, enters_none, enters_settled}
+use Rattle.iss_docket.proofs.Lists.{Each, both_so, found_filtered, never, not_both, same_number}
 
 -- a new event ----
 
@@ -77,9 +77,6 @@ all_grow calls txn numbers = filtered_grow (λ (c : CallNow). is_asked c && byte
 abbrev pub after_closing : Reason → Docket → CallNow → Docket
 after_closing why d c = docket_after (docket_after d (entry.Closed c.opened.call how.Abandoned)) (entry.Decided c.opened.event (verdict.Declined why))
 
-never : {P : Type 0} → false ≡ true → P
-never h = cc
-
 closings_enter : (known : Known) (why : Reason) (cs : List CallNow) (n : ℕ) (d : Docket) → NumbersGrowFrom n cs → Each (AsksItself d.calls) cs → IsWellAmong known d
     → Enters known d None (closings why cs)
 closings_enter known why [] n d grow asked well = enters_none known d
@@ -131,7 +128,7 @@ closings_none why d txn n c now e =
 
 abandoned_enter : (known : Known) (why : Reason) (d : Docket) (txn : List ℕ) → IsWellAmong known d → Enters known d None (closings why (asked_in d.calls txn))
 abandoned_enter known why d txn well =
-    closings_enter known why (asked_in d.calls txn) 1 d (all_grow d.calls txn well.numbers) (all_asked d.calls txn well.numbers) well
+    closings_enter known why (asked_in d.calls txn) 1 d (all_grow d.calls txn well.calls.numbers) (all_asked d.calls txn well.calls.numbers) well
 
 -- it may end then, where it is live
 abandoned_ends : (why : Reason) (d : Docket) (txn : List ℕ) → has_live d.txns txn ≡ true → MayEnd (fold docket_after d (closings why (asked_in d.calls txn))) txn
@@ -156,7 +153,7 @@ abandoned_decides known why d txn ends event v well live new =
     let calls : List CallNow = asked_in d.calls txn in
     let cs : List Entry = closings why calls in
     let q : Docket = fold docket_after d cs in
-    let still : IsNewTo known q event = closings_new known why calls 1 d event (all_grow d.calls txn well.numbers) (all_asked d.calls txn well.numbers) new in
+    let still : IsNewTo known q event = closings_new known why calls 1 d event (all_grow d.calls txn well.calls.numbers) (all_asked d.calls txn well.calls.numbers) new in
     subst (Enters known d (Some event)) (sym (append_assoc cs (cond ends (entry.Ended txn ∷ []) []) (entry.Decided event v ∷ [])))
     (enters_append known d (Some event) cs (cond ends (entry.Ended txn ∷ []) [] ++ entry.Decided event v ∷ []) (abandoned_enter known why d txn well)
     (enters_settled known q txn event ends v new.its_event (λ e. abandoned_ends why d txn live) (new_decides known q event still)))

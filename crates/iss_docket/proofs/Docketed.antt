@@ -1,6 +1,6 @@
 -- What the pieces of a step put on a docket.
-use Rattle.std.proofs.Common.{◌≡◌, ℕ, ◌+◌, ◌-◌, Bool, true, false, cond, nat_eq, List, [], ◌∷◌, ◌++◌, filter, refl, ap, ◌∙◌}
-use Rattle.std.specs.Prelude.{pos, None}
+use Rattle.std.specs.Prelude.{None, pos}
+use Rattle.std.proofs.Common.{Bool, List, [], ap, cond, false, filter, nat_eq, refl, true, ℕ, ◌++◌, ◌+◌, ◌-◌, ◌∙◌, ◌∷◌, ◌≡◌}
 use Rattle.std.proofs.lemmas.List.{append-nil}
 use Rattle.std.proofs.lemmas.List.Elements.{filter-append}
 use Rattle.iss_model.specs.declared.account.Account.{Account}
@@ -8,23 +8,24 @@ use Rattle.iss_model.specs.declared.account.Account.TheVariants as account
 use Rattle.iss_model.specs.declared.account.Part.{Part}
 use Rattle.iss_model.specs.declared.account.Part.TheVariants as part
 use Rattle.iss_model.specs.declared.call.Failure.{Failure}
-use Rattle.iss_model.specs.declared.call.Method.TheVariants as method
 use Rattle.iss_model.specs.declared.call.How.TheVariants as how
+use Rattle.iss_model.specs.declared.call.Method.TheVariants as method
 use Rattle.iss_model.specs.declared.decision.Reason.{Reason}
 use Rattle.iss_model.specs.declared.decision.Reason.TheVariants as reason
 use Rattle.iss_model.specs.declared.decision.Verdict.{Verdict}
 use Rattle.iss_model.specs.declared.decision.Verdict.TheVariants as verdict
-use Rattle.iss_model.specs.declared.txn.Txn.{Txn}
 use Rattle.iss_model.specs.declared.entry.Entry.{Entry}
 use Rattle.iss_model.specs.declared.entry.Entry.TheVariants as entry
+use Rattle.iss_model.specs.declared.txn.Txn.{Txn}
 use Rattle.iss_model.specs.rules.Activity.{CallNow}
-use Rattle.iss_model.specs.rules.Facts.{Facts, asked_calls_of}
 use Rattle.iss_model.specs.rules.Asks.{Ask, usage_of}
-use Rattle.iss_model.specs.rules.CardReasons.{is_account_funded}
-use Rattle.iss_model.specs.rules.StandIns.{Stand, allowed, over_limit, uncovered}
-use Rattle.iss_model.specs.rules.Pieces.{only_where, only_gateway, post_entries, hold_entries, unhold_entries, user_account, Parts, in_all, taken_to_release, use_return_entries, release_entries, notice_entry, abandoned_calls_entries, end_entries, declined_ask_entries, funded_ask_entries, failure_reason, stand_entries}
 use Rattle.iss_model.specs.rules.CardEntries.{clearing_money_entries}
-use Rattle.iss_pending.specs.Dockets.{is_docketed}
+use Rattle.iss_model.specs.rules.CardReasons.{is_account_funded}
+use Rattle.iss_model.specs.rules.Facts.{Facts, asked_calls_of}
+use Rattle.iss_model.specs.rules.Pieces.{Parts, abandoned_calls_entries, declined_ask_entries, end_entries, failure_reason, funded_ask_entries, hold_entries, in_all, notice_entry, only_gateway, only_where, post_entries, release_entries, stand_entries, taken_to_release, unhold_entries, use_return_entries, user_account}
+use Rattle.iss_model.specs.rules.StandIns.{Stand, allowed, over_limit, uncovered}
+use Rattle.iss_docket.specs.Dockets.{is_docketed}
+use Rattle.iss_docket.proofs.Lists.{never}
 
 -- entries of which nothing is docketed ----
 
@@ -120,9 +121,6 @@ declined_settles ask why =
         ≡ cond b (entry.Ended ask.txn.token ∷ []) [] ++ entry.Decided ask.event (verdict.Declined why) ∷ []
     by true = refl
     by false = refl
-
-never : {P : Type 0} → false ≡ true → P
-never h = cc
 
 pub funded_settles : (ask : Ask) (from : Account) (p : Part) → Settles ask (funded_ask_entries ask from p)
 funded_settles ask from p =

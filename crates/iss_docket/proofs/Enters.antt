@@ -1,31 +1,31 @@
 -- Lists of entries that may be entered into a docket, account for an event of their own, and lose no other one.
-use Rattle.std.proofs.Common.{◌≡◌, ℕ, ◌+◌, Bool, true, false, cond, ◌&&◌, ◌||◌, nat_eq, List, [], ◌∷◌, ◌++◌, length, map, filter, fold, refl, sym, ap, subst, ◌∙◌, arith, ◌⊎◌, inl, inr}
-use Rattle.std.specs.Prelude.{Option, Some, None}
-use Rattle.std.specs.Option.{option_or}
+use Rattle.std.specs.Prelude.{None, Option, Some}
+use Rattle.std.proofs.Common.{Bool, List, [], ap, arith, cond, false, filter, fold, inl, inr, length, map, nat_eq, refl, subst, sym, true, ℕ, ◌&&◌, ◌++◌, ◌+◌, ◌||◌, ◌∙◌, ◌∷◌, ◌≡◌, ◌⊎◌}
 use Rattle.std.specs.List.{list_all}
+use Rattle.std.specs.Option.{option_or}
 use Rattle.std.specs.Str.{bytes_eq}
 use Rattle.std.proofs.lemmas.Bool.{and_parts}
 use Rattle.std.proofs.lemmas.Bool.Decides.{nat_tests}
-use Rattle.std.proofs.lemmas.List.Sums.{fold-append}
 use Rattle.std.proofs.lemmas.List.Folds.{list_all-append}
+use Rattle.std.proofs.lemmas.List.Sums.{fold-append}
 use Rattle.iss_model.specs.declared.call.How.{How}
 use Rattle.iss_model.specs.declared.call.Opened.{Opened}
 use Rattle.iss_model.specs.declared.decision.Verdict.{Verdict}
-use Rattle.iss_model.specs.declared.txn.Txn.{Txn}
 use Rattle.iss_model.specs.declared.entry.Entry.{Entry}
 use Rattle.iss_model.specs.declared.entry.Entry.TheVariants as entry
-use Rattle.iss_model.specs.rules.Activity.{CallNow, txn_named, call_numbered}
-use Rattle.iss_model.specs.rules.Facts.{Decision}
+use Rattle.iss_model.specs.declared.txn.Txn.{Txn}
+use Rattle.iss_model.specs.rules.Activity.{CallNow, call_numbered, txn_named}
 use Rattle.iss_model.specs.rules.Asks.{is_authorization}
+use Rattle.iss_model.specs.rules.Facts.{Decision}
 use Rattle.iss_model.specs.state.Cores.{call_after_close}
-use Rattle.iss_model.proofs.Names.{its_name, either}
 use Rattle.iss_model.proofs.Lists.{any_grows}
-use Rattle.iss_pending.specs.Dockets.{Docket, docket_after, is_docketed}
-use Rattle.iss_pending.specs.Well.{CallsNumberedFrom, has_live, is_decided, IsAsked, NoneAskedFor, IsWaiting, IsAccounted, Known, IsWellAmong}
-use Rattle.iss_pending.specs.Allowed.{MayOpen, MayClose, MayDecide, MayEnd, IsAllowed, is_of_known}
-use Rattle.iss_pending.proofs.Lists.{or_true, number_is, other_number, same_number, inside}
-use Rattle.iss_pending.proofs.Closing.{its_number, by_itself, asked_after, asked_before}
-use Rattle.iss_pending.proofs.Entering.{decided_more, call_more, entry_well}
+use Rattle.iss_model.proofs.Names.{either, its_name}
+use Rattle.iss_docket.specs.Allowed.{IsAllowed, MayClose, MayDecide, MayEnd, MayOpen, is_of_known}
+use Rattle.iss_docket.specs.Dockets.{Docket, docket_after, is_docketed}
+use Rattle.iss_docket.specs.Well.{CallsNumberedFrom, IsAccounted, IsAsked, IsWaiting, IsWellAmong, Known, NoneAskedFor, has_live, is_decided}
+use Rattle.iss_docket.proofs.Closing.{asked_after, asked_before, by_itself, its_number}
+use Rattle.iss_docket.proofs.Entering.{call_more, decided_more, entry_well}
+use Rattle.iss_docket.proofs.Lists.{inside, number_is, or_true, other_number, same_number}
 
 -- each of these entries may come next in its turn
 abbrev pub AreAllowedOn : Docket → List Entry → Type 0
@@ -221,7 +221,7 @@ none_for : (known : Known) (d : Docket) (n : ℕ) (c : CallNow) (how : How) → 
     → NoneAskedFor (map (call_after_close c.opened.call.0 how) d.calls) c.opened.event
 none_for known d n c how well now m e then same =
     let was = asked_before d.calls c.opened.call.0 how m e then in
-    let one : n ≡ m = well.once n m c e now.stands was.0.stands (sym same) in
+    let one : n ≡ m = well.calls.once n m c e now.stands was.0.stands (sym same) in
     other_number c.opened.call.0 e.opened.call.0 was.1 (its_number d.calls n c now.stands ∙ one ∙ sym (its_number d.calls m e was.0.stands))
 
 -- when an authorisation's call is closed, its transaction may end
@@ -232,7 +232,7 @@ may_end known d n c how txn well now its first =
       its_live = ap (has_live d.txns) its ∙ well.live n c now;
       none_asked = λ m e then same.
           let was = asked_before d.calls c.opened.call.0 how m e then in
-          let one : n ≡ m = well.alone n m c e now was.0 (sym (same ∙ its)) first in
+          let one : n ≡ m = well.calls.alone n m c e now was.0 (sym (same ∙ its)) first in
           other_number c.opened.call.0 e.opened.call.0 was.1 (its_number d.calls n c now.stands ∙ one ∙ sym (its_number d.calls m e was.0.stands));
     }
 
@@ -243,7 +243,7 @@ enters_closed known d n c how txn ends v well now its first =
     by ends first
   where
     its_event : known.events c.opened.event ≡ true
-    its_event = well.known_calls n c now.stands
+    its_event = well.calls.events n c now.stands
 
     closes : MayClose d c.opened.call
     closes = record { its = c; asked = by_itself d.calls n c now }

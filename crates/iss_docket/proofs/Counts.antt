@@ -1,18 +1,17 @@
 -- Each accepted event is decided once, or waits for one call.
-use Rattle.std.proofs.Common.{◌≡◌, ℕ, ◌+◌, ◌≤◌, Bool, true, false, cond, ◌&&◌, nat_eq, List, [], ◌∷◌, refl, sym, ap, ◌∙◌, arith, inl, inr}
+use Rattle.std.proofs.Common.{Bool, List, [], ap, arith, cond, false, inl, inr, nat_eq, refl, sym, true, ℕ, ◌&&◌, ◌+◌, ◌∙◌, ◌∷◌, ◌≡◌, ◌≤◌}
 use Rattle.std.specs.List.{list_any}
 use Rattle.std.specs.Str.{bytes_eq}
-use Rattle.std.proofs.lemmas.Bool.{false_from_ne_true, and_parts}
+use Rattle.std.proofs.lemmas.Bool.{and_parts, false_from_ne_true}
 use Rattle.iss_model.specs.rules.Activity.{CallNow, is_asked}
 use Rattle.iss_model.specs.rules.Facts.{Decision}
-use Rattle.iss_model.specs.state.Cores.{CoreState}
 use Rattle.iss_model.proofs.Names.{one_name, same_name}
-use Rattle.iss_pending.specs.Dockets.{Docket, docket_of}
-use Rattle.iss_pending.specs.Well.{CallsNumberedFrom, is_decided, AreOfOwnEvents, decided_times, asked_times, IsAccounted, Known, is_accepted, known_of, IsWellAmong, IsWell}
-use Rattle.iss_pending.proofs.Lists.{both_so, found_any, not_both, Each, each_weaker, all_fail, Lone, lone_times}
-use Rattle.iss_pending.proofs.Closing.{all_stand, StandsItself}
+use Rattle.iss_docket.specs.Dockets.{Docket}
+use Rattle.iss_docket.specs.Well.{CallsNumberedFrom, HaveOwnEvents, IsAccounted, IsWellAmong, Known, asked_times, decided_times, is_decided}
+use Rattle.iss_docket.proofs.Closing.{StandsItself, all_stand}
+use Rattle.iss_docket.proofs.Lists.{Each, Lone, all_fail, both_so, each_weaker, found_any, lone_times, not_both}
 
-decisions_lone : (event : List ℕ) (ds : List Decision) → AreOfOwnEvents ds → Lone (λ d. bytes_eq d.event event) ds
+decisions_lone : (event : List ℕ) (ds : List Decision) → HaveOwnEvents ds → Lone (λ d. bytes_eq d.event event) ds
 decisions_lone event [] h = tt
 decisions_lone event (x ∷ xs) h = (λ e. ap (is_decided xs) (sym (one_name x.event event e)) ∙ h.0, decisions_lone event xs h.1)
 
@@ -40,7 +39,7 @@ calls_lone_for known d event well m (x ∷ xs) numbers stand = (
   λ e. all_fail (waits_for event) xs (each_weaker (IsLater d.calls (m + 1)) (λ c. waits_for event c ≡ false)
       (λ c late. false_from_ne_true (waits_for event c) (λ h.
       earlier x.opened.call.0 c.opened.call.0 m numbers.0 late.from
-      (well.once x.opened.call.0 c.opened.call.0 x c stand.0 late.stands (its_event event x e ∙ sym (its_event event c h)))))
+      (well.calls.once x.opened.call.0 c.opened.call.0 x c stand.0 late.stands (its_event event x e ∙ sym (its_event event c h)))))
       xs (later d.calls (m + 1) (m + 1) xs (omega arith) numbers.1 stand.1)),
   calls_lone_for known d event well (m + 1) xs numbers.1 stand.1,
 )
@@ -56,20 +55,21 @@ none_waits known d event well h =
     not_both (is_decided d.decisions event) h
     (ap (is_decided d.decisions) (sym (its_event event c e))
     ∙ well.waits c.opened.call.0 c (record { stands = stands; asked = (and_parts (is_asked c) (bytes_eq c.opened.event event) e).0 }))))
-    d.calls (all_stand d.calls well.numbers))
+    d.calls (all_stand d.calls well.calls.numbers))
 
 in_all_one : (known : Known) (d : Docket) (event : List ℕ) → IsWellAmong known d → (a b : Bool) → is_decided d.decisions event ≡ a → list_any (waits_for event) d.calls ≡ b
     → cond a 1 0 + cond b 1 0 ≡ 1 → decided_times d.decisions event + asked_times d.calls event ≡ 1
 in_all_one known d event well a b decided waits one =
     sum (decided_times d.decisions event) (asked_times d.calls event) (cond a 1 0) (cond b 1 0)
-    (lone_times (λ (x : Decision). bytes_eq x.event event) d.decisions (decisions_lone event d.decisions well.decided) ∙ ap (λ (b : Bool). cond b 1 0) decided)
-    (lone_times (waits_for event) d.calls (calls_lone_for known d event well 1 d.calls well.numbers (all_stand d.calls well.numbers)) ∙ ap (λ (b : Bool). cond b 1 0) waits)
+    (lone_times (λ (x : Decision). bytes_eq x.event event) d.decisions (decisions_lone event d.decisions well.decisions.once) ∙ ap (λ (b : Bool). cond b 1 0) decided)
+    (lone_times (waits_for event) d.calls (calls_lone_for known d event well 1 d.calls well.calls.numbers (all_stand d.calls well.calls.numbers)) ∙ ap (λ (b : Bool). cond b 1 0) waits)
     one
   where
     sum : (m n a b : ℕ) → m ≡ a → n ≡ b → a + b ≡ 1 → m + n ≡ 1
     sum m n a b h k e = omega (arith, h, k, e)
 
-accounted_once : (known : Known) (d : Docket) (event : List ℕ) → IsWellAmong known d → IsAccounted d event → decided_times d.decisions event + asked_times d.calls event ≡ 1
+-- an event that is accounted for is decided once, or waits for one call
+pub accounted_once : (known : Known) (d : Docket) (event : List ℕ) → IsWellAmong known d → IsAccounted d event → decided_times d.decisions event + asked_times d.calls event ≡ 1
 accounted_once known d event well (inl h) = in_all_one known d event well true false h (none_waits known d event well h) refl
 accounted_once known d event well (inr w) =
     in_all_one known d event well false true
@@ -77,7 +77,3 @@ accounted_once known d event well (inr w) =
     (found_any (λ (c : CallNow). nat_eq c.opened.call.0 w.number) (waits_for event) d.calls w.call w.asked.stands
     (both_so (is_asked w.call) (bytes_eq w.call.opened.event event) w.asked.asked (same_name w.call.opened.event event w.its_event)))
     refl
-
--- an accepted event is decided once, or waits for the one call that is asked for it
-pub decided_once : (s : CoreState) (event : List ℕ) → IsWell s → is_accepted s.accepted event ≡ true → decided_times s.decisions event + asked_times s.calls event ≡ 1
-decided_once s event well accepted = accounted_once (known_of s) (docket_of s) event well.docket (well.accounted event accepted)

@@ -1,28 +1,29 @@
 -- An allowed entry of what is known leaves a docket well.
-use Rattle.std.proofs.Common.{◌≡◌, ℕ, ◌+◌, Bool, true, false, cond, ◌||◌, nat_eq, List, [], ◌∷◌, ◌++◌, length, map, refl, sym, ap, ◌∙◌, arith, ◌⊎◌, inl, inr}
-use Rattle.std.specs.Prelude.{Option, Some, None, is_some, option_map}
+use Rattle.std.specs.Prelude.{None, Option, Some, is_some, option_map}
+use Rattle.std.proofs.Common.{Bool, List, [], ap, arith, cond, false, inl, inr, length, map, nat_eq, refl, sym, true, ℕ, ◌++◌, ◌+◌, ◌||◌, ◌∙◌, ◌∷◌, ◌≡◌, ◌⊎◌}
 use Rattle.std.specs.Option.{option_or}
 use Rattle.std.specs.Str.{bytes_eq}
-use Rattle.std.proofs.lemmas.Bool.{false_from_ne_true, and_parts}
-use Rattle.std.proofs.lemmas.List.Folds.{list_any-append, find-append}
+use Rattle.std.proofs.lemmas.Bool.{and_parts, false_from_ne_true}
+use Rattle.std.proofs.lemmas.List.Folds.{find-append, list_any-append}
 use Rattle.iss_model.specs.declared.call.CallId.{CallId}
 use Rattle.iss_model.specs.declared.call.How.{How}
 use Rattle.iss_model.specs.declared.call.Opened.{Opened}
 use Rattle.iss_model.specs.declared.decision.Verdict.{Verdict}
-use Rattle.iss_model.specs.declared.txn.Txn.{Txn}
 use Rattle.iss_model.specs.declared.entry.Entry.{Entry}
 use Rattle.iss_model.specs.declared.entry.Entry.TheVariants as entry
-use Rattle.iss_model.specs.rules.Activity.{TxnNow, CallNow, txn_named, call_numbered}
-use Rattle.iss_model.specs.rules.Facts.{Decision}
+use Rattle.iss_model.specs.declared.txn.Txn.{Txn}
+use Rattle.iss_model.specs.rules.Activity.{CallNow, TxnNow, call_numbered, txn_named}
 use Rattle.iss_model.specs.rules.Asks.{is_authorization}
+use Rattle.iss_model.specs.rules.Facts.{Decision}
 use Rattle.iss_model.specs.rules.Reasons.{is_some_with}
 use Rattle.iss_model.specs.state.Cores.{is_live, txn_after_end}
+use Rattle.iss_model.proofs.Lists.{neither}
 use Rattle.iss_model.proofs.Names.{one_name, same_name}
-use Rattle.iss_pending.specs.Dockets.{Docket, docket_after}
-use Rattle.iss_pending.specs.Well.{CallsNumberedFrom, HaveOwnTokens, has_live, is_decided, AreOfOwnEvents, NoneAskedOf, Known, IsWellAmong}
-use Rattle.iss_pending.specs.Allowed.{MayOpen, MayDecide, IsAllowed, is_of_known}
-use Rattle.iss_pending.proofs.Lists.{by_either, find-map, found_passes, mapped_is, some_mapped, either_found, number_is}
-use Rattle.iss_pending.proofs.Closing.{opened_before, asked_before, numbered_after}
+use Rattle.iss_docket.specs.Allowed.{IsAllowed, MayDecide, MayOpen, is_of_known}
+use Rattle.iss_docket.specs.Dockets.{Docket, docket_after}
+use Rattle.iss_docket.specs.Well.{AreWellCalls, CallsNumberedFrom, HaveOwnEvents, HaveOwnTokens, IsAsked, IsWellAmong, Known, NoneAskedOf, has_live, is_decided}
+use Rattle.iss_docket.proofs.Closing.{asked_before, numbered_after, opened_before}
+use Rattle.iss_docket.proofs.Lists.{by_either, either_found, find-map, found_passes, mapped_is, not_both, number_is, some_mapped}
 
 -- a call is closed ----
 
@@ -30,22 +31,21 @@ closed_well : (known : Known) (d : Docket) (call : CallId) (how : How) → IsWel
 closed_well known d call how well =
     let k : ℕ = call.0 in
     record {
-      numbers = numbered_after 1 k how d.calls well.numbers;
+      calls = record {
+        numbers = numbered_after 1 k how d.calls well.calls.numbers;
+        once = λ n m c e x y same.
+            let a = opened_before d.calls k how n c x in
+            let b = opened_before d.calls k how m e y in
+            well.calls.once n m a.0 b.0 a.1 b.1 (ap (λ (o : Opened). o.event) a.2 ∙ same ∙ ap (λ (o : Opened). o.event) (sym b.2));
+        alone = λ n m c e x y. well.calls.alone n m c e (asked_before d.calls k how n c x).0 (asked_before d.calls k how m e y).0;
+        events = λ n c x.
+            let a = opened_before d.calls k how n c x in
+            ap (λ (o : Opened). known.events o.event) (sym a.2) ∙ well.calls.events n a.0 a.1;
+      };
+      txns = well.txns;
+      decisions = well.decisions;
       live = λ n c now. well.live n c (asked_before d.calls k how n c now).0;
-      alone = λ n m c e x y. well.alone n m c e (asked_before d.calls k how n c x).0 (asked_before d.calls k how m e y).0;
-      once = λ n m c e x y same.
-          let a = opened_before d.calls k how n c x in
-          let b = opened_before d.calls k how m e y in
-          well.once n m a.0 b.0 a.1 b.1 (ap (λ (o : Opened). o.event) a.2 ∙ same ∙ ap (λ (o : Opened). o.event) (sym b.2));
       waits = λ n c now. well.waits n c (asked_before d.calls k how n c now).0;
-      tokens = well.tokens;
-      decided = well.decided;
-      known_calls = λ n c x.
-          let a = opened_before d.calls k how n c x in
-          ap (λ (o : Opened). known.events o.event) (sym a.2) ∙ well.known_calls n a.0 a.1;
-      known_txns = well.known_txns;
-      known_decisions = well.known_decisions;
-      known_products = well.known_products;
     }
 
 -- an event is decided ----
@@ -67,44 +67,34 @@ neither_of true b h k = cc
 neither_of false true h k = cc
 neither_of false false h k = refl
 
-first_of_none : (a b : Bool) → (a || b) ≡ false → (a ≡ false) × (b ≡ false)
-first_of_none true b h = cc
-first_of_none false b h = (refl, h)
-
 -- an event that isn't decided stays so where another one is
 pub undecided_still : (ds : List Decision) (x : Decision) (event : List ℕ) → is_decided ds event ≡ false → (x.event ≡ event → ⊥) → is_decided (ds ++ x ∷ []) event ≡ false
 undecided_still ds x event h other =
     decided_more ds x event ∙ neither_of (is_decided ds event) (bytes_eq x.event event) h (apart x.event event other)
 
-own_events_more : (ds : List Decision) (x : Decision) → AreOfOwnEvents ds → is_decided ds x.event ≡ false → AreOfOwnEvents (ds ++ x ∷ [])
+own_events_more : (ds : List Decision) (x : Decision) → HaveOwnEvents ds → is_decided ds x.event ≡ false → HaveOwnEvents (ds ++ x ∷ [])
 own_events_more [] x h none = (refl, tt)
 own_events_more (y ∷ ys) x h none =
-    let parts = first_of_none (bytes_eq y.event x.event) (is_decided ys x.event) none in (
-      undecided_still ys x y.event h.0 (λ e. differ (same_name y.event x.event (sym e)) parts.0),
+    let parts = neither (bytes_eq y.event x.event) (is_decided ys x.event) none in (
+      undecided_still ys x y.event h.0 (λ e. not_both (bytes_eq y.event x.event) (same_name y.event x.event (sym e)) parts.0),
       own_events_more ys x h.1 parts.1,
     )
-  where
-    differ : {b : Bool} → b ≡ true → b ≡ false → ⊥
-    differ h k = cc
 
 decided_well : (known : Known) (d : Docket) (event : List ℕ) (verdict : Verdict) → known.events event ≡ true → MayDecide d event → IsWellAmong known d
     → IsWellAmong known (docket_after d (entry.Decided event verdict))
 decided_well known d event verdict its may well =
     let x : Decision = record { event = event; verdict = verdict } in
     record {
-      numbers = well.numbers;
+      calls = well.calls;
+      txns = well.txns;
+      decisions = record {
+        once = own_events_more d.decisions x well.decisions.once may.undecided;
+        events = λ other h.
+            by_either (well.decisions.events other) (λ e. ap known.events (sym (one_name event other e)) ∙ its)
+            (one_of (is_decided d.decisions other) (bytes_eq event other) (sym (decided_more d.decisions x other) ∙ h));
+      };
       live = well.live;
-      alone = well.alone;
-      once = well.once;
       waits = λ n c now. undecided_still d.decisions x c.opened.event (well.waits n c now) (λ e. may.none_asked n c now (sym e));
-      tokens = well.tokens;
-      decided = own_events_more d.decisions x well.decided may.undecided;
-      known_calls = well.known_calls;
-      known_txns = well.known_txns;
-      known_decisions = λ other h.
-          by_either (well.known_decisions other) (λ e. ap known.events (sym (one_name event other e)) ∙ its)
-          (one_of (is_decided d.decisions other) (bytes_eq event other) (sym (decided_more d.decisions x other) ∙ h));
-      known_products = well.known_products;
     }
 
 -- a transaction ends ----
@@ -144,19 +134,17 @@ tokens_ended token (t ∷ ts) h = (
 ended_well : (known : Known) (d : Docket) (token : List ℕ) → NoneAskedOf d.calls token → IsWellAmong known d → IsWellAmong known (docket_after d (entry.Ended token))
 ended_well known d token none well =
     record {
-      numbers = well.numbers;
+      calls = well.calls;
+      txns = record {
+        tokens = tokens_ended token d.txns well.txns.tokens;
+        events = λ k h. well.txns.events k (sym (some_mapped (txn_after_end token) (txn_named k d.txns)) ∙ ap is_some (sym (txn_ended token k d.txns)) ∙ h);
+        products = λ k t e.
+            let was = mapped_is (txn_after_end token) (txn_named k d.txns) t (sym (txn_ended token k d.txns) ∙ e) in
+            ap (λ (x : Txn). known.products x.product) (ap (λ (u : TxnNow). u.txn) (sym was.2) ∙ same_txn token was.0) ∙ well.txns.products k was.0 was.1;
+      };
+      decisions = well.decisions;
       live = λ n c now. live_ended token c.opened.txn d.txns (apart token c.opened.txn (λ e. none n c now (sym e))) ∙ well.live n c now;
-      alone = well.alone;
-      once = well.once;
       waits = well.waits;
-      tokens = tokens_ended token d.txns well.tokens;
-      decided = well.decided;
-      known_calls = well.known_calls;
-      known_txns = λ k h. well.known_txns k (sym (some_mapped (txn_after_end token) (txn_named k d.txns)) ∙ ap is_some (sym (txn_ended token k d.txns)) ∙ h);
-      known_decisions = well.known_decisions;
-      known_products = λ k t e.
-          let was = mapped_is (txn_after_end token) (txn_named k d.txns) t (sym (txn_ended token k d.txns) ∙ e) in
-          ap (λ (x : Txn). known.products x.product) (ap (λ (u : TxnNow). u.txn) (sym was.2) ∙ same_txn token was.0) ∙ well.known_products k was.0 was.1;
     }
 
 -- a transaction begins ----
@@ -195,23 +183,21 @@ began_well : (known : Known) (d : Docket) (t : Txn) → known.events t.token ≡
 began_well known d t its its_product none well =
     let x : TxnNow = record { txn = t; live = is_live d.txns t.token } in
     record {
-      numbers = well.numbers;
+      calls = well.calls;
+      txns = record {
+        tokens = tokens_more d.txns x well.txns.tokens none;
+        events = λ k h.
+            by_either (well.txns.events k) (λ e. ap known.events (sym (one_name t.token k e)) ∙ its)
+            (some_or (txn_named k d.txns) (bytes_eq t.token k) x (ap is_some (sym (txn_more k d.txns x)) ∙ h));
+        products = λ k u e.
+            by_either (λ old. well.txns.products k u old) (λ new. ap (λ (u : TxnNow). known.products u.txn.product) (sym new.1) ∙ its_product)
+            (either_found (txn_named k d.txns) x u (bytes_eq t.token k) (sym (txn_more k d.txns x) ∙ e));
+      };
+      decisions = well.decisions;
       live = λ n c now.
           ap (is_some_with (λ (t : TxnNow). t.live)) (txn_more c.opened.txn d.txns x)
           ∙ live_or (txn_named c.opened.txn d.txns) (cond (bytes_eq t.token c.opened.txn) (Some x) None) (well.live n c now);
-      alone = well.alone;
-      once = well.once;
       waits = well.waits;
-      tokens = tokens_more d.txns x well.tokens none;
-      decided = well.decided;
-      known_calls = well.known_calls;
-      known_txns = λ k h.
-          by_either (well.known_txns k) (λ e. ap known.events (sym (one_name t.token k e)) ∙ its)
-          (some_or (txn_named k d.txns) (bytes_eq t.token k) x (ap is_some (sym (txn_more k d.txns x)) ∙ h));
-      known_decisions = well.known_decisions;
-      known_products = λ k u e.
-          by_either (λ old. well.known_products k u old) (λ new. ap (λ (u : TxnNow). known.products u.txn.product) (sym new.1) ∙ its_product)
-          (either_found (txn_named k d.txns) x u (bytes_eq t.token k) (sym (txn_more k d.txns x) ∙ e));
     }
 
 -- a call is opened ----
@@ -227,26 +213,16 @@ numbered_more : (n : ℕ) (calls : List CallNow) (c : CallNow) → CallsNumbered
 numbered_more n [] c h e = (omega (arith, e), tt)
 numbered_more n (x ∷ xs) c h e = (h.0, numbered_more (n + 1) xs c h.1 (omega (arith, e)))
 
-opened_well : (known : Known) (d : Docket) (o : Opened) → known.events o.event ≡ true → MayOpen d o → IsWellAmong known d → IsWellAmong known (docket_after d (entry.Opened o))
-opened_well known d o its may well =
+-- an asked call of the longer list was asked before, or is the new one
+asked_new_or_old : (calls : List CallNow) (x : CallNow) (n : ℕ) (c : CallNow) → IsAsked (calls ++ x ∷ []) n c → IsAsked calls n c ⊎ ((nat_eq x.opened.call.0 n ≡ true) × (x ≡ c))
+asked_new_or_old calls x n c now =
+    by_either (λ old. inl (record { stands = old; asked = now.asked })) (λ new. inr new) (new_or_old calls x n c now.stands)
+
+opened_calls : (known : Known) (d : Docket) (o : Opened) → known.events o.event ≡ true → MayOpen d o → AreWellCalls known d.calls → AreWellCalls known (d.calls ++ record { opened = o; how = None } ∷ [])
+opened_calls known d o its may well =
     let x : CallNow = record { opened = o; how = None } in
-    let number : o.call.0 ≡ 1 + length d.calls = omega (arith, may.number) in
     record {
-      numbers = numbered_more 1 d.calls x well.numbers number;
-      live = λ n c now.
-          by_either (λ old. well.live n c (record { stands = old; asked = now.asked }))
-          (λ new. ap (λ (c : CallNow). has_live d.txns c.opened.txn) (sym new.1) ∙ may.its_live)
-          (new_or_old d.calls x n c now.stands);
-      alone = λ n m c e now then same first.
-          by_either
-          (λ old. by_either (λ older. well.alone n m c e (record { stands = old; asked = now.asked }) (record { stands = older; asked = then.asked }) same first)
-          (λ newer. absurd (may.none_pending n c (record { stands = old; asked = now.asked }) (same ∙ ap (λ (c : CallNow). c.opened.txn) (sym newer.1)) first))
-          (new_or_old d.calls x m e then.stands))
-          (λ new. by_either
-          (λ older. absurd (may.alone (ap (λ (c : CallNow). is_authorization c.opened.method) new.1 ∙ first) m e (record { stands = older; asked = then.asked }) (sym same ∙ ap (λ (c : CallNow). c.opened.txn) (sym new.1))))
-          (λ newer. sym (number_is o.call.0 n new.0) ∙ number_is o.call.0 m newer.0)
-          (new_or_old d.calls x m e then.stands))
-          (new_or_old d.calls x n c now.stands);
+      numbers = numbered_more 1 d.calls x well.numbers (omega (arith, may.number));
       once = λ n m c e now then same.
           by_either
           (λ old. by_either (λ older. well.once n m c e old older same)
@@ -257,18 +233,34 @@ opened_well known d o its may well =
           (λ newer. sym (number_is o.call.0 n new.0) ∙ number_is o.call.0 m newer.0)
           (new_or_old d.calls x m e then))
           (new_or_old d.calls x n c now);
-      waits = λ n c now.
-          by_either (λ old. well.waits n c (record { stands = old; asked = now.asked }))
-          (λ new. ap (λ (c : CallNow). is_decided d.decisions c.opened.event) (sym new.1) ∙ may.undecided)
-          (new_or_old d.calls x n c now.stands);
-      tokens = well.tokens;
-      decided = well.decided;
-      known_calls = λ n c now.
-          by_either (λ old. well.known_calls n c old) (λ new. ap (λ (c : CallNow). known.events c.opened.event) (sym new.1) ∙ its)
+      alone = λ n m c e now then same first.
+          by_either
+          (λ old. by_either (λ older. well.alone n m c e old older same first)
+          (λ newer. absurd (may.none_pending n c old (same ∙ ap (λ (c : CallNow). c.opened.txn) (sym newer.1)) first))
+          (asked_new_or_old d.calls x m e then))
+          (λ new. by_either
+          (λ older. absurd (may.alone (ap (λ (c : CallNow). is_authorization c.opened.method) new.1 ∙ first) m e older (sym same ∙ ap (λ (c : CallNow). c.opened.txn) (sym new.1))))
+          (λ newer. sym (number_is o.call.0 n new.0) ∙ number_is o.call.0 m newer.0)
+          (asked_new_or_old d.calls x m e then))
+          (asked_new_or_old d.calls x n c now);
+      events = λ n c now.
+          by_either (λ old. well.events n c old) (λ new. ap (λ (c : CallNow). known.events c.opened.event) (sym new.1) ∙ its)
           (new_or_old d.calls x n c now);
-      known_txns = well.known_txns;
-      known_decisions = well.known_decisions;
-      known_products = well.known_products;
+    }
+
+opened_well : (known : Known) (d : Docket) (o : Opened) → known.events o.event ≡ true → MayOpen d o → IsWellAmong known d → IsWellAmong known (docket_after d (entry.Opened o))
+opened_well known d o its may well =
+    let x : CallNow = record { opened = o; how = None } in
+    record {
+      calls = opened_calls known d o its may well.calls;
+      txns = well.txns;
+      decisions = well.decisions;
+      live = λ n c now.
+          by_either (λ old. well.live n c old) (λ new. ap (λ (c : CallNow). has_live d.txns c.opened.txn) (sym new.1) ∙ may.its_live)
+          (asked_new_or_old d.calls x n c now);
+      waits = λ n c now.
+          by_either (λ old. well.waits n c old) (λ new. ap (λ (c : CallNow). is_decided d.decisions c.opened.event) (sym new.1) ∙ may.undecided)
+          (asked_new_or_old d.calls x n c now);
     }
 
 -- each entry ----
