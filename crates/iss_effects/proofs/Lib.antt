@@ -1,0 +1,11 @@
+pub mod Finds
+pub mod Regrouping
+pub mod Reach
+pub mod Parts
+pub mod TransactionsHeld
+pub mod AskedCalls
+pub mod Effects
+pub mod PieceEffects
+pub mod Abandonment
+pub mod Paid
+pub mod Asks

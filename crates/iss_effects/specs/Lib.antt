@@ -1,0 +1,4 @@
+pub mod Bounds
+pub mod Stakes
+pub mod Needs
+pub mod Effects

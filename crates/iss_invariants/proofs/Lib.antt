@@ -1,0 +1,14 @@
+pub mod DueEntries
+pub mod CardEntries
+pub mod Kept
+pub mod Sound
+pub mod Settled
+pub mod NewEvents
+pub mod Walk
+pub mod OwnEntries
+pub mod Steps
+pub mod NoticePieces
+pub mod Notices
+pub mod Calls
+pub mod Legal
+pub mod Enterable

@@ -1,0 +1,8 @@
+use Rattle.iss_invariants.proofs.Enterable.{sound_small, records_small}
+use Rattle.iss_invariants.proofs.states.sums_are_small.Goals as goal
+
+pub returns-clause-sound : goal.returns-clause-sound
+returns-clause-sound c = sound_small
+
+pub returns-clause-records : goal.returns-clause-records
+returns-clause-records c = records_small
