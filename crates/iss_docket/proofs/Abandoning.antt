@@ -1,6 +1,6 @@
 -- The asked calls of a transaction are abandoned: what that leaves of calls, and that it may be entered.
-use Rattle.std.specs.Prelude.{None, Some}
-use Rattle.std.proofs.Common.{Bool, List, [], ap, arith, cond, false, filter, fold, map, nat_eq, refl, subst, sym, true, ℕ, ◌&&◌, ◌++◌, ◌+◌, ◌||◌, ◌∙◌, ◌∷◌, ◌≡◌, ◌≤◌}
+use Rattle.std.proofs.Common.{◌≡◌, ℕ, ◌+◌, ◌≤◌, Bool, true, false, cond, ◌&&◌, ◌||◌, nat_eq, List, [], ◌∷◌, ◌++◌, map, filter, fold, refl, sym, ap, subst, ◌∙◌, arith}
+use Rattle.std.specs.Prelude.{Some, None}
 use Rattle.std.specs.List.{list_any}
 use Rattle.std.specs.Str.{bytes_eq}
 use Rattle.std.proofs.lemmas.Bool.Decides.{nat_tests}
@@ -12,17 +12,19 @@ use Rattle.iss_model.specs.declared.decision.Verdict.{Verdict}
 use Rattle.iss_model.specs.declared.decision.Verdict.TheVariants as verdict
 use Rattle.iss_model.specs.declared.entry.Entry.{Entry}
 use Rattle.iss_model.specs.declared.entry.Entry.TheVariants as entry
-use Rattle.iss_model.specs.rules.Activity.{CallNow, TxnNow, is_asked}
+use Rattle.iss_model.specs.rules.Activity.{TxnNow, CallNow, is_asked}
 use Rattle.iss_model.specs.state.Cores.{call_after_close}
 use Rattle.iss_model.proofs.Names.{same_name}
+use Rattle.iss_effects.proofs.Finds.{same_number}
+use Rattle.iss_invariants.specs.Numbers.{CallsNumberedFrom}
 use Rattle.iss_docket.specs.Allowed.{MayDecide, MayEnd}
 use Rattle.iss_docket.specs.Dockets.{Docket, docket_after}
-use Rattle.iss_docket.specs.Well.{CallsNumberedFrom, IsAsked, IsWellAmong, Known, NoneAskedOf, NoneOpenedFor, has_live, is_decided}
+use Rattle.iss_docket.specs.Well.{IsAsked, IsWellAmong, Known, NoneAskedOf, NoneOpenedFor, has_live, is_decided}
 use Rattle.iss_docket.proofs.Closing.{NumbersGrowFrom, StandsItself, all_stand, asked_after, asked_before, filtered_grow, none_opened_after}
 use Rattle.iss_docket.proofs.Docketed.{closings}
 use Rattle.iss_docket.proofs.Entering.{undecided_still}
 use Rattle.iss_docket.proofs.Enters.{Enters, entered_well, enters_append, enters_closed, enters_ended, enters_none, enters_settled}
-use Rattle.iss_docket.proofs.Lists.{Each, both_so, found_filtered, never, not_both, same_number}
+use Rattle.iss_docket.proofs.Lists.{Each, both_so, found_filtered, never, not_both}
 
 -- a new event ----
 
@@ -60,7 +62,8 @@ filtered_asked : (calls : List CallNow) (txn : List ℕ) (xs : List CallNow) →
 filtered_asked calls txn [] h = tt
 filtered_asked calls txn (x ∷ xs) h = by (is_asked x) (bytes_eq x.opened.txn txn) refl h.0 (filtered_asked calls txn xs h.1)
   where
-    by : (a b : Bool) → is_asked x ≡ a → StandsItself calls x → Each (AsksItself calls) (asked_in xs txn) → Each (AsksItself calls) (cond (a && b) (x ∷ asked_in xs txn) (asked_in xs txn))
+    by : (a b : Bool) → is_asked x ≡ a → StandsItself calls x → Each (AsksItself calls) (asked_in xs txn)
+        → Each (AsksItself calls) (cond (a && b) (x ∷ asked_in xs txn) (asked_in xs txn))
     by true true e stands rest = (record { stands = stands; asked = e }, rest)
     by true false e stands rest = rest
     by false b e stands rest = rest
@@ -89,7 +92,8 @@ closings_enter known why (c ∷ cs) n d grow asked well =
     (entered_well known d None pair first well))
 
 -- a new event stays new
-closings_new : (known : Known) (why : Reason) (cs : List CallNow) (n : ℕ) (d : Docket) (event : List ℕ) → NumbersGrowFrom n cs → Each (AsksItself d.calls) cs → IsNewTo known d event
+closings_new : (known : Known) (why : Reason) (cs : List CallNow) (n : ℕ) (d : Docket) (event : List ℕ) → NumbersGrowFrom n cs → Each (AsksItself d.calls) cs
+    → IsNewTo known d event
     → IsNewTo known (fold docket_after d (closings why cs)) event
 closings_new known why [] n d event grow asked new = new
 closings_new known why (c ∷ cs) n d event grow asked new =
@@ -147,7 +151,8 @@ end_enters known why d txn well live =
     (enters_ended known (fold docket_after d cs) txn (abandoned_ends why d txn live))
 
 -- calls are abandoned, the transaction may end, and an event is decided
-pub abandoned_decides : (known : Known) (why : Reason) (d : Docket) (txn : List ℕ) (ends : Bool) (event : List ℕ) (v : Verdict) → IsWellAmong known d → has_live d.txns txn ≡ true
+pub abandoned_decides : (known : Known) (why : Reason) (d : Docket) (txn : List ℕ) (ends : Bool) (event : List ℕ) (v : Verdict) → IsWellAmong known d
+    → has_live d.txns txn ≡ true
     → IsNewTo known d event → Enters known d (Some event) ((closings why (asked_in d.calls txn) ++ cond ends (entry.Ended txn ∷ []) []) ++ entry.Decided event v ∷ [])
 abandoned_decides known why d txn ends event v well live new =
     let calls : List CallNow = asked_in d.calls txn in

@@ -1,14 +1,16 @@
 -- What closing a call does to each call.
+use Rattle.std.proofs.Common.{◌≡◌, ℕ, ◌+◌, ◌≤◌, Bool, true, false, cond, ◌&&◌, ◌||◌, nat_eq, List, [], ◌∷◌, map, filter, refl, sym, ap, ◌∙◌, arith}
 use Rattle.std.specs.Prelude.{Some, option_map}
-use Rattle.std.proofs.Common.{Bool, List, [], ap, arith, cond, false, filter, map, nat_eq, refl, sym, true, ℕ, ◌&&◌, ◌+◌, ◌||◌, ◌∙◌, ◌∷◌, ◌≡◌, ◌≤◌}
 use Rattle.std.specs.List.{list_any}
 use Rattle.std.proofs.lemmas.Bool.Decides.{nat_tests}
 use Rattle.iss_model.specs.declared.call.How.{How}
 use Rattle.iss_model.specs.declared.call.Opened.{Opened}
 use Rattle.iss_model.specs.rules.Activity.{CallNow, call_numbered, is_asked}
 use Rattle.iss_model.specs.state.Cores.{call_after_close}
-use Rattle.iss_docket.specs.Well.{CallsNumberedFrom, IsAsked, NoneOpenedFor}
-use Rattle.iss_docket.proofs.Lists.{Each, Lone, each_weaker, find-map, found_passes, mapped_is, number_is, same_number}
+use Rattle.iss_effects.proofs.Finds.{find-map, found_passes, number_is, same_number}
+use Rattle.iss_invariants.specs.Numbers.{CallsNumberedFrom}
+use Rattle.iss_docket.specs.Well.{IsAsked, NoneOpenedFor}
+use Rattle.iss_docket.proofs.Lists.{Each, Lone, each_weaker, mapped_is}
 
 pub its_number : (calls : List CallNow) (n : ℕ) (c : CallNow) → call_numbered n calls ≡ Some c → c.opened.call.0 ≡ n
 its_number calls n c e = number_is c.opened.call.0 n (found_passes (λ (c : CallNow). nat_eq c.opened.call.0 n) calls c e)
@@ -100,7 +102,8 @@ asked_before calls k how n c now =
           ∙ first_false (nat_eq k was.0.opened.call.0) (is_asked was.0) same.1 (ap is_asked same.0 ∙ now.asked),
     )
 
-pub none_opened_after : (calls : List CallNow) (k : ℕ) (how : How) (event : List ℕ) → NoneOpenedFor calls event → NoneOpenedFor (map (call_after_close k how) calls) event
+pub none_opened_after : (calls : List CallNow) (k : ℕ) (how : How) (event : List ℕ) → NoneOpenedFor calls event
+    → NoneOpenedFor (map (call_after_close k how) calls) event
 none_opened_after calls k how event none n c e same =
     let was = opened_before calls k how n c e in
     none n was.0 was.1 (ap (λ (o : Opened). o.event) was.2 ∙ same)

@@ -1,13 +1,14 @@
 -- Each accepted event is decided once, or waits for one call.
-use Rattle.std.proofs.Common.{Bool, List, [], ap, arith, cond, false, inl, inr, nat_eq, refl, sym, true, ℕ, ◌&&◌, ◌+◌, ◌∙◌, ◌∷◌, ◌≡◌, ◌≤◌}
+use Rattle.std.proofs.Common.{◌≡◌, ℕ, ◌+◌, ◌≤◌, Bool, true, false, cond, ◌&&◌, nat_eq, List, [], ◌∷◌, refl, sym, ap, ◌∙◌, arith, inl, inr}
 use Rattle.std.specs.List.{list_any}
 use Rattle.std.specs.Str.{bytes_eq}
 use Rattle.std.proofs.lemmas.Bool.{and_parts, false_from_ne_true}
 use Rattle.iss_model.specs.rules.Activity.{CallNow, is_asked}
 use Rattle.iss_model.specs.rules.Facts.{Decision}
 use Rattle.iss_model.proofs.Names.{one_name, same_name}
+use Rattle.iss_invariants.specs.Numbers.{CallsNumberedFrom}
 use Rattle.iss_docket.specs.Dockets.{Docket}
-use Rattle.iss_docket.specs.Well.{CallsNumberedFrom, HaveOwnEvents, IsAccounted, IsWellAmong, Known, asked_times, decided_times, is_decided}
+use Rattle.iss_docket.specs.Well.{HaveOwnEvents, IsAccounted, IsWellAmong, Known, asked_times, decided_times, is_decided}
 use Rattle.iss_docket.proofs.Closing.{StandsItself, all_stand}
 use Rattle.iss_docket.proofs.Lists.{Each, Lone, all_fail, both_so, each_weaker, found_any, lone_times, not_both}
 
@@ -32,7 +33,8 @@ waits_for event c = is_asked c && bytes_eq c.opened.event event
 its_event : (event : List ℕ) (c : CallNow) → waits_for event c ≡ true → c.opened.event ≡ event
 its_event event c h = one_name c.opened.event event (and_parts (is_asked c) (bytes_eq c.opened.event event) h).1
 
-calls_lone_for : (known : Known) (d : Docket) (event : List ℕ) → IsWellAmong known d → (m : ℕ) (xs : List CallNow) → CallsNumberedFrom m xs → Each (StandsItself d.calls) xs
+calls_lone_for : (known : Known) (d : Docket) (event : List ℕ) → IsWellAmong known d → (m : ℕ) (xs : List CallNow) → CallsNumberedFrom m xs
+    → Each (StandsItself d.calls) xs
     → Lone (waits_for event) xs
 calls_lone_for known d event well m [] numbers stand = tt
 calls_lone_for known d event well m (x ∷ xs) numbers stand = (
@@ -57,7 +59,8 @@ none_waits known d event well h =
     ∙ well.waits c.opened.call.0 c (record { stands = stands; asked = (and_parts (is_asked c) (bytes_eq c.opened.event event) e).0 }))))
     d.calls (all_stand d.calls well.calls.numbers))
 
-in_all_one : (known : Known) (d : Docket) (event : List ℕ) → IsWellAmong known d → (a b : Bool) → is_decided d.decisions event ≡ a → list_any (waits_for event) d.calls ≡ b
+in_all_one : (known : Known) (d : Docket) (event : List ℕ) → IsWellAmong known d → (a b : Bool) → is_decided d.decisions event ≡ a
+    → list_any (waits_for event) d.calls ≡ b
     → cond a 1 0 + cond b 1 0 ≡ 1 → decided_times d.decisions event + asked_times d.calls event ≡ 1
 in_all_one known d event well a b decided waits one =
     sum (decided_times d.decisions event) (asked_times d.calls event) (cond a 1 0) (cond b 1 0)
@@ -69,7 +72,8 @@ in_all_one known d event well a b decided waits one =
     sum m n a b h k e = omega (arith, h, k, e)
 
 -- an event that is accounted for is decided once, or waits for one call
-pub accounted_once : (known : Known) (d : Docket) (event : List ℕ) → IsWellAmong known d → IsAccounted d event → decided_times d.decisions event + asked_times d.calls event ≡ 1
+pub accounted_once : (known : Known) (d : Docket) (event : List ℕ) → IsWellAmong known d → IsAccounted d event
+    → decided_times d.decisions event + asked_times d.calls event ≡ 1
 accounted_once known d event well (inl h) = in_all_one known d event well true false h (none_waits known d event well h) refl
 accounted_once known d event well (inr w) =
     in_all_one known d event well false true

@@ -1,6 +1,6 @@
 -- What the pieces of a step put on a docket.
-use Rattle.std.specs.Prelude.{None, pos}
-use Rattle.std.proofs.Common.{Bool, List, [], ap, cond, false, filter, nat_eq, refl, true, ℕ, ◌++◌, ◌+◌, ◌-◌, ◌∙◌, ◌∷◌, ◌≡◌}
+use Rattle.std.proofs.Common.{◌≡◌, ℕ, ◌+◌, ◌-◌, Bool, true, false, cond, nat_eq, List, [], ◌∷◌, ◌++◌, filter, refl, ap, ◌∙◌}
+use Rattle.std.specs.Prelude.{pos, None}
 use Rattle.std.proofs.lemmas.List.{append-nil}
 use Rattle.std.proofs.lemmas.List.Elements.{filter-append}
 use Rattle.iss_model.specs.declared.account.Account.{Account}
@@ -22,7 +22,7 @@ use Rattle.iss_model.specs.rules.Asks.{Ask, usage_of}
 use Rattle.iss_model.specs.rules.CardEntries.{clearing_money_entries}
 use Rattle.iss_model.specs.rules.CardReasons.{is_account_funded}
 use Rattle.iss_model.specs.rules.Facts.{Facts, asked_calls_of}
-use Rattle.iss_model.specs.rules.Pieces.{Parts, abandoned_calls_entries, declined_ask_entries, end_entries, failure_reason, funded_ask_entries, hold_entries, in_all, notice_entry, only_gateway, only_where, post_entries, release_entries, stand_entries, taken_to_release, unhold_entries, use_return_entries, user_account}
+use Rattle.iss_model.specs.rules.Pieces.{only_where, only_gateway, post_entries, hold_entries, unhold_entries, user_account, Parts, in_all, taken_to_release, use_return_entries, release_entries, notice_entry, abandoned_calls_entries, end_entries, declined_ask_entries, funded_ask_entries, failure_reason, stand_entries}
 use Rattle.iss_model.specs.rules.StandIns.{Stand, allowed, over_limit, uncovered}
 use Rattle.iss_docket.specs.Dockets.{is_docketed}
 use Rattle.iss_docket.proofs.Lists.{never}

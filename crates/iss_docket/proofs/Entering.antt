@@ -1,6 +1,6 @@
 -- An allowed entry of what is known leaves a docket well.
-use Rattle.std.specs.Prelude.{None, Option, Some, is_some, option_map}
-use Rattle.std.proofs.Common.{Bool, List, [], ap, arith, cond, false, inl, inr, length, map, nat_eq, refl, sym, true, ℕ, ◌++◌, ◌+◌, ◌||◌, ◌∙◌, ◌∷◌, ◌≡◌, ◌⊎◌}
+use Rattle.std.proofs.Common.{◌≡◌, ℕ, ◌+◌, Bool, true, false, cond, ◌||◌, nat_eq, List, [], ◌∷◌, ◌++◌, length, map, refl, sym, ap, ◌∙◌, arith, ◌⊎◌, inl, inr}
+use Rattle.std.specs.Prelude.{Option, Some, None, is_some, option_map}
 use Rattle.std.specs.Option.{option_or}
 use Rattle.std.specs.Str.{bytes_eq}
 use Rattle.std.proofs.lemmas.Bool.{and_parts, false_from_ne_true}
@@ -12,18 +12,20 @@ use Rattle.iss_model.specs.declared.decision.Verdict.{Verdict}
 use Rattle.iss_model.specs.declared.entry.Entry.{Entry}
 use Rattle.iss_model.specs.declared.entry.Entry.TheVariants as entry
 use Rattle.iss_model.specs.declared.txn.Txn.{Txn}
-use Rattle.iss_model.specs.rules.Activity.{CallNow, TxnNow, call_numbered, txn_named}
+use Rattle.iss_model.specs.rules.Activity.{TxnNow, CallNow, txn_named, call_numbered}
 use Rattle.iss_model.specs.rules.Asks.{is_authorization}
 use Rattle.iss_model.specs.rules.Facts.{Decision}
 use Rattle.iss_model.specs.rules.Reasons.{is_some_with}
 use Rattle.iss_model.specs.state.Cores.{is_live, txn_after_end}
 use Rattle.iss_model.proofs.Lists.{neither}
 use Rattle.iss_model.proofs.Names.{one_name, same_name}
+use Rattle.iss_effects.proofs.Finds.{find-map, found_passes, number_is}
+use Rattle.iss_invariants.specs.Numbers.{CallsNumberedFrom}
 use Rattle.iss_docket.specs.Allowed.{IsAllowed, MayDecide, MayOpen, is_of_known}
 use Rattle.iss_docket.specs.Dockets.{Docket, docket_after}
-use Rattle.iss_docket.specs.Well.{AreWellCalls, CallsNumberedFrom, HaveOwnEvents, HaveOwnTokens, IsAsked, IsWellAmong, Known, NoneAskedOf, has_live, is_decided}
+use Rattle.iss_docket.specs.Well.{AreWellCalls, HaveOwnEvents, HaveOwnTokens, IsAsked, IsWellAmong, Known, NoneAskedOf, has_live, is_decided}
 use Rattle.iss_docket.proofs.Closing.{asked_before, numbered_after, opened_before}
-use Rattle.iss_docket.proofs.Lists.{by_either, either_found, find-map, found_passes, mapped_is, not_both, number_is, some_mapped}
+use Rattle.iss_docket.proofs.Lists.{by_either, either_found, mapped_is, not_both, some_mapped}
 
 -- a call is closed ----
 
@@ -68,7 +70,8 @@ neither_of false true h k = cc
 neither_of false false h k = refl
 
 -- an event that isn't decided stays so where another one is
-pub undecided_still : (ds : List Decision) (x : Decision) (event : List ℕ) → is_decided ds event ≡ false → (x.event ≡ event → ⊥) → is_decided (ds ++ x ∷ []) event ≡ false
+pub undecided_still : (ds : List Decision) (x : Decision) (event : List ℕ) → is_decided ds event ≡ false → (x.event ≡ event → ⊥)
+    → is_decided (ds ++ x ∷ []) event ≡ false
 undecided_still ds x event h other =
     decided_more ds x event ∙ neither_of (is_decided ds event) (bytes_eq x.event event) h (apart x.event event other)
 
@@ -149,7 +152,8 @@ ended_well known d token none well =
 
 -- a transaction begins ----
 
-pub txn_more : (k : List ℕ) (txns : List TxnNow) (t : TxnNow) → txn_named k (txns ++ t ∷ []) ≡ option_or (txn_named k txns) (cond (bytes_eq t.txn.token k) (Some t) None)
+pub txn_more : (k : List ℕ) (txns : List TxnNow) (t : TxnNow)
+    → txn_named k (txns ++ t ∷ []) ≡ option_or (txn_named k txns) (cond (bytes_eq t.txn.token k) (Some t) None)
 txn_more k txns t = find-append (λ (t : TxnNow). bytes_eq t.txn.token k) txns (t ∷ [])
 
 live_or : (o more : Option TxnNow) → is_some_with (λ t. t.live) o ≡ true → is_some_with (λ t. t.live) (option_or o more) ≡ true
@@ -178,7 +182,8 @@ tokens_more (x ∷ xs) t h none =
       tokens_more xs t h.1 parts.1,
     )
 
-began_well : (known : Known) (d : Docket) (t : Txn) → known.events t.token ≡ true → known.products t.product ≡ true → txn_named t.token d.txns ≡ None → IsWellAmong known d
+began_well : (known : Known) (d : Docket) (t : Txn) → known.events t.token ≡ true → known.products t.product ≡ true → txn_named t.token d.txns ≡ None
+    → IsWellAmong known d
     → IsWellAmong known (docket_after d (entry.Began t))
 began_well known d t its its_product none well =
     let x : TxnNow = record { txn = t; live = is_live d.txns t.token } in
@@ -202,7 +207,8 @@ began_well known d t its its_product none well =
 
 -- a call is opened ----
 
-pub call_more : (n : ℕ) (calls : List CallNow) (c : CallNow) → call_numbered n (calls ++ c ∷ []) ≡ option_or (call_numbered n calls) (cond (nat_eq c.opened.call.0 n) (Some c) None)
+pub call_more : (n : ℕ) (calls : List CallNow) (c : CallNow)
+    → call_numbered n (calls ++ c ∷ []) ≡ option_or (call_numbered n calls) (cond (nat_eq c.opened.call.0 n) (Some c) None)
 call_more n calls c = find-append (λ (c : CallNow). nat_eq c.opened.call.0 n) calls (c ∷ [])
 
 new_or_old : (calls : List CallNow) (x : CallNow) (n : ℕ) (c : CallNow) → call_numbered n (calls ++ x ∷ []) ≡ Some c
@@ -214,11 +220,13 @@ numbered_more n [] c h e = (omega (arith, e), tt)
 numbered_more n (x ∷ xs) c h e = (h.0, numbered_more (n + 1) xs c h.1 (omega (arith, e)))
 
 -- an asked call of the longer list was asked before, or is the new one
-asked_new_or_old : (calls : List CallNow) (x : CallNow) (n : ℕ) (c : CallNow) → IsAsked (calls ++ x ∷ []) n c → IsAsked calls n c ⊎ ((nat_eq x.opened.call.0 n ≡ true) × (x ≡ c))
+asked_new_or_old : (calls : List CallNow) (x : CallNow) (n : ℕ) (c : CallNow) → IsAsked (calls ++ x ∷ []) n c
+    → IsAsked calls n c ⊎ ((nat_eq x.opened.call.0 n ≡ true) × (x ≡ c))
 asked_new_or_old calls x n c now =
     by_either (λ old. inl (record { stands = old; asked = now.asked })) (λ new. inr new) (new_or_old calls x n c now.stands)
 
-opened_calls : (known : Known) (d : Docket) (o : Opened) → known.events o.event ≡ true → MayOpen d o → AreWellCalls known d.calls → AreWellCalls known (d.calls ++ record { opened = o; how = None } ∷ [])
+opened_calls : (known : Known) (d : Docket) (o : Opened) → known.events o.event ≡ true → MayOpen d o → AreWellCalls known d.calls
+    → AreWellCalls known (d.calls ++ record { opened = o; how = None } ∷ [])
 opened_calls known d o its may well =
     let x : CallNow = record { opened = o; how = None } in
     record {
@@ -248,7 +256,8 @@ opened_calls known d o its may well =
           (new_or_old d.calls x n c now);
     }
 
-opened_well : (known : Known) (d : Docket) (o : Opened) → known.events o.event ≡ true → MayOpen d o → IsWellAmong known d → IsWellAmong known (docket_after d (entry.Opened o))
+opened_well : (known : Known) (d : Docket) (o : Opened) → known.events o.event ≡ true → MayOpen d o → IsWellAmong known d
+    → IsWellAmong known (docket_after d (entry.Opened o))
 opened_well known d o its may well =
     let x : CallNow = record { opened = o; how = None } in
     record {

@@ -1,6 +1,6 @@
 -- Lists of entries that may be entered into a docket, account for an event of their own, and lose no other one.
-use Rattle.std.specs.Prelude.{None, Option, Some}
-use Rattle.std.proofs.Common.{Bool, List, [], ap, arith, cond, false, filter, fold, inl, inr, length, map, nat_eq, refl, subst, sym, true, ℕ, ◌&&◌, ◌++◌, ◌+◌, ◌||◌, ◌∙◌, ◌∷◌, ◌≡◌, ◌⊎◌}
+use Rattle.std.proofs.Common.{◌≡◌, ℕ, ◌+◌, Bool, true, false, cond, ◌&&◌, ◌||◌, nat_eq, List, [], ◌∷◌, ◌++◌, length, map, filter, fold, refl, sym, ap, subst, ◌∙◌, arith, ◌⊎◌, inl, inr}
+use Rattle.std.specs.Prelude.{Option, Some, None}
 use Rattle.std.specs.List.{list_all}
 use Rattle.std.specs.Option.{option_or}
 use Rattle.std.specs.Str.{bytes_eq}
@@ -14,30 +14,34 @@ use Rattle.iss_model.specs.declared.decision.Verdict.{Verdict}
 use Rattle.iss_model.specs.declared.entry.Entry.{Entry}
 use Rattle.iss_model.specs.declared.entry.Entry.TheVariants as entry
 use Rattle.iss_model.specs.declared.txn.Txn.{Txn}
-use Rattle.iss_model.specs.rules.Activity.{CallNow, call_numbered, txn_named}
+use Rattle.iss_model.specs.rules.Activity.{CallNow, txn_named, call_numbered}
 use Rattle.iss_model.specs.rules.Asks.{is_authorization}
 use Rattle.iss_model.specs.rules.Facts.{Decision}
 use Rattle.iss_model.specs.state.Cores.{call_after_close}
 use Rattle.iss_model.proofs.Lists.{any_grows}
 use Rattle.iss_model.proofs.Names.{either, its_name}
+use Rattle.iss_effects.proofs.Finds.{number_is, same_number}
+use Rattle.iss_invariants.specs.Numbers.{CallsNumberedFrom}
 use Rattle.iss_docket.specs.Allowed.{IsAllowed, MayClose, MayDecide, MayEnd, MayOpen, is_of_known}
 use Rattle.iss_docket.specs.Dockets.{Docket, docket_after, is_docketed}
-use Rattle.iss_docket.specs.Well.{CallsNumberedFrom, IsAccounted, IsAsked, IsWaiting, IsWellAmong, Known, NoneAskedFor, has_live, is_decided}
+use Rattle.iss_docket.specs.Well.{IsAccounted, IsAsked, IsWaiting, IsWellAmong, Known, NoneAskedFor, has_live, is_decided}
 use Rattle.iss_docket.proofs.Closing.{asked_after, asked_before, by_itself, its_number}
 use Rattle.iss_docket.proofs.Entering.{call_more, decided_more, entry_well}
-use Rattle.iss_docket.proofs.Lists.{inside, number_is, or_true, other_number, same_number}
+use Rattle.iss_docket.proofs.Lists.{inside, or_true, other_number}
 
 -- each of these entries may come next in its turn
 abbrev pub AreAllowedOn : Docket → List Entry → Type 0
 AreAllowedOn d [] = Unit {0}
 AreAllowedOn d (e ∷ es) = IsAllowed d e × AreAllowedOn (docket_after d e) es
 
+-- these entries may come in their turn, are of what is known, lose no event that is accounted for, and account for one of their own
 pub record Enters (known : Known) (d : Docket) (own : Option (List ℕ)) (es : List Entry) : Type 0 where
   pub allowed : AreAllowedOn d es
   pub of_known : list_all (is_of_known known) es ≡ true
   pub keeps : (event : List ℕ) → IsAccounted d event → IsAccounted (fold docket_after d es) event
   pub accounts : (event : List ℕ) → own ≡ Some event → IsAccounted (fold docket_after d es) event
 
+-- what may come and is of what is known leaves a docket well
 all_well : (known : Known) (d : Docket) (es : List Entry) → AreAllowedOn d es → list_all (is_of_known known) es ≡ true → IsWellAmong known d
     → IsWellAmong known (fold docket_after d es)
 all_well known d [] allowed its well = well
@@ -45,7 +49,8 @@ all_well known d (e ∷ es) allowed its well =
     let parts = and_parts (is_of_known known e) (list_all (is_of_known known) es) its in
     all_well known (docket_after d e) es allowed.1 parts.1 (entry_well known d e allowed.0 parts.0 well)
 
-pub entered_well : (known : Known) (d : Docket) (own : Option (List ℕ)) (es : List Entry) → Enters known d own es → IsWellAmong known d → IsWellAmong known (fold docket_after d es)
+pub entered_well : (known : Known) (d : Docket) (own : Option (List ℕ)) (es : List Entry) → Enters known d own es → IsWellAmong known d
+    → IsWellAmong known (fold docket_after d es)
 entered_well known d own es enters well = all_well known d es enters.allowed enters.of_known well
 
 -- what isn't docketed ----
@@ -78,7 +83,8 @@ docketed_known known (entry.Ended txn ∷ es) = docketed_known known es
 docketed_known known (_ ∷ es) = docketed_known known es
 
 -- a list enters as what is docketed of it
-pub enters_as : (known : Known) (d : Docket) (own : Option (List ℕ)) (es more : List Entry) → filter is_docketed es ≡ more → Enters known d own more → Enters known d own es
+pub enters_as : (known : Known) (d : Docket) (own : Option (List ℕ)) (es more : List Entry) → filter is_docketed es ≡ more → Enters known d own more
+    → Enters known d own es
 enters_as known d own es more e enters =
     let told : Enters known d own (filter is_docketed es) = subst (Enters known d own) (sym e) enters in
     let same : fold docket_after d es ≡ fold docket_after d (filter is_docketed es) = docketed_moves d es in
@@ -122,7 +128,8 @@ accounted_more : (d : Docket) (x : Decision) (event : List ℕ) → IsAccounted 
 accounted_more d x event (inl h) = inl (any_grows (λ (y : Decision). bytes_eq y.event event) d.decisions (x ∷ []) h)
 accounted_more d x event (inr w) = inr w
 
-pub enters_decided : (known : Known) (d : Docket) (own : List ℕ) (v : Verdict) → known.events own ≡ true → MayDecide d own → Enters known d (Some own) (entry.Decided own v ∷ [])
+pub enters_decided : (known : Known) (d : Docket) (own : List ℕ) (v : Verdict) → known.events own ≡ true → MayDecide d own
+    → Enters known d (Some own) (entry.Decided own v ∷ [])
 enters_decided known d own v its may =
     let x : Decision = record { event = own; verdict = v } in
     record {
@@ -148,7 +155,8 @@ pub enters_ended : (known : Known) (d : Docket) (token : List ℕ) → MayEnd d 
 enters_ended known d token may = record { allowed = (may, tt); of_known = refl; keeps = λ event h. h; accounts = λ event e. none_own e }
 
 -- the transaction may end, and the event is decided
-pub enters_settled : (known : Known) (d : Docket) (txn own : List ℕ) (ends : Bool) (v : Verdict) → known.events own ≡ true → (ends ≡ true → MayEnd d txn) → MayDecide d own
+pub enters_settled : (known : Known) (d : Docket) (txn own : List ℕ) (ends : Bool) (v : Verdict) → known.events own ≡ true → (ends ≡ true → MayEnd d txn)
+    → MayDecide d own
     → Enters known d (Some own) (cond ends (entry.Ended txn ∷ []) [] ++ entry.Decided own v ∷ [])
 enters_settled known d txn own true v its may_end may =
     let q : Docket = docket_after d (entry.Ended txn) in
@@ -158,7 +166,8 @@ enters_settled known d txn own false v its may_end may = enters_decided known d 
 
 -- a call is opened ----
 
-opened_last : (n : ℕ) (calls : List CallNow) (c : CallNow) → CallsNumberedFrom n calls → c.opened.call.0 ≡ n + length calls → call_numbered c.opened.call.0 (calls ++ c ∷ []) ≡ Some c
+opened_last : (n : ℕ) (calls : List CallNow) (c : CallNow) → CallsNumberedFrom n calls → c.opened.call.0 ≡ n + length calls
+    → call_numbered c.opened.call.0 (calls ++ c ∷ []) ≡ Some c
 opened_last n [] c h e = ap (λ (b : Bool). cond b (Some c) None) (same_number c.opened.call.0)
 opened_last n (x ∷ xs) c h e =
     ap (λ (b : Bool). cond b (Some x) (call_numbered c.opened.call.0 (xs ++ c ∷ []))) (differ x.opened.call.0 c.opened.call.0 n (length xs) h.0 (omega (arith, e)))
@@ -181,7 +190,8 @@ accounted_opened d x event (inr w) =
       its_event = w.its_event;
     })
 
-pub enters_opened : (known : Known) (d : Docket) (o : Opened) → known.events o.event ≡ true → CallsNumberedFrom 1 d.calls → MayOpen d o → Enters known d (Some o.event) (entry.Opened o ∷ [])
+pub enters_opened : (known : Known) (d : Docket) (o : Opened) → known.events o.event ≡ true → CallsNumberedFrom 1 d.calls → MayOpen d o
+    → Enters known d (Some o.event) (entry.Opened o ∷ [])
 enters_opened known d o its numbers may =
     let x : CallNow = record { opened = o; how = None } in
     record {
@@ -236,7 +246,8 @@ may_end known d n c how txn well now its first =
           other_number c.opened.call.0 e.opened.call.0 was.1 (its_number d.calls n c now.stands ∙ one ∙ sym (its_number d.calls m e was.0.stands));
     }
 
-pub enters_closed : (known : Known) (d : Docket) (n : ℕ) (c : CallNow) (how : How) (txn : List ℕ) (ends : Bool) (v : Verdict) → IsWellAmong known d → IsAsked d.calls n c
+pub enters_closed : (known : Known) (d : Docket) (n : ℕ) (c : CallNow) (how : How) (txn : List ℕ) (ends : Bool) (v : Verdict) → IsWellAmong known d
+    → IsAsked d.calls n c
     → txn ≡ c.opened.txn → (ends ≡ true → is_authorization c.opened.method ≡ true)
     → Enters known d None (entry.Closed c.opened.call how ∷ cond ends (entry.Ended txn ∷ []) [] ++ entry.Decided c.opened.event v ∷ [])
 enters_closed known d n c how txn ends v well now its first =

@@ -1,6 +1,6 @@
 -- What is found in a list, what its filters and maps hold, and a test that passes at one element alone.
-use Rattle.std.specs.Prelude.{None, Option, Some, find, is_some, option_map}
-use Rattle.std.proofs.Common.{Bool, List, [], ap, arith, cond, false, filter, inl, inr, length, map, nat_eq, refl, suc, sym, true, ℕ, ◌&&◌, ◌||◌, ◌∙◌, ◌∷◌, ◌≡◌, ◌⊎◌}
+use Rattle.std.proofs.Common.{◌≡◌, ℕ, suc, Bool, true, false, cond, ◌&&◌, ◌||◌, nat_eq, List, [], ◌∷◌, length, map, filter, refl, sym, ap, ◌∙◌, arith, ◌⊎◌, inl, inr}
+use Rattle.std.specs.Prelude.{find, Option, Some, None, is_some, option_map}
 use Rattle.std.specs.List.{list_any}
 use Rattle.std.specs.Option.{option_or}
 use Rattle.std.proofs.lemmas.Bool.Decides.{nat_tests}
@@ -35,39 +35,10 @@ not_some None h = refl
 
 -- numbers ----
 
-pub number_is : (n m : ℕ) → nat_eq n m ≡ true → n ≡ m
-number_is n m h = grind (arith, nat_tests)
-
 pub other_number : (n m : ℕ) → nat_eq n m ≡ false → n ≡ m → ⊥
 other_number n m h e = grind (arith, nat_tests)
 
-pub same_number : (n : ℕ) → nat_eq n n ≡ true
-same_number n = grind (arith, nat_tests)
-
-pub number-sym : (n m : ℕ) → nat_eq n m ≡ nat_eq m n
-number-sym n m = grind (arith, nat_tests)
-
 -- what is found ----
-
-pub find-map : {A B : Type 0} (p : B → Bool) (q : A → Bool) (f : A → B) → ((x : A) → p (f x) ≡ q x) → (xs : List A)
-    → find p (map f xs) ≡ option_map f (find q xs)
-find-map p q f same [] = refl
-find-map {A} {B} p q f same (x ∷ xs) =
-    ap (λ (b : Bool). cond b (Some (f x)) (find p (map f xs))) (same x) ∙ by (q x) (find-map p q f same xs)
-  where
-    by : (b : Bool) → find p (map f xs) ≡ option_map f (find q xs)
-        → cond b (Some (f x)) (find p (map f xs)) ≡ option_map f (cond b (Some x) (find q xs))
-    by true e = refl
-    by false e = e
-
-found_at : {A : Type 0} (p : A → Bool) (y x : A) (rest : Option A) (b : Bool) → p y ≡ b → (rest ≡ Some x → p x ≡ true) → cond b (Some y) rest ≡ Some x → p x ≡ true
-found_at p y x rest true h later e = let one : y ≡ x = cc in ap p (sym one) ∙ h
-found_at p y x rest false h later e = later e
-
--- what is found passes the test
-pub found_passes : {A : Type 0} (p : A → Bool) (xs : List A) (x : A) → find p xs ≡ Some x → p x ≡ true
-found_passes p [] x e = cc
-found_passes p (y ∷ ys) x e = found_at p y x (find p ys) (p y) refl (λ later. found_passes p ys x later) e
 
 -- what is found stands in the list
 pub found_any : {A : Type 0} (p q : A → Bool) (xs : List A) (x : A) → find p xs ≡ Some x → q x ≡ true → list_any q xs ≡ true

@@ -1,17 +1,13 @@
 -- What holds of the transactions, the calls and the decisions of every core.
-use Rattle.std.specs.Prelude.{◌≡◌, ℕ, ◌+◌, Bool, true, false, ◌&&◌, List, [], ◌∷◌, length, filter, Some, None, is_some, ◌⊎◌}
+use Rattle.std.specs.Prelude.{◌≡◌, ℕ, Bool, true, false, ◌&&◌, List, [], ◌∷◌, length, filter, Some, None, is_some, ◌⊎◌}
 use Rattle.std.specs.List.{list_any}
 use Rattle.std.specs.Str.{bytes_eq}
 use Rattle.iss_model.specs.rules.Activity.{TxnNow, CallNow, txn_named, call_numbered, is_asked}
 use Rattle.iss_model.specs.rules.Asks.{is_authorization}
 use Rattle.iss_model.specs.rules.Facts.{Decision}
 use Rattle.iss_model.specs.rules.Reasons.{is_some_with}
+use Rattle.iss_invariants.specs.Numbers.{CallsNumberedFrom}
 use Rattle.iss_docket.specs.Dockets.{Docket}
-
--- calls have the numbers from n on, in order
-abbrev pub CallsNumberedFrom : ℕ → List CallNow → Type 0
-CallsNumberedFrom n [] = Unit {0}
-CallsNumberedFrom n (c ∷ cs) = (c.opened.call.0 ≡ n) × CallsNumberedFrom (n + 1) cs
 
 -- no two transactions have one token
 abbrev pub HaveOwnTokens : List TxnNow → Type 0

@@ -1,6 +1,6 @@
 -- On the book of every legal list of records each accepted event is decided once, or waits for its one call.
 use Rattle.std.proofs.Common.{◌≡◌, ℕ, ◌+◌, Bool, true, false, cond, ◌&&◌, nat_eq, List, [], ◌∷◌, length, filter, refl, sym, ap, subst, ◌∙◌, arith}
-use Rattle.std.specs.Prelude.{Option, Some, None, is_some, find}
+use Rattle.std.specs.Prelude.{find, Option, Some, None, is_some}
 use Rattle.std.specs.List.{filter_map, cons_option, list_all}
 use Rattle.std.specs.Str.{bytes_eq}
 use Rattle.iss_model.specs.declared.input.Record.{Record}
@@ -16,7 +16,8 @@ use Rattle.iss_agreement.proofs.CoreOfBook.{core_history}
 use Rattle.iss_laws.specs.Tests.{times}
 use Rattle.iss_laws.specs.Events.{decides, calls_asked_for, is_decided_or_waits, each_event_decided}
 use Rattle.iss_docket.specs.Well.{decided_times}
-use Rattle.iss_pending.specs.Pending.{is_accepted, IsWell}
+use Rattle.iss_invariants.specs.Sound.{is_accepted}
+use Rattle.iss_pending.specs.Pending.{IsWell}
 use Rattle.iss_pending.proofs.Legal.{core_well}
 use Rattle.iss_pending.proofs.Steps.{decided_once}
 
@@ -24,10 +25,12 @@ none_first : (n : ℕ) → n ≡ 0 + n
 none_first n = omega arith
 
 -- an entry counts among decisions as among rows
-decides_alike : (token : List ℕ) (e : Entry) (ds : List Decision) → decided_times (cons_option (decision_of e) ds) token ≡ length (cond (decides token e) (e ∷ []) []) + decided_times ds token
+decides_alike : (token : List ℕ) (e : Entry) (ds : List Decision)
+    → decided_times (cons_option (decision_of e) ds) token ≡ length (cond (decides token e) (e ∷ []) []) + decided_times ds token
 decides_alike token (entry.Decided event verdict) ds = by (bytes_eq event token)
   where
-    by : (b : Bool) → length (cond b (record { event = event; verdict = verdict } ∷ filter (λ (d : Decision). bytes_eq d.event token) ds) (filter (λ (d : Decision). bytes_eq d.event token) ds)) ≡ length (cond b (entry.Decided event verdict ∷ []) []) + decided_times ds token
+    by : (b : Bool)
+        → length (cond b (record { event = event; verdict = verdict } ∷ filter (λ (d : Decision). bytes_eq d.event token) ds) (filter (λ (d : Decision). bytes_eq d.event token) ds)) ≡ length (cond b (entry.Decided event verdict ∷ []) []) + decided_times ds token
     by true = omega arith
     by false = omega arith
 decides_alike token _ ds = none_first (decided_times ds token)
@@ -36,7 +39,8 @@ decides_alike token _ ds = none_first (decided_times ds token)
 row_times : (test : Entry → Bool) (row : Row) (rows : List Row) → times test (row ∷ rows) ≡ length (cond (test row.entry) (row.entry ∷ []) []) + times test rows
 row_times test row rows = by (test row.entry)
   where
-    by : (b : Bool) → length (cond b (row ∷ filter (λ row. test row.entry) rows) (filter (λ row. test row.entry) rows)) ≡ length (cond b (row.entry ∷ []) []) + times test rows
+    by : (b : Bool)
+        → length (cond b (row ∷ filter (λ row. test row.entry) rows) (filter (λ row. test row.entry) rows)) ≡ length (cond b (row.entry ∷ []) []) + times test rows
     by true = omega arith
     by false = omega arith
 
@@ -59,8 +63,10 @@ accepted_first a more event e =
     ∙ ap (λ (b : Bool). is_some (cond b (Some a) (find (λ (a : Accepted). is_event event a.input) more))) (its_name event)
 
 -- where the sums are right for all that was accepted, the law holds of each
-all_decided : (h : History) (full : List Accepted) → ((event : List ℕ) → is_accepted full event ≡ true → times (decides event) h.rows + calls_asked_for (history_facts h) event ≡ 1)
-    → (more : List Accepted) → ((event : List ℕ) → is_accepted more event ≡ true → is_accepted full event ≡ true) → list_all (λ a. is_decided_or_waits h (event_token a.input)) more ≡ true
+all_decided : (h : History) (full : List Accepted)
+    → ((event : List ℕ) → is_accepted full event ≡ true → times (decides event) h.rows + calls_asked_for (history_facts h) event ≡ 1)
+    → (more : List Accepted) → ((event : List ℕ) → is_accepted more event ≡ true → is_accepted full event ≡ true)
+    → list_all (λ a. is_decided_or_waits h (event_token a.input)) more ≡ true
 all_decided h full sums [] within = refl
 all_decided h full sums (a ∷ more) within =
     ap (λ (b : Bool). b && list_all (λ (a : Accepted). is_decided_or_waits h (event_token a.input)) more) (by (event_token a.input) refl)

@@ -1,6 +1,6 @@
 -- What falls due may be entered, and accounts for each event as before.
-use Rattle.std.specs.Prelude.{None, Option, Some}
-use Rattle.std.proofs.Common.{Bool, List, [], ap, cond, false, filter, refl, true, ℕ, ◌++◌, ◌+◌, ◌∙◌, ◌∷◌, ◌≡◌}
+use Rattle.std.proofs.Common.{◌≡◌, ℕ, ◌+◌, Bool, true, false, cond, List, [], ◌∷◌, ◌++◌, filter, refl, ap, ◌∙◌}
+use Rattle.std.specs.Prelude.{Option, Some, None}
 use Rattle.std.specs.Str.{bytes_eq}
 use Rattle.iss_model.specs.declared.account.Account.TheVariants as account
 use Rattle.iss_model.specs.declared.account.Part.TheVariants as part
@@ -16,22 +16,22 @@ use Rattle.iss_model.specs.declared.entry.Entry.TheVariants as entry
 use Rattle.iss_model.specs.declared.input.Outcome.{Outcome}
 use Rattle.iss_model.specs.declared.input.Outcome.TheVariants as outcome
 use Rattle.iss_model.specs.declared.txn.Txn.{Txn}
-use Rattle.iss_model.specs.rules.Activity.{CallNow, TxnNow, call_numbered, is_asked, txn_named}
+use Rattle.iss_model.specs.rules.Activity.{TxnNow, CallNow, txn_named, call_numbered, is_asked}
 use Rattle.iss_model.specs.rules.Asks.{call_ask}
-use Rattle.iss_model.specs.rules.CardEntries.{entries_of_asked, entries_of_txn, failed_call_entries, outcome_entries}
-use Rattle.iss_model.specs.rules.Due.{DueThing, call_due, expiry_entries, live_expiry_entries, thing_entries, txn_due}
+use Rattle.iss_model.specs.rules.CardEntries.{failed_call_entries, outcome_entries, entries_of_txn, entries_of_asked}
+use Rattle.iss_model.specs.rules.Due.{DueThing, call_due, txn_due, expiry_entries, live_expiry_entries, thing_entries}
 use Rattle.iss_model.specs.rules.Facts.{Facts, asked_calls_of, next_notice}
-use Rattle.iss_model.specs.rules.Pieces.{declined_ask_entries, end_entries, funded_ask_entries, in_all, notice_after_abandonment, notice_entry, only_gateway, only_where, parts_held, stand_in_entries}
+use Rattle.iss_model.specs.rules.Pieces.{only_where, only_gateway, parts_held, in_all, notice_entry, notice_after_abandonment, end_entries, declined_ask_entries, funded_ask_entries, stand_in_entries}
 use Rattle.iss_model.specs.rules.Reasons.{is_some_with}
 use Rattle.iss_model.specs.rules.StandIns.{stand}
 use Rattle.iss_model.specs.state.Cores.{CoreState, core_facts}
 use Rattle.iss_model.proofs.Names.{one_name}
+use Rattle.iss_effects.proofs.Finds.{found_passes}
 use Rattle.iss_docket.specs.Dockets.{Docket, docket_of, is_docketed}
 use Rattle.iss_docket.specs.Well.{IsAsked, IsWellAmong, Known, has_live}
 use Rattle.iss_docket.proofs.Abandoning.{end_enters}
 use Rattle.iss_docket.proofs.Docketed.{Settles, closings, declined_settles, end_docketed, funded_settles, gateway_silent, silent, silent_last, stand_settles, where_silent}
 use Rattle.iss_docket.proofs.Enters.{Enters, enters_as, enters_closed, enters_none}
-use Rattle.iss_docket.proofs.Lists.{found_passes}
 
 -- ways to close a call ----
 
@@ -73,7 +73,8 @@ pub closes_docketed : (o : Opened) (t : Txn) (es : List Entry) → (closes : Clo
     ≡ entry.Closed o.call closes.its_how ∷ cond closes.settles.ends (entry.Ended t.token ∷ []) [] ++ entry.Decided o.event closes.settles.its_verdict ∷ []
 closes_docketed o t es closes = closes.docketed ∙ ap (λ (ms : List Entry). entry.Closed o.call closes.its_how ∷ ms) closes.settles.docketed
 
-closes_enter : (known : Known) (d : Docket) (n : ℕ) (c : CallNow) (t : Txn) (es : List Entry) → IsWellAmong known d → IsAsked d.calls n c → t.token ≡ c.opened.txn → Closes c.opened t es
+closes_enter : (known : Known) (d : Docket) (n : ℕ) (c : CallNow) (t : Txn) (es : List Entry) → IsWellAmong known d → IsAsked d.calls n c → t.token ≡ c.opened.txn
+    → Closes c.opened t es
     → Enters known d None es
 closes_enter known d n c t es well now its closes =
     let settles = closes.settles in
@@ -86,13 +87,16 @@ closes_enter known d n c t es well now its closes =
 pub its_token : (txns : List TxnNow) (token : List ℕ) (t : TxnNow) → txn_named token txns ≡ Some t → t.txn.token ≡ token
 its_token txns token t e = one_name t.txn.token token (found_passes (λ (t : TxnNow). bytes_eq t.txn.token token) txns t e)
 
-txn_enters : (known : Known) (s : CoreState) (make : Opened → Txn → List Entry) (n : ℕ) (c : CallNow) → ((o : Opened) (t : Txn) → Closes o t (make o t)) → IsAsked s.calls n c
-    → IsWellAmong known (docket_of s) → (now : Option TxnNow) → txn_named c.opened.txn s.holdings.txns ≡ now → Enters known (docket_of s) None (entries_of_txn (make c.opened) now)
+txn_enters : (known : Known) (s : CoreState) (make : Opened → Txn → List Entry) (n : ℕ) (c : CallNow) → ((o : Opened) (t : Txn) → Closes o t (make o t))
+    → IsAsked s.calls n c
+    → IsWellAmong known (docket_of s) → (now : Option TxnNow) → txn_named c.opened.txn s.holdings.txns ≡ now
+    → Enters known (docket_of s) None (entries_of_txn (make c.opened) now)
 txn_enters known s make n c closes asked well None e = enters_none known (docket_of s)
 txn_enters known s make n c closes asked well (Some now) e =
     closes_enter known (docket_of s) n c now.txn (make c.opened now.txn) well asked (its_token s.holdings.txns c.opened.txn now e) (closes c.opened now.txn)
 
-call_enters : (known : Known) (s : CoreState) (make : Opened → Txn → List Entry) (n : ℕ) → ((o : Opened) (t : Txn) → Closes o t (make o t)) → IsWellAmong known (docket_of s)
+call_enters : (known : Known) (s : CoreState) (make : Opened → Txn → List Entry) (n : ℕ) → ((o : Opened) (t : Txn) → Closes o t (make o t))
+    → IsWellAmong known (docket_of s)
     → (o : Option CallNow) → call_numbered n s.calls ≡ o → Enters known (docket_of s) None (entries_of_asked make o (core_facts s))
 call_enters known s make n closes well None e = enters_none known (docket_of s)
 call_enters known s make n closes well (Some c) e = by (is_asked c) refl
@@ -101,7 +105,8 @@ call_enters known s make n closes well (Some c) e = by (is_asked c) refl
     by true h = txn_enters known s make n c closes (record { stands = e; asked = h }) well (txn_named c.opened.txn s.holdings.txns) refl
     by false h = enters_none known (docket_of s)
 
-pub asked_enters : (known : Known) (s : CoreState) (make : Opened → Txn → List Entry) (n : ℕ) → ((o : Opened) (t : Txn) → Closes o t (make o t)) → IsWellAmong known (docket_of s)
+pub asked_enters : (known : Known) (s : CoreState) (make : Opened → Txn → List Entry) (n : ℕ) → ((o : Opened) (t : Txn) → Closes o t (make o t))
+    → IsWellAmong known (docket_of s)
     → Enters known (docket_of s) None (entries_of_asked make (call_numbered n s.calls) (core_facts s))
 asked_enters known s make n closes well = call_enters known s make n closes well (call_numbered n s.calls) refl
 
@@ -130,7 +135,8 @@ expiry_enters known s token well (Some now) e = by now.live refl
         (end_enters known reason.Expired (docket_of s) now.txn.token well (found_live s.holdings.txns token now e live))
     by false live = enters_none known (docket_of s)
 
-pub thing_enters : (known : Known) (s : CoreState) (thing : DueThing) (at : ℕ) → IsWellAmong known (docket_of s) → Enters known (docket_of s) None (thing_entries thing at (core_facts s))
+pub thing_enters : (known : Known) (s : CoreState) (thing : DueThing) (at : ℕ) → IsWellAmong known (docket_of s)
+    → Enters known (docket_of s) None (thing_entries thing at (core_facts s))
 thing_enters known s (call_due number) at well =
     asked_enters known s (λ (o : Opened) (t : Txn). failed_call_entries (core_facts s) o t failure.Timeout at) number (λ o t. failed_closes (core_facts s) o t failure.Timeout at) well
 thing_enters known s (txn_due token) at well = expiry_enters known s token well (txn_named token s.holdings.txns) refl

@@ -1,19 +1,21 @@
 -- Which items are due, and so what becomes of an asked call by all that is due at a moment.
+use Rattle.std.proofs.Common.{◌≡◌, ℕ, Bool, true, false, cond, ◌&&◌, ◌||◌, nat_eq, nat_le, List, [], ◌∷◌, ◌++◌, map, filter, fold, refl, sym, ap, subst, ◌∙◌}
 use Rattle.std.specs.Prelude.{Some}
-use Rattle.std.proofs.Common.{Bool, List, [], ap, cond, false, filter, fold, map, nat_eq, nat_le, refl, subst, sym, true, ℕ, ◌&&◌, ◌++◌, ◌||◌, ◌∙◌, ◌∷◌, ◌≡◌}
 use Rattle.std.specs.List.{list_any}
 use Rattle.std.specs.Str.{bytes_eq}
 use Rattle.std.proofs.lemmas.List.Folds.{list_any-append}
-use Rattle.iss_model.specs.rules.Activity.{CallNow, TxnNow, is_asked, txn_named}
-use Rattle.iss_model.specs.rules.Due.{DueItem, due_call, due_items, due_txn, is_before, items_with}
+use Rattle.iss_model.specs.rules.Activity.{TxnNow, CallNow, is_asked, txn_named}
+use Rattle.iss_model.specs.rules.Due.{DueItem, due_call, due_txn, is_before, due_items, items_with}
 use Rattle.iss_model.specs.rules.Reasons.{is_some_with}
 use Rattle.iss_model.specs.rules.Stepping.{after_due}
 use Rattle.iss_model.specs.state.Cores.{CoreState, core_facts, core_keeper}
 use Rattle.iss_model.proofs.Names.{one_name}
+use Rattle.iss_effects.proofs.Finds.{found_passes}
+use Rattle.iss_invariants.specs.Numbers.{CallsNumberedFrom}
 use Rattle.iss_docket.specs.Dockets.{docket_of}
-use Rattle.iss_docket.specs.Well.{CallsNumberedFrom, HaveOwnTokens, IsAsked, IsWellAmong, Known}
+use Rattle.iss_docket.specs.Well.{HaveOwnTokens, IsAsked, IsWellAmong, Known}
 use Rattle.iss_docket.proofs.Closing.{calls_lone}
-use Rattle.iss_docket.proofs.Lists.{Lone, any_filtered, any_mapped, found_passes, lone_any, none_found}
+use Rattle.iss_docket.proofs.Lists.{Lone, any_filtered, any_mapped, lone_any, none_found}
 use Rattle.iss_pending.proofs.Fates.{Fate, hits, sweep_fate}
 
 txns_lone : (k : List ℕ) (ts : List TxnNow) → HaveOwnTokens ts → Lone (λ t. bytes_eq t.txn.token k) ts
@@ -79,7 +81,8 @@ due_txns txns at n k t names stands live =
     (λ x h. both_false x.live (nat_le x.txn.expires at) (bytes_eq x.txn.token k) h) txns t (txns_lone k txns names) stands
     ∙ middle_of t.live (nat_le t.txn.expires at) (bytes_eq t.txn.token k) live (found_passes (λ (x : TxnNow). bytes_eq x.txn.token k) txns t stands)
 
-pub due_hits : (known : Known) (s : CoreState) (at n : ℕ) (c : CallNow) (t : TxnNow) → IsWellAmong known (docket_of s) → IsAsked s.calls n c → txn_named c.opened.txn s.holdings.txns ≡ Some t
+pub due_hits : (known : Known) (s : CoreState) (at n : ℕ) (c : CallNow) (t : TxnNow) → IsWellAmong known (docket_of s) → IsAsked s.calls n c
+    → txn_named c.opened.txn s.holdings.txns ≡ Some t
     → list_any (λ i. hits n c.opened.txn i.thing) (due_items (core_facts s) at) ≡ (nat_le c.opened.deadline at || nat_le t.txn.expires at)
 due_hits known s at n c t well asked stands =
     let k : List ℕ = c.opened.txn in
@@ -94,7 +97,8 @@ due_hits known s at n c t well asked stands =
     ∙ ap (λ (b : Bool). nat_le c.opened.deadline at || b) (due_txns s.holdings.txns at n k t well.txns.tokens stands (ap (is_some_with (λ (t : TxnNow). t.live)) (sym stands) ∙ well.live n c asked))
 
 -- What becomes of an asked call by what is due at a moment: it is closed where its deadline or its transaction's expiry has come, and else stays as it is.
-pub after_due_fate : (known : Known) (s : CoreState) (at n : ℕ) (c : CallNow) (t : TxnNow) → IsWellAmong known (docket_of s) → IsAsked s.calls n c → txn_named c.opened.txn s.holdings.txns ≡ Some t
+pub after_due_fate : (known : Known) (s : CoreState) (at n : ℕ) (c : CallNow) (t : TxnNow) → IsWellAmong known (docket_of s) → IsAsked s.calls n c
+    → txn_named c.opened.txn s.holdings.txns ≡ Some t
     → Fate (after_due core_keeper s at).world.calls n c (nat_le c.opened.deadline at || nat_le t.txn.expires at)
 after_due_fate known s at n c t well asked stands =
     subst (Fate (after_due core_keeper s at).world.calls n c) (due_hits known s at n c t well asked stands)

@@ -2,7 +2,6 @@ pub mod Due
 pub mod Own
 pub mod Staying
 pub mod Steps
-pub mod NewEvents
 pub mod Legal
 pub mod Fates
 pub mod DueHits

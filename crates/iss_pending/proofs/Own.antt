@@ -1,6 +1,6 @@
 -- A record's own entries may be entered where its event is new, and account for it.
-use Rattle.std.specs.Prelude.{None, Option, Some, is_none, is_some, option_and_then, option_map}
-use Rattle.std.proofs.Common.{Bool, List, [], ap, cond, false, filter, length, min, nat_eq, not, refl, subst, sym, true, ℕ, ◌&&◌, ◌++◌, ◌+◌, ◌-◌, ◌||◌, ◌∙◌, ◌∷◌, ◌≡◌}
+use Rattle.std.proofs.Common.{◌≡◌, ℕ, ◌+◌, ◌-◌, min, Bool, true, false, not, cond, ◌&&◌, ◌||◌, nat_eq, List, [], ◌∷◌, ◌++◌, length, filter, refl, sym, ap, subst, ◌∙◌}
+use Rattle.std.specs.Prelude.{Option, Some, None, is_some, is_none, option_map, option_and_then}
 use Rattle.std.specs.List.{list_any}
 use Rattle.std.specs.Option.{option_or}
 use Rattle.std.specs.Str.{bytes_eq}
@@ -23,20 +23,21 @@ use Rattle.iss_model.specs.declared.setting.Card.{Card}
 use Rattle.iss_model.specs.declared.setting.Product.{Product}
 use Rattle.iss_model.specs.declared.txn.Txn.{Txn}
 use Rattle.iss_model.specs.Inputs.{event_token}
-use Rattle.iss_model.specs.rules.Activity.{CallNow, TxnNow, is_asked, txn_named}
-use Rattle.iss_model.specs.rules.Asks.{Ask, ask_usage, is_authorization, txn_begun}
-use Rattle.iss_model.specs.rules.CardEntries.{authorization_entries, call_for, clearing_entries, clearing_money_entries, funding_entries, further_clearing_entries, gateway_ask_entries, increment_entries, last_clearing_entries, outcome_entries, owed_to_programme, refund_entries, reversal_entries}
-use Rattle.iss_model.specs.rules.CardReasons.{authorization_reason, clearing_reason, first_ask, further_ask, increment_reason, is_account_funded, is_in_currency, is_pending, refund_reason, reversal_reason}
-use Rattle.iss_model.specs.rules.Facts.{Facts, asked_calls_of, is_notice, next_notice, txn_in}
-use Rattle.iss_model.specs.rules.Pieces.{Parts, abandoned_calls_entries, end_entries, hold_entries, in_all, left_of, notice_after_abandonment, notice_entry, only_gateway, only_where, parts_held, post_entries, release_entries, stand_in_entries, taken_to_clear, user_account}
-use Rattle.iss_model.specs.rules.Reasons.{card_reason, control_reason, group_reason, is_some_with, load_reason, move_reason, product_reason, set_reason, switch_reason, user_is, user_reason}
-use Rattle.iss_model.specs.rules.Settings.{card_named, is_active_card, is_active_user, is_named_in, product_named}
+use Rattle.iss_model.specs.rules.Activity.{TxnNow, CallNow, is_asked, txn_named}
+use Rattle.iss_model.specs.rules.Asks.{Ask, ask_usage, txn_begun, is_authorization}
+use Rattle.iss_model.specs.rules.CardEntries.{call_for, gateway_ask_entries, funding_entries, authorization_entries, increment_entries, reversal_entries, clearing_money_entries, last_clearing_entries, further_clearing_entries, clearing_entries, owed_to_programme, refund_entries, outcome_entries}
+use Rattle.iss_model.specs.rules.CardReasons.{authorization_reason, first_ask, further_ask, is_account_funded, increment_reason, is_in_currency, is_pending, reversal_reason, clearing_reason, refund_reason}
+use Rattle.iss_model.specs.rules.Facts.{Facts, txn_in, asked_calls_of, next_notice, is_notice}
+use Rattle.iss_model.specs.rules.Pieces.{only_where, only_gateway, post_entries, hold_entries, user_account, Parts, parts_held, in_all, left_of, taken_to_clear, release_entries, notice_after_abandonment, notice_entry, abandoned_calls_entries, end_entries, stand_in_entries}
+use Rattle.iss_model.specs.rules.Reasons.{user_reason, card_reason, user_is, move_reason, is_some_with, product_reason, group_reason, control_reason, set_reason, switch_reason, load_reason}
+use Rattle.iss_model.specs.rules.Settings.{card_named, product_named, is_active_user, is_named_in, is_active_card}
 use Rattle.iss_model.specs.rules.StandIns.{stand}
-use Rattle.iss_model.specs.rules.Stepping.{authorization_ask, entries_of, increment_ask, load_entries, setting_entries, unless_declined}
-use Rattle.iss_model.specs.state.Cores.{CoreState, core_facts, is_live}
+use Rattle.iss_model.specs.rules.Stepping.{unless_declined, setting_entries, load_entries, authorization_ask, increment_ask, entries_of}
+use Rattle.iss_model.specs.state.Cores.{CoreState, is_live, core_facts}
 use Rattle.iss_model.proofs.Names.{its_name, same_name}
+use Rattle.iss_invariants.specs.Numbers.{CallsNumberedFrom}
 use Rattle.iss_docket.specs.Dockets.{Docket, docket_after, docket_of, is_docketed}
-use Rattle.iss_docket.specs.Well.{CallsNumberedFrom, IsWellAmong, Known, NoneAskedOf, NonePendingOf, has_live}
+use Rattle.iss_docket.specs.Well.{IsWellAmong, Known, NoneAskedOf, NonePendingOf, has_live}
 use Rattle.iss_docket.proofs.Abandoning.{IsNewTo, abandoned_decides, new_decides}
 use Rattle.iss_docket.proofs.Docketed.{Settles, abandoned_docketed, both_silent, clearing_silent, closings, docketed_both, end_docketed, gateway_silent, hold_silent, post_silent, release_silent, silent, silent_first, silent_last, stand_settles, where_silent}
 use Rattle.iss_docket.proofs.Entering.{txn_more}
@@ -47,6 +48,7 @@ use Rattle.iss_pending.proofs.Due.{asked_enters, found_live, outcome_closes}
 
 -- an ask seeks funding ----
 
+-- an ask's event is new, and its transaction live with no authorisation's call asked; where it is the first one, none is asked at all
 record MaySeek (known : Known) (d : Docket) (ask : Ask) : Type 0 where
   new : IsNewTo known d ask.event
   numbers : CallsNumberedFrom 1 d.calls
@@ -70,7 +72,8 @@ gateway_enters known d f ask (Some product) stands same may = by (is_named_in f.
     stood : Settles ask (stand_in_entries (next_notice f) f ask failure.Switch ask.at)
     stood = stand_settles (stand f ask failure.Switch ask.at) (next_notice f) ask failure.Switch ask.at
 
-    by : (b : Bool) → Enters known d (Some ask.event) (cond b (stand_in_entries (next_notice f) f ask failure.Switch ask.at) (entry.Opened (call_for f product ask) ∷ []))
+    by : (b : Bool)
+        → Enters known d (Some ask.event) (cond b (stand_in_entries (next_notice f) f ask failure.Switch ask.at) (entry.Opened (call_for f product ask) ∷ []))
     by true =
         enters_as known d (Some ask.event) (stand_in_entries (next_notice f) f ask failure.Switch ask.at) _ stood.docketed
         (enters_settled known d ask.txn.token ask.event stood.ends stood.its_verdict may.new.its_event
@@ -86,11 +89,13 @@ gateway_enters known d f ask (Some product) stands same may = by (is_named_in f.
           alone = λ h. may.alone (first_method ask.is_first h);
         })
 
-funding_enters : (known : Known) (d : Docket) (f : Facts) (ask : Ask) → is_some (product_named ask.txn.product f.products) ≡ true → f.calls ≡ d.calls → MaySeek known d ask
+funding_enters : (known : Known) (d : Docket) (f : Facts) (ask : Ask) → is_some (product_named ask.txn.product f.products) ≡ true → f.calls ≡ d.calls
+    → MaySeek known d ask
     → Enters known d (Some ask.event) (funding_entries f ask)
 funding_enters known d f ask stands same may = by (is_account_funded ask.txn.funding)
   where
-    by : (b : Bool) → Enters known d (Some ask.event) (cond b (hold_entries ask.txn part.S ask.amount ++ entry.Decided ask.event verdict.Approved ∷ []) (gateway_ask_entries (product_named ask.txn.product f.products) f ask))
+    by : (b : Bool)
+        → Enters known d (Some ask.event) (cond b (hold_entries ask.txn part.S ask.amount ++ entry.Decided ask.event verdict.Approved ∷ []) (gateway_ask_entries (product_named ask.txn.product f.products) f ask))
     by true =
         enters_as known d (Some ask.event) (hold_entries ask.txn part.S ask.amount ++ entry.Decided ask.event verdict.Approved ∷ []) _
         (silent_first (hold_entries ask.txn part.S ask.amount) (entry.Decided ask.event verdict.Approved ∷ []) (hold_silent ask.txn part.S ask.amount))
@@ -111,12 +116,14 @@ decides s es event v docketed its =
     enters_as (known_of s) (docket_of s) (Some event) es (entry.Decided event v ∷ []) docketed
     (enters_decided (known_of s) (docket_of s) event v its.new.its_event (new_decides (known_of s) (docket_of s) event its.new))
 
-unless_enters : (s : CoreState) (why : Option Reason) (event : List ℕ) (es : List Entry) → IsNewOn s event → (why ≡ None → Enters (known_of s) (docket_of s) (Some event) es)
+unless_enters : (s : CoreState) (why : Option Reason) (event : List ℕ) (es : List Entry) → IsNewOn s event
+    → (why ≡ None → Enters (known_of s) (docket_of s) (Some event) es)
     → Enters (known_of s) (docket_of s) (Some event) (unless_declined why event es)
 unless_enters s None event es its enters = enters refl
 unless_enters s (Some why) event es its enters = decides s (entry.Decided event (verdict.Declined why) ∷ []) event (verdict.Declined why) refl its
 
-setting_enters : (s : CoreState) (why : Option Reason) (event : List ℕ) (i : Input) → IsNewOn s event → Enters (known_of s) (docket_of s) (Some event) (unless_declined why event (setting_entries i event))
+setting_enters : (s : CoreState) (why : Option Reason) (event : List ℕ) (i : Input) → IsNewOn s event
+    → Enters (known_of s) (docket_of s) (Some event) (unless_declined why event (setting_entries i event))
 setting_enters s why event i its = unless_enters s why event (setting_entries i event) its (λ none. decides s (setting_entries i event) event verdict.Done refl its)
 
 -- reasons taken apart
@@ -139,7 +146,8 @@ ask_of f token currency amount mcc mid at c test None e h = cc
 ask_of f token currency amount mcc mid at c test (Some product) e h =
     (first_ask token amount at (txn_begun f c product token currency mcc mid at), refl, record { its_event = refl; its_token = refl; its_product = ap (λ (o : Option Product). is_some o) e })
 
-ask_there : (f : Facts) (token : List ℕ) (currency : Currency) (amount mcc : ℕ) (mid : List ℕ) (at : ℕ) (card : Option Card) → is_some_with (is_in_currency f currency) card ≡ true
+ask_there : (f : Facts) (token : List ℕ) (currency : Currency) (amount mcc : ℕ) (mid : List ℕ) (at : ℕ) (card : Option Card)
+    → is_some_with (is_in_currency f currency) card ≡ true
     → (x : Ask) × (option_map (first_ask token amount at) (option_and_then (λ c. option_map (λ product. txn_begun f c product token currency mcc mid at) (product_named c.product f.products)) card) ≡ Some x) × IsAskOf f token x
 ask_there f token currency amount mcc mid at None h = cc
 ask_there f token currency amount mcc mid at (Some c) h = ask_of f token currency amount mcc mid at c _ (product_named c.product f.products) refl h
@@ -191,7 +199,8 @@ begun_enters s event x well its ask =
       alone = λ h. nobody;
     }))
 
-authorization_enters : (s : CoreState) (token card : List ℕ) (currency : Currency) (amount mcc : ℕ) (mid : List ℕ) (at : ℕ) → IsWellAmong (known_of s) (docket_of s) → IsNewOn s token
+authorization_enters : (s : CoreState) (token card : List ℕ) (currency : Currency) (amount mcc : ℕ) (mid : List ℕ) (at : ℕ) → IsWellAmong (known_of s) (docket_of s)
+    → IsNewOn s token
     → authorization_reason (core_facts s) card currency (authorization_ask (core_facts s) token card currency amount mcc mid at) ≡ None
     → Enters (known_of s) (docket_of s) (Some token) (authorization_entries (core_facts s) (authorization_ask (core_facts s) token card currency amount mcc mid at))
 authorization_enters s token card currency amount mcc mid at well its none =
@@ -209,7 +218,8 @@ authorization_enters s token card currency amount mcc mid at well its none =
 -- an increment ----
 
 increment_enters : (s : CoreState) (event txn : List ℕ) (currency : Currency) (amount at : ℕ) (now : Option TxnNow) → txn_named txn s.holdings.txns ≡ now
-    → IsWellAmong (known_of s) (docket_of s) → IsNewOn s event → increment_reason (core_facts s) now currency (option_map (λ now. further_ask event amount at now.txn) now) ≡ None
+    → IsWellAmong (known_of s) (docket_of s) → IsNewOn s event
+    → increment_reason (core_facts s) now currency (option_map (λ now. further_ask event amount at now.txn) now) ≡ None
     → Enters (known_of s) (docket_of s) (Some event) (increment_entries (core_facts s) (option_map (λ now. further_ask event amount at now.txn) now))
 increment_enters s event txn currency amount at None e well its none = cc
 increment_enters s event txn currency amount at (Some now) e well its none =
@@ -258,7 +268,8 @@ reversal_docketed f event amount now =
     refl
 
 reversal_enters : (s : CoreState) (event txn : List ℕ) (amount : ℕ) (currency : Currency) (now : Option TxnNow) → txn_named txn s.holdings.txns ≡ now
-    → IsWellAmong (known_of s) (docket_of s) → IsNewOn s event → reversal_reason now currency ≡ None → Enters (known_of s) (docket_of s) (Some event) (reversal_entries (core_facts s) event amount now)
+    → IsWellAmong (known_of s) (docket_of s) → IsNewOn s event → reversal_reason now currency ≡ None
+    → Enters (known_of s) (docket_of s) (Some event) (reversal_entries (core_facts s) event amount now)
 reversal_enters s event txn amount currency None e well its none = cc
 reversal_enters s event txn amount currency (Some now) e well its none =
     let f : Facts = core_facts s in
@@ -279,13 +290,16 @@ last_clearing_docketed f t taken rest amount at event =
     ∙ end_docketed (next_notice f) f t rest reason.Cleared)
     refl
 
-clearing_enters : (s : CoreState) (event txn : List ℕ) (amount : ℕ) (last : Bool) (at : ℕ) (currency : Currency) (now : Option TxnNow) → txn_named txn s.holdings.txns ≡ now
-    → IsWellAmong (known_of s) (docket_of s) → IsNewOn s event → clearing_reason now currency ≡ None → Enters (known_of s) (docket_of s) (Some event) (clearing_entries (core_facts s) event amount last at now)
+clearing_enters : (s : CoreState) (event txn : List ℕ) (amount : ℕ) (last : Bool) (at : ℕ) (currency : Currency) (now : Option TxnNow)
+    → txn_named txn s.holdings.txns ≡ now
+    → IsWellAmong (known_of s) (docket_of s) → IsNewOn s event → clearing_reason now currency ≡ None
+    → Enters (known_of s) (docket_of s) (Some event) (clearing_entries (core_facts s) event amount last at now)
 clearing_enters s event txn amount last at currency None e well its none = cc
 clearing_enters s event txn amount last at currency (Some now) e well its none =
     by (now.live && (last || nat_eq (in_all (left_of (parts_held (core_facts s) now.txn) (taken_to_clear (parts_held (core_facts s) now.txn) amount))) 0)) refl
   where
-    by : (b : Bool) → (now.live && (last || nat_eq (in_all (left_of (parts_held (core_facts s) now.txn) (taken_to_clear (parts_held (core_facts s) now.txn) amount))) 0)) ≡ b
+    by : (b : Bool)
+        → (now.live && (last || nat_eq (in_all (left_of (parts_held (core_facts s) now.txn) (taken_to_clear (parts_held (core_facts s) now.txn) amount))) 0)) ≡ b
         → Enters (known_of s) (docket_of s) (Some event) (
         clearing_money_entries now.txn (taken_to_clear (parts_held (core_facts s) now.txn) amount) amount at
         ++ cond b (last_clearing_entries (core_facts s) now.txn (left_of (parts_held (core_facts s) now.txn) (taken_to_clear (parts_held (core_facts s) now.txn) amount)) amount) (further_clearing_entries (core_facts s) now.txn amount)
@@ -307,7 +321,8 @@ clearing_enters s event txn amount last at currency (Some now) e well its none =
         (silent_first (clearing_money_entries t taken amount at ++ further_clearing_entries f t amount) (entry.Decided event verdict.Done ∷ [])
         (both_silent (clearing_silent t taken amount at) (gateway_silent t {es = notice_entry (next_notice f) method.Capture t None amount 0 ∷ []} (silent refl)))) its
 
-refund_enters : (s : CoreState) (event : List ℕ) (amount : ℕ) (currency : Currency) (now : Option TxnNow) → IsNewOn s event → refund_reason (core_facts s) now currency amount ≡ None
+refund_enters : (s : CoreState) (event : List ℕ) (amount : ℕ) (currency : Currency) (now : Option TxnNow) → IsNewOn s event
+    → refund_reason (core_facts s) now currency amount ≡ None
     → Enters (known_of s) (docket_of s) (Some event) (refund_entries (core_facts s) event amount now)
 refund_enters s event amount currency None its none = cc
 refund_enters s event amount currency (Some now) its none =

@@ -1,6 +1,6 @@
--- What entries leave alone: the accepted events, the products that stand; and what they do to a core's docket.
-use Rattle.std.specs.Prelude.{None, Option, Some, find, is_some}
-use Rattle.std.proofs.Common.{Bool, List, [], ap, cond, false, filter, fold, inl, inr, map, refl, subst, sym, true, ℕ, ◌++◌, ◌+◌, ◌∙◌, ◌∷◌, ◌≡◌, ◌⊎◌}
+-- What entries do to a core's docket, that products stay, and which events are accepted once a record is taken up.
+use Rattle.std.proofs.Common.{◌≡◌, ℕ, ◌+◌, Bool, true, false, cond, List, [], ◌∷◌, ◌++◌, map, filter, fold, refl, sym, ap, subst, ◌∙◌, ◌⊎◌, inl, inr}
+use Rattle.std.specs.Prelude.{find, Option, Some, None, is_some}
 use Rattle.std.specs.Option.{option_or}
 use Rattle.std.specs.Str.{bytes_eq}
 use Rattle.std.proofs.lemmas.List.{append-nil}
@@ -18,13 +18,14 @@ use Rattle.iss_model.specs.rules.Facts.{Accepted}
 use Rattle.iss_model.specs.rules.Keeper.{Growth}
 use Rattle.iss_model.specs.rules.Settings.{product_named}
 use Rattle.iss_model.specs.rules.Stepping.{settle}
-use Rattle.iss_model.specs.state.Cores.{CoreState, ProductNow, after_entry, after_setting, core_facts, core_keeper, product_after_switch, with_record}
+use Rattle.iss_model.specs.state.Cores.{CoreState, ProductNow, with_record, core_facts, product_after_switch, core_keeper, after_setting, after_entry}
 use Rattle.iss_model.proofs.Lists.{map-alike, map-map}
-use Rattle.iss_model.proofs.Names.{its_name, one_name}
+use Rattle.iss_model.proofs.Names.{one_name, its_name}
+use Rattle.iss_invariants.specs.Sound.{is_accepted}
 use Rattle.iss_docket.specs.Dockets.{Docket, docket_after, docket_of, is_docketed}
 use Rattle.iss_docket.proofs.Enters.{AreAllowedOn, docketed_moves}
 use Rattle.iss_docket.proofs.Lists.{by_either}
-use Rattle.iss_pending.specs.Pending.{AreAllowed, is_accepted, is_product}
+use Rattle.iss_pending.specs.Pending.{AreAllowed, is_product}
 
 -- the docket ----
 
@@ -51,35 +52,7 @@ pub are_allowed : (s : CoreState) (es : List Entry) → AreAllowedOn (docket_of 
 are_allowed s [] h = tt
 are_allowed s (e ∷ es) h = (h.0, are_allowed (after_entry s e) es (subst (λ (d : Docket). AreAllowedOn d es) (sym (entry_docket s e)) h.1))
 
--- what was accepted ----
-
-setting_accepted : (s : CoreState) (i : Input) → (after_setting s i).accepted ≡ s.accepted
-setting_accepted s (input.Move token (who.Card card to)) = refl
-setting_accepted s (input.Move token (who.User user to)) = refl
-setting_accepted s _ = refl
-
-entry_accepted : (s : CoreState) (e : Entry) → (after_entry s e).accepted ≡ s.accepted
-entry_accepted s (entry.Conf i) = setting_accepted s i
-entry_accepted s (entry.Began t) = refl
-entry_accepted s _ = refl
-
-pub entries_accepted : (s : CoreState) (es : List Entry) → (fold after_entry s es).accepted ≡ s.accepted
-entries_accepted s [] = refl
-entries_accepted s (e ∷ es) = entries_accepted (after_entry s e) es ∙ entry_accepted s e
-
-pub due_accepted : (at : ℕ) (g : Growth CoreState) (items : List DueItem) → (fold (settle core_keeper at) g items).world.accepted ≡ g.world.accepted
-due_accepted at g [] = refl
-due_accepted at g (item ∷ items) = due_accepted at (settle core_keeper at g item) items ∙ entries_accepted g.world (thing_entries item.thing at (core_facts g.world))
-
 -- a record is taken up ----
-
-some_first : {A : Type 0} (o more : Option A) → is_some o ≡ true → is_some (option_or o more) ≡ true
-some_first None more h = cc
-some_first (Some x) more h = refl
-
-some_last : {A : Type 0} (o more : Option A) → is_some more ≡ true → is_some (option_or o more) ≡ true
-some_last None more h = h
-some_last (Some x) more h = refl
 
 one_some : {A : Type 0} (o more : Option A) → is_some (option_or o more) ≡ true → (is_some o ≡ true) ⊎ (is_some more ≡ true)
 one_some None more h = inr h
@@ -93,20 +66,6 @@ accepted_more accepted more event = ap (λ (o : Option Accepted). is_some o) (fi
 -- a record as it is accepted
 abbrev accepted_as : CoreState → Record → Accepted
 accepted_as s r = record { number = s.count + 1; at = r.at; input = r.input }
-
-pub still_accepted : (s : CoreState) (r : Record) (event : List ℕ) → is_accepted s.accepted event ≡ true → is_accepted (with_record s r).accepted event ≡ true
-still_accepted s r event h =
-    let more : List Accepted = cond (is_some (event_token r.input)) (accepted_as s r ∷ []) [] in
-    accepted_more s.accepted more event
-    ∙ some_first (find (λ (a : Accepted). is_event event a.input) s.accepted) (find (λ (a : Accepted). is_event event a.input) more) h
-
-pub accepted_with_record : (s : CoreState) (r : Record) (event : List ℕ) → event_token r.input ≡ Some event → is_accepted (with_record s r).accepted event ≡ true
-accepted_with_record s r event e =
-    let a : Accepted = accepted_as s r in
-    ap (λ (o : Option (List ℕ)). is_accepted (s.accepted ++ cond (is_some o) (a ∷ []) []) event) e
-    ∙ accepted_more s.accepted (a ∷ []) event
-    ∙ some_last (find (λ (a : Accepted). is_event event a.input) s.accepted) (cond (is_event event r.input) (Some a) None)
-    (ap (λ (o : Option (List ℕ)). is_some (cond (is_text event o) (Some a) None)) e ∙ ap (λ (b : Bool). is_some (cond b (Some a) None)) (its_name event))
 
 pub accepted_before_or_now : (s : CoreState) (r : Record) (event : List ℕ) → is_accepted (with_record s r).accepted event ≡ true
     → (is_accepted s.accepted event ≡ true) ⊎ (event_token r.input ≡ Some event)

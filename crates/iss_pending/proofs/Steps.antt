@@ -1,26 +1,29 @@
 -- A record that is taken up is ready for its entries, and a step keeps a core well.
-use Rattle.std.specs.Prelude.{None, Some}
-use Rattle.std.proofs.Common.{List, [], ap, false, fold, subst, sym, true, ℕ, ◌+◌, ◌∙◌, ◌∷◌, ◌≡◌}
+use Rattle.std.proofs.Common.{◌≡◌, ℕ, ◌+◌, true, false, List, [], ◌∷◌, fold, sym, ap, subst, ◌∙◌}
+use Rattle.std.specs.Prelude.{Some, None}
 use Rattle.std.proofs.lemmas.Bool.{false_from_ne_true}
 use Rattle.iss_model.specs.declared.entry.Entry.{Entry}
 use Rattle.iss_model.specs.declared.input.Input.{Input}
 use Rattle.iss_model.specs.declared.input.Record.{Record}
 use Rattle.iss_model.specs.Inputs.{event_token}
 use Rattle.iss_model.specs.rules.Activity.{CallNow, is_asked, txn_named}
-use Rattle.iss_model.specs.rules.Due.{DueItem, DueThing, due_items, thing_entries}
+use Rattle.iss_model.specs.rules.Due.{DueThing, DueItem, due_items, thing_entries}
 use Rattle.iss_model.specs.rules.Facts.{Accepted, call_in}
 use Rattle.iss_model.specs.rules.Keeper.{Growth}
-use Rattle.iss_model.specs.rules.Stepping.{after_due, entries_of, settle, step}
-use Rattle.iss_model.specs.state.Cores.{CoreState, after_entry, core_facts, core_keeper, with_record}
+use Rattle.iss_model.specs.rules.Stepping.{entries_of, settle, after_due, step}
+use Rattle.iss_model.specs.state.Cores.{CoreState, with_record, core_facts, core_keeper, after_entry}
+use Rattle.iss_invariants.proofs.Kept.{due_accepted, entries_accepted}
+use Rattle.iss_invariants.proofs.NewEvents.{accepted_with_record, still_accepted}
+use Rattle.iss_invariants.specs.Sound.{is_accepted, IsNewEvent}
 use Rattle.iss_docket.specs.Dockets.{Docket, docket_after, docket_of}
 use Rattle.iss_docket.specs.Well.{IsAccounted, IsWellAmong, Known, asked_times, decided_times, has_live, is_decided}
 use Rattle.iss_docket.proofs.Counts.{accounted_once}
 use Rattle.iss_docket.proofs.Enters.{Enters, entered_well}
 use Rattle.iss_docket.proofs.Lists.{by_either, not_both, not_some}
-use Rattle.iss_pending.specs.Pending.{AreAllowed, IsNewEvent, IsReady, IsWell, is_accepted, known_of}
+use Rattle.iss_pending.specs.Pending.{AreAllowed, HasTakenUp, known_of, IsWell}
 use Rattle.iss_pending.proofs.Due.{thing_enters}
 use Rattle.iss_pending.proofs.Own.{IsNewOn, own_enters}
-use Rattle.iss_pending.proofs.Staying.{accepted_before_or_now, accepted_with_record, are_allowed, due_accepted, entries_accepted, entries_docket, products_stay, still_accepted}
+use Rattle.iss_pending.proofs.Staying.{accepted_before_or_now, are_allowed, entries_docket, products_stay}
 
 -- more is known ----
 
@@ -46,11 +49,11 @@ more_known before known d events products well =
 
 -- a record that was taken up ----
 
-ready_well : (s : CoreState) (i : Input) → IsReady s i → IsWellAmong (known_of s) (docket_of s)
+ready_well : (s : CoreState) (i : Input) → HasTakenUp s i → IsWellAmong (known_of s) (docket_of s)
 ready_well s i ready = more_known ready.before (known_of s) (docket_of s) ready.events_stay ready.products_stay ready.well
 
 -- its event is new
-ready_event : (s : CoreState) (i : Input) → IsReady s i → (event : List ℕ) → event_token i ≡ Some event → IsNewOn s event
+ready_event : (s : CoreState) (i : Input) → HasTakenUp s i → (event : List ℕ) → event_token i ≡ Some event → IsNewOn s event
 ready_event s i ready event e =
     let unknown : ready.before.events event ≡ false = ready.unknown event e in
     let well : IsWellAmong ready.before (docket_of s) = ready.well in
@@ -63,7 +66,7 @@ ready_event s i ready event e =
       unnamed = not_some (txn_named event s.holdings.txns) (λ h. not_both (ready.before.events event) (well.txns.events event h) unknown);
     }
 
-pub ready_taken : (s : CoreState) (r : Record) → IsWell s → IsNewEvent s r.input → IsReady (with_record s r) r.input
+pub ready_taken : (s : CoreState) (r : Record) → IsWell s → IsNewEvent s r.input → HasTakenUp (with_record s r) r.input
 ready_taken s r well new =
     record {
       before = known_of s;
@@ -75,12 +78,13 @@ ready_taken s r well new =
     }
 
 -- a due thing leaves a docket well
-pub thing_well : (known : Known) (s : CoreState) (thing : DueThing) (at : ℕ) → IsWellAmong known (docket_of s) → IsWellAmong known (docket_of (fold after_entry s (thing_entries thing at (core_facts s))))
+pub thing_well : (known : Known) (s : CoreState) (thing : DueThing) (at : ℕ) → IsWellAmong known (docket_of s)
+    → IsWellAmong known (docket_of (fold after_entry s (thing_entries thing at (core_facts s))))
 thing_well known s thing at well =
     let es : List Entry = thing_entries thing at (core_facts s) in
     subst (IsWellAmong known) (sym (entries_docket s es)) (entered_well known (docket_of s) None es (thing_enters known s thing at well) well)
 
-pub ready_settled : (s : CoreState) (i : Input) (thing : DueThing) (at : ℕ) → IsReady s i → IsReady (fold after_entry s (thing_entries thing at (core_facts s))) i
+pub ready_settled : (s : CoreState) (i : Input) (thing : DueThing) (at : ℕ) → HasTakenUp s i → HasTakenUp (fold after_entry s (thing_entries thing at (core_facts s))) i
 ready_settled s i thing at ready =
     let es : List Entry = thing_entries thing at (core_facts s) in
     record {
@@ -92,22 +96,22 @@ ready_settled s i thing at ready =
       products_stay = λ name h. products_stay s es name (ready.products_stay name h);
     }
 
-pub due_allowed : (s : CoreState) (i : Input) (thing : DueThing) (at : ℕ) → IsReady s i → AreAllowed s (thing_entries thing at (core_facts s))
+pub due_allowed : (s : CoreState) (i : Input) (thing : DueThing) (at : ℕ) → HasTakenUp s i → AreAllowed s (thing_entries thing at (core_facts s))
 due_allowed s i thing at ready = are_allowed s (thing_entries thing at (core_facts s)) (thing_enters ready.before s thing at ready.well).allowed
 
-own_ready : (s : CoreState) (i : Input) (at : ℕ) → IsReady s i → Enters (known_of s) (docket_of s) (event_token i) (entries_of i at (core_facts s))
+own_ready : (s : CoreState) (i : Input) (at : ℕ) → HasTakenUp s i → Enters (known_of s) (docket_of s) (event_token i) (entries_of i at (core_facts s))
 own_ready s i at ready = own_enters s i at (ready_well s i ready) (ready_event s i ready)
 
-pub own_allowed : (s : CoreState) (i : Input) (at : ℕ) → IsReady s i → AreAllowed s (entries_of i at (core_facts s))
+pub own_allowed : (s : CoreState) (i : Input) (at : ℕ) → HasTakenUp s i → AreAllowed s (entries_of i at (core_facts s))
 own_allowed s i at ready = are_allowed s (entries_of i at (core_facts s)) (own_ready s i at ready).allowed
 
 -- all that is due ----
 
-all_ready : (at : ℕ) (g : Growth CoreState) (items : List DueItem) (i : Input) → IsReady g.world i → IsReady (fold (settle core_keeper at) g items).world i
+all_ready : (at : ℕ) (g : Growth CoreState) (items : List DueItem) (i : Input) → HasTakenUp g.world i → HasTakenUp (fold (settle core_keeper at) g items).world i
 all_ready at g [] i ready = ready
 all_ready at g (item ∷ items) i ready = all_ready at (settle core_keeper at g item) items i (ready_settled g.world i item.thing at ready)
 
-all_account : (at : ℕ) (g : Growth CoreState) (items : List DueItem) (i : Input) (event : List ℕ) → IsReady g.world i → IsAccounted (docket_of g.world) event
+all_account : (at : ℕ) (g : Growth CoreState) (items : List DueItem) (i : Input) (event : List ℕ) → HasTakenUp g.world i → IsAccounted (docket_of g.world) event
     → IsAccounted (docket_of (fold (settle core_keeper at) g items).world) event
 all_account at g [] i event ready h = h
 all_account at g (item ∷ items) i event ready h =
@@ -127,8 +131,8 @@ step_well s r new well =
     let due : CoreState = (after_due core_keeper up r.at).world in
     let es : List Entry = entries_of r.input r.at (core_facts due) in
     let after : CoreState = fold after_entry due es in
-    let first : IsReady up r.input = ready_taken s r well new in
-    let ready : IsReady due r.input = all_ready r.at start items r.input first in
+    let first : HasTakenUp up r.input = ready_taken s r well new in
+    let ready : HasTakenUp due r.input = all_ready r.at start items r.input first in
     let enters : Enters (known_of due) (docket_of due) (event_token r.input) es = own_ready due r.input r.at ready in
     let same : after.accepted ≡ up.accepted = entries_accepted due es ∙ due_accepted r.at start items in
     record {

@@ -1,7 +1,7 @@
 //! What holds of the transactions, the calls and the decisions of every core: what is asked belongs to a live transaction, how an answer
 //! is judged, and that each event is decided once.
 //!
-//! It may cite `iss_model`, `iss_agreement` and `iss_docket`.
+//! It may cite `iss_model`, `iss_invariants` and `iss_docket`.
 //! It must not cite any body: its laws are of definitions.
 //!
 //! `IsWell s` holds of each state that legal records leave, and a step keeps it. Of `well : IsWell s`, what it says is cited by its fields:
@@ -10,7 +10,7 @@
 //! `well.docket.decisions.{once, events}`; `iss_docket/specs/Well.antt` has a sentence on each. There `asked` is
 //! `record { stands = ..; asked = .. }`, of the call of a number.
 //!
-//! Whoever enters entries one by one carries `IsReady` from the record that is taken up through what is due (`entries_are_allowed`), and
+//! Whoever enters entries one by one carries `HasTakenUp` from the record that is taken up through what is due (`entries_are_allowed`), and
 //! reads off `AreAllowed` what each entry needs: a new token, or a field of `MayOpen`, `MayClose`, `MayDecide` or `MayEnd`.
 #![tactic(auto)]
 
