@@ -1,6 +1,6 @@
 -- On the book of every legal list of records each accepted event is decided once, or waits for its one call.
 use Rattle.std.proofs.Common.{◌≡◌, ℕ, ◌+◌, Bool, true, false, cond, ◌&&◌, nat_eq, List, [], ◌∷◌, length, filter, refl, sym, ap, subst, ◌∙◌, arith}
-use Rattle.std.specs.Prelude.{find, Option, Some, None, is_some}
+use Rattle.std.specs.Prelude.{Option, Some, None, is_some, find}
 use Rattle.std.specs.List.{filter_map, cons_option, list_all}
 use Rattle.std.specs.Str.{bytes_eq}
 use Rattle.iss_model.specs.declared.input.Record.{Record}

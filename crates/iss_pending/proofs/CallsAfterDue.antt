@@ -1,6 +1,6 @@
 -- What is told of calls after all that is due: unknown ones stay unknown, closed ones closed, and asked ones are asked until a deadline or an expiry.
 use Rattle.std.proofs.Common.{◌≡◌, ℕ, ◌<◌, Bool, true, false, not, cond, ◌&&◌, ◌||◌, nat_eq, nat_le, nat_lt, List, [], ◌∷◌, map, filter, fold, refl, sym, ap, ◌∙◌, arith}
-use Rattle.std.specs.Prelude.{find, Option, Some, None, option_map}
+use Rattle.std.specs.Prelude.{Option, Some, None, option_map, find}
 use Rattle.std.proofs.lemmas.Bool.Decides.{nat_tests}
 use Rattle.iss_model.specs.declared.call.Failure.TheVariants as failure
 use Rattle.iss_model.specs.declared.call.How.{How}

@@ -1,6 +1,6 @@
 -- What entries do to a core's docket, that products stay, and which events are accepted once a record is taken up.
 use Rattle.std.proofs.Common.{◌≡◌, ℕ, ◌+◌, Bool, true, false, cond, List, [], ◌∷◌, ◌++◌, map, filter, fold, refl, sym, ap, subst, ◌∙◌, ◌⊎◌, inl, inr}
-use Rattle.std.specs.Prelude.{find, Option, Some, None, is_some}
+use Rattle.std.specs.Prelude.{Option, Some, None, is_some, find}
 use Rattle.std.specs.Option.{option_or}
 use Rattle.std.specs.Str.{bytes_eq}
 use Rattle.std.proofs.lemmas.List.{append-nil}
@@ -13,14 +13,11 @@ use Rattle.iss_model.specs.declared.input.Record.{Record}
 use Rattle.iss_model.specs.declared.setting.Moved.TheVariants as who
 use Rattle.iss_model.specs.declared.setting.Product.{Product}
 use Rattle.iss_model.specs.Inputs.{event_token, is_event, is_text}
-use Rattle.iss_model.specs.rules.Due.{DueItem, thing_entries}
 use Rattle.iss_model.specs.rules.Facts.{Accepted}
-use Rattle.iss_model.specs.rules.Keeper.{Growth}
 use Rattle.iss_model.specs.rules.Settings.{product_named}
-use Rattle.iss_model.specs.rules.Stepping.{settle}
-use Rattle.iss_model.specs.state.Cores.{CoreState, ProductNow, with_record, core_facts, product_after_switch, core_keeper, after_setting, after_entry}
+use Rattle.iss_model.specs.state.Cores.{CoreState, ProductNow, with_record, product_after_switch, after_setting, after_entry}
 use Rattle.iss_model.proofs.Lists.{map-alike, map-map}
-use Rattle.iss_model.proofs.Names.{one_name, its_name}
+use Rattle.iss_model.proofs.Names.{one_name}
 use Rattle.iss_invariants.specs.Sound.{is_accepted}
 use Rattle.iss_docket.specs.Dockets.{Docket, docket_after, docket_of, is_docketed}
 use Rattle.iss_docket.proofs.Enters.{AreAllowedOn, docketed_moves}
