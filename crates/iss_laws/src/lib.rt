@@ -1,11 +1,13 @@
 //! The laws of the book: what holds of it whatever inputs were taken.
 //!
-//! It may cite `iss_model`, and `iss_scripts` for the books on which laws are computed.
+//! It may cite `iss_model`, `iss_agreement` and `iss_pending`, and `iss_scripts` for the books on which laws are computed.
 //! It must not cite any body of the program.
 #![tactic(auto)]
 
 mod balances;
 mod books;
+mod events;
 
 pub use balances::balances_add_up;
 pub use books::laws_of_worked_books;
+pub use events::events_are_decided;

@@ -1,0 +1,3 @@
+pub mod Dockets
+pub mod Well
+pub mod Allowed

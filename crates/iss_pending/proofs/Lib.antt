@@ -1,0 +1,9 @@
+pub mod Due
+pub mod Own
+pub mod Staying
+pub mod Steps
+pub mod Legal
+pub mod Fates
+pub mod DueHits
+pub mod CallsAfterDue
+pub mod Answering
