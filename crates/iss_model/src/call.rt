@@ -1,9 +1,25 @@
 //! Calls to the customer's gateway, and the notices that it is sent.
+ghost use Rattle.std.specs.Prelude.{◌≡◌, ◌<◌, ◌^◌};
+ghost use Rattle.iss_model.specs.texts.CallTokens.{call_uuid};
+
 use crate::{Currency, Token};
+use uuid::Uuid;
 
 /// A call's number, from 1.
 #[derive(Clone, Copy, Debug, PartialEq, Eq)]
 pub struct CallId(pub u32);
+
+impl CallId {
+    /// The call's token: a UUID of RFC 9562, version 8, with the instance in its first 48 bits and the number in its last 62.
+    pub fn uuid(self, instance: u64) -> Uuid
+        requires { instance < 2 ^ 48 }
+        ensures { result ≡ call_uuid instance self.0 }
+    {
+        let [_, _, a, b, c, d, e, f] = instance.to_be_bytes();
+        let [s, t, u, v, w, x, y, z] = ((1 << 63) + u64::from(self.0)).to_be_bytes();
+        Uuid::from_bytes([a, b, c, d, e, f, 0x80, 0, s, t, u, v, w, x, y, z])
+    }
+}
 
 /// What a message to the gateway is about.
 #[derive(Clone, Copy, Debug, PartialEq, Eq)]

@@ -3,7 +3,7 @@
 //! A *record* is an accepted input with its stamp. A *row* of the *book* is an entry with the number of its record.
 //! What a record does to the book, and what is told, are definitions in `specs/`.
 //!
-//! It may cite std alone.
+//! It may cite `uuid`.
 //! It must not cite any other crate of the workspace, and nothing of files, lines or HTTP.
 #![tactic(auto)]
 
