@@ -21,7 +21,7 @@ same_digits byte lt =
     let high : kit.hex_digit kit.lower (byte / 16 % 16) ≡ hex_digit (byte / 16) = digit (byte / 16 % 16) ∙ ap hex_digit (omega arith) in
     λ i. high i ∷ digit (byte % 16) i ∷ []
 
-small : (k n : ℕ) → byte_at k n < 256
+pub small : (k n : ℕ) → byte_at k n < 256
 small zero n = mod-lt n (omega arith)
 small (suc k) n = mod-lt (n / 256 ^ suc k) (omega arith)
 

@@ -1,2 +1,3 @@
+pub mod Echoes
 pub mod Messages
 pub mod Outcomes

@@ -4,6 +4,7 @@ ghost use Rattle.serde_json.specs.Read.{read as read_text};
 ghost use Rattle.serde_json.specs.View.{view};
 ghost use Rattle.iss_model.specs.declared.input.Outcome.TheVariants as outcome;
 ghost use Rattle.iss_model.specs.rules.Reasons.{is_some_with};
+ghost use Rattle.iss_jit.specs.Echoes.{FundsEchoes};
 ghost use Rattle.iss_jit.specs.Outcomes.{json_of, uuid_of, amount_of, has_token, has_amount, is_funding, outcome_of};
 
 use iss_amount::{read, whole};
@@ -23,22 +24,23 @@ const REFUSED: u16 = 402;
 /// `Funded` exactly where the status is 200 and the body is a JSON object of RFC 8259 with the call's token, a UUID of
 /// RFC 9562 in any spelling, and its amount; `Refused` exactly where the status is 402; else `Application`. Of members of
 /// one name the last counts.
-#[tactic(auto, unfolding(crate::specs::Outcomes::outcome_of))]
+#[tactic(auto, using(crate::proofs::Echoes::echo), unfolding(crate::specs::Outcomes::outcome_of))]
 pub fn answer(
     alloc: Global,
     status: u16,
     body: &[u8],
-    o: &Opened,
+    opened: &Opened,
     instance: u64,
 ) -> Result<Outcome, AllocError>
     requires { instance < 2 ^ 48 }
-    ensures value { IfOk result (λ said. said ≡ outcome_of instance o.now status body.now) }
+    ensures value { IfOk result (λ said. said ≡ outcome_of instance opened.now status body.now) }
     ensures refused { IfOk result (λ said. (said ≡ outcome.Refused) ↔ (status ≡ 402)) }
     ensures never_connection { IfOk result (λ said. said ≢ outcome.Connection) }
+    ensures echo { FundsEchoes instance opened.now }
 {
     if status == REFUSED {
         Ok(Outcome::Refused)
-    } else if status == FUNDED && is_funding_body(alloc, body, o, instance)? {
+    } else if status == FUNDED && is_funding_body(alloc, body, opened, instance)? {
         Ok(Outcome::Funded)
     } else {
         Ok(Outcome::Application)
@@ -49,44 +51,45 @@ pub fn answer(
 fn is_funding_body(
     alloc: Global,
     body: &[u8],
-    o: &Opened,
+    opened: &Opened,
     instance: u64,
 ) -> Result<bool, AllocError>
     requires { instance < 2 ^ 48 }
-    ensures { IfOk result (λ funds. funds ≡ is_some_with (is_funding instance o.now) (json_of body.now)) }
+    ensures { IfOk result
+        (λ funds. funds ≡ is_some_with (is_funding instance opened.now) (json_of body.now)) }
 {
     match value_of(alloc, body)? {
-        Some(value) => Ok(is_funding(&value, o, instance)),
+        Some(value) => Ok(is_funding(&value, opened, instance)),
         None => Ok(false),
     }
 }
 
 /// Whether the value is an object with the call's token and amount.
 #[tactic(auto, unfolding(crate::specs::Outcomes::is_funding))]
-fn is_funding(value: &Value, o: &Opened, instance: u64) -> bool
+fn is_funding(value: &Value, opened: &Opened, instance: u64) -> bool
     requires { instance < 2 ^ 48 }
-    ensures { result ≡ is_funding instance o.now (view value.now) }
+    ensures { result ≡ is_funding instance opened.now (view value.now) }
 {
-    has_token(value, o, instance) && has_amount(value, o)
+    has_token(value, opened, instance) && has_amount(value, opened)
 }
 
 #[tactic(auto, unfolding(crate::specs::Outcomes::has_token))]
-fn has_token(value: &Value, o: &Opened, instance: u64) -> bool
+fn has_token(value: &Value, opened: &Opened, instance: u64) -> bool
     requires { instance < 2 ^ 48 }
-    ensures { result ≡ has_token instance o.now (view value.now) }
+    ensures { result ≡ has_token instance opened.now (view value.now) }
 {
     match value.get("token").and_then(uuid_of) {
-        Some(id) => id == o.call.uuid(instance),
+        Some(id) => id == opened.call.uuid(instance),
         None => false,
     }
 }
 
 #[tactic(auto, unfolding(crate::specs::Outcomes::has_amount))]
-fn has_amount(value: &Value, o: &Opened) -> bool
-    ensures { result ≡ has_amount o.now (view value.now) }
+fn has_amount(value: &Value, opened: &Opened) -> bool
+    ensures { result ≡ has_amount opened.now (view value.now) }
 {
     match value.get("amount") {
-        Some(found) => amount_of(found, o.currency) == Some(o.amount),
+        Some(found) => amount_of(found, opened.currency) == Some(opened.amount),
         None => false,
     }
 }

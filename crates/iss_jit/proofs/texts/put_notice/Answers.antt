@@ -13,4 +13,4 @@ returns c =
     let txn = and_then _ c.in_ok-put_token.ensures call in
     let user = and_then _ c.in_ok-put_token-2.ensures txn in
     ended c.extend_from_slice.result c.put_token-2.new.out.items (125 ∷ []) _ _ c.extend_from_slice.ensures.items
-    (ap (λ (t : List ℕ). t ++ (125 ∷ [])) user ∙ notice_after c.args.out.now.items c.args.instance c.args.n.now)
+    (ap (λ (t : List ℕ). t ++ (125 ∷ [])) user ∙ notice_after c.args.out.now.items c.args.instance c.args.notice.now)

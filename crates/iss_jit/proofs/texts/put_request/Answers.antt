@@ -16,4 +16,4 @@ returns c =
     let txn = and_then _ c.in_ok-put_token-4.ensures call in
     let user = and_then _ c.in_ok-put_token-5.ensures txn in
     ended c.extend_from_slice.result c.put_token-5.new.out.items (125 ∷ []) _ _ c.extend_from_slice.ensures.items
-    (ap (λ (t : List ℕ). t ++ (125 ∷ [])) user ∙ request_after c.args.out.now.items c.args.instance c.args.o.now)
+    (ap (λ (t : List ℕ). t ++ (125 ∷ [])) user ∙ request_after c.args.out.now.items c.args.instance c.args.opened.now)
