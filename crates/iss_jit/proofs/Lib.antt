@@ -1,0 +1,4 @@
+pub mod Objects
+pub mod CallTexts
+pub mod Bodies
+pub mod Echoes

@@ -1,0 +1,137 @@
+//! What a gateway's answer to a call comes to.
+ghost use Rattle.std.specs.Prelude.{◌≡◌, ◌≢◌, ◌<◌, ◌^◌, ◌↔◌, IfOk, option_map};
+ghost use Rattle.serde_json.specs.Read.{read as read_text};
+ghost use Rattle.serde_json.specs.View.{view};
+ghost use Rattle.iss_model.specs.declared.input.Outcome.TheVariants as outcome;
+ghost use Rattle.iss_model.specs.rules.Reasons.{is_some_with};
+ghost use Rattle.iss_jit.specs.Echoes.{FundsEchoes};
+ghost use Rattle.iss_jit.specs.Outcomes.{json_of, uuid_of, amount_of, has_token, has_amount, is_funding, outcome_of};
+
+use iss_amount::{read, whole};
+use iss_model::{Currency, Opened, Outcome};
+use serde_json::Value;
+use std::alloc::{AllocError, Global};
+use uuid::Uuid;
+
+/// The status of a gateway that funds: OK of RFC 9110.
+const FUNDED: u16 = 200;
+
+/// The status of a gateway that refuses: Payment Required of RFC 9110.
+const REFUSED: u16 = 402;
+
+/// What an HTTP answer with this status and body to the request of a call comes to.
+///
+/// `Funded` exactly where the status is 200 and the body is a JSON object of RFC 8259 with the call's token, a UUID of
+/// RFC 9562 in any spelling, and its amount; `Refused` exactly where the status is 402; else `Application`. Of members of
+/// one name the last counts.
+#[tactic(auto, using(crate::proofs::Echoes::echo), unfolding(crate::specs::Outcomes::outcome_of))]
+pub fn answer(
+    alloc: Global,
+    status: u16,
+    body: &[u8],
+    opened: &Opened,
+    instance: u64,
+) -> Result<Outcome, AllocError>
+    requires { instance < 2 ^ 48 }
+    ensures value { IfOk result (λ said. said ≡ outcome_of instance opened.now status body.now) }
+    ensures refused { IfOk result (λ said. (said ≡ outcome.Refused) ↔ (status ≡ 402)) }
+    ensures never_connection { IfOk result (λ said. said ≢ outcome.Connection) }
+    ensures echo { FundsEchoes instance opened.now }
+{
+    if status == REFUSED {
+        Ok(Outcome::Refused)
+    } else if status == FUNDED && is_funding_body(alloc, body, opened, instance)? {
+        Ok(Outcome::Funded)
+    } else {
+        Ok(Outcome::Application)
+    }
+}
+
+/// Whether the bytes are an object with the call's token and amount.
+fn is_funding_body(
+    alloc: Global,
+    body: &[u8],
+    opened: &Opened,
+    instance: u64,
+) -> Result<bool, AllocError>
+    requires { instance < 2 ^ 48 }
+    ensures { IfOk result
+        (λ funds. funds ≡ is_some_with (is_funding instance opened.now) (json_of body.now)) }
+{
+    match value_of(alloc, body)? {
+        Some(value) => Ok(is_funding(&value, opened, instance)),
+        None => Ok(false),
+    }
+}
+
+/// Whether the value is an object with the call's token and amount.
+#[tactic(auto, unfolding(crate::specs::Outcomes::is_funding))]
+fn is_funding(value: &Value, opened: &Opened, instance: u64) -> bool
+    requires { instance < 2 ^ 48 }
+    ensures { result ≡ is_funding instance opened.now (view value.now) }
+{
+    has_token(value, opened, instance) && has_amount(value, opened)
+}
+
+#[tactic(auto, unfolding(crate::specs::Outcomes::has_token))]
+fn has_token(value: &Value, opened: &Opened, instance: u64) -> bool
+    requires { instance < 2 ^ 48 }
+    ensures { result ≡ has_token instance opened.now (view value.now) }
+{
+    match value.get("token").and_then(uuid_of) {
+        Some(id) => id == opened.call.uuid(instance),
+        None => false,
+    }
+}
+
+#[tactic(auto, unfolding(crate::specs::Outcomes::has_amount))]
+fn has_amount(value: &Value, opened: &Opened) -> bool
+    ensures { result ≡ has_amount opened.now (view value.now) }
+{
+    match value.get("amount") {
+        Some(found) => amount_of(found, opened.currency) == Some(opened.amount),
+        None => false,
+    }
+}
+
+#[tactic(auto, unfolding(crate::specs::Outcomes::uuid_of))]
+fn uuid_of(value: &Value) -> Option<Uuid>
+    ensures { result ≡ uuid_of (view value.now) }
+{
+    match Uuid::parse_str(value.as_str()?) {
+        Ok(id) => Some(id),
+        Err(_) => None,
+    }
+}
+
+/// The minor units of a text such as `10.00`, or of a number of whole units.
+#[tactic(auto, unfolding(crate::specs::Outcomes::amount_of))]
+fn amount_of(value: &Value, currency: Currency) -> Option<u64>
+    ensures { result ≡ amount_of currency (view value.now) }
+{
+    match value.as_str() {
+        Some(text) => read(text.as_bytes(), currency),
+        None => whole(value.as_u64()?, currency),
+    }
+}
+
+/// The JSON value that the bytes are, or `None` where they are none.
+#[tactic(auto, unfolding(crate::specs::Outcomes::json_of))]
+fn value_of(alloc: Global, body: &[u8]) -> Result<Option<Value>, AllocError>
+    ensures { IfOk result (λ found. option_map view found ≡ json_of body.now) }
+{
+    match str::from_utf8(body) {
+        Ok(text) => value_of_text(alloc, text),
+        Err(_) => Ok(None),
+    }
+}
+
+fn value_of_text(alloc: Global, text: &str) -> Result<Option<Value>, AllocError>
+    ensures { IfOk result (λ found. option_map view found ≡ read_text text.now) }
+{
+    match Value::from_str(alloc, text) {
+        Ok(value) => Ok(Some(value)),
+        Err(error) if error.is_memory() => Err(AllocError),
+        Err(_) => Ok(None),
+    }
+}
