@@ -1,0 +1,7 @@
+pub mod InOrder
+pub mod Numbered
+pub mod AskedKeys
+pub mod DueOrder
+pub mod TxnOrder
+pub mod ByNumber
+pub mod Closing

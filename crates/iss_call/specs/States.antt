@@ -1,0 +1,35 @@
+-- Calls as they stand, the state of one, those that are due and those of a transaction.
+use Rattle.std.specs.Prelude.{ℕ, nat_le, ◌&&◌, List, [], map, filter, fold, Option, Some, None}
+use Rattle.std.specs.Str.{bytes_eq}
+use Rattle.iss_model.specs.declared.call.How.{How}
+use Rattle.iss_model.specs.declared.call.CallState.{CallState}
+use Rattle.iss_model.specs.declared.call.CallState.TheVariants as call_state
+use Rattle.iss_model.specs.rules.Activity.{CallNow, call_numbered, is_asked}
+use Rattle.iss_model.specs.rules.Due.{DueItem, due_call, items_with}
+use Rattle.iss_call.specs.declared.call.Call.{Call}
+
+-- a call as contracts see it
+abbrev pub now_of : Call → CallNow
+now_of call = record { opened = call.opened; how = call.how }
+
+-- a call is asked until it was closed
+abbrev pub state_by : Option How → CallState
+state_by None = call_state.Asked
+state_by (Some how) = call_state.Closed how
+
+-- the state of a call, unknown where there is none
+abbrev pub state_of : Option CallNow → CallState
+state_of None = call_state.Unknown
+state_of (Some c) = state_by c.how
+
+-- the state of the call of this number
+abbrev pub state_in : List CallNow → ℕ → CallState
+state_in calls number = state_of (call_numbered number calls)
+
+-- the asked calls whose deadline has come, by deadline and number
+abbrev pub calls_due : List CallNow → ℕ → List DueItem
+calls_due calls now = fold items_with [] (filter (λ item. nat_le item.since now) (map due_call (filter is_asked calls)))
+
+-- the asked calls of a transaction, by number
+abbrev pub asked_of : List CallNow → List ℕ → List CallNow
+asked_of calls txn = filter (λ c. is_asked c && bytes_eq c.opened.txn txn) calls

@@ -1,0 +1,179 @@
+//! All calls by number.
+ghost use Rattle.std.specs.Prelude.{◌≡◌, ◌↔◌, [], ◌∷◌, ◌++◌, ◌+◌, map, not, length, None, IfOk, IfErr, IsOk, OnOk, OnErr};
+ghost use Rattle.std.specs.List.{filter, slice_get};
+ghost use Rattle.std.specs.Option.{option_copied, option_map};
+ghost use Rattle.iss_model.specs.declared.call.CallState.TheVariants as call_state;
+ghost use Rattle.iss_model.specs.rules.Activity.{call_numbered, is_asked};
+ghost use Rattle.iss_model.specs.rules.Due.{call_due, is_quiet};
+ghost use Rattle.iss_model.specs.state.Cores.{with_closed};
+ghost use Rattle.iss_call.specs.States.{now_of, state_in, calls_due, asked_of};
+
+use crate::call::{Call, NotOpen};
+use crate::orders::Orders;
+use iss_model::{CallId, CallState, How, Opened, Token};
+use std::alloc::{AllocError, Global};
+use std::collections::BTreeSet;
+use std::marker::Model;
+
+/// The calls in the order of their numbers. Contracts see their list.
+#[derive(Drop)]
+pub struct Calls {
+    calls: Vec<Call>,
+    orders: Orders,
+}
+
+impl Model for Calls {
+    ghost use Rattle.std.specs.Prelude.{List, map};
+    ghost use Rattle.iss_model.specs.rules.Activity.{CallNow};
+
+    ghost Value = { List CallNow };
+
+    ghost use Rattle.iss_call.specs.States.{now_of};
+    ghost use Rattle.iss_call.specs.Orders.{AreOrdered};
+
+    ghost view = { λ c. map now_of c.calls.items };
+
+    ghost invariant = { λ c. AreOrdered (map now_of c.calls.items) c.orders };
+}
+
+impl Calls {
+    /// No call.
+    pub fn new(alloc: Global) -> Result<Calls, AllocError>
+        ensures { IfOk result (λ calls. calls ≡ []) }
+    {
+        Ok(Calls {
+            calls: Vec::new(alloc),
+            orders: Orders {
+                deadlines: BTreeSet::new(alloc),
+                txns: BTreeSet::new(alloc),
+            },
+        })
+    }
+
+    /// Asks a call of the next number. Where allocation fails all stays as it was.
+    pub fn ask(&mut self, opened: &Opened) -> Result<(), AllocError>
+        requires next { opened.now.call.0 ≡ length self.old + 1 }
+        ensures asked { OnOk result (self.new ≡ self.old ++ record { opened = opened.now; how = None } ∷ []) }
+        ensures unchanged { OnErr result (self.new ≡ self.old) }
+    {
+        self.calls.reserve(1)?;
+        self.orders
+            .enter(opened.call.0, opened.deadline, &opened.txn)?;
+        self.calls.push(Call {
+            opened: *opened,
+            how: None,
+        })?;
+        Ok(())
+    }
+
+    /// Closes a call that is asked. Another one stays as it is, and its state is returned.
+    pub fn close(&mut self, id: CallId, how: How) -> Result<(), NotOpen>
+        ensures exactly { IsOk result ↔ (state_in self.old id.0 ≡ call_state.Asked) }
+        ensures state { IfErr result (λ fault. fault.0 ≡ state_in self.old id.0) }
+        ensures closed { self.new ≡ with_closed self.old id how }
+        ensures unchanged { OnErr result (self.new ≡ self.old) }
+    {
+        let _calls = &self.calls;
+        match self.state(id) {
+            CallState::Asked => {
+                self.close_asked(id, how);
+                Ok(())
+            }
+            state => Err(NotOpen(state)),
+        }
+    }
+
+    /// A call as it stands, `None` exactly where it was never asked.
+    pub fn get(&self, id: CallId) -> Option<&Call>
+        ensures { option_map (λ call. now_of call.now) result ≡ call_numbered id.0 self.now }
+    {
+        let calls = self.calls.as_slice();
+        calls.get((id.0 as usize).checked_sub(1)?)
+    }
+
+    pub fn state(&self, id: CallId) -> CallState
+        ensures { result ≡ state_in self.now id.0 }
+    {
+        match self.get(id) {
+            Some(call) => call.state(),
+            None => CallState::Unknown,
+        }
+    }
+
+    /// A call as it was opened, `None` exactly where it was never asked.
+    pub fn opened(&self, id: CallId) -> Option<&Opened>
+        ensures { option_copied result ≡ option_map (λ c. c.opened) (call_numbered id.0 self.now) }
+    {
+        self.get(id).map(|call| &call.opened)
+    }
+
+    /// How many calls were asked, which is the number of the last.
+    pub fn count(&self) -> u32
+        ensures { result ≡ length self.now }
+    {
+        self.calls.len() as u32
+    }
+
+    /// How many calls are asked.
+    pub fn asked_count(&self) -> usize
+        ensures { result ≡ length (filter is_asked self.now) }
+    {
+        self.orders.deadlines.len()
+    }
+
+    /// The asked calls, by number.
+    pub fn asked(&self, alloc: Global) -> Result<Vec<CallId>, AllocError>
+        ensures { IfOk result (λ v. v.items ≡ map (λ c. c.opened.call) (filter is_asked self.now)) }
+    {
+        let deadlines = self.orders.deadlines.iter();
+        let numbers: BTreeSet<u32> = deadlines.map(|(_, number)| *number).collect(alloc)?;
+        let mut asked = Vec::new(alloc);
+        for number in &numbers {
+            asked.push(CallId(*number))?;
+        }
+        Ok(asked)
+    }
+
+    /// Whether the deadline of an asked call has come.
+    pub fn is_due(&self, now: u64) -> bool
+        ensures { result ≡ not (is_quiet (calls_due self.now now)) }
+    {
+        match self.orders.deadlines.first() {
+            Some((deadline, _)) => *deadline <= now,
+            None => false,
+        }
+    }
+
+    /// The asked calls whose deadline has come, by deadline and then by number.
+    pub fn due(&self, alloc: Global, now: u64) -> Result<Vec<CallId>, AllocError>
+        ensures { IfOk result (λ v. map (λ id. call_due id.0) v.items ≡ map (λ item. item.thing) (calls_due self.now now)) }
+    {
+        let mut due = Vec::new(alloc);
+        for (_, number) in self.orders.deadlines.range(..=(now, u32::MAX)) {
+            due.push(CallId(*number))?;
+        }
+        Ok(due)
+    }
+
+    /// The asked calls of a transaction, by number.
+    pub fn of_txn(&self, alloc: Global, txn: &Token) -> Result<Vec<CallId>, AllocError>
+        ensures { IfOk result (λ v. v.items ≡ map (λ c. c.opened.call) (asked_of self.now txn.now)) }
+    {
+        let mut asked = Vec::new(alloc);
+        for (_, number) in self.orders.txns.range((*txn, 0)..=(*txn, u32::MAX)) {
+            asked.push(CallId(*number))?;
+        }
+        Ok(asked)
+    }
+
+    /// Closes a call that is asked.
+    fn close_asked(&mut self, id: CallId, how: How)
+        requires { state_in self.old id.0 ≡ call_state.Asked }
+        ensures { self.new ≡ with_closed self.old id how }
+    {
+        let call = &mut self.calls[id.0 as usize - 1];
+        call.how = Some(how);
+        let opened = &call.opened;
+        self.orders.leave(id.0, opened.deadline, &opened.txn);
+    }
+}

@@ -1,0 +1,15 @@
+//! The calls to the customer's gateway: each with its number, and those that are still asked in the orders in which
+//! they fall due and by transaction.
+//!
+//! It may cite `iss_model`.
+//! It must not cite the other parts of the core.
+#![tactic(auto)]
+
+mod call;
+mod calls;
+mod orders;
+#[cfg(test)]
+mod tests;
+
+pub use call::{Call, NotOpen};
+pub use calls::Calls;
