@@ -1,0 +1,5 @@
+pub mod KeyOrder
+pub mod TreeSums
+pub mod Replaced
+pub mod StandsAlike
+pub mod Bounds

@@ -1,0 +1,48 @@
+//! What a set says of an amount.
+ghost use Rattle.std.specs.Prelude.{◌≡◌, Some};
+ghost use Rattle.iss_model.specs.rules.StandIns.{covers_failure};
+ghost use Rattle.iss_commando.specs.Stands.{is_for, stand_by, stand_named};
+
+use iss_model::{Failure, Set, Token};
+
+/// What the sets of a product say where the gateway didn't decide.
+#[derive(Clone, Copy)]
+pub enum Stand {
+    /// The set of this name allows the amount.
+    Yes(Token),
+    /// The set of this name decides, and doesn't allow so much.
+    Limit(Token),
+    /// No set covers the failure.
+    No,
+}
+
+/// Whether a set is an active one of the product that covers the failure.
+pub(crate) fn is_for(set: &Set, product: &Token, failure: Failure) -> bool
+    ensures { result ≡ is_for product.now failure set.now }
+{
+    set.active && set.product == *product && covers(set, failure)
+}
+
+/// Whether a set covers a failure. Each covers a gateway that is switched off.
+fn covers(set: &Set, failure: Failure) -> bool
+    ensures { result ≡ covers_failure set.now failure }
+{
+    match failure {
+        Failure::Connection => set.connection,
+        Failure::Timeout => set.timeout,
+        Failure::Application => set.application,
+        Failure::Switch => true,
+    }
+}
+
+/// What a set that decides says of an amount where so much stood in on that day.
+pub(crate) fn stand_by(set: &Set, stood: i64, amount: u64) -> Stand
+    ensures { result ≡ stand_named (stand_by stood amount (Some set.now)) }
+{
+    let total = i128::from(stood) + i128::from(amount);
+    if amount <= set.max && total <= i128::from(set.day_limit) {
+        Stand::Yes(set.name)
+    } else {
+        Stand::Limit(set.name)
+    }
+}
