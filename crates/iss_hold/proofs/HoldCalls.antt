@@ -1,8 +1,10 @@
 -- What calls on a started transaction make of the holdings, each of which changes one hold.
-use Rattle.std.proofs.Common.{◌≡◌, ℕ, zero, suc, ◌+◌, ◌-◌, ◌<◌, ◌≤◌, ◌^◌, ◌==◌, ℤ, pos, neg_ℤ, ◌+ℤ◌, Bool, true, false, cond, ◌&&◌, ◌<ℤ◌, List, [], ◌∷◌, ◌++◌, map, fold, set, refl, sym, ap, ap₂, ◌∙◌, subst, arith}
+use Rattle.std.proofs.Common.{◌≡◌, ℕ, zero, suc, ◌+◌, ◌-◌, ◌<◌, ◌≤◌, ◌^◌, ◌==◌, ℤ, pos, negsuc, neg_ℤ, ◌+ℤ◌, Bool, true, false, cond, ◌&&◌, ◌<ℤ◌, List, [], ◌∷◌, ◌++◌, get_or, length, map, fold, set, refl, sym, ap, ap₂, ◌∙◌, subst, arith}
 use Rattle.std.proofs.lemmas.Int.{ints}
+use Rattle.std.proofs.lemmas.List.{length-map}
+use Rattle.std.proofs.lemmas.Option.{slice_get_read}
 use Rattle.std.proofs.lemmas.Bool.Decides.{nat_tests}
-use Rattle.std.specs.Prelude.{Option, Some, slice_get, unwrap_or, None, is_some}
+use Rattle.std.specs.Prelude.{Option, Some, slice_get, unwrap_or, None, is_some, ◌≤ℤ◌}
 use Rattle.std.specs.List.{IsDistinct}
 use Rattle.std.specs.Str.{bytes_eq}
 use Rattle.std.specs.BTreeMap as tree
@@ -27,7 +29,7 @@ use Rattle.iss_hold.specs.declared.hold.Hold.{Hold}
 use Rattle.iss_hold.specs.declared.hold.Taken.{Taken}
 use Rattle.iss_hold.specs.Holdings.{now_of, part_of, with_part, parts_of, without_parts, whole_of, part_sums, sums_from, holdings_of}
 use Rattle.iss_hold.specs.Bounds.{AreLow}
-use Rattle.iss_hold.specs.Entries.{after_holds, entries_on, parts_in, clearing_unhold_entries, release_unhold_entries, taken_in_all, parts_taken}
+use Rattle.iss_hold.specs.Entries.{after_holds, entries_on, change_entries, IsCovered, parts_in, clearing_unhold_entries, release_unhold_entries, taken_in_all, parts_taken}
 use Rattle.iss_hold.specs.Indexes.{names, is_of, total_of, by_name, ArePlaced, AreSummed, IsAt}
 use Rattle.iss_hold.proofs.HoldSums.{holdings_set}
 use Rattle.iss_hold.proofs.HoldTotals.{user_total, part_kept, whole_within, total_set}
@@ -149,6 +151,44 @@ lower_by : (b : Bool) (after before whole whole_new : ℕ) → after + cond b wh
 lower_by true after before whole whole_new e le fits = omega arith
 lower_by false after before whole whole_new e le fits = omega arith
 
+not_negative : (x : ℤ) → pos 0 ≤ℤ x → x ≡ pos (not_below x)
+not_negative (pos n) h = refl
+not_negative (negsuc n) h = absurd (omega (arith, ints, h))
+
+covered_sum : (z : ℤ) (there : ℕ) → IsCovered z there → pos 0 ≤ℤ (pos there +ℤ z)
+covered_sum (pos n) there h = omega (arith, ints)
+covered_sum (negsuc n) there h = omega (arith, ints, h)
+
+-- what is left of a part
+left_over : (z : ℤ) (there : ℕ) → IsCovered z there → (pos there +ℤ z) ≡ pos (not_below (pos there +ℤ z))
+left_over z there h = not_negative (pos there +ℤ z) (covered_sum z there h)
+
+-- what stands at a place
+pub stands_at : (hs : List Hold) (i : ℕ) (h : Hold) {s : Holdings} → holdings_of hs ≡ s → i < length s.txns → h ≡ get_or hs i h → slice_get hs i ≡ Some h
+stands_at hs i h {s} view within e =
+    let len : length hs ≡ length s.txns = sym (length-map hs now_of) ∙ ap (λ (x : Holdings). length x.txns) view in
+    slice_get_read hs (length hs) i h refl (omega (arith, len, within)) e
+
+-- the part that is kept of what stands at a place is that of its hold
+part_at : (hs : List Hold) (i : ℕ) (h : Hold) {s : Holdings} → holdings_of hs ≡ s → IsDistinct bytes_eq (names hs) → slice_get hs i ≡ Some h → (p : Part)
+    → pos (part_of p h) ≡ kept_at s.parts (part_key h.txn.token p)
+part_at hs i h view d at p =
+    sym (part_kept p nothing_kept hs i h at d (ap (λ (o : Option ℤ). unwrap_or o (pos 0)) (finite.get-empty (slice_cmp nat_cmp) (part_key h.txn.token p))))
+    ∙ ap (λ (x : Holdings). kept_at x.parts (part_key h.txn.token p)) view
+
+pub parts_at : (hs : List Hold) (i : ℕ) (h : Hold) {s : Holdings} → holdings_of hs ≡ s → IsDistinct bytes_eq (names hs) → slice_get hs i ≡ Some h → parts_of h ≡ parts_in s h.txn.token
+parts_at hs i h view d at =
+    let g = ap not_below (part_at hs i h view d at part.G) in
+    let p = ap not_below (part_at hs i h view d at part.P) in
+    let s = ap not_below (part_at hs i h view d at part.S) in
+    λ j. record { g = g j; p = p j; s = s j }
+
+pub small_at : (hs : List Hold) (i : ℕ) (h : Hold) {sums : BTreeMap (List ℕ × ℕ) ℕ} → AreSummed hs sums → slice_get hs i ≡ Some h → whole_of h < 2 ^ 62
+small_at hs i h a at =
+    let within = whole_within hs i h at in
+    let small = a.small h.txn.user (iso_number h.txn.currency) in
+    omega arith
+
 -- what stands at the place of a transaction, and the holdings that these holds make
 module _ {name : List ℕ} {hs : List Hold} {i : ℕ} {h : Hold} (at : IsAt name hs i h) {s : Holdings} (view : holdings_of hs ≡ s) where
   made_there : (make : Txn → List Entry) → fold with_hold (holdings_of hs) (make h.txn) ≡ after_holds s name make
@@ -199,6 +239,35 @@ module _ {name : List ℕ} {hs : List Hold} {i : ℕ} {h : Hold} (at : IsAt name
       → holdings_of ks ≡ after_holds s name (λ t. unhold_entries t p amount)
   lessened p amount le e f =
       ap holdings_of (f ∙ ap (λ (x : Hold). set hs i x) e) ∙ less_held hs i h p amount at.is_there le ∙ made_there (λ t. unhold_entries t p amount)
+
+  pub its_change : (p : Part) (z : ℤ) → IsDistinct bytes_eq (names hs) → IsCovered z (not_below (kept_at s.parts (part_key name p))) → IsCovered z (part_of p h)
+  its_change p z d covered = subst (λ (x : ℤ). IsCovered z (not_below x)) (sym (part_there d p)) covered
+
+  pub changed : (p : Part) (z : ℤ) {k : Hold} {ks : List Hold} → IsCovered z (part_of p h) → k ≡ with_part p (not_below (pos (part_of p h) +ℤ z)) h → ks ≡ set hs i k
+      → holdings_of ks ≡ after_holds s name (change_entries p z)
+  changed p z covered e f =
+      ap holdings_of (f ∙ ap (λ (x : Hold). set hs i x) e)
+      ∙ holdings_set hs i h p (not_below (pos (part_of p h) +ℤ z)) z at.is_there (left_over z (part_of p h) covered)
+      ∙ made_there (change_entries p z)
+
+  pub changed_low : (p : Part) (z : ℤ) {k : Hold} → IsCovered z (part_of p h) → k ≡ with_part p (not_below (pos (part_of p h) +ℤ z)) h → AreLow (after_holds s name (change_entries p z)).held
+      → total_of k.txn.user (iso_number k.txn.currency) (set hs i k) < 2 ^ 62
+  changed_low p z {k} covered e low =
+      let key = user_key k.txn.user k.txn.currency in
+      let kept : kept_at (after_holds s name (change_entries p z)).held key ≡ pos (total_of k.txn.user (iso_number k.txn.currency) (set hs i k)) =
+      ap (λ (x : Holdings). kept_at x.held key) (sym (changed p z covered e refl)) ∙ user_kept (set hs i k) k.txn.user k.txn.currency in
+      let below = subst (λ (z : ℤ). z <ℤ pos (2 ^ 62)) kept (low key) in
+      omega (arith, ints)
+
+  pub changed_fits : (p : Part) (z : ℤ) → IsCovered z (part_of p h) → AreLow (after_holds s name (change_entries p z)).held → (pos (part_of p h) +ℤ z) <ℤ pos (2 ^ 64)
+  changed_fits p z covered low =
+      let n = not_below (pos (part_of p h) +ℤ z) in
+      let k = with_part p n h in
+      let small = changed_low p z {k = k} covered refl low in
+      let whole = whole_within (set hs i k) i k (get_set hs i h k at.is_there) in
+      let part = part_within p n h in
+      let left = left_over z (part_of p h) covered in
+      omega (arith, ints)
 
   -- what is taken of an amount, as the holdings tell it
   pub taken_there : (take : Parts → ℕ → Parts) (entries : Parts → Txn → List Entry) (amount : ℕ) {taken : Taken} {k : Hold} {ks : List Hold} → IsTaking take entries

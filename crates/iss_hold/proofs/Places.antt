@@ -9,8 +9,14 @@ use Rattle.std.specs.BTreeMap.{BTreeMap}
 use Rattle.iss_model.proofs.Names.{one_name, name-sym}
 use Rattle.iss_model.specs.rules.Activity.{TxnNow, txn_named}
 use Rattle.iss_hold.specs.declared.hold.Hold.{Hold}
-use Rattle.iss_hold.specs.Holdings.{now_of}
+use Rattle.iss_model.specs.state.Cores.{Holdings}
+use Rattle.iss_model.proofs.Lists.{map-map}
+use Rattle.iss_hold.specs.Holdings.{now_of, tokens, holdings_of}
 use Rattle.iss_hold.specs.Indexes.{names, place_in, by_name, ArePlaced, IsAt}
+
+-- the names of the holds are the tokens of the holdings that they make
+pub same_names : (hs : List Hold) {s : Holdings} → holdings_of hs ≡ s → names hs ≡ tokens s.txns
+same_names hs view = sym (map-map now_of (λ (t : TxnNow). t.txn.token) hs) ∙ ap (λ (h : Holdings). tokens h.txns) view
 
 one_less : (o : Option ℕ) (i : ℕ) → option_map suc o ≡ Some (suc i) → o ≡ Some i
 one_less None i e = cc

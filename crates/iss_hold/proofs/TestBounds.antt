@@ -57,7 +57,7 @@ pushed_by number (u ∷ ts) t h e =
     let parts = both_true (nat_lt u.txn.origin number) (list_all (λ v. nat_lt v.txn.origin number) ts) h in
     ap (λ (b : Bool). b && list_all (λ v. nat_lt v.txn.origin number) (ts ++ t ∷ [])) parts.0 ∙ pushed_by number ts t parts.1 e
 
-below_started : (h : Holdings) (t : Txn) → AreBelow t.origin h → AreBelow (t.origin + 1) (with_txn h t)
+pub below_started : (h : Holdings) (t : Txn) → AreBelow t.origin h → AreBelow (t.origin + 1) (with_txn h t)
 below_started h t b = pushed_by (t.origin + 1) h.txns (record { txn = t; live = is_live h.txns t.token }) (more_by t.origin h.txns b) (just_below t.origin)
 
 same_txns : (h : Holdings) (es : List Entry) → (fold with_hold h es).txns ≡ h.txns

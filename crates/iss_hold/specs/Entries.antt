@@ -1,8 +1,10 @@
 -- What calls on a started transaction do to the holdings, by the entries that are made of it.
-use Rattle.std.specs.Prelude.{ℕ, ◌-◌, Bool, false, List, [], ◌++◌, fold, Option, Some, None}
+use Rattle.std.specs.Prelude.{ℕ, suc, ◌-◌, ◌≤◌, ℤ, pos, negsuc, Bool, false, List, [], ◌∷◌, ◌++◌, fold, Option, Some, None}
+use Rattle.iss_model.specs.declared.account.Part.{Part}
 use Rattle.iss_model.specs.declared.account.Part.TheVariants as part
 use Rattle.iss_model.specs.declared.txn.Txn.{Txn}
 use Rattle.iss_model.specs.declared.entry.Entry.{Entry}
+use Rattle.iss_model.specs.declared.entry.Entry.TheVariants as entry
 use Rattle.iss_model.specs.Sums.{part_key}
 use Rattle.iss_model.specs.state.Kept.{kept_at}
 use Rattle.iss_model.specs.rules.Activity.{TxnNow, txn_named}
@@ -49,3 +51,12 @@ taken_in_all taken amount = record { g = taken.g; p = taken.p; s = taken.s; rest
 -- the parts that were taken
 abbrev pub parts_taken : Taken → Parts
 parts_taken taken = record { g = taken.g; p = taken.p; s = taken.s }
+
+-- a part of a hold changes by an amount, which is negative where it is let go
+abbrev pub change_entries : Part → ℤ → Txn → List Entry
+change_entries part amount t = entry.Hold t.token t.user t.currency part amount ∷ []
+
+-- what is let go is there
+abbrev pub IsCovered : ℤ → ℕ → Type 0
+IsCovered (pos n) there = Unit {0}
+IsCovered (negsuc n) there = suc n ≤ there

@@ -13,6 +13,10 @@ use Rattle.iss_hold.specs.declared.hold.Hold.{Hold}
 abbrev pub now_of : Hold → TxnNow
 now_of hold = record { txn = hold.txn; live = hold.live }
 
+-- the tokens of transactions, in the order in which they began
+abbrev pub tokens : List TxnNow → List (List ℕ)
+tokens txns = map (λ t. t.txn.token) txns
+
 -- a part of a hold
 abbrev pub part_of : Part → Hold → ℕ
 part_of part.G hold = hold.g

@@ -1,8 +1,9 @@
 //! What one transaction holds.
-ghost use Rattle.std.specs.Prelude.{◌≡◌, true, false, ◌+◌, ◌-◌, ◌^◌, ◌<◌, ◌≤◌};
+ghost use Rattle.std.specs.Prelude.{◌≡◌, true, false, ◌+◌, ◌-◌, ◌^◌, ◌<◌, ◌≤◌, pos, ◌+ℤ◌, ◌<ℤ◌};
+ghost use Rattle.iss_model.specs.rules.Facts.{not_below};
 ghost use Rattle.iss_model.specs.rules.Pieces.{taken_to_clear, taken_to_release};
 ghost use Rattle.iss_hold.specs.Holdings.{part_of, with_part, parts_of, whole_of, without_parts};
-ghost use Rattle.iss_hold.specs.Entries.{taken_in_all, parts_taken};
+ghost use Rattle.iss_hold.specs.Entries.{IsCovered, taken_in_all, parts_taken};
 
 use iss_model::{Part, Txn};
 
@@ -49,8 +50,8 @@ impl Hold {
         }
     }
 
-    /// All that is held.
-    pub(crate) fn whole(&self) -> u64
+    /// All that is held, in minor units.
+    pub fn whole(&self) -> u64
         requires { whole_of self.now < 2 ^ 64 }
         ensures { result ≡ whole_of self.now }
     {
@@ -85,8 +86,22 @@ impl Hold {
         hold
     }
 
+    /// The hold with a part changed by an amount, which is negative where it is let go.
+    pub(crate) fn with_change(&self, part: Part, amount: i64) -> Hold
+        requires covered { IsCovered amount (part_of part self.now) }
+        requires fits { (pos (part_of part self.now) +ℤ amount) <ℤ pos (2 ^ 64) }
+        ensures { result ≡ with_part part (not_below (pos (part_of part self.now) +ℤ amount)) self.now }
+    {
+        let size = amount.unsigned_abs();
+        if amount < 0 {
+            self.with_less(part, size)
+        } else {
+            self.with_more(part, size)
+        }
+    }
+
     /// The hold without what was taken from it.
-    pub(crate) fn without(&self, taken: &Taken) -> Hold
+    pub fn without(&self, taken: &Taken) -> Hold
         ensures { result ≡ without_parts (parts_taken taken.now) self.now }
     {
         Hold {
@@ -108,7 +123,7 @@ impl Hold {
     }
 
     /// What a clearing takes: the gateway's part first, then the programme's, then the user's own.
-    pub(crate) fn taken_to_clear(&self, amount: u64) -> Taken
+    pub fn taken_to_clear(&self, amount: u64) -> Taken
         ensures { result ≡ taken_in_all (taken_to_clear (parts_of self.now) amount) amount }
     {
         let g = amount.min(self.g);
@@ -123,7 +138,7 @@ impl Hold {
     }
 
     /// What a release takes: the programme's part first, then the gateway's, then the user's own.
-    pub(crate) fn taken_to_release(&self, amount: u64) -> Taken
+    pub fn taken_to_release(&self, amount: u64) -> Taken
         ensures { result ≡ taken_in_all (taken_to_release (parts_of self.now) amount) amount }
     {
         let p = amount.min(self.p);

@@ -1,6 +1,7 @@
 //! All transactions with what they hold.
-ghost use Rattle.std.specs.Prelude.{◌≡◌, ◌≤◌, ◌<◌, ◌^◌, ◌-◌, ◌==◌, [], false, not, map, IsSome, IfSome, None, IfOk, OnOk, OnErr};
-ghost use Rattle.std.specs.List.{list_any};
+ghost use Rattle.std.specs.Prelude.{◌≡◌, ◌≤◌, ◌<◌, ◌^◌, ◌-◌, ◌==◌, [], false, not, length, map, slice_get, IsSome, IfSome, Some, None, IfOk, OnOk, OnErr};
+ghost use Rattle.std.specs.List.{list_any, IsDistinct};
+ghost use Rattle.std.specs.Str.{bytes_eq};
 ghost use Rattle.std.specs.Option.{option_copied, option_map};
 ghost use Rattle.iss_model.specs.Sums.{part_key, user_key};
 ghost use Rattle.iss_model.specs.state.Kept.{nothing_kept, kept_at};
@@ -10,8 +11,9 @@ ghost use Rattle.iss_model.specs.rules.Due.{txn_due, is_quiet};
 ghost use Rattle.iss_model.specs.rules.Pieces.{hold_entries, unhold_entries, in_all, taken_to_clear, taken_to_release};
 ghost use Rattle.iss_model.specs.state.Cores.{with_txn, with_end};
 ghost use Rattle.iss_hold.specs.Bounds.{AreLow};
-ghost use Rattle.iss_hold.specs.Holdings.{now_of, parts_of, whole_of};
-ghost use Rattle.iss_hold.specs.Entries.{live_now, after_holds, parts_in, clearing_unhold_entries, release_unhold_entries};
+ghost use Rattle.iss_hold.specs.Holdings.{now_of, tokens, parts_of, whole_of};
+ghost use Rattle.iss_hold.specs.Indexes.{place_in};
+ghost use Rattle.iss_hold.specs.Entries.{live_now, after_holds, change_entries, IsCovered, parts_in, clearing_unhold_entries, release_unhold_entries};
 ghost use Rattle.iss_hold.specs.Expiries.{txns_due};
 
 use crate::hold::{Hold, Taken};
@@ -71,6 +73,24 @@ impl Holds {
         Some(&self.table.holds[*place])
     }
 
+    /// The place of a transaction in the order in which they began, `None` exactly where it wasn't started.
+    pub fn place(&self, txn: &Token) -> Option<usize>
+        ensures place { result ≡ place_in txn.now (tokens self.now.txns) }
+        ensures once { IsDistinct bytes_eq (tokens self.now.txns) }
+    {
+        self.table.places.get(txn).copied()
+    }
+
+    /// The transaction at a place with what it holds.
+    pub fn at(&self, place: usize) -> &Hold
+        requires { place < length self.now.txns }
+        ensures txn { slice_get self.now.txns place ≡ Some (now_of result.now) }
+        ensures parts { parts_of result.now ≡ parts_in self.now result.now.txn.token }
+        ensures small { whole_of result.now < 2 ^ 62 }
+    {
+        &self.table.holds[place]
+    }
+
     /// The transaction of a token, `None` exactly where it wasn't started.
     pub fn txn(&self, txn: &Token) -> Option<&Txn>
         ensures { option_copied result ≡ option_map (λ t. t.txn) (txn_named txn.now self.now.txns) }
@@ -125,6 +145,18 @@ impl Holds {
         let (place, hold) = self.table.hold_of(txn);
         let less = hold.with_less(part, amount);
         self.table.change(place, less);
+    }
+
+    /// Changes a part of a transaction by an amount, which is negative where it is let go.
+    pub fn change(&mut self, txn: &Token, part: Part, amount: i64)
+        requires started { IsSome (txn_named txn.now self.old.txns) }
+        requires covered { IsCovered amount (not_below (kept_at self.old.parts (part_key txn.now part))) }
+        requires small { AreLow (after_holds self.old txn.now (change_entries part amount)).held }
+        ensures { self.new ≡ after_holds self.old txn.now (change_entries part amount) }
+    {
+        let (place, hold) = self.table.hold_of(txn);
+        let changed = hold.with_change(part, amount);
+        self.table.change(place, changed);
     }
 
     /// Lets up to an amount go for a clearing: of the gateway's part first, then of the programme's, then of the

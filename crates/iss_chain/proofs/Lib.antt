@@ -1,0 +1,10 @@
+pub mod Standing
+pub mod RowSums
+pub mod FitPieces
+pub mod FitCalls
+pub mod Reaching
+pub mod Reach
+pub mod Walking
+pub mod Entered
+pub mod Made
+pub mod InCore

@@ -1,0 +1,60 @@
+-- What is kept of each transaction's posts: a row for each, in the order in which the transactions began.
+use Rattle.std.specs.Prelude.{◌≡◌, ℕ, ℤ, pos, ◌+ℤ◌, List, [], ◌∷◌, length, Option, Some, None, unwrap_or}
+use Rattle.iss_model.specs.declared.account.Account.{Account}
+use Rattle.iss_model.specs.Sums.{Change, cleared_by, refunded_by, paid_by}
+use Rattle.iss_model.specs.state.Kept.{IsSmall, nothing_kept, after_changes}
+use Rattle.iss_model.specs.rules.Activity.{TxnNow}
+use Rattle.iss_model.specs.state.Cores.{TxnSums}
+use Rattle.iss_hold.specs.Holdings.{tokens}
+use Rattle.iss_chain.specs.declared.sums.PostSums.{PostSums}
+use Rattle.iss_chain.specs.declared.books.Books.{Books}
+use Rattle.iss_chain.specs.Values.{ChainNow}
+use Rattle.iss_chain.specs.Entering.{KeepsSmall}
+
+-- the sums of a transaction that no post was made for
+abbrev pub no_sums : PostSums
+no_sums = record { cleared = pos 0; refunded = pos 0; paid = pos 0 }
+
+-- the sums of a row
+abbrev pub row_sums : Option PostSums → PostSums
+row_sums row = unwrap_or row no_sums
+
+-- the sums after a post
+abbrev pub sums_after : Account → Account → ℕ → PostSums → PostSums
+sums_after from to amount s =
+    record {
+      cleared = s.cleared +ℤ cleared_by from to amount;
+      refunded = s.refunded +ℤ refunded_by from to amount;
+      paid = s.paid +ℤ paid_by from to amount;
+    }
+
+-- the sums of a transaction lie strictly between -2^62 and 2^62
+pub record IsSmallRow (s : PostSums) : Type 0 where
+  pub cleared : IsSmall s.cleared
+  pub refunded : IsSmall s.refunded
+  pub paid : IsSmall s.paid
+
+-- one of the sums, for each transaction that a post was made for
+abbrev pub row_changes : (PostSums → ℤ) → List (List ℕ) → List (Option PostSums) → List Change
+row_changes sum [] rows = []
+row_changes sum (txn ∷ txns) [] = []
+row_changes sum (txn ∷ txns) (None ∷ rows) = row_changes sum txns rows
+row_changes sum (txn ∷ txns) (Some s ∷ rows) = record { key = txn; by = sum s } ∷ row_changes sum txns rows
+
+-- the sums by transaction
+abbrev pub txn_sums_of : List TxnNow → List (Option PostSums) → TxnSums
+txn_sums_of txns rows =
+    record {
+      cleared = after_changes nothing_kept (row_changes (λ s. s.cleared) (tokens txns) rows);
+      refunded = after_changes nothing_kept (row_changes (λ s. s.refunded) (tokens txns) rows);
+      paid = after_changes nothing_kept (row_changes (λ s. s.paid) (tokens txns) rows);
+    }
+
+-- the chain that is kept in these books
+abbrev pub chain_of : Books → ChainNow
+chain_of b = record { balances = b.ledger; holdings = b.holds; txn_sums = txn_sums_of b.holds.txns b.sums.items }
+
+-- each transaction has its row, and each sum is small
+pub record AreKept (b : Books) : Type 0 where
+  pub paired : length b.sums.items ≡ length b.holds.txns
+  pub small : KeepsSmall (chain_of b)

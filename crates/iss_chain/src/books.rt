@@ -1,0 +1,160 @@
+//! What a chain is made of, and what each entry does to it.
+ghost use Rattle.std.specs.Prelude.{◌≡◌, ◌<◌, length, fold, slice_get, Some, IsSome, IfOk, OnOk, OnErr};
+ghost use Rattle.std.specs.Option.{option_map};
+ghost use Rattle.iss_model.specs.declared.entry.Entry.TheVariants as entry;
+ghost use Rattle.iss_model.specs.rules.Activity.{txn_named};
+ghost use Rattle.iss_model.specs.state.Cores.{with_post};
+ghost use Rattle.iss_chain.specs.Values.{no_chain, chain_after_entry};
+ghost use Rattle.iss_chain.specs.Entering.{AreSumsSmall, KeepsSmall, StaysSmall, IsNewTxn, PostFits, AreFit, IsEnterable};
+ghost use Rattle.iss_chain.specs.Rows.{row_sums, txn_sums_of, chain_of, AreKept};
+
+use crate::sums::PostSums;
+use iss_hold::Holds;
+use iss_ledger::Ledger;
+use iss_model::{Account, Entry, Token, Txn};
+use std::alloc::{AllocError, Global};
+
+/// The balances, the holds, and for each transaction in the order of the holds its sums, where a post was made for it.
+#[derive(Drop)]
+pub(crate) struct Books {
+    pub(crate) ledger: Ledger,
+    pub(crate) holds: Holds,
+    pub(crate) sums: Vec<Option<PostSums>>,
+}
+
+impl Books {
+    /// No transaction and no post.
+    pub(crate) fn new(alloc: Global) -> Result<Books, AllocError>
+        ensures value { IfOk result (λ books. chain_of books ≡ no_chain) }
+        ensures kept { IfOk result (λ books. AreKept books) }
+    {
+        Ok(Books {
+            ledger: Ledger::new(alloc)?,
+            holds: Holds::new(alloc)?,
+            sums: Vec::new(alloc),
+        })
+    }
+
+    /// The sums of the transaction at a place.
+    pub(crate) fn sums_at(&self, place: usize) -> PostSums
+        requires { place < length self.now.sums.items }
+        ensures { Some result ≡ option_map row_sums (slice_get self.now.sums.items place) }
+    {
+        match self.sums[place] {
+            Some(sums) => sums,
+            None => PostSums::none(),
+        }
+    }
+
+    /// Enters entries one by one. Those of other kinds than a chain's change nothing.
+    pub(crate) fn enter_all(&mut self, entries: &[Entry]) -> Result<(), AllocError>
+        requires kept { AreKept self.old }
+        requires fit { AreFit (chain_of self.old) entries.now }
+        requires small { StaysSmall (chain_of self.old) entries.now }
+        ensures entered { OnOk result (chain_of self.new ≡ fold chain_after_entry (chain_of self.old) entries.now) }
+        ensures kept { AreKept self.new }
+    {
+        for entry in entries {
+            self.enter(entry)?;
+        }
+        Ok(())
+    }
+
+    /// Enters one entry. Where allocation fails nothing changes.
+    pub(crate) fn enter(&mut self, entry: &Entry) -> Result<(), AllocError>
+        requires kept { AreKept self.old }
+        requires enterable { IsEnterable (chain_of self.old) entry.now }
+        ensures entered { OnOk result (chain_of self.new ≡ chain_after_entry (chain_of self.old) entry.now) }
+        ensures unchanged { OnErr result (chain_of self.new ≡ chain_of self.old) }
+        ensures kept { AreKept self.new }
+    {
+        match entry {
+            Entry::Began(txn) => self.begin(txn),
+            Entry::Post {
+                from,
+                to,
+                amount,
+                txn,
+            } => self.post(from, to, *amount, txn),
+            Entry::Hold {
+                txn,
+                user: _,
+                currency: _,
+                part,
+                amount,
+            } => {
+                self.holds.change(txn, *part, *amount);
+                Ok(())
+            }
+            Entry::Ended(txn) => {
+                self.holds.end(txn);
+                Ok(())
+            }
+            Entry::Conf(_)
+            | Entry::Opened(_)
+            | Entry::Closed(_, _)
+            | Entry::Decided(_, _)
+            | Entry::Usage(_)
+            | Entry::Stood { .. }
+            | Entry::Notice(_)
+            | Entry::Acked(_) => Ok(()),
+        }
+    }
+
+    /// Begins a transaction.
+    fn begin(&mut self, txn: &Txn) -> Result<(), AllocError>
+        requires kept { AreKept self.old }
+        requires new { IsNewTxn self.old.holds txn.now }
+        requires small { KeepsSmall (chain_after_entry (chain_of self.old) (entry.Began txn.now)) }
+        ensures entered { OnOk result (chain_of self.new ≡ chain_after_entry (chain_of self.old) (entry.Began txn.now)) }
+        ensures unchanged { OnErr result (chain_of self.new ≡ chain_of self.old) }
+        ensures kept { AreKept self.new }
+    {
+        self.sums.reserve(1)?;
+        self.holds.start(txn)?;
+        self.sums.push(None)?;
+        Ok(())
+    }
+
+    /// Moves money, and counts it for its transaction where it has one.
+    fn post(
+        &mut self,
+        from: &Account,
+        to: &Account,
+        amount: u64,
+        txn: &Option<Token>,
+    ) -> Result<(), AllocError>
+        requires kept { AreKept self.old }
+        requires known { PostFits self.old.holds txn.now }
+        requires small { KeepsSmall (chain_after_entry (chain_of self.old) (entry.Post from.now to.now amount txn.now)) }
+        ensures entered { OnOk result (chain_of self.new ≡ chain_after_entry (chain_of self.old) (entry.Post from.now to.now amount txn.now)) }
+        ensures unchanged { OnErr result (chain_of self.new ≡ chain_of self.old) }
+        ensures kept { AreKept self.new }
+    {
+        self.ledger.post(from, to, amount)?;
+        if let Some(txn) = txn {
+            self.count(txn, from, to, amount);
+        }
+        Ok(())
+    }
+
+    /// Counts a post for a transaction.
+    fn count(&mut self, txn: &Token, from: &Account, to: &Account, amount: u64)
+        requires paired { length self.old.sums.items ≡ length self.old.holds.txns }
+        requires known { IsSome (txn_named txn.now self.old.holds.txns) }
+        requires before { AreSumsSmall (txn_sums_of self.old.holds.txns self.old.sums.items) }
+        requires after { AreSumsSmall (with_post (txn_sums_of self.old.holds.txns self.old.sums.items) (entry.Post from.now to.now amount (Some txn.now))) }
+        ensures paired { length self.new.sums.items ≡ length self.new.holds.txns }
+        ensures counted { chain_of self.new ≡ record (chain_of self.old) {
+          txn_sums = with_post (txn_sums_of self.old.holds.txns self.old.sums.items) (entry.Post from.now to.now amount (Some txn.now));
+        } }
+    {
+        match self.holds.place(txn) {
+            Some(place) => {
+                let sums = self.sums_at(place).after(from, to, amount);
+                self.sums[place] = Some(sums);
+            }
+            None => unreachable!(),
+        }
+    }
+}

@@ -1,0 +1,19 @@
+use Rattle.std.proofs.Common.{◌≡◌, ℕ, List, map, sym, ap, subst, ◌∙◌}
+use Rattle.std.specs.List.{IsDistinct}
+use Rattle.std.specs.Str.{bytes_eq}
+use Rattle.iss_model.specs.rules.Activity.{TxnNow}
+use Rattle.iss_model.specs.state.Cores.{Holdings}
+use Rattle.iss_model.proofs.Lists.{map-map}
+use Rattle.iss_hold.specs.declared.hold.Hold.{Hold}
+use Rattle.iss_hold.specs.Holdings.{now_of, tokens}
+use Rattle.iss_hold.specs.Indexes.{names, place_in}
+use Rattle.iss_hold.proofs.Places.{same_names}
+use Rattle.iss_hold.proofs.holds.Holds.place.Goals as goal
+
+pub returns-clause-place : goal.returns-clause-place
+returns-clause-place c =
+    c.copied.ensures ∙ c.get.ensures.value ∙ c.self.invariant.placed.place c.args.txn.now
+    ∙ ap (λ (ns : List (List ℕ)). place_in c.args.txn.now ns) (same_names c.self.inside.table.holds.items c.self.view_is)
+
+pub returns-clause-once : goal.returns-clause-once
+returns-clause-once c = subst (λ (ns : List (List ℕ)). IsDistinct bytes_eq ns) (same_names c.self.inside.table.holds.items c.self.view_is) c.self.invariant.distinct
