@@ -17,6 +17,7 @@ pub struct Call {
 pub struct NotOpen(pub CallState);
 
 impl Call {
+    /// Asked, or closed and how.
     pub fn state(&self) -> CallState
         ensures { result ≡ state_of (Some (now_of self.now)) }
     {

@@ -1,6 +1,6 @@
 //! All calls by number.
 ghost use Rattle.std.specs.Prelude.{◌≡◌, ◌↔◌, [], ◌∷◌, ◌++◌, ◌+◌, map, not, length, None, IfOk, IfErr, IsOk, OnOk, OnErr};
-ghost use Rattle.std.specs.List.{filter, slice_get};
+ghost use Rattle.std.specs.List.{filter};
 ghost use Rattle.std.specs.Option.{option_copied, option_map};
 ghost use Rattle.iss_model.specs.declared.call.CallState.TheVariants as call_state;
 ghost use Rattle.iss_model.specs.rules.Activity.{call_numbered, is_asked};
@@ -50,7 +50,7 @@ impl Calls {
         })
     }
 
-    /// Asks a call of the next number. Where allocation fails all stays as it was.
+    /// Asks a call of the next number. To close it takes no memory. Where allocation fails all stays as it was.
     pub fn ask(&mut self, opened: &Opened) -> Result<(), AllocError>
         requires next { opened.now.call.0 ≡ length self.old + 1 }
         ensures asked { OnOk result (self.new ≡ self.old ++ record { opened = opened.now; how = None } ∷ []) }
@@ -91,6 +91,7 @@ impl Calls {
         calls.get((id.0 as usize).checked_sub(1)?)
     }
 
+    /// The state of a call, `Unknown` exactly where it was never asked.
     pub fn state(&self, id: CallId) -> CallState
         ensures { result ≡ state_in self.now id.0 }
     {
@@ -114,14 +115,14 @@ impl Calls {
         self.calls.len() as u32
     }
 
-    /// How many calls are asked.
+    /// How many calls are still asked.
     pub fn asked_count(&self) -> usize
         ensures { result ≡ length (filter is_asked self.now) }
     {
         self.orders.deadlines.len()
     }
 
-    /// The asked calls, by number.
+    /// The calls that are still asked, by number.
     pub fn asked(&self, alloc: Global) -> Result<Vec<CallId>, AllocError>
         ensures { IfOk result (λ v. v.items ≡ map (λ c. c.opened.call) (filter is_asked self.now)) }
     {

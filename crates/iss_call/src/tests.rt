@@ -29,8 +29,8 @@ fn ask(calls: &mut Calls, txn: &Token, deadline: u64) -> Result<(), AllocError> 
     })
 }
 
-/// The states of the first call before it is asked, then, and once it is closed, and of a second that never is; and what
-/// closing the first twice and then the second gives.
+/// The states of a first call before it is asked, then, and once it is closed, and of a second that never is asked; and
+/// what closing the first twice and then the second gives.
 fn states_then(
     alloc: Global,
     txn: &Token,
@@ -96,8 +96,8 @@ fn numbers(ids: &[CallId]) -> [u32; 5] {
     numbers
 }
 
-/// Four calls of two transactions; what is due a millisecond before the second deadline and at it, the calls of the second
-/// transaction, and the same once the call of the first deadline is closed.
+/// Of four calls of two transactions, those that are due by 2999 and by 4000 and those of the second transaction; and the
+/// same once one of these is closed.
 fn orders_then(alloc: Global, first: &Token, second: &Token) -> Result<[[u32; 5]; 6], AllocError> {
     let mut calls = Calls::new(alloc)?;
     for (txn, deadline) in [(first, 4000), (second, 3000), (second, 4000), (first, 2000)] {
