@@ -1,5 +1,5 @@
 -- Every sum of the book is one over all its rows: each entry changes some things by some amount.
-use Rattle.std.specs.Prelude.{ℕ, ℤ, pos, negsuc, neg_ℤ, ◌+ℤ◌, List, [], ◌∷◌, ◌++◌, fold, Some, if◌then◌else◌}
+use Rattle.std.specs.Prelude.{ℕ, suc, ℤ, pos, negsuc, neg_ℤ, ◌+ℤ◌, List, [], ◌∷◌, ◌++◌, replicate, fold, Some, if◌then◌else◌}
 use Rattle.std.specs.Str.{bytes_eq}
 use Rattle.iss_model.specs.declared.currency.Currency.{Currency}
 use Rattle.iss_model.specs.declared.account.Account.{Account}
@@ -85,10 +85,10 @@ paid_by (account.Programme c) (account.User user d) amount = pos amount
 paid_by (account.User user c) (account.Programme d) amount = neg_ℤ (pos amount)
 paid_by _ _ amount = pos 0
 
--- a whole number as a part of a key
+-- a whole number at the end of a key, so that keys sort as their numbers do: one below 0 begins with as many zeros as it lies below
 abbrev pub int_key : ℤ → List ℕ
-int_key (pos n) = 0 ∷ n ∷ []
-int_key (negsuc n) = 1 ∷ n ∷ []
+int_key (pos n) = 1 ∷ n ∷ []
+int_key (negsuc n) = replicate (suc n) 0 ++ 1 ∷ []
 
 -- a product's user on a day of UTC
 abbrev pub stood_key : List ℕ → List ℕ → ℕ → List ℕ

@@ -149,13 +149,17 @@ counts groups put row =
 abbrev pub control_offset : Control → ℤ
 control_offset control = pos 0
 
+-- a user with the number of a window or of a record: keys sort by the bytes of the user's token, then by the number
+abbrev pub counter_key : List ℕ → ℤ → List ℕ
+counter_key user number = user ++ 0 ∷ int_key number
+
 -- a user in the window of a stamp
 abbrev pub window_key : Window → ℤ → List ℕ → ℕ → List ℕ
-window_key window offset user at = 0 ∷ user ++ 0 ∷ int_key (window_at window at offset)
+window_key window offset user at = counter_key user (window_at window at offset)
 
--- what a control adds up use over: a user's window, or one transaction
+-- what a control adds up use over: a user's window, or one transaction, known by the number of its authorisation's record
 abbrev pub span_key : Control → Window → UsageRow → List ℕ
-span_key control window.Transaction row = 1 ∷ row.txn
+span_key control window.Transaction row = counter_key row.user (pos row.origin)
 span_key control window.Day row = window_key window.Day (control_offset control) row.user row.at
 span_key control window.Week row = window_key window.Week (control_offset control) row.user row.at
 span_key control window.Month row = window_key window.Month (control_offset control) row.user row.at
