@@ -6,6 +6,9 @@
 # and again. The time is from the first line given to the last reply read. The program's own time, and its peak of memory,
 # are read then. Of nine such measurements the one with the least time of its own is shown, since the machine's speed may
 # change from one to the next. Instructions, which don't, are counted by valgrind for purchases, where it is there.
+#
+# With words, 20000 lines of each of these inputs: controls10 and controls256 are purchases under so many controls. As long as the program
+# replies NOT_BUILT to a control, they measure purchases under none.
 set -eu -o pipefail
 cd "$(dirname "$0")/.."
 
@@ -27,6 +30,31 @@ purchases() {
             }
         }
     }'
+}
+
+# controls NUMBER COUNT: so many lines, of which the first are a user, a card and so many controls, and the rest purchases that each of
+# seven in ten controls counts: over a day, a week, a month or for good in turn, three in ten for one category alone. None declines.
+controls() {
+    awk -v number="$1" 'BEGIN {
+        split("DAY WEEK MONTH LIFETIME", windows, " ")
+        for (i = 0; i < number; i++) {
+            scope = i % 10 < 7 ? "" : ",\"mcc\":\"5812\""
+            printf "{\"type\":\"control\",\"token\":\"v%d\",\"control\":\"v%d\",\"currency\":\"USD\",\"window\":\"%s\",\"amount_limit\":\"10000000000.00\"%s}\n",
+                i, i, windows[i % 4 + 1], scope
+        }
+    }' >"$room/controls"
+    purchases $(($2 - $1)) >"$room/purchases"
+    head -n 2 "$room/purchases"
+    cat "$room/controls"
+    tail -n +3 "$room/purchases"
+}
+
+controls10() {
+    controls 10 "$1"
+}
+
+controls256() {
+    controls 256 "$1"
 }
 
 # again COUNT: purchases of half as many lines, twice.
@@ -65,11 +93,11 @@ show() {
     local replies
     replies=$(wc -l <"$room/replies")
     if [ "$3" != 0 ]; then
-        printf '%-9s %8d %10s %12s %10s %10s\n' "$1" "$2" "over $limit" stopped "$6" "$7"
+        printf '%-11s %8d %10s %12s %10s %10s\n' "$1" "$2" "over $limit" stopped "$6" "$7"
     elif [ "$replies" = "$2" ]; then
         awk -v input="$1" -v count="$2" -v start="$4" -v end="$5" -v own="$6" -v peak="$7" 'BEGIN {
             seconds = end - start
-            printf "%-9s %8d %10.3f %12.0f %10s %10s\n", input, count, seconds, count / seconds, own, peak
+            printf "%-11s %8d %10.3f %12.0f %10s %10s\n", input, count, seconds, count / seconds, own, peak
         }'
     else
         echo "bench: $replies replies to $2 lines" >&2
@@ -110,7 +138,11 @@ ratio() {
     ' "$room/$1-20000" "$room/$1-200000"
 }
 
-printf '%-9s %8s %10s %12s %10s %10s %12s\n' input lines seconds lines/second own 'peak MiB' instr/line
+printf '%-11s %8s %10s %12s %10s %10s %12s\n' input lines seconds lines/second own 'peak MiB' instr/line
+for input in "$@"; do
+    best "$input" 20000
+done
+[ $# = 0 ] || exit 0
 for count in 2000 20000 200000; do
     best purchases "$count"
 done

@@ -1,0 +1,23 @@
+-- Merchant groups as they are kept, and the reasons of refusals.
+use Rattle.std.specs.Prelude.{Option, Some, None, Result, Ok, Err}
+use Rattle.iss_model.specs.declared.decision.Reason.{Reason}
+use Rattle.iss_model.specs.declared.decision.Reason.TheVariants as reason
+use Rattle.iss_model.specs.rules.Controls.{Group}
+use Rattle.iss_scope.specs.declared.groups.MerchantGroup.{MerchantGroup}
+use Rattle.iss_scope.specs.declared.groups.GroupFault.{GroupFault}
+use Rattle.iss_scope.specs.declared.groups.GroupFault.TheVariants as fault
+
+-- a group that is kept, as the rules see it
+abbrev pub group_of : MerchantGroup → Group
+group_of g = record { name = g.name; mccs = g.mccs }
+
+-- the reason that a fault gives; a failed allocation gives none
+abbrev pub fault_reason : GroupFault → Option Reason
+fault_reason fault.Exists = Some reason.Exists
+fault_reason fault.Limit = Some reason.Limit
+fault_reason fault.OutOfMemory = None
+
+-- the reason that a result gives
+abbrev pub reason_of_result : {A : Type 0} → Result A GroupFault → Option Reason
+reason_of_result (Ok x) = None
+reason_of_result (Err f) = fault_reason f

@@ -1,0 +1,115 @@
+-- Keys of counters sort by the user's name, then by the number.
+use Rattle.std.proofs.Common.{◌≡◌, ℕ, zero, suc, ◌+◌, ℤ, pos, negsuc, Bool, true, false, cond, not, ◌&&◌, ◌==◌, nat_lt, nat_le, List, [], ◌∷◌, ◌++◌, length, refl, sym, ap, ap₂, ◌∙◌, arith}
+use Rattle.std.specs.Prelude.{replicate, int_lt}
+use Rattle.std.specs.List.{list_all}
+use Rattle.std.specs.declared.cmp.Ordering.{Ordering}
+use Rattle.std.specs.declared.cmp.Ordering.TheVariants.{Less, Equal, Greater}
+use Rattle.std.specs.Ordering.{nat_cmp, int_cmp, int_eq, is_eq, eq_by_cmp, ordering_then}
+use Rattle.std.specs.Cmp.Lexicographic.{slice_cmp}
+use Rattle.std.specs.Str.{bytes_eq}
+use Rattle.std.proofs.lemmas.Bool.{and_parts}
+use Rattle.std.proofs.lemmas.Bool.Decides.{nat_tests}
+use Rattle.std.proofs.lemmas.Map.Text.{is_eq-slice_cmp}
+use Rattle.iss_model.specs.Tokens.{is_token, is_token_byte}
+use Rattle.iss_model.specs.Sums.{int_key}
+use Rattle.iss_model.specs.rules.Controls.{counter_key}
+use Rattle.iss_velocity.specs.Keeping.{has_no_zero}
+
+above : (b : ℕ) → is_token_byte b ≡ true → nat_lt 0 b ≡ true
+above b h = grind (arith, nat_tests)
+
+all_above : (bs : List ℕ) → list_all is_token_byte bs ≡ true → has_no_zero bs ≡ true
+all_above [] h = refl
+all_above (b ∷ bs) h =
+    let parts = and_parts (is_token_byte b) (list_all is_token_byte bs) h in
+    ap₂ (λ (x y : Bool). x && y) (above b parts.0) (all_above bs parts.1)
+
+pub token_plain : (bs : List ℕ) → is_token bs ≡ true → has_no_zero bs ≡ true
+token_plain bs h = all_above bs (and_parts (nat_le 1 (length bs) && nat_le (length bs) 36) (list_all is_token_byte bs) h).1
+
+zero_below : (b : ℕ) → nat_lt 0 b ≡ true → nat_cmp 0 b ≡ Less
+zero_below b h = ap (λ (x : Bool). cond x Less (cond (0 == b) Equal Greater)) h
+
+zero_above : (b : ℕ) → nat_lt 0 b ≡ true → nat_cmp b 0 ≡ Greater
+zero_above b h =
+    let below : nat_lt b 0 ≡ false = grind (arith, nat_tests) in
+    let apart : (b == 0) ≡ false = grind (arith, nat_tests) in
+    ap (λ (x : Bool). cond x Less (cond (b == 0) Equal Greater)) below ∙ ap (λ (x : Bool). cond x Equal Greater) apart
+
+regrouped : (r s t : Ordering) → ordering_then (ordering_then r s) t ≡ ordering_then r (ordering_then s t)
+regrouped Less s t = refl
+regrouped Equal s t = refl
+regrouped Greater s t = refl
+
+ended : (r : Ordering) → ordering_then r Equal ≡ r
+ended Less = refl
+ended Equal = refl
+ended Greater = refl
+
+tails : (u v s t : List ℕ) → has_no_zero u ≡ true → has_no_zero v ≡ true
+    → slice_cmp nat_cmp (u ++ 0 ∷ s) (v ++ 0 ∷ t) ≡ ordering_then (slice_cmp nat_cmp u v) (slice_cmp nat_cmp s t)
+tails [] [] s t p q = refl
+tails [] (y ∷ v) s t p q =
+    ap (λ (r : Ordering). ordering_then r (slice_cmp nat_cmp s (v ++ 0 ∷ t))) (zero_below y (and_parts (nat_lt 0 y) (has_no_zero v) q).0)
+tails (x ∷ u) [] s t p q =
+    ap (λ (r : Ordering). ordering_then r (slice_cmp nat_cmp (u ++ 0 ∷ s) t)) (zero_above x (and_parts (nat_lt 0 x) (has_no_zero u) p).0)
+tails (x ∷ u) (y ∷ v) s t p q =
+    ap (λ (r : Ordering). ordering_then (nat_cmp x y) r)
+    (tails u v s t (and_parts (nat_lt 0 x) (has_no_zero u) p).1 (and_parts (nat_lt 0 y) (has_no_zero v) q).1)
+    ∙ sym (regrouped (nat_cmp x y) (slice_cmp nat_cmp u v) (slice_cmp nat_cmp s t))
+
+-- numbers below 0 by how many zeros they begin with
+zeros : (m n : ℕ) → slice_cmp nat_cmp (replicate m 0 ++ 1 ∷ []) (replicate n 0 ++ 1 ∷ []) ≡ nat_cmp n m
+zeros zero zero = refl
+zeros zero (suc n) = sym (zero_above_first n)
+  where
+    zero_above_first : (n : ℕ) → nat_cmp (suc n) zero ≡ Greater
+    zero_above_first n = zero_above (suc n) (grind (arith, nat_tests))
+zeros (suc m) zero = sym (zero_below_next m)
+  where
+    zero_below_next : (m : ℕ) → nat_cmp zero (suc m) ≡ Less
+    zero_below_next m = zero_below (suc m) (grind (arith, nat_tests))
+zeros (suc m) (suc n) = zeros m n ∙ next n m
+  where
+    next : (n m : ℕ) → nat_cmp n m ≡ nat_cmp (suc n) (suc m)
+    next n m =
+        ap₂ (λ (l e : Bool). cond l Less (cond e Equal Greater)) (grind (arith, nat_tests)) (grind (arith, nat_tests))
+
+-- the order of numbers by two tests
+two_tests : (l e g : Bool) → (l ≡ false → e ≡ not g) → cond l Less (cond e Equal Greater) ≡ cond l Less (cond g Greater Equal)
+two_tests true e g h = refl
+two_tests false true true h = (let wrong : true ≡ false = h refl in cc)
+two_tests false true false h = refl
+two_tests false false true h = refl
+two_tests false false false h = (let wrong : false ≡ true = h refl in cc)
+
+by_less : (m n : ℕ) → nat_cmp m n ≡ cond (nat_lt m n) Less (cond (nat_lt n m) Greater Equal)
+by_less m n = two_tests (nat_lt m n) (m == n) (nat_lt n m) (λ h. grind (arith, nat_tests))
+
+pub int_keys : (m n : ℤ) → slice_cmp nat_cmp (int_key m) (int_key n) ≡ int_cmp m n
+int_keys (pos m) (pos n) = ended (nat_cmp m n) ∙ by_less m n
+int_keys (pos m) (negsuc n) = refl
+int_keys (negsuc m) (pos n) = refl
+int_keys (negsuc m) (negsuc n) = zeros (suc m) (suc n) ∙ next_down n m ∙ by_less n m
+  where
+    next_down : (n m : ℕ) → nat_cmp (suc n) (suc m) ≡ nat_cmp n m
+    next_down n m =
+        ap₂ (λ (l e : Bool). cond l Less (cond e Equal Greater)) (grind (arith, nat_tests)) (grind (arith, nat_tests))
+
+-- keys sort by the user, then by the number
+pub key_order : (u v : List ℕ) (m n : ℤ) → has_no_zero u ≡ true → has_no_zero v ≡ true
+    → slice_cmp nat_cmp (counter_key u m) (counter_key v n) ≡ ordering_then (slice_cmp nat_cmp u v) (int_cmp m n)
+key_order u v m n p q =
+    tails u v (int_key m) (int_key n) p q ∙ ap (ordering_then (slice_cmp nat_cmp u v)) (int_keys m n)
+
+both_equal : (r s : Ordering) → is_eq (ordering_then r s) ≡ (is_eq r && is_eq s)
+both_equal Less s = refl
+both_equal Equal s = refl
+both_equal Greater s = refl
+
+-- two keys are one where the users and the numbers are
+pub same_key : (u v : List ℕ) (m n : ℤ) → has_no_zero u ≡ true → has_no_zero v ≡ true
+    → eq_by_cmp (slice_cmp nat_cmp) (counter_key u m) (counter_key v n) ≡ (bytes_eq u v && int_eq m n)
+same_key u v m n p q =
+    ap is_eq (key_order u v m n p q) ∙ both_equal (slice_cmp nat_cmp u v) (int_cmp m n)
+    ∙ ap (λ (b : Bool). b && int_eq m n) (is_eq-slice_cmp u v)

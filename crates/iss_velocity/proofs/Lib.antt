@@ -1,0 +1,12 @@
+pub mod KeyOrder
+pub mod SameFields
+pub mod Walks
+pub mod Lookups
+pub mod SumsKept
+pub mod Turning
+pub mod Adding
+pub mod Controlling
+pub mod NotedSums
+pub mod Putting
+pub mod Noting
+pub mod TestBounds

@@ -1,0 +1,8 @@
+use Rattle.iss_velocity.proofs.NotedSums.{limits_same, activity_same}
+use Rattle.iss_velocity.proofs.laws.controls_that_stay_count_the_same.Goals as goal
+
+pub returns-clause-limits : goal.returns-clause-limits
+returns-clause-limits c = limits_same
+
+pub returns-clause-activity : goal.returns-clause-activity
+returns-clause-activity c = activity_same

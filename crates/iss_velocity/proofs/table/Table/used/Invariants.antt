@@ -1,0 +1,10 @@
+use Rattle.std.proofs.Common.{◌≡◌, map, drop}
+use Rattle.iss_model.specs.state.Cores.{control_facts}
+use Rattle.iss_velocity.specs.Words.{used_of}
+use Rattle.iss_velocity.specs.Keeping.{controls_from, controls_in}
+use Rattle.iss_velocity.proofs.table.Table.used.Given as goal
+
+abbrev pub invariant-loop-place : goal.invariant-loop-place
+invariant-loop-place l =
+    used_of (map control_facts (controls_in l.self)) l.name l.user l.at
+    ≡ used_of (map control_facts (controls_from l.self.users l.self.past l.place (drop l.place l.self.controls.items))) l.name l.user l.at
