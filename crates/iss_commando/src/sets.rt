@@ -1,5 +1,5 @@
 //! The sets of a programme, and what it stood in for by them.
-ghost use Rattle.std.specs.Prelude.{◌≡◌, ◌↔◌, ◌&&◌, [], map, find, None, is_some, IsTrue, IfOk, OnOk, OnErr, IsErrOf};
+ghost use Rattle.std.specs.Prelude.{◌≡◌, ◌↔◌, ◌&&◌, [], map, find, None, IsTrue, IfOk, OnOk, OnErr, IsErrOf};
 ghost use Rattle.std.specs.Option.{option_map, is_none};
 ghost use Rattle.std.specs.FinMap as finite;
 ghost use Rattle.iss_model.specs.Sums.{stood_key};
@@ -72,7 +72,7 @@ impl Sets {
     }
 
     /// Puts a set: a new one after the others, or in the place of the one of its name, which keeps its product and
-    /// its currency.
+    /// its currency. Only a new one takes memory.
     pub fn put(&mut self, set: &Set) -> Result<(), SetFault>
         ensures put { OnOk result (self.new ≡ record self.old { sets = with_set self.old.sets set.now }) }
         ensures refused { OnErr result (self.new ≡ self.old) }
@@ -80,6 +80,7 @@ impl Sets {
             ↔ IsTrue (is_some_with (is_fixed set.now) (set_named set.now.name self.old.sets)) }
         ensures limit { IsErrOf result SetFault.Limit
             ↔ IsTrue (is_none (set_named set.now.name self.old.sets) && is_full self.old.sets) }
+        ensures absent { IsErrOf result SetFault.OutOfMemory → set_named set.now.name self.old.sets ≡ None }
     {
         match self.get(&set.name) {
             Some(standing) if is_fixed(standing, set) => return Err(SetFault::Fixed),

@@ -1,4 +1,4 @@
-use Rattle.std.proofs.Common.{◌≡◌, ◌*◌, ◌+◌, ◌<◌, ◌≤◌, ◌^◌, ap, ◌∙◌, arith}
+use Rattle.std.proofs.Common.{◌*◌, ◌+◌, ◌<◌, ◌≤◌, ◌^◌, ap, ◌∙◌, arith}
 use Rattle.iss_model.specs.state.Cores.{StandIns}
 use Rattle.iss_commando.proofs.Bounds.{stood_within, within_small, none_within, within_more}
 use Rattle.iss_commando.proofs.tests.agrees.Goals.{in-Yes+in_ok-note, in_default}

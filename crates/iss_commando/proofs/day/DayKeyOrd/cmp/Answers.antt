@@ -1,5 +1,4 @@
-use Rattle.std.proofs.Common.{ap₂, sym, ◌∙◌, pos, List, ℕ}
-use Rattle.std.specs.Prelude.{IsTrue}
+use Rattle.std.proofs.Common.{ap₂, sym, ◌∙◌}
 use Rattle.std.specs.Ordering.{nat_cmp, ordering_then}
 use Rattle.std.specs.Cmp.Lexicographic.{slice_cmp}
 use Rattle.iss_commando.proofs.KeyOrder.{by_parts}
