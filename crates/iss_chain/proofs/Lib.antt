@@ -8,3 +8,4 @@ pub mod Walking
 pub mod Entered
 pub mod Made
 pub mod InCore
+pub mod AmongRules

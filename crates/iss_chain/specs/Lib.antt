@@ -4,3 +4,4 @@ pub mod Entering
 pub mod Bounds
 pub mod Rows
 pub mod Walks
+pub mod Among

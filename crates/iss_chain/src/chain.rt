@@ -13,7 +13,7 @@ ghost use Rattle.iss_model.specs.rules.Due.{txn_due, is_quiet};
 ghost use Rattle.iss_hold.specs.Expiries.{txns_due};
 ghost use Rattle.iss_chain.specs.Values.{no_chain, chain_after_entry, chain_facts, txn_state};
 ghost use Rattle.iss_chain.specs.Calls.{load_money_entries, entries_of_fund, entries_of_reverse, entries_before_end, entries_of_clear, entries_of_refund, entries_of_end};
-ghost use Rattle.iss_chain.specs.Entering.{IsNewTxn, StaysSmall, IsEnterable};
+ghost use Rattle.iss_chain.specs.Entering.{IsNewTxn, StaysSmall, AreFit, IsEnterable};
 
 use crate::books::Books;
 use crate::state::TxnState;
@@ -177,6 +177,15 @@ impl Chain {
         ensures unchanged { OnErr result (self.new ≡ self.old) }
     {
         self.books.enter(entry)
+    }
+
+    /// Enters entries one by one. Where allocation fails those before it stay entered.
+    pub fn enter_all(&mut self, entries: &[Entry]) -> Result<(), AllocError>
+        requires fit { AreFit self.old entries.now }
+        requires small { StaysSmall self.old entries.now }
+        ensures { OnOk result (self.new ≡ fold chain_after_entry self.old entries.now) }
+    {
+        self.books.enter_all(entries)
     }
 
     /// Whether a transaction is known, and whether it has ended.

@@ -1,10 +1,20 @@
-//! Where a chain stands in the core, as a law of the definitions: the contract of a function with an empty body.
-ghost use Rattle.std.specs.Prelude.{◌≡◌, ℕ, List, fold};
+//! Where a chain stands in the core, and its entries among those of the rules, as laws of the definitions: each is the
+//! contract of a function with an empty body.
+ghost use Rattle.std.specs.Prelude.{◌≡◌, ℕ, Bool, List, [], fold, Some};
+ghost use Rattle.iss_model.specs.declared.account.Account.TheVariants as account;
+ghost use Rattle.iss_model.specs.declared.account.Part.TheVariants as part;
+ghost use Rattle.iss_model.specs.declared.setting.Set.{Set};
+ghost use Rattle.iss_model.specs.declared.decision.Reason.{Reason};
 ghost use Rattle.iss_model.specs.declared.txn.Txn.{Txn};
 ghost use Rattle.iss_model.specs.declared.entry.Entry.{Entry};
-ghost use Rattle.iss_model.specs.rules.Pieces.{parts_held};
-ghost use Rattle.iss_model.specs.rules.CardEntries.{owed_to_programme};
+ghost use Rattle.iss_model.specs.rules.Activity.{TxnNow};
+ghost use Rattle.iss_model.specs.rules.Facts.{Facts};
+ghost use Rattle.iss_model.specs.rules.Asks.{Ask};
+ghost use Rattle.iss_model.specs.rules.Pieces.{Parts, parts_held, taken_to_clear, end_entries, funded_ask_entries, set_stand_in_entries};
+ghost use Rattle.iss_model.specs.rules.CardEntries.{reversal_entries, clearing_money_entries, clearing_entries, owed_to_programme, refund_entries};
 ghost use Rattle.iss_model.specs.state.Cores.{CoreState, core_facts, after_entry};
+ghost use Rattle.iss_chain.specs.Calls.{fund_money_entries, reversal_money_entries, end_money_entries, clearing_end_entries, refund_money_entries};
+ghost use Rattle.iss_chain.specs.Among.{AreMadeOf};
 ghost use Rattle.iss_chain.specs.Values.{chain_part, chain_after_entry, chain_facts};
 
 /// What entries do to a core's state, they do to the part of it that a chain keeps; and what a transaction holds, and
@@ -14,4 +24,22 @@ pub fn a_chain_is_part_of_the_core()
         → chain_part (fold after_entry s entries) ≡ fold chain_after_entry (chain_part s) entries }
     ensures parts { (s : CoreState) (t : Txn) → parts_held (chain_facts (chain_part s)) t ≡ parts_held (core_facts s) t }
     ensures owed { (s : CoreState) (t : Txn) → owed_to_programme (chain_facts (chain_part s)) t ≡ owed_to_programme (core_facts s) t }
+{}
+
+/// The entries of the rules are those that a chain makes, with what it passes over between and after them: calls to the
+/// gateway, notices, use that is given back, and decisions.
+pub fn the_rules_make_its_entries()
+    ensures funded { (ask : Ask) → AreMadeOf (fund_money_entries ask.txn part.G ask.amount) []
+        (funded_ask_entries ask (account.Gateway ask.txn.currency) part.G) }
+    ensures stood { (number : ℕ) (ask : Ask) (at : ℕ) (s : Set) → AreMadeOf [] (fund_money_entries ask.txn part.P ask.amount)
+        (set_stand_in_entries number ask at s) }
+    ensures reversed { (f : Facts) (token : List ℕ) (amount : ℕ) (now : TxnNow) → AreMadeOf []
+        (reversal_money_entries now.txn (parts_held f now.txn) amount) (reversal_entries f token amount (Some now)) }
+    ensures cleared { (f : Facts) (token : List ℕ) (amount : ℕ) (last : Bool) (at : ℕ) (now : TxnNow) → AreMadeOf
+        (clearing_money_entries now.txn (taken_to_clear (parts_held f now.txn) amount) amount at)
+        (clearing_end_entries now (parts_held f now.txn) amount last) (clearing_entries f token amount last at (Some now)) }
+    ensures refunded { (f : Facts) (token : List ℕ) (amount : ℕ) (now : TxnNow) → AreMadeOf
+        (refund_money_entries now.txn (owed_to_programme f now.txn) amount) [] (refund_entries f token amount (Some now)) }
+    ensures ended { (number : ℕ) (f : Facts) (t : Txn) (parts : Parts) (why : Reason) → AreMadeOf []
+        (end_money_entries t parts) (end_entries number f t parts why) }
 {}

@@ -17,5 +17,5 @@ mod sums;
 mod tests;
 
 pub use chain::Chain;
-pub use laws::a_chain_is_part_of_the_core;
+pub use laws::{a_chain_is_part_of_the_core, the_rules_make_its_entries};
 pub use state::TxnState;

@@ -7,7 +7,9 @@ use Rattle.std.proofs.lemmas.Bool.{and_parts}
 use Rattle.std.proofs.lemmas.Bool.Decides.{nat_tests}
 use Rattle.std.proofs.lemmas.Slice.Eq.{bytes_eq-Decides}
 use Rattle.iss_model.specs.declared.limits.TheConstants.{GREATEST_AMOUNT}
+use Rattle.iss_model.specs.declared.account.Account.TheVariants as account
 use Rattle.iss_model.specs.declared.account.Part.TheVariants as part
+use Rattle.iss_model.specs.declared.currency.Currency.{Currency}
 use Rattle.iss_model.specs.declared.setting.User.{User}
 use Rattle.iss_model.specs.declared.setting.Card.{Card}
 use Rattle.iss_model.specs.declared.setting.CardState.{CardState}
@@ -40,16 +42,17 @@ use Rattle.iss_model.specs.state.Cores.{CoreState, ProductNow, Holdings, with_tx
 use Rattle.iss_model.proofs.Names.{one_name}
 use Rattle.iss_card.specs.declared.standing.Standing.TheVariants.{Known}
 use Rattle.iss_card.specs.Standings.{standing_of, standing_with}
-use Rattle.iss_hold.specs.Entries as entries_of_holds
-use Rattle.iss_hold.specs.Entries.{after_holds}
-use Rattle.iss_hold.specs.Bounds.{AreWithin, AreLow}
+use Rattle.iss_chain.specs.Values.{ChainNow, chain_after_entry}
+use Rattle.iss_chain.specs.Entering.{IsNewTxn, IsTxn, AreFit, StaysSmall, IsEnterable}
+use Rattle.iss_chain.specs.Bounds.{IsReached}
+use Rattle.iss_chain.proofs.Reach.{entry_reach, reached_small, stays_small}
 use Rattle.iss_core.specs.declared.state.State.{State}
 use Rattle.iss_core.specs.States.{state_of, with_decision, Made}
 use Rattle.iss_core.specs.declared.purchases.Purchase.{Purchase}
 use Rattle.iss_core.specs.Purchases.{unless, purchase_txn, card_purchase_txn, product_purchase_txn, approved_entries, purchase_entries}
 use Rattle.iss_core.specs.Sound.{is_begun, is_own}
 use Rattle.iss_core.proofs.Kept.{found_passes}
-use Rattle.iss_core.proofs.Reaching.{within_small, within_changed, nothing_within, change_within, far_below, some_amount, most_amount}
+use Rattle.iss_core.proofs.Reaching.{far_below, some_amount, most_amount}
 
 -- ---- cards and products that are found
 
@@ -231,13 +234,6 @@ same_name a = (bytes_eq-Decides a a).1 refl
 pub begun_named : (h : Holdings) (t : Txn) → txn_named t.token h.txns ≡ None → txn_named t.token (with_txn h t).txns ≡ Some (record { txn = t; live = is_live h.txns t.token })
 begun_named h t none = find-last (λ (x : TxnNow). bytes_eq x.txn.token t.token) h.txns (record { txn = t; live = is_live h.txns t.token }) none (same_name t.token)
 
--- what is held of it is one hold
-pub begun_held : (h : Holdings) (t : Txn) (amount : ℕ) → txn_named t.token h.txns ≡ None → nat_le 1 amount ≡ true
-    → after_holds (with_txn h t) t.token (λ x. hold_entries x part.S amount) ≡ with_hold (with_txn h t) (entry.Hold t.token t.user t.currency part.S (pos amount))
-begun_held h t amount none some =
-    ap (λ (o : Option TxnNow). fold with_hold (with_txn h t) (entries_of_holds.entries_on o (λ x. hold_entries x part.S amount))) (begun_named h t none)
-    ∙ ap (λ (zero : Bool). fold with_hold (with_txn h t) (cond zero [] (entry.Hold t.token t.user t.currency part.S (pos amount) ∷ []))) (not_nothing amount some)
-
 later_number : (n m k : ℕ) → n ≡ m → nat_le k (m - 1) ≡ true → 0 < m → nat_eq n k ≡ false
 later_number n m k e h first = grind (arith, nat_tests)
 
@@ -251,37 +247,31 @@ new_origin accepted count origin (t ∷ ts) first e h =
     ap (λ (b : Bool). b || list_any (λ (x : TxnNow). nat_eq origin x.txn.origin) ts) (later_number origin count t.txn.origin e named.1 first)
     ∙ new_origin accepted count origin ts first e parts.1
 
--- the same of what calls leave under other names
-pub begun_stands : (h after : Holdings) (t : Txn) → after ≡ with_txn h t → txn_named t.token h.txns ≡ None → IsSome (txn_named t.token after.txns)
-begun_stands h after t started none =
-    subst (λ (x : Holdings). IsSome (txn_named t.token x.txns)) (sym started) (subst (λ (o : Option TxnNow). IsSome o) (sym (begun_named h t none)) refl)
+-- the entries of a transaction that begins fit the chain
+pub approved_fit : (c : ChainNow) (t : Txn) (amount at : ℕ) → IsNewTxn c.holdings t → AreFit c (approved_entries t amount at)
+approved_fit c t amount at new =
+    let stands : IsTxn (with_txn c.holdings t) t = ap (option_map (λ (now : TxnNow). now.txn)) (begun_named c.holdings t new.unknown) in
+    (new, (tt, (record { its = t; stands = stands; of_txn = refl; of_user = refl; of_currency = refl; covered = tt }, (tt, tt))))
 
-pub begun_holds : (h first second : Holdings) (t : Txn) (amount : ℕ) → first ≡ with_txn h t → second ≡ after_holds first t.token (λ x. hold_entries x part.S amount)
-    → txn_named t.token h.txns ≡ None → nat_le 1 amount ≡ true → second ≡ with_hold (with_txn h t) (entry.Hold t.token t.user t.currency part.S (pos amount))
-begun_holds h first second t amount started added none some =
-    added ∙ ap (λ (x : Holdings). after_holds x t.token (λ y. hold_entries y part.S amount)) started ∙ begun_held h t amount none some
+-- and leave small sums
+pub approved_small : (count amount at : ℕ) (c : ChainNow) (t : Txn) → count < 2 ^ 30 → is_amount amount ≡ true → IsReached ((count - 1) * GREATEST_AMOUNT) c → StaysSmall c (approved_entries t amount at)
+approved_small count amount at c t room form reached =
+    let below = far_below count amount room (most_amount amount form) in
+    stays_small ((count - 1) * GREATEST_AMOUNT) c (approved_entries t amount at) (omega (arith, below)) reached
 
--- what is held stays below the greatest sum
-pub begun_low : (count amount : ℕ) (h first : Holdings) (t : Txn) → count < 2 ^ 30 → is_amount amount ≡ true → first ≡ with_txn h t → txn_named t.token h.txns ≡ None
-    → AreWithin ((count - 1) * GREATEST_AMOUNT) h.held → AreLow (after_holds first t.token (λ x. hold_entries x part.S amount)).held
-begun_low count amount h first t room form started none within key =
-    let n = (count - 1) * GREATEST_AMOUNT in
-    let held_now = with_hold (with_txn h t) (entry.Hold t.token t.user t.currency part.S (pos amount)) in
-    let below : (n + 0) + amount < 2 ^ 62 = omega (arith, far_below count amount room (most_amount amount form)) in
-    let small : AreSmall (after_holds first t.token (λ x. hold_entries x part.S amount)).held =
-    subst (λ (x : Holdings). AreSmall x.held) (sym (begun_holds h first (after_holds first t.token (λ x. hold_entries x part.S amount)) t amount started refl none (some_amount amount form)))
-    (within_small ((n + 0) + amount) held_now.held below
-    (within_changed (n + 0) amount (with_txn h t).held (record { key = user_key t.user t.currency; by = pos amount } ∷ [])
-    (within_changed n 0 h.held (begun_held_changes t) within (nothing_within (user_key t.user t.currency)))
-    (change_within amount (user_key t.user t.currency)))) in
-    let at_key : IsSmall (kept_at (after_holds first t.token (λ x. hold_entries x part.S amount)).held key) = small key in
-    at_key.high
-
--- and the state has the entries of the purchase
-pub begun_state : (s : State) (t : Txn) (amount at : ℕ) (holds : Holdings) (decisions : List Decision) → holds ≡ with_hold (with_txn s.holds t) (entry.Hold t.token t.user t.currency part.S (pos amount))
+-- and the state has them
+pub begun_state : (s : State) (t : Txn) (amount at : ℕ) (chain : ChainNow) (decisions : List Decision) → chain ≡ fold chain_after_entry s.chain (approved_entries t amount at)
     → decisions ≡ s.decisions ++ record { event = t.token; verdict = verdict.Approved } ∷ []
-    → state_of (record s { holds = holds; decisions = decisions }) ≡ fold after_entry (state_of s) (approved_entries t amount at)
-begun_state s t amount at holds decisions hold_entries decided = λ i. record (state_of s) { holdings = hold_entries i; decisions = decided i }
+    → state_of (record s { chain = chain; decisions = decisions }) ≡ fold after_entry (state_of s) (approved_entries t amount at)
+begun_state s t amount at chain decisions entered decided = λ i. state_of (record s { chain = entered i; decisions = decided i })
+
+-- a load's post can be entered
+pub load_enterable : (count amount : ℕ) (c : ChainNow) (user : List ℕ) (currency : Currency) → count < 2 ^ 30 → is_amount amount ≡ true → IsReached ((count - 1) * GREATEST_AMOUNT) c
+    → IsEnterable c (entry.Post (account.Programme currency) (account.User user currency) amount None)
+load_enterable count amount c user currency room form reached =
+    let post = entry.Post (account.Programme currency) (account.User user currency) amount None in
+    let below = far_below count amount room (most_amount amount form) in
+    record { fits = tt; small = reached_small ((count - 1) * GREATEST_AMOUNT + amount) (chain_after_entry c post) below (entry_reach ((count - 1) * GREATEST_AMOUNT) c post reached) }
 
 -- ---- what calls answer
 

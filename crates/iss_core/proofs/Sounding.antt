@@ -25,6 +25,7 @@ use Rattle.iss_model.specs.declared.input.Input.{Input}
 use Rattle.iss_model.specs.declared.input.Input.TheVariants as input
 use Rattle.iss_model.specs.declared.input.Record.{Record}
 use Rattle.iss_model.specs.declared.entry.Entry.{Entry}
+use Rattle.iss_model.specs.declared.entry.Entry.TheVariants as entry
 use Rattle.iss_model.specs.Currencies.{same_currency}
 use Rattle.iss_model.specs.Inputs.{event_token, is_event, is_text}
 use Rattle.iss_model.specs.Sums.{user_key}
@@ -42,13 +43,15 @@ use Rattle.iss_core.specs.Built.{is_built, is_built_entry}
 use Rattle.iss_model.specs.state.Cores.{CoreState, no_core, ProductNow, ControlKept, control_facts, with_txn, begun_held_changes, is_live, core_facts, after_entry, with_record}
 use Rattle.iss_model.proofs.Names.{one_name}
 use Rattle.iss_model.proofs.Lists.{all_weaker}
-use Rattle.iss_hold.specs.Bounds.{IsWithin, AreWithin}
+use Rattle.iss_chain.specs.Values.{ChainNow, chain_part}
+use Rattle.iss_chain.specs.Bounds.{IsReached, moved}
+use Rattle.iss_chain.proofs.Reach.{reached_more, entry_reach, entries_reach, none_reached}
 use Rattle.iss_core.specs.declared.purchases.Purchase.{Purchase}
 use Rattle.iss_core.specs.Values.{IsQuiet}
 use Rattle.iss_core.specs.States.{Made}
 use Rattle.iss_core.specs.Purchases.{unless, purchase_txn, card_purchase_txn, product_purchase_txn, approved_entries, purchase_entries}
 use Rattle.iss_core.specs.Sound.{is_begun, is_own, IsSoundAt, IsSound, IsTakenUp}
-use Rattle.iss_core.proofs.Reaching.{within_more, within_changed, nothing_within, change_within, within_post, some_amount, most_amount}
+use Rattle.iss_core.proofs.Reaching.{some_amount, most_amount}
 use Rattle.iss_core.proofs.Purchased.{own_hold, own_funding, bought_made, begun_by}
 use Rattle.iss_core.proofs.Quiet.{due_more}
 
@@ -81,8 +84,7 @@ ready s r sound room =
       sound =
           subst (λ (n : ℕ). IsSoundAt n (with_record s r)) same
           (record {
-            balances = sound.balances;
-            held = sound.held;
+            reached = sound.reached;
             begun = all_weaker (is_begun s.accepted s.count) (is_begun (s.accepted ++ more) s.count) (begun_grows s.accepted more s.count) s.holdings.txns sound.begun;
             own = sound.own;
           });
@@ -151,8 +153,7 @@ pub still_sound : (s : CoreState) → IsTakenUp s → IsSoundAt s.count s
 still_sound s ready =
     let old = ready.sound in
     record {
-      balances = within_more ((s.count - 1) * GREATEST_AMOUNT) (s.count * GREATEST_AMOUNT) s.balances (weaker_bound s.count) old.balances;
-      held = within_more ((s.count - 1) * GREATEST_AMOUNT) (s.count * GREATEST_AMOUNT) s.holdings.held (weaker_bound s.count) old.held;
+      reached = reached_more ((s.count - 1) * GREATEST_AMOUNT) (s.count * GREATEST_AMOUNT) (chain_part s) (weaker_bound s.count) old.reached;
       begun = begun_later s.accepted (s.count - 1) s.count s.holdings.txns (one_less s.count) old.begun;
       own = old.own;
     }
@@ -162,26 +163,25 @@ abbrev due_by : ℕ → List CallNow → List TxnNow → List DueItem
 due_by at calls txns = fold items_with [] (filter (λ (item : DueItem). nat_le item.since at) (map due_call (filter is_asked calls) ++ map due_txn (filter (λ (t : TxnNow). t.live) txns)))
 
 -- settings but products, and declined events, touch neither sums nor transactions
-untouched : (at : ℕ) (s after : CoreState) → IsTakenUp s → after.balances ≡ s.balances → after.holdings ≡ s.holdings → after.accepted ≡ s.accepted → after.products ≡ s.products → after.calls ≡ s.calls
+untouched : (at : ℕ) (s after : CoreState) → IsTakenUp s → chain_part after ≡ chain_part s → after.accepted ≡ s.accepted → after.products ≡ s.products → after.calls ≡ s.calls
     → IsKeptBy at s after
-untouched at s after ready balances holdings accepted products calls =
+untouched at s after ready chain accepted products calls =
     let old = still_sound s ready in
     record {
       sound =
           record {
-            balances = subst (λ (k : Kept). AreWithin (s.count * GREATEST_AMOUNT) k) (sym balances) old.balances;
-            held = subst (λ h. AreWithin (s.count * GREATEST_AMOUNT) h.held) (sym holdings) old.held;
-            begun = ap (λ h. list_all (is_begun after.accepted s.count) h.txns) holdings ∙ ap (λ a. list_all (is_begun a s.count) s.holdings.txns) accepted ∙ old.begun;
+            reached = subst (λ (c : ChainNow). IsReached (s.count * GREATEST_AMOUNT) c) (sym chain) old.reached;
+            begun = ap (λ (c : ChainNow). list_all (is_begun after.accepted s.count) c.holdings.txns) chain ∙ ap (λ a. list_all (is_begun a s.count) s.holdings.txns) accepted ∙ old.begun;
             own = ap (λ ps. list_all is_own ps) products ∙ old.own;
           };
-      due = ap (λ h. due_by at after.calls h.txns) holdings ∙ ap (λ cs. due_by at cs s.holdings.txns) calls;
+      due = ap (λ (c : ChainNow). due_by at after.calls c.holdings.txns) chain ∙ ap (λ cs. due_by at cs s.holdings.txns) calls;
     }
 
 -- an event with a reason, or without one
 either : (at : ℕ) (s : CoreState) (why : Option Reason) (token : List ℕ) (entries : List Entry) → IsTakenUp s → IsKeptBy at s (fold after_entry s entries)
     → IsKeptBy at s (fold after_entry s (unless_declined why token entries))
 either at s None token entries ready kept = kept
-either at s (Some why) token entries ready kept = untouched at s (fold after_entry s (unless_declined (Some why) token entries)) ready refl refl refl refl refl
+either at s (Some why) token entries ready kept = untouched at s (fold after_entry s (unless_declined (Some why) token entries)) ready refl refl refl refl
 
 own_more : (products : List ProductNow) (p : ProductNow) → list_all is_own products ≡ true → is_own p ≡ true → list_all is_own (products ++ p ∷ []) ≡ true
 own_more products p own one = list_all-append is_own products (p ∷ []) ∙ both_true _ _ own (both_true (is_own p) true one refl)
@@ -194,8 +194,7 @@ product_kept at s token product currency funded timeout_ms hold_ms ready own hol
     record {
       sound =
           record {
-            balances = old.balances;
-            held = old.held;
+            reached = old.reached;
             begun = old.begun;
             own = own_more s.products (record { product = record { name = product; currency = currency; funding = funded; timeout_ms = timeout_ms; hold_ms = hold_ms }; on = false }) old.own (both_true (is_account_funded funded) (is_hold_time hold_ms) own holds);
           };
@@ -213,10 +212,9 @@ load_kept at s token user currency amount ready form =
     record {
       sound =
           record {
-            balances =
-                within_more ((s.count - 1) * GREATEST_AMOUNT + amount) (s.count * GREATEST_AMOUNT) after.balances (amount_fits s.count amount ready.first (most_amount amount form))
-                (within_post ((s.count - 1) * GREATEST_AMOUNT) amount s.balances (account.Programme currency) (account.User user currency) ready.sound.balances);
-            held = old.held;
+            reached =
+                reached_more ((s.count - 1) * GREATEST_AMOUNT + amount) (s.count * GREATEST_AMOUNT) (chain_part after) (amount_fits s.count amount ready.first (most_amount amount form))
+                (entry_reach ((s.count - 1) * GREATEST_AMOUNT) (chain_part s) (entry.Post (account.Programme currency) (account.User user currency) amount None) ready.sound.reached);
             begun = old.begun;
             own = old.own;
           };
@@ -269,16 +267,13 @@ purchased_kept s p t ready form none known e =
     let n = (s.count - 1) * GREATEST_AMOUNT in
     let row : TxnNow = record { txn = t; live = is_live s.holdings.txns t.token } in
     let after = fold after_entry s (approved_entries t p.amount p.at) in
-    let reach : (n + 0) + p.amount ≤ s.count * GREATEST_AMOUNT = omega (arith, amount_fits s.count p.amount ready.first (most_amount p.amount form)) in
+    let reach : n + moved (approved_entries t p.amount p.at) ≤ s.count * GREATEST_AMOUNT = omega (arith, amount_fits s.count p.amount ready.first (most_amount p.amount form)) in
     record {
       sound =
           record {
-            balances = old.balances;
-            held =
-                within_more ((n + 0) + p.amount) (s.count * GREATEST_AMOUNT) after.holdings.held reach
-                (within_changed (n + 0) p.amount (with_txn s.holdings t).held (record { key = user_key t.user t.currency; by = pos p.amount } ∷ [])
-                (within_changed n 0 s.holdings.held (begun_held_changes t) ready.sound.held (nothing_within (user_key t.user t.currency)))
-                (change_within p.amount (user_key t.user t.currency)));
+            reached =
+                reached_more (n + moved (approved_entries t p.amount p.at)) (s.count * GREATEST_AMOUNT) (chain_part after) reach
+                (entries_reach n (chain_part s) (approved_entries t p.amount p.at) ready.sound.reached);
             begun =
                 begun_more s.accepted s.count s.holdings.txns row old.begun
                 (begun_now s.accepted s.count row (ap (λ (token : List ℕ). is_some (find (λ (a : Accepted). is_event token a.input) s.accepted)) is.token ∙ known) is.origin);
@@ -290,7 +285,7 @@ purchased_kept s p t ready form none known e =
 purchase_kept : (s : CoreState) (p : Purchase) (o : Result Txn Reason) → IsTakenUp s → is_amount p.amount ≡ true → s.controls ≡ [] → is_some (find (λ (a : Accepted). is_event p.token a.input) s.accepted) ≡ true
     → o ≡ purchase_txn (core_facts s) p → IsKeptBy p.at s (fold after_entry s (purchase_entries p o))
 purchase_kept s p (Ok t) ready form none known e = purchased_kept s p t ready form none known e
-purchase_kept s p (Err why) ready form none known e = untouched p.at s (fold after_entry s (unless_declined (Some why) p.token [])) ready refl refl refl refl refl
+purchase_kept s p (Err why) ready form none known e = untouched p.at s (fold after_entry s (unless_declined (Some why) p.token [])) ready refl refl refl refl
 
 -- an authorisation in form makes the entries of its purchase
 purchase_made : (s : CoreState) (p : Purchase) (at : ℕ) → IsTakenUp s → is_in_form (input.Authorization p.token p.card p.currency p.amount p.mcc p.mid) ≡ true → s.controls ≡ []
@@ -305,13 +300,13 @@ pub entries_keep : (s : CoreState) (i : Input) (at : ℕ) → IsTakenUp s → is
     → ((token : List ℕ) → event_token i ≡ Some token → is_some (find (λ (a : Accepted). is_event token a.input) s.accepted) ≡ true)
     → IsKeptBy at s (fold after_entry s (entries_of i at (core_facts s)))
 entries_keep s (input.User token user) at ready built form none known =
-    either at s (user_reason (core_facts s) user) token (setting_entries (input.User token user) token) ready (untouched at s _ ready refl refl refl refl refl)
+    either at s (user_reason (core_facts s) user) token (setting_entries (input.User token user) token) ready (untouched at s _ ready refl refl refl refl)
 entries_keep s (input.Card token card user product active) at ready built form none known =
-    either at s (card_reason (core_facts s) card user product) token (setting_entries (input.Card token card user product active) token) ready (untouched at s _ ready refl refl refl refl refl)
+    either at s (card_reason (core_facts s) card user product) token (setting_entries (input.Card token card user product active) token) ready (untouched at s _ ready refl refl refl refl)
 entries_keep s (input.Move token (moved.Card card to)) at ready built form none known =
-    either at s (card_move_reason (card_named card s.cardholders.cards) to) token (setting_entries (input.Move token (moved.Card card to)) token) ready (untouched at s _ ready refl refl refl refl refl)
+    either at s (card_move_reason (card_named card s.cardholders.cards) to) token (setting_entries (input.Move token (moved.Card card to)) token) ready (untouched at s _ ready refl refl refl refl)
 entries_keep s (input.Move token (moved.User user to)) at ready built form none known =
-    either at s (user_move_reason (user_named user s.cardholders.users) to) token (setting_entries (input.Move token (moved.User user to)) token) ready (untouched at s _ ready refl refl refl refl refl)
+    either at s (user_move_reason (user_named user s.cardholders.users) to) token (setting_entries (input.Move token (moved.User user to)) token) ready (untouched at s _ ready refl refl refl refl)
 entries_keep s (input.Product token product currency funded timeout_ms hold_ms) at ready built form none known =
     either at s (product_reason (core_facts s) product) token (setting_entries (input.Product token product currency funded timeout_ms hold_ms) token) ready
     (product_kept at s token product currency funded timeout_ms hold_ms ready built (and_parts (is_timeout timeout_ms) (is_hold_time hold_ms) form).1)
@@ -357,13 +352,4 @@ made_keeps before after r entries ready built form none quiet counted made =
 
 -- a core without a record is sound
 pub sound_begins : IsSound no_core
-sound_begins =
-    record {
-      balances = λ key. nothing_kept_within key;
-      held = λ key. nothing_kept_within key;
-      begun = refl;
-      own = refl;
-    }
-  where
-    nothing_kept_within : (key : List ℕ) → IsWithin 0 (kept_at nothing_kept key)
-    nothing_kept_within key = subst (λ (z : ℤ). IsWithin 0 z) (sym (ap (λ (o : Option ℤ). unwrap_or o (pos 0)) (finite.get-empty (slice_cmp nat_cmp) key))) (record { low = omega (arith, ints); high = omega (arith, ints) })
+sound_begins = record { reached = none_reached; begun = refl; own = refl }

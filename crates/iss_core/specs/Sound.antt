@@ -8,7 +8,8 @@ use Rattle.iss_model.specs.rules.Activity.{TxnNow}
 use Rattle.iss_model.specs.rules.Facts.{Accepted}
 use Rattle.iss_model.specs.rules.CardReasons.{is_account_funded}
 use Rattle.iss_model.specs.state.Cores.{CoreState, ProductNow}
-use Rattle.iss_hold.specs.Bounds.{AreWithin}
+use Rattle.iss_chain.specs.Values.{chain_part}
+use Rattle.iss_chain.specs.Bounds.{IsReached}
 
 -- a transaction is named by an accepted event, and began with one of so many records
 abbrev pub is_begun : List Accepted → ℕ → TxnNow → Bool
@@ -20,8 +21,7 @@ is_own p = is_account_funded p.product.funding && is_hold_time p.product.hold_ms
 
 -- What holds of a state when so many records have made their entries: each moved at most the greatest amount.
 pub record IsSoundAt (records : ℕ) (s : CoreState) : Type 0 where
-  pub balances : AreWithin (records * GREATEST_AMOUNT) s.balances
-  pub held : AreWithin (records * GREATEST_AMOUNT) s.holdings.held
+  pub reached : IsReached (records * GREATEST_AMOUNT) (chain_part s)
   pub begun : list_all (is_begun s.accepted records) s.holdings.txns ≡ true
   pub own : list_all is_own s.products ≡ true
 

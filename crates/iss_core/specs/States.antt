@@ -21,9 +21,9 @@ state_of p =
       groups = [];
       controls = [];
       stand_ins = record { sets = []; stood = nothing_kept };
-      balances = p.ledger;
-      holdings = p.holds;
-      txn_sums = record { cleared = nothing_kept; refunded = nothing_kept; paid = nothing_kept };
+      balances = p.chain.balances;
+      holdings = p.chain.holdings;
+      txn_sums = p.chain.txn_sums;
       calls = [];
       outbox = record { made = 0; pending = [] };
     }

@@ -131,7 +131,7 @@ impl Core {
         ensures on_book { (rs : List Record) → StandsFor self.now rs
             → result ≡ balance_in (history_facts (history_of rs)) account.now }
     {
-        self.state.ledger.balance(account)
+        self.state.chain.balance(account)
     }
 
     /// What all transactions of a user hold in a currency, in minor units.
@@ -140,7 +140,7 @@ impl Core {
         ensures on_book { (rs : List Record) → StandsFor self.now rs
             → result ≡ held_in (history_facts (history_of rs)) user.now currency }
     {
-        self.state.holds.held_by(user, currency)
+        self.state.chain.held_by(user, currency)
     }
 
     /// How an event was decided, or that it is pending. `None` where there is no such event.
@@ -163,6 +163,6 @@ impl Core {
         ensures on_book { (rs : List Record) → StandsFor self.now rs
             → IfOk result (λ v. map account_key v.items ≡ map account_key (accounts_of (history_of rs).rows)) }
     {
-        self.state.ledger.accounts(alloc)
+        self.state.chain.accounts(alloc)
     }
 }

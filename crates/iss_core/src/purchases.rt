@@ -53,20 +53,16 @@ impl State {
         if let Some(why) = self.load_reason(user) {
             return self.decline(alloc, token, why);
         }
-        let from = Account::Programme(currency);
-        let to = Account::User(*user, currency);
-        self.ledger.post(&from, &to, amount)?;
+        let post = Entry::Post {
+            from: Account::Programme(currency),
+            to: Account::User(*user, currency),
+            amount,
+            txn: None,
+        };
+        self.chain.enter(&post)?;
         self.decisions.add(token, Verdict::Done)?;
         let done = Entry::Decided(*token, Verdict::Done);
-        Ok(vec![in alloc;
-            Entry::Post {
-                from,
-                to,
-                amount,
-                txn: None
-            },
-            done,
-        ]?)
+        Ok(vec![in alloc; post, done]?)
     }
 
     /// Judges a purchase, and where it isn't declined begins its transaction and holds its amount.
@@ -78,7 +74,7 @@ impl State {
         requires taken_up { IsTakenUp (state_of self.old) }
         requires amount { IsTrue (is_amount purchase.now.amount) }
         requires stamp { IsTrue (is_stamp purchase.now.at) }
-        requires unknown { txn_named purchase.now.token self.old.holds.txns ≡ None }
+        requires unknown { txn_named purchase.now.token self.old.chain.holdings.txns ≡ None }
         ensures { IfOk result (λ entries. Made (input.Authorization purchase.now.token purchase.now.card purchase.now.currency
             purchase.now.amount purchase.now.mcc purchase.now.mid) purchase.now.at (state_of self.old) (state_of self.new) entries.items) }
     {
@@ -173,8 +169,8 @@ impl State {
     fn is_short(&self, user: &Token, currency: Currency, amount: u64) -> bool
         ensures { result ≡ int_lt (available_in (core_facts (state_of self.now)) user.now currency) (pos amount) }
     {
-        let balance = self.ledger.balance(&Account::User(*user, currency));
-        let held = self.holds.held_by(user, currency);
+        let balance = self.chain.balance(&Account::User(*user, currency));
+        let held = self.chain.held_by(user, currency);
         i128::from(balance) - i128::from(held) < i128::from(amount)
     }
 
@@ -188,15 +184,15 @@ impl State {
     ) -> Result<Vec<Entry>, AllocError>
         requires taken_up { IsTakenUp (state_of self.old) }
         requires amount { IsTrue (is_amount amount) }
-        requires unknown { txn_named txn.now.token self.old.holds.txns ≡ None }
+        requires unknown { txn_named txn.now.token self.old.chain.holdings.txns ≡ None }
         requires origin { txn.now.origin ≡ self.old.count }
         ensures entries { IfOk result (λ entries. entries.items ≡ approved_entries txn.now amount at) }
         ensures state { OnOk result (state_of self.new ≡ fold after_entry (state_of self.old) (approved_entries txn.now amount at)) }
     {
-        self.holds.start(txn)?;
-        self.holds.add(&txn.token, Part::S, amount);
+        let entries = begun(alloc, txn, amount, at)?;
+        self.chain.enter_all(&entries)?;
         self.decisions.add(&txn.token, Verdict::Approved)?;
-        begun(alloc, txn, amount, at)
+        Ok(entries)
     }
 }
 

@@ -17,8 +17,7 @@ use crate::decisions::Decisions;
 use crate::events::{Accepted, Events};
 use crate::purchases::Purchase;
 use iss_card::Cards;
-use iss_hold::Holds;
-use iss_ledger::Ledger;
+use iss_chain::Chain;
 use iss_model::{Answer, Entry, Input, Product, Reason, Record, Token, Verdict};
 use iss_product::Products;
 use std::alloc::{AllocError, Global};
@@ -32,8 +31,7 @@ pub(crate) struct State {
     pub(crate) decisions: Decisions,
     pub(crate) cards: Cards,
     pub(crate) products: Products,
-    pub(crate) ledger: Ledger,
-    pub(crate) holds: Holds,
+    pub(crate) chain: Chain,
 }
 
 impl State {
@@ -48,8 +46,7 @@ impl State {
             decisions: Decisions::new(alloc),
             cards: Cards::new(alloc),
             products: Products::new(alloc)?,
-            ledger: Ledger::new(alloc)?,
-            holds: Holds::new(alloc)?,
+            chain: Chain::new(alloc)?,
         })
     }
 
@@ -127,7 +124,7 @@ impl State {
         requires input_form { IsTrue (is_in_form accepted.now.input) }
         requires stamp_form { IsTrue (is_stamp accepted.now.at) }
         requires unknown { (token : List ℕ) → event_token accepted.now.input ≡ Some token
-            → txn_named token self.old.holds.txns ≡ None }
+            → txn_named token self.old.chain.holdings.txns ≡ None }
         ensures made { IfOk result (λ entries. Made accepted.now.input accepted.now.at (state_of self.old) (state_of self.new) entries.items) }
     {
         match &accepted.input {

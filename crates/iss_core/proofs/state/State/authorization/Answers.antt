@@ -10,7 +10,7 @@ use Rattle.iss_core.proofs.state.State.authorization.Goals as goal
 
 pub begin-requires-clause-unknown : goal.begin-requires-clause-unknown
 begin-requires-clause-unknown c =
-    ap (λ token. txn_named token c.args.self.now.holds.txns) (begun_by (core_facts (state_of c.args.self.now)) c.args.purchase.now c.in-Ok.txn c.in-Ok.ensures).token ∙ c.requires.unknown
+    ap (λ token. txn_named token c.args.self.now.chain.holdings.txns) (begun_by (core_facts (state_of c.args.self.now)) c.args.purchase.now c.in-Ok.txn c.in-Ok.ensures).token ∙ c.requires.unknown
 
 pub begin-requires-clause-origin : goal.begin-requires-clause-origin
 begin-requires-clause-origin c = (begun_by (core_facts (state_of c.args.self.now)) c.args.purchase.now c.in-Ok.txn c.in-Ok.ensures).origin

@@ -1,23 +1,30 @@
-use Rattle.iss_core.proofs.Reaching.{some_amount}
-use Rattle.iss_core.proofs.Purchased.{new_origin, begun_stands, begun_low, begun_holds, begun_state, on_ok}
+use Rattle.std.proofs.Common.{List, fold, sym, ap, subst, ◌∙◌}
+use Rattle.iss_model.specs.declared.entry.Entry.{Entry}
+use Rattle.iss_chain.specs.Values.{chain_after_entry}
+use Rattle.iss_chain.specs.Entering.{AreFit, StaysSmall}
+use Rattle.iss_core.proofs.Purchased.{new_origin, approved_fit, approved_small, begun_state}
 use Rattle.iss_core.proofs.state.State.begin.Goals as goal
 
-pub start-requires-clause-origin : goal.start-requires-clause-origin
-start-requires-clause-origin c =
-    new_origin c.args.self.now.events c.args.self.now.count c.args.txn.now.origin c.args.self.now.holds.txns c.requires.taken_up.first c.requires.origin c.requires.taken_up.sound.begun
+pub enter_all-requires-clause-fit : goal.enter_all-requires-clause-fit
+enter_all-requires-clause-fit c =
+    let s = c.args.self.now in
+    let t = c.args.txn.now in
+    subst (λ (es : List Entry). AreFit s.chain es) (sym (c.deref.ensures.value ∙ c.in_ok-entries.ensures))
+    (approved_fit s.chain t c.args.amount c.args.at
+    (record {
+      unknown = c.requires.unknown;
+      origin = new_origin s.events s.count t.origin s.chain.holdings.txns c.requires.taken_up.first c.requires.origin c.requires.taken_up.sound.begun;
+    }))
 
-pub add-requires-clause-started : goal.add-requires-clause-started
-add-requires-clause-started c = begun_stands c.args.self.now.holds c.start.new.self c.args.txn.now c.in_ok-start.ensures.started c.requires.unknown
-
-pub add-requires-clause-small : goal.add-requires-clause-small
-add-requires-clause-small c =
-    begun_low c.args.self.now.count c.args.amount c.args.self.now.holds c.start.new.self c.args.txn.now c.requires.taken_up.room c.requires.amount
-    c.in_ok-start.ensures.started c.requires.unknown c.requires.taken_up.sound.held
+pub enter_all-requires-clause-small : goal.enter_all-requires-clause-small
+enter_all-requires-clause-small c =
+    let s = c.args.self.now in
+    subst (λ (es : List Entry). StaysSmall s.chain es) (sym (c.deref.ensures.value ∙ c.in_ok-entries.ensures))
+    (approved_small s.count c.args.amount c.args.at s.chain c.args.txn.now c.requires.taken_up.room c.requires.amount c.requires.taken_up.sound.reached)
 
 pub returns-clause-state : goal.returns-clause-state
 returns-clause-state c =
-    on_ok c.begun.result
-    (begun_state c.args.self.now c.args.txn.now c.args.amount c.args.at c.add.new.self c.add-2.new.self
-    (begun_holds c.args.self.now.holds c.start.new.self c.add.new.self c.args.txn.now c.args.amount c.in_ok-start.ensures.started c.add.ensures
-    c.requires.unknown (some_amount c.args.amount c.requires.amount))
-    c.in_ok-add.ensures)
+    let s = c.args.self.now in
+    begun_state s c.args.txn.now c.args.amount c.args.at c.enter_all.new.self c.add.new.self
+    (c.in_ok-enter_all.ensures ∙ ap (λ (es : List Entry). fold chain_after_entry s.chain es) (c.deref.ensures.value ∙ c.in_ok-entries.ensures))
+    c.in_ok-add.ensures
