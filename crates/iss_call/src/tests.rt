@@ -162,5 +162,7 @@ fn five_thousand(rt: HostRuntime) -> Result<(), Fail> {
     assert!(rt; !calls.is_due(4999) && calls.is_due(10_006));
     let left = calls.of_txn(rt.alloc(), &txn)?;
     assert_eq!(rt; due.len() + left.len(), 5000);
+    let asked = calls.asked(rt.alloc())?;
+    assert!(rt; asked.len() == left.len() && calls.asked_count() == left.len());
     Ok(())
 }
