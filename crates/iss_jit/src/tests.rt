@@ -1,8 +1,8 @@
 ghost use Rattle.std.specs.Prelude.{◌<◌, ◌^◌, IfOk};
-ghost use Rattle.iss_jit.specs.Messages.{IsRequest};
+ghost use Rattle.iss_jit.specs.Messages.{IsRequest, IsNotice};
 
-use crate::{answer, notice_text, request_text};
-use iss_model::{CallId, Currency, Method, Notice, Opened, Outcome, Token};
+use crate::{notice_text, request_text};
+use iss_model::{CallId, Currency, Method, Notice, Opened, Token};
 use std::test::Fail;
 use uuid::Uuid;
 
@@ -10,19 +10,19 @@ fn token(text: &str) -> Result<Token, Fail> {
     Ok(Token::new(text.as_bytes()).ok_or("no token")?)
 }
 
-/// A purchase `a1` with card `c1` of user `u1` at merchant `m1`.
-fn purchase(call: u32, currency: Currency, amount: u64) -> Result<Opened, Fail>
+/// A purchase in USD with card `c1` of user `u1` at merchant `m1`.
+pub(crate) fn purchase(call: u32, event: &str, amount: u64) -> Result<Opened, Fail>
     requires { amount < 2 ^ 62 }
     ensures { IfOk result (λ o. IsRequest o) }
 {
     Ok(Opened {
         call: CallId(call),
-        event: token("a1")?,
-        txn: token("a1")?,
+        event: token(event)?,
+        txn: token(event)?,
         method: Method::Authorization,
         card: token("c1")?,
         user: token("u1")?,
-        currency,
+        currency: Currency::Usd,
         mcc: 5411,
         mid: token("m1")?,
         amount,
@@ -32,12 +32,50 @@ fn purchase(call: u32, currency: Currency, amount: u64) -> Result<Opened, Fail>
 }
 
 #[test]
-fn asks_for_a_purchase(rt: HostRuntime) -> Result<(), Fail> {
-    let text = request_text(rt.alloc(), &purchase(1, Currency::Usd, 6000)?, 0)?;
-    assert!(rt;
-        text.as_slice()
-            == r#"{"amount":"60.00","card":"c1","currency":"USD","event":"a1","mcc":"5411","method":"pgfs.authorization","mid":"m1","number":1,"token":"00000000-0000-8000-8000-000000000001","txn":"a1","user":"u1"}"#.as_bytes()
-    );
+fn asks_for_purchases(rt: HostRuntime) -> Result<(), Fail> {
+    let purchases = [
+        (
+            1,
+            "a1",
+            6000,
+            r#"{"amount":"60.00","card":"c1","currency":"USD","event":"a1","mcc":"5411","method":"pgfs.authorization","mid":"m1","number":1,"token":"00000000-0000-8000-8000-000000000001","txn":"a1","user":"u1"}"#,
+        ),
+        (
+            2,
+            "a3",
+            6000,
+            r#"{"amount":"60.00","card":"c1","currency":"USD","event":"a3","mcc":"5411","method":"pgfs.authorization","mid":"m1","number":2,"token":"00000000-0000-8000-8000-000000000002","txn":"a3","user":"u1"}"#,
+        ),
+        (
+            1,
+            "a1",
+            10000,
+            r#"{"amount":"100.00","card":"c1","currency":"USD","event":"a1","mcc":"5411","method":"pgfs.authorization","mid":"m1","number":1,"token":"00000000-0000-8000-8000-000000000001","txn":"a1","user":"u1"}"#,
+        ),
+        (
+            2,
+            "a2",
+            1,
+            r#"{"amount":"0.01","card":"c1","currency":"USD","event":"a2","mcc":"5411","method":"pgfs.authorization","mid":"m1","number":2,"token":"00000000-0000-8000-8000-000000000002","txn":"a2","user":"u1"}"#,
+        ),
+        (
+            3,
+            "a3",
+            100,
+            r#"{"amount":"1.00","card":"c1","currency":"USD","event":"a3","mcc":"5411","method":"pgfs.authorization","mid":"m1","number":3,"token":"00000000-0000-8000-8000-000000000003","txn":"a3","user":"u1"}"#,
+        ),
+        (
+            1,
+            "a1",
+            2000,
+            r#"{"amount":"20.00","card":"c1","currency":"USD","event":"a1","mcc":"5411","method":"pgfs.authorization","mid":"m1","number":1,"token":"00000000-0000-8000-8000-000000000001","txn":"a1","user":"u1"}"#,
+        ),
+    ];
+    for (call, event, amount, text) in purchases {
+        assert!(rt; amount < 1_000_000);
+        let asked = request_text(rt.alloc(), &purchase(call, event, amount)?, 0)?;
+        assert!(rt; asked.as_slice() == text.as_bytes());
+    }
     Ok(())
 }
 
@@ -65,42 +103,131 @@ fn asks_for_an_increment(rt: HostRuntime) -> Result<(), Fail> {
     Ok(())
 }
 
-#[test]
-fn tells_that_a_call_ended(rt: HostRuntime) -> Result<(), Fail> {
-    let void = Notice {
-        number: 1,
+/// The end of a call in USD that no answer decided.
+fn void(number: u32, txn: &str, call: u32, amount: u64) -> Result<Notice, Fail>
+    requires { amount < 2 ^ 62 }
+    ensures { IfOk result (λ n. IsNotice n) }
+{
+    Ok(Notice {
+        number,
         method: Method::Void,
-        txn: token("a1")?,
+        txn: token(txn)?,
         user: token("u1")?,
         currency: Currency::Usd,
-        call: Some(CallId(1)),
-        amount: 6000,
+        call: Some(CallId(call)),
+        amount,
         gateway: 0,
-    };
-    let text = notice_text(rt.alloc(), &void, 0)?;
-    assert!(rt;
-        text.as_slice()
-            == r#"{"amount":"60.00","currency":"USD","gateway":"0.00","method":"x.void","notice":1,"token":"00000000-0000-8000-8000-000000000001","txn":"a1","user":"u1"}"#.as_bytes()
-    );
+    })
+}
+
+#[test]
+fn tells_that_calls_ended(rt: HostRuntime) -> Result<(), Fail> {
+    let voids = [
+        (
+            1,
+            "a1",
+            1,
+            6000,
+            r#"{"amount":"60.00","currency":"USD","gateway":"0.00","method":"x.void","notice":1,"token":"00000000-0000-8000-8000-000000000001","txn":"a1","user":"u1"}"#,
+        ),
+        (
+            1,
+            "a1",
+            1,
+            10000,
+            r#"{"amount":"100.00","currency":"USD","gateway":"0.00","method":"x.void","notice":1,"token":"00000000-0000-8000-8000-000000000001","txn":"a1","user":"u1"}"#,
+        ),
+        (
+            3,
+            "a2",
+            2,
+            1,
+            r#"{"amount":"0.01","currency":"USD","gateway":"0.00","method":"x.void","notice":3,"token":"00000000-0000-8000-8000-000000000002","txn":"a2","user":"u1"}"#,
+        ),
+        (
+            4,
+            "a3",
+            3,
+            100,
+            r#"{"amount":"1.00","currency":"USD","gateway":"0.00","method":"x.void","notice":4,"token":"00000000-0000-8000-8000-000000000003","txn":"a3","user":"u1"}"#,
+        ),
+    ];
+    for (number, txn, call, amount, text) in voids {
+        assert!(rt; amount < 1_000_000);
+        let told = notice_text(rt.alloc(), &void(number, txn, call, amount)?, 0)?;
+        assert!(rt; told.as_slice() == text.as_bytes());
+    }
     Ok(())
+}
+
+/// A clearing of a purchase in USD.
+fn capture(number: u32, txn: &str, amount: u64, gateway: u64) -> Result<Notice, Fail>
+    requires amount { amount < 2 ^ 62 }
+    requires gateway { gateway < 2 ^ 62 }
+    ensures { IfOk result (λ n. IsNotice n) }
+{
+    Ok(Notice {
+        number,
+        method: Method::Capture,
+        txn: token(txn)?,
+        user: token("u1")?,
+        currency: Currency::Usd,
+        call: None,
+        amount,
+        gateway: gateway,
+    })
 }
 
 #[test]
 fn tells_what_was_cleared(rt: HostRuntime) -> Result<(), Fail> {
-    let capture = Notice {
+    let captures = [
+        (
+            1,
+            "a1",
+            1500,
+            0,
+            r#"{"amount":"15.00","currency":"USD","gateway":"0.00","method":"pgfs.authorization.capture","notice":1,"txn":"a1","user":"u1"}"#,
+        ),
+        (
+            2,
+            "a1",
+            700,
+            0,
+            r#"{"amount":"7.00","currency":"USD","gateway":"0.00","method":"pgfs.authorization.capture","notice":2,"txn":"a1","user":"u1"}"#,
+        ),
+        (
+            2,
+            "a2",
+            3820,
+            1180,
+            r#"{"amount":"38.20","currency":"USD","gateway":"11.80","method":"pgfs.authorization.capture","notice":2,"txn":"a2","user":"u1"}"#,
+        ),
+    ];
+    for (number, txn, amount, gateway, text) in captures {
+        assert!(rt; amount < 1_000_000);
+        assert!(rt; gateway < 1_000_000);
+        let told = notice_text(rt.alloc(), &capture(number, txn, amount, gateway)?, 0)?;
+        assert!(rt; told.as_slice() == text.as_bytes());
+    }
+    Ok(())
+}
+
+#[test]
+fn tells_what_stood_in(rt: HostRuntime) -> Result<(), Fail> {
+    let stood = Notice {
         number: 2,
-        method: Method::Capture,
-        txn: token("a2")?,
+        method: Method::StandIn,
+        txn: token("a1")?,
         user: token("u1")?,
         currency: Currency::Usd,
         call: None,
-        amount: 3820,
-        gateway: 1180,
+        amount: 10000,
+        gateway: 0,
     };
-    let text = notice_text(rt.alloc(), &capture, 0)?;
+    let text = notice_text(rt.alloc(), &stood, 0)?;
     assert!(rt;
         text.as_slice()
-            == r#"{"amount":"38.20","currency":"USD","gateway":"11.80","method":"pgfs.authorization.capture","notice":2,"txn":"a2","user":"u1"}"#.as_bytes()
+            == r#"{"amount":"100.00","currency":"USD","gateway":"0.00","method":"x.standin","notice":2,"txn":"a1","user":"u1"}"#.as_bytes()
     );
     Ok(())
 }
@@ -130,228 +257,6 @@ fn tokens_as_another_implementation_makes_them(rt: HostRuntime) -> Result<(), Fa
         assert!(rt; instance < 281_474_976_710_656);
         let made = Uuid::parse_str(text).map_err(|_| "no UUID")?;
         assert!(rt; CallId(number).uuid(instance) == made);
-    }
-    Ok(())
-}
-
-/// Answers to call 1 of 60.00 USD at instance 0, with their outcomes.
-const ANSWERS: [(u16, &[u8], Outcome); 46] = [
-    (
-        200,
-        br#"{"token":"00000000-0000-8000-8000-000000000001","amount":60,"x":1}"#,
-        Outcome::Funded,
-    ),
-    (
-        200,
-        br#"{"amount":"60.00","token":"00000000-0000-8000-8000-000000000001"}"#,
-        Outcome::Funded,
-    ),
-    // Members and values that say the same.
-    (
-        200,
-        br#" { "amount" : 60 , "token" : "00000000-0000-8000-8000-000000000001" } "#,
-        Outcome::Funded,
-    ),
-    (
-        200,
-        br#"{"\u0061mount":"6\u0030.00","token":"00000000-0000-8000-8000-000000000001"}"#,
-        Outcome::Funded,
-    ),
-    (
-        200,
-        br#"{"amount":60,"token":"00000000000080008000000000000001"}"#,
-        Outcome::Funded,
-    ),
-    (
-        200,
-        br#"{"amount":60,"token":"{00000000-0000-8000-8000-000000000001}"}"#,
-        Outcome::Funded,
-    ),
-    (
-        200,
-        br#"{"amount":60,"token":"urn:uuid:00000000-0000-8000-8000-000000000001"}"#,
-        Outcome::Funded,
-    ),
-    // The last of two members counts.
-    (
-        200,
-        br#"{"amount":1,"token":7,"amount":60,"token":"00000000-0000-8000-8000-000000000001"}"#,
-        Outcome::Funded,
-    ),
-    (
-        200,
-        br#"{"amount":60,"token":"00000000-0000-8000-8000-000000000001","token":"00000000-0000-8000-8000-000000000002"}"#,
-        Outcome::Application,
-    ),
-    (
-        200,
-        br#"{"token":"00000000-0000-8000-8000-000000000001","amount":60,"amount":"59.99"}"#,
-        Outcome::Application,
-    ),
-    // Other members are passed over, whatever they hold.
-    (
-        200,
-        br#"{"amount":60,"token":"00000000-0000-8000-8000-000000000001","x":[{"amount":1,"token":null},[[[null]]]]}"#,
-        Outcome::Funded,
-    ),
-    (
-        200,
-        br#"{"amount":60,"token":"00000000-0000-8000-8000-000000000001","x":123456789012345678901234567890}"#,
-        Outcome::Funded,
-    ),
-    (
-        200,
-        br#"{"amount":60,"token":"00000000-0000-8000-8000-000000000001","x":1e999}"#,
-        Outcome::Application,
-    ),
-    // Other tokens.
-    (200, br#"{"amount":60}"#, Outcome::Application),
-    (200, br#"{"amount":60,"token":null}"#, Outcome::Application),
-    (200, br#"{"amount":60,"token":1}"#, Outcome::Application),
-    (
-        200,
-        br#"{"amount":60,"token":["00000000-0000-8000-8000-000000000001"]}"#,
-        Outcome::Application,
-    ),
-    (
-        200,
-        br#"{"amount":60,"token":{"token":"00000000-0000-8000-8000-000000000001"}}"#,
-        Outcome::Application,
-    ),
-    (
-        200,
-        br#"{"amount":60,"Token":"00000000-0000-8000-8000-000000000001"}"#,
-        Outcome::Application,
-    ),
-    (
-        200,
-        br#"{"amount":60,"token":"00000000-0000-8000-8000-000000000002"}"#,
-        Outcome::Application,
-    ),
-    (
-        200,
-        br#"{"amount":60,"token":"00000000-0001-8000-8000-000000000001"}"#,
-        Outcome::Application,
-    ),
-    (
-        200,
-        br#"{"amount":60,"token":"00000000-0000-8000-8000-00000000001"}"#,
-        Outcome::Application,
-    ),
-    (
-        200,
-        br#"{"amount":60,"token":"00000000-0000-8000-8000-000000000001 "}"#,
-        Outcome::Application,
-    ),
-    (200, br#"{"amount":60,"token":""}"#, Outcome::Application),
-    // Other amounts.
-    (
-        200,
-        br#"{"token":"00000000-0000-8000-8000-000000000001"}"#,
-        Outcome::Application,
-    ),
-    (
-        200,
-        br#"{"token":"00000000-0000-8000-8000-000000000001","amount":null}"#,
-        Outcome::Application,
-    ),
-    (
-        200,
-        br#"{"token":"00000000-0000-8000-8000-000000000001","amount":"59.99"}"#,
-        Outcome::Application,
-    ),
-    (
-        200,
-        br#"{"token":"00000000-0000-8000-8000-000000000001","amount":"60"}"#,
-        Outcome::Application,
-    ),
-    (
-        200,
-        br#"{"token":"00000000-0000-8000-8000-000000000001","amount":"60.000"}"#,
-        Outcome::Application,
-    ),
-    (
-        200,
-        br#"{"token":"00000000-0000-8000-8000-000000000001","amount":"060.00"}"#,
-        Outcome::Application,
-    ),
-    (
-        200,
-        br#"{"token":"00000000-0000-8000-8000-000000000001","amount":6000}"#,
-        Outcome::Application,
-    ),
-    (
-        200,
-        br#"{"token":"00000000-0000-8000-8000-000000000001","amount":60.0}"#,
-        Outcome::Application,
-    ),
-    (
-        200,
-        br#"{"token":"00000000-0000-8000-8000-000000000001","amount":6e1}"#,
-        Outcome::Application,
-    ),
-    (
-        200,
-        br#"{"token":"00000000-0000-8000-8000-000000000001","amount":-60}"#,
-        Outcome::Application,
-    ),
-    (
-        200,
-        br#"{"token":"00000000-0000-8000-8000-000000000001","amount":18446744073709551676}"#,
-        Outcome::Application,
-    ),
-    (
-        200,
-        br#"{"token":"00000000-0000-8000-8000-000000000001","amount":[60]}"#,
-        Outcome::Application,
-    ),
-    // No object.
-    (200, b"", Outcome::Application),
-    (200, b"null", Outcome::Application),
-    (
-        200,
-        br#"[{"amount":60,"token":"00000000-0000-8000-8000-000000000001"}]"#,
-        Outcome::Application,
-    ),
-    (
-        200,
-        br#"{"amount":60,"token":"00000000-0000-8000-8000-000000000001"} 1"#,
-        Outcome::Application,
-    ),
-    (
-        200,
-        br#"{"amount":60,"token":"00000000-0000-8000-8000-000000000001","#,
-        Outcome::Application,
-    ),
-    (
-        200,
-        b"{\"amount\":60,\"token\":\"00000000-0000-8000-8000-000000000001\",\"x\":\"\xff\"}",
-        Outcome::Application,
-    ),
-    // Other statuses.
-    (402, b"", Outcome::Refused),
-    (
-        402,
-        br#"{"amount":60,"token":"00000000-0000-8000-8000-000000000001"}"#,
-        Outcome::Refused,
-    ),
-    (
-        201,
-        br#"{"amount":60,"token":"00000000-0000-8000-8000-000000000001"}"#,
-        Outcome::Application,
-    ),
-    (
-        500,
-        br#"{"amount":60,"token":"00000000-0000-8000-8000-000000000001"}"#,
-        Outcome::Application,
-    ),
-];
-
-#[test]
-fn answers_with_their_outcomes(rt: HostRuntime) -> Result<(), Fail> {
-    let asked = purchase(1, Currency::Usd, 6000)?;
-    for (status, body, outcome) in ANSWERS {
-        assert_eq!(rt; answer(rt.alloc(), status, body, &asked, 0)?, outcome);
     }
     Ok(())
 }
