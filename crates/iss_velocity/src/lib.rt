@@ -12,6 +12,8 @@ mod past;
 mod spans;
 mod standing;
 mod table;
+#[cfg(test)]
+mod tests;
 
 pub use ask::Ask;
 pub use controls::{ControlFault, Controls};
