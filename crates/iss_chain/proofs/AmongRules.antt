@@ -49,6 +49,7 @@ ended_of number f t parts why =
   where
     as_one : (a b c : List Entry) → a ++ b ++ c ≡ a ++ (b ++ c)
     as_one a b c = simp append_assoc
+
     regrouped : (a b c : List Entry) → a ++ b ++ c ≡ a ++ ((b ++ c) ++ [])
     regrouped a b c = as_one a b c ∙ ap (λ (es : List Entry). a ++ es) (sym (append-nil (b ++ c)))
 
@@ -91,8 +92,10 @@ refunded_of f token amount now =
   where
     none_between : (a e : List Entry) → a ++ [] ++ e ≡ (a ++ []) ++ e
     none_between a e = refl
+
     regrouped : (a b c d e : List Entry) → a ++ (b ++ c ++ d) ++ e ≡ (a ++ (b ++ c)) ++ (d ++ e)
     regrouped a b c d e = simp append_assoc
+
     by : (own : Bool) (a b c d e : List Entry) → a ++ cond own [] (b ++ c ++ d) ++ e ≡ (a ++ cond own [] (b ++ c)) ++ (cond own [] d ++ e)
     by true a b c d e = none_between a e
     by false a b c d e = regrouped a b c d e

@@ -1,7 +1,7 @@
 -- How far the calls of a test take a chain.
 use Rattle.std.proofs.Common.{◌≡◌, ℕ, zero, suc, ◌+◌, ◌*◌, ◌-◌, ◌≤◌, ◌<◌, ◌^◌, min, ◌==◌, nat_lt, neg_ℤ, nat_abs, pos, Bool, true, false, cond, ◌&&◌, ◌||◌, List, [], ◌∷◌, ◌++◌, map, fold, refl, sym, ap, ◌∙◌, subst, arith}
-use Rattle.std.specs.Prelude.{Option, Some, None}
-use Rattle.std.specs.List.{list_all}
+use Rattle.std.specs.Prelude.{Option, Some, None, Result, Ok, Err, IfOk}
+use Rattle.std.specs.List.{list_all, list_any}
 use Rattle.std.specs.Str.{bytes_eq}
 use Rattle.std.proofs.lemmas.Bool.{and_parts}
 use Rattle.std.proofs.lemmas.List.Folds.{list_all-append}
@@ -19,15 +19,15 @@ use Rattle.iss_model.specs.rules.Pieces.{only_where, only_gateway, post_entries,
 use Rattle.iss_model.specs.rules.CardEntries.{clearing_money_entries, owed_to_programme}
 use Rattle.iss_model.specs.state.Cores.{txn_after_end, with_end}
 use Rattle.iss_hold.specs.Bounds.{AreBelow}
-use Rattle.iss_hold.proofs.TestBounds.{below_next, below_started}
-use Rattle.iss_chain.specs.Values.{ChainNow, chain_after_entry, chain_facts}
+use Rattle.iss_hold.proofs.TestBounds.{new_origin, below_next, below_started}
+use Rattle.iss_chain.specs.Values.{ChainNow, no_chain, chain_after_entry, chain_facts}
 use Rattle.iss_chain.specs.Calls.{load_money_entries, fund_money_entries, reversal_money_entries, end_money_entries, clearing_end_entries, refund_money_entries, entries_for, entries_of_fund, entries_of_reverse, entries_of_end, entries_of_clear, entries_of_refund}
 use Rattle.iss_chain.specs.Entering.{StaysSmall}
 use Rattle.iss_chain.specs.Bounds.{IsReached, moves, moved}
 use Rattle.iss_chain.specs.Walks.{IsWalked, HoldsLittle}
 use Rattle.iss_chain.proofs.Standing.{found_token}
 use Rattle.iss_chain.proofs.FitPieces.{after}
-use Rattle.iss_chain.proofs.Reach.{reached_more, entries_reach, stays_small}
+use Rattle.iss_chain.proofs.Reach.{reached_more, entries_reach, stays_small, none_reached}
 
 -- the entry begins no transaction
 abbrev begins_none : Entry → Bool
@@ -230,3 +230,33 @@ begin_walks n c t e w =
           subst (λ (m : ℕ). AreBelow (m + 1) (after c (entry.Began t ∷ [])).holdings) e
           (below_started c.holdings t (subst (λ (m : ℕ). AreBelow m c.holdings) (sym e) w.below));
     }
+
+-- what a call returns
+pub walked_on : {n : ℕ} {c d : ChainNow} {es made : List Entry} → d ≡ fold chain_after_entry c made → made ≡ es → Walks n c es → IsWalked (n + 1) d
+walked_on {n} {c} value entries w = subst (λ (x : ChainNow). IsWalked (n + 1) x) (sym (value ∙ ap (λ (es : List Entry). fold chain_after_entry c es) entries)) w.walked
+
+pub begun_on : {n : ℕ} {c d : ChainNow} {t : Txn} {made : List Entry} → d ≡ fold chain_after_entry c made → made ≡ entry.Began t ∷ [] → t.origin ≡ n → IsWalked n c → IsWalked (n + 1) d
+begun_on {n} {c} {d} {t} value entries e w =
+    subst (λ (x : ChainNow). IsWalked (n + 1) x) (sym (value ∙ ap (λ (es : List Entry). fold chain_after_entry c es) entries)) (begin_walks n c t e w)
+
+-- a call that isn't made
+pub waited : {n : ℕ} {c : ChainNow} → IsWalked n c → IsWalked (n + 1) c
+waited {n} {c} w = record { reached = reached_more (n * 2 ^ 24) ((n + 1) * 2 ^ 24) c (omega arith) w.reached; below = below_next n c.holdings w.below }
+
+-- no transaction has the number of the next call
+pub new_number : {n : ℕ} {c : ChainNow} → IsWalked n c → list_any (λ (t : TxnNow). n == t.txn.origin) c.holdings.txns ≡ false
+new_number {n} {c} w = new_origin n c.holdings w.below
+
+-- without a call
+pub unwalked : (c : ChainNow) → c ≡ no_chain → IsWalked 0 c
+unwalked c e = subst (λ (x : ChainNow). IsWalked 0 x) (sym e) (record { reached = none_reached; below = refl })
+
+pub told_walked : {R E : Type 0} {n : ℕ} {c : ChainNow} {es : List Entry} (result : Result R E) (chain : R → ChainNow) (items : R → List Entry)
+    → IfOk result (λ x. items x ≡ es) → IfOk result (λ x. chain x ≡ fold chain_after_entry c (items x)) → Walks n c es → IfOk result (λ x. IsWalked (n + 1) (chain x))
+told_walked (Ok x) chain items entries value w = walked_on value entries w
+told_walked (Err e) chain items entries value w = tt
+
+pub told_begun : {R E : Type 0} {n : ℕ} {c : ChainNow} (t : Txn) (result : Result R E) (chain : R → ChainNow) (items : R → List Entry)
+    → IfOk result (λ x. items x ≡ entry.Began t ∷ []) → IfOk result (λ x. chain x ≡ fold chain_after_entry c (items x)) → t.origin ≡ n → IsWalked n c → IfOk result (λ x. IsWalked (n + 1) (chain x))
+told_begun t (Ok x) chain items entries value e w = begun_on value entries e w
+told_begun t (Err e) chain items entries value same w = tt

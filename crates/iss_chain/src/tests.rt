@@ -50,6 +50,12 @@ fn holds_little(chain: &Chain, txn: &Token) -> bool
         && chain.part(txn, Part::S) <= 1 << 18
 }
 
+fn wide(amount: u16) -> u64
+    ensures { result < 2 ^ 16 }
+{
+    u64::from(amount)
+}
+
 /// Begins a transaction with the number of the call, unless it is known.
 fn begin(
     chain: Chain,
@@ -86,7 +92,7 @@ fn clear(
     if !holds_little(&chain, txn) {
         return Ok((chain, Vec::new(alloc), 0));
     }
-    chain.clear(alloc, txn, u64::from(amount), last, 7)
+    chain.clear(alloc, txn, wide(amount), last, 7)
 }
 
 /// Ends a transaction that holds little.
@@ -122,7 +128,7 @@ fn take(
     let token = &txn.token;
     match call {
         Call::Load(amount) => {
-            let (chain, made) = chain.load(alloc, &txn.user, txn.currency, u64::from(*amount))?;
+            let (chain, made) = chain.load(alloc, &txn.user, txn.currency, wide(*amount))?;
             Ok((chain, made.len()))
         }
         Call::Begin => {
@@ -130,11 +136,11 @@ fn take(
             Ok((chain, made.len()))
         }
         Call::Fund(part, amount) => {
-            let (chain, made) = chain.fund(alloc, token, *part, u64::from(*amount))?;
+            let (chain, made) = chain.fund(alloc, token, *part, wide(*amount))?;
             Ok((chain, made.len()))
         }
         Call::Reverse(amount) => {
-            let (chain, made) = chain.reverse(alloc, token, u64::from(*amount))?;
+            let (chain, made) = chain.reverse(alloc, token, wide(*amount))?;
             Ok((chain, made.len()))
         }
         Call::Clear(amount, last, wanted) => {
@@ -143,7 +149,7 @@ fn take(
             Ok((chain, if as_wanted { made.len() } else { usize::MAX }))
         }
         Call::Refund(amount) => {
-            let (chain, made) = chain.refund(alloc, token, u64::from(*amount))?;
+            let (chain, made) = chain.refund(alloc, token, wide(*amount))?;
             Ok((chain, made.len()))
         }
         Call::End => {
