@@ -10,9 +10,9 @@ use Rattle.iss_model.specs.declared.decision.Reply.TheVariants.{Decided, Pending
 use Rattle.iss_model.specs.declared.decision.Answer.TheVariants as answer
 use Rattle.iss_model.specs.texts.Wordings.{reason_text, reply_line, fault_line}
 use Rattle.iss_model.specs.texts.AnswerLines.{how_text, answer_text}
-use Rattle.iss_event.specs.declared.name.Name.{Name}
+use Rattle.iss_field.specs.declared.name.Name.{Name}
 use Rattle.iss_event.specs.declared.line.FormFault.TheVariants.{Field}
-use Rattle.iss_event.specs.Names.{name_text}
+use Rattle.iss_field.specs.Names.{name_text}
 use Rattle.iss_event.specs.FormLines.{form_text}
 use Rattle.iss_event.specs.Replies.{declined_end, reply_end}
 

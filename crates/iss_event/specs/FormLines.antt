@@ -1,10 +1,10 @@
 -- The lines for faults of form.
 use Rattle.std.specs.Prelude.{ℕ, List, [], ◌∷◌, codes}
 use Rattle.iss_model.specs.texts.Wordings.{Member, with_text, fault_line, line_of}
-use Rattle.iss_event.specs.declared.name.Name.{Name}
+use Rattle.iss_field.specs.declared.name.Name.{Name}
 use Rattle.iss_event.specs.declared.line.FormFault.{FormFault}
-use Rattle.iss_event.specs.declared.line.FormFault.TheVariants.{Long, Json, Field, NotBuilt}
-use Rattle.iss_event.specs.Names.{name_text}
+use Rattle.iss_event.specs.declared.line.FormFault.TheVariants.{Long, Json, Field}
+use Rattle.iss_field.specs.Names.{name_text}
 
 -- what is told of a line with this fault
 abbrev pub fault_members : List ℕ → List Member
@@ -20,4 +20,3 @@ unfoldable pub form_text : FormFault → List ℕ
 form_text Long = fault_line (codes "LONG")
 form_text Json = fault_line (codes "JSON")
 form_text (Field name) = line_of (field_members name)
-form_text NotBuilt = fault_line (codes "NOT_BUILT")

@@ -1,6 +1,8 @@
 -- The types of line.
-use Rattle.std.specs.Prelude.{ℕ, List, codes, Option, Some, None, if◌then◌else◌}
+use Rattle.std.specs.Prelude.{ℕ, List, codes, Bool, true, false, Option, Some, None, option_and_then, if◌then◌else◌}
 use Rattle.std.specs.Str.{bytes_eq}
+use Rattle.serde_json.specs.Data.{Data}
+use Rattle.serde_json.specs.Find.{as_str}
 use Rattle.iss_event.specs.declared.kind.Kind.{Kind}
 use Rattle.iss_event.specs.declared.kind.Kind.TheVariants as kind
 use Rattle.iss_event.specs.declared.line.Mode.{Mode}
@@ -34,3 +36,12 @@ kind_in Client kind.Answer = None
 kind_in Client kind.Ack = None
 kind_in Client kind.Time = None
 kind_in mode k = Some k
+
+-- a time says when it is, and nothing else; the other kinds may leave it out
+abbrev pub may_lack_stamp : Kind → Bool
+may_lack_stamp kind.Time = false
+may_lack_stamp _ = true
+
+-- a text that names a kind which lines of that mode may be of
+unfoldable pub kind_of : Mode → Data → Option Kind
+kind_of mode d = option_and_then (kind_in mode) (option_and_then kind_of_text (as_str d))

@@ -1,12 +1,5 @@
-pub mod Built
-pub mod Fields
 pub mod FormLines
+pub mod Inputs
 pub mod Kinds
-pub mod Names
-pub mod Objects
-pub mod Plain
 pub mod Readings
 pub mod Replies
-pub mod Inputs
-pub mod Seen
-pub mod Values

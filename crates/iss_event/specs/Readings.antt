@@ -1,71 +1,92 @@
 -- What a line says.
-use Rattle.std.specs.Prelude.{◌≡◌, ℕ, ◌||◌, List, length, Bool, true, false, nat_lt, Option, Some, None, is_some, option_and_then, Result, Ok, Err, if◌then◌else◌}
+use Rattle.std.specs.Prelude.{◌≡◌, ℕ, List, length, Bool, true, false, nat_lt, Option, Some, None, option_and_then, Result, Ok, Err, if◌then◌else◌}
 use Rattle.serde_json.specs.Data.{Data}
+use Rattle.iss_model.specs.declared.limits.TheConstants.{LAST_STAMP, LONGEST_LINE}
 use Rattle.iss_model.specs.declared.setting.Funding.{Funding}
-use Rattle.iss_model.specs.declared.setting.Funding.TheVariants.{Account, Gateway}
-use Rattle.iss_event.specs.declared.name.Name.TheVariants as name
+use Rattle.iss_field.specs.declared.name.Name.{Name}
+use Rattle.iss_field.specs.declared.name.Name.TheVariants as name
+use Rattle.iss_field.specs.Seen.{seen}
+use Rattle.iss_field.specs.Objects.{object_of}
+use Rattle.iss_field.specs.Fields.{◌>>=◌, field, required_field, required_field_unless}
+use Rattle.iss_field.specs.Values.{whole_within, funding_of}
 use Rattle.iss_event.specs.declared.kind.Kind.{Kind}
-use Rattle.iss_event.specs.declared.kind.Kind.TheVariants.{User, Card, Move, Product, Load, Authorization}
 use Rattle.iss_event.specs.declared.line.Mode.{Mode}
 use Rattle.iss_event.specs.declared.line.Mode.TheVariants.{Lines, Client}
 use Rattle.iss_event.specs.declared.line.Line.{Line}
 use Rattle.iss_event.specs.declared.line.FormFault.{FormFault}
-use Rattle.iss_event.specs.declared.line.FormFault.TheVariants.{Long, Json, NotBuilt}
+use Rattle.iss_event.specs.declared.line.FormFault.TheVariants.{Long, Json, Field}
 use Rattle.iss_event.specs.declared.line.LineFault.{LineFault}
 use Rattle.iss_event.specs.declared.line.LineFault.TheVariants.{Form, OutOfMemory}
-use Rattle.iss_event.specs.Objects.{object_of}
-use Rattle.iss_event.specs.Fields.{field, required_field}
-use Rattle.iss_event.specs.Values.{kind_of, funding_of}
-use Rattle.iss_event.specs.Inputs.{◌>>=◌, input_of_kind}
+use Rattle.iss_event.specs.declared.line.OpenLine.{OpenLine}
+use Rattle.iss_event.specs.Kinds.{kind_of, may_lack_stamp}
+use Rattle.iss_event.specs.Inputs.{input_of_kind}
 
--- the line says when it happened; a client's member `at` says nothing
-abbrev pub has_stamp : Mode → Data → Bool
-has_stamp Lines d = is_some (field name.At d)
-has_stamp Client d = false
+-- a bad field is a fault of form
+abbrev pub as_fault : {A : Type 0} → Result A Name → Result A FormFault
+as_fault (Ok x) = Ok x
+as_fault (Err name) = Err (Field name)
 
--- the purchases of these are asked of a gateway
-abbrev pub is_gateway : Option Funding → Bool
-is_gateway (Some Gateway) = true
-is_gateway (Some Account) = false
-is_gateway None = false
+-- when it happened; a client's member `at` says nothing
+abbrev pub stamp_said : Mode → Kind → Data → Result (Option ℕ) Name
+stamp_said Lines kind d = required_field_unless (may_lack_stamp kind) (whole_within 0 LAST_STAMP) name.At d
+stamp_said Client kind d = Ok None
 
--- the line's funding is the gateway's
-abbrev pub has_gateway : Data → Bool
-has_gateway d = is_gateway (option_and_then funding_of (field name.Funding d))
+-- a stamp is there, a good one or a bad one
+abbrev pub has_stamp : Result (Option ℕ) Name → Bool
+has_stamp (Ok None) = false
+has_stamp (Ok (Some at)) = true
+has_stamp (Err name) = true
 
--- the line isn't taken yet: it has a stamp, or makes a product that a gateway funds, or is of another kind than these six
-abbrev pub not_built : Mode → Kind → Data → Bool
-not_built mode User d = has_stamp mode d
-not_built mode Card d = has_stamp mode d
-not_built mode Move d = has_stamp mode d
-not_built mode Product d = has_stamp mode d || has_gateway d
-not_built mode Load d = has_stamp mode d
-not_built mode Authorization d = has_stamp mode d
-not_built mode _ d = true
+-- who funds, where the line says so
+abbrev pub funding_said : Data → Option Funding
+funding_said d = option_and_then funding_of (field name.Funding d)
 
--- what an object of this kind says
-abbrev pub kind_line : Mode → Data → Kind → Result Line FormFault
-kind_line mode d kind = if not_built mode kind d then Err NotBuilt else do
-  said ← input_of_kind kind d
-  Ok (record { input = said; at = None })
+-- an object of a good type, with its stamp or that this is bad
+pub record Opened : Type 0 where
+  pub kind : Kind
+  pub stamp : Result (Option ℕ) Name
+  pub object : Data
 
--- what an object says, or its first fault
-unfoldable pub object_line : Mode → Data → Result Line FormFault
-object_line mode d = do
+-- the object of a line, where its type is good
+unfoldable pub opened_object : Mode → Data → Result Opened Name
+opened_object mode d = do
   kind ← required_field (kind_of mode) name.Kind d
-  kind_line mode d kind
+  Ok (record { kind = kind; stamp = stamp_said mode kind d; object = d })
 
--- what an object says, where there is one
-abbrev pub found_line : Mode → Option Data → Result Line FormFault
-found_line mode None = Err Json
-found_line mode (Some d) = object_line mode d
+-- the object, where there is one
+abbrev pub opened_if_found : Mode → Option Data → Result Opened FormFault
+opened_if_found mode None = Err Json
+opened_if_found mode (Some d) = as_fault (opened_object mode d)
 
--- what a line says, or its first fault: too long, no JSON object, no such type, of a kind that isn't taken yet, or the first bad field
+-- the object that a line is, where it isn't too long and its type is good
+unfoldable pub opened_line : Mode → List ℕ → Result Opened FormFault
+opened_line mode line = if nat_lt LONGEST_LINE (length line) then Err Long else opened_if_found mode (object_of line)
+
+-- what the object says after its type: its stamp, and then the fields of its kind
+unfoldable pub said_line : Opened → Result Line Name
+said_line opened = do
+  at ← opened.stamp
+  said ← input_of_kind opened.kind opened.object
+  Ok (record { input = said; at = at })
+
+-- What a line says, or its first fault: too long, no JSON object, no such type, a bad stamp, or the first bad field of its kind.
 unfoldable pub line_read : Mode → List ℕ → Result Line FormFault
-line_read mode line = if nat_lt 16384 (length line) then Err Long else found_line mode (object_of line)
+line_read mode line = do
+  opened ← opened_line mode line
+  as_fault (said_line opened)
 
 -- reading gave this, unless an allocation failed, which may happen at any line
-abbrev pub Reads : Result Line FormFault → Result Line LineFault → Type 0
+abbrev pub Reads : {A : Type 0} → Result A FormFault → Result A LineFault → Type 0
 Reads said (Ok line) = said ≡ Ok line
 Reads said (Err (Form fault)) = said ≡ Err fault
 Reads said (Err OutOfMemory) = Unit {0}
+
+-- an open line as these definitions see it
+abbrev pub opened_as : OpenLine → Opened
+opened_as o = record { kind = o.kind; stamp = o.stamp; object = seen o.object.value }
+
+-- opening gave this, unless an allocation failed
+abbrev pub Opens : Result Opened FormFault → Result OpenLine LineFault → Type 0
+Opens opened (Ok line) = opened ≡ Ok (opened_as line)
+Opens opened (Err (Form fault)) = opened ≡ Err fault
+Opens opened (Err OutOfMemory) = Unit {0}

@@ -1,12 +1,13 @@
 //! The types of line.
 ghost use Rattle.std.specs.Prelude.{◌≡◌};
-ghost use Rattle.iss_event.specs.Kinds.{kind_of_text, kind_in};
+ghost use Rattle.iss_event.specs.Kinds.{kind_of, kind_of_text, kind_in};
 
 use crate::Mode;
+use iss_field::{Form, Value, text};
 
 /// What a line is about, by its field `type`.
-#[derive(Clone, Copy)]
-pub(crate) enum Kind {
+#[derive(Clone, Copy, Debug, PartialEq, Eq)]
+pub enum Kind {
     User,
     Card,
     Move,
@@ -24,6 +25,21 @@ pub(crate) enum Kind {
     Answer,
     Ack,
     Time,
+}
+
+/// A type that lines of that mode may have.
+#[derive(Clone, Copy)]
+pub(crate) struct KindForm(pub(crate) Mode);
+
+impl Form for KindForm {
+    type Said = Kind;
+
+    ghost said = { λ form. kind_of form.0 };
+
+    #[tactic(auto, unfolding(crate::specs::Kinds::kind_of))]
+    fn read(self, found: &Value<'_>) -> Option<Kind> {
+        kind_in(self.0, kind_of_text(text(found)?)?)
+    }
 }
 
 /// The kind that a text names.

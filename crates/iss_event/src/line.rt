@@ -1,5 +1,6 @@
 //! What reading a line gives.
-use crate::Name;
+use crate::Kind;
+use iss_field::{Name, Object};
 use iss_model::Input;
 
 /// Where a line comes from.
@@ -19,6 +20,15 @@ pub struct Line {
     pub at: Option<u64>,
 }
 
+/// A line's object with its type and its stamp. Its other fields aren't read yet.
+#[derive(Drop)]
+pub struct OpenLine<'a> {
+    pub(crate) kind: Kind,
+    /// Its stamp, or that this field is bad.
+    pub(crate) stamp: Result<Option<u64>, Name>,
+    pub(crate) object: Object<'a>,
+}
+
 /// What is wrong with a line.
 #[derive(Clone, Copy, Debug, PartialEq, Eq)]
 pub enum FormFault {
@@ -28,8 +38,6 @@ pub enum FormFault {
     Json,
     /// The first field that is missing or not of its form.
     Field(Name),
-    /// It is of a kind that isn't taken yet.
-    NotBuilt,
 }
 
 /// Why a line wasn't read.

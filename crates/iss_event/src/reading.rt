@@ -1,30 +1,24 @@
 //! Reading a line.
-ghost use Rattle.std.specs.Prelude.{◌≡◌, ◌≤◌, length, true, None, IfOk, IsTrue};
-ghost use Rattle.json.specs.Value.{value_view};
-ghost use Rattle.iss_event.specs.Seen.{seen, fits};
-ghost use Rattle.iss_event.specs.Built.{is_built};
+ghost use Rattle.std.specs.Prelude.{◌≡◌, ◌≤◌, length, IfOk, IsTrue};
 ghost use Rattle.iss_model.specs.Forms.{is_in_form, is_stamp_or_none};
-ghost use Rattle.iss_event.specs.Readings.{Reads, line_read, object_line, not_built, has_stamp, has_gateway};
+ghost use Rattle.iss_field.specs.Seen.{seen};
+ghost use Rattle.iss_event.specs.Kinds.{may_lack_stamp};
+ghost use Rattle.iss_event.specs.Readings.{Reads, Opens, opened_as, as_fault, stamp_said, has_stamp, funding_said, opened_line, said_line, line_read};
 
-use crate::fields::{field, in_form, required};
 use crate::inputs::input_of_kind;
-use crate::kind::Kind;
-use crate::object::object_of;
-use crate::values::{FundingForm, KindForm};
-use crate::{FormFault, Line, LineFault, Mode, Name};
+use crate::kind::{Kind, KindForm};
+use crate::{FormFault, Line, LineFault, Mode, OpenLine};
+use iss_field::{FundingForm, Name, Object, Scratch, WholeForm};
 use iss_model::Funding;
-use iss_model::limits::LONGEST_LINE;
-use json::{Scratch, Value};
+use iss_model::limits::{LAST_STAMP, LONGEST_LINE};
 use std::alloc::Global;
 
-/// What a line says, without the line feed that ends it, or its first fault: `Long`, `Json`, `Field(Kind)` where its
-/// type is bad, `NotBuilt` where it is of a kind that isn't taken yet, or the first bad field in the order of its type.
+/// What a line says, without the line feed that ends it, or its first fault: `Long`, `Json`, or the first bad field in the
+/// order `type`, `at` and then that of its type. A line is one JSON object (RFC 8259).
 pub fn read_line(alloc: Global, line: &[u8], mode: Mode) -> Result<Line, LineFault>
     ensures read { Reads (line_read mode line.now) result }
     ensures input_form { IfOk result (λ said. IsTrue (is_in_form said.input)) }
     ensures stamp_form { IfOk result (λ said. IsTrue (is_stamp_or_none said.at)) }
-    ensures built { IfOk result (λ said. is_built said.input ≡ true) }
-    ensures start { IfOk result (λ said. said.at ≡ None) }
     ensures least { IfOk result (λ said. 4 ≤ length line.now) }
 {
     let mut scratch = Scratch::new(alloc);
@@ -32,7 +26,7 @@ pub fn read_line(alloc: Global, line: &[u8], mode: Mode) -> Result<Line, LineFau
 }
 
 /// The same over a scratch that is kept from line to line.
-#[tactic(auto, using(crate::proofs::LeastLine::read_least, crate::proofs::LinesInForm::read_input_in_form, crate::proofs::LinesInForm::read_stamp_in_form, crate::proofs::LinesInForm::read_input_built, crate::proofs::LinesInForm::read_no_stamp))]
+#[tactic(auto, using(crate::proofs::LeastLine::read_least, crate::proofs::LinesInForm::read_input_in_form, crate::proofs::LinesInForm::read_stamp_in_form))]
 pub fn read_line_in(
     scratch: &mut Scratch,
     alloc: Global,
@@ -42,8 +36,6 @@ pub fn read_line_in(
     ensures read { Reads (line_read mode line.now) result }
     ensures input_form { IfOk result (λ said. IsTrue (is_in_form said.input)) }
     ensures stamp_form { IfOk result (λ said. IsTrue (is_stamp_or_none said.at)) }
-    ensures built { IfOk result (λ said. is_built said.input ≡ true) }
-    ensures start { IfOk result (λ said. said.at ≡ None) }
     ensures least { IfOk result (λ said. 4 ≤ length line.now) }
 {
     read(scratch, alloc, line, mode)
@@ -53,58 +45,93 @@ pub fn read_line_in(
 fn read(scratch: &mut Scratch, alloc: Global, line: &[u8], mode: Mode) -> Result<Line, LineFault>
     ensures { Reads (line_read mode line.now) result }
 {
+    match open_line(scratch, alloc, line, mode) {
+        Ok(open) => open.read(alloc),
+        Err(fault) => Err(fault),
+    }
+}
+
+/// The object of a line, with its type and its stamp, or the first fault before its other fields.
+#[tactic(auto, unfolding(crate::specs::Readings::opened_line, crate::specs::Readings::opened_object))]
+pub fn open_line<'a>(
+    scratch: &'a mut Scratch,
+    alloc: Global,
+    line: &'a [u8],
+    mode: Mode,
+) -> Result<OpenLine<'a>, LineFault>
+    ensures { Opens (opened_line mode line.now) result }
+{
     if line.len() > LONGEST_LINE {
         return Err(LineFault::Form(FormFault::Long));
     }
-    match object_of(alloc, scratch, line) {
-        Ok(Some(object)) => read_object(mode, &object).map_err(LineFault::Form),
+    match Object::read(alloc, scratch, line) {
+        Ok(Some(object)) => match object.required(Name::Kind, KindForm(mode)) {
+            Ok(kind) => Ok(OpenLine {
+                kind,
+                stamp: stamp_said(mode, kind, &object),
+                object,
+            }),
+            Err(name) => Err(LineFault::Form(FormFault::Field(name))),
+        },
         Ok(None) => Err(LineFault::Form(FormFault::Json)),
         Err(_) => Err(LineFault::OutOfMemory),
     }
 }
 
-#[tactic(auto, unfolding(crate::specs::Readings::object_line))]
-fn read_object(mode: Mode, line: &Value<'_>) -> Result<Line, FormFault>
-    requires { fits (value_view line.now) ≡ true }
-    ensures { result ≡ object_line mode (seen line.now) }
-{
-    let kind = required(line, Name::Kind, KindForm(mode))?;
-    if is_not_built(mode, kind, line) {
-        return Err(FormFault::NotBuilt);
-    }
-    let input = input_of_kind(kind, line)?;
-    Ok(Line { input, at: None })
-}
-
-fn is_not_built(mode: Mode, kind: Kind, line: &Value<'_>) -> bool
-    requires { fits (value_view line.now) ≡ true }
-    ensures { result ≡ not_built mode kind (seen line.now) }
-{
-    match kind {
-        Kind::User | Kind::Card | Kind::Move | Kind::Load | Kind::Authorization => {
-            has_stamp(mode, line)
-        }
-        Kind::Product => has_stamp(mode, line) || has_gateway(line),
-        _ => true,
-    }
-}
-
-fn has_stamp(mode: Mode, line: &Value<'_>) -> bool
-    requires { fits (value_view line.now) ≡ true }
-    ensures { result ≡ has_stamp mode (seen line.now) }
+fn stamp_said(mode: Mode, kind: Kind, line: &Object<'_>) -> Result<Option<u64>, Name>
+    ensures { result ≡ stamp_said mode kind (seen line.now.value) }
 {
     match mode {
-        Mode::Lines => field(line, Name::At).is_some(),
-        Mode::Client => false,
+        Mode::Lines => line.required_unless(
+            may_lack_stamp(kind),
+            Name::At,
+            WholeForm(0, LAST_STAMP),
+        ),
+        Mode::Client => Ok(None),
     }
 }
 
-fn has_gateway(line: &Value<'_>) -> bool
-    requires { fits (value_view line.now) ≡ true }
-    ensures { result ≡ has_gateway (seen line.now) }
+fn may_lack_stamp(kind: Kind) -> bool
+    ensures { result ≡ may_lack_stamp kind }
 {
-    match in_form(line, Name::Funding, FundingForm) {
-        Some(Funding::Gateway) => true,
-        Some(Funding::Account) | None => false,
+    !matches!(kind, Kind::Time)
+}
+
+impl OpenLine<'_> {
+    pub fn kind(&self) -> Kind
+        ensures { result ≡ self.now.kind }
+    {
+        self.kind
+    }
+
+    /// Whether the line has a stamp, a good one or a bad one.
+    pub fn has_stamp(&self) -> bool
+        ensures { result ≡ has_stamp self.now.stamp }
+    {
+        !matches!(self.stamp, Ok(None))
+    }
+
+    /// Who funds, where the line says so.
+    pub fn funding(&self) -> Option<Funding>
+        ensures { result ≡ funding_said (seen self.now.object.value) }
+    {
+        self.object.in_form(Name::Funding, FundingForm)
+    }
+
+    /// What the line says, or its first bad field after its type.
+    #[tactic(auto, using(crate::proofs::LinesInForm::open_input_in_form), unfolding(crate::specs::Readings::said_line))]
+    pub fn read(&self, alloc: Global) -> Result<Line, LineFault>
+        ensures read { Reads (as_fault (said_line (opened_as self.now))) result }
+        ensures input_form { IfOk result (λ said. IsTrue (is_in_form said.input)) }
+    {
+        let at = match self.stamp {
+            Ok(at) => at,
+            Err(name) => return Err(LineFault::Form(FormFault::Field(name))),
+        };
+        match input_of_kind(alloc, self.kind, &self.object) {
+            Ok(Ok(input)) => Ok(Line { input, at }),
+            Ok(Err(name)) => Err(LineFault::Form(FormFault::Field(name))),
+            Err(_) => Err(LineFault::OutOfMemory),
+        }
     }
 }

@@ -7,8 +7,9 @@ ghost use Rattle.iss_event.specs.declared.line.FormFault.TheVariants.{Field};
 ghost use Rattle.iss_event.specs.FormLines.{form_text};
 ghost use Rattle.iss_event.specs.Replies.{reply_end, declined_end};
 
+use crate::FormFault;
 use crate::reason::put_reason;
-use crate::{FormFault, Name};
+use iss_field::Name;
 use iss_model::{Answer, CallId, Failure, How, Reason, Reply, Token, Verdict};
 use itoa::Buffer;
 use std::alloc::{AllocError, Global};
@@ -82,7 +83,6 @@ pub fn put_form(out: &mut Vec<u8>, fault: &FormFault) -> Result<(), AllocError>
         FormFault::Long => put_fault(out, b"LONG"),
         FormFault::Json => put_fault(out, b"JSON"),
         FormFault::Field(name) => put_bad_field(out, *name),
-        FormFault::NotBuilt => put_fault(out, b"NOT_BUILT"),
     }
 }
 

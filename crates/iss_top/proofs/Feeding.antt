@@ -10,7 +10,7 @@ use Rattle.iss_model.specs.declared.decision.Judged.TheVariants as judged
 use Rattle.iss_model.specs.rules.Judging.{judge}
 use Rattle.iss_model.specs.state.Cores.{CoreState, with_record, core_facts, core_keeper}
 use Rattle.iss_core.proofs.Stepped.{all_entered_count}
-use Rattle.iss_model.specs.run.Transcripts.{sound, after_line, bytes_of}
+use Rattle.iss_model.specs.run.Transcripts.{sound, faulty, after_line, bytes_of}
 use Rattle.iss_model.specs.run.Sayings.{reaction, reaction_as}
 use Rattle.iss_model.specs.rules.Keeper.{Growth}
 use Rattle.iss_model.specs.rules.Due.{DueItem, due_items, thing_entries}
@@ -20,10 +20,11 @@ use Rattle.iss_event.specs.declared.line.Mode.TheVariants.{Lines}
 use Rattle.iss_event.specs.declared.line.FormFault.TheVariants.{Long}
 use Rattle.iss_event.specs.declared.line.Line.{Line}
 use Rattle.iss_event.specs.declared.line.FormFault.{FormFault}
-use Rattle.iss_event.specs.Readings.{line_read}
-use Rattle.iss_event.proofs.LeastLine.{least_line}
+use Rattle.iss_event.specs.Readings.{Opened, as_fault, opened_line, said_line}
+use Rattle.iss_event.proofs.LeastLine.{least_open}
 use Rattle.iss_top.specs.Lines.{has_line_feed, is_blank_byte, is_blank, onto_first, parts_of, kept_with}
-use Rattle.iss_top.specs.Dry.{reading_of, as_reading, reply_of_line}
+use Rattle.iss_top.specs.Dry.{reading_of, as_reading, opened_reading, reply_of_line}
+use Rattle.iss_top.specs.NotTaken.{is_not_taken, not_taken_line}
 use Rattle.iss_top.specs.Progress.{line_text, line_next, lines_text, text_to_come}
 
 -- bytes before what stands before the first part
@@ -61,15 +62,15 @@ pub record IsAlike (line other : List ℕ) : Type 0 where
   pub long : 16384 < length line
   pub other_long : 16384 < length other
 
-long_reading : (line : List ℕ) → 16384 < length line → line_read Lines line ≡ Err Long
-unfolding line_read
+long_reading : (line : List ℕ) → 16384 < length line → opened_line Lines line ≡ Err Long
+unfolding opened_line
 long_reading line h =
     let is_long : nat_lt 16384 (length line) ≡ true = grind (arith, nat_tests) in
     rw is_long refl
 
 alike_reading : (line other : List ℕ) → IsAlike line other → reading_of line ≡ reading_of other
 unfolding reading_of
-alike_reading line other a = ap as_reading (long_reading line a.long ∙ sym (long_reading other a.other_long))
+alike_reading line other a = ap opened_reading (long_reading line a.long ∙ sym (long_reading other a.other_long))
 
 alike_text : (h : CoreState) (line other : List ℕ) → IsAlike line other → line_text h line ≡ line_text h other
 unfolding line_text
@@ -205,14 +206,20 @@ unfolding reaction
 sound_count h i at = judged_count h i (unwrap_or at 0) (judge core_keeper h i (unwrap_or at 0))
 
 -- Five times the records, and the bytes of the line, are at most the bytes that came: a line that makes a record has four bytes at least, and a line feed or the end.
-read_room : (h : CoreState) (line : List ℕ) (o : Result Line FormFault) → line_read Lines line ≡ o → 5 * (after_line core_keeper h (as_reading o)).world.count ≤ 5 * h.count + length line + 1
-read_room h line (Ok said) e = omega (arith, sound_count h said.input said.at, least_line Lines line said e)
+said_room : (h : CoreState) (n : ℕ) (b : Bool) (said : Result Line FormFault) → 4 ≤ n
+    → 5 * (after_line core_keeper h (cond b (faulty not_taken_line) (as_reading said))).world.count ≤ 5 * h.count + n + 1
+said_room h n true said least = omega arith
+said_room h n false (Ok said) least = omega (arith, sound_count h said.input said.at, least)
+said_room h n false (Err fault) least = omega arith
+
+read_room : (h : CoreState) (line : List ℕ) (o : Result Opened FormFault) → opened_line Lines line ≡ o → 5 * (after_line core_keeper h (opened_reading o)).world.count ≤ 5 * h.count + length line + 1
+read_room h line (Ok opened) e = said_room h (length line) (is_not_taken opened) (as_fault (said_line opened)) (least_open Lines line opened e)
 read_room h line (Err fault) e = omega arith
 
 next_room_as : (h : CoreState) (line : List ℕ) (blank : Bool) → 5 * (cond blank h (reply_of_line h line).world).count ≤ 5 * h.count + length line + 1
 unfolding reading_of
 next_room_as h line true = omega arith
-next_room_as h line false = read_room h line (line_read Lines line) refl
+next_room_as h line false = read_room h line (opened_line Lines line) refl
 
 pub next_room : (h : CoreState) (line : List ℕ) → 5 * (line_next h line).count ≤ 5 * h.count + length line + 1
 unfolding line_next

@@ -1,3 +1,4 @@
+pub mod TakenLines
 pub mod ReplyLemmas
 pub mod Feeding
 pub mod Keeping

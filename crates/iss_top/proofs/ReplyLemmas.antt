@@ -1,5 +1,5 @@
 -- What a line is told, from what reading and judging it gave.
-use Rattle.std.proofs.Common.{◌≡◌, ℕ, max, true, List, [], ◌∷◌, ◌++◌, map, Option, Ok, Err, refl, sym, ap, subst, ◌∙◌, append-nil, append_assoc, arith}
+use Rattle.std.proofs.Common.{◌≡◌, ℕ, max, Bool, true, false, cond, List, [], ◌∷◌, ◌++◌, map, Option, Result, Ok, Err, refl, sym, ap, subst, ◌∙◌, append-nil, append_assoc, arith}
 use Rattle.std.specs.Prelude.{unwrap_or}
 use Rattle.std.specs.List.{concat, flat_map}
 use Rattle.std.proofs.lemmas.Bool.Decides.{nat_tests}
@@ -16,16 +16,17 @@ use Rattle.iss_model.specs.rules.Stepping.{step}
 use Rattle.iss_model.specs.rules.Judging.{judge}
 use Rattle.iss_model.specs.state.Cores.{CoreState, core_keeper}
 use Rattle.iss_model.specs.run.Sayings.{Said, said_by, said_of_time, reaction, reaction_as, reaction_to_record}
-use Rattle.iss_model.specs.run.Transcripts.{sound, faulty, LineReply, reply_by_reaction, after_line, at_level, bytes_of, said_text, entry_texts}
+use Rattle.iss_model.specs.run.Transcripts.{Reading, sound, faulty, LineReply, reply_by_reaction, after_line, at_level, bytes_of, said_text, entry_texts}
 use Rattle.iss_core.specs.Values.{IsQuiet}
 use Rattle.iss_core.proofs.Quiet.{new_record}
 use Rattle.iss_core.proofs.Stepped.{step_time}
 use Rattle.iss_event.specs.declared.line.Line.{Line}
 use Rattle.iss_event.specs.declared.line.Mode.TheVariants.{Lines}
 use Rattle.iss_event.specs.declared.line.FormFault.{FormFault}
-use Rattle.iss_event.specs.Readings.{line_read}
+use Rattle.iss_event.specs.Readings.{Opened, as_fault, opened_line, said_line}
 use Rattle.iss_event.specs.FormLines.{form_text}
-use Rattle.iss_top.specs.Dry.{reading_of, as_reading, reply_of_line, entry_text, entries_text}
+use Rattle.iss_top.specs.Dry.{reading_of, as_reading, open_reading, opened_reading, reply_of_line, entry_text, entries_text}
+use Rattle.iss_top.specs.NotTaken.{is_not_taken, not_taken_line}
 use Rattle.iss_top.specs.Start.{IsAtStart}
 use Rattle.iss_top.specs.Tells.{Replies, Records}
 
@@ -56,14 +57,6 @@ said-texts (e ∷ es) =
 pub bytes_of_said : (level : ℕ) (entries : List Entry) → bytes_of (at_level level (map said_text (flat_map said_by entries))) ≡ entries_text entries
 bytes_of_said level entries =
     bytes_of-at_level level (map said_text (flat_map said_by entries)) ∙ ap concat (said-texts entries) ∙ concat-texts entries
-
-pub reading_sound : (line : List ℕ) (said : Line) → line_read Lines line ≡ Ok said → reading_of line ≡ sound said.input said.at
-unfolding reading_of
-reading_sound line said e = ap as_reading e
-
-pub reading_faulty : (line : List ℕ) (fault : FormFault) → line_read Lines line ≡ Err fault → reading_of line ≡ faulty (form_text fault)
-unfolding reading_of
-reading_faulty line fault e = ap as_reading e
 
 pub bytes_of_one : (level : ℕ) (text : List ℕ) → bytes_of (at_level level (text ∷ [])) ≡ text
 bytes_of_one level text = append-nil text
@@ -108,19 +101,45 @@ record_tells s i at stamp r after text is fresh built records =
           ∙ ap (λ (t : LineReply CoreState). bytes_of t.texts) told_so;
     }
 
--- a line with a fault changes nothing, and is told it
-pub fault_tells : (s : CoreState) (line : List ℕ) (fault : FormFault) (text : List ℕ) → line_read Lines line ≡ Err fault → text ≡ form_text fault → Replies (reply_of_line s line) s text
-fault_tells s line fault text e said =
-    let told : reply_of_line s line ≡ record { world = s; texts = at_level s.count (form_text fault ∷ []) } = ap (after_line core_keeper s) (reading_faulty line fault e) in
+-- what is read changes nothing and is told a fault
+faulty_tells : (s : CoreState) (r : Reading) (fault text : List ℕ) → r ≡ faulty fault → text ≡ fault → Replies (after_line core_keeper s r) s text
+faulty_tells s r fault text e said =
+    let told : after_line core_keeper s r ≡ record { world = s; texts = at_level s.count (fault ∷ []) } = ap (after_line core_keeper s) e in
     record {
       state = ap (λ (t : LineReply CoreState). t.world) (sym told);
-      bytes = said ∙ sym (bytes_of_one s.count (form_text fault)) ∙ ap (λ (t : LineReply CoreState). bytes_of t.texts) (sym told);
+      bytes = said ∙ sym (bytes_of_one s.count fault) ∙ ap (λ (t : LineReply CoreState). bytes_of t.texts) (sym told);
     }
 
--- a line that is read is told as its input
-pub read_tells : (s after : CoreState) (line text : List ℕ) (said : Line) → line_read Lines line ≡ Ok said → Replies (after_line core_keeper s (sound said.input said.at)) after text → Replies (reply_of_line s line) after text
-read_tells s after line text said e tells =
-    subst (λ (t : LineReply CoreState). Replies t after text) (ap (after_line core_keeper s) (sym (reading_sound line said e))) tells
+-- a line with a fault before its other fields is told it
+pub fault_tells : (s : CoreState) (line : List ℕ) (fault : FormFault) (text : List ℕ) → opened_line Lines line ≡ Err fault → text ≡ form_text fault → Replies (reply_of_line s line) s text
+unfolding reading_of
+fault_tells s line fault text e said = faulty_tells s (reading_of line) (form_text fault) text (ap opened_reading e) said
+
+-- a line that is opened is told as what it is then read to
+pub opened_tells : (s after : CoreState) (line text : List ℕ) (o : Opened) → opened_line Lines line ≡ Ok o → Replies (after_line core_keeper s (open_reading o)) after text → Replies (reply_of_line s line) after text
+unfolding reading_of
+opened_tells s after line text o e tells =
+    subst (λ (r : Reading). Replies (after_line core_keeper s r) after text) (ap opened_reading (sym e)) tells
+
+-- one that the core doesn't take is told so
+pub not_taken_tells : (s : CoreState) (o : Opened) (text : List ℕ) → is_not_taken o ≡ true → text ≡ not_taken_line → Replies (after_line core_keeper s (open_reading o)) s text
+not_taken_tells s o text e said =
+    faulty_tells s (open_reading o) not_taken_line text (ap (λ (b : Bool). cond b (faulty not_taken_line) (as_reading (as_fault (said_line o)))) e) said
+
+-- what the core takes is read to what it says
+taken_reading : (o : Opened) (said : Result Line FormFault) → is_not_taken o ≡ false → as_fault (said_line o) ≡ said → open_reading o ≡ as_reading said
+taken_reading o said e is = ap (λ (b : Bool). cond b (faulty not_taken_line) (as_reading (as_fault (said_line o)))) e ∙ ap as_reading is
+
+-- a bad field of it is told
+pub bad_field_tells : (s : CoreState) (o : Opened) (fault : FormFault) (text : List ℕ) → is_not_taken o ≡ false → as_fault (said_line o) ≡ Err fault → text ≡ form_text fault
+    → Replies (after_line core_keeper s (open_reading o)) s text
+bad_field_tells s o fault text e is said = faulty_tells s (open_reading o) (form_text fault) text (taken_reading o (Err fault) e is) said
+
+-- and else its input
+pub read_tells : (s after : CoreState) (o : Opened) (text : List ℕ) (said : Line) → is_not_taken o ≡ false → as_fault (said_line o) ≡ Ok said → Replies (after_line core_keeper s (sound said.input said.at)) after text
+    → Replies (after_line core_keeper s (open_reading o)) after text
+read_tells s after o text said e is tells =
+    subst (λ (r : Reading). Replies (after_line core_keeper s r) after text) (sym (taken_reading o (Ok said) e is)) tells
 
 -- ---- at the start
 

@@ -1,5 +1,6 @@
 pub mod Statuses
 pub mod Lines
+pub mod NotTaken
 pub mod Dry
 pub mod Start
 pub mod Progress

@@ -6,13 +6,17 @@ ghost use Rattle.iss_model.specs.declared.limits.TheConstants.{MOST_RECORDS};
 ghost use Rattle.iss_model.specs.state.Cores.{core_keeper};
 ghost use Rattle.iss_model.specs.Forms.{is_in_form};
 ghost use Rattle.iss_model.specs.run.Transcripts.{sound, after_line, bytes_of};
+ghost use Rattle.iss_event.specs.Readings.{opened_as};
 ghost use Rattle.iss_core.specs.Values.{IsNext};
-ghost use Rattle.iss_top.specs.Dry.{reply_of_line, entries_text};
+ghost use Rattle.iss_top.specs.Dry.{reply_of_line, open_reading, entries_text};
 ghost use Rattle.iss_top.specs.Start.{IsAtStart};
 ghost use Rattle.iss_top.specs.Tells.{Replies, Records};
 
+use crate::taken::{is_not_taken, put_not_taken};
 use iss_core::Core;
-use iss_event::{Line, LineFault, Mode, Scratch, put_form, put_reply, put_told, read_line_in};
+use iss_event::{
+    Line, LineFault, Mode, OpenLine, Scratch, open_line, put_form, put_reply, put_told,
+};
 use iss_model::{Entry, Judged, Record, Reply};
 use std::alloc::{AllocError, Global};
 
@@ -30,7 +34,34 @@ pub(crate) fn answer(
     ensures told { IfOk result (λ next. Replies (reply_of_line core.state line.now) next.state text.new.items) }
     ensures start { IfOk result (λ next. IsAtStart next.state) }
 {
-    match read_line_in(scratch, alloc, line, Mode::Lines) {
+    match open_line(scratch, alloc, line, Mode::Lines) {
+        Ok(opened) => answer_opened(alloc, core, &opened, text),
+        Err(LineFault::Form(fault)) => {
+            put_form(text, &fault)?;
+            Ok(core)
+        }
+        Err(LineFault::OutOfMemory) => Err(AllocError),
+    }
+}
+
+/// Takes a line of a good type. One that the core doesn't take yet is told so, whatever its other fields.
+fn answer_opened(
+    alloc: Global,
+    core: Core,
+    line: &OpenLine<'_>,
+    text: &mut Vec<u8>,
+) -> Result<Core, AllocError>
+    requires room { core.state.count < MOST_RECORDS }
+    requires start { IsAtStart core.state }
+    requires empty { text.old.items ≡ [] }
+    ensures told { IfOk result (λ next. Replies (after_line core_keeper core.state (open_reading (opened_as line.now))) next.state text.new.items) }
+    ensures start { IfOk result (λ next. IsAtStart next.state) }
+{
+    if is_not_taken(line) {
+        put_not_taken(text)?;
+        return Ok(core);
+    }
+    match line.read(alloc) {
         Ok(said) => decide(alloc, core, said, text),
         Err(LineFault::Form(fault)) => {
             put_form(text, &fault)?;

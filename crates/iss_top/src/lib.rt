@@ -12,6 +12,7 @@ mod feed;
 mod format;
 mod replying;
 mod stop;
+mod taken;
 mod words;
 mod workspace;
 

@@ -1,5 +1,5 @@
 use Rattle.std.proofs.Common.{rules, ◌≡◌, ℕ, List, ◌++◌, codes, ap, ◌∙◌}
-use Rattle.iss_event.specs.Names.{name_text}
+use Rattle.iss_field.specs.Names.{name_text}
 use Rattle.iss_event.proofs.Lines.{named, bad_field}
 use Rattle.iss_event.proofs.writing.put_bad_field.Goals as goal
 

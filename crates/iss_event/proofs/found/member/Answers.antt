@@ -1,6 +1,0 @@
-use Rattle.json.specs.Value.{value_view}
-use Rattle.iss_event.proofs.Views.{found_seen}
-use Rattle.iss_event.proofs.found.member.Goals as goal
-
-pub returns : goal.returns
-returns c = found_seen c.get.result c.args.name.now (value_view c.args.line.now) c.get.ensures c.requires

@@ -1,0 +1,7 @@
+pub mod RisingCodes
+pub mod FieldsInForm
+pub mod Fits
+pub mod LeastObject
+pub mod ObjectLemmas
+pub mod ValuesInForm
+pub mod Views

@@ -1,0 +1,6 @@
+pub mod Fields
+pub mod Names
+pub mod Objects
+pub mod Plain
+pub mod Seen
+pub mod Values

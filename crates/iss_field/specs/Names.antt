@@ -1,0 +1,40 @@
+-- How a line spells the names of its fields.
+use Rattle.std.specs.Prelude.{ℕ, List, codes}
+use Rattle.iss_field.specs.declared.name.Name.{Name}
+use Rattle.iss_field.specs.declared.name.Name.TheVariants as name
+
+-- the member that holds this field
+unfoldable pub name_text : Name → List ℕ
+name_text name.Kind = codes "type"
+name_text name.At = codes "at"
+name_text name.Token = codes "token"
+name_text name.User = codes "user"
+name_text name.Card = codes "card"
+name_text name.Product = codes "product"
+name_text name.Active = codes "active"
+name_text name.To = codes "to"
+name_text name.Currency = codes "currency"
+name_text name.Funding = codes "funding"
+name_text name.TimeoutMs = codes "timeout_ms"
+name_text name.HoldMs = codes "hold_ms"
+name_text name.Group = codes "group"
+name_text name.Mccs = codes "mccs"
+name_text name.Control = codes "control"
+name_text name.Window = codes "window"
+name_text name.AmountLimit = codes "amount_limit"
+name_text name.UsageLimit = codes "usage_limit"
+name_text name.Mcc = codes "mcc"
+name_text name.Mid = codes "mid"
+name_text name.Set = codes "set"
+name_text name.Connection = codes "connection"
+name_text name.Timeout = codes "timeout"
+name_text name.Application = codes "application"
+name_text name.Max = codes "max"
+name_text name.DayLimit = codes "day_limit"
+name_text name.On = codes "on"
+name_text name.Amount = codes "amount"
+name_text name.Txn = codes "txn"
+name_text name.Last = codes "final"
+name_text name.Call = codes "call"
+name_text name.Outcome = codes "outcome"
+name_text name.Notice = codes "notice"

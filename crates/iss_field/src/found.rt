@@ -1,0 +1,48 @@
+//! What is found in a line, as far as fields ask.
+ghost use Rattle.std.specs.Prelude.{◌≡◌, true, is_some, option_map, option_and_then};
+ghost use Rattle.json.specs.Value.{value_view};
+ghost use Rattle.serde_json.specs.Find.{get, as_null, as_str, as_bool, as_number, as_u64};
+ghost use Rattle.iss_field.specs.Seen.{seen, fits};
+
+use crate::fitting::whole_number;
+use json::Value;
+
+/// The last member of that name, where the value is an object.
+pub(crate) fn member<'v, 'a>(line: &'v Value<'a>, name: &str) -> Option<&'v Value<'a>>
+    requires { fits (value_view line.now) ≡ true }
+    ensures { option_map (λ found. seen found.now) result ≡ get name.now (seen line.now) }
+{
+    line.get(name)
+}
+
+/// Whether the value is `null`.
+#[tactic(auto, using(crate::proofs::Views::null_seen))]
+pub(crate) fn is_null(found: &Value<'_>) -> bool
+    ensures { result ≡ is_some (as_null (seen found.now)) }
+{
+    found.is_null()
+}
+
+/// The value's text, where it is one.
+#[tactic(auto, using(crate::proofs::Views::text_seen))]
+pub fn text<'v, 'a>(found: &'v Value<'a>) -> Option<&'a str>
+    ensures { option_map (λ text. text.now) result ≡ as_str (seen found.now) }
+{
+    found.as_str()
+}
+
+/// The value's flag, where it is one.
+#[tactic(auto, using(crate::proofs::Views::flag_seen))]
+pub(crate) fn flag(found: &Value<'_>) -> Option<bool>
+    ensures { result ≡ as_bool (seen found.now) }
+{
+    found.as_bool()
+}
+
+/// The value as a whole number, where it is one that fits 64 bits.
+#[tactic(auto, using(crate::proofs::Views::whole_seen))]
+pub(crate) fn whole(found: &Value<'_>) -> Option<u64>
+    ensures { result ≡ option_and_then as_u64 (as_number (seen found.now)) }
+{
+    whole_number(found.as_number()?)
+}

@@ -1,0 +1,29 @@
+//! Fields of a line: bytes as one JSON object, its members by name, and what their values say by their forms.
+//!
+//! A field is required or may be left out, and has a form. What each form takes is a definition in `specs/`.
+//!
+//! It may cite `iss_model`, `iss_amount`, `fast_float`, `json` and `serde_json`.
+//! It must not cite types of line: which fields a line has, and in which order, is for the crates above.
+#![tactic(auto)]
+
+mod amounts;
+mod codes;
+mod fields;
+mod fitting;
+mod found;
+mod name;
+mod numbers;
+mod object;
+mod words;
+
+pub use amounts::{AmountForm, LimitForm};
+pub use codes::MccForm;
+pub use fields::{Form, FormIf};
+pub use found::text;
+pub use json::{Scratch, Value};
+pub use name::Name;
+pub use numbers::{FlagForm, NumberForm, WholeForm};
+pub use object::Object;
+pub use words::{
+    CardStateForm, CurrencyForm, FundingForm, OutcomeForm, TokenForm, UserStateForm, WindowForm,
+};
