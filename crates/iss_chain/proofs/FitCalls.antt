@@ -1,5 +1,5 @@
 -- The entries of each call fit the chain that they are made of.
-use Rattle.std.proofs.Common.{◌≡◌, ℕ, ◌-◌, ◌≤◌, min, ◌==◌, Bool, true, false, cond, ◌&&◌, ◌||◌, List, [], ◌∷◌, ◌++◌, refl, sym, ap, ◌∙◌, subst, arith}
+use Rattle.std.proofs.Common.{◌≡◌, ℕ, ◌-◌, ◌≤◌, min, ◌==◌, Bool, true, false, cond, ◌&&◌, ◌||◌, List, [], ◌∷◌, ◌++◌, refl, ap, ◌∙◌, arith}
 use Rattle.std.specs.Prelude.{Option, Some, None}
 use Rattle.std.specs.Option.{option_map}
 use Rattle.iss_model.specs.declared.account.Account.TheVariants as account
@@ -13,13 +13,13 @@ use Rattle.iss_model.specs.Sums.{part_key}
 use Rattle.iss_model.specs.state.Kept.{kept_at}
 use Rattle.iss_model.specs.rules.Activity.{TxnNow, txn_named}
 use Rattle.iss_model.specs.rules.Facts.{not_below}
-use Rattle.iss_model.specs.rules.Pieces.{only_gateway, post_entries, hold_entries, user_account, Parts, parts_held, in_all, left_of, taken_to_clear, release_entries}
+use Rattle.iss_model.specs.rules.Pieces.{post_entries, hold_entries, user_account, Parts, parts_held, in_all, left_of, taken_to_clear, release_entries}
 use Rattle.iss_model.specs.rules.CardEntries.{clearing_money_entries, owed_to_programme}
 use Rattle.iss_chain.specs.Values.{ChainNow, chain_facts}
 use Rattle.iss_chain.specs.Calls.{load_money_entries, fund_money_entries, reversal_money_entries, end_money_entries, clearing_end_entries, refund_money_entries, entries_for, entries_of_fund, entries_of_reverse, entries_of_end, entries_of_clear, entries_of_refund}
 use Rattle.iss_chain.specs.Entering.{AreFit, IsTxn}
 use Rattle.iss_chain.proofs.Standing.{found_token}
-use Rattle.iss_chain.proofs.FitPieces.{after, held_of, Has, Leaves, then, fit_append, is_known, post_leaves, hold_fit, release_leaves, gateway_leaves, clearing_leaves}
+use Rattle.iss_chain.proofs.FitPieces.{after, held_of, Has, then, fit_append, is_known, post_leaves, hold_fit, release_leaves, gateway_leaves, clearing_leaves}
 
 -- a transaction has the parts that it holds
 has_its_parts : (c : ChainNow) (name : List ℕ) (now : TxnNow) → txn_named name c.holdings.txns ≡ Some now → Has c now.txn (parts_held (chain_facts c) now.txn)

@@ -1,5 +1,5 @@
 -- The pieces that entries are made of fit what they are entered into, and leave what the next one needs.
-use Rattle.std.proofs.Common.{◌≡◌, ℕ, zero, suc, ◌-◌, ◌≤◌, min, ◌==◌, ℤ, pos, negsuc, neg_ℤ, ◌+ℤ◌, Bool, true, false, cond, List, [], ◌∷◌, ◌++◌, fold, refl, sym, ap, subst, ◌∙◌, arith}
+use Rattle.std.proofs.Common.{◌≡◌, ℕ, zero, suc, ◌-◌, ◌≤◌, ◌==◌, ℤ, pos, negsuc, neg_ℤ, ◌+ℤ◌, Bool, true, false, cond, List, [], ◌∷◌, ◌++◌, fold, refl, sym, ap, subst, ◌∙◌, arith}
 use Rattle.std.proofs.lemmas.Int.{ints}
 use Rattle.std.proofs.lemmas.List.Sums.{fold-append}
 use Rattle.std.specs.Prelude.{Option, Some, None, IsSome}
@@ -19,13 +19,13 @@ use Rattle.iss_model.specs.rules.Activity.{TxnNow, txn_named}
 use Rattle.iss_model.specs.rules.Asks.{usage_of}
 use Rattle.iss_model.specs.rules.Facts.{not_below}
 use Rattle.iss_model.specs.rules.CardReasons.{is_account_funded}
-use Rattle.iss_model.specs.rules.Pieces.{only_where, only_gateway, post_entries, hold_entries, unhold_entries, user_account, Parts, in_all, taken_to_clear, left_of, taken_to_release, use_return_entries, release_entries}
+use Rattle.iss_model.specs.rules.Pieces.{only_where, only_gateway, post_entries, hold_entries, unhold_entries, user_account, Parts, in_all, taken_to_clear, left_of, taken_to_release, release_entries}
 use Rattle.iss_model.specs.rules.CardEntries.{clearing_money_entries}
 use Rattle.iss_model.proofs.Names.{its_name}
 use Rattle.iss_model.proofs.KeptSums.{kept_at-after_change}
 use Rattle.iss_hold.specs.Entries.{IsCovered}
 use Rattle.iss_chain.specs.Values.{ChainNow, chain_after_entry}
-use Rattle.iss_chain.specs.Entering.{IsTxn, HoldFits, Fits, AreFit}
+use Rattle.iss_chain.specs.Entering.{IsTxn, AreFit}
 
 -- the chain after entries
 abbrev pub after : ChainNow → List Entry → ChainNow

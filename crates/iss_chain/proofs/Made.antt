@@ -1,12 +1,12 @@
 -- The entries that are made of what was found are those of the call.
-use Rattle.std.proofs.Common.{◌≡◌, ℕ, ◌<◌, ℤ, pos, ◌+ℤ◌, ◌-ℤ◌, Bool, false, List, [], ◌++◌, length, refl, sym, ap, ap₂, ◌∙◌, subst, arith}
+use Rattle.std.proofs.Common.{◌≡◌, ℕ, ◌<◌, ℤ, pos, ◌+ℤ◌, ◌-ℤ◌, List, [], ◌++◌, length, refl, sym, ap, ap₂, ◌∙◌, arith}
 use Rattle.std.specs.Prelude.{Option, Some, None, slice_get, int_lt}
 use Rattle.std.specs.Option.{option_map}
 use Rattle.std.specs.List.{IsDistinct}
 use Rattle.std.specs.Str.{bytes_eq}
 use Rattle.iss_model.specs.declared.entry.Entry.{Entry}
 use Rattle.iss_model.specs.rules.Activity.{TxnNow, txn_named}
-use Rattle.iss_model.specs.state.Kept.{Kept, IsSmall, kept_at}
+use Rattle.iss_model.specs.state.Kept.{Kept, kept_at}
 use Rattle.iss_model.specs.state.Cores.{Holdings}
 use Rattle.iss_model.specs.rules.Facts.{not_below}
 use Rattle.iss_model.specs.rules.Reasons.{is_some_with}

@@ -1,5 +1,5 @@
 -- How far each entry takes the sums of a chain.
-use Rattle.std.proofs.Common.{◌≡◌, ℕ, ◌+◌, ◌≤◌, ◌<◌, ◌^◌, ℤ, pos, negsuc, neg_ℤ, nat_abs, ◌+ℤ◌, Bool, true, false, cond, List, [], ◌∷◌, ◌++◌, fold, refl, sym, ap, subst, arith}
+use Rattle.std.proofs.Common.{ℕ, ◌+◌, ◌≤◌, ◌<◌, ◌^◌, ℤ, pos, negsuc, neg_ℤ, nat_abs, ◌+ℤ◌, Bool, true, false, cond, List, [], ◌∷◌, fold, sym, ap, subst, arith}
 use Rattle.std.proofs.lemmas.Int.{ints}
 use Rattle.std.specs.Prelude.{Option, Some, None, unwrap_or}
 use Rattle.std.specs.Str.{bytes_eq}
@@ -16,7 +16,7 @@ use Rattle.iss_model.specs.state.Cores.{begun_held_changes}
 use Rattle.iss_model.proofs.KeptSums.{kept_at-after_changes}
 use Rattle.iss_hold.specs.Bounds.{IsWithin, AreWithin}
 use Rattle.iss_chain.specs.Values.{ChainNow, no_chain, chain_after_entry}
-use Rattle.iss_chain.specs.Entering.{AreSumsSmall, KeepsSmall, StaysSmall}
+use Rattle.iss_chain.specs.Entering.{KeepsSmall, StaysSmall}
 use Rattle.iss_chain.specs.Bounds.{IsReached, moves, moved}
 use Rattle.iss_chain.proofs.FitPieces.{after}
 

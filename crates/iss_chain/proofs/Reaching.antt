@@ -1,8 +1,8 @@
 -- How far an amount reaches where the sums stay small.
-use Rattle.std.proofs.Common.{◌≡◌, ℕ, ◌-◌, ◌<◌, ◌^◌, ◌==◌, ℤ, pos, neg_ℤ, ◌+ℤ◌, Bool, true, false, cond, ◌&&◌, ◌||◌, List, [], ◌∷◌, ◌++◌, refl, sym, ap, ◌∙◌, subst, arith}
+use Rattle.std.proofs.Common.{◌≡◌, ℕ, ◌-◌, ◌<◌, ◌^◌, ◌==◌, ℤ, pos, neg_ℤ, ◌+ℤ◌, Bool, true, false, cond, List, [], ◌∷◌, ◌++◌, refl, sym, ◌∙◌, subst, arith}
 use Rattle.std.proofs.lemmas.Int.{ints}
 use Rattle.std.proofs.lemmas.Bool.Decides.{nat_tests}
-use Rattle.std.specs.Prelude.{Option, Some, None}
+use Rattle.std.specs.Prelude.{Some}
 use Rattle.std.specs.Str.{bytes_eq}
 use Rattle.iss_model.specs.declared.account.Account.TheVariants as account
 use Rattle.iss_model.specs.declared.account.Part.{Part}
@@ -12,11 +12,10 @@ use Rattle.iss_model.specs.declared.entry.Entry.{Entry}
 use Rattle.iss_model.specs.declared.entry.Entry.TheVariants as entry
 use Rattle.iss_model.specs.Sums.{Change, changed_at, account_key, user_key}
 use Rattle.iss_model.specs.state.Kept.{Kept, IsSmall, AreSmall, kept_at, after_changes}
-use Rattle.iss_model.specs.rules.Activity.{TxnNow}
 use Rattle.iss_model.specs.rules.Asks.{usage_of}
 use Rattle.iss_model.specs.rules.Pieces.{only_where, only_gateway, post_entries, hold_entries, unhold_entries, user_account, Parts, in_all}
 use Rattle.iss_model.specs.rules.CardEntries.{clearing_money_entries}
-use Rattle.iss_model.specs.state.Cores.{Holdings, begun_held_changes}
+use Rattle.iss_model.specs.state.Cores.{begun_held_changes}
 use Rattle.iss_model.proofs.Names.{its_name}
 use Rattle.iss_model.proofs.KeptSums.{kept_at-after_changes}
 use Rattle.iss_chain.specs.Values.{ChainNow, chain_after_entry}

@@ -1,5 +1,5 @@
 -- The rows of the transactions, and the sums by transaction that they come to.
-use Rattle.std.proofs.Common.{◌≡◌, ℕ, zero, suc, ◌<◌, ℤ, pos, ◌+ℤ◌, Bool, true, false, cond, List, [], ◌∷◌, ◌++◌, length, map, set, refl, sym, ap, ap₂, ◌∙◌, subst, arith}
+use Rattle.std.proofs.Common.{◌≡◌, ℕ, zero, suc, ℤ, pos, ◌+ℤ◌, Bool, true, false, cond, List, [], ◌∷◌, ◌++◌, length, map, set, refl, sym, ap, ap₂, ◌∙◌, subst, arith}
 use Rattle.std.proofs.lemmas.Int.{ints}
 use Rattle.std.proofs.lemmas.Map.Keys.{IsDistinct-head, IsDistinct-tail}
 use Rattle.std.specs.Prelude.{Option, Some, None, slice_get, unwrap_or}
@@ -10,13 +10,12 @@ use Rattle.std.specs.Ordering.{nat_cmp}
 use Rattle.std.specs.Cmp.Lexicographic.{slice_cmp}
 use Rattle.std.specs.FinMap as finite
 use Rattle.iss_model.specs.declared.account.Account.{Account}
-use Rattle.iss_model.specs.declared.txn.Txn.{Txn}
 use Rattle.iss_model.specs.declared.entry.Entry.TheVariants as entry
 use Rattle.iss_model.specs.Sums.{Change, changed_at, cleared_by, refunded_by, paid_by}
 use Rattle.iss_model.specs.state.Kept.{Kept, IsSmall, nothing_kept, kept_at, after_change, after_changes}
 use Rattle.iss_model.specs.rules.Activity.{TxnNow}
-use Rattle.iss_model.specs.state.Cores.{with_txn, with_end, with_post, txn_after_end, Holdings}
-use Rattle.iss_model.proofs.Names.{one_name, its_name, name-sym}
+use Rattle.iss_model.specs.state.Cores.{with_end, with_post, txn_after_end, Holdings}
+use Rattle.iss_model.proofs.Names.{its_name, name-sym}
 use Rattle.iss_model.proofs.KeptSums.{kept_at-after_change, kept_at-after_changes}
 use Rattle.iss_hold.specs.Holdings.{tokens}
 use Rattle.iss_hold.proofs.KeptChanges.{as_one, comes_last}

@@ -15,15 +15,15 @@ use Rattle.iss_model.specs.declared.entry.Entry.{Entry}
 use Rattle.iss_model.specs.declared.entry.Entry.TheVariants as entry
 use Rattle.iss_model.specs.rules.Activity.{TxnNow, txn_named}
 use Rattle.iss_model.specs.rules.CardReasons.{is_account_funded}
-use Rattle.iss_model.specs.rules.Pieces.{only_where, only_gateway, post_entries, hold_entries, unhold_entries, user_account, Parts, parts_held, in_all, left_of, taken_to_clear, taken_to_release, use_return_entries, release_entries}
+use Rattle.iss_model.specs.rules.Pieces.{only_gateway, post_entries, hold_entries, unhold_entries, user_account, Parts, parts_held, in_all, left_of, taken_to_clear, taken_to_release, release_entries}
 use Rattle.iss_model.specs.rules.CardEntries.{clearing_money_entries, owed_to_programme}
-use Rattle.iss_model.specs.state.Cores.{txn_after_end, with_end}
+use Rattle.iss_model.specs.state.Cores.{txn_after_end}
 use Rattle.iss_hold.specs.Bounds.{AreBelow}
 use Rattle.iss_hold.proofs.TestBounds.{new_origin, below_next, below_started}
 use Rattle.iss_chain.specs.Values.{ChainNow, no_chain, chain_after_entry, chain_facts}
 use Rattle.iss_chain.specs.Calls.{load_money_entries, fund_money_entries, reversal_money_entries, end_money_entries, clearing_end_entries, refund_money_entries, entries_for, entries_of_fund, entries_of_reverse, entries_of_end, entries_of_clear, entries_of_refund}
 use Rattle.iss_chain.specs.Entering.{StaysSmall}
-use Rattle.iss_chain.specs.Bounds.{IsReached, moves, moved}
+use Rattle.iss_chain.specs.Bounds.{moves, moved}
 use Rattle.iss_chain.specs.Walks.{IsWalked, HoldsLittle}
 use Rattle.iss_chain.proofs.Standing.{found_token}
 use Rattle.iss_chain.proofs.FitPieces.{after}

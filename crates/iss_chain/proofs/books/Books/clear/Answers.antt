@@ -1,4 +1,4 @@
-use Rattle.std.proofs.Common.{◌≡◌, List, ◌++◌, length, sym, ap, subst, ◌∙◌}
+use Rattle.std.proofs.Common.{List, ◌++◌, length, sym, ap, subst, ◌∙◌}
 use Rattle.iss_model.specs.declared.entry.Entry.{Entry}
 use Rattle.iss_model.specs.rules.Pieces.{taken_to_clear}
 use Rattle.iss_model.specs.rules.CardEntries.{clearing_money_entries}

@@ -1,4 +1,4 @@
-use Rattle.std.proofs.Common.{List, sym, ap, ◌∙◌}
+use Rattle.std.proofs.Common.{sym, ap, ◌∙◌}
 use Rattle.std.specs.Prelude.{Option}
 use Rattle.iss_model.specs.rules.Activity.{TxnNow}
 use Rattle.iss_model.specs.rules.Reasons.{is_some_with}
