@@ -1,9 +1,8 @@
 -- A row that is added to the counters that are ready for it.
-use Rattle.std.proofs.Common.{◌≡◌, ℕ, zero, suc, ◌+◌, ◌<◌, ℤ, Bool, true, false, cond, ◌&&◌, ◌==◌, nat_le, nat_lt, List, [], ◌∷◌, map, length, find, set, get_or, slice_get, Option, Some, None, refl, sym, ap, ap₂, ◌∙◌, subst, arith}
+use Rattle.std.proofs.Common.{◌≡◌, ℕ, zero, suc, ◌+◌, ◌<◌, ℤ, Bool, true, false, cond, ◌&&◌, ◌==◌, nat_le, List, [], ◌∷◌, map, length, set, get_or, slice_get, Option, Some, None, refl, sym, ap, ap₂, ◌∙◌, subst, arith}
 use Rattle.std.specs.Option.{option_map}
-use Rattle.std.specs.Str.{bytes_eq}
 use Rattle.std.specs.Ordering.{int_eq}
-use Rattle.std.specs.Cmp.{signed_Decides, int_eq_equiv}
+use Rattle.std.specs.Cmp.{signed_Decides}
 use Rattle.std.proofs.lemmas.Bool.Decides.{nat_tests}
 use Rattle.iss_model.specs.declared.txn.UsageRow.{UsageRow}
 use Rattle.iss_model.specs.declared.txn.Used.{Used}
@@ -11,9 +10,9 @@ use Rattle.iss_model.specs.rules.Controls.{Group, counts}
 use Rattle.iss_velocity.specs.declared.counters.Counter.{Counter}
 use Rattle.iss_velocity.specs.declared.standing.Standing.{Standing}
 use Rattle.iss_velocity.specs.Spanning.{span_number}
-use Rattle.iss_velocity.specs.Counting.{Past, put_of, at_place, in_span, or_else, past_at, used_in, used_more, used_then, counts_in, counter_by, counter_then}
+use Rattle.iss_velocity.specs.Counting.{Past, put_of, at_place, in_span, or_else, past_at, used_in, used_more, counts_in, counter_by, counter_then}
 use Rattle.iss_velocity.specs.Lists.{rising_from, AreReady}
-use Rattle.iss_velocity.specs.Keeping.{IsSmallUse, StaySmall, FitsMore, FitMore, StaysSame, IsCounted}
+use Rattle.iss_velocity.specs.Keeping.{IsSmallUse, StaySmall, FitMore, StaysSame, IsCounted}
 use Rattle.iss_velocity.proofs.Walks.{there_is, stands_at}
 
 -- the first of these are changed

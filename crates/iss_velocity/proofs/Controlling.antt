@@ -1,9 +1,7 @@
 -- Controls with their sums, as the counters give them.
-use Rattle.std.proofs.Common.{◌≡◌, ℕ, zero, suc, ◌+◌, ℤ, pos, ◌+ℤ◌, Bool, true, false, cond, ◌&&◌, ◌||◌, ◌==◌, nat_le, List, [], ◌∷◌, ◌++◌, map, length, drop, find, slice_get, Option, Some, None, is_some, refl, sym, ap, ap₂, ◌∙◌, subst, arith}
-use Rattle.std.proofs.lemmas.Int.{ints}
+use Rattle.std.proofs.Common.{◌≡◌, ℕ, zero, suc, ◌+◌, ℤ, pos, ◌+ℤ◌, Bool, true, false, cond, ◌&&◌, ◌||◌, List, [], ◌∷◌, map, drop, slice_get, Option, Some, None, refl, sym, ap, ap₂, ◌∙◌, subst, arith}
 use Rattle.std.specs.Prelude.{unwrap_or}
 use Rattle.std.specs.Option.{option_map}
-use Rattle.std.specs.List.{list_any}
 use Rattle.std.specs.Str.{bytes_eq}
 use Rattle.std.specs.Ordering.{int_eq}
 use Rattle.std.specs.Cmp.{signed_Decides, int_eq_equiv}
@@ -14,19 +12,17 @@ use Rattle.iss_model.specs.declared.setting.Window.TheVariants as window
 use Rattle.iss_model.specs.declared.txn.UsageRow.{UsageRow}
 use Rattle.iss_model.specs.declared.txn.Used.{Used}
 use Rattle.iss_model.specs.declared.entry.Entry.TheVariants as entry
-use Rattle.iss_model.specs.rules.Controls.{Group, ControlNow, counts, counter_key, span_key, counted_changes}
+use Rattle.iss_model.specs.rules.Controls.{Group, counts, counter_key, span_key, counted_changes}
 use Rattle.iss_model.specs.rules.Asks.{passes, used_by}
-use Rattle.iss_model.specs.state.Kept.{Kept, kept_at, after_changes, AreSmall, IsSmall}
+use Rattle.iss_model.specs.state.Kept.{kept_at, after_changes, AreSmall, IsSmall}
 use Rattle.iss_model.specs.state.Cores.{ControlKept, control_after_use, control_facts}
 use Rattle.iss_model.proofs.KeptSums.{kept_at-after_change}
 use Rattle.iss_model.proofs.Names.{one_name, its_name}
 use Rattle.iss_velocity.specs.declared.standing.Standing.{Standing}
-use Rattle.iss_velocity.specs.declared.standing.Change.{Change}
 use Rattle.iss_velocity.specs.Spanning.{spans_at, number_in, is_single, span_number}
-use Rattle.iss_velocity.specs.Words.{declines_use, is_over_by}
-use Rattle.iss_velocity.specs.Puts.{kept_named, standing_named, standing_after_change, kept_after_change, with_limits, with_activity}
+use Rattle.iss_velocity.specs.Words.{declines_use}
 use Rattle.iss_velocity.specs.Counting.{Users, Past, put_of, counters_at, used_in, used_at, unused, used_more, used_then, counts_in, passes_with}
-use Rattle.iss_velocity.specs.Keeping.{has_no_zero, sums_in, control_at, controls_from, AreKeyed, KeepsSmall, HaveSmallSums, IsSmallUse, StaySmall, StaysSame, IsCounted}
+use Rattle.iss_velocity.specs.Keeping.{has_no_zero, sums_in, control_at, controls_from, AreKeyed, HaveSmallSums, StaySmall}
 use Rattle.iss_velocity.proofs.Lookups.{get_sums}
 use Rattle.iss_velocity.proofs.SumsKept.{unchanged_sums, changed_sums}
 

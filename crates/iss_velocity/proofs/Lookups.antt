@@ -1,5 +1,5 @@
 -- What the sums of a control have at a user's span is what its counters have counted there.
-use Rattle.std.proofs.Common.{◌≡◌, ℕ, ℤ, Bool, true, false, cond, ◌&&◌, ◌==◌, nat_lt, List, [], ◌∷◌, ◌++◌, Option, Some, None, refl, sym, ap, ap₂, ◌∙◌, subst, arith}
+use Rattle.std.proofs.Common.{◌≡◌, ℕ, ℤ, Bool, true, false, cond, ◌&&◌, ◌==◌, nat_lt, List, [], ◌∷◌, ◌++◌, Option, Some, None, refl, sym, ap, ap₂, ◌∙◌, arith}
 use Rattle.std.specs.Prelude.{unwrap_or}
 use Rattle.std.specs.Option.{option_map}
 use Rattle.std.specs.List.{filter_map, cons_option, list_all, AllByRecursion}
@@ -18,8 +18,7 @@ use Rattle.std.proofs.lemmas.Bool.Decides.{nat_tests}
 use Rattle.std.proofs.lemmas.Map.Text.{is_eq-slice_cmp}
 use Rattle.iss_model.specs.declared.txn.Used.{Used}
 use Rattle.iss_model.specs.rules.Controls.{counter_key}
-use Rattle.iss_model.specs.state.Kept.{Kept}
-use Rattle.iss_model.proofs.Names.{one_name, name-sym}
+use Rattle.iss_model.proofs.Names.{one_name}
 use Rattle.iss_velocity.specs.declared.counters.Counter.{Counter}
 use Rattle.iss_velocity.specs.Counting.{Users, Past, by_span, at_place, in_span, or_else, past_at, counters_at, used_at}
 use Rattle.iss_velocity.specs.Keeping.{has_no_zero, counter_sum, user_sum, past_sum, sums_in, AreKeyed}

@@ -1,5 +1,5 @@
 -- The sums of controls are those over the rows that were noted, whatever is noted, put or changed.
-use Rattle.std.proofs.Common.{◌≡◌, ℕ, zero, suc, ℤ, pos, ◌+ℤ◌, Bool, true, false, cond, ◌&&◌, nat_le, nat_lt, List, [], ◌∷◌, ◌++◌, map, fold, slice_get, Option, Some, None, refl, sym, ap, ap₂, ◌∙◌, subst, arith}
+use Rattle.std.proofs.Common.{◌≡◌, ℕ, zero, suc, ℤ, pos, ◌+ℤ◌, Bool, true, false, cond, ◌&&◌, nat_le, nat_lt, List, [], ◌∷◌, ◌++◌, map, fold, slice_get, Option, Some, refl, sym, ap, ◌∙◌, subst, arith}
 use Rattle.std.proofs.lemmas.Int.{ints}
 use Rattle.std.proofs.lemmas.Bool.{and_parts}
 use Rattle.std.proofs.lemmas.Bool.Decides.{nat_tests}
@@ -13,7 +13,7 @@ use Rattle.std.specs.FinMap as finite
 use Rattle.iss_model.specs.declared.entry.Entry.TheVariants as entry
 use Rattle.iss_model.specs.declared.txn.UsageRow.{UsageRow}
 use Rattle.iss_model.specs.Sums.{Change, changed_at}
-use Rattle.iss_model.specs.rules.Controls.{Group, ControlPut, covers, is_associated, counts, span_key, counted_changes}
+use Rattle.iss_model.specs.rules.Controls.{Group, ControlPut, covers, is_associated, span_key, counted_changes}
 use Rattle.iss_model.specs.Currencies.{same_currency}
 use Rattle.iss_model.specs.state.Kept.{Kept, nothing_kept, kept_at, after_changes}
 use Rattle.iss_model.specs.state.Cores.{ControlKept, control_after_put, with_control, control_after_use}

@@ -1,5 +1,5 @@
 -- A row that is noted of one user, seen over the counters of all.
-use Rattle.std.proofs.Common.{◌≡◌, ℕ, ℤ, Bool, true, false, cond, List, [], ◌∷◌, slice_get, Option, Some, None, is_some, refl, sym, ap, ap₂, ◌∙◌, subst}
+use Rattle.std.proofs.Common.{◌≡◌, ℕ, ℤ, Bool, true, false, cond, List, [], slice_get, Option, Some, None, is_some, refl, sym, ap, ap₂, ◌∙◌}
 use Rattle.std.specs.Prelude.{unwrap_or, Result, Ok, Err, OnErr}
 use Rattle.std.specs.List.{list_all}
 use Rattle.std.specs.Map.{keys_of}
@@ -7,7 +7,7 @@ use Rattle.std.specs.Str.{bytes_eq}
 use Rattle.std.specs.Ordering.{nat_cmp, is_eq}
 use Rattle.std.specs.Cmp.Lexicographic.{slice_cmp}
 use Rattle.std.specs.BTreeMap as tree
-use Rattle.std.specs.BTreeMap.{is_at, insert_entry}
+use Rattle.std.specs.BTreeMap.{insert_entry}
 use Rattle.std.proofs.lemmas.Map.Text.{is_eq-slice_cmp}
 use Rattle.iss_model.specs.declared.txn.UsageRow.{UsageRow}
 use Rattle.iss_model.specs.declared.txn.Used.{Used}
@@ -15,7 +15,7 @@ use Rattle.iss_model.specs.rules.Controls.{Group}
 use Rattle.iss_model.proofs.Names.{one_name, name-sym}
 use Rattle.iss_velocity.specs.declared.counters.Counter.{Counter}
 use Rattle.iss_velocity.specs.declared.standing.Standing.{Standing}
-use Rattle.iss_velocity.specs.Counting.{Users, Past, by_name, at_place, in_span, or_else, counters_at, past_at, used_in, used_at, used_more, used_then, counts_in}
+use Rattle.iss_velocity.specs.Counting.{Users, Past, by_name, at_place, in_span, or_else, counters_at, used_in, used_at, used_more, used_then, counts_in}
 use Rattle.iss_velocity.specs.Keeping.{has_no_zero, is_users_plain, is_past_plain, AreKeyed, StaysSame, IsCounted}
 use Rattle.iss_velocity.proofs.Turning.{keys_more}
 

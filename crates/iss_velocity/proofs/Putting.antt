@@ -1,28 +1,24 @@
 -- Controls that are put, changed and found.
-use Rattle.std.proofs.Common.{◌≡◌, ℕ, zero, suc, ◌+◌, ◌<◌, ◌≤◌, nat_le, ℤ, pos, Bool, true, false, cond, not, ◌&&◌, ◌||◌, List, [], ◌∷◌, ◌++◌, map, length, drop, find, slice_get, Option, Some, None, is_some, refl, sym, ap, ap₂, ◌∙◌, subst, arith}
+use Rattle.std.proofs.Common.{◌≡◌, ℕ, zero, suc, ◌+◌, ◌<◌, ◌≤◌, nat_le, ℤ, Bool, true, false, cond, not, ◌||◌, List, [], ◌∷◌, ◌++◌, map, length, drop, find, slice_get, Option, Some, None, is_some, refl, sym, ap, ◌∙◌, arith}
 use Rattle.std.specs.Option.{option_map}
 use Rattle.std.specs.List.{list_any}
 use Rattle.std.specs.Str.{bytes_eq}
-use Rattle.std.specs.Ordering.{nat_cmp}
-use Rattle.std.specs.Cmp.Lexicographic.{slice_cmp}
 use Rattle.std.proofs.lemmas.Bool.Decides.{nat_tests}
 use Rattle.iss_model.specs.declared.setting.Control.{Control}
-use Rattle.iss_model.specs.declared.setting.Window.{Window}
 use Rattle.iss_model.specs.declared.txn.UsageRow.{UsageRow}
 use Rattle.iss_model.specs.declared.txn.Used.{Used}
-use Rattle.iss_model.specs.rules.Controls.{Group, ControlNow, ControlPut}
+use Rattle.iss_model.specs.rules.Controls.{Group, ControlNow}
 use Rattle.iss_model.specs.rules.Asks.{used_by}
 use Rattle.iss_model.specs.rules.Reasons.{is_full, is_same_control}
 use Rattle.iss_model.specs.declared.decision.Reason.TheVariants as reason
-use Rattle.iss_model.specs.state.Kept.{Kept, nothing_kept}
+use Rattle.iss_model.specs.state.Kept.{nothing_kept}
 use Rattle.iss_model.specs.state.Cores.{ControlKept, control_after_put, control_facts, with_control}
 use Rattle.iss_velocity.specs.declared.standing.Standing.{Standing}
 use Rattle.iss_velocity.specs.declared.standing.Change.{Change}
 use Rattle.iss_velocity.specs.Words.{declines_use, breach_of, used_of}
 use Rattle.iss_velocity.specs.Puts.{kept_named, put_reason, standing_named, standing_after_change, kept_after_change, with_limits, with_activity}
 use Rattle.iss_velocity.specs.Counting.{Users, Past, used_at}
-use Rattle.iss_velocity.specs.Keeping.{has_no_zero, sums_in, control_at, controls_from, AreKeyed}
-use Rattle.iss_velocity.proofs.Lookups.{IsKey, get_sums, sums_keys}
+use Rattle.iss_velocity.specs.Keeping.{sums_in, control_at, controls_from, AreKeyed}
 use Rattle.iss_velocity.proofs.SumsKept.{no_sums}
 use Rattle.iss_velocity.proofs.Controlling.{from_start, dropped}
 

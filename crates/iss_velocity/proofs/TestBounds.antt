@@ -1,5 +1,5 @@
 -- Use moves each sum of a control by at most its amount and its count.
-use Rattle.std.proofs.Common.{◌≡◌, ℕ, zero, suc, ◌+◌, ◌*◌, ◌<◌, ◌≤◌, ◌^◌, ℤ, pos, negsuc, neg_ℤ, ◌+ℤ◌, ◌≤ℤ◌, Bool, true, false, cond, List, [], ◌∷◌, ◌++◌, map, slice_get, Option, Some, None, refl, sym, ap, ◌∙◌, subst, arith}
+use Rattle.std.proofs.Common.{◌≡◌, ℕ, zero, suc, ◌+◌, ◌*◌, ◌<◌, ◌≤◌, ◌^◌, ℤ, pos, ◌+ℤ◌, Bool, true, false, cond, List, [], ◌∷◌, ◌++◌, map, slice_get, Option, Some, refl, sym, ap, subst, arith}
 use Rattle.std.proofs.lemmas.Int.{ints}
 use Rattle.std.specs.Prelude.{unwrap_or}
 use Rattle.std.specs.List.{list_any}
@@ -11,14 +11,14 @@ use Rattle.iss_model.specs.declared.entry.Entry.TheVariants as entry
 use Rattle.iss_model.specs.declared.txn.UsageRow.{UsageRow}
 use Rattle.iss_model.specs.Forms.{is_amount}
 use Rattle.iss_model.specs.rules.Controls.{Group, ControlPut, counts, span_key, counted_changes}
-use Rattle.iss_model.specs.state.Kept.{Kept, nothing_kept, kept_at, after_changes, IsSmall, AreSmall}
+use Rattle.iss_model.specs.state.Kept.{Kept, nothing_kept, kept_at, after_changes, IsSmall}
 use Rattle.iss_model.specs.state.Cores.{ControlKept, control_after_put, control_after_use, with_control}
 use Rattle.iss_model.proofs.KeptSums.{kept_at-after_change}
 use Rattle.std.proofs.lemmas.Bool.Decides.{nat_tests}
 use Rattle.iss_velocity.specs.declared.ask.Ask.{Ask}
 use Rattle.iss_velocity.specs.Words.{asked_use}
 use Rattle.iss_velocity.specs.Puts.{control_after_limits, control_after_activity}
-use Rattle.iss_velocity.specs.Keeping.{KeepsSmall, HaveSmallSums}
+use Rattle.iss_velocity.specs.Keeping.{HaveSmallSums}
 use Rattle.iss_velocity.specs.Bounds.{IsWithin, KeepsWithin, AreWithin}
 
 more_within : (b : Bool) (z by : ℤ) (bound more : ℕ) → IsWithin bound z → IsWithin more by → IsWithin (bound + more) (z +ℤ cond b by (pos 0))

@@ -1,5 +1,5 @@
 -- A counter that is turned to a row's span, or made for it: nothing is counted in another way.
-use Rattle.std.proofs.Common.{◌≡◌, ℕ, zero, suc, ◌+◌, ℤ, Bool, true, false, cond, not, ◌&&◌, ◌==◌, nat_le, nat_lt, List, [], ◌∷◌, ◌++◌, length, set, slice_get, Option, Some, None, is_some, refl, sym, ap, ap₂, ◌∙◌, subst, arith, w64, of_z}
+use Rattle.std.proofs.Common.{◌≡◌, ℕ, ◌+◌, ℤ, Bool, true, false, cond, ◌&&◌, ◌==◌, nat_le, List, [], ◌∷◌, set, slice_get, Option, Some, None, is_some, refl, sym, ap, ap₂, ◌∙◌, subst, arith, w64, of_z}
 use Rattle.std.specs.List.{list_all}
 use Rattle.std.specs.Map.{keys_of}
 use Rattle.std.specs.Str.{bytes_eq}
@@ -9,7 +9,7 @@ use Rattle.std.specs.declared.cmp.Ordering.TheVariants.{Less, Equal, Greater}
 use Rattle.std.specs.Ordering.{int_eq, match_ordering}
 use Rattle.std.specs.Cmp.{signed_Decides, int_eq_equiv}
 use Rattle.std.specs.BTreeMap as tree
-use Rattle.std.specs.BTreeMap.{is_at, insert_entry}
+use Rattle.std.specs.BTreeMap.{insert_entry}
 use Rattle.std.proofs.lemmas.Bool.{and_parts}
 use Rattle.std.proofs.lemmas.Bool.Decides.{nat_tests}
 use Rattle.iss_model.specs.declared.txn.UsageRow.{UsageRow}
@@ -20,8 +20,8 @@ use Rattle.iss_velocity.specs.declared.counters.Counter.{Counter}
 use Rattle.iss_velocity.specs.declared.standing.Standing.{Standing}
 use Rattle.iss_velocity.specs.Spanning.{span_number}
 use Rattle.iss_velocity.specs.Counting.{Past, by_span, put_of, at_place, in_span, or_else, past_at, used_in}
-use Rattle.iss_velocity.specs.Lists.{rising_from, IsSplit, AreReady}
-use Rattle.iss_velocity.specs.Keeping.{has_no_zero, is_past_plain, IsKeptPast, IsTurned, IsReady, StaysSame}
+use Rattle.iss_velocity.specs.Lists.{IsSplit, AreReady}
+use Rattle.iss_velocity.specs.Keeping.{has_no_zero, IsKeptPast, IsTurned, IsReady, StaysSame}
 use Rattle.iss_velocity.proofs.Lookups.{span_test}
 use Rattle.iss_velocity.proofs.Walks.{stands_here, put_split, put_at, new_split, new_at}
 

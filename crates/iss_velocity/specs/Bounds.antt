@@ -1,6 +1,6 @@
 -- How far the sums of a test reach.
 use Rattle.std.specs.Prelude.{◌≡◌, ℕ, ℤ, pos, neg_ℤ, ◌≤ℤ◌, List, slice_get, Some}
-use Rattle.iss_model.specs.state.Kept.{Kept, kept_at}
+use Rattle.iss_model.specs.state.Kept.{kept_at}
 use Rattle.iss_model.specs.state.Cores.{ControlKept}
 
 -- a sum lies within a bound on either side of 0

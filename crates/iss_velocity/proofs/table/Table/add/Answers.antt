@@ -1,6 +1,4 @@
-use Rattle.std.proofs.Common.{◌≡◌, ◌<◌, ◌≤◌, length, Bool, true, false, cond, Some, None, sym, ap, ◌∙◌, arith, rules, Err}
-use Rattle.std.specs.Prelude.{Option}
-use Rattle.iss_model.specs.declared.decision.Reason.{Reason}
+use Rattle.std.proofs.Common.{◌≡◌, ◌<◌, ◌≤◌, length, Bool, cond, Some, None, sym, ap, ◌∙◌, arith, rules, Err}
 use Rattle.iss_model.specs.declared.decision.Reason.TheVariants as reason
 use Rattle.iss_velocity.specs.declared.controls.ControlFault.TheVariants.{OutOfMemory}
 use Rattle.iss_velocity.specs.Puts.{reason_of_result}

@@ -4,7 +4,7 @@ use Rattle.iss_velocity.specs.declared.counters.Counter.{Counter}
 use Rattle.iss_velocity.specs.declared.standing.Standing.{Standing}
 use Rattle.iss_velocity.specs.Keeping.{StaySmall, IsCounted}
 use Rattle.iss_velocity.proofs.Controlling.{fits, controls_stay, controls_then}
-use Rattle.iss_velocity.proofs.Noting.{own_old, all_counted, all_same, after_keyed, beyond_counted, beyond_same, begun_used, on_any_err}
+use Rattle.iss_velocity.proofs.Noting.{all_counted, all_same, after_keyed, beyond_counted, beyond_same, begun_used, on_any_err}
 use Rattle.iss_velocity.proofs.table.Table.note.Goals as goal
 
 pub returns-in_err-begin-clause-refused : goal.returns-in_err-begin-clause-refused
