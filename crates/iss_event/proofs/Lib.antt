@@ -3,3 +3,4 @@ pub mod GivenMoney
 pub mod LeastLine
 pub mod Lines
 pub mod LinesInForm
+pub mod ReportTexts

@@ -9,21 +9,21 @@ use Rattle.iss_model.specs.declared.decision.Reply.{Reply}
 use Rattle.iss_model.specs.declared.decision.Reply.TheVariants.{Decided, Pending}
 use Rattle.iss_model.specs.declared.decision.Answer.TheVariants as answer
 use Rattle.iss_model.specs.texts.Wordings.{reason_text, reply_line, fault_line}
-use Rattle.iss_model.specs.texts.AnswerLines.{how_text, answer_text}
+use Rattle.iss_model.specs.texts.AnswerLines.{how_text, answer_text, acked_line}
 use Rattle.iss_field.specs.declared.name.Name.{Name}
 use Rattle.iss_event.specs.declared.line.FormFault.TheVariants.{Field}
 use Rattle.iss_field.specs.Names.{name_text}
 use Rattle.iss_event.specs.FormLines.{form_text}
 use Rattle.iss_event.specs.Replies.{declined_end, reply_end}
 
-four : (a b c d : List ℕ) → a ++ b ++ c ++ d ≡ a ++ (b ++ (c ++ d))
+pub four : (a b c d : List ℕ) → a ++ b ++ c ++ d ≡ a ++ (b ++ (c ++ d))
 four a b c d = append_assoc (a ++ b) c d ∙ append_assoc a b (c ++ d)
 
 five : (a b c d e : List ℕ) → a ++ b ++ c ++ d ++ e ≡ a ++ (b ++ (c ++ (d ++ e)))
 five a b c d e = append_assoc (a ++ b ++ c) d e ∙ four a b c (d ++ e)
 
 -- a text in quotation marks, what follows it in the braces, and the end of the line
-quoted : (text more : List ℕ) → text ++ (34 ∷ []) ++ more ++ (125 ∷ []) ++ (10 ∷ []) ≡ text ++ (34 ∷ (more ++ codes "}\n"))
+pub quoted : (text more : List ℕ) → text ++ (34 ∷ []) ++ more ++ (125 ∷ []) ++ (10 ∷ []) ≡ text ++ (34 ∷ (more ++ codes "}\n"))
 quoted text more = five text (34 ∷ []) more (125 ∷ []) (10 ∷ [])
 
 -- a number, what follows it in the braces, and the end of the line
@@ -81,6 +81,10 @@ unknown_call call = ap (λ (t : List ℕ). codes "{\"call\":" ++ t) (bare (decim
 pub already : (notice : ℕ) → answer_text (answer.Already notice) ≡ codes "{\"notice\":" ++ (decimal notice ++ codes ",\"reply\":\"already\"}\n")
 unfolding answer_text
 already notice = ap (λ (t : List ℕ). codes "{\"notice\":" ++ t) (bare (decimal notice) (codes ",\"reply\":\"already\""))
+
+pub acked : (notice : ℕ) → acked_line notice ≡ codes "{\"notice\":" ++ (decimal notice ++ codes ",\"reply\":\"acked\"}\n")
+unfolding acked_line
+acked notice = ap (λ (t : List ℕ). codes "{\"notice\":" ++ t) (bare (decimal notice) (codes ",\"reply\":\"acked\""))
 
 pub unknown_notice : (notice : ℕ) → answer_text (answer.UnknownNotice notice) ≡ codes "{\"notice\":" ++ (decimal notice ++ codes ",\"reply\":\"unknown\"}\n")
 unfolding answer_text

@@ -3,3 +3,4 @@ pub mod Inputs
 pub mod Kinds
 pub mod Readings
 pub mod Replies
+pub mod ReportLines

@@ -13,6 +13,7 @@ mod line;
 mod payments;
 mod reading;
 mod reason;
+mod report;
 mod settings;
 mod writing;
 
@@ -20,7 +21,15 @@ pub use iss_field::{Name, Scratch};
 pub use kind::Kind;
 pub use line::{FormFault, Line, LineFault, Mode, OpenLine};
 pub use reading::{open_line, read_line, read_line_in};
-pub use writing::{form_line, put_form, put_reply, put_told, reply_line, told_line};
+pub use report::{balance_line, count_line};
+pub use writing::{
+    acked_line, form_line, put_acked, put_form, put_reply, put_time, put_told, reply_line,
+    time_line, told_line,
+};
 
+#[cfg(test)]
+mod faults;
+#[cfg(test)]
+mod later;
 #[cfg(test)]
 mod tests;

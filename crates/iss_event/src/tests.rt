@@ -1,4 +1,4 @@
-use crate::{FormFault, Line, LineFault, Mode, Name, form_line, read_line, reply_line, told_line};
+use crate::{FormFault, Line, LineFault, Mode, Name, read_line, reply_line, told_line};
 use iss_model::{
     Answer, CardState, Currency, Input, Moved, Reason, Reply, Token, UserState, Verdict,
 };
@@ -9,15 +9,6 @@ fn read(alloc: Global, text: &str) -> Result<Input, LineFault> {
     let line = read_line(alloc, text.as_bytes(), Mode::Lines)?;
     let Line { input, at: _ } = line;
     Ok(input)
-}
-
-/// The fault of a line, if it has one.
-fn fault_of(alloc: Global, text: &str) -> Result<Option<FormFault>, AllocError> {
-    match read_line(alloc, text.as_bytes(), Mode::Lines) {
-        Ok(_) => Ok(None),
-        Err(LineFault::Form(fault)) => Ok(Some(fault)),
-        Err(LineFault::OutOfMemory) => Err(AllocError),
-    }
 }
 
 fn token(text: &str) -> Result<Token, Fail> {
@@ -157,60 +148,6 @@ fn reads_an_authorization(rt: HostRuntime) -> Result<(), Fail> {
     Ok(())
 }
 
-/// Lines with a fault, and the first one of each.
-const FAULTS: [(&str, FormFault); 12] = [
-    (r#"[{"type":"user"}]"#, FormFault::Json),
-    (
-        r#"{"type":"products","token":7,"funding":"GATEWAY"}"#,
-        FormFault::Field(Name::Kind),
-    ),
-    (r#"{"type":"group","token":7}"#, FormFault::NotBuilt),
-    (
-        r#"{"type":"move","token":"m","to":"ACTIVE"}"#,
-        FormFault::Field(Name::Card),
-    ),
-    (
-        r#"{"type":"move","token":"m","card":"c","user":"u","to":1}"#,
-        FormFault::Field(Name::User),
-    ),
-    (
-        r#"{"type":"move","token":"m","user":"u","to":"UNACTIVATED"}"#,
-        FormFault::Field(Name::To),
-    ),
-    (
-        r#"{"type":"product","token":"p","product":"x","currency":"usd"}"#,
-        FormFault::Field(Name::Currency),
-    ),
-    (
-        r#"{"type":"product","token":"p","product":"x","currency":"KWD","funding":"ACCOUNT","timeout_ms":60001}"#,
-        FormFault::Field(Name::TimeoutMs),
-    ),
-    (
-        r#"{"type":"product","token":"p","product":"x","currency":"KWD","funding":"ACCOUNT","hold_ms":86399999}"#,
-        FormFault::Field(Name::HoldMs),
-    ),
-    (
-        r#"{"type":"product","token":7,"funding":"ACCOUNT","funding":"GATEWAY"}"#,
-        FormFault::NotBuilt,
-    ),
-    (
-        r#"{"type":"product","token":7,"funding":"ACCOUNT","at":-1}"#,
-        FormFault::NotBuilt,
-    ),
-    (
-        r#"{"type":"authorization","token":"a","card":"c","currency":"JPY","amount":1,"mcc":"541x"}"#,
-        FormFault::Field(Name::Mcc),
-    ),
-];
-
-#[test]
-fn the_first_fault_of_a_line(rt: HostRuntime) -> Result<(), Fail> {
-    for (text, fault) in FAULTS {
-        assert_eq!(rt; fault_of(rt.alloc(), text)?, Some(fault));
-    }
-    Ok(())
-}
-
 #[test]
 fn tells_replies(rt: HostRuntime) -> Result<(), Fail> {
     let event = token("a1")?;
@@ -260,38 +197,5 @@ fn tells_a_conflict(rt: HostRuntime) -> Result<(), Fail> {
         conflict.as_slice()
             == b"{\"event\":\"a1\",\"record\":4,\"reply\":\"conflict\"}\n".as_slice()
     );
-    Ok(())
-}
-
-#[test]
-fn tells_faults(rt: HostRuntime) -> Result<(), Fail> {
-    let faults = [
-        (
-            FormFault::NotBuilt,
-            "{\"fault\":\"NOT_BUILT\",\"reply\":\"form\"}\n",
-        ),
-        (
-            FormFault::Field(Name::HoldMs),
-            "{\"fault\":\"FIELD\",\"field\":\"hold_ms\",\"reply\":\"form\"}\n",
-        ),
-    ];
-    for (fault, text) in faults {
-        let line = form_line(rt.alloc(), &fault)?;
-        assert!(rt; line.as_slice() == text.as_bytes());
-    }
-    Ok(())
-}
-
-#[test]
-fn a_clients_line_says_neither_when_nor_what_a_gateway_answered(
-    rt: HostRuntime,
-) -> Result<(), Fail> {
-    let timed = br#"{"type":"time","at":5}"#;
-    let fault = read_line(rt.alloc(), timed, Mode::Client).err();
-    assert_eq!(rt; fault, Some(LineFault::Form(FormFault::Field(Name::Kind))));
-    let user = br#"{"type":"user","token":"t1","user":"u1","at":"then"}"#;
-    assert!(rt; read_line(rt.alloc(), user, Mode::Client).is_ok());
-    let fault = read_line(rt.alloc(), user, Mode::Lines).err();
-    assert_eq!(rt; fault, Some(LineFault::Form(FormFault::NotBuilt)));
     Ok(())
 }

@@ -1,6 +1,6 @@
 //! The lines that are told, as bytes after those that are there. Where an allocation fails a part of a line may be there.
 ghost use Rattle.std.specs.Prelude.{◌≡◌, ◌++◌, IfOk, OnOk, decimal};
-ghost use Rattle.iss_model.specs.texts.AnswerLines.{answer_text, how_text};
+ghost use Rattle.iss_model.specs.texts.AnswerLines.{answer_text, how_text, acked_line, time_line};
 ghost use Rattle.iss_model.specs.texts.Wordings.{reply_line, fault_line};
 ghost use Rattle.iss_model.specs.declared.decision.Answer.TheVariants as answer;
 ghost use Rattle.iss_event.specs.declared.line.FormFault.TheVariants.{Field};
@@ -29,6 +29,24 @@ pub fn told_line(alloc: Global, answer: &Answer) -> Result<Vec<u8>, AllocError>
 {
     let mut line = Vec::new(alloc);
     put_told(&mut line, answer)?;
+    Ok(line)
+}
+
+/// The line of an acknowledgement that was taken, with its line feed.
+pub fn acked_line(alloc: Global, notice: u32) -> Result<Vec<u8>, AllocError>
+    ensures { IfOk result (λ line. line.items ≡ acked_line notice) }
+{
+    let mut line = Vec::new(alloc);
+    put_acked(&mut line, notice)?;
+    Ok(line)
+}
+
+/// The line of a time at which something was due, with its line feed.
+pub fn time_line(alloc: Global) -> Result<Vec<u8>, AllocError>
+    ensures { IfOk result (λ line. line.items ≡ time_line) }
+{
+    let mut line = Vec::new(alloc);
+    put_time(&mut line)?;
     Ok(line)
 }
 
@@ -72,6 +90,21 @@ pub fn put_told(out: &mut Vec<u8>, answer: &Answer) -> Result<(), AllocError>
         Answer::Idle => put_idle(out),
         Answer::Full { free, need } => put_full(out, *free, *need),
     }
+}
+
+/// Adds the line of an acknowledgement that was taken, with its line feed.
+pub fn put_acked(out: &mut Vec<u8>, notice: u32) -> Result<(), AllocError>
+    ensures { OnOk result (out.new.items ≡ out.old.items ++ acked_line notice) }
+{
+    put_numbered(out, b"{\"notice\":", notice, b",\"reply\":\"acked\"}\n")
+}
+
+/// Adds the line of a time at which something was due, with its line feed.
+#[tactic(auto, unfolding(iss_model::specs::texts::AnswerLines::time_line))]
+pub fn put_time(out: &mut Vec<u8>) -> Result<(), AllocError>
+    ensures { OnOk result (out.new.items ≡ out.old.items ++ time_line) }
+{
+    out.extend_from_slice(b"{\"reply\":\"time\"}\n")
 }
 
 /// Adds the line that tells of a fault of form, with its line feed.
@@ -165,7 +198,7 @@ fn put_idle(out: &mut Vec<u8>) -> Result<(), AllocError>
     out.extend_from_slice(b"{\"reply\":\"idle\"}\n")
 }
 
-fn put_number(out: &mut Vec<u8>, number: u64) -> Result<(), AllocError>
+pub(crate) fn put_number(out: &mut Vec<u8>, number: u64) -> Result<(), AllocError>
     ensures { OnOk result (out.new.items ≡ out.old.items ++ decimal number) }
 {
     out.extend_from_slice(Buffer::new().format(number).as_bytes())
@@ -183,7 +216,7 @@ fn put_numbered(
     put_between(out, prefix, Buffer::new().format(number).as_bytes(), suffix)
 }
 
-fn put_between(
+pub(crate) fn put_between(
     out: &mut Vec<u8>,
     prefix: &[u8],
     text: &[u8],

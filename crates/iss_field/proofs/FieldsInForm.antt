@@ -1,5 +1,5 @@
 -- What holds of each value that a form takes holds of a field in that form.
-use Rattle.std.proofs.Common.{◌≡◌, Bool, true, false, Option, Some, None, option_map, option_and_then, Result, Ok, Err, IfOk, IfSome, cond}
+use Rattle.std.proofs.Common.{Bool, true, false, Option, Some, None, option_map, option_and_then, IfOk, IfSome}
 use Rattle.std.specs.Option.{ok_or}
 use Rattle.serde_json.specs.Data.{Data}
 use Rattle.iss_field.specs.declared.name.Name.{Name}

@@ -1,5 +1,5 @@
 -- The codes of an array: its items are seen one by one, and its codes rise.
-use Rattle.std.proofs.Common.{Less, Equal, Greater, ◌≡◌, ℕ, suc, ◌+◌, ◌<◌, ◌≤◌, ◌==◌, ◌&&◌, nat_lt, nat_le, Bool, true, false, List, [], ◌∷◌, length, Option, Some, None, IfSome, option_map, option_and_then, cond, refl, sym, ap, ◌∙◌, arith}
+use Rattle.std.proofs.Common.{Less, Equal, Greater, ◌≡◌, ℕ, suc, ◌+◌, ◌≤◌, ◌==◌, ◌&&◌, nat_lt, nat_le, Bool, true, false, List, [], ◌∷◌, length, Option, Some, None, IfSome, option_map, option_and_then, cond, refl, sym, ap, ◌∙◌, arith}
 use Rattle.std.proofs.lemmas.Bool.Decides.{nat_tests}
 use Rattle.std.specs.Ordering.{nat_cmp, match_ordering}
 use Rattle.std.specs.BTreeSet.{insert_key}
@@ -8,12 +8,12 @@ use Rattle.json.specs.Json as json
 use Rattle.json.specs.Json.{Json}
 use Rattle.serde_json.specs.Data.{Num, Data, number, array, object, Items, no_items, item, Members, no_members}
 use Rattle.json.specs.Find as find
-use Rattle.serde_json.specs.Find.{as_str, as_array}
+use Rattle.serde_json.specs.Find.{as_array}
 use Rattle.serde_json.specs.Read.{of_json, of_items, of_members, number_of}
 use Rattle.iss_model.specs.declared.limits.TheConstants.{MOST_MCCS}
 use Rattle.iss_model.specs.Forms.{is_mcc, are_rising, are_mccs}
 use Rattle.iss_field.specs.Seen.{if_fit, data_of, data_items, seen_items}
-use Rattle.iss_field.specs.Values.{mcc_of_text, mcc_of, item_count, codes_with, mccs_of_items, mccs_of}
+use Rattle.iss_field.specs.Values.{mcc_of, item_count, codes_with, mccs_of_items, mccs_of}
 use Rattle.iss_field.proofs.Views.{of_some}
 use Rattle.iss_field.proofs.ValuesInForm.{mcc_of-meets}
 

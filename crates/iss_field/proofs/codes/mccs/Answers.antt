@@ -1,7 +1,6 @@
-use Rattle.std.proofs.Common.{◌≡◌, List, ℕ, Option, Some, None, IfOk, option_and_then, Global, sym, ap, ◌∙◌, subst}
+use Rattle.std.proofs.Common.{◌≡◌, List, ℕ, Option, IfOk, option_and_then, Global, sym, ap, ◌∙◌, subst}
 use Rattle.json.specs.Json as json
-use Rattle.json.specs.Find.{as_array}
-use Rattle.json.specs.Value.{value_view, items_view}
+use Rattle.json.specs.Value.{value_view}
 use Rattle.json.specs.declared.value.Value.{Value}
 use Rattle.iss_field.specs.Seen.{seen, data_items, seen_items}
 use Rattle.iss_field.specs.Values.{mccs_of, mccs_of_items}

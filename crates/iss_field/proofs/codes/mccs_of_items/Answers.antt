@@ -1,8 +1,6 @@
-use Rattle.std.proofs.Common.{rules, ◌≡◌, ℕ, ◌&&◌, nat_le, Bool, true, false, List, length, Option, Some, None, option_map, sym, ap, ◌∙◌}
+use Rattle.std.proofs.Common.{rules, ◌≡◌, ℕ, ◌&&◌, nat_le, true, false, List, length, Some, option_map, sym, ap, ◌∙◌}
 use Rattle.std.specs.BTreeSet.{BTreeSet}
 use Rattle.iss_model.specs.declared.limits.TheConstants.{MOST_MCCS}
-use Rattle.iss_field.specs.Seen.{seen_items}
-use Rattle.iss_field.specs.Values.{codes_with, mccs_of_items}
 use Rattle.iss_field.proofs.RisingCodes.{counted}
 use Rattle.iss_field.proofs.codes.mccs_of_items.Goals as goal
 
