@@ -106,16 +106,16 @@ fn told(alloc: Global, core: &Core, line: &str) -> Result<Option<Answer>, AllocE
     requires start { IsAtStart core.now.state }
 {
     match said(alloc, line) {
-        Some(input) => told_input(core, &input),
+        Some(input) => told_input(core, input),
         None => Ok(None),
     }
 }
 
-fn told_input(core: &Core, input: &Input) -> Result<Option<Answer>, AllocError>
+fn told_input(core: &Core, input: Input) -> Result<Option<Answer>, AllocError>
     requires start { IsAtStart core.now.state }
-    requires built { is_built input.now ≡ true }
+    requires built { is_built input ≡ true }
 {
-    match core.judge(input, 0)? {
+    match core.judge(&input, 0)? {
         Judged::Told(answer) => Ok(Some(answer)),
         _ => Ok(None),
     }

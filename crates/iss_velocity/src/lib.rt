@@ -14,6 +14,8 @@ mod standing;
 mod table;
 #[cfg(test)]
 mod tests;
+#[cfg(test)]
+mod worked;
 
 pub use ask::Ask;
 pub use controls::{ControlFault, Controls};

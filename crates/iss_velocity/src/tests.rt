@@ -9,12 +9,12 @@ use iss_scope::Groups;
 use std::alloc::{AllocError, Global};
 use std::test::Fail;
 
-fn token(text: &str) -> Result<Token, Fail> {
+pub(crate) fn token(text: &str) -> Result<Token, Fail> {
     Ok(Token::new(text.as_bytes()).ok_or("no token")?)
 }
 
 /// A control in dollars at all merchants, of all users, with an amount limit of 100.00.
-fn control(name: &Token, window: Window) -> Control {
+pub(crate) fn control(name: &Token, window: Window) -> Control {
     Control {
         name: *name,
         currency: Currency::Usd,
@@ -28,7 +28,7 @@ fn control(name: &Token, window: Window) -> Control {
 }
 
 /// A purchase in dollars at a grocery, by the authorisation of a record.
-fn purchase(name: &Token, origin: u32, amount: u64) -> Ask
+pub(crate) fn purchase(name: &Token, origin: u32, amount: u64) -> Ask
     ensures { result.amount ≡ amount }
 {
     Ask {
@@ -45,7 +45,7 @@ fn purchase(name: &Token, origin: u32, amount: u64) -> Ask
 }
 
 /// Judges an ask and notes it where no control declines it. Whether none did. `earlier` is how many rows were noted before.
-fn buy(
+pub(crate) fn buy(
     controls: &mut Controls,
     alloc: Global,
     groups: &Groups,
@@ -67,7 +67,7 @@ fn buy(
 }
 
 /// Controls with this one, put by record 4.
-fn with_one(alloc: Global, control: &Control) -> Result<Controls, ControlFault>
+pub(crate) fn with_one(alloc: Global, control: &Control) -> Result<Controls, ControlFault>
     ensures { IfOk result (AreWithin (1000000000 * 0)) }
 {
     let mut controls = Controls::new(alloc);
