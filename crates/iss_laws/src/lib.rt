@@ -1,6 +1,6 @@
 //! The laws of the book: what holds of it whatever inputs were taken.
 //!
-//! It may cite `iss_model`, `iss_agreement` and `iss_pending`, and `iss_scripts` for the books on which laws are computed.
+//! It may cite `iss_model` and the crates of laws over it, and `iss_scripts` for the books on which laws are computed.
 //! It must not cite any body of the program.
 #![tactic(auto)]
 

@@ -1,7 +1,7 @@
 //! What holds of the transactions, the calls and the decisions of every core: what is asked belongs to a live transaction, how an answer
 //! is judged, and that each event is decided once.
 //!
-//! It may cite `iss_model`, `iss_invariants` and `iss_docket`.
+//! It may cite `iss_model`, `iss_effects`, `iss_invariants` and `iss_docket`.
 //! It must not cite any body: its laws are of definitions.
 //!
 //! `IsWell s` holds of each state that legal records leave, and a step keeps it. Of `well : IsWell s`, what it says is cited by its fields:
