@@ -5,6 +5,8 @@ pub mod Sound
 pub mod Settled
 pub mod NewEvents
 pub mod Walk
+pub mod FormStates
+pub mod FormEntries
 pub mod OwnEntries
 pub mod Steps
 pub mod NoticePieces
