@@ -1,6 +1,6 @@
 -- What is due, and what an input in form makes, is in form on a state in form.
 use Rattle.std.specs.Prelude.{None, Option, Some, option_and_then, option_map}
-use Rattle.std.proofs.Common.{Bool, List, [], ap, ap₂, cond, false, filter, min, neg_ℤ, nat_eq, pos, refl, true, ℕ, ◌&&◌, ◌++◌, ◌+◌, ◌-◌, ◌||◌, ◌∙◌, ◌∷◌, ◌≡◌}
+use Rattle.std.proofs.Common.{Bool, List, [], ap, ap₂, cond, false, filter, min, nat_eq, refl, true, ℕ, ◌&&◌, ◌++◌, ◌+◌, ◌-◌, ◌||◌, ◌∙◌, ◌∷◌, ◌≡◌}
 use Rattle.std.specs.List.{list_all}
 use Rattle.std.specs.Str.{bytes_eq}
 use Rattle.std.proofs.lemmas.Bool.{and_parts}
@@ -28,16 +28,16 @@ use Rattle.iss_model.specs.declared.setting.Product.{Product}
 use Rattle.iss_model.specs.declared.txn.Txn.{Txn}
 use Rattle.iss_model.specs.Forms.{is_in_form, is_stamp}
 use Rattle.iss_model.specs.rules.Activity.{CallNow, TxnNow, call_numbered, is_asked, txn_named}
-use Rattle.iss_model.specs.rules.Asks.{Ask, ask_given_back, ask_usage, call_ask, txn_begun, usage_of}
+use Rattle.iss_model.specs.rules.Asks.{Ask, ask_given_back, ask_usage, call_ask, txn_begun}
 use Rattle.iss_model.specs.rules.CardEntries.{authorization_entries, call_for, clearing_entries, clearing_money_entries, entries_of_asked, entries_of_txn, failed_call_entries, funding_entries, further_clearing_entries, gateway_ask_entries, increment_entries, last_clearing_entries, outcome_entries, owed_to_programme, refund_entries, reversal_entries}
 use Rattle.iss_model.specs.rules.CardReasons.{authorization_reason, clearing_reason, first_ask, further_ask, increment_reason, is_account_funded, refund_reason, reversal_reason}
 use Rattle.iss_model.specs.rules.Due.{DueThing, call_due, expiry_entries, live_expiry_entries, thing_entries, txn_due}
 use Rattle.iss_model.specs.rules.Facts.{Facts, asked_calls_of, is_notice, next_notice}
-use Rattle.iss_model.specs.rules.Pieces.{Parts, abandoned_call_entries, abandoned_calls_entries, abandonment_entries, declined_ask_entries, end_entries, failure_reason, funded_ask_entries, hold_entries, in_all, left_of, notice_after_abandonment, notice_entry, only_gateway, only_where, parts_held, post_entries, release_entries, set_stand_in_entries, stand_entries, stand_in_entries, taken_to_clear, taken_to_release, unhold_entries, use_return_entries, user_account, void_entry}
+use Rattle.iss_model.specs.rules.Pieces.{Parts, abandoned_call_entries, abandoned_calls_entries, abandonment_entries, declined_ask_entries, end_entries, failure_reason, funded_ask_entries, hold_entries, in_all, left_of, notice_entry, only_gateway, only_where, parts_held, post_entries, release_entries, stand_entries, stand_in_entries, taken_to_clear, taken_to_release, unhold_entries, use_return_entries, user_account, void_entry}
 use Rattle.iss_model.specs.rules.Reasons.{load_reason}
 use Rattle.iss_model.specs.rules.Settings.{card_named, is_named_in, product_named}
 use Rattle.iss_model.specs.rules.StandIns.{Stand, allowed, over_limit, stand, uncovered}
-use Rattle.iss_model.specs.rules.Stepping.{authorization_ask, entries_of, increment_ask, load_entries, setting_entries, unless_declined}
+use Rattle.iss_model.specs.rules.Stepping.{authorization_ask, entries_of, increment_ask, setting_entries, unless_declined}
 use Rattle.iss_model.specs.state.Cores.{CoreState, core_facts}
 use Rattle.iss_model.proofs.Lists.{find_passes}
 use Rattle.iss_invariants.specs.InForm.{IsInForm, is_begun_at_stamp, is_entry_in_form, is_opened_at_stamp}

@@ -1,6 +1,6 @@
 -- A state in form stays so where a record is taken up and where entries in form are entered.
 use Rattle.std.specs.Prelude.{None, Some}
-use Rattle.std.proofs.Common.{Bool, List, [], ap, ap₂, arith, cond, false, fold, map, max, nat_eq, nat_le, refl, sym, true, ℕ, ◌&&◌, ◌++◌, ◌∙◌, ◌∷◌, ◌≡◌}
+use Rattle.std.proofs.Common.{Bool, List, [], ap₂, arith, cond, false, fold, map, max, nat_eq, nat_le, refl, true, ℕ, ◌&&◌, ◌++◌, ◌∙◌, ◌∷◌, ◌≡◌}
 use Rattle.std.specs.List.{list_all}
 use Rattle.std.specs.Str.{bytes_eq}
 use Rattle.std.proofs.lemmas.Bool.{and_parts}

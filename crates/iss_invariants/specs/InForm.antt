@@ -1,5 +1,5 @@
 -- States and entries whose fields are of their forms.
-use Rattle.std.specs.Prelude.{Bool, List, true, ◌&&◌, ◌≡◌}
+use Rattle.std.specs.Prelude.{Bool, true, ◌&&◌, ◌≡◌}
 use Rattle.std.specs.List.{list_all}
 use Rattle.iss_model.specs.declared.entry.Entry.{Entry}
 use Rattle.iss_model.specs.declared.entry.Entry.TheVariants as entry

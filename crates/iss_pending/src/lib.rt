@@ -17,5 +17,7 @@
 mod pending;
 mod sweeps;
 
-pub use pending::{calls_are_well, entries_are_allowed, events_are_decided_once};
+pub use pending::{
+    accepted_events_are_decided, calls_are_well, entries_are_allowed, events_are_decided_once,
+};
 pub use sweeps::{answers_are_judged, due_items_close_calls};
