@@ -1,13 +1,10 @@
 -- What is due, and what an input in form makes, is in form on a state in form.
 use Rattle.std.specs.Prelude.{None, Option, Some, option_and_then, option_map}
-use Rattle.std.proofs.Common.{Bool, List, [], ap, ap₂, cond, false, filter, min, nat_eq, refl, true, ℕ, ◌&&◌, ◌++◌, ◌+◌, ◌-◌, ◌||◌, ◌∙◌, ◌∷◌, ◌≡◌}
+use Rattle.std.proofs.Common.{Bool, List, [], ap, ap₂, cond, false, filter, min, nat_eq, refl, true, ℕ, ◌&&◌, ◌+◌, ◌-◌, ◌||◌, ◌∷◌, ◌≡◌}
 use Rattle.std.specs.List.{list_all}
 use Rattle.std.specs.Str.{bytes_eq}
 use Rattle.std.proofs.lemmas.Bool.{and_parts}
-use Rattle.std.proofs.lemmas.List.Folds.{list_all-append}
-use Rattle.iss_model.specs.declared.account.Account.{Account}
 use Rattle.iss_model.specs.declared.account.Account.TheVariants as account
-use Rattle.iss_model.specs.declared.account.Part.{Part}
 use Rattle.iss_model.specs.declared.account.Part.TheVariants as part
 use Rattle.iss_model.specs.declared.call.Failure.{Failure}
 use Rattle.iss_model.specs.declared.call.Failure.TheVariants as failure
@@ -28,12 +25,12 @@ use Rattle.iss_model.specs.declared.setting.Product.{Product}
 use Rattle.iss_model.specs.declared.txn.Txn.{Txn}
 use Rattle.iss_model.specs.Forms.{is_in_form, is_stamp}
 use Rattle.iss_model.specs.rules.Activity.{CallNow, TxnNow, call_numbered, is_asked, txn_named}
-use Rattle.iss_model.specs.rules.Asks.{Ask, ask_given_back, ask_usage, call_ask, txn_begun}
-use Rattle.iss_model.specs.rules.CardEntries.{authorization_entries, call_for, clearing_entries, clearing_money_entries, entries_of_asked, entries_of_txn, failed_call_entries, funding_entries, further_clearing_entries, gateway_ask_entries, increment_entries, last_clearing_entries, outcome_entries, owed_to_programme, refund_entries, reversal_entries}
+use Rattle.iss_model.specs.rules.Asks.{Ask, ask_usage, call_ask, txn_begun}
+use Rattle.iss_model.specs.rules.CardEntries.{authorization_entries, call_for, clearing_entries, entries_of_asked, entries_of_txn, failed_call_entries, funding_entries, further_clearing_entries, gateway_ask_entries, increment_entries, last_clearing_entries, outcome_entries, owed_to_programme, refund_entries, reversal_entries}
 use Rattle.iss_model.specs.rules.CardReasons.{authorization_reason, clearing_reason, first_ask, further_ask, increment_reason, is_account_funded, refund_reason, reversal_reason}
 use Rattle.iss_model.specs.rules.Due.{DueThing, call_due, expiry_entries, live_expiry_entries, thing_entries, txn_due}
 use Rattle.iss_model.specs.rules.Facts.{Facts, asked_calls_of, is_notice, next_notice}
-use Rattle.iss_model.specs.rules.Pieces.{Parts, abandoned_call_entries, abandoned_calls_entries, abandonment_entries, declined_ask_entries, end_entries, failure_reason, funded_ask_entries, hold_entries, in_all, left_of, notice_entry, only_gateway, only_where, parts_held, post_entries, release_entries, stand_entries, stand_in_entries, taken_to_clear, taken_to_release, unhold_entries, use_return_entries, user_account, void_entry}
+use Rattle.iss_model.specs.rules.Pieces.{Parts, abandoned_call_entries, abandoned_calls_entries, abandonment_entries, end_entries, failure_reason, in_all, left_of, notice_entry, parts_held, stand_entries, stand_in_entries, taken_to_clear, user_account, void_entry}
 use Rattle.iss_model.specs.rules.Reasons.{load_reason}
 use Rattle.iss_model.specs.rules.Settings.{card_named, is_named_in, product_named}
 use Rattle.iss_model.specs.rules.StandIns.{Stand, allowed, over_limit, stand, uncovered}
@@ -41,70 +38,24 @@ use Rattle.iss_model.specs.rules.Stepping.{authorization_ask, entries_of, increm
 use Rattle.iss_model.specs.state.Cores.{CoreState, core_facts}
 use Rattle.iss_model.proofs.Lists.{find_passes}
 use Rattle.iss_invariants.specs.InForm.{IsInForm, is_begun_at_stamp, is_entry_in_form, is_opened_at_stamp}
+use Rattle.iss_invariants.proofs.Passing.{EachPasses, PassesMoves, both_pass, clearing_money_passes, declined_ask_passes, either_passes, funded_ask_passes, gateway_passes, hold_passes, one_passes, passing, post_passes, release_passes, where_passes}
 use Rattle.iss_invariants.proofs.Walk.{EachKind, walk}
 
 -- each of these entries is in form
-record AreFormed (es : List Entry) : Type 0 where
-  all : list_all is_entry_in_form es ≡ true
+abbrev AreFormed : List Entry → Type 0
+AreFormed es = EachPasses is_entry_in_form es
 
-formed : {es : List Entry} → list_all is_entry_in_form es ≡ true → AreFormed es
-formed h = record { all = h }
-
-both_formed : {xs ys : List Entry} → AreFormed xs → AreFormed ys → AreFormed (xs ++ ys)
-both_formed {xs} {ys} h k = record { all = list_all-append is_entry_in_form xs ys ∙ ap₂ (λ (a b : Bool). a && b) h.all k.all }
-
-either_formed : (b : Bool) {xs ys : List Entry} → AreFormed xs → AreFormed ys → AreFormed (cond b xs ys)
-either_formed true h k = h
-either_formed false h k = k
-
-where_formed : (amount : ℕ) {es : List Entry} → AreFormed es → AreFormed (only_where amount es)
-where_formed amount h = either_formed (nat_eq amount 0) (formed refl) h
-
-gateway_formed : (t : Txn) {es : List Entry} → AreFormed es → AreFormed (only_gateway t es)
-gateway_formed t h = either_formed (is_account_funded t.funding) (formed refl) h
-
--- one entry that is in form where a moment is a stamp
-stamped : {es : List Entry} (b : Bool) → list_all is_entry_in_form es ≡ (b && true) → b ≡ true → AreFormed es
-stamped b same h = record { all = same ∙ ap (λ (b : Bool). b && true) h }
-
--- ---- money and holds
-
-post_formed : (t : Txn) (from to : Account) (amount : ℕ) → AreFormed (post_entries t from to amount)
-post_formed t from to amount = where_formed amount (formed refl)
-
-hold_formed : (t : Txn) (p : Part) (amount : ℕ) → AreFormed (hold_entries t p amount)
-hold_formed t p amount = where_formed amount (formed refl)
-
-unhold_formed : (t : Txn) (p : Part) (amount : ℕ) → AreFormed (unhold_entries t p amount)
-unhold_formed t p amount = where_formed amount (formed refl)
-
-use_return_formed : (t : Txn) (amount : ℕ) → is_stamp t.at ≡ true → AreFormed (use_return_entries t amount)
-use_return_formed t amount begun = where_formed amount (stamped (is_stamp t.at) refl begun)
-
-six_formed : {a b c d e f : List Entry} → AreFormed a → AreFormed b → AreFormed c → AreFormed d → AreFormed e → AreFormed f → AreFormed (a ++ b ++ c ++ d ++ e ++ f)
-six_formed a b c d e f = both_formed (both_formed (both_formed (both_formed (both_formed a b) c) d) e) f
-
-release_formed : (t : Txn) (parts : Parts) (amount : ℕ) → is_stamp t.at ≡ true → AreFormed (release_entries t parts amount)
-release_formed t parts amount begun =
-    let taken = taken_to_release parts amount in
-    six_formed (unhold_formed t part.P taken.p) (post_formed t (user_account t) (account.Programme t.currency) taken.p) (unhold_formed t part.G taken.g)
-    (post_formed t (user_account t) (account.Gateway t.currency) taken.g) (unhold_formed t part.S taken.s) (use_return_formed t amount begun)
-
-clearing_money_formed : (t : Txn) (taken : Parts) (amount at : ℕ) → is_stamp at ≡ true → AreFormed (clearing_money_entries t taken amount at)
-clearing_money_formed t taken amount at stamp =
-    let excess = amount - in_all taken in
-    six_formed (unhold_formed t part.G taken.g) (unhold_formed t part.P taken.p) (unhold_formed t part.S taken.s)
-    (gateway_formed t (post_formed t (account.Programme t.currency) (user_account t) excess)) (post_formed t (user_account t) (account.Network t.currency) amount)
-    (where_formed excess (stamped (is_stamp at) refl stamp))
+moves : PassesMoves is_entry_in_form
+moves = record { post = λ from to amount txn. refl; hold = λ txn user currency part amount. refl; ended = λ txn. refl; decided = λ event v. refl }
 
 -- ---- abandonment and ends
 
 abandoned_formed : (n : ℕ) (t : Txn) (why : Reason) (cs : List CallNow) → list_all is_opened_at_stamp cs ≡ true → AreFormed (abandoned_calls_entries n t why cs)
-abandoned_formed n t why [] opened = formed refl
+abandoned_formed n t why [] opened = passing refl
 abandoned_formed n t why (c ∷ cs) opened =
     let both = and_parts (is_opened_at_stamp c) (list_all is_opened_at_stamp cs) opened in
-    let first : AreFormed (abandoned_call_entries n t why c.opened) = stamped (is_stamp c.opened.at) refl both.0 in
-    both_formed first (abandoned_formed (n + 1) t why cs both.1)
+    let first : AreFormed (abandoned_call_entries n t why c.opened) = passing (ap (λ (b : Bool). b && true) both.0) in
+    both_pass first (abandoned_formed (n + 1) t why cs both.1)
 
 all_filtered : {A : Type 0} (p q : A → Bool) (xs : List A) → list_all p xs ≡ true → list_all p (filter q xs) ≡ true
 all_filtered p q [] h = refl
@@ -127,30 +78,19 @@ abandonment_formed n f t why timed =
 
 end_formed : (n : ℕ) (f : Facts) (t : Txn) (parts : Parts) (why : Reason) → AreTimed f → is_stamp t.at ≡ true → AreFormed (end_entries n f t parts why)
 end_formed n f t parts why timed begun =
-    let last : AreFormed (entry.Ended t.token ∷ []) = formed refl in
-    both_formed (both_formed (abandonment_formed n f t why timed) (release_formed t parts (in_all parts) begun)) last
+    let last : AreFormed (entry.Ended t.token ∷ []) = passing refl in
+    both_pass (both_pass (abandonment_formed n f t why timed) (release_passes moves t parts (in_all parts) begun)) last
 
 -- ---- asks
 
-declined_ask_formed : (ask : Ask) (why : Reason) → is_stamp ask.at ≡ true → AreFormed (declined_ask_entries ask why)
-declined_ask_formed ask why stamp =
-    let used : AreFormed (entry.Usage (ask_given_back ask) ∷ []) = stamped (is_stamp ask.at) refl stamp in
-    let decided : AreFormed (entry.Decided ask.event (verdict.Declined why) ∷ []) = formed refl in
-    both_formed used (both_formed (either_formed ask.is_first (formed refl) (formed refl)) decided)
-
-funded_ask_formed : (ask : Ask) (from : Account) (p : Part) → AreFormed (funded_ask_entries ask from p)
-funded_ask_formed ask from p =
-    let decided : AreFormed (entry.Decided ask.event verdict.Approved ∷ []) = formed refl in
-    both_formed (both_formed (post_formed ask.txn from (user_account ask.txn) ask.amount) (hold_formed ask.txn p ask.amount)) decided
-
 stand_formed : (n : ℕ) (x : Stand) (ask : Ask) (why : Failure) (at : ℕ) → is_stamp ask.at ≡ true → is_stamp at ≡ true → AreFormed (stand_entries x n ask why at)
 stand_formed n (allowed set) ask why at asked stamp =
-    let stood : AreFormed (entry.Stood set.name ask.txn.product ask.txn.user ask.amount at ∷ []) = stamped (is_stamp at) refl stamp in
-    let last : AreFormed (notice_entry n method.StandIn ask.txn None ask.amount 0 ∷ entry.Decided ask.event verdict.Approved ∷ []) = formed refl in
-    both_formed stood
-    (both_formed (both_formed (post_formed ask.txn (account.Programme ask.txn.currency) (user_account ask.txn) ask.amount) (hold_formed ask.txn part.P ask.amount)) last)
-stand_formed n (over_limit set) ask why at asked stamp = declined_ask_formed ask (reason.StandInLimit set.name) asked
-stand_formed n uncovered ask why at asked stamp = declined_ask_formed ask (failure_reason why) asked
+    let stood : AreFormed (entry.Stood set.name ask.txn.product ask.txn.user ask.amount at ∷ []) = one_passes stamp in
+    let last : AreFormed (notice_entry n method.StandIn ask.txn None ask.amount 0 ∷ entry.Decided ask.event verdict.Approved ∷ []) = passing refl in
+    both_pass stood
+    (both_pass (both_pass (post_passes moves ask.txn (account.Programme ask.txn.currency) (user_account ask.txn) ask.amount) (hold_passes moves ask.txn part.P ask.amount)) last)
+stand_formed n (over_limit set) ask why at asked stamp = declined_ask_passes moves ask (reason.StandInLimit set.name) asked
+stand_formed n uncovered ask why at asked stamp = declined_ask_passes moves ask (failure_reason why) asked
 
 stand_in_formed : (n : ℕ) (f : Facts) (ask : Ask) (why : Failure) (at : ℕ) → is_stamp ask.at ≡ true → is_stamp at ≡ true → AreFormed (stand_in_entries n f ask why at)
 stand_in_formed n f ask why at asked stamp = stand_formed n (stand f ask why at) ask why at asked stamp
@@ -159,21 +99,21 @@ stand_in_formed n f ask why at asked stamp = stand_formed n (stand f ask why at)
 
 failed_call_formed : (f : Facts) (o : Opened) (t : Txn) (why : Failure) (at : ℕ) → is_stamp o.at ≡ true → is_stamp at ≡ true → AreFormed (failed_call_entries f o t why at)
 failed_call_formed f o t why at opened stamp =
-    let first : AreFormed (entry.Closed o.call (how.Failed why) ∷ void_entry (next_notice f) t o ∷ []) = formed refl in
-    both_formed first (stand_in_formed (next_notice f + 1) f (call_ask o t) why at opened stamp)
+    let first : AreFormed (entry.Closed o.call (how.Failed why) ∷ void_entry (next_notice f) t o ∷ []) = passing refl in
+    both_pass first (stand_in_formed (next_notice f + 1) f (call_ask o t) why at opened stamp)
 
 outcome_formed : (what : Outcome) (f : Facts) (o : Opened) (t : Txn) (at : ℕ) → is_stamp o.at ≡ true → is_stamp at ≡ true → AreFormed (outcome_entries what f o t at)
 outcome_formed outcome.Funded f o t at opened stamp =
-    let first : AreFormed (entry.Closed o.call how.Funded ∷ []) = formed refl in
-    both_formed first (funded_ask_formed (call_ask o t) (account.Gateway t.currency) part.G)
+    let first : AreFormed (entry.Closed o.call how.Funded ∷ []) = passing refl in
+    both_pass first (funded_ask_passes moves (call_ask o t) (account.Gateway t.currency) part.G)
 outcome_formed outcome.Refused f o t at opened stamp =
-    let first : AreFormed (entry.Closed o.call how.Refused ∷ []) = formed refl in
-    both_formed first (declined_ask_formed (call_ask o t) reason.GatewayDeclined opened)
+    let first : AreFormed (entry.Closed o.call how.Refused ∷ []) = passing refl in
+    both_pass first (declined_ask_passes moves (call_ask o t) reason.GatewayDeclined opened)
 outcome_formed outcome.Connection f o t at opened stamp = failed_call_formed f o t failure.Connection at opened stamp
 outcome_formed outcome.Application f o t at opened stamp = failed_call_formed f o t failure.Application at opened stamp
 
 txn_formed : (make : Txn → List Entry) (o : Option TxnNow) → ((t : Txn) → AreFormed (make t)) → AreFormed (entries_of_txn make o)
-txn_formed make None each = formed refl
+txn_formed make None each = passing refl
 txn_formed make (Some now) each = each now.txn
 
 asked_formed : (make : Opened → Txn → List Entry) (number : ℕ) (f : Facts) → AreTimed f → ((o : Opened) (t : Txn) → is_stamp o.at ≡ true → AreFormed (make o t))
@@ -181,24 +121,24 @@ asked_formed : (make : Opened → Txn → List Entry) (number : ℕ) (f : Facts)
 asked_formed make number f timed each = by (call_numbered number f.calls) refl
   where
     by : (o : Option CallNow) → call_numbered number f.calls ≡ o → AreFormed (entries_of_asked make o f)
-    by None e = formed refl
+    by None e = passing refl
     by (Some c) e =
         let opened : is_opened_at_stamp c ≡ true = find_passes (λ (c : CallNow). nat_eq c.opened.call.0 number) is_opened_at_stamp f.calls c timed.calls e in
-        either_formed (is_asked c) (txn_formed (make c.opened) (txn_named c.opened.txn f.txns) (λ t. each c.opened t opened)) (formed refl)
+        either_passes (is_asked c) (txn_formed (make c.opened) (txn_named c.opened.txn f.txns) (λ t. each c.opened t opened)) (passing refl)
 
 -- ---- what is due
 
 expiry_formed : (f : Facts) (t : Txn) → AreTimed f → is_stamp t.at ≡ true → AreFormed (expiry_entries f t)
 expiry_formed f t timed begun =
-    both_formed (end_formed (next_notice f) f t (parts_held f t) reason.Expired timed begun) (gateway_formed t (where_formed (in_all (parts_held f t)) (formed refl)))
+    both_pass (end_formed (next_notice f) f t (parts_held f t) reason.Expired timed begun) (gateway_passes t (where_passes (in_all (parts_held f t)) (passing refl)))
 
 -- a transaction that is found began at a stamp
 found_stamp : (f : Facts) (token : List ℕ) (now : TxnNow) → AreTimed f → txn_named token f.txns ≡ Some now → is_stamp now.txn.at ≡ true
 found_stamp f token now timed e = find_passes (λ (t : TxnNow). bytes_eq t.txn.token token) is_begun_at_stamp f.txns now timed.txns e
 
 live_expiry_formed : (f : Facts) (o : Option TxnNow) → AreTimed f → ((now : TxnNow) → o ≡ Some now → is_stamp now.txn.at ≡ true) → AreFormed (live_expiry_entries f o)
-live_expiry_formed f None timed begun = formed refl
-live_expiry_formed f (Some now) timed begun = either_formed now.live (expiry_formed f now.txn timed (begun now refl)) (formed refl)
+live_expiry_formed f None timed begun = passing refl
+live_expiry_formed f (Some now) timed begun = either_passes now.live (expiry_formed f now.txn timed (begun now refl)) (passing refl)
 
 things_formed : (f : Facts) (thing : DueThing) (at : ℕ) → AreTimed f → is_stamp at ≡ true → AreFormed (thing_entries thing at f)
 things_formed f (call_due number) at timed stamp =
@@ -209,78 +149,78 @@ things_formed f (txn_due token) at timed stamp = live_expiry_formed f (txn_named
 
 unless_formed : (why : Option Reason) (token : List ℕ) {es : List Entry} → AreFormed es → AreFormed (unless_declined why token es)
 unless_formed None token h = h
-unless_formed (Some why) token h = formed refl
+unless_formed (Some why) token h = passing refl
 
 gateway_ask_formed : (f : Facts) (product : Option Product) (ask : Ask) → is_stamp ask.at ≡ true → AreFormed (gateway_ask_entries product f ask)
-gateway_ask_formed f None ask stamp = formed refl
+gateway_ask_formed f None ask stamp = passing refl
 gateway_ask_formed f (Some product) ask stamp =
-    let opened : AreFormed (entry.Opened (call_for f product ask) ∷ []) = stamped (is_stamp ask.at) refl stamp in
-    either_formed (is_named_in f.switched product.name) (stand_in_formed (next_notice f) f ask failure.Switch ask.at stamp stamp) opened
+    let opened : AreFormed (entry.Opened (call_for f product ask) ∷ []) = one_passes stamp in
+    either_passes (is_named_in f.switched product.name) (stand_in_formed (next_notice f) f ask failure.Switch ask.at stamp stamp) opened
 
 funding_formed : (f : Facts) (ask : Ask) → is_stamp ask.at ≡ true → AreFormed (funding_entries f ask)
 funding_formed f ask stamp =
-    let decided : AreFormed (entry.Decided ask.event verdict.Approved ∷ []) = formed refl in
-    either_formed (is_account_funded ask.txn.funding) (both_formed (hold_formed ask.txn part.S ask.amount) decided)
+    let decided : AreFormed (entry.Decided ask.event verdict.Approved ∷ []) = passing refl in
+    either_passes (is_account_funded ask.txn.funding) (both_pass (hold_passes moves ask.txn part.S ask.amount) decided)
     (gateway_ask_formed f (product_named ask.txn.product f.products) ask stamp)
 
 authorization_formed : (f : Facts) (token : List ℕ) (currency : Currency) (amount mcc : ℕ) (mid : List ℕ) (at : ℕ) (card : Option Card) → is_stamp at ≡ true
     → AreFormed (authorization_entries f (option_map (first_ask token amount at) (option_and_then (λ (c : Card). option_map (λ (product : Product). txn_begun f c product token currency mcc mid at) (product_named c.product f.products)) card)))
-authorization_formed f token currency amount mcc mid at None stamp = formed refl
+authorization_formed f token currency amount mcc mid at None stamp = passing refl
 authorization_formed f token currency amount mcc mid at (Some c) stamp = by (product_named c.product f.products)
   where
     by : (p : Option Product) → AreFormed (authorization_entries f (option_map (first_ask token amount at) (option_map (λ (product : Product). txn_begun f c product token currency mcc mid at) p)))
-    by None = formed refl
+    by None = passing refl
     by (Some product) =
         let ask : Ask = first_ask token amount at (txn_begun f c product token currency mcc mid at) in
-        let began : AreFormed (entry.Began ask.txn ∷ []) = stamped (is_stamp at) refl stamp in
-        let used : AreFormed (entry.Usage (ask_usage ask) ∷ []) = stamped (is_stamp at) refl stamp in
-        both_formed began (both_formed used (funding_formed f ask stamp))
+        let began : AreFormed (entry.Began ask.txn ∷ []) = one_passes stamp in
+        let used : AreFormed (entry.Usage (ask_usage ask) ∷ []) = one_passes stamp in
+        both_pass began (both_pass used (funding_formed f ask stamp))
 
 increment_formed : (f : Facts) (token : List ℕ) (amount at : ℕ) (o : Option TxnNow) → is_stamp at ≡ true
     → AreFormed (increment_entries f (option_map (λ (now : TxnNow). further_ask token amount at now.txn) o))
-increment_formed f token amount at None stamp = formed refl
+increment_formed f token amount at None stamp = passing refl
 increment_formed f token amount at (Some now) stamp =
     let ask : Ask = further_ask token amount at now.txn in
-    let used : AreFormed (entry.Usage (ask_usage ask) ∷ []) = stamped (is_stamp at) refl stamp in
-    both_formed used (funding_formed f ask stamp)
+    let used : AreFormed (entry.Usage (ask_usage ask) ∷ []) = one_passes stamp in
+    both_pass used (funding_formed f ask stamp)
 
 reversal_formed : (f : Facts) (token : List ℕ) (amount : ℕ) (o : Option TxnNow) → AreTimed f → ((now : TxnNow) → o ≡ Some now → is_stamp now.txn.at ≡ true)
     → AreFormed (reversal_entries f token amount o)
-reversal_formed f token amount None timed begun = formed refl
+reversal_formed f token amount None timed begun = passing refl
 reversal_formed f token amount (Some now) timed begun =
     let t = now.txn in
     let parts = parts_held f t in
     let freed = min amount (in_all parts) in
-    let ended : AreFormed (cond (nat_eq freed (in_all parts)) (entry.Ended t.token ∷ []) []) = either_formed (nat_eq freed (in_all parts)) (formed refl) (formed refl) in
-    let last : AreFormed (entry.Decided token verdict.Done ∷ []) = formed refl in
-    both_formed
-    (both_formed (both_formed (both_formed (abandonment_formed (next_notice f) f t reason.Reversed timed) (release_formed t parts freed (begun now refl))) ended)
-    (gateway_formed t (where_formed freed (formed refl)))) last
+    let ended : AreFormed (cond (nat_eq freed (in_all parts)) (entry.Ended t.token ∷ []) []) = either_passes (nat_eq freed (in_all parts)) (passing refl) (passing refl) in
+    let last : AreFormed (entry.Decided token verdict.Done ∷ []) = passing refl in
+    both_pass
+    (both_pass (both_pass (both_pass (abandonment_formed (next_notice f) f t reason.Reversed timed) (release_passes moves t parts freed (begun now refl))) ended)
+    (gateway_passes t (where_passes freed (passing refl)))) last
 
 clearing_formed : (f : Facts) (token : List ℕ) (amount : ℕ) (last : Bool) (at : ℕ) (o : Option TxnNow) → AreTimed f → is_stamp at ≡ true
     → ((now : TxnNow) → o ≡ Some now → is_stamp now.txn.at ≡ true) → AreFormed (clearing_entries f token amount last at o)
-clearing_formed f token amount last at None timed stamp begun = formed refl
+clearing_formed f token amount last at None timed stamp begun = passing refl
 clearing_formed f token amount last at (Some now) timed stamp begun =
     let t = now.txn in
     let taken = taken_to_clear (parts_held f t) amount in
     let rest = left_of (parts_held f t) taken in
-    let done : AreFormed (entry.Decided token verdict.Done ∷ []) = formed refl in
-    let ended : AreFormed (last_clearing_entries f t rest amount) = both_formed (end_formed (next_notice f) f t rest reason.Cleared timed (begun now refl)) (gateway_formed t (formed refl)) in
-    let goes_on : AreFormed (further_clearing_entries f t amount) = gateway_formed t (formed refl) in
-    both_formed (both_formed (clearing_money_formed t taken amount at stamp) (either_formed (now.live && (last || nat_eq (in_all rest) 0)) ended goes_on)) done
+    let done : AreFormed (entry.Decided token verdict.Done ∷ []) = passing refl in
+    let ended : AreFormed (last_clearing_entries f t rest amount) = both_pass (end_formed (next_notice f) f t rest reason.Cleared timed (begun now refl)) (gateway_passes t (passing refl)) in
+    let goes_on : AreFormed (further_clearing_entries f t amount) = gateway_passes t (passing refl) in
+    both_pass (both_pass (clearing_money_passes moves t taken amount at stamp) (either_passes (now.live && (last || nat_eq (in_all rest) 0)) ended goes_on)) done
 
 refund_formed : (f : Facts) (token : List ℕ) (amount : ℕ) (o : Option TxnNow) → AreFormed (refund_entries f token amount o)
-refund_formed f token amount None = formed refl
+refund_formed f token amount None = passing refl
 refund_formed f token amount (Some now) =
     let t = now.txn in
     let programme = min amount (owed_to_programme f t) in
     let gateway = amount - programme in
-    let notice : AreFormed (notice_entry (next_notice f) method.Refund t None amount gateway ∷ []) = formed refl in
-    let done : AreFormed (entry.Decided token verdict.Done ∷ []) = formed refl in
-    both_formed
-    (both_formed (post_formed t (account.Network t.currency) (user_account t) amount)
-    (gateway_formed t
-    (both_formed (both_formed (post_formed t (user_account t) (account.Programme t.currency) programme) (post_formed t (user_account t) (account.Gateway t.currency) gateway)) notice))) done
+    let notice : AreFormed (notice_entry (next_notice f) method.Refund t None amount gateway ∷ []) = passing refl in
+    let done : AreFormed (entry.Decided token verdict.Done ∷ []) = passing refl in
+    both_pass
+    (both_pass (post_passes moves t (account.Network t.currency) (user_account t) amount)
+    (gateway_passes t
+    (both_pass (both_pass (post_passes moves t (user_account t) (account.Programme t.currency) programme) (post_passes moves t (user_account t) (account.Gateway t.currency) gateway)) notice))) done
 
 -- ---- all kinds
 
@@ -292,9 +232,9 @@ kinds_formed : (f : Facts) (at : ℕ) → AreTimed f → is_stamp at ≡ true �
 kinds_formed f at timed stamp =
     record {
       setting = λ i token why named same form.
-          let made : AreFormed (setting_entries i token) = stamped (is_in_form i) refl form in
+          let made : AreFormed (setting_entries i token) = passing (ap (λ (b : Bool). b && true) form) in
           unless_formed why token made;
-      load = λ token user currency amount form. unless_formed (load_reason f user) token (formed refl);
+      load = λ token user currency amount form. unless_formed (load_reason f user) token (passing refl);
       authorization = λ token card currency amount mcc mid form.
           unless_formed (authorization_reason f card currency (authorization_ask f token card currency amount mcc mid at)) token
           (authorization_formed f token currency amount mcc mid at (card_named card f.cards) stamp);
@@ -310,8 +250,8 @@ kinds_formed f at timed stamp =
           unless_formed (refund_reason f (txn_named txn f.txns) currency amount) token (refund_formed f token amount (txn_named txn f.txns));
       answer = λ call what form.
           asked_formed (λ (o : Opened) (t : Txn). outcome_entries what f o t at) call.0 f timed (λ o t opened. outcome_formed what f o t at opened stamp);
-      acknowledgement = λ notice form. either_formed (is_notice f notice) (formed refl) (formed refl);
-      time = λ form. formed refl;
+      acknowledgement = λ notice form. either_passes (is_notice f notice) (passing refl) (passing refl);
+      time = λ form. passing refl;
     }
 
 timed_state : (s : CoreState) → IsInForm s → AreTimed (core_facts s)
