@@ -1,6 +1,7 @@
 -- What is due makes no more notices than were in sight, and a record's own entries bring three at most.
-use Rattle.std.proofs.Common.{ℕ, ◌+◌, ◌-◌, ◌≤◌, min, Bool, ◌&&◌, ◌||◌, nat_eq, List, [], ◌∷◌, fold, refl, arith}
+use Rattle.std.proofs.Common.{ℕ, ◌+◌, ◌-◌, ◌≤◌, min, Bool, ◌&&◌, ◌||◌, nat_eq, List, [], ◌∷◌, fold, refl, arith, length, subst, sym}
 use Rattle.std.specs.Prelude.{Option, Some, None}
+use Rattle.std.proofs.lemmas.List.{length-append}
 use Rattle.iss_model.specs.declared.account.Account.TheVariants as account
 use Rattle.iss_model.specs.declared.call.Failure.TheVariants as failure
 use Rattle.iss_model.specs.declared.call.Notice.{Notice}
@@ -18,18 +19,21 @@ use Rattle.iss_model.specs.rules.CardEntries.{authorization_entries, increment_e
 use Rattle.iss_model.specs.rules.CardReasons.{authorization_reason, increment_reason, reversal_reason, clearing_reason, refund_reason}
 use Rattle.iss_model.specs.rules.Due.{DueThing, call_due, DueItem, txn_due, due_items, expiry_entries, live_expiry_entries, thing_entries}
 use Rattle.iss_model.specs.rules.Facts.{Facts, txn_in, call_in, asked_calls_of, next_notice, is_notice}
+use Rattle.iss_model.specs.rules.Histories.{IsLegal}
 use Rattle.iss_model.specs.rules.Keeper.{Growth}
 use Rattle.iss_model.specs.rules.Pieces.{user_account, parts_held, in_all, left_of, taken_to_clear}
 use Rattle.iss_model.specs.rules.Reasons.{load_reason}
 use Rattle.iss_model.specs.rules.Stepping.{unless_declined, setting_entries, load_entries, authorization_ask, increment_ask, entries_of, settle, after_due, step}
-use Rattle.iss_model.specs.state.Cores.{CoreState, no_core, with_record, core_facts, core_keeper, after_entry}
+use Rattle.iss_model.specs.state.Cores.{CoreState, no_core, with_record, core_facts, core_keeper, core_of, after_entry}
 use Rattle.iss_invariants.specs.Sound.{IsNewEvent}
+use Rattle.iss_invariants.proofs.Legal.{IsKept, legal_induction}
 use Rattle.iss_invariants.proofs.Walk.{EachKind, walk}
 use Rattle.iss_pending.specs.Few.{HasFewNumbers}
 use Rattle.iss_pending.specs.Pending.{HasTakenUp, IsWell}
 use Rattle.iss_pending.proofs.FewCosts.{abandoned_costs, clearing_money_costs, comes_to, costs_either, end_costs, failed_call_costs, free, funding_costs, gateway_costs, more, none_costs, outcome_costs, post_costs, release_costs, then, where_costs}
 use Rattle.iss_pending.proofs.FewMoves.{Costs, few_after}
-use Rattle.iss_pending.proofs.Steps.{due_allowed, own_allowed, ready_settled, ready_taken}
+use Rattle.iss_pending.proofs.Legal.{nothing_well}
+use Rattle.iss_pending.proofs.Steps.{due_allowed, own_allowed, ready_settled, ready_taken, step_well}
 
 -- what is due ----
 
@@ -166,3 +170,20 @@ few_step n s r well new few =
     let up : CoreState = with_record s r in
     let due = all_due r.at (record { world = up; entries = [] }) (due_items (core_facts up) r.at) n r.input (ready_taken s r well new) (few_taken n s r few) in
     few_own n (after_due core_keeper up r.at).world r.input r.at due.0 due.1
+
+-- every legal list of records ----
+
+record IsOfRecords (rs : List Record) (s : CoreState) : Type 0 where
+  well : IsWell s
+  few : HasFewNumbers (length rs) s
+
+of_records_kept : IsKept IsOfRecords
+of_records_kept rs r new h =
+    let s : CoreState = core_of rs in
+    record {
+      well = step_well s r new h.well;
+      few = subst (λ (n : ℕ). HasFewNumbers n (step core_keeper s r).world) (sym (length-append rs (r ∷ []))) (few_step (length rs) s r h.well new h.few);
+    }
+
+pub few_of_records : (rs : List Record) → IsLegal rs → HasFewNumbers (length rs) (core_of rs)
+few_of_records rs legal = (legal_induction IsOfRecords (record { well = nothing_well; few = none_yet }) of_records_kept rs legal).few
