@@ -14,9 +14,11 @@
 //! reads off `AreAllowed` what each entry needs: a new token, or a field of `MayOpen`, `MayClose`, `MayDecide` or `MayEnd`.
 #![tactic(auto)]
 
+mod few;
 mod pending;
 mod sweeps;
 
+pub use few::few_numbers_are_given;
 pub use pending::{
     accepted_events_are_decided, calls_are_well, entries_are_allowed, events_are_decided_once,
 };
