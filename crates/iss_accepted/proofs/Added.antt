@@ -1,5 +1,5 @@
 -- What is kept where an event is added.
-use Rattle.std.proofs.Common.{◌≡◌, ℕ, Bool, true, cond, List, [], ◌∷◌, ◌++◌, length, map, find, Option, Some, None, refl, sym, ap, ap₂, subst, ◌∙◌, arith}
+use Rattle.std.proofs.Common.{◌≡◌, ℕ, true, cond, List, [], ◌∷◌, ◌++◌, length, map, find, Option, Some, None, refl, sym, ap, ap₂, subst, ◌∙◌}
 use Rattle.std.specs.Prelude.{IsSome, option_map, is_some}
 use Rattle.std.specs.BTreeMap.{BTreeMap, get, is_at}
 use Rattle.std.specs.Cmp.Lexicographic.{slice_cmp}
@@ -15,7 +15,7 @@ use Rattle.iss_index.specs.Places.{IsIndexed}
 use Rattle.iss_index.proofs.Placed.{indexed-push}
 use Rattle.iss_accepted.specs.declared.row.Row.{Row}
 use Rattle.iss_accepted.specs.Values.{EventsNow}
-use Rattle.iss_accepted.specs.Standing.{Standing, name_of, token_or_none, standing_named, decisions_at, AreDecided}
+use Rattle.iss_accepted.specs.Standing.{Standing, name_of, token_or_none, standing_named, AreDecided}
 use Rattle.iss_accepted.specs.Kept.{standing_of, standings_of, events_now, IsSpelledIn, IsKept}
 use Rattle.iss_accepted.proofs.Spans.{standings_stay, all_stay, all_last, record_with, standing_new, new_standing, new_spelled}
 use Rattle.iss_accepted.proofs.Decided.{decisions_last, decided_last}

@@ -1,6 +1,6 @@
 -- What the rules ask of the events, by the standing that is found.
-use Rattle.std.proofs.Common.{◌≡◌, ℕ, Bool, true, false, cond, List, [], ◌∷◌, map, find, Option, Some, None, refl, sym, ap, ap₂, subst, ◌∙◌}
-use Rattle.std.specs.Prelude.{IsSome, option_map, is_some}
+use Rattle.std.proofs.Common.{◌≡◌, ℕ, Bool, true, false, cond, List, [], ◌∷◌, map, find, Option, Some, None, refl, ap, ap₂, ◌∙◌}
+use Rattle.std.specs.Prelude.{IsSome, option_map}
 use Rattle.std.specs.List.{AllByRecursion}
 use Rattle.std.specs.Option.{option_and_then}
 use Rattle.std.specs.Str.{bytes_eq}
@@ -12,7 +12,7 @@ use Rattle.iss_model.specs.declared.input.Input.{Input}
 use Rattle.iss_model.specs.Inputs.{event_token, is_event, is_text, same_contents}
 use Rattle.iss_model.specs.rules.Facts.{Accepted, Decision, reply_of_decision, event_reply}
 use Rattle.iss_model.specs.rules.Judging.{event_answer, repeat_or_conflict}
-use Rattle.iss_accepted.specs.Values.{events_facts, answer_in, token_answer}
+use Rattle.iss_accepted.specs.Values.{events_facts}
 use Rattle.iss_accepted.specs.Standing.{Standing, IsNamed, name_of, token_or_none, standing_named, decision_made, decisions_at, decision_named, reply_told, AreDecided}
 use Rattle.iss_accepted.specs.Kept.{events_now}
 

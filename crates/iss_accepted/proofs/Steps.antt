@@ -1,14 +1,14 @@
 -- What each call finds and leaves, by what is kept.
-use Rattle.std.proofs.Common.{◌≡◌, ℕ, zero, suc, ◌<◌, ◌≤◌, Bool, true, false, cond, List, [], ◌∷◌, ◌++◌, ◌&&◌, length, map, find, Option, Some, None, slice_get, get_or, set, refl, sym, ap, ap₂, subst, ◌∙◌, arith}
+use Rattle.std.proofs.Common.{◌≡◌, ℕ, zero, suc, ◌<◌, Bool, true, false, cond, List, [], ◌∷◌, ◌++◌, ◌&&◌, length, map, find, Option, Some, None, slice_get, get_or, set, refl, sym, ap, ap₂, subst, ◌∙◌, arith}
 use Rattle.std.specs.Prelude.{IsSome, option_map, is_some}
 use Rattle.std.specs.BTreeMap.{BTreeMap, get}
 use Rattle.std.specs.Cmp.Lexicographic.{slice_cmp}
 use Rattle.std.specs.List.{AllByRecursion, list_all}
 use Rattle.std.specs.Option.{option_and_then}
-use Rattle.std.specs.Ordering.{nat_cmp, is_eq}
+use Rattle.std.specs.Ordering.{nat_cmp}
 use Rattle.std.specs.Str.{bytes_eq}
-use Rattle.std.proofs.lemmas.List.{get_or-map, get_or-set_same, length-map, map-append}
-use Rattle.std.proofs.lemmas.Option.{slice_get-get_or, same_Some, none-some}
+use Rattle.std.proofs.lemmas.List.{get_or-map, get_or-set_same, length-map}
+use Rattle.std.proofs.lemmas.Option.{slice_get-get_or, same_Some}
 use Rattle.std.proofs.lemmas.Bool.{and_parts}
 use Rattle.std.proofs.lemmas.Slice.Eq.{bytes_eq-Decides}
 use Rattle.iss_model.specs.declared.decision.Answer.{Answer}
@@ -27,11 +27,11 @@ use Rattle.iss_codec.specs.TakingRecords.{record_spelled}
 use Rattle.iss_codec.proofs.TakenRecords.{spelled_again}
 use Rattle.iss_codec.proofs.EqualInputs.{same_exactly}
 use Rattle.iss_index.specs.Places.{place_of, IsIndexed}
-use Rattle.iss_index.proofs.Placed.{found-within, found-named, none-named, found-indexed, indexed-push, indexed_none}
+use Rattle.iss_index.proofs.Placed.{found-within, found-named, none-named, found-indexed, indexed_none}
 use Rattle.iss_accepted.specs.declared.row.Row.{Row}
 use Rattle.iss_accepted.specs.Values.{EventsNow, events_facts, answer_in, token_answer}
-use Rattle.iss_accepted.specs.Standing.{Standing, IsNamed, name_of, token_or_none, standing_named, decision_made, decisions_at, decision_named, reply_told, AreDecided}
-use Rattle.iss_accepted.specs.Kept.{bytes_of, event_of, record_of, standing_of, standings_of, row_answer, events_now, IsSpelledIn, IsKept}
+use Rattle.iss_accepted.specs.Standing.{Standing, IsNamed, name_of, standing_named, decision_made, decisions_at, decision_named, reply_told, AreDecided}
+use Rattle.iss_accepted.specs.Kept.{bytes_of, event_of, standing_of, standings_of, row_answer, events_now, IsSpelledIn, IsKept}
 use Rattle.iss_accepted.proofs.Decided.{decided_more, decisions_more, with_verdict, nothing_decided}
 use Rattle.iss_accepted.proofs.Found.{event_in, event_found, reply_found, answer_found, standing_answer}
 

@@ -1,5 +1,5 @@
 -- Accepted events with their verdicts, as they stand.
-use Rattle.std.specs.Prelude.{◌≡◌, ℕ, List, [], map, find, Option, Some, None, IsSome, option_map}
+use Rattle.std.specs.Prelude.{◌≡◌, ℕ, List, [], find, Option, Some, None, IsSome, option_map}
 use Rattle.std.specs.List.{filter_map, slice_get, AllByRecursion}
 use Rattle.std.specs.Option.{option_and_then}
 use Rattle.std.specs.Str.{bytes_eq}

@@ -1,4 +1,4 @@
-use Rattle.std.proofs.Common.{◌≡◌, List, ℕ, [], ◌∷◌, ◌++◌, ◌∙◌, Some, None, ap, sym, refl, arith}
+use Rattle.std.proofs.Common.{List, ℕ, [], ◌∷◌, ◌++◌, ◌∙◌, None, ap, sym, refl, arith}
 use Rattle.std.specs.Prelude.{Result, Ok, Err, OnErr}
 use Rattle.iss_model.specs.texts.Spelling.{spelling}
 use Rattle.iss_accepted.specs.declared.row.Row.{Row}

@@ -1,5 +1,4 @@
-use Rattle.std.proofs.Common.{◌≡◌, ◌<◌, ◌∙◌, length, sym, Some, arith}
-use Rattle.iss_model.specs.Inputs.{event_token}
+use Rattle.std.proofs.Common.{◌<◌, length, sym, arith}
 use Rattle.iss_accepted.proofs.Steps.{placed_within, row_spelled, found_answered, none_answered}
 use Rattle.iss_accepted.proofs.events.Events.answer.Goals as goal
 
