@@ -17,7 +17,7 @@ ghost use Rattle.iss_hold.specs.Entries.{live_now, after_holds, change_entries, 
 ghost use Rattle.iss_hold.specs.Expiries.{txns_due};
 
 use crate::hold::{Hold, Taken};
-use crate::indexes::{begin_sum, enter, sum_of, user_key};
+use crate::indexes::{begin_sum, enter, place_after, sum_of, user_key};
 use crate::table::Table;
 use iss_model::{Currency, Part, Token, Txn};
 use std::alloc::{AllocError, Global};
@@ -106,7 +106,7 @@ impl Holds {
     }
 
     /// Begins a transaction, which holds nothing yet. The later calls on it take no memory. Where allocation
-    /// fails all stays as it was.
+    /// fails all stays as it was, and so where 2^32 transactions stand, as many as places are kept for.
     pub fn start(&mut self, txn: &Txn) -> Result<(), AllocError>
         requires unknown { txn_named txn.now.token self.old.txns ≡ None }
         requires origin { list_any (λ t. txn.now.origin == t.txn.origin) self.old.txns ≡ false }
@@ -114,13 +114,9 @@ impl Holds {
         ensures unchanged { OnErr result (self.new ≡ self.old) }
     {
         self.table.holds.reserve(1)?;
+        let place = place_after(self.table.holds.len())?;
         begin_sum(&mut self.table.sums, user_key(&txn.user, txn.currency))?;
-        enter(
-            &mut self.table.places,
-            &mut self.table.order,
-            txn,
-            self.table.holds.len(),
-        )?;
+        enter(&mut self.table.places, &mut self.table.order, txn, place)?;
         self.table.holds.push(Hold::begun(txn))?;
         Ok(())
     }
@@ -230,13 +226,6 @@ impl Holds {
     pub fn due(&self, alloc: Global, now: u64) -> Result<Vec<Token>, AllocError>
         ensures { IfOk result (λ v. map (λ token. txn_due token) v.items ≡ map (λ item. item.thing) (txns_due self.now now)) }
     {
-        let mut due = Vec::new(alloc);
-        for ((expires, _), token) in &self.table.order {
-            if *expires > now {
-                break;
-            }
-            due.push(*token)?;
-        }
-        Ok(due)
+        self.table.due(alloc, now)
     }
 }

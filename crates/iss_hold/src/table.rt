@@ -1,24 +1,27 @@
 //! The holds with the indexes beside them.
-ghost use Rattle.std.specs.Prelude.{◌≡◌, ◌<◌, ◌^◌, map, set, slice_get, Some, IsSome};
+ghost use Rattle.std.specs.Prelude.{◌≡◌, ◌<◌, ◌^◌, map, set, slice_get, Some, IsSome, IfOk};
 ghost use Rattle.std.specs.Option.{option_map};
 ghost use Rattle.iss_model.specs.Currencies.{iso_number};
 ghost use Rattle.iss_model.specs.rules.Activity.{txn_named};
-ghost use Rattle.iss_hold.specs.Holdings.{now_of};
+ghost use Rattle.iss_model.specs.rules.Due.{txn_due};
+ghost use Rattle.iss_hold.specs.Expiries.{txns_due};
+ghost use Rattle.iss_hold.specs.Holdings.{now_of, holdings_of};
 ghost use Rattle.iss_hold.specs.Indexes.{total_of, IsAt, IsIndexed};
 
 use crate::hold::Hold;
 use crate::indexes::{set_sum, sum_of, user_key};
 use iss_model::Token;
+use std::alloc::{AllocError, Global};
 use std::collections::BTreeMap;
 
 /// What the transactions hold, in the order in which they began, with their places, the sums of their users and the
-/// expiries of the live ones.
+/// places of the live ones by expiry.
 #[derive(Drop)]
 pub(crate) struct Table {
     pub(crate) holds: Vec<Hold>,
     pub(crate) places: BTreeMap<Token, usize>,
     pub(crate) sums: BTreeMap<(Token, u16), u64>,
-    pub(crate) order: BTreeMap<(u64, u32), Token>,
+    pub(crate) order: BTreeMap<(u64, u32), u32>,
 }
 
 impl Table {
@@ -46,5 +49,20 @@ impl Table {
         let sum = sum_of(&self.sums, &user) - self.holds[place].whole() + hold.whole();
         set_sum(&mut self.sums, &user, sum);
         self.holds[place] = hold;
+    }
+
+    /// The live transactions whose expiry has come, by expiry and then by the number of the authorisation's record.
+    pub(crate) fn due(&self, alloc: Global, now: u64) -> Result<Vec<Token>, AllocError>
+        requires { IsIndexed self.now }
+        ensures { IfOk result (λ v. map (λ token. txn_due token) v.items ≡ map (λ item. item.thing) (txns_due (holdings_of self.now.holds.items) now)) }
+    {
+        let mut due = Vec::new(alloc);
+        for ((expires, _), place) in &self.order {
+            if *expires > now {
+                break;
+            }
+            due.push(self.holds[*place as usize].txn.token)?;
+        }
+        Ok(due)
     }
 }

@@ -1,12 +1,7 @@
-use Rattle.std.proofs.Common.{◌≡◌, ℕ, List, map, sym, ap, subst, ◌∙◌}
+use Rattle.std.proofs.Common.{ℕ, List, ap, subst, ◌∙◌}
 use Rattle.std.specs.List.{IsDistinct}
 use Rattle.std.specs.Str.{bytes_eq}
-use Rattle.iss_model.specs.rules.Activity.{TxnNow}
-use Rattle.iss_model.specs.state.Cores.{Holdings}
-use Rattle.iss_model.proofs.Lists.{map-map}
-use Rattle.iss_hold.specs.declared.hold.Hold.{Hold}
-use Rattle.iss_hold.specs.Holdings.{now_of, tokens}
-use Rattle.iss_hold.specs.Indexes.{names, place_in}
+use Rattle.iss_hold.specs.Indexes.{place_in}
 use Rattle.iss_hold.proofs.Places.{same_names}
 use Rattle.iss_hold.proofs.holds.Holds.place.Goals as goal
 
