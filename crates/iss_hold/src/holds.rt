@@ -70,7 +70,7 @@ impl Holds {
         ensures small { IfSome result (λ hold. whole_of hold.now < 2 ^ 62) }
     {
         let place = self.table.places.get(txn)?;
-        Some(&self.table.holds[*place])
+        Some(&self.table.holds[*place as usize])
     }
 
     /// The place of a transaction in the order in which they began, `None` exactly where it wasn't started.
@@ -78,7 +78,8 @@ impl Holds {
         ensures place { result ≡ place_in txn.now (tokens self.now.txns) }
         ensures once { IsDistinct bytes_eq (tokens self.now.txns) }
     {
-        self.table.places.get(txn).copied()
+        let place = self.table.places.get(txn)?;
+        Some(*place as usize)
     }
 
     /// The transaction at a place with what it holds.

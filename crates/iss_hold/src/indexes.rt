@@ -57,7 +57,7 @@ pub(crate) fn place_after(count: usize) -> Result<u32, AllocError>
 
 /// Enters a transaction's place, by its token and by its expiry, or neither where allocation fails.
 pub(crate) fn enter(
-    places: &mut BTreeMap<Token, usize>,
+    places: &mut BTreeMap<Token, u32>,
     order: &mut BTreeMap<(u64, u32), u32>,
     txn: &Txn,
     place: u32,
@@ -69,7 +69,7 @@ pub(crate) fn enter(
     ensures places_stay { OnErr result ((name : List ℕ) → tree.get by_name places.new name ≡ tree.get by_name places.old name) }
     ensures order_stays { OnErr result (order.new.entries ≡ order.old.entries) }
 {
-    places.insert(txn.token, place as usize)?;
+    places.insert(txn.token, place)?;
     let entered = order.insert((txn.expires, txn.origin), place);
     if entered.is_err() {
         places.remove(&txn.token);

@@ -19,7 +19,7 @@ use std::collections::BTreeMap;
 #[derive(Drop)]
 pub(crate) struct Table {
     pub(crate) holds: Vec<Hold>,
-    pub(crate) places: BTreeMap<Token, usize>,
+    pub(crate) places: BTreeMap<Token, u32>,
     pub(crate) sums: BTreeMap<(Token, u16), u64>,
     pub(crate) order: BTreeMap<(u64, u32), u32>,
 }
@@ -32,7 +32,10 @@ impl Table {
         ensures { IsAt txn.now self.now.holds.items result.0 result.1 }
     {
         match self.places.get(txn) {
-            Some(place) => (*place, self.holds[*place]),
+            Some(place) => {
+                let place = *place as usize;
+                (place, self.holds[place])
+            }
             None => unreachable!(),
         }
     }
