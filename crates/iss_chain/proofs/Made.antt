@@ -1,5 +1,5 @@
 -- The entries that are made of what was found are those of the call.
-use Rattle.std.proofs.Common.{◌≡◌, ℕ, ◌<◌, ℤ, pos, ◌+ℤ◌, ◌-ℤ◌, List, [], ◌++◌, length, refl, sym, ap, ap₂, ◌∙◌, arith}
+use Rattle.std.proofs.Common.{◌≡◌, ℕ, ℤ, pos, ◌+ℤ◌, ◌-ℤ◌, List, [], ◌++◌, refl, sym, ap, ap₂, ◌∙◌}
 use Rattle.std.specs.Prelude.{Option, Some, None, slice_get, int_lt}
 use Rattle.std.specs.Option.{option_map}
 use Rattle.std.specs.List.{IsDistinct}
@@ -42,13 +42,6 @@ made_none c name make e = ap (λ (o : Option TxnNow). entries_for c o make) (sym
 
 same_now : (x y : TxnNow) → Some x ≡ Some y → x ≡ y
 same_now x y e = cc
-
--- a place is inside of the rows, which are as many as the transactions
-pub row_within : (name : List ℕ) (txns : List TxnNow) (rows : List (Option PostSums)) (i : ℕ) → length rows ≡ length txns → Some i ≡ place_in name (tokens txns) → i < length rows
-row_within name txns rows i paired e =
-    let there = found name txns i (sym e) in
-    let within = there.within in
-    omega (arith, paired, within)
 
 -- a refund, by what stands at the place of its transaction
 pub refund_made : (ledger : Kept) (h : Holdings) (rows : List (Option PostSums)) (i : ℕ) (name : List ℕ) (hold : Hold) (s : PostSums) (owed amount : ℕ)
