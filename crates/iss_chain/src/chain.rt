@@ -1,6 +1,6 @@
 //! The chain: transactions over the holds and the ledger.
 ghost use Rattle.std.specs.Prelude.{◌≡◌, [], ◌∷◌, not, length, map, fold, IfOk, OnOk, OnErr, IsSome};
-ghost use Rattle.std.specs.Option.{option_copied, option_map};
+ghost use Rattle.std.specs.Option.{option_map};
 ghost use Rattle.std.specs.FinMap as finite;
 ghost use Rattle.iss_model.specs.declared.entry.Entry.TheVariants as entry;
 ghost use Rattle.iss_model.specs.Sums.{account_key, part_key};
@@ -200,8 +200,8 @@ impl Chain {
     }
 
     /// The transaction of a token, `None` exactly where it isn't known.
-    pub fn txn(&self, txn: &Token) -> Option<&Txn>
-        ensures { option_copied result ≡ option_map (λ t. t.txn) (txn_named txn.now self.now.holdings.txns) }
+    pub fn txn(&self, txn: &Token) -> Option<Txn>
+        ensures { result ≡ option_map (λ t. t.txn) (txn_named txn.now self.now.holdings.txns) }
     {
         self.books.holds.txn(txn)
     }

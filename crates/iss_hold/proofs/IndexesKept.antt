@@ -16,7 +16,7 @@ use Rattle.iss_model.specs.rules.Activity.{TxnNow, txn_named}
 use Rattle.iss_model.specs.Currencies.{iso_number}
 use Rattle.iss_model.proofs.Names.{one_name}
 use Rattle.iss_hold.specs.declared.hold.Hold.{Hold}
-use Rattle.iss_hold.specs.Holdings.{now_of}
+use Rattle.iss_hold.specs.Holdings.{begun, now_of}
 use Rattle.iss_hold.specs.Expiries.{Expiry, expiries}
 use Rattle.iss_hold.specs.Indexes.{names, origins, place_in, total_of, by_name, by_user, by_expiry, with_name, with_token, AreSummed, AreIndexed}
 use Rattle.iss_hold.specs.Sums.{sum_in}
@@ -25,7 +25,7 @@ use Rattle.iss_hold.proofs.HoldSums.{map_set}
 use Rattle.iss_hold.proofs.HoldTotals.{total_set, total_more}
 use Rattle.iss_hold.proofs.Changes.{there_or_set}
 use Rattle.iss_hold.proofs.Places.{IsReplaced, place_more, no_place, has_place}
-use Rattle.iss_hold.proofs.Beginnings.{map_push, begun, entries_more}
+use Rattle.iss_hold.proofs.Beginnings.{map_push, entries_more}
 use Rattle.iss_hold.proofs.Endings.{ended, expiries_less, expiries_same}
 use Rattle.iss_hold.proofs.NamedExpiries.{named_insert, named_remove, same_keys}
 
@@ -94,6 +94,29 @@ indexed_more hs places more_places sums more_sums order more_order t a unknown n
           ∙ ap (λ (xs : List (List ℕ)). map (with_name xs) (insert_entry by_expiry order.entries (t.expires, t.origin) (length hs))) ns
           ∙ named_insert (names hs) t.token order.entries (expiries hs) (t.expires, t.origin) (length hs) (sym (length_map (λ (h : Hold). h.txn.token) hs)) a.ordered
           ∙ ap (λ (es : List Expiry). map with_token es) (entries_more hs t new_origin);
+      rising = rising;
+    }
+
+-- indexes that find the same are in order
+pub indexed_same : {hs : List Hold} {places same_places : BTreeMap (List ℕ) ℕ} {sums same_sums : BTreeMap (List ℕ × ℕ) ℕ} {order same_order : BTreeMap (ℕ × ℕ) ℕ}
+    → AreIndexed hs places sums order
+    → ((name : List ℕ) → tree.get by_name same_places name ≡ tree.get by_name places name)
+    → ((user : List ℕ) (number : ℕ) → sum_in same_sums user number ≡ sum_in sums user number)
+    → ((user : List ℕ) (number : ℕ) → IsSome (tree.get by_user sums (user, number)) → IsSome (tree.get by_user same_sums (user, number)))
+    → same_order.entries ≡ order.entries
+    → tree.IsOrdered by_expiry same_order
+    → AreIndexed hs same_places same_sums same_order
+indexed_same {hs} a found same stay entries rising =
+    record {
+      distinct = a.distinct;
+      placed = record { place = λ name. found name ∙ a.placed.place name };
+      summed = record {
+        summed = λ user number. same user number ∙ a.summed.summed user number;
+        standing = λ i h e. stay h.txn.user (iso_number h.txn.currency) (a.summed.standing i h e);
+        small = a.summed.small;
+      };
+      once = a.once;
+      ordered = ap (λ (es : List ((ℕ × ℕ) × ℕ)). map (with_name (names hs)) es) entries ∙ a.ordered;
       rising = rising;
     }
 

@@ -11,3 +11,4 @@ pub mod IndexesKept
 pub mod HoldCalls
 pub mod TestBounds
 pub mod NamedExpiries
+pub mod Named

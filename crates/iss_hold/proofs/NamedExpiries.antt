@@ -1,8 +1,8 @@
 -- Places by expiry, and the expiries of the names that stand there.
-use Rattle.std.proofs.Common.{◌≡◌, ℕ, zero, suc, nat_le, ◌<◌, ◌≤◌, Bool, true, false, cond, List, [], ◌∷◌, ◌++◌, get_or, map, length, not, refl, sym, ap, ap₂, ◌∙◌, arith, append_assoc}
-use Rattle.std.proofs.lemmas.List.{append-nil, length-map}
+use Rattle.std.proofs.Common.{◌≡◌, ℕ, zero, suc, nat_le, ◌<◌, ◌≤◌, Bool, true, false, cond, List, [], ◌∷◌, ◌++◌, map, length, not, refl, sym, ap, ap₂, ◌∙◌, arith, append_assoc}
+use Rattle.std.proofs.lemmas.List.{append-nil}
 use Rattle.std.proofs.lemmas.Bool.Decides.{nat_tests}
-use Rattle.std.proofs.lemmas.Option.{slice_get_within, slice_get_read, slice_get-map}
+use Rattle.std.proofs.lemmas.Option.{slice_get_within, slice_get-map}
 use Rattle.std.specs.Option.{option_map}
 use Rattle.std.specs.Prelude.{Option, Some, slice_get}
 use Rattle.std.specs.declared.cmp.Ordering.{Ordering}
@@ -47,12 +47,12 @@ keys_mapped f [] = refl
 keys_mapped f (e ∷ es) = ap (λ ks. e.0 ∷ ks) (keys_mapped f es)
 
 -- what was there stays there after one more
-there_before : {A : Type 0} (xs : List A) (x : A) (i : ℕ) (y : A) → slice_get xs i ≡ Some y → slice_get (xs ++ x ∷ []) i ≡ Some y
+pub there_before : {A : Type 0} (xs : List A) (x : A) (i : ℕ) (y : A) → slice_get xs i ≡ Some y → slice_get (xs ++ x ∷ []) i ≡ Some y
 there_before [] x i y e = cc
 there_before (a ∷ xs) x zero y e = e
 there_before (a ∷ xs) x (suc i) y e = there_before xs x i y e
 
-last_there : {A : Type 0} (xs : List A) (x : A) → slice_get (xs ++ x ∷ []) (length xs) ≡ Some x
+pub last_there : {A : Type 0} (xs : List A) (x : A) → slice_get (xs ++ x ∷ []) (length xs) ≡ Some x
 last_there [] x = refl
 last_there (a ∷ xs) x = last_there xs x
 
@@ -107,11 +107,8 @@ none_named now ns [] (x ∷ xs) h n = cc
 none_named now ns (e ∷ es) xs h n = absurd (n (omega arith))
 
 -- the name at the place of a hold is its transaction's
-pub name_at : (hs : List Hold) (i : ℕ) (h : Hold) → i < length (names hs) → h ≡ get_or hs i h → slice_get (names hs) i ≡ Some h.txn.token
-name_at hs i h within e =
-    let len = length-map hs (λ (k : Hold). k.txn.token) in
-    slice_get-map (λ (k : Hold). k.txn.token) hs i
-    ∙ ap (λ (o : Option Hold). option_map (λ k. k.txn.token) o) (slice_get_read hs (length hs) i h refl (omega (arith, len, within)) e)
+pub name_at : (hs : List Hold) (i : ℕ) (h : Hold) → slice_get hs i ≡ Some h → slice_get (names hs) i ≡ Some h.txn.token
+name_at hs i h e = slice_get-map (λ (k : Hold). k.txn.token) hs i ∙ ap (λ (o : Option Hold). option_map (λ k. k.txn.token) o) e
 
 -- ---- what is listed of those that have come
 

@@ -83,4 +83,4 @@ pub record AreIndexed (holds : List Hold) (places : BTreeMap (List ℕ) ℕ) (su
 
 -- a table's indexes agree with its holds
 abbrev pub IsIndexed : Table → Type 0
-IsIndexed table = AreIndexed table.holds.items table.places table.sums table.order
+IsIndexed table = AreIndexed table.holds table.places table.sums table.order

@@ -28,7 +28,7 @@ owed-owed-requires-clause-paid c =
 pub returns : goal.returns
 returns c =
     let b = c.args.self.now in
-    let hold = c.at-hold.result.now in
+    let hold = c.at-hold.result in
     let bits : to_z w64 (of_z w64 c.sums_at.result.paid) ≡ c.sums_at.result.paid = grind (arith, to_z-of_z) in
     alone c.in_ok-refund.ensures c.new-entries.ensures.items
     ∙ refund_made b.ledger b.holds (rows_in b) c.in-Some.place c.args.txn.now hold c.sums_at.result c.owed-owed.result c.args.amount

@@ -9,14 +9,14 @@ use Rattle.iss_hold.proofs.holds.Holds.is_due.Goals as goal
 
 pub returns-in-Some : goal.returns-in-Some
 returns-in-Some c =
-    let hs = c.self.inside.table.holds.items in
+    let hs = c.self.inside.table.holds in
     first_named c.args.now (names hs) c.self.inside.table.order.entries (expiries hs) c.in-Some.field-0-0.now c.in-Some.field-0-1.now c.self.invariant.ordered c.in-Some.ensures.first
     ∙ ap (λ (items : List DueItem). not (is_quiet items)) (come_due c.args.now hs)
     ∙ ap (λ (h : Holdings). not (is_quiet (txns_due h c.args.now))) c.self.view_is
 
 pub returns-in-None : goal.returns-in-None
 returns-in-None c =
-    let hs = c.self.inside.table.holds.items in
+    let hs = c.self.inside.table.holds in
     none_named c.args.now (names hs) c.self.inside.table.order.entries (expiries hs) c.self.invariant.ordered
     (λ (h : 0 < length c.self.inside.table.order.entries). let some = c.in-None.ensures.variant.1 h in absurd (cc))
     ∙ ap (λ (items : List DueItem). not (is_quiet items)) (come_due c.args.now hs)

@@ -7,4 +7,4 @@ use Rattle.iss_hold.proofs.table.Table.due.Given as goal
 
 abbrev pub invariant-loop-expires : goal.invariant-loop-expires
 invariant-loop-expires l =
-    AreListed (names l.self.holds.items) l.now l.expires-iterator l.due.items (map (λ item. item.thing) (txns_due (holdings_of l.self.holds.items) l.now))
+    AreListed (names l.self.holds) l.now l.expires-iterator l.due.items (map (λ item. item.thing) (txns_due (holdings_of l.self.holds) l.now))
