@@ -1,7 +1,7 @@
 -- The entries that are made of what was found are those of the call.
-use Rattle.std.proofs.Common.{◌≡◌, ℕ, ◌<◌, ℤ, pos, ◌+ℤ◌, ◌-ℤ◌, List, [], ◌++◌, length, refl, sym, ap, ap₂, subst, ◌∙◌, Bor, arith}
+use Rattle.std.proofs.Common.{◌≡◌, ℕ, ℤ, pos, ◌+ℤ◌, ◌-ℤ◌, List, [], ◌++◌, refl, sym, ap, ap₂, subst, ◌∙◌}
 use Rattle.std.specs.Prelude.{Option, Some, None, IfSome, slice_get, int_lt}
-use Rattle.std.specs.Option.{option_map, option_copied}
+use Rattle.std.specs.Option.{option_map}
 use Rattle.std.specs.List.{IsDistinct}
 use Rattle.std.specs.Str.{bytes_eq}
 use Rattle.iss_model.specs.declared.entry.Entry.{Entry}
@@ -41,23 +41,13 @@ pub made_none : (c : ChainNow) (name : List ℕ) (make : TxnNow → Parts → Li
 made_none c name make e = ap (λ (o : Option TxnNow). entries_for c o make) (sym e)
 
 -- what a known transaction holds, by its own token
-pub held_so : (c : ChainNow) (name : List ℕ) (r : Option (Bor Hold)) (copy : Option Hold) → copy ≡ option_copied r → option_map (λ (hold : Bor Hold). now_of hold.now) r ≡ txn_named name c.holdings.txns
-    → IfSome r (λ hold. parts_of hold.now ≡ parts_in c.holdings name) → IfSome copy (λ hold. parts_of hold ≡ parts_held (chain_facts c) hold.txn)
-held_so c name None copy e named parts = subst (λ (o : Option Hold). IfSome o (λ hold. parts_of hold ≡ parts_held (chain_facts c) hold.txn)) (sym e) tt
-held_so c name (Some b) copy e named parts =
-    let token : b.now.txn.token ≡ name = found_token name c.holdings.txns (now_of b.now) (sym named) in
-    subst (λ (o : Option Hold). IfSome o (λ hold. parts_of hold ≡ parts_held (chain_facts c) hold.txn)) (sym e)
-    (parts ∙ ap (λ (k : List ℕ). parts_in c.holdings k) (sym token))
+pub held_so : (c : ChainNow) (name : List ℕ) (r : Option Hold) → option_map now_of r ≡ txn_named name c.holdings.txns
+    → IfSome r (λ hold. parts_of hold ≡ parts_in c.holdings name) → IfSome r (λ hold. parts_of hold ≡ parts_held (chain_facts c) hold.txn)
+held_so c name None named parts = tt
+held_so c name (Some hold) named parts = parts ∙ ap (λ (k : List ℕ). parts_in c.holdings k) (sym (found_token name c.holdings.txns (now_of hold) (sym named)))
 
 same_now : (x y : TxnNow) → Some x ≡ Some y → x ≡ y
 same_now x y e = cc
-
--- a place is inside of the rows, which are as many as the transactions
-pub row_within : (name : List ℕ) (txns : List TxnNow) (rows : List (Option PostSums)) (i : ℕ) → length rows ≡ length txns → Some i ≡ place_in name (tokens txns) → i < length rows
-row_within name txns rows i paired e =
-    let there = found name txns i (sym e) in
-    let within = there.within in
-    omega (arith, paired, within)
 
 -- what the programme is owed, by what stands at the place of a transaction
 pub owed_at : (ledger : Kept) (h : Holdings) (rows : List (Option PostSums)) (i : ℕ) (name : List ℕ) (hold : Hold) (s : PostSums) (owed : ℕ)

@@ -1,6 +1,6 @@
 //! The chain: transactions over the holds and the ledger.
 ghost use Rattle.std.specs.Prelude.{◌≡◌, ◌<◌, ◌^◌, [], ◌∷◌, not, length, map, fold, IfOk, OnOk, OnErr, IsSome, IfSome};
-ghost use Rattle.std.specs.Option.{option_copied, option_map};
+ghost use Rattle.std.specs.Option.{option_map};
 ghost use Rattle.std.specs.FinMap as finite;
 ghost use Rattle.iss_model.specs.declared.entry.Entry.TheVariants as entry;
 ghost use Rattle.iss_model.specs.Sums.{account_key, part_key};
@@ -198,7 +198,7 @@ impl Chain {
         ensures parts { IfSome result (λ hold. parts_of hold ≡ parts_held (chain_facts self.now) hold.txn) }
         ensures small { IfSome result (λ hold. whole_of hold < 2 ^ 62) }
     {
-        self.books.holds.get(txn).copied()
+        self.books.holds.get(txn)
     }
 
     /// What the programme has paid for a transaction, hasn't got back and doesn't hold. Of an unknown one it is nothing.
@@ -220,8 +220,8 @@ impl Chain {
     }
 
     /// The transaction of a token, `None` exactly where it isn't known.
-    pub fn txn(&self, txn: &Token) -> Option<&Txn>
-        ensures { option_copied result ≡ option_map (λ t. t.txn) (txn_named txn.now self.now.holdings.txns) }
+    pub fn txn(&self, txn: &Token) -> Option<Txn>
+        ensures { result ≡ option_map (λ t. t.txn) (txn_named txn.now self.now.holdings.txns) }
     {
         self.books.holds.txn(txn)
     }

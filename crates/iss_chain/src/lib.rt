@@ -11,6 +11,7 @@ mod chain;
 mod laws;
 mod making;
 pub mod pieces;
+mod rows;
 mod state;
 mod sums;
 #[cfg(test)]

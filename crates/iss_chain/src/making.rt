@@ -52,7 +52,7 @@ impl Books {
         let Some(hold) = self.holds.get(txn) else {
             return Ok(entries);
         };
-        pieces::reverse(&mut entries, hold, amount)?;
+        pieces::reverse(&mut entries, &hold, amount)?;
         Ok(entries)
     }
 
@@ -75,9 +75,9 @@ impl Books {
         let Some(hold) = self.holds.get(txn) else {
             return Ok((entries, 0));
         };
-        pieces::clear(&mut entries, hold, amount, at)?;
+        pieces::clear(&mut entries, &hold, amount, at)?;
         let place = entries.len();
-        pieces::end_clearing(&mut entries, hold, amount, last)?;
+        pieces::end_clearing(&mut entries, &hold, amount, last)?;
         Ok((entries, place))
     }
 
@@ -118,7 +118,7 @@ impl Books {
         let Some(hold) = self.holds.get(txn) else {
             return Ok(entries);
         };
-        pieces::end(&mut entries, hold)?;
+        pieces::end(&mut entries, &hold)?;
         Ok(entries)
     }
 

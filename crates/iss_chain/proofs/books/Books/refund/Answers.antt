@@ -6,4 +6,4 @@ use Rattle.iss_chain.proofs.books.Books.refund.Goals as goal
 pub returns : goal.returns
 returns c =
     alone c.in_ok-refund.ensures c.new-entries.ensures.items
-    ∙ refund_made (chain_of c.args.self.now) c.args.txn.now c.in-Some.hold.now c.owed.result c.args.amount c.in-Some.ensures.txn c.owed.ensures
+    ∙ refund_made (chain_of c.args.self.now) c.args.txn.now c.in-Some.hold c.owed.result c.args.amount c.in-Some.ensures.txn c.owed.ensures
