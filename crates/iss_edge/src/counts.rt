@@ -1,11 +1,12 @@
 //! How often calls have failed, by kind.
 
-ghost use Rattle.std.specs.Prelude.{◌≡◌, ◌≤◌};
+ghost use Rattle.std.specs.Prelude.{◌≡◌, ◌==◌, ◌≤◌, if◌then◌else◌};
 ghost use Rattle.iss_edge.specs.World.{Later, Rose};
 ghost use Rattle.iss_edge.specs.Channels.{count_of};
+ghost use Rattle.iss_edge.specs.declared.counts.Fault.TheVariants.{Input, Output, Peer, Link};
 ghost use Rattle.iss_edge.specs.Memory.{stream_faults};
 
-use crate::Failed;
+use crate::{Channel, Failed};
 use std::marker::Model;
 
 /// What a call that failed was on.
@@ -20,6 +21,34 @@ pub enum Fault {
     Peer,
     /// A channel that was dialled, or a dial.
     Link,
+}
+
+impl Fault {
+    /// What a take from a channel fails on.
+    pub fn of_take(ch: Channel, is_dialled: bool) -> Fault
+        ensures { result ≡ (if ch.0 == 0 then Input else (if is_dialled then Link else Peer)) }
+    {
+        if ch.0 == 0 {
+            return Fault::Input;
+        }
+        Fault::of_far(is_dialled)
+    }
+
+    /// What an emit on a channel fails on.
+    pub fn of_emit(ch: Channel, is_dialled: bool) -> Fault
+        ensures { result ≡ (if ch.0 == 0 then Output else (if is_dialled then Link else Peer)) }
+    {
+        if ch.0 == 0 {
+            return Fault::Output;
+        }
+        Fault::of_far(is_dialled)
+    }
+
+    fn of_far(is_dialled: bool) -> Fault
+        ensures { result ≡ (if is_dialled then Link else Peer) }
+    {
+        if is_dialled { Fault::Link } else { Fault::Peer }
+    }
 }
 
 /// How often calls have failed, by kind. A count stands still at 2^64 - 1.

@@ -145,7 +145,7 @@ impl Edge for MemoryEdge {
     }
 
     fn take(&mut self, ch: Channel, buf: &mut [u8]) -> Result<usize, Failed> {
-        let fault = self.network.take_fault(ch);
+        let fault = Fault::of_take(ch, self.network.is_dialled(ch));
         if fails_now(&mut self.calls, self.fails.as_slice()) {
             let answer = Answered::Took { ch, bytes: None };
             return Err(fail(&mut self.faults, fault, &mut self.heard, answer));
@@ -160,7 +160,7 @@ impl Edge for MemoryEdge {
     }
 
     fn emit(&mut self, ch: Channel, bytes: &[u8]) -> Result<(), Failed> {
-        let fault = self.network.emit_fault(ch);
+        let fault = Fault::of_emit(ch, self.network.is_dialled(ch));
         if fails_now(&mut self.calls, self.fails.as_slice()) {
             let answer = Answered::Emitted { ch, ok: false };
             let _ = send_prefix(self.alloc, &mut self.trace, ch, bytes);

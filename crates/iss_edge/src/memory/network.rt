@@ -3,13 +3,13 @@
 ghost use Rattle.std.specs.Prelude.{◌≡◌, ℕ, ◌≤◌, ◌++◌, ◌∷◌, [], true, min, take, drop, length, Ok, Some, None, IfOk, IfSome, IfNone, OnErr};
 ghost use Rattle.std.specs.Result.{result_ok};
 ghost use Rattle.iss_edge.specs.Calls.{next_arrival, next_bytes};
-ghost use Rattle.iss_edge.specs.Channels.{no_channels, is_among, IsUnused, ComesUnused, after_wait, after_dial, after_close, without, far_fault, take_fault, emit_fault};
+ghost use Rattle.iss_edge.specs.Channels.{no_channels, is_among, IsUnused, ComesUnused, after_wait, after_dial, after_close, without};
 ghost use Rattle.iss_edge.specs.declared.outside.Action.TheVariants.{Dial};
 ghost use Rattle.iss_edge.specs.declared.outside.Answered.TheVariants.{Waited, Dialled};
 ghost use Rattle.iss_edge.specs.Memory.{Traffic, left_on, next_rest, after_take, are_clients_apart};
 
 use super::piece::Piece;
-use crate::{Action, Answered, Arrival, Bytes, Channel, Fault, Script};
+use crate::{Action, Answered, Arrival, Bytes, Channel, Script};
 use std::alloc::{AllocError, Global};
 use std::collections::VecDeque;
 use std::marker::Model;
@@ -140,39 +140,8 @@ impl Network {
         pass_next(self.pieces.as_mut_slice(), ch, count);
     }
 
-    /// What a take from the channel fails on.
-    pub(crate) fn take_fault(&self, ch: Channel) -> Fault
-        ensures { result ≡ take_fault self.now.channels ch }
-    {
-        if ch.0 == 0 {
-            Fault::Input
-        } else {
-            self.far_fault(ch)
-        }
-    }
-
-    /// What an emit on the channel fails on.
-    pub(crate) fn emit_fault(&self, ch: Channel) -> Fault
-        ensures { result ≡ emit_fault self.now.channels ch }
-    {
-        if ch.0 == 0 {
-            Fault::Output
-        } else {
-            self.far_fault(ch)
-        }
-    }
-
-    fn far_fault(&self, ch: Channel) -> Fault
-        ensures { result ≡ far_fault self.now.channels ch }
-    {
-        if self.is_dialled(ch) {
-            Fault::Link
-        } else {
-            Fault::Peer
-        }
-    }
-
-    fn is_dialled(&self, ch: Channel) -> bool
+    /// Whether the channel was dialled and not closed since.
+    pub(crate) fn is_dialled(&self, ch: Channel) -> bool
         ensures { result ≡ is_among self.now.channels.dialled ch.0 }
     {
         self.dialled.iter().any(|number| *number == ch.0)
