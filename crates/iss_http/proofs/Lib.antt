@@ -1,0 +1,16 @@
+pub mod Lines
+pub mod Sections
+pub mod HeadLines
+pub mod Headers
+pub mod RequestHeads
+pub mod RequestsBack
+pub mod Found
+pub mod ResponseHeads
+pub mod ResponsesBack
+pub mod FoundResponses
+pub mod Cuts
+pub mod Digits
+pub mod LoneLengths
+pub mod Kept
+pub mod KeptAnswers
+pub mod Answering
