@@ -1,5 +1,5 @@
 -- What the functions on answers return, by what the bytes are read as.
-use Rattle.std.proofs.Common.{◌≡◌, refl, sym, ap, subst, ◌∙◌, ℕ, ◌≤◌, ◌<◌, Bool, true, false, List, length, take, drop, Option, Some, None, inl, inr, arith}
+use Rattle.std.proofs.Common.{◌≡◌, refl, sym, ap, subst, ◌∙◌, ℕ, ◌≤◌, ◌<◌, Bool, true, false, List, length, take, drop, Option, Some, None, inl, arith}
 use Rattle.std.specs.Prelude.{nat_lt, nat_le, codes, if◌then◌else◌, Result, Ok, Err, IfOk, IfNone, unwrap_or}
 use Rattle.std.proofs.lemmas.Bool.{le-leb, false≢true, leb-true}
 use Rattle.iss_http.specs.declared.answers.Answer.{Answer}

@@ -1,5 +1,5 @@
 -- Up to ten digits write a number below 10^10.
-use Rattle.std.proofs.Common.{◌≡◌, ℕ, ◌+◌, ◌*◌, ◌^◌, ◌<◌, zero, suc, arith}
+use Rattle.std.proofs.Common.{ℕ, ◌+◌, ◌*◌, ◌^◌, ◌<◌, zero, suc, arith}
 
 pub fits : (k n : ℕ) → k < 10 → n < 10 ^ k → n < 1000000000
 fits zero n less h = omega (arith, h)

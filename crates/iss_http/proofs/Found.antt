@@ -1,18 +1,18 @@
 -- What httparse finds at the front of a request, by the reading line by line.
-use Rattle.std.proofs.Common.{◌≡◌, refl, sym, ap, ◌∙◌, ℕ, ◌<◌, ◌≤◌, Bool, true, false, List, [], ◌∷◌, ◌++◌, length, map, take, drop, Option, Some, None, append-nil, arith}
+use Rattle.std.proofs.Common.{◌≡◌, refl, sym, ap, ◌∙◌, ℕ, ◌<◌, ◌≤◌, true, List, [], ◌∷◌, ◌++◌, length, map, take, drop, Option, Some, None, arith}
 use Rattle.std.proofs.lemmas.List.{length-map, length-take-le}
 use Rattle.httparse.specs.declared.spans.HeaderSpan.{HeaderSpan}
 use Rattle.httparse.specs.declared.spans.RequestSpans.{RequestSpans}
-use Rattle.httparse.specs.Grammar.{Field, RequestHead, print_request, ReadsRequest, HasNoRequest}
-use Rattle.httparse.specs.Spans.{header_bytes, name_and_value, AreFieldsAt, IsSectionWithin, IsRequestWithin, IsRequestAt, IsRequestOf, RequestOverflows}
+use Rattle.httparse.specs.Grammar.{Field, print_request, HasNoRequest}
+use Rattle.httparse.specs.Spans.{header_bytes, name_and_value, AreFieldsAt, IsRequestWithin, IsRequestOf, RequestOverflows}
 use Rattle.iss_http.specs.Heads as own
 use Rattle.iss_http.specs.Heads.{Header, request_head}
 use Rattle.iss_http.specs.Requests.{IsHopelessRequest}
 use Rattle.iss_http.specs.Spans.{part_of, header_at, headers_at, request_at}
 use Rattle.iss_http.proofs.Sections.{is_there}
 use Rattle.iss_http.proofs.Headers.{header_in}
-use Rattle.iss_http.proofs.RequestHeads.{head_in, head_read}
-use Rattle.iss_http.proofs.RequestsBack.{IsRead, head_back}
+use Rattle.iss_http.proofs.RequestHeads.{head_read}
+use Rattle.iss_http.proofs.RequestsBack.{head_back}
 
 -- a pair as a header
 abbrev pub header_from : List ℕ × List ℕ → Header

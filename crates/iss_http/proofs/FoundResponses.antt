@@ -1,5 +1,5 @@
 -- What httparse finds at the front of a response, by the reading line by line.
-use Rattle.std.proofs.Common.{◌≡◌, sym, ap, ◌∙◌, ℕ, ◌<◌, ◌≤◌, Bool, true, List, ◌++◌, length, map, take, drop, Option, Some, None, arith}
+use Rattle.std.proofs.Common.{◌≡◌, sym, ◌∙◌, ℕ, ◌<◌, ◌≤◌, List, ◌++◌, length, map, take, drop, Some, None, arith}
 use Rattle.httparse.specs.declared.spans.HeaderSpan.{HeaderSpan}
 use Rattle.httparse.specs.declared.spans.ResponseSpans.{ResponseSpans}
 use Rattle.httparse.specs.Grammar.{print_response, HasNoResponse, status_code}

@@ -7,8 +7,8 @@ use Rattle.std.proofs.lemmas.List.{length-append}
 use Rattle.std.proofs.lemmas.List.Elements.{All-cons, All-nil}
 use Rattle.httparse.specs.Grammar.{LineEnd, crlf, lf, print_end, print_blank, Field, IsField, print_section}
 use Rattle.iss_http.specs.Heads.{Lines, with_size, with_start, header_of, is_empty, without_return, ended_lines, field_lines, head_lines}
-use Rattle.iss_http.proofs.Lines.{is_clean, tail_of, IsLine, one_line, first_line, later_lines, has_line, Behind, behind, IsEnded, ended_by, bytes_again, part_size, empty_is}
-use Rattle.iss_http.proofs.Sections.{field_text, section_of, section_lines, all_there, or_lines, is_there, IsSection, section_back}
+use Rattle.iss_http.proofs.Lines.{is_clean, tail_of, IsLine, one_line, first_line, later_lines, has_line, Behind, behind, ended_by, bytes_again, empty_is}
+use Rattle.iss_http.proofs.Sections.{field_text, section_lines, all_there, or_lines, is_there, IsSection, section_back}
 
 -- each element, one after the other
 pub each : {A : Type 0} (P : A → Type 0) (xs : List A) → All P xs → AllByRecursion P xs

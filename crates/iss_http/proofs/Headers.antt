@@ -1,6 +1,6 @@
 -- The headers that are read are the fields of the grammar.
-use Rattle.std.proofs.Common.{◌≡◌, refl, sym, ap, ◌∙◌, ℕ, ◌+◌, suc, Bool, true, false, cond, not, List, [], ◌∷◌, ◌++◌, length, map, Option, Some, None, arith}
-use Rattle.std.specs.Prelude.{◌==◌, ◌&&◌, take, drop, nat_lt, ◌<◌, option_map, if◌then◌else◌}
+use Rattle.std.proofs.Common.{◌≡◌, refl, sym, ap, ◌∙◌, ℕ, ◌+◌, Bool, true, false, cond, not, List, [], ◌∷◌, ◌++◌, length, map, Option, Some, None, arith}
+use Rattle.std.specs.Prelude.{◌&&◌, take, drop, nat_lt, option_map, if◌then◌else◌}
 use Rattle.std.specs.List.{list_all, AllByRecursion, before_first, after_first, position_or_len, prefix_len}
 use Rattle.std.proofs.lemmas.Bool.{false≢true, eqb-true, lt-ltb}
 use Rattle.std.proofs.lemmas.List.{length-append}

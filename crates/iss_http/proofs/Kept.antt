@@ -1,7 +1,7 @@
 -- What comes behind the longest message changes nothing, so it needn't be kept.
-use Rattle.std.proofs.Common.{◌≡◌, refl, sym, ap, subst, Vec, Global, ◌∙◌, ℕ, ◌+◌, ◌≤◌, ◌<◌, Bool, true, false, List, [], ◌∷◌, ◌++◌, length, take, drop, Option, Some, None, append_assoc, arith, inl, inr}
-use Rattle.std.specs.Prelude.{min, ◌-◌, not, ◌||◌, nat_lt, nat_le, if◌then◌else◌, bytes_eq, codes, Result, Ok, Err, IfOk, IfErr, IfNone, option_map}
-use Rattle.std.proofs.lemmas.Bool.{false≢true, cases_lt, ltb-false, leb-true, leb-false, le-leb}
+use Rattle.std.proofs.Common.{◌≡◌, refl, sym, ap, subst, Vec, Global, ◌∙◌, ℕ, ◌+◌, ◌≤◌, ◌<◌, Bool, true, false, List, ◌++◌, length, take, drop, Option, Some, None, append_assoc, arith, inl, inr}
+use Rattle.std.specs.Prelude.{◌-◌, not, ◌||◌, nat_lt, nat_le, if◌then◌else◌, bytes_eq, codes, Result, Ok, Err, IfOk, IfErr, IfNone, option_map}
+use Rattle.std.proofs.lemmas.Bool.{false≢true, cases_lt, ltb-false, leb-false, le-leb}
 use Rattle.std.proofs.lemmas.List.{length-append, length-take, length-drop, take-take, drop-take, take-append-drop, take_all}
 use Rattle.httparse.specs.Grammar.{print_request}
 use Rattle.iss_http.specs.declared.lengths.ContentLength.{ContentLength}
@@ -10,12 +10,12 @@ use Rattle.iss_http.specs.declared.faults.HttpFault.{HttpFault}
 use Rattle.iss_http.specs.declared.faults.HttpFault.TheVariants.{Head, HeadLong, Method, Path, Coding, NoLength, BodyLong}
 use Rattle.iss_http.specs.declared.faults.FeedFault.{FeedFault}
 use Rattle.iss_http.specs.declared.faults.FeedFault.TheVariants.{Http, OutOfMemory}
-use Rattle.iss_http.specs.Heads.{RequestHead, ResponseHead, request_head, response_head}
+use Rattle.iss_http.specs.Heads.{RequestHead, request_head}
 use Rattle.iss_http.specs.Lengths.{has, content_length}
 use Rattle.iss_http.specs.Requests as asks
 use Rattle.iss_http.specs.Requests.{Request, more, body, faulty, request, answered, told, IsHopelessRequest, HasFault, IsCause}
 use Rattle.iss_http.proofs.Sections.{is_there}
-use Rattle.iss_http.proofs.RequestHeads.{head_in, head_read}
+use Rattle.iss_http.proofs.RequestHeads.{head_read}
 use Rattle.iss_http.proofs.RequestsBack.{head_back}
 
 -- a size that is at most k stays within the first k

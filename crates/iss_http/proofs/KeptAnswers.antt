@@ -1,6 +1,6 @@
 -- What comes behind the longest answer changes nothing, so it needn't be kept.
-use Rattle.std.proofs.Common.{◌≡◌, refl, sym, ap, ◌∙◌, ℕ, ◌+◌, ◌≤◌, ◌<◌, Bool, true, false, List, ◌++◌, length, take, drop, Option, Some, None, append_assoc, arith, inl, inr}
-use Rattle.std.specs.Prelude.{◌-◌, nat_lt, nat_le, ◌⊎◌, if◌then◌else◌, codes}
+use Rattle.std.proofs.Common.{◌≡◌, refl, sym, ap, ◌∙◌, ℕ, ◌+◌, ◌≤◌, Bool, true, false, List, ◌++◌, length, take, drop, Option, Some, None, append_assoc, arith, inl, inr}
+use Rattle.std.specs.Prelude.{◌-◌, nat_lt, nat_le, if◌then◌else◌, codes}
 use Rattle.std.proofs.lemmas.Bool.{false≢true, cases_lt, ltb-false, leb-false, lt-ltb}
 use Rattle.std.proofs.lemmas.List.{length-append, length-take, length-drop, take-take, drop-take, take-append-drop, take_all}
 use Rattle.httparse.specs.Grammar.{print_response}
@@ -10,7 +10,7 @@ use Rattle.iss_http.specs.Heads.{ResponseHead, response_head}
 use Rattle.iss_http.specs.Lengths.{has, content_length}
 use Rattle.iss_http.specs.Answers.{Reading, more, ended, garbled, whole, unless_over, body_within, open_body, sized_body, headed_with, headed, read_by, answer_read, IsHopelessAnswer, IsReadAs}
 use Rattle.iss_http.proofs.Sections.{is_there}
-use Rattle.iss_http.proofs.ResponseHeads.{head_in, response_read}
+use Rattle.iss_http.proofs.ResponseHeads.{response_read}
 use Rattle.iss_http.proofs.ResponsesBack.{response_back}
 use Rattle.iss_http.proofs.Kept.{within_cut}
 

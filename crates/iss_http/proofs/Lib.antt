@@ -14,3 +14,4 @@ pub mod LoneLengths
 pub mod Kept
 pub mod KeptAnswers
 pub mod Answering
+pub mod Hopeless

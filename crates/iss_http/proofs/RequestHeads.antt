@@ -1,23 +1,23 @@
 -- The head of a request that is read is that of the grammar.
-use Rattle.std.proofs.Common.{◌≡◌, refl, sym, ap, ◌∙◌, ℕ, ◌+◌, zero, suc, Bool, true, false, not, List, [], ◌∷◌, ◌++◌, length, map, Option, Some, None, append_assoc, arith}
-use Rattle.std.specs.Prelude.{◌==◌, ◌&&◌, ◌||◌, ◌<◌, ◌≤◌, nat_lt, nat_le, option_map, option_and_then, if◌then◌else◌, IsUtf8, bytes_eq, codes}
-use Rattle.std.specs.List.{list_all, All, AllByRecursion, slice_split, join_with_byte}
+use Rattle.std.proofs.Common.{◌≡◌, refl, sym, ap, ◌∙◌, ℕ, zero, suc, Bool, true, false, List, [], ◌∷◌, ◌++◌, length, map, Some, None, append_assoc, arith}
+use Rattle.std.specs.Prelude.{◌==◌, ◌&&◌, ◌||◌, ◌≤◌, nat_lt, option_map, option_and_then, if◌then◌else◌}
+use Rattle.std.specs.List.{list_all, All, AllByRecursion}
 use Rattle.std.specs.Str.{is_utf8}
 use Rattle.std.specs.Char.{is_ascii}
-use Rattle.std.proofs.lemmas.Bool.{false≢true, eqb-true, lt-ltb, le-leb, ltb-true, leb-true}
+use Rattle.std.proofs.lemmas.Bool.{false≢true, eqb-true, lt-ltb, le-leb}
 use Rattle.std.proofs.lemmas.List.{length-append, length-map}
 use Rattle.std.proofs.lemmas.List.Sums.{list_all-from_AllPass, AllPass-from_list_all}
 use Rattle.std.proofs.lemmas.List.Folds.{list_all-append}
-use Rattle.std.proofs.lemmas.List.Splits.{slice_split_at, slice_split_none, join_with_byte-slice_split}
-use Rattle.std.proofs.lemmas.Str.{is_utf8-from_IsUtf8, IsUtf8-from_is_utf8, IsUtf8-from_ascii}
-use Rattle.httparse.specs.Grammar.{LineEnd, Field, IsField, print_end, print_blank, print_version, print_section, RequestHead, IsRequestHead, ReadsRequest, print_request, is_token, is_token_byte, is_uri_byte}
+use Rattle.std.proofs.lemmas.List.Splits.{slice_split_at, slice_split_none}
+use Rattle.std.proofs.lemmas.Str.{is_utf8-from_IsUtf8}
+use Rattle.httparse.specs.Grammar.{LineEnd, Field, IsField, print_end, print_blank, print_version, print_section, RequestHead, ReadsRequest, print_request, is_token, is_token_byte, is_uri_byte}
 use Rattle.httparse.proofs.GrammarLemmas.{print_request-append}
 use Rattle.iss_http.specs.Heads as own
 use Rattle.iss_http.specs.Heads.{Lines, Header, split_at, is_empty, ended_lines, head_lines, header_of, all_of, headers_of, is_version, is_text, request_line, request_of, request_with, request_head_of, request_head}
 use Rattle.iss_http.proofs.Lines.{is_clean, and_left, and_right, all_clean}
-use Rattle.iss_http.proofs.Sections.{field_text, is_there, there_of}
+use Rattle.iss_http.proofs.Sections.{field_text, is_there}
 use Rattle.iss_http.proofs.Headers.{header_in, headers_of_fields}
-use Rattle.iss_http.proofs.HeadLines.{each, every, message_bytes, message_lines, read_lines, IsMessage, message_back}
+use Rattle.iss_http.proofs.HeadLines.{each, every, message_bytes, message_lines, read_lines}
 
 pub both : (a b : Bool) → a ≡ true → b ≡ true → (a && b) ≡ true
 both true true x y = refl

@@ -1,7 +1,7 @@
 -- The other way: a head of a request that is read is one of the grammar.
-use Rattle.std.proofs.Common.{◌≡◌, refl, sym, ap, ◌∙◌, ℕ, ◌+◌, zero, suc, Bool, true, false, List, [], ◌∷◌, ◌++◌, length, map, Option, Some, None, arith}
+use Rattle.std.proofs.Common.{◌≡◌, refl, sym, ap, ◌∙◌, ℕ, Bool, true, false, List, [], ◌∷◌, ◌++◌, length, map, Option, Some, None, arith}
 use Rattle.std.specs.Prelude.{◌&&◌, ◌||◌, ◌<◌, ◌≤◌, nat_lt, nat_le, option_map, option_and_then, if◌then◌else◌, IsUtf8, bytes_eq, codes}
-use Rattle.std.specs.List.{list_all, All, AllByRecursion, join_with_byte}
+use Rattle.std.specs.List.{list_all, AllByRecursion, join_with_byte}
 use Rattle.std.specs.Str.{is_utf8}
 use Rattle.std.specs.Char.{is_ascii}
 use Rattle.std.proofs.lemmas.Bool.{false≢true, ltb-true, leb-true}
@@ -11,12 +11,11 @@ use Rattle.std.proofs.lemmas.List.Splits.{join_with_byte-slice_split}
 use Rattle.std.proofs.lemmas.Slice.Eq.{bytes_eq-Decides}
 use Rattle.std.proofs.lemmas.Str.{IsUtf8-from_is_utf8, IsUtf8-from_ascii}
 use Rattle.std.proofs.lemmas.Str.Ascii.{IsAscii-from_all}
-use Rattle.httparse.specs.Grammar.{Field, IsField, print_version, RequestHead, ReadsRequest, is_token, is_token_byte, is_uri_byte}
+use Rattle.httparse.specs.Grammar.{IsField, print_version, RequestHead, ReadsRequest, is_token, is_token_byte, is_uri_byte}
 use Rattle.httparse.proofs.GrammarLemmas.{print_request-append}
-use Rattle.iss_http.specs.Heads as own
-use Rattle.iss_http.specs.Heads.{Lines, Header, split_at, ended_lines, head_lines, header_of, all_of, headers_of, is_version, is_text, request_line, request_of, request_with, request_head_of, request_head}
+use Rattle.iss_http.specs.Heads.{Lines, split_at, ended_lines, head_lines, header_of, all_of, headers_of, is_version, is_text, request_line, request_of, request_with, request_head_of, request_head}
 use Rattle.iss_http.proofs.Lines.{and_left, and_right}
-use Rattle.iss_http.proofs.Sections.{field_text, is_there, there_of, all_there}
+use Rattle.iss_http.proofs.Sections.{field_text, is_there, there_of}
 use Rattle.iss_http.proofs.HeadLines.{every, message_bytes, IsMessage, message_back}
 use Rattle.iss_http.proofs.RequestHeads.{test_there, regroup}
 

@@ -1,25 +1,21 @@
 -- The head of a response that is read is that of the grammar, and the other way.
-use Rattle.std.proofs.Common.{◌≡◌, refl, sym, ap, ◌∙◌, ℕ, ◌+◌, zero, suc, Bool, true, false, List, [], ◌∷◌, ◌++◌, length, map, take, drop, Option, Some, None, append_assoc, arith}
-use Rattle.std.specs.Prelude.{◌==◌, ◌&&◌, ◌≤◌, nat_le, option_map, option_and_then, if◌then◌else◌, bytes_eq, codes}
-use Rattle.std.specs.List.{list_all, AllByRecursion}
+use Rattle.std.proofs.Common.{◌≡◌, refl, sym, ap, ◌∙◌, ℕ, zero, suc, Bool, true, false, List, [], ◌∷◌, ◌++◌, length, map, Option, Some, None, append_assoc, arith}
+use Rattle.std.specs.Prelude.{◌≤◌, option_map, option_and_then, if◌then◌else◌}
+use Rattle.std.specs.List.{list_all}
 use Rattle.std.specs.Str.{all_ascii_digits}
 use Rattle.std.specs.Str.Parse.{digits_value}
 use Rattle.std.specs.Char.{is_ascii_digit}
-use Rattle.std.proofs.lemmas.Bool.{false≢true, eqb-true, le-leb, leb-true}
-use Rattle.std.proofs.lemmas.List.{length-append, length-map, take-append-drop}
-use Rattle.std.proofs.lemmas.List.Sums.{list_all-from_AllPass, AllPass-from_list_all}
+use Rattle.std.proofs.lemmas.List.{length-append}
+use Rattle.std.proofs.lemmas.List.Sums.{list_all-from_AllPass}
 use Rattle.std.proofs.lemmas.List.Folds.{list_all-append}
-use Rattle.std.proofs.lemmas.Slice.Eq.{bytes_eq-Decides}
 use Rattle.httparse.specs.Grammar.{LineEnd, Field, IsField, AllPass, print_end, print_blank, print_version, print_section, print_reason, reason_phrase, ResponseHead, ReadsResponse, print_response, is_value_byte}
 use Rattle.httparse.proofs.GrammarLemmas.{print_response-append}
 use Rattle.iss_http.specs.Heads as own
 use Rattle.iss_http.specs.Heads.{Lines, Header, is_empty, ended_lines, head_lines, header_of, all_of, headers_of, is_version, is_reason, status_line, response_of, response_with, response_head_of, response_head}
-use Rattle.iss_http.proofs.Lines.{is_clean, and_left, and_right, all_clean}
-use Rattle.iss_http.proofs.Sections.{field_text, is_there, there_of}
-use Rattle.iss_http.proofs.Headers.{header_in, headers_of_fields}
-use Rattle.iss_http.proofs.HeadLines.{each, every, message_bytes, message_lines, read_lines, IsMessage, message_back}
-use Rattle.iss_http.proofs.RequestHeads.{both, test_there, few_headers}
-use Rattle.iss_http.proofs.RequestsBack.{Minor, minor_of, first_there, few_there}
+use Rattle.iss_http.proofs.Lines.{is_clean, all_clean}
+use Rattle.iss_http.proofs.Headers.{header_in}
+use Rattle.iss_http.proofs.HeadLines.{each, message_bytes, message_lines, read_lines}
+use Rattle.iss_http.proofs.RequestHeads.{both, few_headers}
 
 abbrev pub line_in : ResponseHead → List ℕ
 line_in h = print_version h.minor ++ 32 ∷ (h.digits ++ print_reason h.reason)

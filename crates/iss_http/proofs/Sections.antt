@@ -8,7 +8,7 @@ use Rattle.std.proofs.lemmas.List.Sums.{AllPass-from_list_all, split_at_first, p
 use Rattle.std.proofs.lemmas.List.Folds.{list_all-append}
 use Rattle.httparse.specs.Grammar.{trim_ows, is_token, LineEnd, crlf, lf, print_end, Field, IsField, is_token_byte, is_value_byte, print_field, print_section}
 use Rattle.iss_http.specs.Heads.{is_colon, Header, all_of, Lines, header_of, no_lines, with_field, is_empty, without_return, ended_lines, field_lines}
-use Rattle.iss_http.proofs.Lines.{is_clean, and_left, and_right, tail_of, IsLine, one_line, all_clean, first_line, later_lines, has_line, Behind, behind, IsEnded, ended_by, bytes_again, part_size, empty_is}
+use Rattle.iss_http.proofs.Lines.{is_clean, and_left, and_right, tail_of, IsLine, one_line, all_clean, first_line, later_lines, has_line, Behind, behind, ended_by, bytes_again, part_size, empty_is}
 
 abbrev pub field_text : Field → List ℕ
 field_text f = f.name ++ 58 ∷ f.raw

@@ -1,5 +1,5 @@
 -- What the readers of answers return, as what the bytes are.
-use Rattle.std.specs.Prelude.{ℕ, List, Option, Some, None}
+use Rattle.std.specs.Prelude.{Option, Some, None}
 use Rattle.iss_http.specs.declared.answers.Answer.{Answer}
 use Rattle.iss_http.specs.declared.answers.Answer.TheVariants as answer
 use Rattle.iss_http.specs.declared.answers.Came.{Came}

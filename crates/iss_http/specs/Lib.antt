@@ -5,3 +5,4 @@ pub mod Answers
 pub mod Messages
 pub mod Spans
 pub mod Heard
+pub mod Worked

@@ -13,11 +13,13 @@ mod limits;
 mod messages;
 mod pieces;
 mod requests;
+mod worked;
 
 pub use answers::{Answer, AnswerReader};
 pub use faults::{FeedFault, HttpFault};
 pub use messages::{ask, respond};
 pub use requests::Reader;
+pub use worked::{worked_answers, worked_faults, worked_hopeless, worked_requests, worked_texts};
 
 #[cfg(test)]
 mod tests;
