@@ -53,7 +53,7 @@ headed_cut bytes h small =
     ap (asks.headed_with h) same
 
 -- a head is no longer than the bytes that it is read from
-small_head : (buf : List ℕ) (h : RequestHead) → request_head buf ≡ Some h → h.size ≤ length buf
+pub small_head : (buf : List ℕ) (h : RequestHead) → request_head buf ≡ Some h → h.size ≤ length buf
 small_head buf h is =
     let k = head_back buf (ap is_there is) in
     let same = sym (head_read buf k.head k.rest k.reads k.few) ∙ is in

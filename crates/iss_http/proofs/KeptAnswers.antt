@@ -50,7 +50,7 @@ headed_cut bytes over h small =
     (ap (λ (xs : List ℕ). sized_body h.status xs over (content_length h.headers)) rest
     ∙ sized_cut h.status k (drop h.size bytes) over (content_length h.headers) (omega (arith, small)))
 
-small_head : (buf : List ℕ) (h : ResponseHead) → response_head buf ≡ Some h → h.size ≤ length buf
+pub small_head : (buf : List ℕ) (h : ResponseHead) → response_head buf ≡ Some h → h.size ≤ length buf
 small_head buf h is =
     let k = response_back buf (ap is_there is) in
     let same = sym (response_read buf k.head k.rest k.reads k.few) ∙ is in

@@ -15,3 +15,4 @@ pub mod Kept
 pub mod KeptAnswers
 pub mod Answering
 pub mod Hopeless
+pub mod Stays
