@@ -2,6 +2,7 @@
 use std::alloc::{AllocError, Global};
 
 mod answers;
+mod limits;
 mod messages;
 mod requests;
 

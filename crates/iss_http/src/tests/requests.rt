@@ -1,12 +1,10 @@
 //! What strangers send as a request, in any pieces.
-use super::{filled, with_lines};
 use crate::{FeedFault, HttpFault, Reader};
 use std::alloc::Global;
-use std::test::Fail;
 
 /// What a request comes to.
 #[derive(Clone, Copy, PartialEq, Eq, Debug)]
-enum Told {
+pub(super) enum Told {
     More,
     /// A body of so many bytes.
     Body(usize),
@@ -24,7 +22,7 @@ fn tell(said: Result<Option<Vec<u8>>, FeedFault>) -> Told {
 }
 
 /// What bytes come to that arrive in these pieces.
-fn read(alloc: Global, pieces: &[&[u8]]) -> Told {
+pub(super) fn read(alloc: Global, pieces: &[&[u8]]) -> Told {
     let Ok(mut reader) = Reader::new(alloc) else {
         return Told::OutOfMemory;
     };
@@ -38,7 +36,7 @@ fn read(alloc: Global, pieces: &[&[u8]]) -> Told {
 }
 
 /// What bytes come to that arrive one by one.
-fn read_singly(alloc: Global, bytes: &[u8]) -> Told {
+pub(super) fn read_singly(alloc: Global, bytes: &[u8]) -> Told {
     let Ok(mut reader) = Reader::new(alloc) else {
         return Told::OutOfMemory;
     };
@@ -313,9 +311,6 @@ fn reads_three_pieces_as_one(rt: HostRuntime) {
     }
 }
 
-/// The line of a request, and a header whose value comes next.
-const BEGINNING: &str = "POST /events HTTP/1.1\r\nA: ";
-
 #[test]
 fn refuses_targets_that_are_no_text(rt: HostRuntime) {
     let bad = b"POST /\xff HTTP/1.1\r\n\r\n";
@@ -326,55 +321,41 @@ fn refuses_targets_that_are_no_text(rt: HostRuntime) {
     assert_eq!(rt; read(rt.alloc(), &[other]), Told::Body(0));
 }
 
-#[test]
-fn keeps_to_its_limits(rt: HostRuntime) -> Result<(), Fail> {
-    let alloc = rt.alloc();
-    let line = "POST /events HTTP/1.1\r\n";
-    let last = "Content-Length: 0\r\n\r\n";
-    let most = with_lines(alloc, line, 63, last)?;
-    assert_eq!(rt; read(alloc, &[&most]), Told::Body(0));
-    let too_many = with_lines(alloc, line, 64, last)?;
-    assert_eq!(rt; read(alloc, &[&too_many]), Told::Fault(HttpFault::Head));
-
-    let ending = "\r\nContent-Length: 0\r\n\r\n";
-    let longest = filled(alloc, BEGINNING, ending, 8192)?;
-    assert_eq!(rt; read(alloc, &[&longest]), Told::Body(0));
-    let too_long = filled(alloc, BEGINNING, ending, 8193)?;
-    assert_eq!(rt; read(alloc, &[&too_long]), Told::Fault(HttpFault::HeadLong));
-    assert_eq!(rt;
-        read_singly(alloc, &too_long),
-        Told::Fault(HttpFault::HeadLong)
-    );
-    Ok(())
-}
-
-#[test]
-fn refuses_an_endless_line(rt: HostRuntime) -> Result<(), Fail> {
-    let alloc = rt.alloc();
-    let short = filled(alloc, BEGINNING, "", 8191)?;
-    assert_eq!(rt; read(alloc, &[&short]), Told::More);
-    let endless = filled(alloc, BEGINNING, "", 8192)?;
-    assert_eq!(rt; read(alloc, &[&endless]), Told::Fault(HttpFault::HeadLong));
-    assert_eq!(rt;
-        read_singly(alloc, &endless),
-        Told::Fault(HttpFault::HeadLong)
-    );
-    let far_more = filled(alloc, BEGINNING, "", 100000)?;
-    assert_eq!(rt; read(alloc, &[&far_more]), Told::Fault(HttpFault::HeadLong));
-    Ok(())
-}
+/// Fronts of requests, each with its first bad byte at its end.
+const BAD_FRONTS: [&str; 18] = [
+    " ",
+    "\0",
+    "{",
+    "POST\t",
+    "POST  ",
+    "POST /ev\t",
+    "POST /events\r",
+    "POST /events h",
+    "POST /events HTTP/2",
+    "POST /events HTTP/1.2",
+    "POST /events HTTP/1.1 ",
+    "POST /events HTTP/1.1\rA",
+    "POST /events HTTP/1.1\r\n ",
+    "POST /events HTTP/1.1\r\nA ",
+    "POST /events HTTP/1.1\r\nA\r",
+    "POST /events HTTP/1.1\r\nA: \0",
+    "POST /events HTTP/1.1\r\nA: b\rc",
+    "POST /events HTTP/1.1\r\nA: b\r\n ",
+];
 
 #[test]
-fn reads_the_longest_body(rt: HostRuntime) -> Result<(), Fail> {
-    let alloc = rt.alloc();
-    let head = "POST /events HTTP/1.1\r\nContent-Length: 16384\r\n\r\n";
-    let size = head.len().saturating_add(16384);
-    let short = filled(alloc, head, "", size - 1)?;
-    assert_eq!(rt; read(alloc, &[&short]), Told::More);
-    let whole = filled(alloc, head, "", size)?;
-    assert_eq!(rt; read(alloc, &[&whole]), Told::Body(16384));
-    assert_eq!(rt; read_singly(alloc, &whole), Told::Body(16384));
-    let longer = filled(alloc, head, "", 100000)?;
-    assert_eq!(rt; read(alloc, &[&longer]), Told::Body(16384));
-    Ok(())
+fn tells_a_bad_head_at_once(rt: HostRuntime) {
+    for text in BAD_FRONTS {
+        let (good, bad) = text.as_bytes().split_at(text.len().saturating_sub(1));
+        assert_eq!(rt;
+            read(rt.alloc(), &[good]),
+            Told::More,
+            "{text} without its last byte"
+        );
+        assert_eq!(rt;
+            read(rt.alloc(), &[good, bad]),
+            Told::Fault(HttpFault::Head),
+            "{text}"
+        );
+    }
 }
