@@ -8,7 +8,7 @@ use Rattle.std.proofs.lemmas.List.Sums.{list_all-from_AllPass}
 use Rattle.std.proofs.Math.Seq.{take-append_seam, drop-append-add}
 use Rattle.httparse.specs.Grammar.{trim_ows, is_token, Field, IsField, is_token_byte, is_value_byte}
 use Rattle.iss_http.specs.Heads.{is_colon, Header, header_of, all_of}
-use Rattle.iss_http.proofs.Lines.{and_left, and_right, all_weaker}
+use Rattle.iss_http.proofs.Lines.{and_left, and_right, both, all_weaker}
 use Rattle.iss_http.proofs.Sections.{field_text}
 
 -- the header of a field
@@ -27,12 +27,6 @@ first_place p [] y ys none at = ap (λ (t : Bool). cond (not t) (1 + prefix_len 
 first_place p (x ∷ xs) y ys none at =
     ap (λ (t : Bool). cond t (1 + position_or_len p (xs ++ y ∷ ys)) 0) (and_left (not (p x)) (list_all (λ b. not (p b)) xs) none)
     ∙ omega (arith, first_place p xs y ys (and_right (not (p x)) (list_all (λ b. not (p b)) xs) none) at)
-
-and_three : (a b c : Bool) → a ≡ true → b ≡ true → c ≡ true → (a && b && c) ≡ true
-and_three true true true x y z = refl
-and_three true true false x y z = z
-and_three true false c x y z = y
-and_three false b c x y z = x
 
 abbrev header_with : List ℕ → List ℕ → Header
 header_with name raw = record { name = name; value = trim_ows raw }
@@ -55,17 +49,12 @@ header_of_field f is =
     let good : list_all is_value_byte f.raw ≡ true = list_all-from_AllPass is_value_byte f.raw is.raw in
     read (before_first is_colon text) f.name (after_first is_colon text) f.raw (nat_lt (position_or_len is_colon text) (length text)) name raw inside token good
   where
-    both : (a b : Bool) → a ≡ true → b ≡ true → (a && b) ≡ true
-    both true true x y = refl
-    both true false x y = y
-    both false b x y = x
-
     read : (n name r raw : List ℕ) (t : Bool) → n ≡ name → r ≡ raw → t ≡ true → is_token name ≡ true → list_all is_value_byte raw ≡ true
         → header_if n r t ≡ Some (header_with name raw)
     read n name r raw t en er et token good =
         ap (λ (x : List ℕ). header_if x r t) en
         ∙ ap (λ (x : List ℕ). header_if name x t) er
-        ∙ ap (λ (x : Bool). if x then Some (header_with name raw) else None) (and_three (is_token name) t (list_all is_value_byte raw) token et good)
+        ∙ ap (λ (x : Bool). if x then Some (header_with name raw) else None) (both (is_token name && t) (list_all is_value_byte raw) (both (is_token name) t token et) good)
 
 -- and so are all of them
 pub headers_of_fields : (fs : List Field) → AllByRecursion IsField fs → all_of (map header_of (map field_text fs)) ≡ Some (map header_in fs)

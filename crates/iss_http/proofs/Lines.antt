@@ -20,6 +20,11 @@ pub and_right : (a b : Bool) → (a && b) ≡ true → b ≡ true
 and_right true b e = e
 and_right false b e = absurd (false≢true e)
 
+pub both : (a b : Bool) → a ≡ true → b ≡ true → (a && b) ≡ true
+both true true x y = refl
+both true false x y = y
+both false b x y = x
+
 pub not_true : (a : Bool) → not a ≡ true → a ≡ false
 not_true true e = sym e
 not_true false e = refl

@@ -14,15 +14,10 @@ use Rattle.httparse.specs.Grammar.{LineEnd, Field, IsField, print_end, print_bla
 use Rattle.httparse.proofs.GrammarLemmas.{print_request-append}
 use Rattle.iss_http.specs.Heads as own
 use Rattle.iss_http.specs.Heads.{Lines, Header, split_at, is_empty, ended_lines, head_lines, header_of, all_of, headers_of, is_version, is_text, request_line, request_of, request_with, request_head_of, request_head}
-use Rattle.iss_http.proofs.Lines.{is_clean, and_left, and_right, all_clean}
+use Rattle.iss_http.proofs.Lines.{is_clean, and_left, and_right, both, all_clean}
 use Rattle.iss_http.proofs.Sections.{field_text, is_there}
 use Rattle.iss_http.proofs.Headers.{header_in, headers_of_fields}
 use Rattle.iss_http.proofs.HeadLines.{each, every, message_bytes, message_lines, read_lines}
-
-pub both : (a b : Bool) → a ≡ true → b ≡ true → (a && b) ≡ true
-both true true x y = refl
-both true false x y = y
-both false b x y = x
 
 or_right : (a b : Bool) → b ≡ true → (a || b) ≡ true
 or_right true b e = refl

@@ -15,7 +15,7 @@ use Rattle.httparse.specs.Grammar.{IsField, print_version, RequestHead, ReadsReq
 use Rattle.httparse.proofs.GrammarLemmas.{print_request-append}
 use Rattle.iss_http.specs.Heads.{Lines, split_at, ended_lines, head_lines, header_of, all_of, headers_of, is_version, is_text, request_line, request_of, request_with, request_head_of, request_head}
 use Rattle.iss_http.proofs.Lines.{and_left, and_right}
-use Rattle.iss_http.proofs.Sections.{field_text, is_there, there_of}
+use Rattle.iss_http.proofs.Sections.{field_text, is_there, mapped_there, there_of}
 use Rattle.iss_http.proofs.HeadLines.{every, message_bytes, IsMessage, message_back}
 use Rattle.iss_http.proofs.RequestHeads.{test_there, regroup}
 
@@ -114,13 +114,9 @@ pub first_there : {A B : Type 0} (f : A → Option B) (o : Option A) → is_ther
 first_there f None e = e
 first_there f (Some x) e = refl
 
-with_there : (l : Lines) (o : Option (List ℕ × List ℕ)) → is_there (option_and_then (request_with l) o) ≡ true → is_there (headers_of l.fields) ≡ true
-with_there l None e = absurd (false≢true e)
-with_there l (Some x) e = mapped (request_of l.size x) (headers_of l.fields) e
-  where
-    mapped : {A B : Type 0} (f : A → B) (o : Option A) → is_there (option_map f o) ≡ true → is_there o ≡ true
-    mapped f None e = e
-    mapped f (Some y) e = refl
+pub second_there : {A B C : Type 0} (f : A → B → C) (p : Option B) (o : Option A) → is_there (option_and_then (λ x. option_map (f x) p) o) ≡ true → is_there p ≡ true
+second_there f p None e = absurd (false≢true e)
+second_there f p (Some x) e = mapped_there (f x) p e
 
 pub few_there : {A : Type 0} (t : Bool) (o : Option A) → is_there (if t then o else None) ≡ true → (t ≡ true) × (is_there o ≡ true)
 few_there true o e = (refl, e)
@@ -130,7 +126,7 @@ by_lines : (buf : List ℕ) (o : Option Lines) → head_lines (ended_lines buf) 
 by_lines buf None e there = absurd (false≢true there)
 by_lines buf (Some l) e there =
     let words = split_at 32 l.start in
-    let few = few_there (nat_le (length l.fields) 64) (all_of (map header_of l.fields)) (with_there l (request_line words) there) in
+    let few = few_there (nat_le (length l.fields) 64) (all_of (map header_of l.fields)) (second_there (request_of l.size) (headers_of l.fields) (request_line words) there) in
     read_from buf l (message_back (ended_lines buf) buf refl l e (there_of (map header_of l.fields) few.1))
     (start_of words l.start (join_with_byte-slice_split 32 l.start) (first_there (request_with l) (request_line words) there)) few.0
 

@@ -1,6 +1,6 @@
 -- The head of a response that is read is that of the grammar, and the other way.
 use Rattle.std.proofs.Common.{◌≡◌, refl, sym, ap, ◌∙◌, ℕ, zero, suc, Bool, true, false, List, [], ◌∷◌, ◌++◌, length, map, Option, Some, None, append_assoc, arith}
-use Rattle.std.specs.Prelude.{◌≤◌, option_map, option_and_then, if◌then◌else◌}
+use Rattle.std.specs.Prelude.{◌&&◌, ◌≤◌, option_map, option_and_then, if◌then◌else◌}
 use Rattle.std.specs.List.{list_all}
 use Rattle.std.specs.Str.{all_ascii_digits}
 use Rattle.std.specs.Str.Parse.{digits_value}
@@ -12,10 +12,10 @@ use Rattle.httparse.specs.Grammar.{LineEnd, Field, IsField, AllPass, print_end, 
 use Rattle.httparse.proofs.GrammarLemmas.{print_response-append}
 use Rattle.iss_http.specs.Heads as own
 use Rattle.iss_http.specs.Heads.{Lines, Header, is_empty, ended_lines, head_lines, header_of, all_of, headers_of, is_version, is_reason, status_line, response_of, response_with, response_head_of, response_head}
-use Rattle.iss_http.proofs.Lines.{is_clean, all_clean}
+use Rattle.iss_http.proofs.Lines.{is_clean, both, all_clean}
 use Rattle.iss_http.proofs.Headers.{header_in}
 use Rattle.iss_http.proofs.HeadLines.{each, message_bytes, message_lines, read_lines}
-use Rattle.iss_http.proofs.RequestHeads.{both, few_headers}
+use Rattle.iss_http.proofs.RequestHeads.{few_headers}
 
 abbrev pub line_in : ResponseHead → List ℕ
 line_in h = print_version h.minor ++ 32 ∷ (h.digits ++ print_reason h.reason)
@@ -38,6 +38,19 @@ reason_clean : (r : Option (List ℕ)) → AllPass is_value_byte (reason_phrase 
 reason_clean None all = refl
 reason_clean (Some phrase) all = all_clean is_value_byte refl refl phrase all
 
+three_read : (a b c : ℕ) (r : Option (List ℕ)) → AllPass is_ascii_digit (a ∷ b ∷ c ∷ []) → AllPass is_value_byte (reason_phrase r)
+    → (if all_ascii_digits (a ∷ b ∷ c ∷ []) && is_reason (print_reason r) then Some (digits_value 10 (a ∷ b ∷ c ∷ [])) else None)
+    ≡ Some (digits_value 10 (a ∷ b ∷ c ∷ []))
+three_read a b c r digits phrase =
+    ap (λ (t : Bool). if t then Some (digits_value 10 (a ∷ b ∷ c ∷ [])) else None)
+    (both (all_ascii_digits (a ∷ b ∷ c ∷ [])) (is_reason (print_reason r)) (list_all-from_AllPass is_ascii_digit (a ∷ b ∷ c ∷ []) digits) (reason_read r phrase))
+
+three_clean : (a b c : ℕ) (r : Option (List ℕ)) → AllPass is_ascii_digit (a ∷ b ∷ c ∷ []) → AllPass is_value_byte (reason_phrase r)
+    → list_all is_clean (a ∷ b ∷ c ∷ print_reason r) ≡ true
+three_clean a b c r digits phrase =
+    list_all-append is_clean (a ∷ b ∷ c ∷ []) (print_reason r)
+    ∙ both (list_all is_clean (a ∷ b ∷ c ∷ [])) (list_all is_clean (print_reason r)) (all_clean is_ascii_digit refl refl (a ∷ b ∷ c ∷ []) digits) (reason_clean r phrase)
+
 line_read : (n : ℕ) (ds : List ℕ) (r : Option (List ℕ)) → n ≤ 1 → length ds ≡ 3 → AllPass is_ascii_digit ds → AllPass is_value_byte (reason_phrase r)
     → IsLineRead (print_version n ++ 32 ∷ (ds ++ print_reason r)) (digits_value 10 ds)
 line_read n [] r small three digits phrase = absurd (omega (arith, three))
@@ -46,22 +59,9 @@ line_read n (a ∷ b ∷ []) r small three digits phrase = absurd (omega (arith,
 line_read n (a ∷ b ∷ c ∷ d ∷ ds) r small three digits phrase = absurd (omega (arith, three))
 line_read (suc (suc n)) (a ∷ b ∷ c ∷ []) r small three digits phrase = absurd (omega (arith, small))
 line_read zero (a ∷ b ∷ c ∷ []) r small three digits phrase =
-    let ds : List ℕ = a ∷ b ∷ c ∷ [] in
-    record {
-      read = ap (λ (t : Bool). if t then Some (digits_value 10 (a ∷ b ∷ c ∷ [])) else None)
-          (both (all_ascii_digits (a ∷ b ∷ c ∷ [])) (is_reason (print_reason r)) (list_all-from_AllPass is_ascii_digit (a ∷ b ∷ c ∷ []) digits) (reason_read r phrase));
-      clean = list_all-append is_clean (a ∷ b ∷ c ∷ []) (print_reason r)
-          ∙ both (list_all is_clean (a ∷ b ∷ c ∷ [])) (list_all is_clean (print_reason r)) (all_clean is_ascii_digit refl refl (a ∷ b ∷ c ∷ []) digits) (reason_clean r phrase);
-      there = refl;
-    }
+    record { read = three_read a b c r digits phrase; clean = three_clean a b c r digits phrase; there = refl }
 line_read (suc zero) (a ∷ b ∷ c ∷ []) r small three digits phrase =
-    record {
-      read = ap (λ (t : Bool). if t then Some (digits_value 10 (a ∷ b ∷ c ∷ [])) else None)
-          (both (all_ascii_digits (a ∷ b ∷ c ∷ [])) (is_reason (print_reason r)) (list_all-from_AllPass is_ascii_digit (a ∷ b ∷ c ∷ []) digits) (reason_read r phrase));
-      clean = list_all-append is_clean (a ∷ b ∷ c ∷ []) (print_reason r)
-          ∙ both (list_all is_clean (a ∷ b ∷ c ∷ [])) (list_all is_clean (print_reason r)) (all_clean is_ascii_digit refl refl (a ∷ b ∷ c ∷ []) digits) (reason_clean r phrase);
-      there = refl;
-    }
+    record { read = three_read a b c r digits phrase; clean = three_clean a b c r digits phrase; there = refl }
 
 pub regroup : (es : List LineEnd) (v d r : List ℕ) (end : LineEnd) (fs : List Field) (last : LineEnd) (rest : List ℕ)
     → message_bytes es (v ++ 32 ∷ (d ++ r)) end fs last rest

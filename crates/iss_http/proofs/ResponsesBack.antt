@@ -1,6 +1,6 @@
 -- The other way: a head of a response that is read is one of the grammar.
 use Rattle.std.proofs.Common.{◌≡◌, refl, sym, ap, ◌∙◌, ℕ, Bool, true, List, [], ◌∷◌, ◌++◌, length, map, take, drop, Option, Some, None, arith}
-use Rattle.std.specs.Prelude.{◌==◌, ◌&&◌, ◌≤◌, nat_le, option_map, option_and_then, bytes_eq, codes}
+use Rattle.std.specs.Prelude.{◌==◌, ◌&&◌, ◌≤◌, nat_le, option_and_then, bytes_eq, codes}
 use Rattle.std.specs.List.{list_all}
 use Rattle.std.specs.Str.{all_ascii_digits}
 use Rattle.std.specs.Str.Parse.{digits_value}
@@ -16,7 +16,7 @@ use Rattle.iss_http.proofs.Lines.{and_left, and_right}
 use Rattle.iss_http.proofs.Sections.{field_text, is_there, there_of}
 use Rattle.iss_http.proofs.HeadLines.{every, message_bytes, IsMessage, message_back}
 use Rattle.iss_http.proofs.RequestHeads.{test_there}
-use Rattle.iss_http.proofs.RequestsBack.{minor_of, first_there, few_there}
+use Rattle.iss_http.proofs.RequestsBack.{minor_of, first_there, second_there, few_there}
 use Rattle.iss_http.proofs.ResponseHeads.{regroup}
 
 -- a phrase behind a space, or nothing
@@ -110,18 +110,10 @@ read_from buf l m s few =
       few = omega (arith, leb-true (length l.fields) 64 few, ap length m.fields, length-map m.fs field_text);
     }
 
-with_there : (l : Lines) (o : Option ℕ) → is_there (option_and_then (response_with l) o) ≡ true → is_there (headers_of l.fields) ≡ true
-with_there l None e = absurd (false≢true e)
-with_there l (Some x) e = mapped (response_of l.size x) (headers_of l.fields) e
-  where
-    mapped : {A B : Type 0} (f : A → B) (o : Option A) → is_there (option_map f o) ≡ true → is_there o ≡ true
-    mapped f None e = e
-    mapped f (Some y) e = refl
-
 by_lines : (buf : List ℕ) (o : Option Lines) → head_lines (ended_lines buf) ≡ o → is_there (option_and_then response_head_of o) ≡ true → IsRead buf
 by_lines buf None e there = absurd (false≢true there)
 by_lines buf (Some l) e there =
-    let few = few_there (nat_le (length l.fields) 64) (all_of (map header_of l.fields)) (with_there l (status_line l.start) there) in
+    let few = few_there (nat_le (length l.fields) 64) (all_of (map header_of l.fields)) (second_there (response_of l.size) (headers_of l.fields) (status_line l.start) there) in
     read_from buf l (message_back (ended_lines buf) buf refl l e (there_of (map header_of l.fields) few.1))
     (start_of l.start (first_there (response_with l) (status_line l.start) there)) few.0
 

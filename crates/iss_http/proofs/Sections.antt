@@ -170,14 +170,14 @@ all_there [] = true
 all_there (None ∷ xs) = false
 all_there (Some x ∷ xs) = all_there xs
 
+pub mapped_there : {A B : Type 0} (f : A → B) (o : Option A) → is_there (option_map f o) ≡ true → is_there o ≡ true
+mapped_there f None e = e
+mapped_there f (Some x) e = refl
+
 pub there_of : (xs : List (Option Header)) → is_there (all_of xs) ≡ true → all_there xs ≡ true
 there_of [] e = refl
 there_of (None ∷ xs) e = e
-there_of (Some x ∷ xs) e = there_of xs (mapped x (all_of xs) e)
-  where
-    mapped : (x : Header) (o : Option (List Header)) → is_there (option_map (λ ys. x ∷ ys) o) ≡ true → is_there o ≡ true
-    mapped x None e = e
-    mapped x (Some ys) e = refl
+there_of (Some x ∷ xs) e = there_of xs (mapped_there (λ (ys : List Header). x ∷ ys) (all_of xs) e)
 
 first_there : (x : Option Header) (xs : List (Option Header)) → all_there (x ∷ xs) ≡ true → is_there x ≡ true
 first_there None xs e = e

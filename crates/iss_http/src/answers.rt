@@ -51,9 +51,9 @@ impl AnswerReader {
 
     /// Takes the next bytes, and gives the answer once it is whole; what comes behind it is passed over.
     ///
-    /// `None` exactly where the bytes that came aren't yet an answer. `Garbled` comes where they never become one that is
-    /// taken; for a bad head it may come as soon as no bytes behind them mend it. However much comes, at most 24577 bytes
-    /// are kept. After another answer than `None` the reader isn't fed again.
+    /// `None` where the bytes that came aren't yet an answer. `Garbled` comes where they never become one that is taken;
+    /// for a bad head it may come as soon as no bytes behind them mend it. However much comes, at most 24577 bytes are
+    /// kept. After another answer than `None` the reader isn't fed again.
     pub fn feed(&mut self, alloc: Global, piece: &[u8]) -> Result<Option<Answer>, AllocError>
         ensures answer { IfOk result (λ said. IsReadAs (self.old ++ piece.now) false (heard said)) }
         ensures kept { IfOk result (λ said. IfNone said (self.new ≡ self.old ++ piece.now)) }

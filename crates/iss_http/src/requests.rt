@@ -44,9 +44,9 @@ impl Reader {
 
     /// Takes the next bytes, and gives the body once the request is whole; what comes behind it is passed over.
     ///
-    /// `None` exactly where the bytes that came aren't yet a request. Each fault but `Head` comes exactly where the bytes
-    /// have it, in the order of `HttpFault`; `Head` comes only where no bytes behind them make a head. However much comes,
-    /// at most 24576 bytes are kept. After another answer than `None` the reader isn't fed again.
+    /// `None` where the bytes that came aren't yet a request. A fault is the first that they have, in the order of
+    /// `HttpFault`; `Head` comes in place of `None` or `HeadLong`, and only where no bytes behind them make a head. However
+    /// much comes, at most 24576 bytes are kept. After another answer than `None` the reader isn't fed again.
     pub fn feed(&mut self, alloc: Global, piece: &[u8]) -> Result<Option<Vec<u8>>, FeedFault>
         ensures body { IfOk result
             (λ said. request (self.old ++ piece.now) ≡ answered (option_map (λ text. text.items) said)) }
