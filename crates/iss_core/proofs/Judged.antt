@@ -26,7 +26,7 @@ use Rattle.iss_model.specs.rules.Reasons.{is_some_with}
 use Rattle.iss_model.specs.rules.Histories.{history_keeper, history_of}
 use Rattle.iss_docket.specs.Well.{has_live}
 use Rattle.iss_accepted.specs.Values.{token_answer}
-use Rattle.iss_core.specs.Values.{CoreNow, StandsFor, IsFormed, GivesNext, GivesFormed}
+use Rattle.iss_core.specs.Values.{CoreNow, StandsFor, GivesNext, GivesInForm}
 use Rattle.iss_core.proofs.OnBook.{judged_on_book}
 
 -- ---- what is due
@@ -117,15 +117,15 @@ later_stamp : (a b : ℕ) → is_stamp a ≡ true → is_stamp b ≡ true → is
 later_stamp a b h k = grind (arith, nat_tests)
 
 -- a record that judging gives is of the input or of a time, at that moment
-formed_as : (o : Option Answer) (quiet : Bool) (i : Input) (at : ℕ) (j : Judged) → j ≡ judgement_as o quiet i at → is_in_form i ≡ true → is_stamp at ≡ true → GivesFormed j
-formed_as None quiet i at j e form stamp = subst GivesFormed (sym e) (record { input = form; stamp = stamp })
-formed_as (Some a) quiet i at j e form stamp = subst GivesFormed (sym e) (by (quiet || is_ack i))
+formed_as : (o : Option Answer) (quiet : Bool) (i : Input) (at : ℕ) (j : Judged) → j ≡ judgement_as o quiet i at → is_in_form i ≡ true → is_stamp at ≡ true → GivesInForm j
+formed_as None quiet i at j e form stamp = subst GivesInForm (sym e) (form, stamp)
+formed_as (Some a) quiet i at j e form stamp = subst GivesInForm (sym e) (by (quiet || is_ack i))
   where
-    by : (b : Bool) → GivesFormed (cond b (judged.Told a) (judged.Clock (record { at = at; input = input.Time })))
+    by : (b : Bool) → GivesInForm (cond b (judged.Told a) (judged.Clock (record { at = at; input = input.Time })))
     by true = tt
-    by false = record { input = refl; stamp = stamp }
+    by false = (refl, stamp)
 
-pub gives_formed : (s : CoreState) (i : Input) (stamp : ℕ) (j : Judged) → j ≡ judge core_keeper s i stamp → is_in_form i ≡ true → is_stamp stamp ≡ true → is_stamp s.now ≡ true → GivesFormed j
+pub gives_formed : (s : CoreState) (i : Input) (stamp : ℕ) (j : Judged) → j ≡ judge core_keeper s i stamp → is_in_form i ≡ true → is_stamp stamp ≡ true → is_stamp s.now ≡ true → GivesInForm j
 unfolding judge
 gives_formed s i stamp j e form stamped now =
     let at : ℕ = max stamp s.now in
@@ -169,7 +169,7 @@ all_next c (Ok j) i stamp h = gives_next c i stamp j h
 all_next c (Err e) i stamp h = tt
 
 pub all_formed : {E : Type 0} (c : CoreNow) (r : Result Judged E) (i : Input) (stamp : ℕ) → IfOk r (λ j. j ≡ judge core_keeper c.state i stamp)
-    → is_in_form i ≡ true → is_stamp stamp ≡ true → is_stamp c.state.now ≡ true → IfOk r GivesFormed
+    → is_in_form i ≡ true → is_stamp stamp ≡ true → is_stamp c.state.now ≡ true → IfOk r GivesInForm
 all_formed c (Ok j) i stamp h form stamped now = gives_formed c.state i stamp j h form stamped now
 all_formed c (Err e) i stamp h form stamped now = tt
 

@@ -29,16 +29,11 @@ GivesNext c (judged.New r) = IsNext c r
 GivesNext c (judged.Clock r) = IsNext c r
 GivesNext c (judged.Told a) = Unit {0}
 
--- a record's input and stamp are in form
-pub record IsFormed (r : Record) : Type 0 where
-  pub input : IsTrue (is_in_form r.input)
-  pub stamp : IsTrue (is_stamp r.at)
-
--- and so is the record that judging gives
-abbrev pub GivesFormed : Judged → Type 0
-GivesFormed (judged.New r) = IsFormed r
-GivesFormed (judged.Clock r) = IsFormed r
-GivesFormed (judged.Told a) = Unit {0}
+-- the record that judging gives, where it gives one, has its input and its stamp in form
+abbrev pub GivesInForm : Judged → Type 0
+GivesInForm (judged.New r) = IsTrue (is_in_form r.input) × IsTrue (is_stamp r.at)
+GivesInForm (judged.Clock r) = IsTrue (is_in_form r.input) × IsTrue (is_stamp r.at)
+GivesInForm (judged.Told a) = Unit {0}
 
 -- a record was taken up: these are its entries, and what stands after them
 pub record Steps (before after : CoreNow) (r : Record) (made : List Entry) : Type 0 where

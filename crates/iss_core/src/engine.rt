@@ -6,7 +6,7 @@ ghost use Rattle.iss_model.specs.Forms.{is_in_form, is_stamp};
 ghost use Rattle.iss_model.specs.rules.Judging.{judge};
 ghost use Rattle.iss_model.specs.rules.Histories.{history_keeper, history_of};
 ghost use Rattle.iss_model.specs.state.Cores.{no_core, core_keeper};
-ghost use Rattle.iss_core.specs.Values.{StandsFor, IsNext, GivesNext, GivesFormed, Steps, StepsOnBook};
+ghost use Rattle.iss_core.specs.Values.{StandsFor, IsNext, GivesNext, GivesInForm, Steps, StepsOnBook};
 
 use crate::state::State;
 use iss_model::{Entry, Input, Judged, Record};
@@ -62,7 +62,7 @@ impl Core {
         requires stamp { IsTrue (is_stamp at) }
         ensures judged { IfOk result (λ j. j ≡ judge core_keeper self.now.state input.now at) }
         ensures next { IfOk result (GivesNext self.now) }
-        ensures in_form { IfOk result GivesFormed }
+        ensures in_form { IfOk result GivesInForm }
         ensures on_book { (rs : List Record) → StandsFor self.now rs
             → IfOk result (λ j. j ≡ judge history_keeper (history_of rs) input.now at) }
     {
