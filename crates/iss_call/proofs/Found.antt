@@ -1,6 +1,6 @@
 -- Calls that are looked up by their numbers.
-use Rattle.std.proofs.Common.{◌≡◌, ℕ, suc, ◌+◌, Bool, true, false, cond, List, [], ◌∷◌, ◌++◌, map, filter, refl, sym, ap, ◌∙◌, arith}
-use Rattle.std.specs.Prelude.{Option, Some, None, slice_get, option_to_list}
+use Rattle.std.proofs.Common.{◌≡◌, ℕ, suc, Bool, true, false, cond, List, [], ◌∷◌, ◌++◌, map, filter, refl, ap, ◌∙◌, arith}
+use Rattle.std.specs.Prelude.{Option, Some, slice_get, option_to_list}
 use Rattle.std.specs.Option.{option_map}
 use Rattle.iss_model.specs.declared.call.CallId.{CallId}
 use Rattle.iss_model.specs.declared.call.Opened.{Opened}

@@ -123,12 +123,7 @@ fn more_use(out: &mut Vec<Entry>, txn: &Txn, amount: u64, at: u64) -> Result<(),
 }
 
 /// A part of a transaction's money is there and held.
-pub fn fund(
-    out: &mut Vec<Entry>,
-    txn: &Txn,
-    part: Part,
-    amount: u64,
-) -> Result<(), AllocError>
+pub fn fund(out: &mut Vec<Entry>, txn: &Txn, part: Part, amount: u64) -> Result<(), AllocError>
     requires { amount < 2 ^ 63 }
     ensures { OnOk result (out.new.items ≡ out.old.items ++ fund_money_entries txn.now part amount) }
 {
@@ -205,12 +200,7 @@ pub fn end(out: &mut Vec<Entry>, hold: &Hold) -> Result<(), AllocError>
 }
 
 /// A clearing takes from the hold and pays the network; for a gateway product the programme pays what the hold doesn't.
-pub fn clear(
-    out: &mut Vec<Entry>,
-    hold: &Hold,
-    amount: u64,
-    at: u64,
-) -> Result<(), AllocError>
+pub fn clear(out: &mut Vec<Entry>, hold: &Hold, amount: u64, at: u64) -> Result<(), AllocError>
     requires small { whole_of hold.now < 2 ^ 62 }
     requires amount { amount < 2 ^ 63 }
     ensures { OnOk result (out.new.items ≡ out.old.items
@@ -267,12 +257,7 @@ fn pay_excess(out: &mut Vec<Entry>, txn: &Txn, excess: u64) -> Result<(), AllocE
 }
 
 /// A refund comes back from the network; for a gateway product the programme gets first what it is owed.
-pub fn refund(
-    out: &mut Vec<Entry>,
-    txn: &Txn,
-    owed: u64,
-    amount: u64,
-) -> Result<(), AllocError>
+pub fn refund(out: &mut Vec<Entry>, txn: &Txn, owed: u64, amount: u64) -> Result<(), AllocError>
     ensures { OnOk result (out.new.items ≡ out.old.items ++ refund_money_entries txn.now owed amount) }
 {
     post(

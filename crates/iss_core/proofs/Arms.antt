@@ -1,30 +1,25 @@
 -- What each part needs of an entry that may be entered.
-use Rattle.std.proofs.Common.{◌≡◌, ℕ, zero, suc, ◌+◌, ℤ, pos, negsuc, Bool, true, false, cond, ◌||◌, List, [], ◌∷◌, find, is_some, map, length, refl, sym, ap, subst, ◌∙◌}
-use Rattle.std.specs.Prelude.{Option, Some, None, IsSome, slice_get}
+use Rattle.std.proofs.Common.{◌≡◌, ℕ, zero, suc, ◌+◌, ℤ, pos, negsuc, Bool, true, false, cond, ◌||◌, List, [], ◌∷◌, find, map, length, refl, subst}
+use Rattle.std.specs.Prelude.{Some, None, IsSome, slice_get}
 use Rattle.std.specs.List.{list_any}
 use Rattle.std.specs.Str.{bytes_eq}
-use Rattle.iss_model.specs.declared.account.Account.{Account}
-use Rattle.iss_model.specs.declared.account.Part.{Part}
-use Rattle.iss_model.specs.declared.currency.Currency.{Currency}
 use Rattle.iss_model.specs.declared.call.Opened.{Opened}
 use Rattle.iss_model.specs.declared.call.Notice.{Notice}
 use Rattle.iss_model.specs.declared.decision.Verdict.{Verdict}
 use Rattle.iss_model.specs.declared.input.Input.{Input}
-use Rattle.iss_model.specs.declared.txn.Txn.{Txn}
 use Rattle.iss_model.specs.declared.txn.UsageRow.{UsageRow}
 use Rattle.iss_model.specs.declared.entry.Entry.{Entry}
 use Rattle.iss_model.specs.declared.entry.Entry.TheVariants as entry
 use Rattle.iss_model.specs.Forms.{is_stamp}
 use Rattle.iss_model.specs.Inputs.{is_event}
 use Rattle.iss_model.specs.rules.Facts.{Accepted, Decision}
-use Rattle.iss_model.specs.state.Kept.{AreSmall, Kept}
-use Rattle.iss_model.specs.state.Cores.{CoreState, ControlKept, control_after_use, after_entry, core_facts}
+use Rattle.iss_model.specs.state.Kept.{AreSmall}
+use Rattle.iss_model.specs.state.Cores.{CoreState, ControlKept, control_after_use, core_facts}
 use Rattle.iss_effects.specs.Needs as needs
 use Rattle.iss_effects.proofs.FoundByName.{named_found, standing_found, later_unlike}
 use Rattle.iss_invariants.specs.Entering.{HaveCountedSmall}
-use Rattle.iss_docket.specs.Well.{is_decided}
 use Rattle.iss_hold.specs.Entries as holds
-use Rattle.iss_chain.specs.Values.{ChainNow, chain_part, chain_after_entry}
+use Rattle.iss_chain.specs.Values.{chain_part}
 use Rattle.iss_chain.specs.Entering as chain
 use Rattle.iss_chain.proofs.InCore.{after_entry_part}
 use Rattle.iss_velocity.specs.Keeping.{KeepsSmall, HaveSmallSums}

@@ -1,5 +1,5 @@
 -- What a state in order gives to whoever makes entries on it.
-use Rattle.std.proofs.Common.{◌≡◌, ℕ, ◌+◌, ◌^◌, ◌<◌, ◌≤◌, Bool, true, false, cond, not, ◌||◌, ◌&&◌, nat_le, nat_lt, nat_eq, suc, List, [], ◌∷◌, map, filter, find, length, take, drop, ◌++◌, ◌-◌, refl, sym, ap, ap₂, subst, ◌∙◌, arith}
+use Rattle.std.proofs.Common.{◌≡◌, ℕ, ◌+◌, ◌^◌, ◌<◌, ◌≤◌, Bool, true, false, cond, not, ◌||◌, ◌&&◌, nat_lt, nat_eq, suc, List, [], ◌∷◌, map, filter, length, take, drop, ◌++◌, ◌-◌, refl, sym, ap, ap₂, subst, ◌∙◌, arith}
 use Rattle.std.specs.Prelude.{Option, Some, None, is_some, is_none, Result, Ok, Err, OnOk}
 use Rattle.std.specs.List.{list_all, list_any}
 use Rattle.std.specs.Str.{bytes_eq}
@@ -7,8 +7,6 @@ use Rattle.std.proofs.Math.Seq.{drop-append_seam, take-length}
 use Rattle.std.proofs.lemmas.List.{length-drop}
 use Rattle.std.proofs.lemmas.Bool.{and_parts}
 use Rattle.std.proofs.lemmas.Bool.Decides.{nat_tests}
-use Rattle.iss_model.specs.declared.limits.TheConstants.{SHORTEST_TIMEOUT, LONGEST_TIMEOUT, SHORTEST_HOLD, LONGEST_HOLD}
-use Rattle.iss_model.specs.declared.call.CallId.{CallId}
 use Rattle.iss_model.specs.declared.call.Opened.{Opened}
 use Rattle.iss_model.specs.declared.setting.Product.{Product}
 use Rattle.iss_model.specs.declared.txn.Txn.{Txn}
@@ -20,7 +18,7 @@ use Rattle.iss_model.specs.rules.Activity.{CallNow, call_numbered, is_asked}
 use Rattle.iss_model.specs.rules.Facts.{next_notice}
 use Rattle.iss_model.specs.rules.Pieces.{abandoned_call_entries, abandoned_calls_entries}
 use Rattle.iss_model.specs.state.Cores.{CoreState, ProductNow, core_facts}
-use Rattle.iss_invariants.specs.InForm.{IsInForm, are_times}
+use Rattle.iss_invariants.specs.InForm.{are_times}
 use Rattle.iss_call.specs.States.{asked_of}
 use Rattle.iss_core.specs.Answers.{abandoned_entries}
 use Rattle.iss_core.specs.Order.{asks_little, IsInOrder}

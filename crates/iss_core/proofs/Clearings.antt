@@ -1,5 +1,5 @@
 -- A clearing's entries, piece by piece.
-use Rattle.std.proofs.Common.{◌≡◌, List, [], ◌∷◌, ◌++◌, sym, ap, ◌∙◌}
+use Rattle.std.proofs.Common.{◌≡◌, List, [], ◌∷◌, ◌++◌, ap, ◌∙◌}
 use Rattle.std.specs.Prelude.{Result, Ok, Err, OnOk}
 use Rattle.std.proofs.lemmas.List.{append_assoc}
 use Rattle.iss_model.specs.declared.decision.Verdict.TheVariants as verdict
@@ -31,5 +31,5 @@ cleared_so f o hold rest taken old first second is left money capture =
     ap (λ (es : List Entry). es ++ entry.Decided o.token verdict.Done ∷ [])
     (capture ∙ ap (λ (h : Hold). first ++ capture_entries f (now_of h) (parts_of h) o.amount o.last) same
     ∙ ap (λ (es : List Entry). es ++ capture_entries f (now_of (without_parts (parts_taken (taken_in_all (taken_to_clear (parts_of hold) o.amount) o.amount)) hold))
-        (parts_of (without_parts (parts_taken (taken_in_all (taken_to_clear (parts_of hold) o.amount) o.amount)) hold)) o.amount o.last) money)
+    (parts_of (without_parts (parts_taken (taken_in_all (taken_to_clear (parts_of hold) o.amount) o.amount)) hold)) o.amount o.last) money)
     ∙ regrouped old _ _ (entry.Decided o.token verdict.Done ∷ [])

@@ -1,5 +1,5 @@
 -- Why a control is declined, by the one of its name that is kept.
-use Rattle.std.proofs.Common.{◌≡◌, ℕ, suc, Bool, true, false, cond, not, nat_le, List, [], ◌∷◌, map, find, length, refl, sym, ap, ◌∙◌}
+use Rattle.std.proofs.Common.{◌≡◌, ℕ, suc, Bool, true, false, cond, not, nat_le, List, [], ◌∷◌, map, length, refl, sym, ap, ◌∙◌}
 use Rattle.std.specs.Prelude.{Option, Some, None, option_map}
 use Rattle.std.specs.Str.{bytes_eq}
 use Rattle.iss_model.specs.declared.setting.Control.{Control}

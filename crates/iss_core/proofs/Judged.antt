@@ -1,8 +1,7 @@
 -- What judging comes to, by what stands before anything due.
-use Rattle.std.proofs.Common.{◌≡◌, ℕ, max, nat_le, Bool, true, false, cond, not, ◌||◌, List, [], ◌∷◌, find, fold, refl, sym, ap, subst, ◌∙◌, arith}
+use Rattle.std.proofs.Common.{◌≡◌, ℕ, max, Bool, true, false, cond, ◌||◌, List, [], ◌∷◌, find, fold, refl, sym, ap, subst, ◌∙◌, arith}
 use Rattle.std.specs.Prelude.{Option, Some, None, is_none, Result, Ok, Err, IfOk}
 use Rattle.std.proofs.lemmas.Bool.Decides.{nat_tests}
-use Rattle.iss_model.specs.declared.limits.TheConstants.{LAST_STAMP}
 use Rattle.iss_model.specs.declared.decision.Answer.{Answer}
 use Rattle.iss_model.specs.declared.decision.Answer.TheVariants as answer
 use Rattle.iss_model.specs.declared.decision.Judged.{Judged}
@@ -74,6 +73,7 @@ event_judged s i token at named =
   where
     same : event_in (core_facts (after_due core_keeper s at).world) token ≡ event_in (core_facts s) token
     same = ap (λ (accepted : List Accepted). find (λ (a : Accepted). is_event token a.input) accepted) (due_accepted at (record { world = s; entries = [] }) (due_items (core_facts s) at))
+
     by : (b : Bool) → is_quiet (due_items (core_facts s) at) ≡ b
         → judgement_as (event_answer (core_facts (after_due core_keeper s at).world) i token) b i at ≡ judgement_as (event_answer (core_facts s) i token) b i at
     by true e = ap (λ (g : Growth CoreState). judgement_as (event_answer (core_facts g.world) i token) true i at) (settled_nothing s at e)

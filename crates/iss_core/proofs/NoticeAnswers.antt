@@ -1,12 +1,11 @@
 -- What an acknowledgement is told, by the notice that is found.
-use Rattle.std.proofs.Common.{◌≡◌, ℕ, suc, zero, ◌≤◌, Bool, true, false, cond, ◌||◌, nat_le, nat_eq, List, [], ◌∷◌, find, refl, sym, ap, ap₂, ◌∙◌, arith}
-use Rattle.std.specs.Prelude.{◌&&◌, Option, Some, None, ◌==◌}
+use Rattle.std.proofs.Common.{◌≡◌, ℕ, suc, zero, ◌≤◌, Bool, true, false, cond, ◌||◌, nat_le, List, [], ◌∷◌, find, refl, sym, ap, ◌∙◌, arith}
+use Rattle.std.specs.Prelude.{◌&&◌, Some, None, ◌==◌}
 use Rattle.std.specs.List.{list_any}
 use Rattle.std.proofs.lemmas.Bool.Decides.{nat_tests}
 use Rattle.iss_model.specs.declared.call.Notice.{Notice}
-use Rattle.iss_model.specs.declared.decision.Answer.{Answer}
 use Rattle.iss_model.specs.declared.decision.Answer.TheVariants as answer
-use Rattle.iss_model.specs.rules.Facts.{Facts, is_notice}
+use Rattle.iss_model.specs.rules.Facts.{Facts}
 use Rattle.iss_model.specs.rules.Judging.{notice_answer}
 
 found_any : (n : ℕ) (ns : List Notice) (x : Notice) → Some x ≡ find (λ (notice : Notice). notice.number == n) ns → list_any (λ (notice : Notice). notice.number == n) ns ≡ true

@@ -1,6 +1,6 @@
 -- What a core answers is what the book of its records answers.
-use Rattle.std.proofs.Common.{◌≡◌, ℕ, List, length, map, sym, ap, ◌∙◌}
-use Rattle.std.specs.Prelude.{Some, None, option_map, find, Result, Ok, Err, IfOk}
+use Rattle.std.proofs.Common.{◌≡◌, ℕ, List, length, map, ap, ◌∙◌}
+use Rattle.std.specs.Prelude.{Result, Ok, Err, IfOk}
 use Rattle.std.specs.FinMap as finite
 use Rattle.iss_model.specs.declared.account.Account.{Account}
 use Rattle.iss_model.specs.declared.input.Input.{Input}
@@ -8,10 +8,8 @@ use Rattle.iss_model.specs.declared.input.Record.{Record}
 use Rattle.iss_model.specs.declared.entry.Entry.{Entry}
 use Rattle.iss_model.specs.declared.decision.Judged.{Judged}
 use Rattle.iss_model.specs.Sums.{account_key}
-use Rattle.iss_model.specs.Inputs.{is_event}
 use Rattle.iss_model.specs.state.Kept.{Kept}
-use Rattle.iss_model.specs.declared.decision.Reply.{Reply}
-use Rattle.iss_model.specs.rules.Facts.{Facts, Accepted, reply_in, event_reply}
+use Rattle.iss_model.specs.rules.Facts.{Facts}
 use Rattle.iss_model.specs.texts.BalanceLines.{accounts_of}
 use Rattle.iss_model.specs.rules.Stepping.{step}
 use Rattle.iss_model.specs.rules.Judging.{judge}

@@ -1,5 +1,5 @@
 -- What holds of every core holds on the way through a step, and so each of its entries may be entered.
-use Rattle.std.proofs.Common.{◌≡◌, ℕ, ◌+◌, ◌*◌, ◌-◌, ◌^◌, ◌<◌, ◌≤◌, suc, zero, Bool, true, false, cond, not, ◌||◌, nat_lt, List, [], ◌∷◌, map, fold, find, is_some, filter, length, refl, sym, ap, ap₂, ◌&&◌, subst, ◌∙◌, arith}
+use Rattle.std.proofs.Common.{◌≡◌, ℕ, ◌+◌, ◌*◌, ◌^◌, ◌<◌, ◌≤◌, suc, zero, Bool, true, false, cond, not, ◌||◌, nat_lt, List, [], ◌∷◌, fold, find, is_some, filter, length, refl, sym, ap, ap₂, ◌&&◌, subst, ◌∙◌, arith}
 use Rattle.std.specs.Prelude.{Option, Some, None, Result, Ok, Err, OnOk}
 use Rattle.std.specs.List.{list_all}
 use Rattle.std.proofs.lemmas.Bool.{and_parts}
@@ -17,8 +17,8 @@ use Rattle.iss_model.specs.rules.Due.{DueThing, thing_entries}
 use Rattle.iss_model.specs.rules.Judging.{judge}
 use Rattle.iss_model.specs.rules.Stepping.{entries_of, step}
 use Rattle.iss_model.specs.state.Cores.{CoreState, no_core, after_entry, with_record, core_facts, core_keeper}
-use Rattle.iss_effects.specs.Stakes.{total_asked, asked_amount, at_least_one, at_stake}
-use Rattle.iss_invariants.specs.Sound.{IsSoundAt, IsReady, IsNewEvent, is_accepted, reach_of, record_reach}
+use Rattle.iss_effects.specs.Stakes.{total_asked, asked_amount, at_least_one}
+use Rattle.iss_invariants.specs.Sound.{IsSoundAt, IsNewEvent}
 use Rattle.iss_invariants.specs.Entering.{AreEnterable}
 use Rattle.iss_invariants.specs.InForm.{IsInForm, is_entry_in_form}
 use Rattle.iss_invariants.proofs.Kept.{entries_accepted, entries_count}
@@ -27,13 +27,13 @@ use Rattle.iss_invariants.proofs.Enterable.{due_enterable, own_enterable}
 use Rattle.iss_invariants.proofs.FormStates.{nothing_form, record_form, entries_form}
 use Rattle.iss_invariants.proofs.FormEntries.{thing_formed, own_formed}
 use Rattle.iss_invariants.proofs.NewEvents.{judged_new}
-use Rattle.iss_pending.specs.Pending.{IsWell, AreAllowed, HasTakenUp, decides_accepted}
-use Rattle.iss_pending.specs.Few.{HasFewNumbers, notices_in_sight}
+use Rattle.iss_pending.specs.Pending.{IsWell, AreAllowed, decides_accepted}
+use Rattle.iss_pending.specs.Few.{HasFewNumbers}
 use Rattle.iss_pending.proofs.Legal.{nothing_well}
 use Rattle.iss_pending.proofs.Steps.{ready_taken, ready_settled, due_allowed, own_allowed, due_decides, own_decides, step_well}
 use Rattle.iss_pending.proofs.FewSteps.{none_yet, few_taken, few_due, few_step}
 use Rattle.iss_core.specs.Order.{asks_little, IsInOrder}
-use Rattle.iss_core.specs.Entering.{MayEnter, MayAllEnter}
+use Rattle.iss_core.specs.Entering.{MayAllEnter}
 use Rattle.iss_core.specs.Sound.{IsSound, IsTakenUp}
 use Rattle.iss_core.specs.Sweeps.{HasOwnNames}
 
@@ -44,10 +44,11 @@ pub gathered : (s : CoreState) (es : List Entry) → AreEnterable s es → AreAl
 gathered s [] enterable allowed formed decides = tt
 gathered s (e ∷ es) enterable allowed formed decides =
     let form = and_parts (is_entry_in_form e) (list_all is_entry_in_form es) formed in
-    let known = and_parts (decides_accepted s.accepted e) (list_all (decides_accepted s.accepted) es) decides in
-    (record { enterable = enterable.0; allowed = allowed.0; formed = form.0; decides = known.0 },
-    gathered (after_entry s e) es enterable.1 allowed.1 form.1
-    (ap (λ (accepted : List Accepted). list_all (decides_accepted accepted) es) (entries_accepted s (e ∷ [])) ∙ known.1))
+    let known = and_parts (decides_accepted s.accepted e) (list_all (decides_accepted s.accepted) es) decides in (
+      record { enterable = enterable.0; allowed = allowed.0; formed = form.0; decides = known.0 },
+      gathered (after_entry s e) es enterable.1 allowed.1 form.1
+          (ap (λ (accepted : List Accepted). list_all (decides_accepted accepted) es) (entries_accepted s (e ∷ [])) ∙ known.1),
+    )
 
 -- the entries of a due thing may be entered
 pub due_may : (i : Input) (s : CoreState) (thing : DueThing) (at : ℕ) → IsTakenUp i s → is_stamp at ≡ true → MayAllEnter s (thing_entries thing at (core_facts s))
@@ -107,9 +108,11 @@ little (c ∷ cs) most le low =
   where
     rest : (a b : ℕ) → a + b ≤ most → b ≤ most
     rest a b h = omega arith
+
     under : (n : ℕ) → at_least_one n + total_asked cs ≤ most → nat_lt n (2 ^ 62) ≡ true
     under zero h = refl
     under (suc n) h = grind (arith, nat_tests)
+
     one : (b : Bool) → is_asked c ≡ b → (not b || nat_lt c.opened.amount (2 ^ 62)) ≡ true
     one false e = refl
     one true e = under c.opened.amount (subst (λ (n : ℕ). n + total_asked cs ≤ most) (ap (λ (b : Bool). cond b (at_least_one c.opened.amount) 0) e) le)
@@ -130,10 +133,13 @@ in_order i s up =
   where
     half : (n asked held used : ℕ) → used + (held + 2 * asked) ≤ n * (4 * 1000000000) → asked ≤ n * 2000000000
     half n asked held used h = omega arith
+
     far : (n : ℕ) → n < 1073741823 → n * 2000000000 < 2 ^ 62
     far n h = omega arith
+
     left : (made asked live n : ℕ) → made + 2 * asked + live ≤ 3 * n → n < 1073741823 → made + asked + 2 < 2 ^ 32
     left made asked live n h room = omega arith
+
     fewer : (calls n : ℕ) → calls ≤ n → n < 1073741823 → calls + 1 < 2 ^ 32
     fewer calls n h room = omega arith
 

@@ -1,5 +1,5 @@
 -- An ask as the code has it, and why it is declined by what it asks for.
-use Rattle.std.specs.Prelude.{List, [], ◌∷◌, Option}
+use Rattle.std.specs.Prelude.{[], ◌∷◌, Option}
 use Rattle.iss_model.specs.declared.decision.Reason.{Reason}
 use Rattle.iss_model.specs.declared.decision.Reason.TheVariants as reason
 use Rattle.iss_model.specs.rules.Facts.{Facts}

@@ -1,5 +1,5 @@
 -- What whoever makes entries may rely on: numbers and amounts within bounds.
-use Rattle.std.specs.Prelude.{◌≡◌, ℕ, ◌+◌, ◌*◌, ◌^◌, ◌<◌, true, nat_lt, not, Bool, ◌||◌, List, length, filter}
+use Rattle.std.specs.Prelude.{◌≡◌, ◌+◌, ◌^◌, ◌<◌, true, nat_lt, not, Bool, ◌||◌, length, filter}
 use Rattle.std.specs.List.{list_all}
 use Rattle.iss_model.specs.rules.Activity.{CallNow, is_asked}
 use Rattle.iss_model.specs.state.Cores.{CoreState}

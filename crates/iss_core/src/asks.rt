@@ -222,7 +222,10 @@ impl State {
             ++ stand_in_entries number (core_facts (state_of self.now)) (ask_of ask.now) failure at) }
     {
         let txn = &ask.txn;
-        match self.sets.stands(&txn.product, &txn.user, ask.amount, failure, at) {
+        match self
+            .sets
+            .stands(&txn.product, &txn.user, ask.amount, failure, at)
+        {
             Stand::Yes(set) => put_stood(out, number, ask, at, &set),
             Stand::Limit(set) => put_declined_ask(out, ask, Reason::StandInLimit(set)),
             Stand::No => put_declined_ask(out, ask, failure_reason(failure)),

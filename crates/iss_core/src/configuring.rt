@@ -184,12 +184,7 @@ impl State {
         }
     }
 
-    fn put_group(
-        &mut self,
-        alloc: Global,
-        group: &Token,
-        mccs: &[u16],
-    ) -> Result<(), AllocError>
+    fn put_group(&mut self, alloc: Global, group: &Token, mccs: &[u16]) -> Result<(), AllocError>
         requires { group_reason (core_facts (state_of self.old)) group.now ≡ None }
         ensures { OnOk result (self.new ≡ record self.old { groups = self.old.groups ++ record { name = group.now; mccs = mccs.now } ∷ [] }) }
     {

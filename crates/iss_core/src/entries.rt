@@ -185,9 +185,11 @@ impl State {
                 currency,
                 ..
             } => put_setting(out, self.set_reason(set, product, *currency), token, input),
-            Input::Switch { token, product, on: _ } => {
-                put_setting(out, self.switch_reason(product), token, input)
-            }
+            Input::Switch {
+                token,
+                product,
+                on: _,
+            } => { put_setting(out, self.switch_reason(product), token, input) }
             Input::Load { .. }
             | Input::Authorization { .. }
             | Input::Increment { .. }

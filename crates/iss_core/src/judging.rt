@@ -16,12 +16,7 @@ use std::alloc::{AllocError, Global};
 
 impl State {
     /// An input judged at a moment.
-    pub(crate) fn judge(
-        &self,
-        alloc: Global,
-        input: &Input,
-        at: u64,
-    ) -> Result<Judged, AllocError>
+    pub(crate) fn judge(&self, alloc: Global, input: &Input, at: u64) -> Result<Judged, AllocError>
         requires well { IsWell (state_of self.now) }
         requires form { IsTrue (is_in_form input.now) }
         ensures { IfOk result (λ j. j ≡ judgement_at core_keeper (state_of self.now) input.now at) }

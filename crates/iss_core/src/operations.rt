@@ -288,7 +288,14 @@ impl State {
         let owed = self.chain.owed(&operation.txn);
         pieces::refund(out, txn, owed, amount)?;
         let gateway = amount - amount.min(owed);
-        put_notice(out, self.next_notice(), Method::Refund, txn, amount, gateway)?;
+        put_notice(
+            out,
+            self.next_notice(),
+            Method::Refund,
+            txn,
+            amount,
+            gateway,
+        )?;
         put_decided(out, &operation.token, Verdict::Done)
     }
 }

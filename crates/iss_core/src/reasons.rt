@@ -23,12 +23,7 @@ impl State {
         None
     }
 
-    pub(crate) fn card_reason(
-        &self,
-        card: &Token,
-        user: &Token,
-        product: &Token,
-    ) -> Option<Reason>
+    pub(crate) fn card_reason(&self, card: &Token, user: &Token, product: &Token) -> Option<Reason>
         ensures { result ≡ card_reason (core_facts (state_of self.now)) card.now user.now product.now }
     {
         if !self.is_user(user) {

@@ -15,9 +15,7 @@ ghost use Rattle.iss_core.specs.Values.{StandsFor};
 ghost use Rattle.iss_core.specs.Views.{pending_notice, asked_calls, pending_numbers};
 
 use crate::Core;
-use iss_model::{
-    Account, CallId, CallState, Currency, Notice, Opened, Reply, Token, Used,
-};
+use iss_model::{Account, CallId, CallState, Currency, Notice, Opened, Reply, Token, Used};
 use std::alloc::{AllocError, Global};
 
 impl Core {

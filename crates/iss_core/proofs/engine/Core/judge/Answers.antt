@@ -1,8 +1,5 @@
 use Rattle.std.proofs.Common.{◌≡◌, ℕ, true, ap, subst}
-use Rattle.std.specs.Prelude.{IfOk}
 use Rattle.iss_model.specs.Forms.{is_stamp}
-use Rattle.iss_model.specs.rules.Judging.{judge}
-use Rattle.iss_model.specs.state.Cores.{core_keeper}
 use Rattle.iss_core.specs.States.{state_of}
 use Rattle.iss_core.proofs.Judged.{judged_now, all_next, all_formed, all_on_book}
 use Rattle.iss_core.proofs.engine.Core.judge.Goals as goal
