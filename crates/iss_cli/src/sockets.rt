@@ -5,10 +5,10 @@ ghost use Rattle.std.specs.Result.{result_ok};
 ghost use Rattle.std.specs.Io.{ReadsAtMost};
 ghost use Rattle.iss_edge.specs.Channels.{no_channels, is_among, IsUnused, ComesUnused, after_wait, after_dial, after_close};
 
-use crate::peers::Peers;
+use crate::peers::{Peer, Peers};
 use iss_edge::{Arrival, Channel};
 use std::alloc::Global;
-use std::io::{ErrorKind, Read, Write};
+use std::io::{ErrorKind, Write};
 use std::marker::Model;
 use std::net::{Ipv4Addr, Net, SocketAddr, TcpListener, TcpStream};
 use std::time::{Clock, Duration};
@@ -95,13 +95,12 @@ impl<N> Sockets<N> {
     pub fn take(&self, ch: Channel, buf: &mut [u8]) -> io::Result<usize>
         ensures { ReadsAtMost result buf.new }
     {
-        let mut stream = self.stream(ch)?;
-        stream.read(buf)
+        self.peer(ch)?.read(buf)
     }
 
-    fn stream(&self, ch: Channel) -> io::Result<&TcpStream> {
-        match self.clients.stream(ch).or(self.dialled.stream(ch)) {
-            Some(stream) => Ok(stream),
+    fn peer(&self, ch: Channel) -> io::Result<&Peer> {
+        match self.clients.find(ch).or(self.dialled.find(ch)) {
+            Some(peer) => Ok(peer),
             None => Err(io::Error::from(ErrorKind::NotConnected)),
         }
     }
@@ -217,7 +216,7 @@ impl<N: Net<Listener = TcpListener, Stream = TcpStream> + Clock + Drop> Sockets<
 
     /// Writes the bytes to a channel, or fails where the peer doesn't take them in time.
     pub fn emit(&self, ch: Channel, bytes: &[u8]) -> io::Result<()> {
-        write_in_time(&self.net, self.stream(ch)?, bytes)
+        write_in_time(&self.net, self.peer(ch)?.stream(), bytes)
     }
 }
 

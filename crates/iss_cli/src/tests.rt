@@ -54,7 +54,7 @@ fn keeps_what_is_written<E: Edge>(edge: &mut E) -> bool {
     edge.read_at(0, &mut buf).is_ok() && buf == *b"\0\0abc\0\0\0"
 }
 
-/// Whether a connection that the edge dials to itself brings what is sent, both ways, and then its end.
+/// Whether a connection that the edge dials to itself brings what is sent, both ways, and then its end, once.
 fn connects<E: Edge>(edge: &mut E) -> bool {
     let mut buf = [0; 8];
     let (Ok(ours), Some(theirs)) = (edge.dial(), client(edge)) else {
@@ -67,7 +67,7 @@ fn connects<E: Edge>(edge: &mut E) -> bool {
         && taken(edge, &mut buf) == Some((ours.0, 6))
         && buf.starts_with(b"answer");
     edge.close(theirs);
-    let ended = taken(edge, &mut buf) == Some((ours.0, 0));
+    let ended = taken(edge, &mut buf) == Some((ours.0, 0)) && taken(edge, &mut buf).is_none();
     edge.close(ours);
     asked && answered && ended && edge.emit(ours, b"more").is_err()
 }
