@@ -6,6 +6,6 @@ pub mod StretchLemmas
 pub mod PutStretches
 pub mod ToldPuts
 pub mod Outers
-mod Numbers
+pub mod Numbers
 mod Pieces
 mod Memories

@@ -28,7 +28,8 @@ filter_among keep (n ∷ numbers) ch none =
     either true other none = rw other none
     either false other none = none
 
-filter_all : (test keep : ℕ → Bool) (numbers : List ℕ) → list_all test numbers ≡ true → list_all test (filter keep numbers) ≡ true
+-- fewer of what pass a test pass it
+pub filter_all : (test keep : ℕ → Bool) (numbers : List ℕ) → list_all test numbers ≡ true → list_all test (filter keep numbers) ≡ true
 filter_all test keep [] all = refl
 filter_all test keep (n ∷ numbers) all =
     let parts = and_parts (test n) (list_all test numbers) all in

@@ -11,6 +11,8 @@ mod edge;
 mod memory;
 mod outside;
 #[cfg(test)]
+mod session_tests;
+#[cfg(test)]
 mod tests;
 
 pub use bytes::Bytes;
