@@ -147,58 +147,66 @@ fn hears_what_a_gateway_answers(rt: HostRuntime) -> Result<(), Fail> {
     Ok(())
 }
 
-#[test]
-fn hears_the_longest_body(rt: HostRuntime) -> Result<(), Fail> {
-    let alloc = rt.alloc();
-    let head = "HTTP/1.1 200 OK\r\n\r\n";
-    let size = head.len().saturating_add(16384);
-    let longest = filled(alloc, head, "", size)?;
-    assert_eq!(rt; hear(alloc, &[&longest], false)?, Came::More);
-    assert_eq!(rt; hear(alloc, &[&longest], true)?, Came::Whole(200, 16384));
-    assert_eq!(rt; hear_singly(alloc, &longest)?, Came::Whole(200, 16384));
-    let too_long = filled(alloc, head, "", size.saturating_add(1))?;
-    assert_eq!(rt; hear(alloc, &[&too_long], false)?, Came::Garbled);
-    assert_eq!(rt; hear_singly(alloc, &too_long)?, Came::Garbled);
-    let longer = filled(alloc, head, "", 100000)?;
-    assert_eq!(rt; hear(alloc, &[&longer], false)?, Came::Garbled);
-    Ok(())
-}
-
-#[test]
-fn hears_the_longest_body_with_its_length(rt: HostRuntime) -> Result<(), Fail> {
-    let alloc = rt.alloc();
-    let head = "HTTP/1.1 200 OK\r\nContent-Length: 16384\r\n\r\n";
-    let size = head.len().saturating_add(16384);
-    let short = filled(alloc, head, "", size - 1)?;
-    assert_eq!(rt; hear(alloc, &[&short], false)?, Came::More);
-    assert_eq!(rt; hear(alloc, &[&short], true)?, Came::Ended);
-    let whole = filled(alloc, head, "", size)?;
-    assert_eq!(rt; hear(alloc, &[&whole], false)?, Came::Whole(200, 16384));
-    Ok(())
-}
-
 /// The line of an answer, and a header whose value comes next.
 const BEGINNING: &str = "HTTP/1.1 200 OK\r\nA: ";
 
-#[test]
-fn hears_heads_up_to_their_limits(rt: HostRuntime) -> Result<(), Fail> {
-    let alloc = rt.alloc();
-    let ending = "\r\nContent-Length: 0\r\n\r\n";
-    let longest = filled(alloc, BEGINNING, ending, 8192)?;
-    assert_eq!(rt; hear(alloc, &[&longest], false)?, Came::Whole(200, 0));
-    let too_long = filled(alloc, BEGINNING, ending, 8193)?;
-    assert_eq!(rt; hear(alloc, &[&too_long], false)?, Came::Garbled);
-    let short = filled(alloc, BEGINNING, "", 8191)?;
-    assert_eq!(rt; hear(alloc, &[&short], false)?, Came::More);
-    assert_eq!(rt; hear(alloc, &[&short], true)?, Came::Ended);
-    let endless = filled(alloc, BEGINNING, "", 8192)?;
-    assert_eq!(rt; hear(alloc, &[&endless], false)?, Came::Garbled);
+/// What ends that header, and a head behind it.
+const ENDING: &str = "\r\nContent-Length: 0\r\n\r\n";
 
-    let line = "HTTP/1.1 200 OK\r\n";
+/// A head of 19 bytes.
+const BARE: &str = "HTTP/1.1 200 OK\r\n\r\n";
+
+/// A head of 42 bytes.
+const SIZED: &str = "HTTP/1.1 200 OK\r\nContent-Length: 16384\r\n\r\n";
+
+/// The beginning, the end and the size of answers, and what each comes to before its end and then.
+const SIZES: [(&str, &str, usize, [Came; 2]); 9] = [
+    (BEGINNING, ENDING, 8192, [Came::Whole(200, 0); 2]),
+    (BEGINNING, ENDING, 8193, [Came::Garbled; 2]),
+    (BEGINNING, "", 8191, [Came::More, Came::Ended]),
+    (BEGINNING, "", 8192, [Came::Garbled; 2]),
+    (BARE, "", 16403, [Came::More, Came::Whole(200, 16384)]),
+    (BARE, "", 16404, [Came::Garbled; 2]),
+    (BARE, "", 100000, [Came::Garbled; 2]),
+    (SIZED, "", 16425, [Came::More, Came::Ended]),
+    (SIZED, "", 16426, [Came::Whole(200, 16384); 2]),
+];
+
+/// What an answer of so many bytes comes to, in one piece before its end, and byte by byte to its end.
+fn hear_filled(
+    alloc: Global,
+    first: &str,
+    last: &str,
+    size: usize,
+) -> Result<[Came; 2], AllocError> {
+    let text = filled(alloc, first, last, size)?;
+    Ok([hear(alloc, &[&text], false)?, hear_singly(alloc, &text)?])
+}
+
+#[test]
+fn hears_up_to_its_limits(rt: HostRuntime) -> Result<(), Fail> {
+    for (first, last, size, want) in SIZES {
+        let came = hear_filled(rt.alloc(), first, last, size)?;
+        assert_eq!(rt; came, want, "{size} bytes from {first}");
+    }
+    Ok(())
+}
+
+/// What an answer with so many header lines comes to.
+fn hear_lines(alloc: Global, lines: usize) -> Result<Came, AllocError> {
     let last = "Content-Length: 0\r\n\r\n";
-    let most = with_lines(alloc, line, 63, last)?;
-    assert_eq!(rt; hear(alloc, &[&most], false)?, Came::Whole(200, 0));
-    let too_many = with_lines(alloc, line, 64, last)?;
-    assert_eq!(rt; hear(alloc, &[&too_many], false)?, Came::Garbled);
+    let text = with_lines(alloc, "HTTP/1.1 200 OK\r\n", lines, last)?;
+    hear(alloc, &[&text], false)
+}
+
+#[test]
+fn hears_64_lines(rt: HostRuntime) -> Result<(), Fail> {
+    for (lines, want) in [(63, Came::Whole(200, 0)), (64, Came::Garbled)] {
+        assert_eq!(rt;
+            hear_lines(rt.alloc(), lines)?,
+            want,
+            "a length behind {lines} lines"
+        );
+    }
     Ok(())
 }

@@ -311,14 +311,21 @@ fn reads_three_pieces_as_one(rt: HostRuntime) {
     }
 }
 
+/// Requests with bytes that are no text, and what each comes to.
+const BYTES: [(&[u8], Told); 3] = [
+    (b"POST /\xff HTTP/1.1\r\n\r\n", Told::Fault(HttpFault::Head)),
+    (b"POST /\xc3", Told::More),
+    (
+        b"POST /events HTTP/1.1\r\nA: \xff\r\nContent-Length: 0\r\n\r\n",
+        Told::Body(0),
+    ),
+];
+
 #[test]
 fn refuses_targets_that_are_no_text(rt: HostRuntime) {
-    let bad = b"POST /\xff HTTP/1.1\r\n\r\n";
-    assert_eq!(rt; read(rt.alloc(), &[bad]), Told::Fault(HttpFault::Head));
-    let cut_off = b"POST /\xc3";
-    assert_eq!(rt; read(rt.alloc(), &[cut_off]), Told::More);
-    let other = b"POST /events HTTP/1.1\r\nA: \xff\r\nContent-Length: 0\r\n\r\n";
-    assert_eq!(rt; read(rt.alloc(), &[other]), Told::Body(0));
+    for (bytes, want) in BYTES {
+        assert_eq!(rt; read(rt.alloc(), &[bytes]), want);
+    }
 }
 
 /// Fronts of requests, each with its first bad byte at its end.
