@@ -78,7 +78,8 @@ fn told_input(alloc: Global, core: &Core, input: &Input) -> Result<Option<Answer
 {
     match core.judge(alloc, input, 0)? {
         Judged::Told(answer) => Ok(Some(answer)),
-        _ => Ok(None),
+        Judged::New(_) => Ok(None),
+        Judged::Clock(_) => Ok(None),
     }
 }
 
