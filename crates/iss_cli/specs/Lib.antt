@@ -1,2 +1,2 @@
 pub mod Failure
-pub mod Faults
+pub mod Numbers

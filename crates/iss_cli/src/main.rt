@@ -6,12 +6,17 @@
 
 mod device;
 mod failure;
+mod peers;
 mod real_edge;
+mod sockets;
+#[cfg(test)]
+mod tests;
 
 use device::Device;
 use failure::failure_of;
 use iss_top::{Command, command_of, run};
 use real_edge::RealEdge;
+use sockets::Sockets;
 use std::fs::{File, Files};
 use std::process::ExitCode;
 use std::rt::Env;
@@ -39,7 +44,8 @@ fn main(rt: HostRuntime) -> ExitCode {
 
 /// Does what the words ask for, over the standard streams and the device that they name.
 fn status_of(rt: &HostRuntime, words: &[String]) -> u8 {
-    let mut edge = RealEdge::new(rt.stdin(), rt.stdout(), device_of(rt, words));
+    let sockets = Sockets::none(*rt, rt.alloc());
+    let mut edge = RealEdge::new(rt.stdin(), rt.stdout(), device_of(rt, words), sockets);
     run(rt.alloc(), words, &mut edge)
 }
 

@@ -1,110 +1,140 @@
 //! The outside as the system gives it.
 
-ghost use Rattle.std.specs.Prelude.{◌≡◌, ◌<◌, ◌≤◌, None, length, take, IfOk, OnErr, OnOk, IsErr};
+ghost use Rattle.std.specs.Prelude.{◌≡◌, ◌<◌, ◌≤◌, ◌⊎◌, Some, None, length, take, IfOk, OnErr, OnOk, IsErr};
 ghost use Rattle.std.specs.Io.KnownBytes.{Keeps, Appends, Consumes, IsAtEnd};
-ghost use Rattle.iss_edge.specs.World.{Rose, HasCause};
+ghost use Rattle.iss_edge.specs.World.{Later, Rose, HasCause};
+ghost use Rattle.iss_edge.specs.Channels.{no_channels, count_of, take_fault, emit_fault};
+ghost use Rattle.iss_edge.specs.Memory.{stream_faults};
 
 use crate::device::Device;
-use iss_edge::{Channel, Edge, Failed};
+use crate::sockets::Sockets;
+use iss_edge::{Arrival, Channel, Edge, Failed, Fault, FaultCounts};
 use std::io;
 use std::io::{ErrorKind, Read, Write};
+use std::net::{Net, TcpListener, TcpStream};
+use std::time::Clock;
 
 /// How often a read is made again that was interrupted.
 const READS: u32 = 1_000_000;
 
-/// A reader and a writer, in the program the standard streams, as channel 0, and a device. It tells nothing, and counts
-/// what fails.
+/// A reader and a writer, in the program the standard streams, as channel 0, a device, and sockets as the other channels. It
+/// tells nothing of what passes, and counts what fails.
 #[derive(Drop)]
-pub struct RealEdge<R, W> {
+pub struct RealEdge<R, W, N> {
     input: R,
     output: W,
     device: Device,
+    sockets: Sockets<N>,
     faults: FaultCounts,
 }
 
-/// How often calls have failed so far, by kind.
-#[derive(Clone, Copy)]
-struct FaultCounts {
-    disk: u64,
-    input: u64,
-    output: u64,
-}
-
-impl<R, W> RealEdge<R, W> {
+impl<R, W, N> RealEdge<R, W, N> {
     /// An outside on which nothing has failed yet.
-    pub fn new(input: R, output: W, device: Device) -> Self
+    pub fn new(input: R, output: W, device: Device, sockets: Sockets<N>) -> Self
         ensures streams { (result.input ≡ input) × (result.output ≡ output) }
         ensures device { result.device ≡ device }
-        ensures faults { (result.faults.disk ≡ 0) × (result.faults.input ≡ 0) × (result.faults.output ≡ 0) }
+        ensures sockets { result.sockets ≡ sockets }
+        ensures faults { result.faults ≡ stream_faults 0 0 0 }
     {
-        let faults = FaultCounts {
-            disk: 0,
-            input: 0,
-            output: 0,
-        };
         RealEdge {
             input,
             output,
             device,
-            faults,
+            sockets,
+            faults: FaultCounts::none(),
         }
     }
 }
 
 // Where the streams tell their bytes, a call ensures which of them it took or sent.
-impl<R: Read + Drop, W: Write + Drop> Edge for RealEdge<R, W> {
-    ghost use Rattle.iss_cli.specs.Faults.{faults_of};
-
+impl<
+    R: Read + Drop,
+    W: Write + Drop,
+    N: Net<Listener = TcpListener, Stream = TcpStream> + Clock + Drop,
+> Edge for RealEdge<R, W, N> {
     ghost told = { λ _. None };
 
     ghost heard = { λ _. None };
 
-    ghost faults = { λ edge. faults_of edge.faults };
+    ghost faults = { λ edge. edge.faults };
 
     ghost extent = { λ edge. edge.device.size };
+
+    ghost channels = { λ edge. edge.sockets };
 
     fn size(&self) -> u64 {
         self.device.size()
     }
 
     fn read_at(&mut self, at: u64, buf: &mut [u8]) -> Result<(), Failed> {
-        counted(self.device.read_at(at, buf), &mut self.faults.disk)
+        counted(self.device.read_at(at, buf), Fault::Disk, &mut self.faults)
     }
 
     fn write_at(&mut self, at: u64, bytes: &[u8]) -> Result<(), Failed> {
-        counted(self.device.write_at(at, bytes), &mut self.faults.disk)
+        counted(
+            self.device.write_at(at, bytes),
+            Fault::Disk,
+            &mut self.faults,
+        )
     }
 
     fn sync(&mut self) -> Result<(), Failed> {
-        counted(self.device.sync(), &mut self.faults.disk)
+        counted(self.device.sync(), Fault::Disk, &mut self.faults)
     }
 
-    fn take(&mut self, _ch: Channel, buf: &mut [u8]) -> Result<usize, Failed>
+    fn wait(&mut self) -> Result<Arrival, Failed> {
+        counted(self.sockets.wait(), Fault::Input, &mut self.faults)
+    }
+
+    fn take(&mut self, ch: Channel, buf: &mut [u8]) -> Result<usize, Failed>
         requires { 0 < length buf.old }
         ensures bound { IfOk result (λ count. count ≤ length buf.new) }
-        ensures taken { IfOk result
+        ensures taken { ch.0 ≡ 0 → IfOk result
             (λ count. Consumes (R.remaining self.old.input) (R.remaining self.new.input) (take count buf.new)) }
-        ensures end { IfOk result (λ count. count ≡ 0 → IsAtEnd (R.remaining self.new.input)) }
-        ensures none_lost { OnErr result
+        ensures end { ch.0 ≡ 0 → IfOk result (λ count. count ≡ 0 → IsAtEnd (R.remaining self.new.input)) }
+        ensures none_lost { ch.0 ≡ 0 → OnErr result
             (Keeps (R.remaining self.old.input) (R.remaining self.new.input)) }
+        ensures untaken { (ch.0 ≡ 0 → ⊥) → self.new.input ≡ self.old.input }
         ensures nothing_sent { self.new.output ≡ self.old.output }
         ensures kept { self.new.device ≡ self.old.device }
-        ensures cause { HasCause (λ f. f.input) (faults_of self.old.faults) (faults_of self.new.faults) result }
+        ensures cause { HasCause (count_of (take_fault self.old.sockets ch)) self.old.faults self.new.faults result }
+        ensures channels { self.new.sockets ≡ self.old.sockets }
     {
-        counted(read_some(&mut self.input, buf), &mut self.faults.input)
+        let fault = Fault::of_take(ch, self.sockets.is_dialled(ch));
+        if ch.0 == 0 {
+            counted(read_some(&mut self.input, buf), fault, &mut self.faults)
+        } else {
+            counted(self.sockets.take(ch, buf), fault, &mut self.faults)
+        }
     }
 
-    fn emit(&mut self, _ch: Channel, bytes: &[u8]) -> Result<(), Failed>
-        ensures sent { OnOk result
+    fn emit(&mut self, ch: Channel, bytes: &[u8]) -> Result<(), Failed>
+        ensures sent { ch.0 ≡ 0 → OnOk result
             (Appends (W.contents self.old.output) (W.contents self.new.output) bytes.now) }
+        ensures unsent { (ch.0 ≡ 0 → ⊥) → self.new.output ≡ self.old.output }
         ensures nothing_taken { self.new.input ≡ self.old.input }
         ensures kept { self.new.device ≡ self.old.device }
-        ensures cause { HasCause (λ f. f.output) (faults_of self.old.faults) (faults_of self.new.faults) result }
+        ensures cause { HasCause (count_of (emit_fault self.old.sockets ch)) self.old.faults self.new.faults result }
+        ensures channels { self.new.sockets ≡ self.old.sockets }
     {
-        counted(
-            write_through(&mut self.output, bytes),
-            &mut self.faults.output,
-        )
+        let fault = Fault::of_emit(ch, self.sockets.is_dialled(ch));
+        if ch.0 == 0 {
+            counted(
+                write_through(&mut self.output, bytes),
+                fault,
+                &mut self.faults,
+            )
+        } else {
+            counted(self.sockets.emit(ch, bytes), fault, &mut self.faults)
+        }
+    }
+
+    fn dial(&mut self) -> Result<Channel, Failed> {
+        counted(self.sockets.dial(), Fault::Link, &mut self.faults)
+    }
+
+    fn close(&mut self, ch: Channel) {
+        self.sockets.close(ch);
     }
 
     ghost sized = { λ _. tt };
@@ -137,24 +167,14 @@ fn write_through<W: Write>(output: &mut W, bytes: &[u8]) -> io::Result<()>
 }
 
 /// The same answer, where a failure is told by its count alone.
-fn counted<T>(outcome: io::Result<T>, faults: &mut u64) -> Result<T, Failed>
+fn counted<T>(outcome: io::Result<T>, fault: Fault, faults: &mut FaultCounts) -> Result<T, Failed>
     ensures same { IfOk result (λ value. outcome ≡ Ok value) }
     ensures failed { OnErr result (IsErr outcome) }
     ensures kept { OnOk result (faults.new ≡ faults.old) }
-    ensures later { faults.old ≤ faults.new }
-    ensures rose { OnErr result (Rose faults.old faults.new) }
+    ensures cause { HasCause (count_of fault) faults.old faults.new result }
 {
     match outcome {
         Ok(value) => Ok(value),
-        Err(_) => Err(count(faults)),
+        Err(_) => Err(faults.count(fault)),
     }
-}
-
-/// Counts a call that failed.
-fn count(faults: &mut u64) -> Failed
-    ensures later { faults.old ≤ faults.new }
-    ensures rose { Rose faults.old faults.new }
-{
-    *faults = faults.saturating_add(1);
-    Failed
 }

@@ -5,14 +5,18 @@
 #![tactic(auto)]
 
 mod bytes;
+mod counts;
 mod device;
 mod edge;
 mod memory;
 mod outside;
 #[cfg(test)]
+mod session_tests;
+#[cfg(test)]
 mod tests;
 
 pub use bytes::Bytes;
+pub use counts::{Fault, FaultCounts};
 pub use device::{Showing, put, stretches_join};
 pub use edge::Edge;
 pub use memory::MemoryEdge;

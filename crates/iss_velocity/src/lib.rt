@@ -24,3 +24,4 @@ pub use laws::{
     controls_that_stay_count_the_same, counters_are_sums_of_noted_use,
     counters_sort_by_user_and_span, nothing_is_noted_at_first,
 };
+pub use standing::is_same_control;

@@ -1,0 +1,291 @@
+//! Loopback sockets and a clock.
+
+ghost use Rattle.std.specs.Prelude.{◌≡◌, ◌+◌, Some, IfOk};
+ghost use Rattle.std.specs.Result.{result_ok};
+ghost use Rattle.std.specs.Io.{ReadsAtMost};
+ghost use Rattle.iss_edge.specs.Channels.{no_channels, is_among, IsUnused, ComesUnused, after_wait, after_dial, after_close};
+
+use crate::peers::{Peer, Peers};
+use iss_edge::{Arrival, Channel};
+use std::alloc::Global;
+use std::io::{ErrorKind, Write};
+use std::marker::Model;
+use std::net::{Ipv4Addr, Net, SocketAddr, TcpListener, TcpStream};
+use std::time::{Clock, Duration};
+use std::{io, thread};
+
+/// How many milliseconds a wait sleeps where nothing is ready, and an emit where nothing can be written.
+const PAUSE: u64 = 1;
+
+/// How many milliseconds a dial may take.
+const PATIENCE: u64 = 100;
+
+/// How many milliseconds pass at least between two times that are told.
+const TICK: u64 = 20;
+
+/// How many writes an emit makes at most, with a pause after each that could write nothing.
+const WRITES: u32 = 100;
+
+/// Channels over loopback sockets, seen as their numbers and the one that was last ready.
+#[derive(Drop)]
+pub struct Sockets<N> {
+    net: N,
+    listener: Option<TcpListener>,
+    /// The port that is dialled.
+    gateway: Option<u16>,
+    clients: Peers,
+    dialled: Peers,
+    /// The greatest number that a channel got.
+    last: u32,
+    ready: Option<u32>,
+    /// Whether the last wait looked for a client first.
+    listened_first: bool,
+    /// The time that was told last, in milliseconds since 1970.
+    told: u64,
+}
+
+impl<N> Model for Sockets<N> {
+    ghost use Rattle.std.specs.Prelude.{◌≡◌, true};
+    ghost use Rattle.std.specs.List.{list_all};
+    ghost use Rattle.iss_edge.specs.Channels.{Channels};
+    ghost use Rattle.iss_cli.specs.Numbers.{is_up_to};
+
+    ghost Value = { Channels };
+
+    ghost view = { λ s. record { clients = s.clients; dialled = s.dialled; ready = s.ready } };
+
+    ghost invariant = { λ s.
+        (list_all (is_up_to s.last) s.clients ≡ true) × (list_all (is_up_to s.last) s.dialled ≡ true) };
+}
+
+impl<N> Sockets<N> {
+    /// No channels. Without a listener each wait fails, and without a gateway each dial does.
+    pub fn none(net: N, alloc: Global) -> Sockets<N>
+        ensures { result ≡ no_channels }
+    {
+        Sockets {
+            net,
+            listener: None,
+            gateway: None,
+            clients: Peers::none(alloc),
+            dialled: Peers::none(alloc),
+            last: 0,
+            ready: None,
+            listened_first: false,
+            told: 0,
+        }
+    }
+
+    /// Whether the channel was dialled and not closed since.
+    pub fn is_dialled(&self, ch: Channel) -> bool
+        ensures { result ≡ is_among self.now.dialled ch.0 }
+    {
+        self.dialled.has(ch)
+    }
+
+    /// Closes a channel.
+    pub fn close(&mut self, ch: Channel)
+        ensures { self.new ≡ after_close ch self.old }
+    {
+        self.clients.close(ch);
+        self.dialled.close(ch);
+    }
+
+    /// Reads what came on a channel into the start of `buf`, or fails where that would block.
+    pub fn take(&self, ch: Channel, buf: &mut [u8]) -> io::Result<usize>
+        ensures { ReadsAtMost result buf.new }
+    {
+        self.peer(ch)?.read(buf)
+    }
+
+    fn peer(&self, ch: Channel) -> io::Result<&Peer> {
+        match self.clients.find(ch).or(self.dialled.find(ch)) {
+            Some(peer) => Ok(peer),
+            None => Err(io::Error::from(ErrorKind::NotConnected)),
+        }
+    }
+}
+
+impl<N: Net<Listener = TcpListener, Stream = TcpStream> + Clock + Drop> Sockets<N> {
+    /// Listens for clients on a port of this machine, 0 for any that is free.
+    pub fn listen(&mut self, port: u16) -> io::Result<()>
+        ensures { self.new ≡ self.old }
+    {
+        let listener = TcpListener::bind(&self.net, (Ipv4Addr::LOCALHOST, port))?;
+        listener.set_nonblocking(true)?;
+        self.listener = Some(listener);
+        Ok(())
+    }
+
+    /// Dials this port of this machine from now on.
+    pub fn set_gateway(&mut self, port: u16)
+        ensures { self.new ≡ self.old }
+    {
+        self.gateway = Some(port);
+    }
+
+    /// The time where none was told lately, and else a channel that is ready or a client, each socket looked at once. Where
+    /// there is none, it sleeps for a moment.
+    pub fn wait(&mut self) -> io::Result<Arrival>
+        ensures unused { IfOk result (ComesUnused self.old) }
+        ensures channels { self.new ≡ after_wait (result_ok result) self.old }
+    {
+        let now = millis(&self.net)?;
+        if now.abs_diff(self.told) >= TICK {
+            self.told = now;
+            return Ok(Arrival::Time(now));
+        }
+        match self.look()? {
+            Arrival::Idle => {
+                pause(&self.net);
+                Ok(Arrival::Idle)
+            }
+            arrives => Ok(arrives),
+        }
+    }
+
+    /// A client or a channel that is ready, by turns the one or the other first.
+    fn look(&mut self) -> io::Result<Arrival>
+        ensures unused { IfOk result (ComesUnused self.old) }
+        ensures channels { self.new ≡ after_wait (result_ok result) self.old }
+    {
+        self.listened_first = !self.listened_first;
+        if self.listened_first {
+            return match self.accept()? {
+                Arrival::Idle => Ok(self.find_ready()),
+                arrives => Ok(arrives),
+            };
+        }
+        match self.find_ready() {
+            Arrival::Idle => self.accept(),
+            arrives => Ok(arrives),
+        }
+    }
+
+    /// A client, where one came. One that can't be accepted, for want of a file handle or since it went, is left.
+    fn accept(&mut self) -> io::Result<Arrival>
+        ensures unused { IfOk result (ComesUnused self.old) }
+        ensures channels { self.new ≡ after_wait (result_ok result) self.old }
+    {
+        let number = next_number(self.last)?;
+        match accepted(&self.listener)? {
+            Some(stream) => {
+                self.clients.push(number, stream)?;
+                self.last = number;
+                Ok(Arrival::Client(Channel(number)))
+            }
+            None => Ok(Arrival::Idle),
+        }
+    }
+
+    /// The next channel after the one that was last ready that is so now.
+    fn find_ready(&mut self) -> Arrival
+        ensures unused { ComesUnused self.old result }
+        ensures channels { self.new ≡ after_wait (Some result) self.old }
+    {
+        let last = self.ready.unwrap_or(0);
+        match self.ready_after(last).or(self.ready_within(0, last)) {
+            Some(ch) => {
+                self.ready = Some(ch.0);
+                Arrival::Ready(ch)
+            }
+            None => Arrival::Idle,
+        }
+    }
+
+    fn ready_after(&self, last: u32) -> Option<Channel> {
+        self.ready_within(last.checked_add(1)?, u32::MAX)
+    }
+
+    fn ready_within(&self, first: u32, last: u32) -> Option<Channel> {
+        let client = self.clients.ready_within(first, last);
+        client.or(self.dialled.ready_within(first, last))
+    }
+
+    /// Opens a channel to the port that is dialled.
+    pub fn dial(&mut self) -> io::Result<Channel>
+        ensures unused { IfOk result (IsUnused self.old) }
+        ensures channels { self.new ≡ after_dial (result_ok result) self.old }
+    {
+        let number = next_number(self.last)?;
+        let stream = dialled(&self.net, self.gateway)?;
+        self.dialled.push(number, stream)?;
+        self.last = number;
+        Ok(Channel(number))
+    }
+
+    /// Writes the bytes to a channel, or fails where the peer doesn't take them in time.
+    pub fn emit(&self, ch: Channel, bytes: &[u8]) -> io::Result<()> {
+        write_in_time(&self.net, self.peer(ch)?.stream(), bytes)
+    }
+}
+
+/// The number after that one.
+fn next_number(last: u32) -> io::Result<u32>
+    ensures { IfOk result (λ number. number ≡ last + 1) }
+{
+    match last.checked_add(1) {
+        Some(number) => Ok(number),
+        None => Err(io::Error::from(ErrorKind::QuotaExceeded)),
+    }
+}
+
+/// A client's socket, where one came and can be had.
+fn accepted(listener: &Option<TcpListener>) -> io::Result<Option<TcpStream>> {
+    let Some(listener) = listener else {
+        return Err(io::Error::from(ErrorKind::NotConnected));
+    };
+    match listener.accept() {
+        Ok((stream, _)) => Ok(stream.set_nonblocking(true).is_ok().then_some(stream)),
+        Err(_) => Ok(None),
+    }
+}
+
+/// A socket to that port of this machine.
+fn dialled<N: Net<Stream = TcpStream>>(net: &N, port: Option<u16>) -> io::Result<TcpStream> {
+    let Some(port) = port else {
+        return Err(io::Error::from(ErrorKind::NotConnected));
+    };
+    let address = SocketAddr::from((Ipv4Addr::LOCALHOST, port));
+    let stream = TcpStream::connect_timeout(net, &address, Duration::from_millis(PATIENCE))?;
+    stream.set_nonblocking(true)?;
+    Ok(stream)
+}
+
+/// Writes all of the bytes, with a pause wherever the peer takes none, and gives up after so many writes.
+fn write_in_time(clock: &impl Clock, mut stream: &TcpStream, bytes: &[u8]) -> io::Result<()> {
+    let mut rest = bytes;
+    for _ in 0..WRITES {
+        if rest.is_empty() {
+            return Ok(());
+        }
+        match stream.write(rest) {
+            Ok(0) => return Err(io::Error::from(ErrorKind::WriteZero)),
+            Ok(count) => rest = &rest[count..],
+            Err(e) if is_passing(&e) => pause(clock),
+            Err(e) => return Err(e),
+        }
+    }
+    if rest.is_empty() {
+        Ok(())
+    } else {
+        Err(io::Error::from(ErrorKind::TimedOut))
+    }
+}
+
+/// Whether the same call may succeed a moment later.
+fn is_passing(e: &io::Error) -> bool {
+    matches!(e.kind(), ErrorKind::WouldBlock | ErrorKind::Interrupted)
+}
+
+fn pause(clock: &impl Clock) {
+    thread::sleep(clock, Duration::from_millis(PAUSE));
+}
+
+/// The time, in milliseconds since 1970.
+fn millis(clock: &impl Clock) -> io::Result<u64> {
+    match u64::try_from(clock.since_1970()?.as_millis()) {
+        Ok(millis) => Ok(millis),
+        Err(_) => Err(io::Error::from(ErrorKind::InvalidData)),
+    }
+}
