@@ -14,17 +14,18 @@ use std::marker::Model;
 #[derive(Clone, Copy)]
 pub(crate) struct Row {
     token: Token,
+    // These three fill a word with the token's 37 bytes.
+    live: bool,
+    currency: Currency,
+    funding: Funding,
     card: u32,
     user: u32,
     product: u32,
     mid: u32,
-    currency: Currency,
-    funding: Funding,
-    mcc: u16,
     origin: u32,
+    mcc: u16,
     at: u64,
     expires: u64,
-    live: bool,
     g: u64,
     p: u64,
     s: u64,
