@@ -16,10 +16,12 @@ index_mut-requires c =
     in omega (arith, below, c.self.inside.rows.ok.0)
 
 pub invariant_of-self-2 : goal.invariant_of-self-2
-invariant_of-self-2 c =
-    (decided_kept c.self.inside.bytes.items c.self.inside.rows.items c.self.inside.places c.self.inside.decided.items c.args.self.now c.args.event.now
-    c.self.invariant.0 c.self.view_is c.in-Some.place c.index_mut.result.now c.in-Some.ensures c.index_mut.ensures.value
-    c.args.verdict c.requires.undecided _ c.push.new.self.items refl c.in_ok-push.ensures.items, c.self.invariant.1)
+invariant_of-self-2 c = (
+  decided_kept c.self.inside.bytes.items c.self.inside.rows.items c.self.inside.places c.self.inside.decided.items c.args.self.now c.args.event.now
+      c.self.invariant.0 c.self.view_is c.in-Some.place c.index_mut.result.now c.in-Some.ensures c.index_mut.ensures.value
+      c.args.verdict c.requires.undecided _ c.push.new.self.items refl c.in_ok-push.ensures.items,
+  c.self.invariant.1,
+)
 
 pub returns-clause-decided : goal.returns-clause-decided
 returns-clause-decided c =
