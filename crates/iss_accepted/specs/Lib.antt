@@ -1,3 +1,4 @@
+pub mod Newest
 pub mod Values
 pub mod Standing
 pub mod Kept

@@ -11,7 +11,7 @@ use Rattle.iss_model.specs.declared.txn.Txn.{Txn}
 use Rattle.iss_model.proofs.Names.{one_name}
 use Rattle.iss_hold.specs.declared.hold.Hold.{Hold}
 use Rattle.iss_hold.specs.declared.list.Row.{Row}
-use Rattle.iss_hold.specs.Indexes.{by_name}
+use Rattle.iss_hold.specs.Indexes.{names, by_name}
 use Rattle.iss_hold.specs.Named.{AreFound, IsGrown, hold_in, IsNamed, AreNamed}
 use Rattle.iss_hold.proofs.NamedExpiries.{there_before, last_there}
 use Rattle.iss_hold.proofs.Beginnings.{map_push}
@@ -126,6 +126,11 @@ row_there ns (first ∷ rows) (suc i) row e g = row_there ns rows i row e g
 
 pub hold_at : (ns : List (List ℕ)) (rows : List Row) (i : ℕ) (row : Row) → slice_get rows i ≡ Some row → slice_get (map (hold_in ns) rows) i ≡ Some (hold_in ns row)
 hold_at ns rows i row e = slice_get-map (hold_in ns) rows i ∙ ap (λ (o : Option Row). option_map (hold_in ns) o) e
+
+pub name_at : (ns : List (List ℕ)) (rows : List Row) (i : ℕ) (row : Row) → slice_get rows i ≡ Some row → slice_get (names (map (hold_in ns) rows)) i ≡ Some row.token
+name_at ns [] i row e = cc
+name_at ns (first ∷ rows) zero row e = ap (λ (o : Option Row). option_map (λ r. r.token) o) e
+name_at ns (first ∷ rows) (suc i) row e = name_at ns rows i row e
 
 pub held_set : (ns : List (List ℕ)) (rows : List Row) (i : ℕ) (row : Row) → map (hold_in ns) (set rows i row) ≡ set (map (hold_in ns) rows) i (hold_in ns row)
 held_set ns [] i row = refl

@@ -1,13 +1,13 @@
 -- The place of a name, and what stands there.
 use Rattle.std.proofs.Common.{◌≡◌, ℕ, zero, suc, ◌<◌, Bool, true, false, cond, List, [], ◌∷◌, ◌++◌, get_or, map, length, refl, sym, ap, ◌∙◌, subst, arith}
-use Rattle.std.proofs.lemmas.Option.{get_or_from_slice_get}
+use Rattle.std.proofs.lemmas.Option.{get_or_from_slice_get, same_Some}
 use Rattle.std.specs.Prelude.{Option, Some, None, is_some, slice_get}
 use Rattle.std.specs.Option.{option_map}
-use Rattle.std.specs.List.{list_any}
+use Rattle.std.specs.List.{list_any, IsDistinct, AllByRecursion}
 use Rattle.std.specs.Str.{bytes_eq}
 use Rattle.std.specs.BTreeMap as tree
 use Rattle.std.specs.BTreeMap.{BTreeMap}
-use Rattle.iss_model.proofs.Names.{one_name, name-sym}
+use Rattle.iss_model.proofs.Names.{one_name, its_name, name-sym}
 use Rattle.iss_model.specs.rules.Activity.{TxnNow, txn_named}
 use Rattle.iss_hold.specs.declared.hold.Hold.{Hold}
 use Rattle.iss_model.specs.state.Cores.{Holdings}
@@ -122,3 +122,25 @@ no_place_by name n ns false e p rest =
 pub no_place : (name : List ℕ) (ns : List (List ℕ)) → is_some (place_in name ns) ≡ false → list_any (λ other. bytes_eq name other) ns ≡ false
 no_place name [] e = refl
 no_place name (n ∷ ns) e = no_place_by name n ns (bytes_eq n name) refl e (no_place name ns)
+
+all_at : (P : List ℕ → Type 0) (ns : List (List ℕ)) (i : ℕ) (name : List ℕ) → AllByRecursion P ns → slice_get ns i ≡ Some name → P name
+all_at P [] i name all e = cc
+all_at P (n ∷ ns) zero name all e = subst P (same_Some n name e) all.0
+all_at P (n ∷ ns) (suc i) name all e = all_at P ns i name all.1 e
+
+-- where no name stands twice, each stands at its place
+pub place_here : (ns : List (List ℕ)) (i : ℕ) (name : List ℕ) → IsDistinct bytes_eq ns → slice_get ns i ≡ Some name → place_in name ns ≡ Some i
+unfolding IsDistinct
+place_here [] i name apart e = cc
+place_here (n ∷ ns) zero name apart e =
+    let same : bytes_eq n name ≡ true = subst (λ (m : List ℕ). bytes_eq n m ≡ true) (same_Some n name e) (its_name n) in
+    rw same refl
+place_here (n ∷ ns) (suc i) name apart e =
+    let other : bytes_eq n name ≡ false = all_at (λ (m : List ℕ). bytes_eq n m ≡ false) ns i name apart.0 e in
+    rw (other, place_here ns i name apart.1 e) refl
+
+-- the place of the name that stands last
+pub newest_place : {hs : List Hold} {places : BTreeMap (List ℕ) ℕ} (i : ℕ) (name last : List ℕ) → IsDistinct bytes_eq (names hs) → ArePlaced hs places
+    → slice_get (names hs) i ≡ Some last → bytes_eq last name ≡ true → Some i ≡ tree.get by_name places name
+newest_place {hs} {places} i name last apart placed e same =
+    sym (placed.place name ∙ place_here (names hs) i name apart (e ∙ ap (λ (n : List ℕ). Some n) (one_name last name same)))

@@ -2,6 +2,7 @@
 ghost use Rattle.std.specs.Prelude.{◌≡◌, ◌<◌, ◌≤◌, [], ◌∷◌, ◌++◌, Some, IfOk, OnOk, OnErr, length, set, take, slice_get};
 ghost use Rattle.std.specs.Option.{option_map};
 ghost use Rattle.iss_hold.specs.Holdings.{begun};
+ghost use Rattle.iss_hold.specs.Indexes.{names};
 ghost use Rattle.iss_hold.specs.Named.{hold_in, IsNamed, IsGrown};
 
 use crate::hold::Hold;
@@ -74,6 +75,14 @@ impl HoldList {
         ensures { slice_get self.now place ≡ Some result }
     {
         hold_of(&self.names, &self.rows[place])
+    }
+
+    /// The token of the transaction at a place.
+    pub(crate) fn token(&self, place: usize) -> Token
+        requires { place < length self.now }
+        ensures { slice_get (names self.now) place ≡ Some result }
+    {
+        self.rows[place].token
     }
 
     /// Adds the hold of a transaction that begins. Where allocation fails all stays as it was.

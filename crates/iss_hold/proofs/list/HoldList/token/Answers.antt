@@ -1,0 +1,18 @@
+use Rattle.std.proofs.Common.{◌≡◌, List, length, refl, sym, ap, ◌∙◌, arith}
+use Rattle.std.proofs.lemmas.List.{length-map}
+use Rattle.std.proofs.lemmas.Option.{slice_get_read}
+use Rattle.std.specs.Prelude.{slice_get}
+use Rattle.iss_hold.specs.declared.hold.Hold.{Hold}
+use Rattle.iss_hold.specs.Indexes.{names}
+use Rattle.iss_hold.specs.Named.{hold_in}
+use Rattle.iss_hold.proofs.Named.{name_at}
+use Rattle.iss_hold.proofs.list.HoldList.token.Goals as goal
+
+pub returns : goal.returns
+returns c =
+    let rows = c.self.inside.rows.items in
+    let len : length rows ≡ length c.args.self.now = sym (length-map rows (hold_in c.self.inside.names)) ∙ ap (λ (hs : List Hold). length hs) c.self.view_is in
+    let within = c.requires in
+    ap (λ (hs : List Hold). slice_get (names hs) c.args.place) (sym c.self.view_is)
+    ∙ name_at c.self.inside.names rows c.args.place c.index.result.now
+    (slice_get_read rows (length rows) c.args.place c.index.result.now refl (omega (arith, len, within)) c.index.ensures)
