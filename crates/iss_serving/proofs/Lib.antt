@@ -1,0 +1,11 @@
+pub mod Compositions
+pub mod DesksInSessions
+pub mod Runs
+pub mod StillSteps
+pub mod Deciding
+pub mod Held
+pub mod ClientEvents
+pub mod Keeping
+pub mod Closings
+pub mod SendingLaws
+pub mod ServingLaws

@@ -1,0 +1,11 @@
+//! What a server says to whom, after whatever it heard, as definitions with their laws.
+//!
+//! It may cite `iss_edge`, `iss_model`, `iss_http` and the laws of book and state.
+//! It must not cite any body of the program, nor how JSON is read.
+#![tactic(auto)]
+
+mod channels;
+mod laws;
+
+pub use channels::channels_are_closed;
+pub use laws::{heard_decides_happenings, parts_follow, records_grow, sessions_are_good_stretches, texts_are_sent};
