@@ -9,3 +9,6 @@ pub mod Keeping
 pub mod Closings
 pub mod SendingLaws
 pub mod ServingLaws
+pub mod AccountEntries
+pub mod AccountBooks
+pub mod LocalSessions

@@ -9,3 +9,4 @@ pub mod Levels
 pub mod Openings
 pub mod Sendings
 pub mod Serving
+pub mod Accounts

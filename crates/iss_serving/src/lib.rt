@@ -4,8 +4,10 @@
 //! It must not cite any body of the program, nor how JSON is read.
 #![tactic(auto)]
 
+mod accounts;
 mod channels;
 mod laws;
 
+pub use accounts::accounts_stay_local;
 pub use channels::channels_are_closed;
 pub use laws::{heard_decides_happenings, parts_follow, records_grow, sessions_are_good_stretches, texts_are_sent};
