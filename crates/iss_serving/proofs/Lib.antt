@@ -8,7 +8,9 @@ pub mod ClientEvents
 pub mod Keeping
 pub mod Closings
 pub mod SendingLaws
+pub mod ToldSendings
 pub mod ServingLaws
 pub mod AccountEntries
 pub mod AccountBooks
 pub mod LocalSessions
+pub mod JudgedLines

@@ -8,21 +8,13 @@ use Rattle.iss_edge.specs.declared.outside.Answered.{Answered}
 use Rattle.iss_edge.specs.declared.outside.Answered.TheVariants.{Dialled, Emitted}
 use Rattle.iss_edge.specs.Outer.{Outer, Adds, Tears, torn_actions}
 use Rattle.iss_edge.specs.Stretches.{Step, actions_of, with_levels}
+use Rattle.iss_edge.proofs.Outers.{adds_then}
 use Rattle.iss_edge.proofs.StretchLemmas.{actions_of-append, actions_of-leveled}
 use Rattle.iss_http.specs.Messages.{ask}
 use Rattle.iss_serving.specs.Items.{Item, leveled}
 use Rattle.iss_serving.specs.Desks.{Subject, Task, to_dial, to_reply, Waiter, waiters_without, Desk, desk_with, Gone, reached, gone_unsent, desk_change, desk_after, desk_steps, desk_gone, FitsDesk}
 use Rattle.iss_serving.specs.Sendings.{Sends}
 use Rattle.iss_serving.proofs.Compositions.{desk_after_append, desk_steps_append, desk_gone_append, fits_desk_append}
-
--- what two calls add, one after the other
-adds_then : (xs ys : List Action) (is js : List Answered) (a b c : Outer) → Adds xs is a b → Adds ys js b c → Adds (xs ++ ys) (is ++ js) a c
-adds_then xs ys is js a b c p q =
-    record {
-      device = q.device ∙ p.device;
-      trace = q.trace ∙ ap (λ (t : List Action). t ++ ys) p.trace ∙ append_assoc a.world.trace xs ys;
-      heard = q.heard ∙ ap (λ (t : List Answered). t ++ js) p.heard ∙ append_assoc a.heard is js;
-    }
 
 -- what was torn off a text, and then a close, as steps
 torn_closed : (level : ℕ) (ch : Channel) (torn : Option (List ℕ))

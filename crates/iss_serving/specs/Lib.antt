@@ -10,3 +10,4 @@ pub mod Openings
 pub mod Sendings
 pub mod Serving
 pub mod Accounts
+pub mod Accepted

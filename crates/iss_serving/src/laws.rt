@@ -3,12 +3,15 @@ ghost use Rattle.std.specs.Prelude.{◌≡◌, ℕ, ◌≤◌, List, ◌++◌};
 ghost use Rattle.iss_edge.specs.Outer.{Outer};
 ghost use Rattle.iss_edge.specs.Stretches.{actions_of, GoesOn};
 ghost use Rattle.iss_edge.specs.World.{sent_on};
-ghost use Rattle.iss_model.specs.run.Runs.{Run};
+ghost use Rattle.iss_model.specs.declared.input.Record.{Record};
+ghost use Rattle.iss_model.specs.rules.Histories.{history_of, IsLegalAfter};
+ghost use Rattle.iss_model.specs.run.Runs.{Run, run_after};
 ghost use Rattle.iss_serving.specs.Items.{Happening, items_of};
 ghost use Rattle.iss_serving.specs.Desks.{Desk, Gone};
 ghost use Rattle.iss_serving.specs.Sessions.{Readers, Session, count, session_of};
 ghost use Rattle.iss_serving.specs.Happenings.{session_after, session_steps, last_steps, Fits, IsComplete};
-ghost use Rattle.iss_serving.specs.Levels.{LevelsRise, IsLonger};
+ghost use Rattle.iss_serving.specs.Accepted.{lines_judged, session_records};
+ghost use Rattle.iss_serving.specs.Levels.{LevelsRise};
 ghost use Rattle.iss_serving.specs.Sendings.{Sends};
 ghost use Rattle.iss_serving.specs.Serving.{Serves, ServesAll};
 
@@ -36,12 +39,24 @@ pub fn heard_decides_happenings()
         → IsComplete (session_after read s a) → IsComplete (session_after read s b) → items_of a ≡ items_of b → a ≡ b }
 {}
 
-/// Records that stand stay, and more come behind them; so the levels of what goes out never fall.
-#[tactic(auto, using(crate::proofs::Runs::after_longer, crate::proofs::StillSteps::levels_rise))]
-pub fn records_grow()
+/// A session makes the records that lines would make, at the times at which its inputs are judged: they come behind those that stand,
+/// each follows on those before it, and what stands is the book of them all.
+#[tactic(auto, using(crate::proofs::JudgedLines::run_of_lines, crate::proofs::JudgedLines::records_of_session, crate::proofs::JudgedLines::legal_session, crate::proofs::JudgedLines::history_of_session))]
+pub fn sessions_judge_lines()
+    ensures run { (read : Readers) → (s : Session) → (happenings : List Happening)
+        → (session_after read s happenings).run ≡ run_after s.run (lines_judged read s happenings) }
     ensures records { (read : Readers) → (s : Session) → (happenings : List Happening)
-        → IsLonger s.run.history.records (session_after read s happenings).run.history.records }
-    ensures levels { (read : Readers) → (s : Session) → (happenings : List Happening)
+        → (session_after read s happenings).run.history.records ≡ s.run.history.records ++ session_records read s happenings }
+    ensures legal { (read : Readers) → (s : Session) → (happenings : List Happening)
+        → IsLegalAfter s.run.history (session_records read s happenings) }
+    ensures history { (read : Readers) → (s : Session) → (happenings : List Happening) → (rs : List Record) → s.run.history ≡ history_of rs
+        → (session_after read s happenings).run.history ≡ history_of (rs ++ session_records read s happenings) }
+{}
+
+/// The number of records never falls, and neither do the levels at which texts go out.
+#[tactic(auto, using(crate::proofs::StillSteps::levels_rise))]
+pub fn levels_never_fall()
+    ensures { (read : Readers) → (s : Session) → (happenings : List Happening)
         → LevelsRise (count s) (count (session_after read s happenings)) (session_steps read s happenings) }
 {}
 
