@@ -1,5 +1,5 @@
 -- A book with no product of the gateway asks the gateway nothing and tells it nothing.
-use Rattle.std.proofs.Common.{◌≡◌, refl, sym, ap, subst, ◌∙◌, ℕ, Bool, true, false, List, [], ◌∷◌, ◌++◌, length, map, fold, Option, Some, None, append_assoc}
+use Rattle.std.proofs.Common.{◌≡◌, refl, sym, ap, ◌∙◌, ℕ, Bool, true, List, [], ◌∷◌, ◌++◌, length, map, fold, Option, Some, None, append_assoc}
 use Rattle.std.specs.Prelude.{◌&&◌, IfSome}
 use Rattle.std.specs.List.{list_all, filter_map, cons_option}
 use Rattle.std.proofs.lemmas.Bool.{false≢true, and_parts}
@@ -7,23 +7,20 @@ use Rattle.std.proofs.lemmas.List.{append-nil}
 use Rattle.std.proofs.lemmas.List.Elements.{filter_map-append}
 use Rattle.iss_model.specs.declared.setting.Product.{Product}
 use Rattle.iss_model.specs.declared.call.Opened.{Opened}
-use Rattle.iss_model.specs.declared.call.Notice.{Notice}
-use Rattle.iss_model.specs.declared.txn.Txn.{Txn}
 use Rattle.iss_model.specs.declared.input.Record.{Record}
 use Rattle.iss_model.specs.declared.entry.Entry.{Entry}
 use Rattle.iss_model.specs.declared.entry.Entry.TheVariants as entry
 use Rattle.iss_model.specs.declared.entry.Row.{Row}
 use Rattle.iss_model.specs.rules.Settings.{product_made}
-use Rattle.iss_model.specs.rules.Activity.{txn_began, txn_now, txns_of, call_opened, call_now, calls_of, notice_made, notices_of}
+use Rattle.iss_model.specs.rules.Activity.{txn_began, txn_now, call_opened, call_now, calls_of, notice_made, notices_of}
 use Rattle.iss_model.specs.rules.CardReasons.{is_account_funded}
-use Rattle.iss_model.specs.rules.Facts.{Facts}
 use Rattle.iss_model.specs.rules.Due.{DueItem, due_items, thing_entries}
 use Rattle.iss_model.specs.rules.Keeper.{Growth}
-use Rattle.iss_model.specs.rules.Stepping.{entries_of, own_entries, settle, after_due, step}
+use Rattle.iss_model.specs.rules.Stepping.{own_entries, settle, after_due, step}
 use Rattle.iss_model.specs.rules.Histories.{History, nothing_yet, history_facts, history_keeper, history_of, numbered_rows}
 use Rattle.iss_model.proofs.Lists.{none_found}
 use Rattle.iss_serving.specs.Accounts.{has_no_gateway, is_account_entry, is_account_book}
-use Rattle.iss_serving.proofs.AccountEntries.{AreAccounts, AccountFacts, AccountProducts, all_both, all_first, both, own_all, due_all}
+use Rattle.iss_serving.proofs.AccountEntries.{AreAccounts, AccountFacts, all_both, all_first, both, own_all, due_all}
 
 -- lists of what rows make
 
@@ -60,9 +57,9 @@ book_facts : (h : History) → is_account_book h.rows ≡ true → AccountFacts 
 book_facts h is =
     record {
       calls = ap (λ (os : List Opened). map (call_now h.rows) os)
-        (none_found (λ (row : Row). is_account_entry row.entry) (λ row. call_opened row.entry) (λ row e. no_call row.entry e) h.rows is);
+          (none_found (λ (row : Row). is_account_entry row.entry) (λ row. call_opened row.entry) (λ row e. no_call row.entry e) h.rows is);
       txns = all_mapped (txn_now h.rows) (λ t. is_account_funded t.txn.funding) (filter_map (λ row. txn_began row.entry) h.rows)
-        ∙ all_made (λ (row : Row). txn_began row.entry) (λ row. is_account_entry row.entry) (λ t. is_account_funded t.funding) (λ row e. own_txn row.entry e) h.rows is;
+          ∙ all_made (λ (row : Row). txn_began row.entry) (λ row. is_account_entry row.entry) (λ t. is_account_funded t.funding) (λ row e. own_txn row.entry e) h.rows is;
     }
 
 pub no_notices : (rows : List Row) → is_account_book rows ≡ true → notices_of rows ≡ []
@@ -125,7 +122,7 @@ grow_account : (g : Growth History) (es : List Entry) → IsAccountGrowth g → 
 grow_account g es is more =
     record {
       book = all_both (λ (row : Row). is_account_entry row.entry) g.world.rows (numbered_rows (length g.world.records) es) is.book
-        (book_numbered (length g.world.records) es more);
+          (book_numbered (length g.world.records) es more);
       entries = both g.entries es is.entries more;
     }
 
@@ -145,8 +142,8 @@ step_account h r is own =
     let due_is = due_account r.at (record { world = up; entries = [] }) (due_items (history_facts up) r.at) (record { book = is; entries = record { all = refl } }) in
     let entries = own_entries r (history_facts due.world) in
     let products : has_no_gateway due.world.rows ≡ true =
-        no_gateway_before due.world.rows (due.world.rows ++ numbered_rows (length due.world.records) entries)
-        (record { more = numbered_rows (length due.world.records) entries; is = refl }) own in
+    no_gateway_before due.world.rows (due.world.rows ++ numbered_rows (length due.world.records) entries)
+    (record { more = numbered_rows (length due.world.records) entries; is = refl }) own in
     grow_account due entries due_is
     (own_all (history_facts due.world) r.input r.at (book_facts due.world due_is.book) (record { products = products }))
 

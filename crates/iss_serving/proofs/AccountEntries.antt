@@ -1,43 +1,34 @@
 -- Where every product is paid for from its users' balances, no step asks the gateway or tells it anything.
-use Rattle.std.proofs.Common.{◌≡◌, refl, sym, ap, subst, ◌∙◌, ℕ, Bool, true, false, cond, List, [], ◌∷◌, ◌++◌, length, map, fold, Option, Some, None, append_assoc}
-use Rattle.std.specs.Prelude.{◌+◌, ◌==◌, ◌&&◌, ◌||◌, min, bytes_eq, filter, find, IfSome, option_map, option_and_then}
-use Rattle.std.specs.List.{list_all, filter_map}
+use Rattle.std.proofs.Common.{◌≡◌, refl, sym, ap, ◌∙◌, ℕ, Bool, true, false, cond, List, [], ◌∷◌, ◌++◌, Option, Some, None}
+use Rattle.std.specs.Prelude.{◌==◌, ◌&&◌, bytes_eq, filter, find, IfSome, option_map, option_and_then}
+use Rattle.std.specs.List.{list_all}
 use Rattle.std.proofs.lemmas.Bool.{false≢true, and_parts}
-use Rattle.std.proofs.lemmas.List.{append-nil, map-append}
-use Rattle.std.proofs.lemmas.List.Elements.{filter_map-append}
 use Rattle.std.proofs.lemmas.List.Folds.{list_all-append}
 use Rattle.iss_model.specs.declared.currency.Currency.{Currency}
 use Rattle.iss_model.specs.declared.setting.Product.{Product}
 use Rattle.iss_model.specs.declared.setting.Card.{Card}
 use Rattle.iss_model.specs.declared.call.Opened.{Opened}
-use Rattle.iss_model.specs.declared.call.CallId.{CallId}
-use Rattle.iss_model.specs.declared.call.Notice.{Notice}
 use Rattle.iss_model.specs.declared.txn.Txn.{Txn}
 use Rattle.iss_model.specs.declared.decision.Reason.{Reason}
-use Rattle.iss_model.specs.declared.decision.Reason.TheVariants as reason
 use Rattle.iss_model.specs.declared.decision.Verdict.TheVariants as verdict
 use Rattle.iss_model.specs.declared.account.Part.{Part}
 use Rattle.iss_model.specs.declared.account.Part.TheVariants as part
 use Rattle.iss_model.specs.declared.account.Account.{Account}
 use Rattle.iss_model.specs.declared.input.Input.{Input}
 use Rattle.iss_model.specs.declared.input.Input.TheVariants as input
-use Rattle.iss_model.specs.declared.input.Record.{Record}
 use Rattle.iss_model.specs.declared.entry.Entry.{Entry}
 use Rattle.iss_model.specs.declared.entry.Entry.TheVariants as entry
-use Rattle.iss_model.specs.declared.entry.Row.{Row}
-use Rattle.iss_model.specs.rules.Settings.{default_product, product_made, products_of, product_named, card_named}
-use Rattle.iss_model.specs.rules.Activity.{TxnNow, CallNow, txn_began, txn_now, txns_of, call_opened, call_now, calls_of, is_asked, notice_made, notices_of, pending_of}
-use Rattle.iss_model.specs.rules.Facts.{Facts, txn_in, call_in, asked_calls_of, next_notice, is_notice}
+use Rattle.iss_model.specs.rules.Settings.{product_named, card_named}
+use Rattle.iss_model.specs.rules.Activity.{TxnNow, CallNow, is_asked}
+use Rattle.iss_model.specs.rules.Facts.{Facts, txn_in, call_in}
 use Rattle.iss_model.specs.rules.Asks.{Ask, txn_begun}
 use Rattle.iss_model.specs.rules.CardReasons.{is_account_funded, txn_asked, first_ask, further_ask}
-use Rattle.iss_model.specs.rules.Pieces.{parts_held, in_all, left_of, taken_to_clear, only_where, only_gateway, post_entries, hold_entries, unhold_entries, user_account, Parts, taken_to_release, use_return_entries, release_entries, abandoned_calls_entries, abandonment_entries, end_entries}
-use Rattle.iss_model.specs.rules.CardEntries.{funding_entries, authorization_entries, increment_entries, reversal_entries, clearing_money_entries, last_clearing_entries, further_clearing_entries, clearing_entries, refund_entries, entries_of_asked, answer_entries}
-use Rattle.iss_model.specs.rules.Due.{DueItem, DueThing, call_due, txn_due, due_items, expiry_entries, live_expiry_entries, thing_entries}
-use Rattle.iss_model.specs.rules.Keeper.{Growth, grow}
-use Rattle.iss_model.specs.rules.Stepping.{unless_declined, setting_entries, load_entries, authorization_ask, increment_ask, entries_of, own_entries, settle, after_due, step}
-use Rattle.iss_model.specs.rules.Histories.{History, nothing_yet, history_facts, history_keeper, history_of, numbered_rows}
+use Rattle.iss_model.specs.rules.Pieces.{only_gateway, post_entries, hold_entries, unhold_entries, Parts, release_entries, abandoned_calls_entries, abandonment_entries, end_entries}
+use Rattle.iss_model.specs.rules.CardEntries.{funding_entries, authorization_entries, increment_entries, reversal_entries, clearing_money_entries, last_clearing_entries, clearing_entries, refund_entries, entries_of_asked}
+use Rattle.iss_model.specs.rules.Due.{DueThing, call_due, txn_due, live_expiry_entries, thing_entries}
+use Rattle.iss_model.specs.rules.Stepping.{unless_declined, setting_entries, load_entries, authorization_ask, increment_ask, entries_of}
 use Rattle.iss_model.proofs.Lists.{find_passes}
-use Rattle.iss_serving.specs.Accounts.{has_no_gateway, is_account_entry, is_account_book}
+use Rattle.iss_serving.specs.Accounts.{is_account_entry}
 
 -- each of these entries is an account's
 pub record AreAccounts (entries : List Entry) : Type 0 where

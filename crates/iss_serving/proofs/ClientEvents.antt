@@ -1,37 +1,26 @@
 -- The inputs of clients that are to be judged are events.
-use Rattle.std.proofs.Common.{◌≡◌, refl, sym, ap, subst, ◌∙◌, ℕ, Bool, true, false, not, cond, List, [], ◌∷◌, ◌++◌, map, Option, Some, None, append_assoc, eq-eqb}
-use Rattle.std.specs.Prelude.{◌==◌, ◌||◌, ◌&&◌, Result, Ok, Err, IfOk, is_some}
+use Rattle.std.proofs.Common.{◌≡◌, ℕ, Bool, true, false, cond, List, [], ◌∷◌, ◌++◌, Option, Some, None}
+use Rattle.std.specs.Prelude.{Result, Ok, Err, IfOk, is_some}
 use Rattle.std.specs.List.{flat_map}
-use Rattle.std.proofs.lemmas.Bool.{false≢true}
-use Rattle.std.proofs.lemmas.List.{append-nil}
 use Rattle.iss_edge.specs.declared.outside.Channel.{Channel}
 use Rattle.iss_edge.specs.declared.outside.Arrival.{Arrival}
 use Rattle.iss_edge.specs.declared.outside.Arrival.TheVariants.{Client, Ready, Time, Idle, End}
-use Rattle.iss_edge.specs.declared.outside.Action.{Action}
-use Rattle.iss_edge.specs.declared.outside.Action.TheVariants.{Emit, Dial, Close}
 use Rattle.iss_edge.specs.declared.outside.Answered.{Answered}
 use Rattle.iss_edge.specs.declared.outside.Answered.TheVariants.{Waited, Took, Dialled, Emitted}
-use Rattle.iss_edge.specs.Outer.{torn_actions}
-use Rattle.iss_edge.specs.Stretches.{Step, with_levels, actions_of}
-use Rattle.iss_edge.proofs.StretchLemmas.{actions_of-append}
 use Rattle.iss_model.specs.declared.input.Input.{Input}
-use Rattle.iss_model.specs.declared.decision.Answer.{Answer}
 use Rattle.iss_model.specs.declared.decision.Judged.{Judged}
 use Rattle.iss_model.specs.declared.decision.Judged.TheVariants.{New, Clock, Told}
 use Rattle.iss_model.specs.Inputs.{event_token}
 use Rattle.iss_model.specs.run.Runs.{judgement_in}
-use Rattle.iss_http.specs.Messages.{ask}
 use Rattle.iss_http.specs.Requests.{Request, more, body, faulty}
-use Rattle.iss_serving.specs.Items.{Item, Happening, hears, judges, Next, judging, nothing, is_answer_to, leveled, emit_steps, same_channel}
-use Rattle.iss_serving.specs.Desks.{Subject, reached, Task, to_dial, to_send, to_reply, Gone, unreached, Waiter, Desk, desk_with, DeskChange, next_for, gone_unsent, of_call, of_notice, waiters_without, task_change, desk_change_by}
-use Rattle.iss_serving.specs.Links.{Link, Heard, piece_of, unfinished, outcome, acknowledged, dropped, heard_as, link_reading, link_with, links_without, links_after}
-use Rattle.iss_serving.specs.Sessions.{Readers, Reader, Queued, Session, count, next_of, next_by, next_idle, next_heard, with_tasks}
-use Rattle.iss_serving.specs.Judgements.{answer_tasks, waiters_of, session_with, judged_so, judged_input, judged_first}
-use Rattle.iss_serving.specs.Hearings.{Change, change_to, after_arrival, one_less, readers_without, reader_with, after_line, after_request, after_reading, after_waiting, link_steps, after_answer, after_link, link_at, is_reading, is_waiting, after_take, after_hearing, links_of, queued_of, after_desk, after_item}
-use Rattle.iss_serving.specs.Happenings.{Follows, session_change, session_after, session_steps, Fits, IsNext, IsComplete, closings, last_steps}
-use Rattle.iss_serving.specs.Openings.{open_after, left_open, ReadsEvents}
-use Rattle.iss_serving.proofs.Compositions.{after_append, fits_rest}
-use Rattle.iss_serving.proofs.Held.{is_among, and_client, reader_channel, waiter_channel, link_channel, task_channels, client_channels, IsHeld, reads, sends, awaits, watches, queues, or_left, or_right, or_rest, not_true, mapped_first, mapped_second, among_without, same_channels, queued_first, queued_second, HoldsMore, held_more}
+use Rattle.iss_serving.specs.Items.{Item, Happening, hears, judges}
+use Rattle.iss_serving.specs.Desks.{reached, Task, Gone, unreached, desk_change_by}
+use Rattle.iss_serving.specs.Links.{Link, Heard, piece_of, unfinished, outcome, acknowledged, dropped, heard_as, link_reading}
+use Rattle.iss_serving.specs.Sessions.{Readers, Queued, Session, count}
+use Rattle.iss_serving.specs.Judgements.{judged_so, judged_input, judged_first}
+use Rattle.iss_serving.specs.Hearings.{Change, after_arrival, one_less, after_line, after_request, after_reading, after_waiting, after_answer, after_link, link_at, is_reading, is_waiting, after_take, after_hearing, queued_of, after_item}
+use Rattle.iss_serving.specs.Happenings.{session_change, session_after}
+use Rattle.iss_serving.specs.Openings.{ReadsEvents}
 
 -- an input of a client is an event
 abbrev pub IsEventOf : Option Channel → Option (List ℕ) → Type 0
@@ -136,4 +125,3 @@ events_stay read sound s judges e = events_first s s.queue e e
 pub events_after : (read : Readers) → ReadsEvents read → (s : Session) (hs : List Happening) → AreEvents s.queue → AreEvents (session_after read s hs).queue
 events_after read sound s [] e = e
 events_after read sound s (h ∷ hs) e = events_after read sound (session_change read s h).session hs (events_stay read sound s h e)
-

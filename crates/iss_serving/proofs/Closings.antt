@@ -1,39 +1,26 @@
 -- Each channel that a session is given is closed behind the last bytes that go out on it.
-use Rattle.std.proofs.Common.{◌≡◌, refl, sym, ap, subst, ◌∙◌, ℕ, Bool, true, false, not, cond, List, [], ◌∷◌, ◌++◌, map, Option, Some, None, append_assoc, eq-eqb}
-use Rattle.std.specs.Prelude.{◌==◌, ◌||◌, ◌&&◌, Result, Ok, Err, IfOk, is_some}
-use Rattle.std.specs.List.{flat_map}
+use Rattle.std.proofs.Common.{◌≡◌, refl, sym, ap, subst, ◌∙◌, ℕ, Bool, true, false, not, List, [], ◌∷◌, ◌++◌, map, Some, append_assoc, eq-eqb}
+use Rattle.std.specs.Prelude.{◌==◌, ◌||◌, ◌&&◌}
 use Rattle.std.proofs.lemmas.Bool.{false≢true}
-use Rattle.std.proofs.lemmas.List.{append-nil}
 use Rattle.iss_edge.specs.declared.outside.Channel.{Channel}
-use Rattle.iss_edge.specs.declared.outside.Arrival.{Arrival}
-use Rattle.iss_edge.specs.declared.outside.Arrival.TheVariants.{Client, Ready, Time, Idle, End}
+use Rattle.iss_edge.specs.declared.outside.Arrival.TheVariants.{Client}
 use Rattle.iss_edge.specs.declared.outside.Action.{Action}
-use Rattle.iss_edge.specs.declared.outside.Action.TheVariants.{Emit, Dial, Close}
 use Rattle.iss_edge.specs.declared.outside.Answered.{Answered}
-use Rattle.iss_edge.specs.declared.outside.Answered.TheVariants.{Waited, Took, Dialled, Emitted}
-use Rattle.iss_edge.specs.Outer.{torn_actions}
-use Rattle.iss_edge.specs.Stretches.{Step, with_levels, actions_of}
+use Rattle.iss_edge.specs.declared.outside.Answered.TheVariants.{Waited}
+use Rattle.iss_edge.specs.Stretches.{Step, actions_of}
 use Rattle.iss_edge.proofs.StretchLemmas.{actions_of-append}
-use Rattle.iss_model.specs.declared.input.Input.{Input}
-use Rattle.iss_model.specs.declared.decision.Answer.{Answer}
-use Rattle.iss_model.specs.declared.decision.Judged.{Judged}
-use Rattle.iss_model.specs.declared.decision.Judged.TheVariants.{New, Clock, Told}
-use Rattle.iss_model.specs.Inputs.{event_token}
-use Rattle.iss_model.specs.run.Runs.{Run, judgement_in}
-use Rattle.iss_http.specs.Messages.{ask}
-use Rattle.iss_http.specs.Requests.{Request, more, body, faulty}
-use Rattle.iss_serving.specs.Items.{Item, Happening, hears, judges, Next, judging, nothing, is_answer_to, leveled, emit_steps, same_channel}
-use Rattle.iss_serving.specs.Desks.{Subject, reached, Task, to_dial, to_send, to_reply, Gone, unreached, Waiter, Desk, desk_with, DeskChange, next_for, gone_unsent, of_call, of_notice, waiters_without, task_change, desk_change_by}
-use Rattle.iss_serving.specs.Links.{Link, Heard, piece_of, unfinished, outcome, acknowledged, dropped, heard_as, link_reading, link_with, links_without, links_after}
-use Rattle.iss_serving.specs.Sessions.{Readers, Reader, Queued, Session, session_of, count, next_of, next_by, next_idle, next_heard, with_tasks}
-use Rattle.iss_serving.specs.Judgements.{answer_tasks, waiters_of, session_with, judged_so, judged_input, judged_first}
-use Rattle.iss_serving.specs.Hearings.{Change, change_to, after_arrival, one_less, readers_without, reader_with, after_line, after_request, after_reading, after_waiting, link_steps, after_answer, after_link, link_at, is_reading, is_waiting, after_take, after_hearing, links_of, queued_of, after_desk, after_item}
-use Rattle.iss_serving.specs.Happenings.{Follows, session_change, session_after, session_steps, Fits, IsNext, IsComplete, closings, last_steps}
+use Rattle.iss_model.specs.run.Runs.{Run}
+use Rattle.iss_serving.specs.Items.{Item, Happening, hears, nothing, is_answer_to}
+use Rattle.iss_serving.specs.Desks.{Task, to_dial, to_send, to_reply, next_for}
+use Rattle.iss_serving.specs.Sessions.{Readers, Queued, Session, session_of, count, next_by, next_idle}
+use Rattle.iss_serving.specs.Hearings.{Change, after_hearing, after_item}
+use Rattle.iss_serving.specs.Happenings.{session_change, session_after, session_steps, Fits, IsComplete, closings, last_steps}
 use Rattle.iss_serving.specs.Openings.{open_after, left_open, ReadsEvents}
 use Rattle.iss_serving.proofs.Compositions.{after_append, fits_rest}
-use Rattle.iss_serving.proofs.Held.{is_among, and_client, reader_channel, waiter_channel, link_channel, task_channels, client_channels, IsHeld, reads, sends, awaits, watches, queues, or_left, or_right, or_rest, not_true, mapped_first, mapped_second, among_without, same_channels, queued_first, queued_second, HoldsMore, held_more}
+use Rattle.iss_serving.proofs.Held.{is_among, reader_channel, waiter_channel, link_channel, client_channels, IsHeld, reads, sends, awaits, watches, queues, mapped_second}
 use Rattle.iss_serving.proofs.ClientEvents.{AreEvents, events_stay, events_after}
-use Rattle.iss_serving.proofs.Keeping.{Keeps, alone, no_tasks, keeps_happening}
+use Rattle.iss_serving.proofs.Keeping.{Keeps, alone, no_tasks}
+use Rattle.iss_serving.proofs.KeepingTexts.{keeps_happening}
 
 open_append : (n : ℕ) (was : Bool) (a b : List Action) → left_open n was (a ++ b) ≡ left_open n (left_open n was a) b
 open_append n was [] b = refl
@@ -62,9 +49,9 @@ shut_last n was s =
     let a = is_among n (map reader_channel s.readers) in
     let b = is_among n (map waiter_channel s.desk.waiting) in
     let both : left_open n was (actions_of (readers ++ waiting)) ≡ ((was && not a) && not b) =
-        ap (left_open n was) (actions_of-append readers waiting) ∙ open_append n was (actions_of readers) (actions_of waiting)
-        ∙ ap (λ (w : Bool). left_open n w (actions_of waiting)) (shut_by n was level (map reader_channel s.readers))
-        ∙ shut_by n (was && not a) level (map waiter_channel s.desk.waiting) in
+    ap (left_open n was) (actions_of-append readers waiting) ∙ open_append n was (actions_of readers) (actions_of waiting)
+    ∙ ap (λ (w : Bool). left_open n w (actions_of waiting)) (shut_by n was level (map reader_channel s.readers))
+    ∙ shut_by n (was && not a) level (map waiter_channel s.desk.waiting) in
     ap (left_open n was) (actions_of-append (readers ++ waiting) links) ∙ open_append n was (actions_of (readers ++ waiting)) (actions_of links)
     ∙ ap (λ (w : Bool). left_open n w (actions_of links)) both
     ∙ shut_by n ((was && not a) && not b) level (map link_channel s.links)
@@ -155,8 +142,8 @@ client_closed read sound s before after item ch is fits over events =
     let same : session_after read s (before ++ hears item ∷ []) ≡ u = after_append read s before (hears item ∷ []) in
     let ends : IsComplete (session_after read u after) = subst IsComplete (after_append read s before (hears item ∷ after)) over in
     let closed : left_open ch.0 true (actions_of (session_steps read u after ++ last_steps (session_after read u after))) ≡ false =
-        all_closed read sound ch.0 true u after rest.1 ends (events_stay read sound m (hears item) (events_after read sound s before events))
-        (λ e. client_held read m item ch m.desk.tasks is rest.0.answers) in
+    all_closed read sound ch.0 true u after rest.1 ends (events_stay read sound m (hears item) (events_after read sound s before events))
+    (λ e. client_held read m item ch m.desk.tasks is rest.0.answers) in
     subst (λ (t : Session). left_open ch.0 true (actions_of (session_steps read t after ++ last_steps (session_after read t after))) ≡ false) (sym same) closed
 
 -- the same of whole runs

@@ -1,5 +1,5 @@
 -- What a session does for texts alone is what its desk does.
-use Rattle.std.proofs.Common.{◌≡◌, ℕ, Bool, true, false, List, [], ◌∷◌, ◌++◌, map, Option, refl, sym, ap, subst, ◌∙◌, append_assoc}
+use Rattle.std.proofs.Common.{◌≡◌, ℕ, true, false, List, [], ◌∷◌, ◌++◌, map, Option, refl, sym, ap, subst, ◌∙◌, append_assoc}
 use Rattle.std.specs.List.{flat_map}
 use Rattle.std.proofs.lemmas.Bool.{false≢true}
 use Rattle.std.proofs.lemmas.List.{append-nil}
@@ -13,7 +13,7 @@ use Rattle.iss_serving.specs.Desks.{Task, to_dial, to_send, to_reply, Desk, Gone
 use Rattle.iss_serving.specs.Links.{Link}
 use Rattle.iss_serving.specs.Sessions.{Readers, Session, Queued, count, next_by}
 use Rattle.iss_serving.specs.Hearings.{Change, links_of, queued_of, after_desk, after_item}
-use Rattle.iss_serving.specs.Happenings.{MayBeEarly, IsNext, session_change, session_after, session_steps, Fits}
+use Rattle.iss_serving.specs.Happenings.{MayBeEarly, IsNext, session_after, session_steps, Fits}
 
 nothing_answers : (a : Answered) → is_answer_to nothing a ≡ false
 nothing_answers (Waited arrival) = refl
@@ -49,9 +49,9 @@ with_none s = λ i. record s { links = append-nil s.links i; queue = append-nil 
 with_both : (s : Session) (d e : Desk) (a b : List Gone) → with_desk (with_desk s d a) e b ≡ with_desk s e (a ++ b)
 with_both s d e a b =
     let links : (s.links ++ flat_map links_of a) ++ flat_map links_of b ≡ s.links ++ flat_map links_of (a ++ b) =
-        append_assoc s.links (flat_map links_of a) (flat_map links_of b) ∙ ap (λ (ls : List Link). s.links ++ ls) (sym (flat_map-append links_of a b)) in
+    append_assoc s.links (flat_map links_of a) (flat_map links_of b) ∙ ap (λ (ls : List Link). s.links ++ ls) (sym (flat_map-append links_of a b)) in
     let queue : (s.queue ++ flat_map queued_of a) ++ flat_map queued_of b ≡ s.queue ++ flat_map queued_of (a ++ b) =
-        append_assoc s.queue (flat_map queued_of a) (flat_map queued_of b) ∙ ap (λ (qs : List Queued). s.queue ++ qs) (sym (flat_map-append queued_of a b)) in
+    append_assoc s.queue (flat_map queued_of a) (flat_map queued_of b) ∙ ap (λ (qs : List Queued). s.queue ++ qs) (sym (flat_map-append queued_of a b)) in
     λ i. record s { links = links i; queue = queue i; desk = e }
 
 pub desk_in_session : (read : Readers) (s : Session) (items : List Item) → FitsDesk (count s) s.desk items
@@ -100,7 +100,8 @@ busy_is_next s item next =
 pub desk_fits_session : (read : Readers) (s : Session) (items : List Item) → FitsDesk (count s) s.desk items → Fits read s (all_heard items)
 desk_fits_session read s [] fits = tt
 desk_fits_session read s (item ∷ items) fits =
-    let c = desk_change (count s) s.desk item in
-    (busy_is_next s item fits.0,
-     subst (λ (c : Change). Fits read c.session (all_heard items)) (sym (busy_change read s s.desk.tasks item fits.0))
-     (desk_fits_session read (with_desk s c.desk c.gone) items fits.1))
+    let c = desk_change (count s) s.desk item in (
+      busy_is_next s item fits.0,
+      subst (λ (c : Change). Fits read c.session (all_heard items)) (sym (busy_change read s s.desk.tasks item fits.0))
+          (desk_fits_session read (with_desk s c.desk c.gone) items fits.1),
+    )

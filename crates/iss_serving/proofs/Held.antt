@@ -1,5 +1,5 @@
 -- The channels that a session holds, and that they stay held until they are closed.
-use Rattle.std.proofs.Common.{◌≡◌, refl, sym, ap, subst, ◌∙◌, ℕ, Bool, true, false, not, cond, List, [], ◌∷◌, ◌++◌, map, Option, Some, None}
+use Rattle.std.proofs.Common.{◌≡◌, refl, sym, ap, ◌∙◌, ℕ, Bool, true, false, not, cond, List, [], ◌∷◌, ◌++◌, map, Option, Some, None}
 use Rattle.std.specs.Prelude.{◌==◌, ◌||◌, filter}
 use Rattle.std.specs.List.{list_any}
 use Rattle.std.proofs.lemmas.Bool.{false≢true, eqb-true}
@@ -99,11 +99,6 @@ module _ {A : Type 0} (channel : A → Channel) where
   among_without n ch [] other e = e
   among_without n ch (x ∷ xs) other e =
       without_one n ch x xs (filter (λ x. not (same_channel (channel x) ch)) xs) (same_channel (channel x) ch) refl other (among_without n ch xs other) e
-
-  -- things that are changed stay on their channels
-  pub same_channels : (f : A → A) → ((x : A) → channel (f x) ≡ channel x) → (xs : List A) → map channel (map f xs) ≡ map channel xs
-  same_channels f same [] = refl
-  same_channels f same (x ∷ xs) = λ i. same x i ∷ same_channels f same xs i
 
 -- queues
 

@@ -1,18 +1,17 @@
 -- The run of a session is the run of lines: so its records are legal, and its history is theirs.
-use Rattle.std.proofs.Common.{◌≡◌, refl, sym, ap, subst, ◌∙◌, List, [], ◌∷◌, ◌++◌, Some, fold}
+use Rattle.std.proofs.Common.{◌≡◌, refl, sym, ap, ◌∙◌, List, [], ◌∷◌, ◌++◌, fold}
 use Rattle.std.proofs.lemmas.List.Sums.{fold-append}
 use Rattle.iss_model.specs.declared.input.Record.{Record}
 use Rattle.iss_model.specs.declared.decision.Judged.{Judged}
 use Rattle.iss_model.specs.declared.decision.Judged.TheVariants.{New, Clock, Told}
 use Rattle.iss_model.specs.rules.Stepping.{step}
 use Rattle.iss_model.specs.rules.Histories.{History, nothing_yet, history_keeper, history_of, IsLegalAfter}
-use Rattle.iss_model.specs.run.Transcripts.{Reading, sound}
-use Rattle.iss_model.specs.run.Runs.{Run, response_as, response, judgement_in, run_after, accepted_records}
+use Rattle.iss_model.specs.run.Transcripts.{Reading}
+use Rattle.iss_model.specs.run.Runs.{Run, response_as, response, judgement_in, run_after}
 use Rattle.iss_agreement.proofs.RunLaws.{accepted_legal, history_after, records_after}
 use Rattle.iss_serving.specs.Items.{Happening, hears, judges}
 use Rattle.iss_serving.specs.Sessions.{Readers, Queued, Session}
 use Rattle.iss_serving.specs.Judgements.{judged_so, judged_input, judged_first}
-use Rattle.iss_serving.specs.Hearings.{after_item}
 use Rattle.iss_serving.specs.Happenings.{session_change, session_after}
 use Rattle.iss_serving.specs.Accepted.{first_line, lines_judged, session_records}
 use Rattle.iss_serving.proofs.Runs.{run_item}

@@ -6,6 +6,7 @@ pub mod Deciding
 pub mod Held
 pub mod ClientEvents
 pub mod Keeping
+pub mod KeepingTexts
 pub mod Closings
 pub mod SendingLaws
 pub mod ToldSendings
@@ -14,3 +15,4 @@ pub mod AccountEntries
 pub mod AccountBooks
 pub mod LocalSessions
 pub mod JudgedLines
+pub mod Waits

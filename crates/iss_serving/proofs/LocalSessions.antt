@@ -23,13 +23,13 @@ use Rattle.iss_model.specs.declared.decision.Reply.TheVariants.{Decided}
 use Rattle.iss_model.specs.Inputs.{event_token}
 use Rattle.iss_model.specs.texts.Wordings.{reply_line}
 use Rattle.iss_model.specs.rules.Stepping.{step}
-use Rattle.iss_model.specs.rules.Activity.{CallNow, is_asked, acknowledges}
+use Rattle.iss_model.specs.rules.Activity.{is_asked, acknowledges}
 use Rattle.iss_model.specs.rules.Histories.{History, history_facts, history_keeper, history_of}
-use Rattle.iss_model.specs.run.Sayings.{Said, decided, asked, noticed, acked, said_by}
+use Rattle.iss_model.specs.run.Sayings.{Said, asked, noticed, said_by}
 use Rattle.iss_model.specs.run.Runs.{Run, judgement_in, said_first}
 use Rattle.iss_http.specs.Requests.{Request, more, body, faulty}
 use Rattle.iss_serving.specs.Items.{Item, Happening, hears, judges}
-use Rattle.iss_serving.specs.Desks.{Task, to_dial, to_send, to_reply, Waiter, Desk, task_change, desk_change_by}
+use Rattle.iss_serving.specs.Desks.{Task, to_dial, to_send, to_reply, Waiter, task_change, desk_change_by}
 use Rattle.iss_serving.specs.Links.{Link}
 use Rattle.iss_serving.specs.Sessions.{Readers, Session, Queued, count, response_to, waiter_for, tasks_of, session_of}
 use Rattle.iss_serving.specs.Judgements.{answer_tasks, waiters_of, judged_so, judged_input, judged_first}
@@ -37,7 +37,6 @@ use Rattle.iss_serving.specs.Hearings.{Change, after_desk, after_arrival, one_le
 use Rattle.iss_serving.specs.Happenings.{session_change, session_after}
 use Rattle.iss_serving.specs.Accounts.{has_no_gateway, is_account_entry, is_account_book, AreReplies, IsLocal}
 use Rattle.iss_serving.proofs.Runs.{run_item}
-use Rattle.iss_serving.proofs.AccountEntries.{AreAccounts}
 use Rattle.iss_serving.proofs.AccountBooks.{RowsGrow, rows_same, rows_then, no_gateway_before, no_calls, no_notices, step_grows, step_account, account_history}
 
 -- texts
@@ -229,5 +228,5 @@ stays_local read run turns rs hs is no_product =
     let s = session_of run turns in
     let first : has_no_gateway run.history.rows ≡ true = no_gateway_before run.history.rows (session_after read s hs).run.history.rows (grow_after read s hs) no_product in
     let book : is_account_book run.history.rows ≡ true =
-        ap (λ (h : History). is_account_book h.rows) is ∙ account_history rs (ap (λ (h : History). has_no_gateway h.rows) (sym is) ∙ first) in
+    ap (λ (h : History). is_account_book h.rows) is ∙ account_history rs (ap (λ (h : History). has_no_gateway h.rows) (sym is) ∙ first) in
     (own_after read s hs (own_start run turns book) no_product).local

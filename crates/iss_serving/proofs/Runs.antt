@@ -1,5 +1,5 @@
 -- The run of a session: judging alone changes it, and its records only grow.
-use Rattle.std.proofs.Common.{◌≡◌, ℕ, ◌+◌, ◌≤◌, Bool, true, false, cond, List, [], ◌∷◌, ◌++◌, length, Option, Some, None, refl, sym, ap, subst, ◌∙◌, append_assoc, arith}
+use Rattle.std.proofs.Common.{◌≡◌, ℕ, ◌≤◌, Bool, true, false, cond, List, [], ◌∷◌, ◌++◌, length, Option, Some, None, refl, sym, ap, subst, ◌∙◌, append_assoc, arith}
 use Rattle.std.specs.Prelude.{Result, Ok, Err}
 use Rattle.std.proofs.lemmas.List.{append-nil, length-append}
 use Rattle.iss_edge.specs.declared.outside.Channel.{Channel}
@@ -20,7 +20,6 @@ use Rattle.iss_serving.specs.Links.{Link}
 use Rattle.iss_serving.specs.Sessions.{Readers, Session, Queued, count}
 use Rattle.iss_serving.specs.Judgements.{judged_so, judged_input, judged_first}
 use Rattle.iss_serving.specs.Hearings.{Change, after_arrival, one_less, after_line, after_request, after_reading, after_waiting, after_link, link_at, is_reading, is_waiting, after_take, after_hearing, after_item}
-use Rattle.iss_serving.specs.Levels.{IsLonger}
 use Rattle.iss_serving.specs.Happenings.{session_change, session_after}
 
 -- no item makes a record
@@ -77,6 +76,11 @@ run_item read s item [] = run_hearing read s item item.answer
 run_item read s item (task ∷ tasks) = refl
 
 -- the records that stand only grow
+
+-- records that were there before, and then more
+pub record IsLonger (before now : List Record) : Type 0 where
+  pub more : List Record
+  pub is : now ≡ before ++ more
 
 nothing_more : (rs : List Record) → IsLonger rs rs
 nothing_more rs = record { more = []; is = sym (append-nil rs) }

@@ -1,6 +1,5 @@
 -- Calls of a run that serves, one after the other, and what went out on each channel.
-use Rattle.std.proofs.Common.{◌≡◌, ℕ, Bool, true, false, cond, List, [], ◌∷◌, ◌++◌, map, refl, sym, ap, subst, ◌∙◌, append_assoc}
-use Rattle.std.specs.Prelude.{filter}
+use Rattle.std.proofs.Common.{◌≡◌, ℕ, Bool, cond, List, [], ◌∷◌, ◌++◌, refl, sym, ap, subst, ◌∙◌, append_assoc}
 use Rattle.std.proofs.lemmas.List.{append-nil}
 use Rattle.std.proofs.lemmas.List.Elements.{filter-append}
 use Rattle.iss_edge.specs.declared.outside.Action.{Action}
@@ -8,7 +7,7 @@ use Rattle.iss_edge.specs.declared.outside.Action.TheVariants.{Write, Sync, Emit
 use Rattle.iss_edge.specs.declared.outside.Answered.{Answered}
 use Rattle.iss_edge.specs.Outer.{Outer, Adds}
 use Rattle.iss_edge.specs.World.{sent_by, sent_on}
-use Rattle.iss_edge.specs.Stretches.{Step, actions_of, is_still, AreStill}
+use Rattle.iss_edge.specs.Stretches.{actions_of, is_still, AreStill}
 use Rattle.iss_edge.proofs.Tolds.{sent_on-append}
 use Rattle.iss_edge.proofs.StretchLemmas.{actions_of-append}
 use Rattle.iss_model.specs.run.Runs.{Run}
@@ -16,7 +15,7 @@ use Rattle.iss_serving.specs.Items.{Item, Happening, hears, judges, judging, ans
 use Rattle.iss_serving.specs.Desks.{Desk, Gone, desk_steps}
 use Rattle.iss_serving.specs.Sessions.{Readers, Session, count, next_of, session_of}
 use Rattle.iss_serving.specs.Judgements.{judged_first}
-use Rattle.iss_serving.specs.Happenings.{session_change, session_after, session_steps, last_steps, Fits, Follows, IsNext, IsComplete}
+use Rattle.iss_serving.specs.Happenings.{session_change, session_after, session_steps, last_steps, Fits, IsNext, IsComplete}
 use Rattle.iss_serving.specs.Sendings.{Sends}
 use Rattle.iss_serving.specs.Serving.{channel_actions, Serves, ServesPart, ServesAll}
 use Rattle.iss_serving.proofs.Compositions.{after_append, steps_append, fits_append, answers_append}
@@ -54,8 +53,8 @@ serves_then read s t u a b c p q =
       added = p.added ++ q.added;
       grew = trace_then a.world.trace b.world.trace c.world.trace p.added q.added p.grew q.grew;
       done = filter-append is_still p.added q.added ∙ ap (λ (x : List Action). x ++ channel_actions q.added) p.done
-        ∙ ap (λ (x : List Action). actions_of (session_steps read s p.happenings) ++ x) q.done
-        ∙ sym (steps_from read s t p.happenings q.happenings p.ends);
+          ∙ ap (λ (x : List Action). actions_of (session_steps read s p.happenings) ++ x) q.done
+          ∙ sym (steps_from read s t p.happenings q.happenings p.ends);
     }
 
 pub serves_self : (read : Readers) (s : Session) (a : Outer) → Serves read s s a a
@@ -81,10 +80,10 @@ serves_part read s t a b c p q =
       undone = q.undone;
       grew = trace_then a.world.trace b.world.trace c.world.trace p.added q.added p.grew q.grew;
       done = steps_from read s t p.happenings q.happenings p.ends
-        ∙ ap (λ (x : List Action). actions_of (session_steps read s p.happenings) ++ x) q.done
-        ∙ ap (λ (x : List Action). x ++ (channel_actions q.added ++ q.undone)) (sym p.done)
-        ∙ sym (append_assoc (channel_actions p.added) (channel_actions q.added) q.undone)
-        ∙ ap (λ (x : List Action). x ++ q.undone) (sym (filter-append is_still p.added q.added));
+          ∙ ap (λ (x : List Action). actions_of (session_steps read s p.happenings) ++ x) q.done
+          ∙ ap (λ (x : List Action). x ++ (channel_actions q.added ++ q.undone)) (sym p.done)
+          ∙ sym (append_assoc (channel_actions p.added) (channel_actions q.added) q.undone)
+          ∙ ap (λ (x : List Action). x ++ q.undone) (sym (filter-append is_still p.added q.added));
     }
 
 -- all that a session did is a part of it
@@ -161,7 +160,7 @@ serves_all read run turns t a b c p over still heard grew =
       added = p.added ++ last;
       grew = trace_then a.world.trace b.world.trace c.world.trace p.added last p.grew grew;
       done = filter-append is_still p.added last ∙ ap (λ (x : List Action). x ++ channel_actions last) p.done
-        ∙ ap (λ (x : List Action). actions_of steps ++ x) (all_still last still) ∙ sym (actions_of-append steps (last_steps t));
+          ∙ ap (λ (x : List Action). actions_of steps ++ x) (all_still last still) ∙ sym (actions_of-append steps (last_steps t));
     }
 
 -- what went out on a channel
@@ -200,6 +199,6 @@ serves_part_sent read s a b ch p =
     record {
       unsent = sent_on ch p.undone;
       sent = ap (λ (xs : List ℕ). sent_on ch a.world.trace ++ xs) (ap (sent_on ch) p.done ∙ sent_on-append ch (channel_actions p.added) p.undone)
-        ∙ sym (append_assoc (sent_on ch a.world.trace) (sent_on ch (channel_actions p.added)) (sent_on ch p.undone))
-        ∙ ap (λ (xs : List ℕ). xs ++ sent_on ch p.undone) (sym (sent_done ch a.world.trace b.world.trace p.added (channel_actions p.added) p.grew refl));
+          ∙ sym (append_assoc (sent_on ch a.world.trace) (sent_on ch (channel_actions p.added)) (sent_on ch p.undone))
+          ∙ ap (λ (xs : List ℕ). xs ++ sent_on ch p.undone) (sym (sent_done ch a.world.trace b.world.trace p.added (channel_actions p.added) p.grew refl));
     }

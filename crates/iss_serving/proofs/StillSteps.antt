@@ -1,5 +1,5 @@
 -- What a session does is neither a write nor a sync, and goes out at the number of records that stand: so it is a good stretch.
-use Rattle.std.proofs.Common.{◌≡◌, ℕ, ◌+◌, ◌≤◌, Bool, true, false, cond, List, [], ◌∷◌, ◌++◌, map, Option, Some, None, refl, sym, ap, subst, ◌∙◌, arith}
+use Rattle.std.proofs.Common.{ℕ, ◌≤◌, Bool, true, false, cond, List, [], ◌∷◌, ◌++◌, map, Option, Some, None, refl, sym, subst, arith}
 use Rattle.iss_edge.specs.declared.outside.Channel.{Channel}
 use Rattle.iss_edge.specs.declared.outside.Action.{Action}
 use Rattle.iss_edge.specs.declared.outside.Action.TheVariants.{Write, Sync, Emit, Dial, Close}

@@ -47,7 +47,7 @@ torn_told level ch subject text bytes tasks waiting x y z w h k l m is d dh e eh
     told_then two (Adds (Close ch ∷ []) []) whole (outer_of x h) (outer_of z l) (outer_of w m)
     (λ a c v p q. torn_sends level ch subject text tasks waiting a p.0 c v p.1.0 p.1.1 q)
     (told_then dialled (Tears ch (ask text)) two (outer_of x h) (outer_of y k) (outer_of z l) (λ a b c p q. (b, (p, q))) (told_dials ch x y h k d dh)
-      (told_tears ch (ask text) y z k l (subst (λ (bs : List ℕ). Told (EmitsPart ch bs) y z) is e) eh))
+    (told_tears ch (ask text) y z k l (subst (λ (bs : List ℕ). Told (EmitsPart ch bs) y z) is e) eh))
     (told_closes ch z w l m closed quiet)
 
 -- a response went out, and its channel was closed

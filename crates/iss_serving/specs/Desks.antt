@@ -1,5 +1,5 @@
 -- A desk: texts that are to go out one after the other, to the gateway each on a channel of its own, and to clients, whose channels they close.
-use Rattle.std.specs.Prelude.{◌≡◌, ℕ, true, false, not, List, [], ◌∷◌, ◌++◌, filter, Option, Some, None}
+use Rattle.std.specs.Prelude.{◌≡◌, ℕ, true, false, not, List, [], ◌∷◌, ◌++◌, filter, Some, None}
 use Rattle.iss_edge.specs.declared.outside.Channel.{Channel}
 use Rattle.iss_edge.specs.declared.outside.Action.TheVariants.{Dial, Close}
 use Rattle.iss_edge.specs.declared.outside.Answered.{Answered}

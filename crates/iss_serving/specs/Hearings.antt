@@ -1,5 +1,5 @@
 -- What an answer of the outside makes of a session.
-use Rattle.std.specs.Prelude.{ℕ, zero, suc, min, Bool, true, false, not, ◌||◌, List, [], ◌∷◌, ◌++◌, map, filter, find, codes, Option, Some, None, Result, Ok, Err, if◌then◌else◌}
+use Rattle.std.specs.Prelude.{ℕ, zero, suc, min, Bool, not, ◌||◌, List, [], ◌∷◌, ◌++◌, filter, find, codes, Option, Some, None, Result, Ok, Err, if◌then◌else◌}
 use Rattle.std.specs.List.{list_any, flat_map}
 use Rattle.iss_edge.specs.declared.outside.Channel.{Channel}
 use Rattle.iss_edge.specs.declared.outside.Arrival.{Arrival}
@@ -92,9 +92,11 @@ fault_response fault = respond (fault_status fault) (http_fault_line (fault_text
 abbrev pub readers_without : Channel → List Reader → List Reader
 readers_without ch readers = filter (λ r. not (same_channel r.ch ch)) readers
 
--- a client whose bytes are these now, where it is this channel's
-abbrev pub reader_with : Channel → List ℕ → Reader → Reader
-reader_with ch bytes r = if same_channel r.ch ch then record r { bytes = bytes } else r
+-- these are the bytes that came on a channel now
+abbrev pub readers_with : Channel → List ℕ → List Reader → List Reader
+readers_with ch bytes [] = []
+readers_with ch bytes (r ∷ readers) =
+    if same_channel r.ch ch then record r { bytes = bytes } ∷ readers else r ∷ readers_with ch bytes readers
 
 -- the bytes that came on a channel so far
 abbrev pub bytes_on : Channel → List Reader → List ℕ
@@ -108,7 +110,7 @@ after_line s ch (Err line) = with_tasks s (to_reply ch (respond 400 line) ∷ []
 
 -- the request that a client's bytes are
 abbrev pub after_request : Readers → Session → Channel → List ℕ → Request → Session
-after_request read s ch bytes more = record s { readers = map (reader_with ch bytes) s.readers }
+after_request read s ch bytes more = record s { readers = readers_with ch bytes s.readers }
 after_request read s ch bytes (body text) = after_line (record s { readers = readers_without ch s.readers }) ch (read.line text)
 after_request read s ch bytes (faulty fault) =
     with_tasks (record s { readers = readers_without ch s.readers }) (to_reply ch (fault_response fault) ∷ [])

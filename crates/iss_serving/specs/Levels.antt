@@ -1,6 +1,5 @@
--- The records that a session makes, and the levels at which its steps go out.
-use Rattle.std.specs.Prelude.{◌≡◌, ℕ, ◌≤◌, true, List, [], ◌∷◌, ◌++◌}
-use Rattle.iss_model.specs.declared.input.Record.{Record}
+-- The levels at which a session's steps go out.
+use Rattle.std.specs.Prelude.{◌≡◌, ℕ, ◌≤◌, true, List, [], ◌∷◌}
 use Rattle.iss_edge.specs.Stretches.{Step, is_still}
 
 -- levels that never fall, from one number of records up to another
@@ -12,8 +11,3 @@ LevelsRise low high (step ∷ steps) = (low ≤ step.level) × LevelsRise step.l
 abbrev pub AreStillAt : ℕ → List Step → Type 0
 AreStillAt level [] = Unit {0}
 AreStillAt level (step ∷ steps) = (is_still step.action ≡ true) × (step.level ≡ level) × AreStillAt level steps
-
--- records that were there before, and then more
-pub record IsLonger (before now : List Record) : Type 0 where
-  pub more : List Record
-  pub is : now ≡ before ++ more

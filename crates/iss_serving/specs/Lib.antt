@@ -11,3 +11,4 @@ pub mod Sendings
 pub mod Serving
 pub mod Accounts
 pub mod Accepted
+pub mod Turns

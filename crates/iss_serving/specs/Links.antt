@@ -1,5 +1,5 @@
 -- Links: channels to the gateway on which an answer is awaited.
-use Rattle.std.specs.Prelude.{ℕ, Bool, true, false, not, ◌==◌, List, [], ◌∷◌, ◌++◌, filter, map, Option, Some, None, if◌then◌else◌}
+use Rattle.std.specs.Prelude.{ℕ, Bool, true, not, ◌==◌, List, [], ◌∷◌, ◌++◌, filter, Option, Some, None, if◌then◌else◌}
 use Rattle.iss_edge.specs.declared.outside.Channel.{Channel}
 use Rattle.iss_model.specs.declared.call.Opened.{Opened}
 use Rattle.iss_model.specs.declared.call.CallId.{CallId}
@@ -51,13 +51,15 @@ piece_of (Some piece) = piece
 abbrev pub links_without : Channel → List Link → List Link
 links_without ch links = filter (λ link. not (same_channel link.ch ch)) links
 
--- a link with the bytes more, where it is this channel's
-abbrev pub link_with : Channel → List ℕ → Link → Link
-link_with ch piece link = if same_channel link.ch ch then record link { bytes = link.bytes ++ piece } else link
+-- the bytes more came on this channel
+abbrev pub links_with : Channel → List ℕ → List Link → List Link
+links_with ch piece [] = []
+links_with ch piece (link ∷ links) =
+    if same_channel link.ch ch then record link { bytes = link.bytes ++ piece } ∷ links else link ∷ links_with ch piece links
 
 -- the links after a take: the bytes more on this channel, or without it once its answer was heard
 abbrev pub links_after : Channel → List ℕ → List Link → Heard → List Link
-links_after ch piece links unfinished = map (link_with ch piece) links
+links_after ch piece links unfinished = links_with ch piece links
 links_after ch piece links _ = links_without ch links
 
 -- garbled may be told early only of bytes that no head begins with, whatever comes behind them

@@ -1,8 +1,7 @@
 -- Sessions: what stands while a run serves, and what comes next.
-use Rattle.std.specs.Prelude.{ℕ, zero, suc, List, [], ◌∷◌, ◌++◌, length, find, codes, Option, Some, None, Result, bytes_eq}
+use Rattle.std.specs.Prelude.{ℕ, zero, suc, List, [], ◌∷◌, ◌++◌, length, find, Option, Some, None, Result, bytes_eq}
 use Rattle.std.specs.List.{flat_map}
 use Rattle.iss_edge.specs.declared.outside.Channel.{Channel}
-use Rattle.iss_edge.specs.Stretches.{Step}
 use Rattle.iss_model.specs.declared.call.Opened.{Opened}
 use Rattle.iss_model.specs.declared.input.Outcome.{Outcome}
 use Rattle.iss_model.specs.declared.input.Input.{Input}

@@ -1,5 +1,5 @@
 //! Laws of sessions: how they are put together, and what they leave.
-ghost use Rattle.std.specs.Prelude.{◌≡◌, ℕ, ◌≤◌, List, ◌++◌};
+ghost use Rattle.std.specs.Prelude.{◌≡◌, ℕ, ◌+◌, ◌≤◌, List, ◌++◌};
 ghost use Rattle.iss_edge.specs.Outer.{Outer};
 ghost use Rattle.iss_edge.specs.Stretches.{actions_of, GoesOn};
 ghost use Rattle.iss_edge.specs.World.{sent_on};
@@ -12,6 +12,7 @@ ghost use Rattle.iss_serving.specs.Sessions.{Readers, Session, count, session_of
 ghost use Rattle.iss_serving.specs.Happenings.{session_after, session_steps, last_steps, Fits, IsComplete};
 ghost use Rattle.iss_serving.specs.Accepted.{lines_judged, session_records};
 ghost use Rattle.iss_serving.specs.Levels.{LevelsRise};
+ghost use Rattle.iss_serving.specs.Turns.{waits_in};
 ghost use Rattle.iss_serving.specs.Sendings.{Sends};
 ghost use Rattle.iss_serving.specs.Serving.{Serves, ServesAll};
 
@@ -58,6 +59,13 @@ pub fn sessions_judge_lines()
 pub fn levels_never_fall()
     ensures { (read : Readers) → (s : Session) → (happenings : List Happening)
         → LevelsRise (count s) (count (session_after read s happenings)) (session_steps read s happenings) }
+{}
+
+/// A session waits no more often than it has turns.
+#[tactic(auto, using(crate::proofs::Waits::waits_within))]
+pub fn waits_are_turns()
+    ensures { (read : Readers) → (s : Session) → (happenings : List Happening) → Fits read s happenings
+        → waits_in happenings + (session_after read s happenings).turns ≤ s.turns }
 {}
 
 /// What a session does up to j records, and the closes at its end, are stretches that are good from j to j: a stop within them

@@ -10,4 +10,7 @@ mod laws;
 
 pub use accounts::accounts_stay_local;
 pub use channels::channels_are_closed;
-pub use laws::{heard_decides_happenings, parts_follow, levels_never_fall, sessions_judge_lines, sessions_are_good_stretches, texts_are_sent};
+pub use laws::{
+    heard_decides_happenings, levels_never_fall, parts_follow, sessions_are_good_stretches,
+    sessions_judge_lines, texts_are_sent, waits_are_turns,
+};
