@@ -20,7 +20,7 @@ use Rattle.iss_event.specs.declared.line.FormFault.{FormFault}
 use Rattle.iss_event.specs.declared.line.FormFault.TheVariants.{Long}
 use Rattle.iss_event.specs.Kinds.{kind_of_text, kind_in, kind_of}
 use Rattle.iss_event.specs.Inputs.{input_of_kind}
-use Rattle.iss_event.specs.Readings.{Opened, as_fault, stamp_said, opened_object, opened_if_found, opened_line, said_line, line_read}
+use Rattle.iss_event.specs.Readings.{as_fault, stamp_said, opened_object, opened_if_found, opened_line, said_line, line_read}
 use Rattle.iss_event.proofs.Given.{user-gives, card-gives, move-gives, product-gives, group-gives, control-gives, set-gives, switch-gives}
 use Rattle.iss_event.proofs.GivenMoney.{load-gives, authorization-gives, increment-gives, reversal-gives, clearing-gives, refund-gives}
 use Rattle.iss_event.proofs.LinesInForm.{said-is}

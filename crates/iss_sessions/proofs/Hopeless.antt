@@ -2,7 +2,7 @@
 use Rattle.std.proofs.Common.{◌≡◌, refl, ap, ℕ, suc, List, [], ◌∷◌, ◌++◌, length, Option, Some, None}
 use Rattle.std.specs.Prelude.{◌==◌, option_and_then, option_map}
 use Rattle.std.specs.List.{slice_split}
-use Rattle.iss_http.specs.Heads.{Lines, RequestHead, without_return, in_front, ended_lines, field_lines, head_lines, request_line, request_with, request_head_of, request_head, with_start}
+use Rattle.iss_http.specs.Heads.{Lines, without_return, in_front, ended_lines, field_lines, head_lines, request_line, request_with, request_head_of, request_head, with_start}
 use Rattle.iss_http.specs.Requests.{IsHopelessRequest}
 
 no_line : (words : List (List ℕ)) → request_line ([] ∷ words) ≡ None

@@ -1,5 +1,5 @@
 -- The words in which worked sessions are told.
-use Rattle.std.specs.Prelude.{◌≡◌, ℕ, true, false, List, [], ◌∷◌, ◌++◌, length, codes, Option, Some, None}
+use Rattle.std.specs.Prelude.{◌≡◌, ℕ, true, false, List, [], ◌∷◌, ◌++◌, codes, Option, Some, None}
 use Rattle.std.specs.List.{filter_map}
 use Prim.Native.String.{String}
 use Rattle.iss_edge.specs.declared.outside.Channel.{Channel}
@@ -9,7 +9,7 @@ use Rattle.iss_edge.specs.declared.outside.Action.TheVariants.{Emit, Dial, Close
 use Rattle.iss_edge.specs.declared.outside.Answered.{Answered}
 use Rattle.iss_edge.specs.declared.outside.Answered.TheVariants.{Waited, Took, Dialled, Emitted}
 use Rattle.iss_edge.specs.Stretches.{Step, actions_of}
-use Rattle.iss_serving.specs.Items.{Happening, hears, judges}
+use Rattle.iss_serving.specs.Items.{Happening, hears}
 use Rattle.iss_serving.specs.Sessions.{Session, count}
 use Rattle.iss_serving.specs.Happenings.{session_after, session_steps, last_steps, Fits, IsComplete}
 use Rattle.iss_sessions.specs.Program.{program_readers}

@@ -1,9 +1,9 @@
 -- Worked sessions with clients alone.
-use Rattle.std.specs.Prelude.{ℕ, List, [], ◌∷◌, ◌++◌, codes, true, false}
+use Rattle.std.specs.Prelude.{[], ◌∷◌, codes, true, false}
 use Rattle.iss_edge.specs.declared.outside.Action.TheVariants.{Emit, Close}
 use Rattle.iss_model.specs.run.Runs.{Run, run_after}
 use Rattle.iss_scripts.specs.WorkedRuns.{fresh_device, user_of}
-use Rattle.iss_serving.specs.Items.{Happening, judges}
+use Rattle.iss_serving.specs.Items.{judges}
 use Rattle.iss_serving.specs.Sessions.{session_of}
 use Rattle.iss_sessions.specs.Telling.{WorkedSession, channel, comes, is_ready, over, gives, gives_no_head, goes_out, tears, asks, post, new_user, response, closes}
 

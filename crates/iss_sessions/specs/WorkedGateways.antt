@@ -1,9 +1,9 @@
 -- Worked sessions with the gateway.
-use Rattle.std.specs.Prelude.{ℕ, List, [], ◌∷◌, ◌++◌, codes, true, false}
+use Rattle.std.specs.Prelude.{[], ◌∷◌, ◌++◌, codes}
 use Rattle.iss_model.specs.run.Runs.{Run, run_after}
 use Rattle.iss_scripts.specs.Scripts as script
 use Rattle.iss_scripts.specs.WorkedRuns.{fresh_device, line}
-use Rattle.iss_serving.specs.Items.{Happening, judges}
+use Rattle.iss_serving.specs.Items.{judges}
 use Rattle.iss_serving.specs.Sessions.{session_of}
 use Rattle.iss_serving.specs.Happenings.{session_after}
 use Rattle.iss_sessions.specs.Program.{program_readers}
