@@ -1,5 +1,5 @@
 #!/usr/bin/env bash
-# The worked scripts: each gets the replies that stand beside it, and all of them in a row get as many lines as one by one.
+# The worked scripts: each is told what stands beside it, and of all of them in a row each line is told something.
 . "$(dirname "$0")/../program.sh"
 
 scripts=examples/scripts
@@ -28,5 +28,5 @@ cat "$scripts"/*.jsonl >"$room/row"
 issue dry <"$room/row" >"$room/out"
 ended 'all scripts in a row' 0 ''
 told=$(wc -l <"$room/out")
-apart=$(cat "$scripts"/*.out | wc -l)
-[ "$told" = "$apart" ] || fail "all scripts in a row: $told lines of replies, and $apart one by one"
+lines=$(grep -c '[^[:blank:]]' "$room/row")
+[ "$told" -ge "$lines" ] || fail "all scripts in a row: $told lines that are told, and $lines that came"

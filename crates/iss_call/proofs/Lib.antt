@@ -5,3 +5,4 @@ pub mod DueOrder
 pub mod TxnOrder
 pub mod ByNumber
 pub mod Closing
+pub mod Found

@@ -167,6 +167,21 @@ impl Calls {
         Ok(asked)
     }
 
+    /// The asked calls of a transaction as they were opened, by number.
+    pub fn asked_of(&self, alloc: Global, txn: &Token) -> Result<Vec<Opened>, AllocError>
+        ensures { IfOk result (λ v. v.items ≡ map (λ c. c.opened) (asked_of self.now txn.now)) }
+    {
+        let _calls = &self.calls;
+        let ids = self.of_txn(alloc, txn)?;
+        let mut asked = Vec::new(alloc);
+        for id in &ids {
+            if let Some(call) = self.get(*id) {
+                asked.push(call.opened)?;
+            }
+        }
+        Ok(asked)
+    }
+
     /// Closes a call that is asked.
     fn close_asked(&mut self, id: CallId, how: How)
         requires { state_in self.old id.0 ≡ call_state.Asked }

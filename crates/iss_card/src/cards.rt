@@ -165,6 +165,13 @@ impl Cards {
         }
     }
 
+    /// The card of that name as it stands, or `None` where there is none.
+    pub fn card(&self, name: &Token) -> Option<Card>
+        ensures { result ≡ card_named name.now self.now.cards }
+    {
+        self.issued.get(name).copied()
+    }
+
     /// A user's state, or `None` where there is no user of that name.
     pub fn user(&self, user: &Token) -> Option<UserState>
         ensures { result ≡ option_map (λ found. found.state) (user_named user.now self.now.users) }

@@ -11,4 +11,5 @@ mod standing;
 mod tests;
 
 pub use cards::{CardFault, Cards};
+pub use moves::{card_may_move, user_may_move};
 pub use standing::Standing;

@@ -5,7 +5,7 @@ ghost use Rattle.iss_model.specs.rules.Settings.{card_may_move, user_may_move, f
 use iss_model::{CardState, UserState};
 
 /// A user may be suspended and made active again, and closed once and for all.
-pub(crate) fn user_may_move(from: UserState, to: UserState) -> bool
+pub fn user_may_move(from: UserState, to: UserState) -> bool
     ensures { result ≡ user_may_move from to }
 {
     match from {
@@ -16,7 +16,7 @@ pub(crate) fn user_may_move(from: UserState, to: UserState) -> bool
 }
 
 /// A card may be activated, suspended and made active again, and terminated once and for all.
-pub(crate) fn card_may_move(from: CardState, to: CardState) -> bool
+pub fn card_may_move(from: CardState, to: CardState) -> bool
     ensures { result ≡ card_may_move from to }
 {
     match from {

@@ -1,5 +1,6 @@
 pub mod Standing
 pub mod RowSums
+pub mod RowPlaces
 pub mod FitPieces
 pub mod FitCalls
 pub mod Reaching

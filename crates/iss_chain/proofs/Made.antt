@@ -1,6 +1,6 @@
 -- The entries that are made of what was found are those of the call.
-use Rattle.std.proofs.Common.{◌≡◌, ℕ, ◌<◌, ℤ, pos, ◌+ℤ◌, ◌-ℤ◌, List, [], ◌++◌, length, refl, sym, ap, ap₂, ◌∙◌, arith}
-use Rattle.std.specs.Prelude.{Option, Some, None, slice_get, int_lt}
+use Rattle.std.proofs.Common.{◌≡◌, ℕ, ℤ, pos, ◌+ℤ◌, ◌-ℤ◌, List, [], ◌++◌, refl, sym, ap, ap₂, subst, ◌∙◌}
+use Rattle.std.specs.Prelude.{Option, Some, None, IfSome, slice_get, int_lt}
 use Rattle.std.specs.Option.{option_map}
 use Rattle.std.specs.List.{IsDistinct}
 use Rattle.std.specs.Str.{bytes_eq}
@@ -12,7 +12,7 @@ use Rattle.iss_model.specs.rules.Facts.{not_below}
 use Rattle.iss_model.specs.rules.Reasons.{is_some_with}
 use Rattle.iss_model.specs.rules.CardReasons.{passes_cleared}
 use Rattle.iss_model.specs.rules.CardEntries.{owed_to_programme}
-use Rattle.iss_model.specs.rules.Pieces.{Parts}
+use Rattle.iss_model.specs.rules.Pieces.{Parts, parts_held}
 use Rattle.iss_hold.specs.declared.hold.Hold.{Hold}
 use Rattle.iss_hold.specs.Holdings.{now_of, tokens, parts_of}
 use Rattle.iss_hold.specs.Indexes.{place_in}
@@ -40,30 +40,40 @@ made_for c name hold make e parts =
 pub made_none : (c : ChainNow) (name : List ℕ) (make : TxnNow → Parts → List Entry) → txn_named name c.holdings.txns ≡ None → [] ≡ entries_for c (txn_named name c.holdings.txns) make
 made_none c name make e = ap (λ (o : Option TxnNow). entries_for c o make) (sym e)
 
+-- what a known transaction holds, by its own token
+pub held_so : (c : ChainNow) (name : List ℕ) (r : Option Hold) → option_map now_of r ≡ txn_named name c.holdings.txns
+    → IfSome r (λ hold. parts_of hold ≡ parts_in c.holdings name) → IfSome r (λ hold. parts_of hold ≡ parts_held (chain_facts c) hold.txn)
+held_so c name None named parts = tt
+held_so c name (Some hold) named parts = parts ∙ ap (λ (k : List ℕ). parts_in c.holdings k) (sym (found_token name c.holdings.txns (now_of hold) (sym named)))
+
 same_now : (x y : TxnNow) → Some x ≡ Some y → x ≡ y
 same_now x y e = cc
 
--- a place is inside of the rows, which are as many as the transactions
-pub row_within : (name : List ℕ) (txns : List TxnNow) (rows : List (Option PostSums)) (i : ℕ) → length rows ≡ length txns → Some i ≡ place_in name (tokens txns) → i < length rows
-row_within name txns rows i paired e =
-    let there = found name txns i (sym e) in
-    let within = there.within in
-    omega (arith, paired, within)
-
--- a refund, by what stands at the place of its transaction
-pub refund_made : (ledger : Kept) (h : Holdings) (rows : List (Option PostSums)) (i : ℕ) (name : List ℕ) (hold : Hold) (s : PostSums) (owed amount : ℕ)
+-- what the programme is owed, by what stands at the place of a transaction
+pub owed_at : (ledger : Kept) (h : Holdings) (rows : List (Option PostSums)) (i : ℕ) (name : List ℕ) (hold : Hold) (s : PostSums) (owed : ℕ)
     → Some i ≡ place_in name (tokens h.txns) → IsDistinct bytes_eq (tokens h.txns) → slice_get h.txns i ≡ Some (now_of hold) → parts_of hold ≡ parts_in h hold.txn.token
     → Some s ≡ option_map row_sums (slice_get rows i) → owed ≡ not_below (s.paid -ℤ pos hold.p)
-    → refund_money_entries hold.txn owed amount ≡ entries_of_refund (chain_with ledger h rows) name amount
-refund_made ledger h rows i name hold s owed amount place once at parts row is =
-    let c = chain_with ledger h rows in
+    → IfSome (txn_named name h.txns) (λ t. owed ≡ owed_to_programme (chain_facts (chain_with ledger h rows)) t.txn)
+owed_at ledger h rows i name hold s owed place once at parts row is =
     let there = found name h.txns i (sym place) in
     let same : there.now ≡ now_of hold = same_now there.now (now_of hold) (sym there.stands ∙ at) in
     let token : hold.txn.token ≡ name = ap (λ (x : TxnNow). x.txn.token) (sym same) ∙ there.token in
     let paid : kept_at (txn_sums_of h.txns rows).paid hold.txn.token ≡ s.paid =
     ap (λ (k : List ℕ). kept_at (txn_sums_of h.txns rows).paid k) token ∙ row_kept (λ q. q.paid) refl (tokens h.txns) rows i name s once there.name_there (sym row) in
-    ap (λ (n : ℕ). refund_money_entries hold.txn n amount) (is ∙ ap₂ (λ (z : ℤ) (p : ℕ). not_below (z -ℤ pos p)) (sym paid) (ap (λ (q : Parts). q.p) parts))
-    ∙ ap (λ (o : Option TxnNow). entries_for c o (λ now held. refund_money_entries now.txn (owed_to_programme (chain_facts c) now.txn) amount)) (sym (there.named ∙ ap (λ (x : TxnNow). Some x) same))
+    let owes : owed ≡ owed_to_programme (chain_facts (chain_with ledger h rows)) hold.txn = is ∙ ap₂ (λ (z : ℤ) (p : ℕ). not_below (z -ℤ pos p)) (sym paid) (ap (λ (q : Parts). q.p) parts) in
+    subst (λ (o : Option TxnNow). IfSome o (λ t. owed ≡ owed_to_programme (chain_facts (chain_with ledger h rows)) t.txn)) (sym (there.named ∙ ap (λ (x : TxnNow). Some x) same)) owes
+
+-- of an unknown transaction nothing is said
+pub owed_none : (c : ChainNow) (name : List ℕ) (owed : ℕ) → txn_named name c.holdings.txns ≡ None → IfSome (txn_named name c.holdings.txns) (λ t. owed ≡ owed_to_programme (chain_facts c) t.txn)
+owed_none c name owed e = subst (λ (o : Option TxnNow). IfSome o (λ t. owed ≡ owed_to_programme (chain_facts c) t.txn)) (sym e) tt
+
+-- a refund, by what is owed
+pub refund_made : (c : ChainNow) (name : List ℕ) (hold : Hold) (owed amount : ℕ) → Some (now_of hold) ≡ txn_named name c.holdings.txns
+    → IfSome (txn_named name c.holdings.txns) (λ t. owed ≡ owed_to_programme (chain_facts c) t.txn) → refund_money_entries hold.txn owed amount ≡ entries_of_refund c name amount
+refund_made c name hold owed amount e owes =
+    let is : owed ≡ owed_to_programme (chain_facts c) hold.txn = subst (λ (o : Option TxnNow). IfSome o (λ t. owed ≡ owed_to_programme (chain_facts c) t.txn)) (sym e) owes in
+    ap (λ (n : ℕ). refund_money_entries hold.txn n amount) is
+    ∙ ap (λ (o : Option TxnNow). entries_for c o (λ now held. refund_money_entries now.txn (owed_to_programme (chain_facts c) now.txn) amount)) e
 
 -- whether a refund passes what was cleared, by the row of its transaction
 pub over_by : (ledger : Kept) (h : Holdings) (rows : List (Option PostSums)) (i : ℕ) (name : List ℕ) (s : PostSums) (amount : ℕ)

@@ -186,7 +186,7 @@ tokens_ended : (k : List ℕ) (txns : List TxnNow) → tokens (map (txn_after_en
 tokens_ended k [] = refl
 tokens_ended k (t ∷ txns) = ap₂ (λ (n : List ℕ) (ns : List (List ℕ)). n ∷ ns) (its_token k t (bytes_eq k t.txn.token)) (tokens_ended k txns)
 
-ended_length : (k : List ℕ) (txns : List TxnNow) → length (map (txn_after_end k) txns) ≡ length txns
+pub ended_length : (k : List ℕ) (txns : List TxnNow) → length (map (txn_after_end k) txns) ≡ length txns
 ended_length k [] = refl
 ended_length k (t ∷ txns) = ap suc (ended_length k txns)
 
@@ -199,6 +199,3 @@ sums_ended h k rows =
       refunded = after_changes nothing_kept (row_changes (λ q. q.refunded) (same j) rows);
       paid = after_changes nothing_kept (row_changes (λ q. q.paid) (same j) rows);
     }
-
-pub ended_paired : (h : Holdings) (k : List ℕ) (rows : List (Option PostSums)) → length rows ≡ length h.txns → length rows ≡ length (with_end h k).txns
-ended_paired h k rows e = e ∙ sym (ended_length k h.txns)

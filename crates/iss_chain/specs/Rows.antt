@@ -1,5 +1,10 @@
--- What is kept of each transaction's posts: a row for each, in the order in which the transactions began.
-use Rattle.std.specs.Prelude.{◌≡◌, ℕ, ℤ, pos, ◌+ℤ◌, List, [], ◌∷◌, length, Option, Some, None, unwrap_or}
+-- What is kept of each transaction's posts: a row for each, in the order in which the transactions began, and the tree that has those of
+-- the transactions which a post was made for.
+use Rattle.std.specs.Prelude.{◌≡◌, ℕ, zero, suc, ◌≤◌, ℤ, pos, ◌+ℤ◌, List, [], ◌∷◌, length, Option, Some, None, unwrap_or}
+use Rattle.std.specs.BTreeMap as tree
+use Rattle.std.specs.BTreeMap.{BTreeMap}
+use Rattle.std.specs.declared.cmp.Ordering.{Ordering}
+use Rattle.std.specs.Ordering.{nat_cmp}
 use Rattle.iss_model.specs.declared.account.Account.{Account}
 use Rattle.iss_model.specs.Sums.{Change, cleared_by, refunded_by, paid_by}
 use Rattle.iss_model.specs.state.Kept.{IsSmall, nothing_kept, after_changes}
@@ -50,11 +55,28 @@ txn_sums_of txns rows =
       paid = after_changes nothing_kept (row_changes (λ s. s.paid) (tokens txns) rows);
     }
 
+-- the order of places
+abbrev pub by_place : ℕ → ℕ → Ordering
+by_place a b = nat_cmp a b
+
+-- the sums at a place, where a post was made for the transaction there
+abbrev pub row_in : BTreeMap ℕ (Option PostSums) → ℕ → Option PostSums
+row_in sums place = unwrap_or (tree.get by_place sums place) None
+
+-- what stands at so many places, from one on
+abbrev pub rows_from : (ℕ → Option PostSums) → ℕ → ℕ → List (Option PostSums)
+rows_from row place zero = []
+rows_from row place (suc count) = row place ∷ rows_from row (suc place) count
+
+-- a row for each transaction
+abbrev pub rows_in : Books → List (Option PostSums)
+rows_in b = rows_from (row_in b.sums) 0 (length b.holds.txns)
+
 -- the chain that is kept in these books
 abbrev pub chain_of : Books → ChainNow
-chain_of b = record { balances = b.ledger; holdings = b.holds; txn_sums = txn_sums_of b.holds.txns b.sums.items }
+chain_of b = record { balances = b.ledger; holdings = b.holds; txn_sums = txn_sums_of b.holds.txns (rows_in b) }
 
--- each transaction has its row, and each sum is small
+-- there are no sums after the last transaction's, and each sum is small
 pub record AreKept (b : Books) : Type 0 where
-  pub paired : length b.sums.items ≡ length b.holds.txns
+  pub none_after : (place : ℕ) → length b.holds.txns ≤ place → tree.get by_place b.sums place ≡ None
   pub small : KeepsSmall (chain_of b)

@@ -3,23 +3,25 @@ ghost use Rattle.std.specs.Prelude.{◌≡◌, ◌<◌, length, fold, slice_get,
 ghost use Rattle.std.specs.Option.{option_map};
 ghost use Rattle.iss_model.specs.declared.entry.Entry.TheVariants as entry;
 ghost use Rattle.iss_model.specs.rules.Activity.{txn_named};
-ghost use Rattle.iss_model.specs.state.Cores.{with_post};
 ghost use Rattle.iss_chain.specs.Values.{no_chain, chain_after_entry};
-ghost use Rattle.iss_chain.specs.Entering.{AreSumsSmall, KeepsSmall, StaysSmall, IsNewTxn, PostFits, AreFit, IsEnterable};
-ghost use Rattle.iss_chain.specs.Rows.{row_sums, txn_sums_of, chain_of, AreKept};
+ghost use Rattle.iss_chain.specs.Entering.{KeepsSmall, StaysSmall, IsNewTxn, PostFits, AreFit, IsEnterable};
+ghost use Rattle.iss_chain.specs.Rows.{row_sums, rows_in, chain_of, AreKept};
 
+use crate::rows::{make_room, set_sums, sums_of};
 use crate::sums::PostSums;
 use iss_hold::Holds;
 use iss_ledger::Ledger;
 use iss_model::{Account, Entry, Token, Txn};
 use std::alloc::{AllocError, Global};
+use std::collections::BTreeMap;
 
-/// The balances, the holds, and for each transaction in the order of the holds its sums, where a post was made for it.
+/// The balances, the holds, and the sums of the transactions that a post was made for, by their places in the order of
+/// the holds.
 #[derive(Drop)]
 pub(crate) struct Books {
     pub(crate) ledger: Ledger,
     pub(crate) holds: Holds,
-    pub(crate) sums: Vec<Option<PostSums>>,
+    pub(crate) sums: BTreeMap<usize, Option<PostSums>>,
 }
 
 impl Books {
@@ -31,19 +33,16 @@ impl Books {
         Ok(Books {
             ledger: Ledger::new(alloc)?,
             holds: Holds::new(alloc)?,
-            sums: Vec::new(alloc),
+            sums: BTreeMap::new(alloc),
         })
     }
 
     /// The sums of the transaction at a place.
     pub(crate) fn sums_at(&self, place: usize) -> PostSums
-        requires { place < length self.now.sums.items }
-        ensures { Some result ≡ option_map row_sums (slice_get self.now.sums.items place) }
+        requires { place < length self.now.holds.txns }
+        ensures { Some result ≡ option_map row_sums (slice_get (rows_in self.now) place) }
     {
-        match self.sums[place] {
-            Some(sums) => sums,
-            None => PostSums::none(),
-        }
+        sums_of(&self.sums, place)
     }
 
     /// Enters entries one by one. Those of other kinds than a chain's change nothing.
@@ -110,9 +109,7 @@ impl Books {
         ensures unchanged { OnErr result (chain_of self.new ≡ chain_of self.old) }
         ensures kept { AreKept self.new }
     {
-        self.sums.reserve(1)?;
         self.holds.start(txn)?;
-        self.sums.push(None)?;
         Ok(())
     }
 
@@ -131,28 +128,37 @@ impl Books {
         ensures unchanged { OnErr result (chain_of self.new ≡ chain_of self.old) }
         ensures kept { AreKept self.new }
     {
-        self.ledger.post(from, to, amount)?;
-        if let Some(txn) = txn {
-            self.count(txn, from, to, amount);
+        match txn {
+            Some(txn) => self.post_for(from, to, amount, txn),
+            None => {
+                self.ledger.post(from, to, amount)?;
+                Ok(())
+            }
         }
-        Ok(())
     }
 
-    /// Counts a post for a transaction.
-    fn count(&mut self, txn: &Token, from: &Account, to: &Account, amount: u64)
-        requires paired { length self.old.sums.items ≡ length self.old.holds.txns }
+    /// Moves money for a transaction, and counts it.
+    fn post_for(
+        &mut self,
+        from: &Account,
+        to: &Account,
+        amount: u64,
+        txn: &Token,
+    ) -> Result<(), AllocError>
+        requires kept { AreKept self.old }
         requires known { IsSome (txn_named txn.now self.old.holds.txns) }
-        requires before { AreSumsSmall (txn_sums_of self.old.holds.txns self.old.sums.items) }
-        requires after { AreSumsSmall (with_post (txn_sums_of self.old.holds.txns self.old.sums.items) (entry.Post from.now to.now amount (Some txn.now))) }
-        ensures paired { length self.new.sums.items ≡ length self.new.holds.txns }
-        ensures counted { chain_of self.new ≡ record (chain_of self.old) {
-          txn_sums = with_post (txn_sums_of self.old.holds.txns self.old.sums.items) (entry.Post from.now to.now amount (Some txn.now));
-        } }
+        requires small { KeepsSmall (chain_after_entry (chain_of self.old) (entry.Post from.now to.now amount (Some txn.now))) }
+        ensures entered { OnOk result (chain_of self.new ≡ chain_after_entry (chain_of self.old) (entry.Post from.now to.now amount (Some txn.now))) }
+        ensures unchanged { OnErr result (chain_of self.new ≡ chain_of self.old) }
+        ensures kept { AreKept self.new }
     {
         match self.holds.place(txn) {
             Some(place) => {
-                let sums = self.sums_at(place).after(from, to, amount);
-                self.sums[place] = Some(sums);
+                make_room(&mut self.sums, place)?;
+                self.ledger.post(from, to, amount)?;
+                let sums = sums_of(&self.sums, place).after(from, to, amount);
+                set_sums(&mut self.sums, place, sums);
+                Ok(())
             }
             None => unreachable!(),
         }

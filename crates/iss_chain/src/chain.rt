@@ -1,6 +1,6 @@
 //! The chain: transactions over the holds and the ledger.
-ghost use Rattle.std.specs.Prelude.{◌≡◌, [], ◌∷◌, not, length, map, fold, IfOk, OnOk, OnErr, IsSome};
-ghost use Rattle.std.specs.Option.{option_copied, option_map};
+ghost use Rattle.std.specs.Prelude.{◌≡◌, ◌<◌, ◌^◌, [], ◌∷◌, not, length, map, fold, IfOk, OnOk, OnErr, IsSome, IfSome};
+ghost use Rattle.std.specs.Option.{option_map};
 ghost use Rattle.std.specs.FinMap as finite;
 ghost use Rattle.iss_model.specs.declared.entry.Entry.TheVariants as entry;
 ghost use Rattle.iss_model.specs.Sums.{account_key, part_key};
@@ -10,6 +10,9 @@ ghost use Rattle.iss_model.specs.rules.Facts.{balance_in, held_in, available_in}
 ghost use Rattle.iss_model.specs.rules.Reasons.{is_some_with};
 ghost use Rattle.iss_model.specs.rules.CardReasons.{passes_cleared};
 ghost use Rattle.iss_model.specs.rules.Due.{txn_due, is_quiet};
+ghost use Rattle.iss_model.specs.rules.Pieces.{parts_held};
+ghost use Rattle.iss_model.specs.rules.CardEntries.{owed_to_programme};
+ghost use Rattle.iss_hold.specs.Holdings.{now_of, parts_of, whole_of};
 ghost use Rattle.iss_hold.specs.Expiries.{txns_due};
 ghost use Rattle.iss_chain.specs.Values.{no_chain, chain_after_entry, chain_facts, txn_state};
 ghost use Rattle.iss_chain.specs.Calls.{load_money_entries, entries_of_fund, entries_of_reverse, entries_before_end, entries_of_clear, entries_of_refund, entries_of_end};
@@ -17,6 +20,7 @@ ghost use Rattle.iss_chain.specs.Entering.{IsNewTxn, StaysSmall, AreFit, IsEnter
 
 use crate::books::Books;
 use crate::state::TxnState;
+use iss_hold::Hold;
 use iss_model::{Account, Currency, Entry, Part, Token, Txn};
 use std::alloc::{AllocError, Global};
 use std::marker::Model;
@@ -188,6 +192,22 @@ impl Chain {
         self.books.enter_all(entries)
     }
 
+    /// A transaction with what it holds, `None` exactly where it is unknown.
+    pub fn hold(&self, txn: &Token) -> Option<Hold>
+        ensures txn { option_map now_of result ≡ txn_named txn.now self.now.holdings.txns }
+        ensures parts { IfSome result (λ hold. parts_of hold ≡ parts_held (chain_facts self.now) hold.txn) }
+        ensures small { IfSome result (λ hold. whole_of hold < 2 ^ 62) }
+    {
+        self.books.holds.get(txn)
+    }
+
+    /// What the programme has paid for a transaction, hasn't got back and doesn't hold. Of an unknown one it is nothing.
+    pub fn owed(&self, txn: &Token) -> u64
+        ensures { IfSome (txn_named txn.now self.now.holdings.txns) (λ t. result ≡ owed_to_programme (chain_facts self.now) t.txn) }
+    {
+        self.books.owed(txn)
+    }
+
     /// Whether a transaction is known, and whether it has ended.
     pub fn state(&self, txn: &Token) -> TxnState
         ensures { result ≡ txn_state (txn_named txn.now self.now.holdings.txns) }
@@ -200,8 +220,8 @@ impl Chain {
     }
 
     /// The transaction of a token, `None` exactly where it isn't known.
-    pub fn txn(&self, txn: &Token) -> Option<&Txn>
-        ensures { option_copied result ≡ option_map (λ t. t.txn) (txn_named txn.now self.now.holdings.txns) }
+    pub fn txn(&self, txn: &Token) -> Option<Txn>
+        ensures { result ≡ option_map (λ t. t.txn) (txn_named txn.now self.now.holdings.txns) }
     {
         self.books.holds.txn(txn)
     }

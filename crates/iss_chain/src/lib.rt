@@ -10,7 +10,8 @@ mod books;
 mod chain;
 mod laws;
 mod making;
-mod pieces;
+pub mod pieces;
+mod rows;
 mod state;
 mod sums;
 #[cfg(test)]

@@ -1,10 +1,11 @@
 //! The entries of each call on a transaction. Of an unknown one there are none.
-ghost use Rattle.std.specs.Prelude.{◌≡◌, ◌<◌, ◌^◌, ◌++◌, ◌-ℤ◌, pos, length, IfOk, OnOk};
+ghost use Rattle.std.specs.Prelude.{◌≡◌, ◌<◌, ◌^◌, ◌++◌, ◌-ℤ◌, pos, length, IfOk, IfSome, OnOk};
 ghost use Rattle.iss_model.specs.state.Kept.{IsSmall};
 ghost use Rattle.iss_model.specs.rules.Activity.{txn_named};
 ghost use Rattle.iss_model.specs.rules.Facts.{not_below};
 ghost use Rattle.iss_model.specs.rules.Reasons.{is_some_with};
 ghost use Rattle.iss_model.specs.rules.CardReasons.{passes_cleared};
+ghost use Rattle.iss_model.specs.rules.CardEntries.{owed_to_programme};
 ghost use Rattle.iss_hold.specs.Holdings.{now_of, parts_of, whole_of};
 ghost use Rattle.iss_chain.specs.Values.{chain_facts};
 ghost use Rattle.iss_chain.specs.Calls.{clearing_end_entries, entries_of_fund, entries_of_reverse, entries_of_end, entries_before_end, entries_of_clear, entries_of_refund};
@@ -51,7 +52,7 @@ impl Books {
         let Some(hold) = self.holds.get(txn) else {
             return Ok(entries);
         };
-        pieces::reverse(&mut entries, hold, amount)?;
+        pieces::reverse(&mut entries, &hold, amount)?;
         Ok(entries)
     }
 
@@ -74,9 +75,9 @@ impl Books {
         let Some(hold) = self.holds.get(txn) else {
             return Ok((entries, 0));
         };
-        pieces::clear(&mut entries, hold, amount, at)?;
+        pieces::clear(&mut entries, &hold, amount, at)?;
         let place = entries.len();
-        pieces::end_clearing(&mut entries, hold, amount, last)?;
+        pieces::end_clearing(&mut entries, &hold, amount, last)?;
         Ok((entries, place))
     }
 
@@ -91,13 +92,22 @@ impl Books {
         ensures { IfOk result (λ made. made.items ≡ entries_of_refund (chain_of self.now) txn.now amount) }
     {
         let mut entries = Vec::new(alloc);
-        let Some(place) = self.holds.place(txn) else {
+        let Some(hold) = self.holds.get(txn) else {
             return Ok(entries);
         };
-        let hold = self.holds.at(place);
-        let owed = owed(self.sums_at(place).paid, hold.p);
-        pieces::refund(&mut entries, &hold.txn, owed, amount)?;
+        pieces::refund(&mut entries, &hold.txn, self.owed(txn), amount)?;
         Ok(entries)
+    }
+
+    /// What the programme is owed for a transaction.
+    pub(crate) fn owed(&self, txn: &Token) -> u64
+        requires { AreKept self.now }
+        ensures { IfSome (txn_named txn.now self.now.holds.txns) (λ t. result ≡ owed_to_programme (chain_facts (chain_of self.now)) t.txn) }
+    {
+        let Some(place) = self.holds.place(txn) else {
+            return 0;
+        };
+        owed(self.sums_at(place).paid, self.holds.at(place).p)
     }
 
     /// A transaction ends, and all that it still holds is let go.
@@ -108,7 +118,7 @@ impl Books {
         let Some(hold) = self.holds.get(txn) else {
             return Ok(entries);
         };
-        pieces::end(&mut entries, hold)?;
+        pieces::end(&mut entries, &hold)?;
         Ok(entries)
     }
 

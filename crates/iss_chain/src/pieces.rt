@@ -1,4 +1,7 @@
 //! The pieces that entries are made of, each added after those that are made already. What comes to nothing is left out.
+//!
+//! An amount is a whole number of minor units, a stamp a number of milliseconds since 1970. Where allocation fails a part of
+//! a piece may be there.
 ghost use Rattle.std.specs.Prelude.{◌≡◌, ◌-◌, ◌≤◌, ◌<◌, ◌^◌, ◌∷◌, [], ◌++◌, OnOk, pos};
 ghost use Rattle.iss_model.specs.declared.account.Account.TheVariants as account;
 ghost use Rattle.iss_model.specs.declared.entry.Entry.TheVariants as entry;
@@ -20,7 +23,7 @@ fn user_account(txn: &Txn) -> Account
 }
 
 /// An amount goes from one account to another for a transaction.
-fn post(
+pub fn post(
     out: &mut Vec<Entry>,
     txn: &Txn,
     from: Account,
@@ -42,7 +45,7 @@ fn post(
 }
 
 /// A transaction holds more of its user.
-fn hold(out: &mut Vec<Entry>, txn: &Txn, part: Part, amount: u64) -> Result<(), AllocError>
+pub fn hold(out: &mut Vec<Entry>, txn: &Txn, part: Part, amount: u64) -> Result<(), AllocError>
     requires { amount < 2 ^ 63 }
     ensures { OnOk result (out.new.items ≡ out.old.items ++ hold_entries txn.now part amount) }
 {
@@ -120,7 +123,7 @@ fn more_use(out: &mut Vec<Entry>, txn: &Txn, amount: u64, at: u64) -> Result<(),
 }
 
 /// A part of a transaction's money is there and held.
-pub(crate) fn fund(
+pub fn fund(
     out: &mut Vec<Entry>,
     txn: &Txn,
     part: Part,
@@ -151,7 +154,7 @@ pub(crate) fn fund(
 
 /// An amount is let go of what a transaction holds: the programme's part first, then the gateway's, then the user's
 /// own.
-pub(crate) fn release(out: &mut Vec<Entry>, hold: &Hold, amount: u64) -> Result<(), AllocError>
+pub fn release(out: &mut Vec<Entry>, hold: &Hold, amount: u64) -> Result<(), AllocError>
     requires { amount < 2 ^ 63 }
     ensures { OnOk result (out.new.items ≡ out.old.items ++ release_entries hold.now.txn (parts_of hold.now) amount) }
 {
@@ -178,7 +181,7 @@ pub(crate) fn release(out: &mut Vec<Entry>, hold: &Hold, amount: u64) -> Result<
 }
 
 /// Up to an amount is let go, and a transaction that then holds nothing ends.
-pub(crate) fn reverse(out: &mut Vec<Entry>, hold: &Hold, amount: u64) -> Result<(), AllocError>
+pub fn reverse(out: &mut Vec<Entry>, hold: &Hold, amount: u64) -> Result<(), AllocError>
     requires { whole_of hold.now < 2 ^ 62 }
     ensures { OnOk result (out.new.items ≡ out.old.items ++ reversal_money_entries hold.now.txn (parts_of hold.now) amount) }
 {
@@ -192,7 +195,7 @@ pub(crate) fn reverse(out: &mut Vec<Entry>, hold: &Hold, amount: u64) -> Result<
 }
 
 /// A transaction ends, and all that it still holds is let go.
-pub(crate) fn end(out: &mut Vec<Entry>, hold: &Hold) -> Result<(), AllocError>
+pub fn end(out: &mut Vec<Entry>, hold: &Hold) -> Result<(), AllocError>
     requires { whole_of hold.now < 2 ^ 62 }
     ensures { OnOk result (out.new.items ≡ out.old.items ++ end_money_entries hold.now.txn (parts_of hold.now)) }
 {
@@ -202,7 +205,7 @@ pub(crate) fn end(out: &mut Vec<Entry>, hold: &Hold) -> Result<(), AllocError>
 }
 
 /// A clearing takes from the hold and pays the network; for a gateway product the programme pays what the hold doesn't.
-pub(crate) fn clear(
+pub fn clear(
     out: &mut Vec<Entry>,
     hold: &Hold,
     amount: u64,
@@ -230,7 +233,7 @@ pub(crate) fn clear(
 }
 
 /// A clearing ends a live transaction where it is the last one, or nothing is held after it.
-pub(crate) fn end_clearing(
+pub fn end_clearing(
     out: &mut Vec<Entry>,
     hold: &Hold,
     amount: u64,
@@ -264,7 +267,7 @@ fn pay_excess(out: &mut Vec<Entry>, txn: &Txn, excess: u64) -> Result<(), AllocE
 }
 
 /// A refund comes back from the network; for a gateway product the programme gets first what it is owed.
-pub(crate) fn refund(
+pub fn refund(
     out: &mut Vec<Entry>,
     txn: &Txn,
     owed: u64,

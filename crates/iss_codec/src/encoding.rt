@@ -1,6 +1,8 @@
 //! The spelling of a record.
-ghost use Rattle.std.specs.Prelude.{◌≡◌, ◌++◌, OnOk, IfOk};
-ghost use Rattle.iss_model.specs.texts.Spelling.{spelling, field_bytes, kind_number};
+ghost use Rattle.std.specs.Prelude.{◌≡◌, ◌++◌, IsTrue, OnOk, IfOk};
+ghost use Rattle.std.specs.List.{list_all};
+ghost use Rattle.iss_model.specs.Tokens.{is_token};
+ghost use Rattle.iss_model.specs.texts.Spelling.{spelling, field_bytes, kind_number, tokens_of};
 
 use crate::writing::{
     put_association, put_currency, put_event, put_flag, put_limits, put_low_u32, put_mccs,
@@ -10,15 +12,24 @@ use iss_model::{Input, Numbered, Record};
 use std::alloc::{AllocError, Global};
 
 /// The one spelling of a record. `decode` reads it again where the record's fields are in form.
-#[tactic(auto, unfolding(iss_model::specs::texts::Spelling::spelling))]
 pub fn encode(alloc: Global, r: &Record) -> Result<Vec<u8>, AllocError>
     ensures spelled { IfOk result (λ bytes. bytes.items ≡ spelling r.now) }
 {
     let mut out = Vec::new(alloc);
-    out.push(kind_number(&r.input))?;
-    put_u64(&mut out, r.at)?;
-    put_fields(&mut out, &r.input)?;
+    put_record(&mut out, r.at, &r.input)?;
     Ok(out)
+}
+
+/// Adds the spelling of the record of that stamp and input to what was written before.
+#[tactic(auto, unfolding(iss_model::specs::texts::Spelling::spelling))]
+pub fn put_record(out: &mut Vec<u8>, at: u64, input: &Input) -> Result<(), AllocError>
+    ensures spelled { OnOk result (out.new.items ≡ out.old.items ++ spelling (record { at = at; input = input.now })) }
+    // Each name in it is a token, as its type says.
+    ensures tokens { OnOk result (IsTrue (list_all is_token (tokens_of input.now))) }
+{
+    out.push(kind_number(input))?;
+    put_u64(out, at)?;
+    put_fields(out, input)
 }
 
 fn kind_number(input: &Input) -> u8
@@ -48,7 +59,8 @@ fn kind_number(input: &Input) -> u8
 /// The fields of each kind, in their order.
 #[tactic(auto, unfolding(iss_model::specs::texts::Spelling::field_bytes))]
 fn put_fields(out: &mut Vec<u8>, input: &Input) -> Result<(), AllocError>
-    ensures { OnOk result (out.new.items ≡ out.old.items ++ field_bytes input.now) }
+    ensures spelled { OnOk result (out.new.items ≡ out.old.items ++ field_bytes input.now) }
+    ensures tokens { OnOk result (IsTrue (list_all is_token (tokens_of input.now))) }
 {
     match input {
         Input::User { token, user } => put_event(out, token, user),

@@ -19,7 +19,7 @@ mod writing;
 
 pub use contents::contents_are_their_spelling;
 pub use decoding::decode;
-pub use encoding::encode;
+pub use encoding::{encode, put_record};
 pub use spelled::{fields_are_read_again, records_are_read_again};
 
 #[cfg(test)]

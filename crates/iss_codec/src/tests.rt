@@ -1,4 +1,4 @@
-use crate::{decode, encode};
+use crate::{decode, encode, put_record};
 use iss_model::{
     Association, CallId, Currency, Funding, Input, Mccs, Moved, Outcome, Record, Scope, Token,
     UserState, Window,
@@ -248,6 +248,23 @@ fn records_have_their_bytes(rt: HostRuntime) -> Result<(), Fail> {
         is_written(alloc, 1005, answer(), ANSWER)?,
     ];
     assert_eq!(rt; written, [true; 7]);
+    Ok(())
+}
+
+/// An acknowledgement and a time, one after the other.
+fn two_records(alloc: Global) -> Result<Vec<u8>, AllocError> {
+    let mut out = Vec::new(alloc);
+    put_record(&mut out, 1, &Input::Ack { notice: 7 })?;
+    put_record(&mut out, 2, &Input::Time)?;
+    Ok(out)
+}
+
+#[test]
+fn a_record_is_written_after_another(rt: HostRuntime) -> Result<(), Fail> {
+    let bytes = two_records(rt.alloc())?;
+    let wanted =
+        b"\x10\x00\x00\x00\x00\x00\x00\x00\x01\x00\x00\x00\x07\x11\x00\x00\x00\x00\x00\x00\x00\x02";
+    assert!(rt; bytes.as_slice() == wanted.as_slice());
     Ok(())
 }
 

@@ -1,8 +1,9 @@
 //! Writing fields, each after what was written before.
-ghost use Rattle.std.specs.Prelude.{◌≡◌, ◌++◌, ◌∷◌, [], OnOk};
-ghost use Rattle.std.specs.List.{flat_map};
+ghost use Rattle.std.specs.Prelude.{◌≡◌, ◌++◌, ◌∷◌, [], IsTrue, OnOk};
+ghost use Rattle.std.specs.List.{flat_map, list_all};
+ghost use Rattle.iss_model.specs.Tokens.{is_token};
 ghost use Rattle.iss_model.specs.Inputs.{with_length, flag_contents, moved_contents, association_contents};
-ghost use Rattle.iss_model.specs.texts.Spelling.{number_bytes, currency_bytes, mcc_bytes, limit_bytes, limits_bytes, scope_bytes, mccs_bytes, operation_bytes};
+ghost use Rattle.iss_model.specs.texts.Spelling.{number_bytes, currency_bytes, mcc_bytes, limit_bytes, limits_bytes, scope_bytes, mccs_bytes, operation_bytes, moved_token, association_tokens, scope_tokens};
 
 use iss_model::{Association, Currency, Mccs, Moved, Numbered, Scope, Token};
 use std::alloc::AllocError;
@@ -45,7 +46,8 @@ fn put_low_u16(out: &mut Vec<u8>, number: u64) -> Result<(), AllocError>
 }
 
 pub(crate) fn put_token(out: &mut Vec<u8>, token: &Token) -> Result<(), AllocError>
-    ensures { OnOk result (out.new.items ≡ out.old.items ++ with_length token.now) }
+    ensures spelled { OnOk result (out.new.items ≡ out.old.items ++ with_length token.now) }
+    ensures token { OnOk result (IsTrue (is_token token.now)) }
 {
     let text = token.text();
     out.push(text.len() as u8)?;
@@ -54,7 +56,9 @@ pub(crate) fn put_token(out: &mut Vec<u8>, token: &Token) -> Result<(), AllocErr
 
 /// Two tokens, as an event begins: its own, and that of what it is about.
 pub(crate) fn put_event(out: &mut Vec<u8>, token: &Token, about: &Token) -> Result<(), AllocError>
-    ensures { OnOk result (out.new.items ≡ out.old.items ++ (with_length token.now ++ with_length about.now)) }
+    ensures spelled { OnOk result (out.new.items ≡ out.old.items ++ (with_length token.now ++ with_length about.now)) }
+    ensures token { OnOk result (IsTrue (is_token token.now)) }
+    ensures about { OnOk result (IsTrue (is_token about.now)) }
 {
     put_token(out, token)?;
     put_token(out, about)
@@ -109,7 +113,8 @@ fn put_usage_limit(out: &mut Vec<u8>, limit: Option<u32>) -> Result<(), AllocErr
 }
 
 pub(crate) fn put_moved(out: &mut Vec<u8>, who: &Moved) -> Result<(), AllocError>
-    ensures { OnOk result (out.new.items ≡ out.old.items ++ moved_contents who.now) }
+    ensures spelled { OnOk result (out.new.items ≡ out.old.items ++ moved_contents who.now) }
+    ensures token { OnOk result (IsTrue (is_token (moved_token who.now))) }
 {
     match who {
         Moved::Card(card, to) => {
@@ -129,7 +134,8 @@ pub(crate) fn put_association(
     out: &mut Vec<u8>,
     association: &Association,
 ) -> Result<(), AllocError>
-    ensures { OnOk result (out.new.items ≡ out.old.items ++ association_contents association.now) }
+    ensures spelled { OnOk result (out.new.items ≡ out.old.items ++ association_contents association.now) }
+    ensures tokens { OnOk result (IsTrue (list_all is_token (association_tokens association.now))) }
 {
     match association {
         Association::Anybody => Ok(out.push(0)?),
@@ -145,7 +151,8 @@ pub(crate) fn put_association(
 }
 
 pub(crate) fn put_scope(out: &mut Vec<u8>, scope: &Scope) -> Result<(), AllocError>
-    ensures { OnOk result (out.new.items ≡ out.old.items ++ scope_bytes scope.now) }
+    ensures spelled { OnOk result (out.new.items ≡ out.old.items ++ scope_bytes scope.now) }
+    ensures tokens { OnOk result (IsTrue (list_all is_token (scope_tokens scope.now))) }
 {
     match scope {
         Scope::All => Ok(out.push(0)?),
@@ -189,7 +196,9 @@ pub(crate) fn put_operation(
     currency: Currency,
     amount: u64,
 ) -> Result<(), AllocError>
-    ensures { OnOk result (out.new.items ≡ out.old.items ++ operation_bytes token.now about.now currency amount) }
+    ensures spelled { OnOk result (out.new.items ≡ out.old.items ++ operation_bytes token.now about.now currency amount) }
+    ensures token { OnOk result (IsTrue (is_token token.now)) }
+    ensures about { OnOk result (IsTrue (is_token about.now)) }
 {
     put_event(out, token, about)?;
     put_currency(out, currency)?;

@@ -85,7 +85,7 @@ impl Sets {
         match self.get(&set.name) {
             Some(standing) if is_fixed(standing, set) => return Err(SetFault::Fixed),
             Some(_) => replace(&mut self.sets, set),
-            None if self.sets.len() >= MOST => return Err(SetFault::Limit),
+            None if self.is_full() => return Err(SetFault::Limit),
             None => self.push(set)?,
         }
         Ok(())
@@ -113,6 +113,13 @@ impl Sets {
         ensures { option_map (λ found. found.now) result ≡ set_named name.now self.now.sets }
     {
         self.sets.iter().find(|set| set.name == *name)
+    }
+
+    /// Whether there are as many sets as there may be.
+    pub fn is_full(&self) -> bool
+        ensures { result ≡ is_full self.now.sets }
+    {
+        self.sets.len() >= MOST
     }
 
     /// What the sets say of an amount that the gateway didn't decide, for a product's user on a stamp's day: the first

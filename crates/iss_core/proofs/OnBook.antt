@@ -51,16 +51,18 @@ count_of_book rs = ap (λ (records : List Record). length records) (records_hist
 pub time_of_book : (rs : List Record) → (history_facts (history_of rs)).now ≡ time_of rs
 time_of_book rs = ap time_of (records_history rs)
 
--- an event that stands is told its reply, another nothing
-pub replied_so : (f : Facts) (event : List ℕ) (first : Accepted) (reply : Reply) → find (λ (a : Accepted). is_event event a.input) f.accepted ≡ Some first → reply ≡ reply_in f event → Some reply ≡ event_reply f event
-replied_so f event first reply found told =
-    ap (λ (r : Reply). Some r) told ∙ ap (option_map (λ (a : Accepted). reply_in f event)) (sym found)
-
-pub unreplied_so : (f : Facts) (event : List ℕ) → find (λ (a : Accepted). is_event event a.input) f.accepted ≡ None → None ≡ event_reply f event
-unreplied_so f event none = ap (option_map (λ (a : Accepted). reply_in f event)) (sym none)
-
 -- the accounts that are answered are those of the book
 pub accounts_told : {A E : Type 0} (items : A → List Account) (c : CoreNow) (rs : List Record) (balances : Kept) (result : Result A E) → StandsFor c rs → finite.keys balances ≡ finite.keys c.state.balances
     → IfOk result (λ v. map account_key (items v) ≡ finite.keys balances) → IfOk result (λ v. map account_key (items v) ≡ map account_key (accounts_of (history_of rs).rows))
 accounts_told items c rs balances (Ok v) stands same told = accounts_on_book c rs (items v) stands (told ∙ same)
 accounts_told items c rs balances (Err e) stands same told = tt
+
+-- an answer by the facts of the state is that of the book
+pub told_by_state : {A : Type 0} (c : CoreNow) (s : CoreState) (rs : List Record) (ask : Facts → A) (answer : A) → s ≡ c.state → answer ≡ ask (core_facts s) → StandsFor c rs → answer ≡ ask (history_facts (history_of rs))
+told_by_state c s rs ask answer is e stands = told_on_book c rs ask answer stands (e ∙ ap (λ (x : CoreState). ask (core_facts x)) is)
+
+-- and so is a list that is answered
+pub listed_by_state : {A B E : Type 0} (items : A → B) (c : CoreNow) (s : CoreState) (rs : List Record) (ask : Facts → B) (result : Result A E) → s ≡ c.state
+    → IfOk result (λ v. items v ≡ ask (core_facts s)) → StandsFor c rs → IfOk result (λ v. items v ≡ ask (history_facts (history_of rs)))
+listed_by_state items c s rs ask (Ok v) is e stands = told_by_state c s rs ask (items v) is e stands
+listed_by_state items c s rs ask (Err e) is told stands = tt

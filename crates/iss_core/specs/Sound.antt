@@ -1,36 +1,26 @@
--- What holds of every core: how far its sums reach, and what its transactions and products are.
-use Rattle.std.specs.Prelude.{◌≡◌, ℕ, ◌*◌, ◌-◌, ◌^◌, ◌<◌, Bool, true, ◌&&◌, nat_le, List, find, is_some}
-use Rattle.std.specs.List.{list_all}
-use Rattle.iss_model.specs.declared.limits.TheConstants.{GREATEST_AMOUNT}
-use Rattle.iss_model.specs.Inputs.{is_event}
-use Rattle.iss_model.specs.Forms.{is_hold_time}
-use Rattle.iss_model.specs.rules.Activity.{TxnNow}
-use Rattle.iss_model.specs.rules.Facts.{Accepted}
-use Rattle.iss_model.specs.rules.CardReasons.{is_account_funded}
-use Rattle.iss_model.specs.state.Cores.{CoreState, ProductNow}
-use Rattle.iss_chain.specs.Values.{chain_part}
-use Rattle.iss_chain.specs.Bounds.{IsReached}
+-- What holds of every core, and of a state that a record was taken up on.
+use Rattle.std.specs.Prelude.{ℕ, ◌<◌}
+use Rattle.iss_model.specs.declared.limits.TheConstants.{MOST_RECORDS}
+use Rattle.iss_model.specs.declared.input.Input.{Input}
+use Rattle.iss_model.specs.state.Cores.{CoreState}
+use Rattle.iss_invariants.specs.Sound.{IsSoundAt, IsReady}
+use Rattle.iss_invariants.specs.InForm.{IsInForm}
+use Rattle.iss_pending.specs.Few.{HasFewNumbers}
+use Rattle.iss_pending.specs.Pending.{IsWell, HasTakenUp}
 
--- a transaction is named by an accepted event, and began with one of so many records
-abbrev pub is_begun : List Accepted → ℕ → TxnNow → Bool
-is_begun accepted records t = is_some (find (λ a. is_event t.txn.token a.input) accepted) && nat_le t.txn.origin records
+-- What holds of every core: its sums are within the reach of its records, its calls and decisions are well, its stamps are in form,
+-- and no more calls and notices were made than its records can make.
+pub record IsSound (s : CoreState) : Type 0 where
+  pub within : IsSoundAt s.count s
+  pub well : IsWell s
+  pub forms : IsInForm s
+  pub few : HasFewNumbers s.count s
 
--- a product is paid from the user's own balance, and holds for a day at least
-abbrev pub is_own : ProductNow → Bool
-is_own p = is_account_funded p.product.funding && is_hold_time p.product.hold_ms
-
--- What holds of a state when so many records have made their entries: each moved at most the greatest amount.
-pub record IsSoundAt (records : ℕ) (s : CoreState) : Type 0 where
-  pub reached : IsReached (records * GREATEST_AMOUNT) (chain_part s)
-  pub begun : list_all (is_begun s.accepted records) s.holdings.txns ≡ true
-  pub own : list_all is_own s.products ≡ true
-
--- what holds of every core
-abbrev pub IsSound : CoreState → Type 0
-IsSound s = IsSoundAt s.count s
-
--- a record was taken up, and hasn't made its entries yet
-pub record IsTakenUp (s : CoreState) : Type 0 where
-  pub first : 0 < s.count
-  pub room : s.count < 2 ^ 30
-  pub sound : IsSoundAt (s.count - 1) s
+-- A record with this input was taken up and hasn't made its own entries yet.
+pub record IsTakenUp (i : Input) (s : CoreState) : Type 0 where
+  pub before : ℕ
+  pub room : before < MOST_RECORDS
+  pub ready : IsReady before s i
+  pub taken : HasTakenUp s i
+  pub forms : IsInForm s
+  pub few : HasFewNumbers before s

@@ -1,14 +1,14 @@
 -- What a core is, and what it says of a list of records.
-use Rattle.std.specs.Prelude.{◌≡◌, ℕ, true, List, [], ◌∷◌, ◌++◌}
+use Rattle.std.specs.Prelude.{◌≡◌, ℕ, List, [], ◌∷◌, ◌++◌, IsTrue}
 use Rattle.iss_model.specs.declared.input.Record.{Record}
 use Rattle.iss_model.specs.declared.entry.Entry.{Entry}
 use Rattle.iss_model.specs.declared.decision.Judged.{Judged}
 use Rattle.iss_model.specs.declared.decision.Judged.TheVariants as judged
-use Rattle.iss_model.specs.rules.Due.{due_items, is_quiet}
+use Rattle.iss_model.specs.Forms.{is_in_form, is_stamp}
 use Rattle.iss_model.specs.rules.Stepping.{step}
 use Rattle.iss_model.specs.rules.Judging.{judge}
 use Rattle.iss_model.specs.rules.Histories.{history_keeper, history_of}
-use Rattle.iss_model.specs.state.Cores.{CoreState, core_facts, core_keeper, core_of}
+use Rattle.iss_model.specs.state.Cores.{CoreState, core_keeper, core_of}
 
 -- the instance of a core's device, and what stands
 pub record CoreNow : Type 0 where
@@ -29,9 +29,11 @@ GivesNext c (judged.New r) = IsNext c r
 GivesNext c (judged.Clock r) = IsNext c r
 GivesNext c (judged.Told a) = Unit {0}
 
--- nothing is due at a moment
-abbrev pub IsQuiet : CoreState → ℕ → Type 0
-IsQuiet s at = is_quiet (due_items (core_facts s) at) ≡ true
+-- the record that judging gives, where it gives one, has its input and its stamp in form
+abbrev pub GivesInForm : Judged → Type 0
+GivesInForm (judged.New r) = IsTrue (is_in_form r.input) × IsTrue (is_stamp r.at)
+GivesInForm (judged.Clock r) = IsTrue (is_in_form r.input) × IsTrue (is_stamp r.at)
+GivesInForm (judged.Told a) = Unit {0}
 
 -- a record was taken up: these are its entries, and what stands after them
 pub record Steps (before after : CoreNow) (r : Record) (made : List Entry) : Type 0 where

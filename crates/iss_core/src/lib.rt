@@ -2,17 +2,29 @@
 //!
 //! An amount is a whole number of minor units, a stamp a number of milliseconds since 1970.
 //!
-//! It may cite `iss_model`, `iss_agreement` and its parts.
-//! It must not cite bytes: lines, spellings, the outside.
+//! A record's entries are made once, as one list, by what mirrors the rules, and each entry is entered once (`entering`):
+//! first those of each due thing (`due`), and then the record's own (`entries`).
+//!
+//! It may cite `iss_model`, the laws of `iss_agreement`, `iss_effects`, `iss_invariants`, `iss_docket` and `iss_pending`, and its parts.
+//! It must not cite bytes: lines, texts, the outside.
 #![tactic(auto)]
 
-mod contents;
-mod decisions;
+mod answers;
+mod asks;
+mod configuring;
+mod due;
 mod engine;
-mod events;
-mod places;
+mod entering;
+mod entries;
+mod judging;
+mod looking;
+mod operations;
+mod pieces;
 mod purchases;
+mod reasons;
 mod settings;
 mod state;
+mod stepping;
+mod views;
 
 pub use engine::Core;

@@ -5,4 +5,7 @@ pub mod PutLemmas
 pub mod StretchLemmas
 pub mod PutStretches
 pub mod ToldPuts
+pub mod Outers
+mod Numbers
+mod Pieces
 mod Memories

@@ -92,6 +92,7 @@ puts_then puts more a b c first second =
     record {
       device = second.device ∙ ap (λ (l : List ℕ). after_puts l more) first.device ∙ sym (after_puts-append a.device puts more);
       left = second.left ∙ first.left;
+      arrivals = second.arrivals ∙ first.arrivals;
       trace =
           second.trace
           ∙ ap (λ (l : List Action). l ++ actions_of_puts more) first.trace
@@ -126,6 +127,7 @@ put_made at bytes a b c wrote made =
     record {
       device = made.device ∙ wrote.device;
       left = made.left ∙ wrote.left;
+      arrivals = made.arrivals ∙ wrote.arrivals;
       trace = made.trace ∙ ap (λ (l : List Action). l ++ Sync true ∷ []) wrote.trace ∙ append_assoc a.trace (Write at bytes true ∷ []) (Sync true ∷ []);
     }
 

@@ -30,11 +30,11 @@ told_self R None f = tt
 told_self R (Some a) f = f a
 
 pub same_self : (a : World) → Same a a
-same_self a = record { device = refl; left = refl; trace = refl }
+same_self a = record { device = refl; left = refl; arrivals = refl; trace = refl }
 
 pub same_then : (a b c : World) → Same a b → Same b c → Same a c
 same_then a b c p q =
-    record { device = q.device ∙ p.device; left = q.left ∙ p.left; trace = q.trace ∙ p.trace }
+    record { device = q.device ∙ p.device; left = q.left ∙ p.left; arrivals = q.arrivals ∙ p.arrivals; trace = q.trace ∙ p.trace }
 
 pub later_self : (a : Faults) → Later a a
 later_self a =

@@ -1,10 +1,14 @@
-use Rattle.std.specs.Prelude.{◌≡◌, ℕ, ◌↔◌, ◌⊎◌, true, false, List, [], ◌∷◌, ◌++◌, Some, None, Result, Ok, Err, length, take, drop}
+use Rattle.std.specs.Prelude.{◌≡◌, ℕ, ◌==◌, ◌↔◌, ◌⊎◌, true, false, List, [], ◌∷◌, ◌++◌, Some, None, Result, Ok, Err, length, take, drop, if◌then◌else◌}
 use Rattle.iss_edge.specs.declared.outside.Channel.{Channel}
 use Rattle.iss_edge.specs.declared.outside.Failed.{Failed}
 use Rattle.iss_edge.specs.declared.outside.Action.{Action}
-use Rattle.iss_edge.specs.declared.outside.Action.TheVariants.{Write, Sync, Emit}
+use Rattle.iss_edge.specs.declared.outside.Action.TheVariants.{Write, Sync, Emit, Dial, Close}
 use Rattle.iss_edge.specs.declared.outside.Answered.{Answered}
 use Rattle.iss_edge.specs.declared.outside.Answered.TheVariants.{Took}
+use Rattle.iss_edge.specs.declared.outside.Arrival.{Arrival}
+use Rattle.iss_edge.specs.declared.outside.Arrival.TheVariants as arrival
+use Rattle.iss_edge.specs.declared.outside.Script.{Script}
+use Rattle.iss_edge.specs.declared.outside.Script.TheVariants.{Client, More, Ended, Time, Idle}
 use Rattle.iss_edge.specs.World.{World}
 use Rattle.iss_edge.specs.Disk.{splice}
 
@@ -12,6 +16,7 @@ use Rattle.iss_edge.specs.Disk.{splice}
 pub record Same (a b : World) : Type 0 where
   pub device : b.device ≡ a.device
   pub left : b.left ≡ a.left
+  pub arrivals : b.arrivals ≡ a.arrivals
   pub trace : b.trace ≡ a.trace
 
 -- these are the device's bytes from this place on, and nothing of what is told has changed
@@ -23,6 +28,7 @@ pub record Reads (at : ℕ) (bytes : List ℕ) (a b : World) : Type 0 where
 pub record Writes (at : ℕ) (bytes : List ℕ) (a b : World) : Type 0 where
   pub device : b.device ≡ splice at bytes a.device
   pub left : b.left ≡ a.left
+  pub arrivals : b.arrivals ≡ a.arrivals
   pub trace : b.trace ≡ a.trace ++ Write at bytes true ∷ []
 
 -- one failed action was added, and any bytes stand where these were to stand
@@ -35,17 +41,20 @@ pub record TearsWrite (at : ℕ) (bytes : List ℕ) (a b : World) : Type 0 where
 -- the write failed: nothing was done, or a part of it was, and what is to come is the same
 pub record WritesPart (at : ℕ) (bytes : List ℕ) (a b : World) : Type 0 where
   pub left : b.left ≡ a.left
+  pub arrivals : b.arrivals ≡ a.arrivals
   pub how : Same a b ⊎ TearsWrite at bytes a b
 
 -- what was written was made to last by one action, and all else is the same
 pub record Syncs (a b : World) : Type 0 where
   pub device : b.device ≡ a.device
   pub left : b.left ≡ a.left
+  pub arrivals : b.arrivals ≡ a.arrivals
   pub trace : b.trace ≡ a.trace ++ Sync true ∷ []
 
 -- the sync failed: nothing was done, or a failed action was added, and then what the device reads is open
 pub record SyncsPart (a b : World) : Type 0 where
   pub left : b.left ≡ a.left
+  pub arrivals : b.arrivals ≡ a.arrivals
   pub how : Same a b ⊎ (b.trace ≡ a.trace ++ Sync false ∷ [])
 
 -- the first `count` bytes of the buffer were the next of the channel, none exactly at its end, and all else is the same
@@ -54,12 +63,14 @@ pub record Takes (ch : Channel) (count : ℕ) (buffer : List ℕ) (a b : World) 
   pub bytes : a.left ch.0 ≡ take count buffer ++ b.left ch.0
   pub others : (c : ℕ) → (c ≡ ch.0 → ⊥) → b.left c ≡ a.left c
   pub ends : (count ≡ 0) ↔ (a.left ch.0 ≡ [])
+  pub arrivals : b.arrivals ≡ a.arrivals
   pub trace : b.trace ≡ a.trace
 
 -- the bytes went out on the channel by one action, and all else is the same
 pub record Emits (ch : Channel) (bytes : List ℕ) (a b : World) : Type 0 where
   pub device : b.device ≡ a.device
   pub left : b.left ≡ a.left
+  pub arrivals : b.arrivals ≡ a.arrivals
   pub trace : b.trace ≡ a.trace ++ Emit ch bytes true ∷ []
 
 -- one failed action was added, by which a prefix of the bytes went out on the channel
@@ -73,7 +84,52 @@ pub record SendsPrefix (ch : Channel) (bytes : List ℕ) (before now : List Acti
 pub record EmitsPart (ch : Channel) (bytes : List ℕ) (a b : World) : Type 0 where
   pub device : b.device ≡ a.device
   pub left : b.left ≡ a.left
+  pub arrivals : b.arrivals ≡ a.arrivals
   pub trace : (b.trace ≡ a.trace) ⊎ SendsPrefix ch bytes a.trace b.trace
+
+-- what arrives by the next of these
+abbrev pub arrival_of : Script → Arrival
+arrival_of (Client ch) = arrival.Client ch
+arrival_of (More ch bytes) = arrival.Ready ch
+arrival_of (Ended ch) = arrival.Ready ch
+arrival_of (Time at) = arrival.Time at
+arrival_of Idle = arrival.Idle
+
+-- what the next wait brings, which is the end where nothing is to come any more
+abbrev pub next_arrival : List Script → Arrival
+next_arrival [] = arrival.End
+next_arrival (item ∷ items) = arrival_of item
+
+-- the bytes that come by the next wait on a channel
+abbrev pub next_bytes : List Script → ℕ → List ℕ
+next_bytes (More to bytes ∷ items) ch = if to.0 == ch then bytes else []
+next_bytes _ ch = []
+
+-- the next of what is to come arrived, with its bytes, and nothing was done
+pub record Waits (arrives : Arrival) (a b : World) : Type 0 where
+  pub device : b.device ≡ a.device
+  pub is_next : arrives ≡ next_arrival a.arrivals
+  pub left : (ch : ℕ) → b.left ch ≡ a.left ch ++ next_bytes a.arrivals ch
+  pub arrivals : b.arrivals ≡ drop 1 a.arrivals
+  pub trace : b.trace ≡ a.trace
+
+-- a channel was opened from our side by one action, and all else is the same
+pub record Dials (ch : Channel) (a b : World) : Type 0 where
+  pub device : b.device ≡ a.device
+  pub left : b.left ≡ a.left
+  pub arrivals : b.arrivals ≡ a.arrivals
+  pub trace : b.trace ≡ a.trace ++ Dial ch ∷ []
+
+-- the channel was closed by one action, and all else is the same
+pub record Closes (ch : Channel) (a b : World) : Type 0 where
+  pub device : b.device ≡ a.device
+  pub left : b.left ≡ a.left
+  pub arrivals : b.arrivals ≡ a.arrivals
+  pub trace : b.trace ≡ a.trace ++ Close ch ∷ []
+
+-- the same, or it was not noted and nothing of what is told has changed
+abbrev pub ClosesUnnoted : Channel → World → World → Type 0
+ClosesUnnoted ch a b = Closes ch a b ⊎ Same a b
 
 -- the heard list is as before
 abbrev pub HearsNothing : List Answered → List Answered → Type 0

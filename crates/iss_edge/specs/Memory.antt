@@ -1,5 +1,12 @@
-use Rattle.std.specs.Prelude.{ℕ, ◌==◌, Bool, true, false, List, [], Option, Some, None, if◌then◌else◌}
+-- The channels of an outside in memory.
+use Rattle.std.specs.Prelude.{ℕ, ◌==◌, Bool, true, false, not, ◌&&◌, List, [], ◌∷◌, ◌++◌, drop, Option, Some, None, nat_le, nat_lt, ◌+◌, if◌then◌else◌}
+use Rattle.std.specs.List.{list_all}
+use Rattle.iss_edge.specs.declared.outside.Channel.{Channel}
+use Rattle.iss_edge.specs.declared.outside.Script.{Script}
+use Rattle.iss_edge.specs.declared.outside.Script.TheVariants.{Client, More, Ended, Time, Idle}
+use Rattle.iss_edge.specs.declared.memory.piece.Piece.{Piece}
 use Rattle.iss_edge.specs.World.{Faults}
+use Rattle.iss_edge.specs.Channels.{Channels, is_among}
 
 -- the bytes that are to come, where channel 0 alone has some
 abbrev pub alone_on_input : List ℕ → ℕ → List ℕ
@@ -14,3 +21,57 @@ told_if false x = None
 abbrev pub stream_faults : ℕ → ℕ → ℕ → Faults
 stream_faults disk input output =
     record { disk = disk; input = input; output = output; peer = 0; link = 0 }
+
+-- the bytes that can be taken from a channel, of these pieces that came
+abbrev pub left_on : List Piece → ℕ → List ℕ
+left_on [] ch = []
+left_on (piece ∷ pieces) ch = (if piece.ch.0 == ch then piece.rest else []) ++ left_on pieces ch
+
+-- what came on channels and was not taken, what is to come, and the channels
+pub record Traffic : Type 0 where
+  pub pieces : List Piece
+  pub script : List Script
+  pub channels : Channels
+
+-- there are no bytes
+abbrev pub is_none_left : List ℕ → Bool
+is_none_left [] = true
+is_none_left (byte ∷ bytes) = false
+
+-- the piece has bytes that can be taken from this channel
+abbrev pub has_more_on : ℕ → Piece → Bool
+has_more_on ch piece = (piece.ch.0 == ch) && not (is_none_left piece.rest)
+
+-- what is left of the first piece from which bytes of this channel can be taken
+abbrev pub next_rest : ℕ → List Piece → List ℕ
+next_rest ch [] = []
+next_rest ch (piece ∷ pieces) = if has_more_on ch piece then piece.rest else next_rest ch pieces
+
+-- the pieces once so many bytes of that piece were taken
+abbrev pub after_take : ℕ → ℕ → List Piece → List Piece
+after_take ch count [] = []
+after_take ch count (piece ∷ pieces) =
+    if has_more_on ch piece then record piece { rest = drop count piece.rest } ∷ pieces
+    else piece ∷ after_take ch count pieces
+
+-- clients come on these numbers
+abbrev pub is_client_number : ℕ → Bool
+is_client_number ch = nat_le 1 ch && nat_le ch 1000000
+
+-- dials give these numbers, where so many channels were dialled
+abbrev pub is_dialled_number : ℕ → ℕ → Bool
+is_dialled_number dials ch = nat_lt 1000000 ch && nat_lt ch (dials + 1000001)
+
+-- clients are to come on numbers of theirs, each on one that was none of these and that no client before it came on
+abbrev pub are_to_come : List ℕ → List Script → Bool
+are_to_come known [] = true
+are_to_come known (Client ch ∷ items) =
+    is_client_number ch.0 && not (is_among known ch.0) && are_to_come (known ++ ch.0 ∷ []) items
+are_to_come known (More ch bytes ∷ items) = are_to_come known items
+are_to_come known (Ended ch ∷ items) = are_to_come known items
+are_to_come known (Time at ∷ items) = are_to_come known items
+are_to_come known (Idle ∷ items) = are_to_come known items
+
+-- clients are to come on numbers from 1 to 1000000, each on one of its own
+abbrev pub are_clients_apart : List Script → Bool
+are_clients_apart items = are_to_come [] items

@@ -38,9 +38,10 @@ Ran (put ∷ puts) (write ∷ sync ∷ action ∷ more) =
 pub record Puts (puts : List Put) (a b : World) : Type 0 where
   pub device : b.device ≡ after_puts a.device puts
   pub left : b.left ≡ a.left
+  pub arrivals : b.arrivals ≡ a.arrivals
   pub trace : b.trace ≡ a.trace ++ actions_of_puts puts
 
--- A prefix of these puts was made, the next one maybe in part. What is to come is the same, and what the device reads is open.
+-- A prefix of these puts was made, the next one maybe in part. What is left on the channels is the same, and what the device reads is open.
 pub record PutsPart (puts : List Put) (a b : World) : Type 0 where
   pub left : b.left ≡ a.left
   pub actions : List Action

@@ -1,11 +1,14 @@
 use Rattle.std.specs.Prelude.{◌≡◌, ℕ, ◌-◌, ◌^◌, ◌<◌, ◌≤◌, ◌==◌, ◌⊎◌, List, [], ◌∷◌, ◌++◌, Option, Some, None, Result, OnErr, if◌then◌else◌}
 use Rattle.iss_edge.specs.declared.outside.Action.{Action}
 use Rattle.iss_edge.specs.declared.outside.Action.TheVariants.{Write, Sync, Emit, Dial, Close}
+use Rattle.iss_edge.specs.declared.outside.Script.{Script}
 
--- what an edge may tell: the device's bytes, the bytes that are still to come on each channel, and all that was done so far
+-- What an edge may tell: the device's bytes, the bytes that can still be taken from each channel, what waits are still to bring,
+-- and all that was done so far.
 pub record World : Type 0 where
   pub device : List ℕ
   pub left : ℕ → List ℕ
+  pub arrivals : List Script
   pub trace : List Action
 
 -- what is told at the end was told at the start too, and the two are related by R

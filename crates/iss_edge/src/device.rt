@@ -17,6 +17,7 @@ pub fn put<E: Edge>(edge: &mut E, at: u64, bytes: &[u8]) -> Result<(), Failed>
     ensures cause { HasCause (λ f. f.disk) (E.faults edge.old) (E.faults edge.new) result }
     ensures heard { Told HearsNothing (E.heard edge.old) (E.heard edge.new) }
     ensures kept { E.extent edge.new ≡ E.extent edge.old }
+    ensures channels { E.channels edge.new ≡ E.channels edge.old }
 {
     edge.write_at(at, bytes)?;
     edge.sync()

@@ -1,19 +1,21 @@
 //! The outside as a trait: what a call on it does, said by what an implementation tells.
 
-ghost use Rattle.std.specs.Prelude.{◌≡◌, ℕ, ◌+◌, ◌<◌, ◌≤◌, List, Option, length, is_ok, IfOk, IfSome, OnOk, OnErr};
+ghost use Rattle.std.specs.Prelude.{◌≡◌, ℕ, ◌+◌, ◌<◌, ◌≤◌, ◌⊎◌, List, Option, Some, length, is_ok, IfOk, IfSome, IsSome, OnOk, OnErr};
+ghost use Rattle.std.specs.Result.{result_ok};
 ghost use Rattle.iss_edge.specs.declared.outside.Answered.{Answered};
-ghost use Rattle.iss_edge.specs.declared.outside.Answered.TheVariants.{Emitted};
-ghost use Rattle.iss_edge.specs.World.{World, Told, Faults, HasCause};
-ghost use Rattle.iss_edge.specs.Calls.{Same, Reads, Writes, WritesPart, Syncs, SyncsPart, Takes, Emits, EmitsPart, Hears, HearsNothing, heard_take};
+ghost use Rattle.iss_edge.specs.declared.outside.Answered.TheVariants.{Dialled, Emitted, Waited};
+ghost use Rattle.iss_edge.specs.World.{World, Told, Faults, Later, HasCause};
+ghost use Rattle.iss_edge.specs.Calls.{Same, Reads, Writes, WritesPart, Syncs, SyncsPart, Waits, Takes, Emits, EmitsPart, Dials, Closes, ClosesUnnoted, Hears, HearsNothing, heard_take};
+ghost use Rattle.iss_edge.specs.Channels.{Channels, IsUnused, ComesUnused, after_wait, after_dial, after_close, count_of, take_fault, emit_fault};
 
-use crate::{Channel, Failed};
+use crate::{Arrival, Channel, Failed};
 
 /// All that the processor reads and does outside of its memory.
 ///
 /// An implementation tells what it knows of the outside, or nothing. A call's clauses speak of what is told after it,
 /// which was then told before it too.
 pub trait Edge {
-    /// The device, the bytes that are still to come and all that was done so far.
+    /// The device, what is still to come, and all that was done so far.
     ghost told: { Self → Option World };
 
     /// What the calls answered so far, in order.
@@ -24,6 +26,9 @@ pub trait Edge {
 
     /// The device's length in bytes.
     ghost extent: { Self → ℕ };
+
+    /// The channels that are open, and the one that was last said to be ready.
+    ghost channels: { Self → Channels };
 
     /// The device's length in bytes, which no call changes.
     fn size(&self) -> u64
@@ -36,7 +41,8 @@ pub trait Edge {
         ensures unchanged { OnErr result (Told Same (told self.old) (told self.new)) }
         ensures cause { HasCause (λ f. f.disk) (faults self.old) (faults self.new) result }
         ensures heard { Told HearsNothing (heard self.old) (heard self.new) }
-        ensures kept { extent self.new ≡ extent self.old };
+        ensures kept { extent self.new ≡ extent self.old }
+        ensures channels { channels self.new ≡ channels self.old };
 
     /// Writes the bytes to the device from this place on. Until a sync succeeds, a stop may leave anything there, and
     /// where the write fails, what stands there is open.
@@ -47,7 +53,8 @@ pub trait Edge {
             (Told (WritesPart at bytes.now) (told self.old) (told self.new)) }
         ensures cause { HasCause (λ f. f.disk) (faults self.old) (faults self.new) result }
         ensures heard { Told HearsNothing (heard self.old) (heard self.new) }
-        ensures kept { extent self.new ≡ extent self.old };
+        ensures kept { extent self.new ≡ extent self.old }
+        ensures channels { channels self.new ≡ channels self.old };
 
     /// Makes all that was written last. Where it fails, a stop may still leave anything there.
     fn sync(&mut self) -> Result<(), Failed>
@@ -55,30 +62,62 @@ pub trait Edge {
         ensures part { OnErr result (Told SyncsPart (told self.old) (told self.new)) }
         ensures cause { HasCause (λ f. f.disk) (faults self.old) (faults self.new) result }
         ensures heard { Told HearsNothing (heard self.old) (heard self.new) }
-        ensures kept { extent self.new ≡ extent self.old };
+        ensures kept { extent self.new ≡ extent self.old }
+        ensures channels { channels self.new ≡ channels self.old };
 
-    /// Takes the next bytes of channel 0 into the start of `buf`, which is not empty, and returns how many. It returns 0
-    /// exactly at the end of the channel's bytes. Where it fails, it took none, and what `buf` holds is open.
+    /// Waits for what comes next. A client comes on a channel that was not open. Where it fails, nothing is passed over.
+    fn wait(&mut self) -> Result<Arrival, Failed>
+        ensures arrived { IfOk result (λ arrives. Told (Waits arrives) (told self.old) (told self.new)) }
+        ensures unchanged { OnErr result (Told Same (told self.old) (told self.new)) }
+        ensures unused { IfOk result (ComesUnused (channels self.old)) }
+        ensures cause { HasCause (λ f. f.input) (faults self.old) (faults self.new) result }
+        ensures heard { Told (Hears (Waited (result_ok result))) (heard self.old) (heard self.new) }
+        ensures kept { extent self.new ≡ extent self.old }
+        ensures channels { channels self.new ≡ after_wait (result_ok result) (channels self.old) };
+
+    /// Takes the next bytes of a channel into the start of `buf`, which is not empty, and returns how many. The channel is 0, or
+    /// the one that was last said to be ready. It returns 0 exactly at the end of the channel's bytes. Where it fails, it took none,
+    /// and what `buf` holds is open.
     fn take(&mut self, ch: Channel, buf: &mut [u8]) -> Result<usize, Failed>
-        requires channel { ch.0 ≡ 0 }
+        requires channel { (ch.0 ≡ 0) ⊎ ((channels self.old).ready ≡ Some ch.0) }
         requires room { 0 < length buf.old }
         ensures bound { IfOk result (λ count. count ≤ length buf.new) }
         ensures taken { IfOk result
             (λ count. Told (Takes ch count buf.new) (told self.old) (told self.new)) }
         ensures unchanged { OnErr result (Told Same (told self.old) (told self.new)) }
-        ensures cause { HasCause (λ f. f.input) (faults self.old) (faults self.new) result }
+        ensures cause { HasCause (count_of (take_fault (channels self.old) ch)) (faults self.old) (faults self.new) result }
         ensures heard { Told (Hears (heard_take ch buf.new result)) (heard self.old) (heard self.new) }
-        ensures kept { extent self.new ≡ extent self.old };
+        ensures kept { extent self.new ≡ extent self.old }
+        ensures channels { channels self.new ≡ channels self.old };
 
-    /// Sends the bytes out on channel 0. Where it fails, a prefix of them may have gone out.
+    /// Sends the bytes out on a channel. Where it fails, a prefix of them may have gone out.
     fn emit(&mut self, ch: Channel, bytes: &[u8]) -> Result<(), Failed>
-        requires channel { ch.0 ≡ 0 }
         ensures emitted { OnOk result (Told (Emits ch bytes.now) (told self.old) (told self.new)) }
         ensures part { OnErr result
             (Told (EmitsPart ch bytes.now) (told self.old) (told self.new)) }
-        ensures cause { HasCause (λ f. f.output) (faults self.old) (faults self.new) result }
+        ensures cause { HasCause (count_of (emit_fault (channels self.old) ch)) (faults self.old) (faults self.new) result }
         ensures heard { Told (Hears (Emitted ch (is_ok result))) (heard self.old) (heard self.new) }
-        ensures kept { extent self.new ≡ extent self.old };
+        ensures kept { extent self.new ≡ extent self.old }
+        ensures channels { channels self.new ≡ channels self.old };
+
+    /// Opens a channel to the gateway, which was not open.
+    fn dial(&mut self) -> Result<Channel, Failed>
+        ensures dialled { IfOk result (λ ch. Told (Dials ch) (told self.old) (told self.new)) }
+        ensures unchanged { OnErr result (Told Same (told self.old) (told self.new)) }
+        ensures unused { IfOk result (IsUnused (channels self.old)) }
+        ensures cause { HasCause (λ f. f.link) (faults self.old) (faults self.new) result }
+        ensures heard { Told (Hears (Dialled (result_ok result))) (heard self.old) (heard self.new) }
+        ensures kept { extent self.new ≡ extent self.old }
+        ensures channels { channels self.new ≡ after_dial (result_ok result) (channels self.old) };
+
+    /// Closes a channel.
+    fn close(&mut self, ch: Channel)
+        ensures noted { IsSome (heard self.new) → Told (Closes ch) (told self.old) (told self.new) }
+        ensures closed { Told (ClosesUnnoted ch) (told self.old) (told self.new) }
+        ensures later { Later (faults self.old) (faults self.new) }
+        ensures heard { Told HearsNothing (heard self.old) (heard self.new) }
+        ensures kept { extent self.new ≡ extent self.old }
+        ensures channels { channels self.new ≡ after_close ch (channels self.old) };
 
     /// The device that is told has the length that is told.
     ghost sized: { (edge : Self) → IfSome (told edge) (λ world. length world.device ≡ extent edge) };

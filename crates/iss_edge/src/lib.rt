@@ -5,6 +5,7 @@
 #![tactic(auto)]
 
 mod bytes;
+mod counts;
 mod device;
 mod edge;
 mod memory;
@@ -13,6 +14,7 @@ mod outside;
 mod tests;
 
 pub use bytes::Bytes;
+pub use counts::{Fault, FaultCounts};
 pub use device::{Showing, put, stretches_join};
 pub use edge::Edge;
 pub use memory::MemoryEdge;

@@ -75,7 +75,7 @@ pub funded_ask_paid : (s : CoreState) (ask : Ask) (from : Account) (p : Part) �
 funded_ask_paid s ask from p h stands =
     let xs = post_entries ask.txn from (user_account ask.txn) ask.amount in
     let ys = hold_entries ask.txn p ask.amount in
-    let e1 = post_effect s ask.txn from (user_account ask.txn) ask.amount h in
+    let e1 = post_effect s ask.txn from (user_account ask.txn) ask.amount h stands in
     let e2 = hold_effect (fold after_entry s xs) ask.txn p ask.amount e1.orderly (stands_then ask.txn e1 stands) in
     let e3 = still_effect (fold after_entry (fold after_entry s xs) ys) (entry.Decided ask.event verdict.Approved ∷ []) e2.orderly refl in
     subst (Paid (4 * ask.amount) ask.amount s) (three xs ys (entry.Decided ask.event verdict.Approved ∷ []))
@@ -90,7 +90,7 @@ set_stand_in_paid s number ask at set h stands =
     let last : List Entry = notice_entry number method.StandIn ask.txn None ask.amount 0 ∷ entry.Decided ask.event verdict.Approved ∷ [] in
     let e0 = calm_effect s zs h (tt, tt) refl in
     let s0 = fold after_entry s zs in
-    let e1 = post_effect s0 ask.txn (account.Programme ask.txn.currency) (user_account ask.txn) ask.amount e0.orderly in
+    let e1 = post_effect s0 ask.txn (account.Programme ask.txn.currency) (user_account ask.txn) ask.amount e0.orderly (stands_then ask.txn e0 stands) in
     let e2 = hold_effect (fold after_entry s0 xs) ask.txn part.P ask.amount e1.orderly (stands_then ask.txn e1 (stands_then ask.txn e0 stands)) in
     let e3 = still_effect (fold after_entry (fold after_entry s0 xs) ys) last e2.orderly refl in
     subst (λ (es : List Entry). Paid (4 * ask.amount) (2 * ask.amount) s (entry.Stood set.name ask.txn.product ask.txn.user ask.amount at ∷ es)) (three xs ys last)

@@ -18,7 +18,7 @@ use Rattle.iss_model.specs.state.Cores.{CoreState, Holdings, after_entry}
 use Rattle.iss_effects.specs.Effects.{Effect, HoldsParts}
 use Rattle.iss_effects.specs.Needs.{Stands, UsageNeeds}
 use Rattle.iss_effects.specs.Stakes.{IsOrderlyState, part_held}
-use Rattle.iss_effects.proofs.Effects.{all_calm_holdings, and_then, calm_effect, comes_to, down_size, is_calm, less_held_effect, more_held_effect, no_effect, stands_then}
+use Rattle.iss_effects.proofs.Effects.{all_calm_holdings, and_then, calm_effect, comes_to, down_size, is_calm, less_held_effect, more_held_effect, no_effect, stands_is_named, stands_then}
 use Rattle.iss_effects.proofs.Finds.{number_is}
 use Rattle.iss_effects.proofs.Parts.{part_less, part_same}
 use Rattle.iss_effects.proofs.Regrouping.{six}
@@ -61,10 +61,10 @@ usage_effect s t amount count at h stands =
     comes_to 0 (nat_abs amount + nat_abs count) 0 0
     (calm_effect s (entry.Usage (usage_of t amount count at) ∷ []) h (usage_fits s t amount count at stands, tt) refl) (omega arith) (omega arith) (omega arith)
 
-pub post_effect : (s : CoreState) (t : Txn) (from to : Account) (m : ℕ) → IsOrderlyState s → Effect s (post_entries t from to m) m 0 0 0
-post_effect s t from to m h =
+pub post_effect : (s : CoreState) (t : Txn) (from to : Account) (m : ℕ) → IsOrderlyState s → Stands s t → Effect s (post_entries t from to m) m 0 0 0
+post_effect s t from to m h stands =
     only_where_effect m h (λ none. omega arith)
-    (comes_to m 0 0 0 (calm_effect s (entry.Post from to m (Some t.token) ∷ []) h (tt, tt) refl) (omega arith) (omega arith) (omega arith))
+    (comes_to m 0 0 0 (calm_effect s (entry.Post from to m (Some t.token) ∷ []) h (stands_is_named s t stands, tt) refl) (omega arith) (omega arith) (omega arith))
 
 pub use_return_effect : (s : CoreState) (t : Txn) (m : ℕ) → IsOrderlyState s → Stands s t → Effect s (use_return_entries t m) 0 m 0 0
 use_return_effect s t m h stands =
@@ -120,7 +120,7 @@ release_effect s t parts amount h stands has le =
     let all = taken_all amount parts.p parts.g parts.s (omega (arith, le)) in
     let e1 = unhold_effect s t part.P taken.p h stands (omega (arith, has.of_programme)) in
     let s1 = fold after_entry s (unhold_entries t part.P taken.p) in
-    let e2 = post_effect s1 t (user_account t) (account.Programme t.currency) taken.p e1.orderly in
+    let e2 = post_effect s1 t (user_account t) (account.Programme t.currency) taken.p e1.orderly (stands_then t e1 stands) in
     let s2 = fold after_entry s1 (post_entries t (user_account t) (account.Programme t.currency) taken.p) in
     let n2 : Stands s2 t = stands_then t e2 (stands_then t e1 stands) in
     let g2 : part_held s2.holdings.parts t.token part.G ≡ part_held s.holdings.parts t.token part.G =
@@ -129,7 +129,7 @@ release_effect s t parts amount h stands has le =
     part_after_post s1 t (user_account t) (account.Programme t.currency) taken.p t.token part.S ∙ unhold_other s t part.P part.S taken.p refl in
     let e3 = unhold_effect s2 t part.G taken.g e2.orderly n2 (omega (arith, has.of_gateway, g2)) in
     let s3 = fold after_entry s2 (unhold_entries t part.G taken.g) in
-    let e4 = post_effect s3 t (user_account t) (account.Gateway t.currency) taken.g e3.orderly in
+    let e4 = post_effect s3 t (user_account t) (account.Gateway t.currency) taken.g e3.orderly (stands_then t e3 n2) in
     let s4 = fold after_entry s3 (post_entries t (user_account t) (account.Gateway t.currency) taken.g) in
     let n4 : Stands s4 t = stands_then t e4 (stands_then t e3 n2) in
     let o4 : part_held s4.holdings.parts t.token part.S ≡ part_held s.holdings.parts t.token part.S =

@@ -49,6 +49,11 @@ pub record UsageNeeds (s : CoreState) (row : UsageRow) : Type 0 where
   pub of_product : row.product ≡ its.product
   pub of_currency : row.currency ≡ its.currency
 
+-- a post for a transaction is for one that stands
+abbrev pub PostNeeds : CoreState → Option (List ℕ) → Type 0
+PostNeeds s None = Unit {0}
+PostNeeds s (Some token) = is_named_in (txn_tokens s.holdings.txns) token ≡ true
+
 -- a transaction that begins has a new token, and comes of a later record than those that stand
 pub record BeginNeeds (s : CoreState) (t : Txn) : Type 0 where
   pub unknown : is_named_in (txn_tokens s.holdings.txns) t.token ≡ false
@@ -72,6 +77,7 @@ abbrev pub Fits : CoreState → Entry → Type 0
 Fits s (entry.Conf i) = setting_reason (core_facts s) i ≡ None
 Fits s (entry.Began t) = BeginNeeds s t
 Fits s (entry.Opened o) = o.call.0 ≡ length s.calls + 1
+Fits s (entry.Post from to amount txn) = PostNeeds s txn
 Fits s (entry.Hold txn user currency p amount) = HoldNeeds s txn user currency p amount
 Fits s (entry.Usage row) = UsageNeeds s row
 Fits s (entry.Ended txn) = is_named_in (txn_tokens s.holdings.txns) txn ≡ true

@@ -5,7 +5,9 @@
 #![tactic(auto)]
 
 mod entries;
+mod names;
 mod pieces;
 
 pub use entries::{entries_move_sums, entries_move_what_is_at_stake};
+pub use names::transactions_are_found_by_name;
 pub use pieces::pieces_are_paid;

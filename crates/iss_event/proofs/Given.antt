@@ -1,11 +1,11 @@
 -- What holds of each input that the fields of a type may give holds of what they give.
-use Rattle.std.proofs.Common.{codes, ◌≡◌, ℕ, ◌&&◌, ◌||◌, Bool, true, false, List, Option, Some, None, is_some, is_none, option_map, option_and_then, Result, Ok, Err, IfOk, IfSome, cond, refl, ap, ◌∙◌, arith}
+use Rattle.std.proofs.Common.{codes, ◌≡◌, ℕ, ◌&&◌, ◌||◌, Bool, true, false, List, Option, Some, None, is_some, is_none, option_map, Result, Ok, Err, IfOk, IfSome, cond, refl, ap, ◌∙◌, arith}
 use Rattle.std.specs.Option.{ok_or}
 use Rattle.std.proofs.lemmas.Option.{IfSome_then}
 use Rattle.std.proofs.lemmas.Bool.Decides.{nat_tests}
 use Rattle.serde_json.specs.Data.{Data}
 use Rattle.serde_json.specs.Find.{as_bool}
-use Rattle.iss_model.specs.declared.limits.TheConstants.{SHORTEST_TIMEOUT, LONGEST_TIMEOUT, SHORTEST_HOLD, LONGEST_HOLD, GREATEST_USAGE, FIRST_NUMBER, GREATEST_NUMBER}
+use Rattle.iss_model.specs.declared.limits.TheConstants.{SHORTEST_TIMEOUT, LONGEST_TIMEOUT, SHORTEST_HOLD, LONGEST_HOLD, GREATEST_USAGE}
 use Rattle.iss_model.specs.declared.currency.Currency.{Currency}
 use Rattle.iss_model.specs.declared.setting.Funding.{Funding}
 use Rattle.iss_model.specs.declared.setting.Window.{Window}
@@ -13,19 +13,17 @@ use Rattle.iss_model.specs.declared.setting.Window.TheVariants as window
 use Rattle.iss_model.specs.declared.setting.Association.{Association}
 use Rattle.iss_model.specs.declared.setting.Scope.{Scope}
 use Rattle.iss_model.specs.declared.setting.Moved.{Moved}
-use Rattle.iss_model.specs.declared.input.Outcome.{Outcome}
 use Rattle.iss_model.specs.declared.input.Input.{Input}
 use Rattle.iss_model.specs.declared.input.Input.TheVariants as input
-use Rattle.iss_model.specs.Forms.{is_amount, is_limit, is_usage_limit, is_none_or, is_mcc, is_number, is_timeout, is_hold_time, are_mccs, are_limits, may_count, is_scope}
+use Rattle.iss_model.specs.Forms.{is_limit, is_usage_limit, is_none_or, is_mcc, is_timeout, is_hold_time, are_mccs, are_limits, may_count, is_scope}
 use Rattle.iss_field.specs.declared.name.Name.{Name}
 use Rattle.iss_field.specs.declared.name.Name.TheVariants as name
 use Rattle.iss_field.specs.Fields.{◌>>=◌, field, form_if, required_field, found_unless, required_field_unless, field_or, optional_field, optional_field_or}
-use Rattle.iss_field.specs.Values.{token_of, currency_of, amount_of, limit_of, whole_within, mcc_of, mccs_of, funding_of, window_of, outcome_of}
-use Rattle.iss_field.proofs.ValuesInForm.{Meets, IsWithin, amount_of-meets, limit_of-meets, whole_within-meets, mcc_of-meets}
+use Rattle.iss_field.specs.Values.{token_of, currency_of, limit_of, whole_within, mcc_of, mccs_of, funding_of, window_of}
+use Rattle.iss_field.proofs.ValuesInForm.{Meets, IsWithin, limit_of-meets, whole_within-meets, mcc_of-meets}
 use Rattle.iss_field.proofs.RisingCodes.{mccs_of-meets}
 use Rattle.iss_field.proofs.FieldsInForm.{required-is, optional-is, optional_or-is}
-use Rattle.iss_event.specs.declared.payments.Operation.{Operation}
-use Rattle.iss_event.specs.Inputs.{user_input, card_input, whose_move, move_input, product_input, group_input, counts_purchases, limits_said, association_said, scope_named, scope_said, control_input, set_input, switch_input, load_input, authorization_input, operation_said, increment_input, reversal_input, clearing_input, refund_input, answer_input, ack_input}
+use Rattle.iss_event.specs.Inputs.{user_input, card_input, whose_move, move_input, product_input, group_input, counts_purchases, limits_said, association_said, scope_named, scope_said, control_input, set_input, switch_input}
 
 abbrev Text : Type 0
 Text = Result (List ℕ) Name
@@ -71,38 +69,26 @@ unfolding move_input
 move-gives P d h =
     of_move P (required_field token_of name.Token d) (optional_field token_of name.Card d) (λ card. whose_move card (is_some (field name.User d)) d) h
 
--- the fields of a product are these: its funding as the line says it, its times in form
-pub record IsProduct (said : Option Funding) (funding : Funding) (timeout_ms hold_ms : ℕ) : Type 0 where
-  pub funded : said ≡ Some funding
+-- a product's times are in form
+pub record HasTimes (timeout_ms hold_ms : ℕ) : Type 0 where
   pub timeout : is_timeout timeout_ms ≡ true
   pub hold : is_hold_time hold_ms ≡ true
 
-found_as : (o : Option Funding) (fault : Name) → IfOk (ok_or o fault) (λ funding. o ≡ Some funding)
-found_as None fault = tt
-found_as (Some funding) fault = refl
-
-funding_found : (d : Data) → IfOk (required_field funding_of name.Funding d) (λ funding. option_and_then funding_of (field name.Funding d) ≡ Some funding)
-unfolding required_field
-funding_found d = found_as (option_and_then funding_of (field name.Funding d)) name.Funding
-
-of_product : (P : Input → Type 0) (said : Option Funding) (t p : Text) (c : Result Currency Name) (f : Result Funding Name) (a h : Number)
-    → IfOk f (λ funding. said ≡ Some funding) → IfOk a (Meets is_timeout) → IfOk h (Meets is_hold_time)
-    → ((token product : List ℕ) (currency : Currency) (funding : Funding) (timeout_ms hold_ms : ℕ) → IsProduct said funding timeout_ms hold_ms → P (input.Product token product currency funding timeout_ms hold_ms))
+of_product : (P : Input → Type 0) (t p : Text) (c : Result Currency Name) (f : Result Funding Name) (a h : Number) → IfOk a (Meets is_timeout) → IfOk h (Meets is_hold_time)
+    → ((token product : List ℕ) (currency : Currency) (funding : Funding) (timeout_ms hold_ms : ℕ) → HasTimes timeout_ms hold_ms → P (input.Product token product currency funding timeout_ms hold_ms))
     → IfOk (t >>= λ token. p >>= λ product. c >>= λ currency. f >>= λ funding. a >>= λ timeout_ms. h >>= λ hold_ms. Ok (input.Product token product currency funding timeout_ms hold_ms)) P
-of_product P said (Ok token) (Ok product) (Ok currency) (Ok funding) (Ok timeout_ms) (Ok hold_ms) funded timeout hold g =
-    g token product currency funding timeout_ms hold_ms (record { funded = funded; timeout = timeout; hold = hold })
-of_product P said _ _ _ _ _ _ _ _ _ g = tt
+of_product P (Ok token) (Ok product) (Ok currency) (Ok funding) (Ok timeout_ms) (Ok hold_ms) timeout hold g =
+    g token product currency funding timeout_ms hold_ms (record { timeout = timeout; hold = hold })
+of_product P _ _ _ _ _ _ _ _ g = tt
 
 pub product-gives : (P : Input → Type 0) (d : Data)
-    → ((token product : List ℕ) (currency : Currency) (funding : Funding) (timeout_ms hold_ms : ℕ) → IsProduct (option_and_then funding_of (field name.Funding d)) funding timeout_ms hold_ms
-    → P (input.Product token product currency funding timeout_ms hold_ms))
+    → ((token product : List ℕ) (currency : Currency) (funding : Funding) (timeout_ms hold_ms : ℕ) → HasTimes timeout_ms hold_ms → P (input.Product token product currency funding timeout_ms hold_ms))
     → IfOk (product_input d) P
 unfolding product_input
 product-gives P d h =
-    of_product P (option_and_then funding_of (field name.Funding d)) (required_field token_of name.Token d) (required_field token_of name.Product d) (required_field currency_of name.Currency d)
+    of_product P (required_field token_of name.Token d) (required_field token_of name.Product d) (required_field currency_of name.Currency d)
     (required_field funding_of name.Funding d) (optional_field_or (whole_within SHORTEST_TIMEOUT LONGEST_TIMEOUT) 3000 name.TimeoutMs d)
     (optional_field_or (whole_within SHORTEST_HOLD LONGEST_HOLD) 604800000 name.HoldMs d)
-    (funding_found d)
     (optional_or-is (whole_within SHORTEST_TIMEOUT LONGEST_TIMEOUT) 3000 name.TimeoutMs d (Meets is_timeout) refl (whole_within-meets SHORTEST_TIMEOUT LONGEST_TIMEOUT))
     (optional_or-is (whole_within SHORTEST_HOLD LONGEST_HOLD) 604800000 name.HoldMs d (Meets is_hold_time) refl (whole_within-meets SHORTEST_HOLD LONGEST_HOLD)) h
 

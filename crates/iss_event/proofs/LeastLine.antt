@@ -60,10 +60,6 @@ opened-least mode line =
     unless_long (nat_lt LONGEST_LINE (length line)) (opened_if_found mode (object_of line)) (4 ≤ length line)
     (opened-member mode (object_of line) (4 ≤ length line) (object_with_member (name_text name.Kind) line))
 
--- a line that is opened has at least four bytes
-pub least_open : (mode : Mode) (line : List ℕ) (opened : Opened) → opened_line mode line ≡ Ok opened → 4 ≤ length line
-least_open mode line opened is = subst (λ (r : Result Opened FormFault). IfOk r (λ found. 4 ≤ length line)) is (opened-least mode line)
-
 line_read-least : (mode : Mode) (line : List ℕ) → IfOk (line_read mode line) (λ said. 4 ≤ length line)
 unfolding line_read
 line_read-least mode line = then_always (opened_line mode line) (λ opened. as_fault (said_line opened)) (4 ≤ length line) (opened-least mode line)

@@ -1,6 +1,5 @@
 -- What a line says is in form.
-use Rattle.std.proofs.Common.{◌≡◌, ℕ, ◌&&◌, Bool, true, false, nat_lt, nat_le, List, length, Option, Some, None, option_map, Result, Ok, Err, IfOk, IfSome, cond, refl, subst, arith}
-use Rattle.std.specs.Option.{ok_or}
+use Rattle.std.proofs.Common.{◌≡◌, ℕ, ◌&&◌, Bool, true, false, nat_lt, List, length, Option, Some, None, Result, Ok, Err, IfOk, IfSome, cond, refl, subst, arith}
 use Rattle.std.proofs.lemmas.Bool.Decides.{nat_tests}
 use Rattle.serde_json.specs.Data.{Data}
 use Rattle.iss_model.specs.declared.limits.TheConstants.{LAST_STAMP, LONGEST_LINE}
@@ -24,8 +23,8 @@ use Rattle.iss_event.specs.declared.line.LineFault.{LineFault}
 use Rattle.iss_event.specs.declared.line.LineFault.TheVariants.{Form, OutOfMemory}
 use Rattle.iss_event.specs.Kinds.{kind_of, may_lack_stamp}
 use Rattle.iss_event.specs.Inputs.{input_of_kind}
-use Rattle.iss_event.specs.Readings.{Opened, as_fault, stamp_said, opened_object, opened_if_found, opened_line, said_line, line_read, Reads}
-use Rattle.iss_event.proofs.Given.{user-gives, card-gives, move-gives, product-gives, IsProduct, group-gives, control-gives, set-gives, switch-gives}
+use Rattle.iss_event.specs.Readings.{as_fault, stamp_said, opened_object, opened_if_found, opened_line, said_line, line_read, Reads}
+use Rattle.iss_event.proofs.Given.{user-gives, card-gives, move-gives, product-gives, group-gives, control-gives, set-gives, switch-gives}
 use Rattle.iss_event.proofs.GivenMoney.{load-gives, authorization-gives, increment-gives, reversal-gives, clearing-gives, refund-gives, answer-gives, ack-gives}
 
 -- ---- inputs
@@ -70,22 +69,6 @@ pub said-is : (P : Input → Type 0) (Q : Option ℕ → Type 0) (a : Result (Op
     → IfOk {T = Line} (as_fault (a >>= λ at. i >>= λ said. Ok (record { input = said; at = at }))) (λ line. P line.input × Q line.at)
 said-is P Q (Ok at) (Ok said) h g = (g, h)
 said-is P Q _ _ h g = tt
-
-abbrev Anything : Option ℕ → Type 0
-Anything at = Unit {0}
-
-anything : (a : Result (Option ℕ) Name) → IfOk a Anything
-anything (Ok at) = tt
-anything (Err name) = tt
-
-input_of : (r : Result Line FormFault) → IfOk r (λ line. InForm line.input × Anything line.at) → IfOk r (λ line. InForm line.input)
-input_of (Ok line) h = h.0
-input_of (Err fault) h = tt
-
--- what an open line says is in form
-said_line-in_form : (o : Opened) → IfOk (as_fault (said_line o)) (λ line. InForm line.input)
-unfolding said_line
-said_line-in_form o = input_of _ (said-is InForm Anything o.stamp (input_of_kind o.kind o.object) (anything o.stamp) (input-in_form o.kind o.object))
 
 stamp_within : (at : ℕ) → IsWithin 0 LAST_STAMP at → is_stamp at ≡ true
 stamp_within at h = grind (arith, nat_tests)
@@ -144,6 +127,3 @@ read_input_in_form mode line r is = input_form r (read_as IsGoodLine (line_read 
 
 pub read_stamp_in_form : (mode : Mode) (line : List ℕ) (r : Result Line LineFault) → Reads (line_read mode line) r → IfOk r (λ said. is_stamp_or_none said.at ≡ true)
 read_stamp_in_form mode line r is = stamp_form r (read_as IsGoodLine (line_read mode line) r is (line_read-good mode line))
-
-pub open_input_in_form : (o : Opened) (r : Result Line LineFault) → Reads (as_fault (said_line o)) r → IfOk r (λ said. is_in_form said.input ≡ true)
-open_input_in_form o r is = read_as (λ line. InForm line.input) (as_fault (said_line o)) r is (said_line-in_form o)

@@ -1,7 +1,6 @@
 -- The lines of a report, piece by piece.
-use Rattle.std.proofs.Common.{◌≡◌, ℕ, ℤ, List, [], ◌∷◌, ◌++◌, codes, decimal, Result, OnOk, refl, sym, ap, ◌∙◌, append_assoc}
+use Rattle.std.proofs.Common.{◌≡◌, ℕ, ℤ, List, [], ◌∷◌, ◌++◌, codes, decimal, Result, OnOk, sym, ap, ◌∙◌, append_assoc}
 use Rattle.std.proofs.lemmas.Result.{on_ok_weaker}
-use Rattle.iss_model.specs.declared.currency.Currency.{Currency}
 use Rattle.iss_model.specs.declared.account.Account.{Account}
 use Rattle.iss_model.specs.declared.account.Account.TheVariants as account
 use Rattle.iss_model.specs.Currencies.{currency_code}
@@ -9,7 +8,7 @@ use Rattle.iss_model.specs.Amounts.{amount_text}
 use Rattle.iss_model.specs.rules.Facts.{Facts}
 use Rattle.iss_model.specs.texts.Wordings.{line_of}
 use Rattle.iss_model.specs.texts.BalanceLines.{sheet_members, account_line, count_line}
-use Rattle.iss_event.specs.ReportLines.{balance_members, balance_text, counts_text, IsShown, AreCounts, start_piece, holder_piece, account_piece, account_currency, counts_piece}
+use Rattle.iss_event.specs.ReportLines.{balance_members, balance_text, counts_text, IsShown, AreCounts, account_piece, account_currency, counts_piece}
 use Rattle.iss_event.proofs.Lines.{four, quoted}
 
 -- pieces in a row

@@ -1,14 +1,13 @@
 -- What a line says.
-use Rattle.std.specs.Prelude.{◌≡◌, ℕ, List, length, Bool, true, false, nat_lt, Option, Some, None, option_and_then, Result, Ok, Err, if◌then◌else◌}
+use Rattle.std.specs.Prelude.{◌≡◌, ℕ, List, length, nat_lt, Option, Some, None, Result, Ok, Err, if◌then◌else◌}
 use Rattle.serde_json.specs.Data.{Data}
 use Rattle.iss_model.specs.declared.limits.TheConstants.{LAST_STAMP, LONGEST_LINE}
-use Rattle.iss_model.specs.declared.setting.Funding.{Funding}
 use Rattle.iss_field.specs.declared.name.Name.{Name}
 use Rattle.iss_field.specs.declared.name.Name.TheVariants as name
 use Rattle.iss_field.specs.Seen.{seen}
 use Rattle.iss_field.specs.Objects.{object_of}
-use Rattle.iss_field.specs.Fields.{◌>>=◌, field, required_field, required_field_unless}
-use Rattle.iss_field.specs.Values.{whole_within, funding_of}
+use Rattle.iss_field.specs.Fields.{◌>>=◌, required_field, required_field_unless}
+use Rattle.iss_field.specs.Values.{whole_within}
 use Rattle.iss_event.specs.declared.kind.Kind.{Kind}
 use Rattle.iss_event.specs.declared.line.Mode.{Mode}
 use Rattle.iss_event.specs.declared.line.Mode.TheVariants.{Lines, Client}
@@ -30,16 +29,6 @@ as_fault (Err name) = Err (Field name)
 abbrev pub stamp_said : Mode → Kind → Data → Result (Option ℕ) Name
 stamp_said Lines kind d = required_field_unless (may_lack_stamp kind) (whole_within 0 LAST_STAMP) name.At d
 stamp_said Client kind d = Ok None
-
--- a stamp is there, a good one or a bad one
-abbrev pub has_stamp : Result (Option ℕ) Name → Bool
-has_stamp (Ok None) = false
-has_stamp (Ok (Some at)) = true
-has_stamp (Err name) = true
-
--- who funds, where the line says so
-abbrev pub funding_said : Data → Option Funding
-funding_said d = option_and_then funding_of (field name.Funding d)
 
 -- an object of a good type, with its stamp or that this is bad
 pub record Opened : Type 0 where

@@ -7,7 +7,7 @@ use iss_field::{Form, Value, text};
 
 /// What a line is about, by its field `type`.
 #[derive(Clone, Copy, Debug, PartialEq, Eq)]
-pub enum Kind {
+pub(crate) enum Kind {
     User,
     Card,
     Move,

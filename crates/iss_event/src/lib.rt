@@ -18,9 +18,8 @@ mod settings;
 mod writing;
 
 pub use iss_field::{Name, Scratch};
-pub use kind::Kind;
-pub use line::{FormFault, Line, LineFault, Mode, OpenLine};
-pub use reading::{open_line, read_line, read_line_in};
+pub use line::{FormFault, Line, LineFault, Mode};
+pub use reading::{read_line, read_line_in};
 pub use report::{balance_line, count_line};
 pub use writing::{
     acked_line, form_line, put_acked, put_form, put_reply, put_time, put_told, reply_line,

@@ -1,5 +1,5 @@
 //! What reading a line gives.
-use crate::Kind;
+use crate::kind::Kind;
 use iss_field::{Name, Object};
 use iss_model::Input;
 
@@ -22,7 +22,7 @@ pub struct Line {
 
 /// A line's object with its type and its stamp. Its other fields aren't read yet.
 #[derive(Drop)]
-pub struct OpenLine<'a> {
+pub(crate) struct OpenLine<'a> {
     pub(crate) kind: Kind,
     /// Its stamp, or that this field is bad.
     pub(crate) stamp: Result<Option<u64>, Name>,

@@ -3,13 +3,13 @@ ghost use Rattle.std.specs.Prelude.{◌≡◌, ◌≤◌, length, IfOk, IsTrue};
 ghost use Rattle.iss_model.specs.Forms.{is_in_form, is_stamp_or_none};
 ghost use Rattle.iss_field.specs.Seen.{seen};
 ghost use Rattle.iss_event.specs.Kinds.{may_lack_stamp};
-ghost use Rattle.iss_event.specs.Readings.{Reads, Opens, opened_as, as_fault, stamp_said, has_stamp, funding_said, opened_line, said_line, line_read};
+ghost use Rattle.iss_event.specs.Readings.{Reads, Opens, opened_as, as_fault, stamp_said, opened_line, said_line, line_read};
 
 use crate::inputs::input_of_kind;
 use crate::kind::{Kind, KindForm};
-use crate::{FormFault, Line, LineFault, Mode, OpenLine};
-use iss_field::{FundingForm, Name, Object, Scratch, WholeForm};
-use iss_model::Funding;
+use crate::line::OpenLine;
+use crate::{FormFault, Line, LineFault, Mode};
+use iss_field::{Name, Object, Scratch, WholeForm};
 use iss_model::limits::{LAST_STAMP, LONGEST_LINE};
 use std::alloc::Global;
 
@@ -53,7 +53,7 @@ fn read(scratch: &mut Scratch, alloc: Global, line: &[u8], mode: Mode) -> Result
 
 /// The object of a line, with its type and its stamp, or the first fault before its other fields.
 #[tactic(auto, unfolding(crate::specs::Readings::opened_line, crate::specs::Readings::opened_object))]
-pub fn open_line<'a>(
+fn open_line<'a>(
     scratch: &'a mut Scratch,
     alloc: Global,
     line: &'a [u8],
@@ -98,31 +98,10 @@ fn may_lack_stamp(kind: Kind) -> bool
 }
 
 impl OpenLine<'_> {
-    pub fn kind(&self) -> Kind
-        ensures { result ≡ self.now.kind }
-    {
-        self.kind
-    }
-
-    /// Whether the line has a stamp, a good one or a bad one.
-    pub fn has_stamp(&self) -> bool
-        ensures { result ≡ has_stamp self.now.stamp }
-    {
-        !matches!(self.stamp, Ok(None))
-    }
-
-    /// Who funds, where the line says so.
-    pub fn funding(&self) -> Option<Funding>
-        ensures { result ≡ funding_said (seen self.now.object.value) }
-    {
-        self.object.in_form(Name::Funding, FundingForm)
-    }
-
     /// What the line says, or its first bad field after its type.
-    #[tactic(auto, using(crate::proofs::LinesInForm::open_input_in_form), unfolding(crate::specs::Readings::said_line))]
-    pub fn read(&self, alloc: Global) -> Result<Line, LineFault>
-        ensures read { Reads (as_fault (said_line (opened_as self.now))) result }
-        ensures input_form { IfOk result (λ said. IsTrue (is_in_form said.input)) }
+    #[tactic(auto, unfolding(crate::specs::Readings::said_line))]
+    fn read(&self, alloc: Global) -> Result<Line, LineFault>
+        ensures { Reads (as_fault (said_line (opened_as self.now))) result }
     {
         let at = match self.stamp {
             Ok(at) => at,

@@ -12,13 +12,9 @@ use Rattle.iss_model.specs.rules.Activity.{TxnNow, txn_named}
 use Rattle.iss_model.specs.state.Kept.{Kept, nothing_kept, after_changes}
 use Rattle.iss_model.specs.state.Cores.{is_live, with_txn}
 use Rattle.iss_hold.specs.declared.hold.Hold.{Hold}
-use Rattle.iss_hold.specs.Holdings.{now_of, part_sums, user_sums, holdings_of}
+use Rattle.iss_hold.specs.Holdings.{begun, now_of, part_sums, user_sums, holdings_of}
 use Rattle.iss_hold.specs.Expiries.{Expiry, expiry_of, item_of, with_expiry, expiries}
 use Rattle.iss_hold.specs.Indexes.{by_expiry}
-
--- a hold with nothing in it
-abbrev pub begun : Txn → Hold
-begun t = record { txn = t; live = true; g = 0; p = 0; s = 0 }
 
 fold_push : {S A : Type 0} (f : S → A → S) (s : S) (xs : List A) (x : A) → fold f s (xs ++ x ∷ []) ≡ f (fold f s xs) x
 fold_push f s [] x = refl

@@ -1,8 +1,7 @@
 -- What calls on a started transaction make of the holdings, each of which changes one hold.
-use Rattle.std.proofs.Common.{◌≡◌, ℕ, zero, suc, ◌+◌, ◌-◌, ◌<◌, ◌≤◌, ◌^◌, ◌==◌, ℤ, pos, negsuc, neg_ℤ, ◌+ℤ◌, Bool, true, false, cond, ◌&&◌, ◌<ℤ◌, List, [], ◌∷◌, ◌++◌, get_or, length, map, fold, set, refl, sym, ap, ap₂, ◌∙◌, subst, arith}
+use Rattle.std.proofs.Common.{◌≡◌, ℕ, zero, suc, ◌+◌, ◌-◌, ◌<◌, ◌≤◌, ◌^◌, ◌==◌, ℤ, pos, negsuc, neg_ℤ, ◌+ℤ◌, Bool, true, false, cond, ◌&&◌, ◌<ℤ◌, List, [], ◌∷◌, ◌++◌, length, map, fold, set, refl, sym, ap, ap₂, ◌∙◌, subst, arith}
 use Rattle.std.proofs.lemmas.Int.{ints}
 use Rattle.std.proofs.lemmas.List.{length-map}
-use Rattle.std.proofs.lemmas.Option.{slice_get_read}
 use Rattle.std.proofs.lemmas.Bool.Decides.{nat_tests}
 use Rattle.std.specs.Prelude.{Option, Some, slice_get, unwrap_or, None, is_some, ◌≤ℤ◌}
 use Rattle.std.specs.List.{IsDistinct}
@@ -163,11 +162,11 @@ covered_sum (negsuc n) there h = omega (arith, ints, h)
 left_over : (z : ℤ) (there : ℕ) → IsCovered z there → (pos there +ℤ z) ≡ pos (not_below (pos there +ℤ z))
 left_over z there h = not_negative (pos there +ℤ z) (covered_sum z there h)
 
--- what stands at a place
-pub stands_at : (hs : List Hold) (i : ℕ) (h : Hold) {s : Holdings} → holdings_of hs ≡ s → i < length s.txns → h ≡ get_or hs i h → slice_get hs i ≡ Some h
-stands_at hs i h {s} view within e =
+-- a place among the transactions is one of the holds'
+pub within_holds : (hs : List Hold) (i : ℕ) {s : Holdings} → holdings_of hs ≡ s → i < length s.txns → i < length hs
+within_holds hs i {s} view within =
     let len : length hs ≡ length s.txns = sym (length-map hs now_of) ∙ ap (λ (x : Holdings). length x.txns) view in
-    slice_get_read hs (length hs) i h refl (omega (arith, len, within)) e
+    omega (arith, len, within)
 
 -- the part that is kept of what stands at a place is that of its hold
 part_at : (hs : List Hold) (i : ℕ) (h : Hold) {s : Holdings} → holdings_of hs ≡ s → IsDistinct bytes_eq (names hs) → slice_get hs i ≡ Some h → (p : Part)

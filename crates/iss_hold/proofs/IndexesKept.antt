@@ -7,7 +7,7 @@ use Rattle.std.specs.Cmp.Lexicographic.{nat_list_eq_equiv}
 use Rattle.std.specs.Str.{bytes_eq}
 use Rattle.std.specs.BTreeMap as tree
 use Rattle.std.specs.BTreeMap.{BTreeMap, is_at, insert_entry}
-use Rattle.std.specs.Map.{lookup, remove_entry, keys_of}
+use Rattle.std.specs.Map.{lookup, remove_entry}
 use Rattle.std.specs.List.Sorted.{IsStrictlySortedBy}
 use Rattle.std.proofs.lemmas.Map.Keys.{IsDistinct-push}
 use Rattle.std.proofs.lemmas.Map.Text.{is_eq-slice_cmp}
@@ -16,23 +16,18 @@ use Rattle.iss_model.specs.rules.Activity.{TxnNow, txn_named}
 use Rattle.iss_model.specs.Currencies.{iso_number}
 use Rattle.iss_model.proofs.Names.{one_name}
 use Rattle.iss_hold.specs.declared.hold.Hold.{Hold}
-use Rattle.iss_hold.specs.Holdings.{now_of}
-use Rattle.iss_hold.specs.Expiries.{Expiry}
-use Rattle.iss_hold.specs.Indexes.{names, origins, place_in, total_of, by_name, by_user, by_expiry, AreSummed, AreIndexed}
+use Rattle.iss_hold.specs.Holdings.{begun, now_of}
+use Rattle.iss_hold.specs.Expiries.{Expiry, expiries}
+use Rattle.iss_hold.specs.Indexes.{names, origins, place_in, total_of, by_name, by_user, by_expiry, with_name, with_token, AreSummed, AreIndexed}
 use Rattle.iss_hold.specs.Sums.{sum_in}
 use Rattle.iss_hold.proofs.IndexCalls.{none_some}
 use Rattle.iss_hold.proofs.HoldSums.{map_set}
 use Rattle.iss_hold.proofs.HoldTotals.{total_set, total_more}
 use Rattle.iss_hold.proofs.Changes.{there_or_set}
 use Rattle.iss_hold.proofs.Places.{IsReplaced, place_more, no_place, has_place}
-use Rattle.iss_hold.proofs.Beginnings.{map_push, begun, entries_more}
+use Rattle.iss_hold.proofs.Beginnings.{map_push, entries_more}
 use Rattle.iss_hold.proofs.Endings.{ended, expiries_less, expiries_same}
-
--- what was there stays there after one more
-there_before : {A : Type 0} (xs : List A) (x : A) (i : ℕ) (y : A) → slice_get xs i ≡ Some y → slice_get (xs ++ x ∷ []) i ≡ Some y
-there_before [] x i y e = cc
-there_before (a ∷ xs) x zero y e = e
-there_before (a ∷ xs) x (suc i) y e = there_before xs x i y e
+use Rattle.iss_hold.proofs.NamedExpiries.{named_insert, named_remove, same_keys}
 
 -- what is there after one more was there, or is it
 there_or_last : (P : Hold → Type 0) (hs : List Hold) (h : Hold) → ((i : ℕ) (k : Hold) → slice_get hs i ≡ Some k → P k) → P h
@@ -56,7 +51,7 @@ no_origin number [] = refl
 no_origin number (h ∷ hs) = ap (λ (b : Bool). (number == h.txn.origin) || b) (no_origin number hs)
 
 -- one more transaction: its place, its user's sum and its expiry are there
-pub indexed_more : (hs : List Hold) (places more_places : BTreeMap (List ℕ) ℕ) (sums more_sums : BTreeMap (List ℕ × ℕ) ℕ) (order more_order : BTreeMap (ℕ × ℕ) (List ℕ)) (t : Txn)
+pub indexed_more : (hs : List Hold) (places more_places : BTreeMap (List ℕ) ℕ) (sums more_sums : BTreeMap (List ℕ × ℕ) ℕ) (order more_order : BTreeMap (ℕ × ℕ) ℕ) (t : Txn)
     → AreIndexed hs places sums order
     → txn_named t.token (map now_of hs) ≡ None
     → list_any (λ u. t.origin == u.txn.origin) (map now_of hs) ≡ false
@@ -64,7 +59,7 @@ pub indexed_more : (hs : List Hold) (places more_places : BTreeMap (List ℕ) �
     → ((user : List ℕ) (number : ℕ) → sum_in more_sums user number ≡ sum_in sums user number)
     → ((user : List ℕ) (number : ℕ) → IsSome (tree.get by_user sums (user, number)) → IsSome (tree.get by_user more_sums (user, number)))
     → IsSome (tree.get by_user more_sums (t.user, iso_number t.currency))
-    → more_order.entries ≡ insert_entry by_expiry order.entries (t.expires, t.origin) t.token
+    → more_order.entries ≡ insert_entry by_expiry order.entries (t.expires, t.origin) (length hs)
     → tree.IsOrdered by_expiry more_order
     → AreIndexed (hs ++ begun t ∷ []) more_places more_sums more_order
 indexed_more hs places more_places sums more_sums order more_order t a unknown new_origin placed same stay own entries rising =
@@ -94,12 +89,39 @@ indexed_more hs places more_places sums more_sums order more_order t a unknown n
       once =
           subst (λ (xs : List ℕ). IsDistinct nat_eq xs) (sym (map_push (λ (h : Hold). h.txn.origin) hs (begun t)))
           (IsDistinct-push nat_eq_equiv (origins hs) t.origin a.once (sym (no_origin t.origin hs) ∙ new_origin));
-      ordered = entries ∙ ap (λ (es : List Expiry). insert_entry by_expiry es (t.expires, t.origin) t.token) a.ordered ∙ entries_more hs t new_origin;
+      ordered =
+          ap (λ (es : List ((ℕ × ℕ) × ℕ)). map (with_name (names (hs ++ begun t ∷ []))) es) entries
+          ∙ ap (λ (xs : List (List ℕ)). map (with_name xs) (insert_entry by_expiry order.entries (t.expires, t.origin) (length hs))) ns
+          ∙ named_insert (names hs) t.token order.entries (expiries hs) (t.expires, t.origin) (length hs) (sym (length_map (λ (h : Hold). h.txn.token) hs)) a.ordered
+          ∙ ap (λ (es : List Expiry). map with_token es) (entries_more hs t new_origin);
+      rising = rising;
+    }
+
+-- indexes that find the same are in order
+pub indexed_same : {hs : List Hold} {places same_places : BTreeMap (List ℕ) ℕ} {sums same_sums : BTreeMap (List ℕ × ℕ) ℕ} {order same_order : BTreeMap (ℕ × ℕ) ℕ}
+    → AreIndexed hs places sums order
+    → ((name : List ℕ) → tree.get by_name same_places name ≡ tree.get by_name places name)
+    → ((user : List ℕ) (number : ℕ) → sum_in same_sums user number ≡ sum_in sums user number)
+    → ((user : List ℕ) (number : ℕ) → IsSome (tree.get by_user sums (user, number)) → IsSome (tree.get by_user same_sums (user, number)))
+    → same_order.entries ≡ order.entries
+    → tree.IsOrdered by_expiry same_order
+    → AreIndexed hs same_places same_sums same_order
+indexed_same {hs} a found same stay entries rising =
+    record {
+      distinct = a.distinct;
+      placed = record { place = λ name. found name ∙ a.placed.place name };
+      summed = record {
+        summed = λ user number. same user number ∙ a.summed.summed user number;
+        standing = λ i h e. stay h.txn.user (iso_number h.txn.currency) (a.summed.standing i h e);
+        small = a.summed.small;
+      };
+      once = a.once;
+      ordered = ap (λ (es : List ((ℕ × ℕ) × ℕ)). map (with_name (names hs)) es) entries ∙ a.ordered;
       rising = rising;
     }
 
 -- a hold takes the place of another of its transaction, where the sums agree again
-pub indexed_set : {hs : List Hold} {places : BTreeMap (List ℕ) ℕ} {sums new_sums : BTreeMap (List ℕ × ℕ) ℕ} {order : BTreeMap (ℕ × ℕ) (List ℕ)} {i : ℕ} {h k : Hold}
+pub indexed_set : {hs : List Hold} {places : BTreeMap (List ℕ) ℕ} {sums new_sums : BTreeMap (List ℕ × ℕ) ℕ} {order : BTreeMap (ℕ × ℕ) ℕ} {i : ℕ} {h k : Hold}
     → AreIndexed hs places sums order → IsReplaced hs i h k → AreSummed (set hs i k) new_sums → AreIndexed (set hs i k) places new_sums order
 indexed_set {hs} {places} {sums} {new_sums} {order} {i} {h} {k} a s summed =
     let ns : names (set hs i k) ≡ names hs = map_set (λ (x : Hold). x.txn.token) hs i h k s.is_there (ap (λ (t : TxnNow). t.txn.token) (sym s.same)) in
@@ -109,7 +131,9 @@ indexed_set {hs} {places} {sums} {new_sums} {order} {i} {h} {k} a s summed =
       placed = record { place = λ name. a.placed.place name ∙ ap (λ (xs : List (List ℕ)). place_in name xs) (sym ns) };
       summed = summed;
       once = subst (λ (xs : List ℕ). IsDistinct nat_eq xs) (sym os) a.once;
-      ordered = a.ordered ∙ sym (expiries_same hs i h k s.is_there (ap (λ (t : TxnNow). t.txn) (sym s.same)) (ap (λ (t : TxnNow). t.live) (sym s.same)));
+      ordered =
+          ap (λ (xs : List (List ℕ)). map (with_name xs) order.entries) ns ∙ a.ordered
+          ∙ ap (λ (es : List Expiry). map with_token es) (sym (expiries_same hs i h k s.is_there (ap (λ (t : TxnNow). t.txn) (sym s.same)) (ap (λ (t : TxnNow). t.live) (sym s.same))));
       rising = a.rising;
     }
 
@@ -117,7 +141,7 @@ same_total_end : (user : List ℕ) (number : ℕ) (hs : List Hold) (i : ℕ) (h 
 same_total_end user number hs i h at = let e = total_set user number hs i h (ended h) at refl in omega arith
 
 -- a transaction ends, and its expiry is gone
-pub indexed_end : (hs : List Hold) (places : BTreeMap (List ℕ) ℕ) (sums : BTreeMap (List ℕ × ℕ) ℕ) (order new_order : BTreeMap (ℕ × ℕ) (List ℕ)) (i : ℕ) (h : Hold)
+pub indexed_end : (hs : List Hold) (places : BTreeMap (List ℕ) ℕ) (sums : BTreeMap (List ℕ × ℕ) ℕ) (order new_order : BTreeMap (ℕ × ℕ) ℕ) (i : ℕ) (h : Hold)
     → AreIndexed hs places sums order
     → slice_get hs i ≡ Some h
     → new_order.entries ≡ remove_entry (is_at (by_expiry (h.txn.expires, h.txn.origin))) order.entries
@@ -138,13 +162,16 @@ indexed_end hs places sums order new_order i h a at entries rising =
       };
       once = subst (λ (xs : List ℕ). IsDistinct nat_eq xs) (sym os) a.once;
       ordered =
-          entries ∙ ap (λ (es : List Expiry). remove_entry (is_at (by_expiry (h.txn.expires, h.txn.origin))) es) a.ordered
-          ∙ expiries_less hs i h at a.once (subst (λ (es : List Expiry). IsStrictlySortedBy by_expiry (keys_of es)) a.ordered a.rising);
+          ap (λ (es : List ((ℕ × ℕ) × ℕ)). map (with_name (names (set hs i (ended h)))) es) entries
+          ∙ ap (λ (xs : List (List ℕ)). map (with_name xs) (remove_entry (is_at (by_expiry (h.txn.expires, h.txn.origin))) order.entries)) ns
+          ∙ named_remove (names hs) order.entries (expiries hs) (is_at (by_expiry (h.txn.expires, h.txn.origin))) a.ordered
+          ∙ ap (λ (es : List Expiry). map with_token es)
+          (expiries_less hs i h at a.once (subst (λ (ks : List (ℕ × ℕ)). IsStrictlySortedBy by_expiry ks) (same_keys (names hs) order.entries (expiries hs) a.ordered) a.rising));
       rising = rising;
     }
 
 -- no transaction, and empty indexes
-pub indexed_none : (hs : List Hold) (places : BTreeMap (List ℕ) ℕ) (sums : BTreeMap (List ℕ × ℕ) ℕ) (order : BTreeMap (ℕ × ℕ) (List ℕ))
+pub indexed_none : (hs : List Hold) (places : BTreeMap (List ℕ) ℕ) (sums : BTreeMap (List ℕ × ℕ) ℕ) (order : BTreeMap (ℕ × ℕ) ℕ)
     → hs ≡ [] → places.entries ≡ [] → sums.entries ≡ [] → order.entries ≡ [] → tree.IsOrdered by_expiry order → AreIndexed hs places sums order
 unfolding IsDistinct
 indexed_none hs places sums order e p s o rising =
@@ -158,11 +185,11 @@ indexed_none hs places sums order e p s o rising =
         small = λ user number. omega arith;
       };
       once = tt;
-      ordered = o;
+      ordered = ap (λ (es : List ((ℕ × ℕ) × ℕ)). map (with_name []) es) o;
       rising = rising;
     })
 
-pub no_place_yet : (hs : List Hold) (places : BTreeMap (List ℕ) ℕ) (sums : BTreeMap (List ℕ × ℕ) ℕ) (order : BTreeMap (ℕ × ℕ) (List ℕ)) (name : List ℕ)
+pub no_place_yet : (hs : List Hold) (places : BTreeMap (List ℕ) ℕ) (sums : BTreeMap (List ℕ × ℕ) ℕ) (order : BTreeMap (ℕ × ℕ) ℕ) (name : List ℕ)
     → AreIndexed hs places sums order → txn_named name (map now_of hs) ≡ None → tree.get by_name places name ≡ None
 no_place_yet hs places sums order name a unknown =
     a.placed.place name ∙ none_some (place_in name (names hs)) (has_place name hs ∙ ap (λ (o : Option TxnNow). is_some o) unknown)

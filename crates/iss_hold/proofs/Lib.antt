@@ -10,3 +10,5 @@ pub mod Changes
 pub mod IndexesKept
 pub mod HoldCalls
 pub mod TestBounds
+pub mod NamedExpiries
+pub mod Named

@@ -1,5 +1,6 @@
 -- The place of a name, and what stands there.
 use Rattle.std.proofs.Common.{◌≡◌, ℕ, zero, suc, ◌<◌, Bool, true, false, cond, List, [], ◌∷◌, ◌++◌, get_or, map, length, refl, sym, ap, ◌∙◌, subst, arith}
+use Rattle.std.proofs.lemmas.Option.{get_or_from_slice_get}
 use Rattle.std.specs.Prelude.{Option, Some, None, is_some, slice_get}
 use Rattle.std.specs.Option.{option_map}
 use Rattle.std.specs.List.{list_any}
@@ -56,26 +57,19 @@ is_at_list name [] i h e g = cc
 is_at_list name (x ∷ hs) i h e g = is_at_by name x hs i h (bytes_eq x.txn.token name) refl (λ j. is_at_list name hs j h) e g
 
 -- what stands at the place of a name
-pub is_at : {name : List ℕ} {hs : List Hold} {places : BTreeMap (List ℕ) ℕ} {i : ℕ} {h : Hold} → ArePlaced hs places → Some i ≡ tree.get by_name places name → h ≡ get_or hs i h → IsAt name hs i h
-is_at {name} {hs} {places} {i} {h} placed e g = is_at_list name hs i h (sym (placed.place name) ∙ sym e) g
+pub is_at : {name : List ℕ} {hs : List Hold} {places : BTreeMap (List ℕ) ℕ} {i : ℕ} {h : Hold} → ArePlaced hs places → Some i ≡ tree.get by_name places name → slice_get hs i ≡ Some h → IsAt name hs i h
+is_at {name} {hs} {places} {i} {h} placed e g = is_at_list name hs i h (sym (placed.place name) ∙ sym e) (sym (get_or_from_slice_get hs i h h g))
 
 -- a hold stands at a place that another of its transaction may take
 pub record IsReplaced (hs : List Hold) (i : ℕ) (h k : Hold) : Type 0 where
   pub is_there : slice_get hs i ≡ Some h
   pub same : now_of h ≡ now_of k
 
-pub replaced : {hs : List Hold} {i : ℕ} {h : Hold} (k : Hold) → option_map now_of (slice_get hs i) ≡ Some (now_of k) → h ≡ get_or hs i h → IsReplaced hs i h k
-replaced {hs} {i} {h} k e g = by hs i e g
-  where
-    by : (xs : List Hold) (j : ℕ) → option_map now_of (slice_get xs j) ≡ Some (now_of k) → h ≡ get_or xs j h → IsReplaced xs j h k
-    by [] j f q = cc
-    by (x ∷ xs) zero f q =
-        let same : now_of x ≡ now_of k = unwrapped f in
-        record { is_there = ap (λ (y : Hold). Some y) (sym q); same = ap now_of q ∙ same }
-      where
-        unwrapped : {t u : TxnNow} → Some t ≡ Some u → t ≡ u
-        unwrapped f = cc
-    by (x ∷ xs) (suc j) f q = let r = by xs j f q in record { is_there = r.is_there; same = r.same }
+unwrapped : {t u : TxnNow} → Some t ≡ Some u → t ≡ u
+unwrapped f = cc
+
+pub replaced : {hs : List Hold} {i : ℕ} {h : Hold} (k : Hold) → option_map now_of (slice_get hs i) ≡ Some (now_of k) → slice_get hs i ≡ Some h → IsReplaced hs i h k
+replaced {hs} {i} {h} k e g = record { is_there = g; same = unwrapped (ap (λ (o : Option Hold). option_map now_of o) (sym g) ∙ e) }
 
 pub stood_inside : (hs : List Hold) (i : ℕ) (t : TxnNow) → option_map now_of (slice_get hs i) ≡ Some t → i < length hs
 stood_inside [] i t e = cc

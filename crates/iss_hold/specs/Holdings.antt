@@ -1,13 +1,18 @@
 -- What transactions hold, as it is kept for each of them.
-use Rattle.std.specs.Prelude.{ℕ, ◌+◌, ◌-◌, pos, List, [], ◌∷◌, map, fold}
+use Rattle.std.specs.Prelude.{ℕ, true, ◌+◌, ◌-◌, pos, List, [], ◌∷◌, map, fold}
 use Rattle.iss_model.specs.declared.account.Part.{Part}
 use Rattle.iss_model.specs.declared.account.Part.TheVariants as part
+use Rattle.iss_model.specs.declared.txn.Txn.{Txn}
 use Rattle.iss_model.specs.Sums.{Change, part_key, user_key}
 use Rattle.iss_model.specs.state.Kept.{Kept, nothing_kept, after_changes}
 use Rattle.iss_model.specs.rules.Activity.{TxnNow}
 use Rattle.iss_model.specs.rules.Pieces.{Parts}
 use Rattle.iss_model.specs.state.Cores.{Holdings}
 use Rattle.iss_hold.specs.declared.hold.Hold.{Hold}
+
+-- a hold with nothing in it
+abbrev pub begun : Txn → Hold
+begun t = record { txn = t; live = true; g = 0; p = 0; s = 0 }
 
 -- the transaction of a hold as it stands
 abbrev pub now_of : Hold → TxnNow

@@ -13,7 +13,7 @@ use Rattle.iss_model.specs.rules.Activity.{txn_named}
 use Rattle.iss_hold.specs.declared.hold.Hold.{Hold}
 use Rattle.iss_hold.specs.declared.table.Table.{Table}
 use Rattle.iss_hold.specs.Holdings.{now_of, whole_of}
-use Rattle.iss_hold.specs.Expiries.{expiries}
+use Rattle.iss_hold.specs.Expiries.{Expiry, expiries}
 
 -- the tokens of the transactions, in the order in which they began
 abbrev pub names : List Hold → List (List ℕ)
@@ -63,15 +63,24 @@ pub record AreSummed (holds : List Hold) (sums : BTreeMap (List ℕ × ℕ) ℕ)
   pub standing : (i : ℕ) (hold : Hold) → slice_get holds i ≡ Some hold → IsSome (tree.get by_user sums (hold.txn.user, iso_number hold.txn.currency))
   pub small : (user : List ℕ) (number : ℕ) → total_of user number holds < 2 ^ 62
 
--- the indexes agree with the holds: each name has its place, each user its sum, and the expiries are in their order
-pub record AreIndexed (holds : List Hold) (places : BTreeMap (List ℕ) ℕ) (sums : BTreeMap (List ℕ × ℕ) ℕ) (order : BTreeMap (ℕ × ℕ) (List ℕ)) : Type 0 where
+-- a place by expiry, with the name that stands there
+abbrev pub with_name : List (List ℕ) → (ℕ × ℕ) × ℕ → (ℕ × ℕ) × Option (List ℕ)
+with_name names e = (e.0, slice_get names e.1)
+
+-- an expiry, with its token as a name that stands
+abbrev pub with_token : Expiry → (ℕ × ℕ) × Option (List ℕ)
+with_token e = (e.0, Some e.1)
+
+-- the indexes agree with the holds: each name has its place, each user its sum, and the expiries are in their order, each with the
+-- place of its transaction
+pub record AreIndexed (holds : List Hold) (places : BTreeMap (List ℕ) ℕ) (sums : BTreeMap (List ℕ × ℕ) ℕ) (order : BTreeMap (ℕ × ℕ) ℕ) : Type 0 where
   pub distinct : IsDistinct bytes_eq (names holds)
   pub placed : ArePlaced holds places
   pub summed : AreSummed holds sums
   pub once : IsDistinct nat_eq (origins holds)
-  pub ordered : order.entries ≡ expiries holds
+  pub ordered : map (with_name (names holds)) order.entries ≡ map with_token (expiries holds)
   pub rising : tree.IsOrdered by_expiry order
 
 -- a table's indexes agree with its holds
 abbrev pub IsIndexed : Table → Type 0
-IsIndexed table = AreIndexed table.holds.items table.places table.sums table.order
+IsIndexed table = AreIndexed table.holds table.places table.sums table.order

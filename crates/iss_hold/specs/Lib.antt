@@ -5,3 +5,4 @@ pub mod Indexes
 pub mod Sums
 pub mod Codes
 pub mod Bounds
+pub mod Named

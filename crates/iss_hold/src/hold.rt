@@ -27,19 +27,6 @@ pub struct Taken {
 }
 
 impl Hold {
-    /// The hold of a transaction that begins.
-    pub(crate) fn begun(txn: &Txn) -> Hold
-        ensures { result ≡ record { txn = txn.now; live = true; g = 0; p = 0; s = 0 } }
-    {
-        Hold {
-            txn: *txn,
-            live: true,
-            g: 0,
-            p: 0,
-            s: 0,
-        }
-    }
-
     pub(crate) fn part(&self, part: Part) -> u64
         ensures { result ≡ part_of part self.now }
     {

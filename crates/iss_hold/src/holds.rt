@@ -2,7 +2,7 @@
 ghost use Rattle.std.specs.Prelude.{◌≡◌, ◌≤◌, ◌<◌, ◌^◌, ◌-◌, ◌==◌, [], false, not, length, map, slice_get, IsSome, IfSome, Some, None, IfOk, OnOk, OnErr};
 ghost use Rattle.std.specs.List.{list_any, IsDistinct};
 ghost use Rattle.std.specs.Str.{bytes_eq};
-ghost use Rattle.std.specs.Option.{option_copied, option_map};
+ghost use Rattle.std.specs.Option.{option_map};
 ghost use Rattle.iss_model.specs.Sums.{part_key, user_key};
 ghost use Rattle.iss_model.specs.state.Kept.{nothing_kept, kept_at};
 ghost use Rattle.iss_model.specs.rules.Activity.{txn_named};
@@ -17,7 +17,8 @@ ghost use Rattle.iss_hold.specs.Entries.{live_now, after_holds, change_entries, 
 ghost use Rattle.iss_hold.specs.Expiries.{txns_due};
 
 use crate::hold::{Hold, Taken};
-use crate::indexes::{begin_sum, enter, sum_of, user_key};
+use crate::indexes::{begin_sum, enter, place_after, sum_of, user_key};
+use crate::list::HoldList;
 use crate::table::Table;
 use iss_model::{Currency, Part, Token, Txn};
 use std::alloc::{AllocError, Global};
@@ -43,7 +44,7 @@ impl Model for Holds {
     ghost use Rattle.iss_hold.specs.Holdings.{holdings_of};
     ghost use Rattle.iss_hold.specs.Indexes.{IsIndexed};
 
-    ghost view = { λ h. holdings_of h.table.holds.items };
+    ghost view = { λ h. holdings_of h.table.holds };
 
     ghost invariant = { λ h. IsIndexed h.table };
 }
@@ -55,7 +56,7 @@ impl Holds {
     {
         Ok(Holds {
             table: Table {
-                holds: Vec::new(alloc),
+                holds: HoldList::new(alloc),
                 places: BTreeMap::new(alloc),
                 sums: BTreeMap::new(alloc),
                 order: BTreeMap::new(alloc),
@@ -64,13 +65,13 @@ impl Holds {
     }
 
     /// A transaction with what it holds, `None` exactly where it wasn't started.
-    pub fn get(&self, txn: &Token) -> Option<&Hold>
-        ensures txn { option_map (λ hold. now_of hold.now) result ≡ txn_named txn.now self.now.txns }
-        ensures parts { IfSome result (λ hold. parts_of hold.now ≡ parts_in self.now txn.now) }
-        ensures small { IfSome result (λ hold. whole_of hold.now < 2 ^ 62) }
+    pub fn get(&self, txn: &Token) -> Option<Hold>
+        ensures txn { option_map (λ hold. now_of hold) result ≡ txn_named txn.now self.now.txns }
+        ensures parts { IfSome result (λ hold. parts_of hold ≡ parts_in self.now txn.now) }
+        ensures small { IfSome result (λ hold. whole_of hold < 2 ^ 62) }
     {
         let place = self.table.places.get(txn)?;
-        Some(&self.table.holds[*place])
+        Some(self.table.holds.at(*place as usize))
     }
 
     /// The place of a transaction in the order in which they began, `None` exactly where it wasn't started.
@@ -78,24 +79,25 @@ impl Holds {
         ensures place { result ≡ place_in txn.now (tokens self.now.txns) }
         ensures once { IsDistinct bytes_eq (tokens self.now.txns) }
     {
-        self.table.places.get(txn).copied()
+        let place = self.table.places.get(txn)?;
+        Some(*place as usize)
     }
 
     /// The transaction at a place with what it holds.
-    pub fn at(&self, place: usize) -> &Hold
+    pub fn at(&self, place: usize) -> Hold
         requires { place < length self.now.txns }
-        ensures txn { slice_get self.now.txns place ≡ Some (now_of result.now) }
-        ensures parts { parts_of result.now ≡ parts_in self.now result.now.txn.token }
-        ensures small { whole_of result.now < 2 ^ 62 }
+        ensures txn { slice_get self.now.txns place ≡ Some (now_of result) }
+        ensures parts { parts_of result ≡ parts_in self.now result.txn.token }
+        ensures small { whole_of result < 2 ^ 62 }
     {
-        &self.table.holds[place]
+        self.table.holds.at(place)
     }
 
     /// The transaction of a token, `None` exactly where it wasn't started.
-    pub fn txn(&self, txn: &Token) -> Option<&Txn>
-        ensures { option_copied result ≡ option_map (λ t. t.txn) (txn_named txn.now self.now.txns) }
+    pub fn txn(&self, txn: &Token) -> Option<Txn>
+        ensures { result ≡ option_map (λ t. t.txn) (txn_named txn.now self.now.txns) }
     {
-        self.get(txn).map(|hold| &hold.txn)
+        self.get(txn).map(|hold| hold.txn)
     }
 
     /// Whether a transaction was started and hasn't ended.
@@ -106,23 +108,23 @@ impl Holds {
     }
 
     /// Begins a transaction, which holds nothing yet. The later calls on it take no memory. Where allocation
-    /// fails all stays as it was.
+    /// fails all stays as it was, and so where 2^32 transactions stand, as many as places are kept for.
     pub fn start(&mut self, txn: &Txn) -> Result<(), AllocError>
         requires unknown { txn_named txn.now.token self.old.txns ≡ None }
         requires origin { list_any (λ t. txn.now.origin == t.txn.origin) self.old.txns ≡ false }
         ensures started { OnOk result (self.new ≡ with_txn self.old txn.now) }
         ensures unchanged { OnErr result (self.new ≡ self.old) }
     {
-        self.table.holds.reserve(1)?;
+        let place = place_after(self.table.holds.len())?;
         begin_sum(&mut self.table.sums, user_key(&txn.user, txn.currency))?;
-        enter(
-            &mut self.table.places,
-            &mut self.table.order,
-            txn,
-            self.table.holds.len(),
-        )?;
-        self.table.holds.push(Hold::begun(txn))?;
-        Ok(())
+        self.table.holds.add(txn)?;
+        match enter(&mut self.table.places, &mut self.table.order, txn, place) {
+            Ok(()) => Ok(()),
+            Err(refused) => {
+                self.table.holds.shorten(place as usize);
+                Err(refused)
+            }
+        }
     }
 
     /// Holds more in a part of a transaction.
@@ -197,7 +199,7 @@ impl Holds {
         let (place, hold) = self.table.hold_of(txn);
         let expiry = (hold.txn.expires, hold.txn.origin);
         self.table.order.remove(&expiry);
-        self.table.holds[place] = hold.ended();
+        self.table.holds.put(place, &hold.ended());
     }
 
     /// What a transaction holds in a part, in minor units.
@@ -230,13 +232,6 @@ impl Holds {
     pub fn due(&self, alloc: Global, now: u64) -> Result<Vec<Token>, AllocError>
         ensures { IfOk result (λ v. map (λ token. txn_due token) v.items ≡ map (λ item. item.thing) (txns_due self.now now)) }
     {
-        let mut due = Vec::new(alloc);
-        for ((expires, _), token) in &self.table.order {
-            if *expires > now {
-                break;
-            }
-            due.push(*token)?;
-        }
-        Ok(due)
+        self.table.due(alloc, now)
     }
 }

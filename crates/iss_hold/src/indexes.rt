@@ -1,5 +1,5 @@
 //! The indexes beside the holds: places by token, sums by user and currency, and expiries in their order.
-ghost use Rattle.std.specs.Prelude.{◌≡◌, ℕ, List, Some, None, IsSome, OnOk, OnErr};
+ghost use Rattle.std.specs.Prelude.{◌≡◌, ℕ, List, Some, None, IsSome, IfOk, OnOk, OnErr};
 ghost use Rattle.std.specs.BTreeMap as tree;
 ghost use Rattle.iss_model.specs.Currencies.{iso_number};
 ghost use Rattle.iss_hold.specs.Indexes.{by_name, by_user, by_expiry};
@@ -48,22 +48,29 @@ pub(crate) fn begin_sum(
     Ok(())
 }
 
-/// Enters a transaction's place and its expiry, or neither where allocation fails.
+/// The place of one thing more after so many.
+pub(crate) fn place_after(count: usize) -> Result<u32, AllocError>
+    ensures { IfOk result (λ place. place ≡ count) }
+{
+    u32::try_from(count).map_err(|_| AllocError)
+}
+
+/// Enters a transaction's place, by its token and by its expiry, or neither where allocation fails.
 pub(crate) fn enter(
-    places: &mut BTreeMap<Token, usize>,
-    order: &mut BTreeMap<(u64, u32), Token>,
+    places: &mut BTreeMap<Token, u32>,
+    order: &mut BTreeMap<(u64, u32), u32>,
     txn: &Txn,
-    place: usize,
+    place: u32,
 ) -> Result<(), AllocError>
     requires { tree.get by_name places.old txn.now.token ≡ None }
     ensures placed { OnOk result (tree.Updates by_name places.old places.new txn.now.token (Some place)) }
-    ensures entered { OnOk result (order.new.entries ≡ tree.insert_entry by_expiry order.old.entries (txn.now.expires, txn.now.origin) txn.now.token) }
+    ensures entered { OnOk result (order.new.entries ≡ tree.insert_entry by_expiry order.old.entries (txn.now.expires, txn.now.origin) place) }
     ensures rising { tree.IsOrdered by_expiry order.old → tree.IsOrdered by_expiry order.new }
     ensures places_stay { OnErr result ((name : List ℕ) → tree.get by_name places.new name ≡ tree.get by_name places.old name) }
     ensures order_stays { OnErr result (order.new.entries ≡ order.old.entries) }
 {
     places.insert(txn.token, place)?;
-    let entered = order.insert((txn.expires, txn.origin), txn.token);
+    let entered = order.insert((txn.expires, txn.origin), place);
     if entered.is_err() {
         places.remove(&txn.token);
         return Err(AllocError);

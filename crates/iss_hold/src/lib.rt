@@ -9,6 +9,8 @@
 mod hold;
 mod holds;
 mod indexes;
+mod list;
+mod names;
 mod table;
 #[cfg(test)]
 mod tests;

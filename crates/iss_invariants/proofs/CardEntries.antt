@@ -147,8 +147,8 @@ clearing_money_taken s t parts amount at h stands has =
     let o3 = unhold_same s2 t part.S taken.s (its_name t.token) a3 in
     let g3 = unhold_other s2 t part.S part.G taken.s refl in
     let p3 = unhold_other s2 t part.S part.P taken.s refl in
-    let e4 = only_gateway_effect t e3.orderly (post_effect s3 t (account.Programme t.currency) (user_account t) excess e3.orderly) in
-    let e5 = post_effect s4 t (user_account t) (account.Network t.currency) amount e4.orderly in
+    let e4 = only_gateway_effect t e3.orderly (post_effect s3 t (account.Programme t.currency) (user_account t) excess e3.orderly (stands_then t e3 n2)) in
+    let e5 = post_effect s4 t (user_account t) (account.Network t.currency) amount e4.orderly (stands_then t e4 (stands_then t e3 n2)) in
     let used = usage_effect s5 t (pos excess) (pos 0) at e5.orderly (stands_then t e5 (stands_then t e4 (stands_then t e3 n2))) in
     let e6 : Effect s5 lf 0 excess 0 0 = only_where_effect excess e5.orderly (λ none. omega arith) (comes_to 0 excess 0 0 used (omega arith) (omega arith) (omega arith)) in
     let c4 = calm_where (is_account_funded t.funding) (post_entries t (account.Programme t.currency) (user_account t) excess) (post_calm t (account.Programme t.currency) (user_account t) excess) in
@@ -205,10 +205,12 @@ clearing_paid s token amount last at (Some now) h known =
 
 -- ---- a refund
 
-pub refund_paid : (s : CoreState) (f : Facts) (token : List ℕ) (amount : ℕ) (o : Option TxnNow) → IsOrderlyState s → Paid (2 * amount) 0 s (refund_entries f token amount o)
-refund_paid s f token amount None h = paid_more (2 * amount) 0 (nothing_paid s h) (omega arith) (omega arith)
-refund_paid s f token amount (Some now) h =
+pub refund_paid : (s : CoreState) (f : Facts) (token : List ℕ) (amount : ℕ) (o : Option TxnNow) → IsOrderlyState s → ((now : TxnNow) → o ≡ Some now → Stands s now.txn)
+    → Paid (2 * amount) 0 s (refund_entries f token amount o)
+refund_paid s f token amount None h known = paid_more (2 * amount) 0 (nothing_paid s h) (omega arith) (omega arith)
+refund_paid s f token amount (Some now) h known =
     let t = now.txn in
+    let stands : Stands s t = known now refl in
     let programme = min amount (owed_to_programme f t) in
     let gateway = amount - programme in
     let xs = post_entries t (account.Network t.currency) (user_account t) amount in
@@ -217,9 +219,9 @@ refund_paid s f token amount (Some now) h =
     let yc : List Entry = notice_entry (next_notice f) method.Refund t None amount gateway ∷ [] in
     let last : List Entry = entry.Decided token verdict.Done ∷ [] in
     let s1 = fold after_entry s xs in
-    let e1 = post_effect s t (account.Network t.currency) (user_account t) amount h in
-    let ea = post_effect s1 t (user_account t) (account.Programme t.currency) programme e1.orderly in
-    let eb = post_effect (fold after_entry s1 ya) t (user_account t) (account.Gateway t.currency) gateway ea.orderly in
+    let e1 = post_effect s t (account.Network t.currency) (user_account t) amount h stands in
+    let ea = post_effect s1 t (user_account t) (account.Programme t.currency) programme e1.orderly (stands_then t e1 stands) in
+    let eb = post_effect (fold after_entry s1 ya) t (user_account t) (account.Gateway t.currency) gateway ea.orderly (stands_then t ea (stands_then t e1 stands)) in
     let ec = still_effect (fold after_entry (fold after_entry s1 ya) yb) yc eb.orderly refl in
     let all : Effect s1 (ya ++ yb ++ yc) amount 0 0 0 =
     subst (λ (es : List Entry). Effect s1 es amount 0 0 0) (three ya yb yc) (comes_to amount 0 0 0 (and_then ea (and_then eb ec)) (omega arith) (omega arith) (omega arith)) in

@@ -1,6 +1,8 @@
 -- Where entries are entered, each fits, each notice is the next one, and sums stay small.
+use Rattle.std.specs.Prelude.{Some}
 use Rattle.std.proofs.Common.{List, [], ap, arith, length, refl, sym, true, ℕ, ◌+◌, ◌<◌, ◌^◌, ◌∙◌, ◌∷◌, ◌≡◌, ◌≤◌}
 use Rattle.std.proofs.lemmas.Int.{ints}
+use Rattle.iss_model.specs.declared.call.How.TheVariants as how
 use Rattle.iss_model.specs.declared.entry.Entry.{Entry}
 use Rattle.iss_model.specs.declared.entry.Entry.TheVariants as entry
 use Rattle.iss_model.specs.declared.input.Input.{Input}
@@ -9,6 +11,7 @@ use Rattle.iss_model.specs.declared.input.Record.{Record}
 use Rattle.iss_model.specs.declared.limits.TheConstants.{MOST_RECORDS}
 use Rattle.iss_model.specs.declared.setting.Moved.TheVariants as moved
 use Rattle.iss_model.specs.Forms.{is_in_form}
+use Rattle.iss_model.specs.rules.Activity.{CallNow, call_numbered, is_asked}
 use Rattle.iss_model.specs.rules.Due.{DueThing, thing_entries}
 use Rattle.iss_model.specs.rules.Histories.{IsLegal}
 use Rattle.iss_model.specs.rules.Stepping.{entries_of}
@@ -16,6 +19,8 @@ use Rattle.iss_model.specs.state.Cores.{ControlKept, CoreState, after_entry, aft
 use Rattle.iss_model.specs.state.Kept.{AreSmall, Kept, kept_at}
 use Rattle.iss_effects.specs.Bounds.{AreWithin, HaveCounted, IsWithin, SumsAreWithin}
 use Rattle.iss_effects.specs.Needs.{AllFit}
+use Rattle.iss_effects.proofs.Abandonment.{least_one}
+use Rattle.iss_effects.proofs.AskedCalls.{asked_after_close}
 use Rattle.iss_invariants.specs.Entering.{AreEnterable, HaveCountedSmall, SumsAreSmall}
 use Rattle.iss_invariants.specs.Numbers.{AreNumberedFrom}
 use Rattle.iss_invariants.specs.Sound.{AreInForm, IsReady, IsSoundAt, reach_of}
@@ -58,6 +63,11 @@ sound_small n s room h = sums_small n h.money h.used s room (omega (arith, h.mon
 
 pub records_small : (rs : List Record) → length rs ≤ MOST_RECORDS → IsLegal rs → AreInForm rs → SumsAreSmall (core_of rs)
 records_small rs room legal form = sound_small (length rs) (core_of rs) room (records_sound rs legal form)
+
+-- what a call asks is at stake, so it is small
+pub asked_small : (n : ℕ) (s : CoreState) (number : ℕ) (c : CallNow) → n ≤ MOST_RECORDS → IsSoundAt n s → call_numbered number s.calls ≡ Some c → is_asked c ≡ true → c.opened.amount < 2 ^ 62
+asked_small n s number c room h found asked =
+    reach_is_small n c.opened.amount room (omega (arith, h.money_within, asked_after_close number how.Abandoned s.calls c found asked, least_one c.opened.amount))
 
 -- ---- entries one by one
 

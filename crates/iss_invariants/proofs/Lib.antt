@@ -5,6 +5,9 @@ pub mod Sound
 pub mod Settled
 pub mod NewEvents
 pub mod Walk
+pub mod Passing
+pub mod FormStates
+pub mod FormEntries
 pub mod OwnEntries
 pub mod Steps
 pub mod NoticePieces

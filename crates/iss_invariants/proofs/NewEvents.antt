@@ -67,7 +67,7 @@ its_event : (g : Facts) (i : Input) (token event : List ℕ) → Some token ≡ 
 its_event g i token event e = let same : token ≡ event = cc in ap (event_answer g i) same
 
 -- an input with an event is refused by its event alone
-refused_by_event : (quiet : Bool) (f g : Facts) (i : Input) (token : List ℕ) → event_token i ≡ Some token → refusal quiet f g i ≡ event_answer g i token
+pub refused_by_event : (quiet : Bool) (f g : Facts) (i : Input) (token : List ℕ) → event_token i ≡ Some token → refusal quiet f g i ≡ event_answer g i token
 refused_by_event quiet f g (input.User token user) event e = its_event g (input.User token user) token event e
 refused_by_event quiet f g (input.Card token card user product active) event e = its_event g (input.Card token card user product active) token event e
 refused_by_event quiet f g (input.Move token who) event e = its_event g (input.Move token who) token event e

@@ -29,7 +29,8 @@ use Rattle.iss_model.specs.rules.Settings.{is_named_in, product_named}
 use Rattle.iss_model.specs.rules.Stepping.{authorization_ask, entries_of, increment_ask, load_entries, setting_entries, unless_declined}
 use Rattle.iss_effects.proofs.Regrouping.{five, four, three}
 use Rattle.iss_invariants.specs.Numbers.{AreNumberedFrom}
-use Rattle.iss_invariants.proofs.NoticePieces.{IsSilent, abandonment_then, clearing_money_silent, declined_ask_silent, either_silent, end_then, funded_ask_silent, hold_silent, none_numbered, notice_or_none, post_silent, release_silent, silent, silent_then, stand_in_numbered}
+use Rattle.iss_invariants.proofs.NoticePieces.{IsSilent, abandonment_then, end_then, none_numbered, notice_or_none, silent_moves, silent_then, stand_in_numbered}
+use Rattle.iss_invariants.proofs.Passing.{clearing_money_passes, declined_ask_passes, either_passes, funded_ask_passes, hold_passes, passing, post_passes, release_passes}
 use Rattle.iss_invariants.proofs.Walk.{EachKind, walk}
 
 -- ---- calls that end
@@ -39,9 +40,9 @@ failed_call_numbered f o t why at = (refl, stand_in_numbered (next_notice f + 1)
 
 outcome_numbered : (what : Outcome) (f : Facts) (o : Opened) (t : Txn) (at : ℕ) → AreNumberedFrom (next_notice f) (outcome_entries what f o t at)
 outcome_numbered outcome.Funded f o t at =
-    none_numbered (next_notice f) (funded_ask_entries (call_ask o t) (account.Gateway t.currency) part.G) (funded_ask_silent (call_ask o t) (account.Gateway t.currency) part.G)
+    none_numbered (next_notice f) (funded_ask_entries (call_ask o t) (account.Gateway t.currency) part.G) (funded_ask_passes silent_moves (call_ask o t) (account.Gateway t.currency) part.G)
 outcome_numbered outcome.Refused f o t at =
-    none_numbered (next_notice f) (declined_ask_entries (call_ask o t) reason.GatewayDeclined) (declined_ask_silent (call_ask o t) reason.GatewayDeclined)
+    none_numbered (next_notice f) (declined_ask_entries (call_ask o t) reason.GatewayDeclined) (declined_ask_passes silent_moves (call_ask o t) reason.GatewayDeclined refl)
 outcome_numbered outcome.Connection f o t at = failed_call_numbered f o t failure.Connection at
 outcome_numbered outcome.Application f o t at = failed_call_numbered f o t failure.Application at
 
@@ -101,7 +102,7 @@ funding_numbered : (f : Facts) (ask : Ask) → AreNumberedFrom (next_notice f) (
 funding_numbered f ask = by (is_account_funded ask.txn.funding)
   where
     by : (b : Bool) → AreNumberedFrom (next_notice f) (cond b (hold_entries ask.txn part.S ask.amount ++ entry.Decided ask.event verdict.Approved ∷ []) (gateway_ask_entries (product_named ask.txn.product f.products) f ask))
-    by true = silent_then (next_notice f) (hold_entries ask.txn part.S ask.amount) (entry.Decided ask.event verdict.Approved ∷ []) (hold_silent ask.txn part.S ask.amount) tt
+    by true = silent_then (next_notice f) (hold_entries ask.txn part.S ask.amount) (entry.Decided ask.event verdict.Approved ∷ []) (hold_passes silent_moves ask.txn part.S ask.amount) tt
     by false = gateway_ask_numbered f (product_named ask.txn.product f.products) ask
 
 authorization_numbered : (f : Facts) (o : Option Ask) → AreNumberedFrom (next_notice f) (authorization_entries f o)
@@ -126,9 +127,9 @@ reversal_numbered f token amount (Some now) =
     let last : List Entry = entry.Decided token verdict.Done ∷ [] in
     subst (AreNumberedFrom (next_notice f)) (five xs ys zs (only_gateway t (only_where freed (notice ∷ []))) last)
     (abandonment_then (next_notice f) t reason.Reversed (asked_calls_of f t.token) (ys ++ (zs ++ (only_gateway t (only_where freed (notice ∷ [])) ++ last)))
-    (silent_then n ys (zs ++ (only_gateway t (only_where freed (notice ∷ [])) ++ last)) (release_silent t parts freed)
-    (silent_then n zs (only_gateway t (only_where freed (notice ∷ [])) ++ last) (either_silent (nat_eq freed (in_all parts)) (silent refl) (silent refl))
-    (notice_or_none n (is_account_funded t.funding) (nat_eq freed 0) notice last (refl, tt) (silent refl)))))
+    (silent_then n ys (zs ++ (only_gateway t (only_where freed (notice ∷ [])) ++ last)) (release_passes silent_moves t parts freed refl)
+    (silent_then n zs (only_gateway t (only_where freed (notice ∷ [])) ++ last) (either_passes (nat_eq freed (in_all parts)) (passing refl) (passing refl))
+    (notice_or_none n (is_account_funded t.funding) (nat_eq freed 0) notice last (refl, tt) (passing refl)))))
 
 clearing_numbered : (f : Facts) (token : List ℕ) (amount : ℕ) (last : Bool) (at : ℕ) (o : Option TxnNow) → AreNumberedFrom (next_notice f) (clearing_entries f token amount last at o)
 clearing_numbered f token amount last at None = tt
@@ -138,7 +139,7 @@ clearing_numbered f token amount last at (Some now) =
     let xs = clearing_money_entries now.txn taken amount at in
     let b = now.live && (last || nat_eq (in_all rest) 0) in
     subst (AreNumberedFrom (next_notice f)) (three xs (cond b (last_clearing_entries f now.txn rest amount) (further_clearing_entries f now.txn amount)) (entry.Decided token verdict.Done ∷ []))
-    (silent_then (next_notice f) xs (cond b (last_clearing_entries f now.txn rest amount) (further_clearing_entries f now.txn amount) ++ entry.Decided token verdict.Done ∷ []) (clearing_money_silent now.txn taken amount at) (by now.txn rest b))
+    (silent_then (next_notice f) xs (cond b (last_clearing_entries f now.txn rest amount) (further_clearing_entries f now.txn amount) ++ entry.Decided token verdict.Done ∷ []) (clearing_money_passes silent_moves now.txn taken amount at refl) (by now.txn rest b))
   where
     by : (t : Txn) (rest : Parts) (b : Bool) → AreNumberedFrom (next_notice f) (cond b (last_clearing_entries f t rest amount) (further_clearing_entries f t amount) ++ entry.Decided token verdict.Done ∷ [])
     by t rest true =
@@ -147,8 +148,8 @@ clearing_numbered f token amount last at (Some now) =
         let notice = notice_entry n method.Capture t None amount rest.g in
         let done : List Entry = entry.Decided token verdict.Done ∷ [] in
         subst (AreNumberedFrom (next_notice f)) (three xs (only_gateway t (notice ∷ [])) done)
-        (end_then (next_notice f) f t rest reason.Cleared (only_gateway t (notice ∷ []) ++ done) (notice_or_none n (is_account_funded t.funding) false notice done (refl, tt) (silent refl)))
-    by t rest false = notice_or_none (next_notice f) (is_account_funded t.funding) false (notice_entry (next_notice f) method.Capture t None amount 0) (entry.Decided token verdict.Done ∷ []) (refl, tt) (silent refl)
+        (end_then (next_notice f) f t rest reason.Cleared (only_gateway t (notice ∷ []) ++ done) (notice_or_none n (is_account_funded t.funding) false notice done (refl, tt) (passing refl)))
+    by t rest false = notice_or_none (next_notice f) (is_account_funded t.funding) false (notice_entry (next_notice f) method.Capture t None amount 0) (entry.Decided token verdict.Done ∷ []) (refl, tt) (passing refl)
 
 -- posts and a notice, where they are made at all, and then no notice
 posts_and_notice : (n : ℕ) (b : Bool) (xs ys : List Entry) (notice : Entry) (done : List Entry) → IsSilent xs → IsSilent ys → IsSilent done → AreNumberedFrom n (notice ∷ done)
@@ -170,9 +171,9 @@ refund_numbered f token amount (Some now) =
     let notice = notice_entry n method.Refund t None amount gateway in
     let done : List Entry = entry.Decided token verdict.Done ∷ [] in
     subst (AreNumberedFrom n) (three xs (only_gateway t (ya ++ yb ++ notice ∷ [])) done)
-    (silent_then n xs (only_gateway t (ya ++ yb ++ notice ∷ []) ++ done) (post_silent t (account.Network t.currency) (user_account t) amount)
-    (posts_and_notice n (is_account_funded t.funding) ya yb notice done (post_silent t (user_account t) (account.Programme t.currency) programme)
-    (post_silent t (user_account t) (account.Gateway t.currency) gateway) (silent refl) (refl, tt)))
+    (silent_then n xs (only_gateway t (ya ++ yb ++ notice ∷ []) ++ done) (post_passes silent_moves t (account.Network t.currency) (user_account t) amount)
+    (posts_and_notice n (is_account_funded t.funding) ya yb notice done (post_passes silent_moves t (user_account t) (account.Programme t.currency) programme)
+    (post_passes silent_moves t (user_account t) (account.Gateway t.currency) gateway) (passing refl) (refl, tt)))
 
 -- ---- all kinds
 

@@ -181,7 +181,7 @@ kinds_enter n s at =
           let o = txn_named txn s.holdings.txns in
           brought n s _
           (unless_paid record_reach record_reach s (refund_reason f o currency amount) token (refund_entries f token amount o) ready.sound.orderly
-          (paid_more record_reach record_reach (refund_paid s f token amount o ready.sound.orderly) (omega (arith, most_amount amount form)) (omega arith))) ready.sound;
+          (paid_more record_reach record_reach (refund_paid s f token amount o ready.sound.orderly (found_stands s txn)) (omega (arith, most_amount amount form)) (omega arith))) ready.sound;
       answer = λ call what form ready. brought n s _ (free (answer_paid s call what at ready.sound.orderly)) ready.sound;
       acknowledgement = λ notice form ready. brought n s _ (acknowledgement_pays s notice (is_notice f notice) ready.sound.orderly) ready.sound;
       time = λ form ready. brought n s [] (free (nothing_paid s ready.sound.orderly)) ready.sound;

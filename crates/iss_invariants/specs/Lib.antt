@@ -1,3 +1,4 @@
 pub mod Sound
 pub mod Numbers
 pub mod Entering
+pub mod InForm

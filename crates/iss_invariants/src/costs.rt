@@ -30,5 +30,5 @@ pub fn inputs_are_paid()
     ensures clearing { (s : CoreState) → (token : List ℕ) → (amount : ℕ) → (last : Bool) → (at : ℕ) → (o : Option TxnNow) → IsOrderlyState s
         → ((now : TxnNow) → o ≡ Some now → Stands s now.txn) → Paid (2 * amount) amount s (clearing_entries (core_facts s) token amount last at o) }
     ensures refund { (s : CoreState) → (f : Facts) → (token : List ℕ) → (amount : ℕ) → (o : Option TxnNow) → IsOrderlyState s
-        → Paid (2 * amount) 0 s (refund_entries f token amount o) }
+        → ((now : TxnNow) → o ≡ Some now → Stands s now.txn) → Paid (2 * amount) 0 s (refund_entries f token amount o) }
 {}

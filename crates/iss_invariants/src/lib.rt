@@ -6,11 +6,13 @@
 
 mod costs;
 mod entering;
+mod forms;
 mod numbers;
 mod states;
 
 pub use costs::inputs_are_paid;
 pub use entering::entries_can_be_entered;
+pub use forms::{entries_are_in_form, states_stay_in_form};
 pub use numbers::{calls_are_numbered, notices_are_numbered, transactions_have_names};
 pub use states::{
     due_items_keep_what_is_sound, states_are_sound, steps_keep_what_is_sound, sums_are_small,

@@ -1,10 +1,12 @@
 //! Every state that records make is sound.
-ghost use Rattle.std.specs.Prelude.{◌≡◌, ℕ, ◌+◌, ◌≤◌, true, List, length, fold};
+ghost use Rattle.std.specs.Prelude.{◌≡◌, ℕ, ◌+◌, ◌^◌, ◌<◌, ◌≤◌, true, List, length, fold, Some};
 ghost use Rattle.iss_model.specs.declared.decision.Judged.TheVariants as judged;
 ghost use Rattle.iss_model.specs.declared.input.Record.{Record};
 ghost use Rattle.iss_model.specs.declared.input.Input.{Input};
 ghost use Rattle.iss_model.specs.declared.limits.TheConstants.{MOST_RECORDS};
 ghost use Rattle.iss_model.specs.Forms.{is_in_form};
+ghost use Rattle.iss_model.specs.rules.Activity.{CallNow, is_asked};
+ghost use Rattle.iss_model.specs.rules.Facts.{call_in};
 ghost use Rattle.iss_model.specs.rules.Due.{DueThing, thing_entries};
 ghost use Rattle.iss_model.specs.rules.Stepping.{entries_of, after_due, step};
 ghost use Rattle.iss_model.specs.rules.Judging.{judge};
@@ -41,10 +43,12 @@ pub fn due_items_keep_what_is_sound()
     ensures ready_after_all { (n : ℕ) → (s : CoreState) → (i : Input) → (at : ℕ) → IsReady n s i → IsReady n (after_due core_keeper s at).world i }
 {}
 
-/// In a state that is sound for as many records as there may be, each sum lies strictly between -2^62 and 2^62.
+/// In a state that is sound for as many records as there may be, each sum lies strictly between -2^62 and 2^62, and a call asks less than 2^62.
 pub fn sums_are_small()
     ensures sound { (n : ℕ) → (s : CoreState) → n ≤ MOST_RECORDS → IsSoundAt n s → SumsAreSmall s }
     ensures records { (rs : List Record) → length rs ≤ MOST_RECORDS → IsLegal rs → AreInForm rs → SumsAreSmall (core_of rs) }
+    ensures asked { (n : ℕ) → (s : CoreState) → (number : ℕ) → (c : CallNow) → n ≤ MOST_RECORDS → IsSoundAt n s → call_in (core_facts s) number ≡ Some c
+        → is_asked c ≡ true → c.opened.amount < 2 ^ 62 }
 {}
 
 /// A record that is judged new brings no event that was accepted before. This is all that legality is needed for.

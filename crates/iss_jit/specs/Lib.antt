@@ -1,3 +1,2 @@
 pub mod Echoes
-pub mod Messages
 pub mod Outcomes

@@ -1,6 +1,3 @@
-ghost use Rattle.std.specs.Prelude.{◌<◌, ◌^◌, IfOk};
-ghost use Rattle.iss_jit.specs.Messages.{IsRequest, IsNotice};
-
 use crate::{notice_text, request_text};
 use iss_model::{CallId, Currency, Method, Notice, Opened, Token};
 use std::test::Fail;
@@ -11,10 +8,7 @@ fn token(text: &str) -> Result<Token, Fail> {
 }
 
 /// A purchase in USD with card `c1` of user `u1` at merchant `m1`.
-pub(crate) fn purchase(call: u32, event: &str, amount: u64) -> Result<Opened, Fail>
-    requires { amount < 2 ^ 62 }
-    ensures { IfOk result (λ o. IsRequest o) }
-{
+pub(crate) fn purchase(call: u32, event: &str, amount: u64) -> Result<Opened, Fail> {
     Ok(Opened {
         call: CallId(call),
         event: token(event)?,
@@ -72,7 +66,6 @@ fn asks_for_purchases(rt: HostRuntime) -> Result<(), Fail> {
         ),
     ];
     for (call, event, amount, text) in purchases {
-        assert!(rt; amount < 1_000_000);
         let asked = request_text(rt.alloc(), &purchase(call, event, amount)?, 0)?;
         assert!(rt; asked.as_slice() == text.as_bytes());
     }
@@ -104,10 +97,7 @@ fn asks_for_an_increment(rt: HostRuntime) -> Result<(), Fail> {
 }
 
 /// The end of a call in USD that no answer decided.
-fn void(number: u32, txn: &str, call: u32, amount: u64) -> Result<Notice, Fail>
-    requires { amount < 2 ^ 62 }
-    ensures { IfOk result (λ n. IsNotice n) }
-{
+fn void(number: u32, txn: &str, call: u32, amount: u64) -> Result<Notice, Fail> {
     Ok(Notice {
         number,
         method: Method::Void,
@@ -153,7 +143,6 @@ fn tells_that_calls_ended(rt: HostRuntime) -> Result<(), Fail> {
         ),
     ];
     for (number, txn, call, amount, text) in voids {
-        assert!(rt; amount < 1_000_000);
         let told = notice_text(rt.alloc(), &void(number, txn, call, amount)?, 0)?;
         assert!(rt; told.as_slice() == text.as_bytes());
     }
@@ -161,11 +150,7 @@ fn tells_that_calls_ended(rt: HostRuntime) -> Result<(), Fail> {
 }
 
 /// A clearing of a purchase in USD.
-fn capture(number: u32, txn: &str, amount: u64, gateway: u64) -> Result<Notice, Fail>
-    requires amount { amount < 2 ^ 62 }
-    requires gateway { gateway < 2 ^ 62 }
-    ensures { IfOk result (λ n. IsNotice n) }
-{
+fn capture(number: u32, txn: &str, amount: u64, gateway: u64) -> Result<Notice, Fail> {
     Ok(Notice {
         number,
         method: Method::Capture,
@@ -174,7 +159,7 @@ fn capture(number: u32, txn: &str, amount: u64, gateway: u64) -> Result<Notice, 
         currency: Currency::Usd,
         call: None,
         amount,
-        gateway: gateway,
+        gateway,
     })
 }
 
@@ -204,8 +189,6 @@ fn tells_what_was_cleared(rt: HostRuntime) -> Result<(), Fail> {
         ),
     ];
     for (number, txn, amount, gateway, text) in captures {
-        assert!(rt; amount < 1_000_000);
-        assert!(rt; gateway < 1_000_000);
         let told = notice_text(rt.alloc(), &capture(number, txn, amount, gateway)?, 0)?;
         assert!(rt; told.as_slice() == text.as_bytes());
     }

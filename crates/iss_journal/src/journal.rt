@@ -55,6 +55,7 @@ impl Journal {
         ensures cause { DiskCause (E.faults edge.old) (E.faults edge.new) result }
         ensures heard { Told HearsNothing (E.heard edge.old) (E.heard edge.new) }
         ensures kept { E.extent edge.new ≡ E.extent edge.old }
+        ensures channels { E.channels edge.new ≡ E.channels edge.old }
     {
         let tail = tail_of(instance);
         put(edge, 0, &[CLOSED])?;
@@ -75,6 +76,7 @@ impl Journal {
         ensures cause { DiskCause (E.faults edge.old) (E.faults edge.new) result }
         ensures heard { Told HearsNothing (E.heard edge.old) (E.heard edge.new) }
         ensures kept { E.extent edge.new ≡ E.extent edge.old }
+        ensures channels { E.channels edge.new ≡ E.channels edge.old }
     {
         let size = edge.size();
         if size < LEAST || MOST < size {
@@ -120,6 +122,7 @@ impl Journal {
         ensures cause { DiskCause (E.faults edge.old) (E.faults edge.new) result }
         ensures heard { Told HearsNothing (E.heard edge.old) (E.heard edge.new) }
         ensures kept { E.extent edge.new ≡ E.extent edge.old }
+        ensures channels { E.channels edge.new ≡ E.channels edge.old }
     {
         let free = self.free();
         let need = frame.as_slice().len() as u64;

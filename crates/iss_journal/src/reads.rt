@@ -30,6 +30,7 @@ pub(crate) fn read_gate<E: Edge>(edge: &mut E, at: u64) -> Result<u8, Failed>
     ensures cause { HasCause (λ f. f.disk) (E.faults edge.old) (E.faults edge.new) result }
     ensures heard { Told HearsNothing (E.heard edge.old) (E.heard edge.new) }
     ensures kept { E.extent edge.new ≡ E.extent edge.old }
+    ensures channels { E.channels edge.new ≡ E.channels edge.old }
 {
     let mut buf = [0; 1];
     edge.read_at(at, &mut buf)?;
@@ -47,6 +48,7 @@ pub(crate) fn read_head<E: Edge>(edge: &mut E, at: u64, to: u64) -> Result<Head,
     ensures cause { HasCause (λ f. f.disk) (E.faults edge.old) (E.faults edge.new) result }
     ensures heard { Told HearsNothing (E.heard edge.old) (E.heard edge.new) }
     ensures kept { E.extent edge.new ≡ E.extent edge.old }
+    ensures channels { E.channels edge.new ≡ E.channels edge.old }
 {
     if to - at <= HEAD {
         let gate = read_gate(edge, at)?;
@@ -73,6 +75,7 @@ pub(crate) fn read_body<E: Edge>(
     ensures cause { DiskCause (E.faults edge.old) (E.faults edge.new) result }
     ensures heard { Told HearsNothing (E.heard edge.old) (E.heard edge.new) }
     ensures kept { E.extent edge.new ≡ E.extent edge.old }
+    ensures channels { E.channels edge.new ≡ E.channels edge.old }
 {
     let mut body = vec![in alloc; 0; len]?;
     edge.read_at(at, body.as_mut_slice())?;

@@ -46,6 +46,7 @@ impl Scan {
         ensures cause { DiskCause (E.faults edge.old) (E.faults edge.new) result }
         ensures heard { Told HearsNothing (E.heard edge.old) (E.heard edge.new) }
         ensures kept { E.extent edge.new ≡ E.extent edge.old }
+        ensures channels { E.channels edge.new ≡ E.channels edge.old }
     {
         edge.sync()?;
         Ok(Scan { gate: from, to })
@@ -68,6 +69,7 @@ impl Scan {
         ensures cause { DiskCause (E.faults edge.old) (E.faults edge.new) result }
         ensures heard { Told HearsNothing (E.heard edge.old) (E.heard edge.new) }
         ensures kept { E.extent edge.new ≡ E.extent edge.old }
+        ensures channels { E.channels edge.new ≡ E.channels edge.old }
     {
         let head = read_head(edge, self.gate, self.to)?;
         if head.gate != OPEN {
@@ -94,6 +96,7 @@ impl Scan {
         ensures cause { DiskCause (E.faults edge.old) (E.faults edge.new) result }
         ensures heard { Told HearsNothing (E.heard edge.old) (E.heard edge.new) }
         ensures kept { E.extent edge.new ≡ E.extent edge.old }
+        ensures channels { E.channels edge.new ≡ E.channels edge.old }
     {
         let gate = read_gate(edge, self.gate)?;
         if gate == CLOSED {

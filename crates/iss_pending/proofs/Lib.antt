@@ -7,3 +7,6 @@ pub mod Fates
 pub mod DueHits
 pub mod CallsAfterDue
 pub mod Answering
+pub mod FewMoves
+pub mod FewCosts
+pub mod FewSteps

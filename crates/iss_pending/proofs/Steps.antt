@@ -1,8 +1,10 @@
 -- A record that is taken up is ready for its entries, and a step keeps a core well.
-use Rattle.std.proofs.Common.{◌≡◌, ℕ, ◌+◌, true, false, List, [], ◌∷◌, fold, sym, ap, subst, ◌∙◌}
+use Rattle.std.proofs.Common.{◌≡◌, ℕ, ◌+◌, true, false, List, [], ◌∷◌, fold, refl, sym, ap, subst, ◌∙◌}
 use Rattle.std.specs.Prelude.{Some, None}
+use Rattle.std.specs.List.{list_all}
 use Rattle.std.proofs.lemmas.Bool.{false_from_ne_true}
 use Rattle.iss_model.specs.declared.entry.Entry.{Entry}
+use Rattle.iss_model.specs.declared.entry.Entry.TheVariants as entry
 use Rattle.iss_model.specs.declared.input.Input.{Input}
 use Rattle.iss_model.specs.declared.input.Record.{Record}
 use Rattle.iss_model.specs.Inputs.{event_token}
@@ -12,15 +14,17 @@ use Rattle.iss_model.specs.rules.Facts.{Accepted, call_in}
 use Rattle.iss_model.specs.rules.Keeper.{Growth}
 use Rattle.iss_model.specs.rules.Stepping.{entries_of, settle, after_due, step}
 use Rattle.iss_model.specs.state.Cores.{CoreState, with_record, core_facts, core_keeper, after_entry}
+use Rattle.iss_model.proofs.Lists.{all_weaker}
 use Rattle.iss_invariants.proofs.Kept.{due_accepted, entries_accepted}
 use Rattle.iss_invariants.proofs.NewEvents.{accepted_with_record, still_accepted}
 use Rattle.iss_invariants.specs.Sound.{is_accepted, IsNewEvent}
+use Rattle.iss_docket.specs.Allowed.{is_of_known}
 use Rattle.iss_docket.specs.Dockets.{Docket, docket_after, docket_of}
 use Rattle.iss_docket.specs.Well.{IsAccounted, IsWellAmong, Known, asked_times, decided_times, has_live, is_decided}
 use Rattle.iss_docket.proofs.Counts.{accounted_once}
 use Rattle.iss_docket.proofs.Enters.{Enters, entered_well}
 use Rattle.iss_docket.proofs.Lists.{by_either, not_both, not_some}
-use Rattle.iss_pending.specs.Pending.{AreAllowed, HasTakenUp, known_of, IsWell}
+use Rattle.iss_pending.specs.Pending.{AreAllowed, HasTakenUp, decides_accepted, known_of, IsWell}
 use Rattle.iss_pending.proofs.Due.{thing_enters}
 use Rattle.iss_pending.proofs.Own.{IsNewOn, own_enters}
 use Rattle.iss_pending.proofs.Staying.{accepted_before_or_now, are_allowed, entries_docket, products_stay}
@@ -104,6 +108,23 @@ own_ready s i at ready = own_enters s i at (ready_well s i ready) (ready_event s
 
 pub own_allowed : (s : CoreState) (i : Input) (at : ℕ) → HasTakenUp s i → AreAllowed s (entries_of i at (core_facts s))
 own_allowed s i at ready = are_allowed s (entries_of i at (core_facts s)) (own_ready s i at ready).allowed
+
+-- what is decided was accepted ----
+
+known_decides : (known : Known) (accepted : List Accepted) → ((event : List ℕ) → known.events event ≡ true → is_accepted accepted event ≡ true)
+    → (e : Entry) → is_of_known known e ≡ true → decides_accepted accepted e ≡ true
+known_decides known accepted stay (entry.Decided event verdict) h = stay event h
+known_decides known accepted stay _ h = refl
+
+pub due_decides : (s : CoreState) (i : Input) (thing : DueThing) (at : ℕ) → HasTakenUp s i → list_all (decides_accepted s.accepted) (thing_entries thing at (core_facts s)) ≡ true
+due_decides s i thing at ready =
+    all_weaker (is_of_known ready.before) (decides_accepted s.accepted) (known_decides ready.before s.accepted ready.events_stay) (thing_entries thing at (core_facts s))
+    (thing_enters ready.before s thing at ready.well).of_known
+
+pub own_decides : (s : CoreState) (i : Input) (at : ℕ) → HasTakenUp s i → list_all (decides_accepted s.accepted) (entries_of i at (core_facts s)) ≡ true
+own_decides s i at ready =
+    all_weaker (is_of_known (known_of s)) (decides_accepted s.accepted) (known_decides (known_of s) s.accepted (λ event h. h)) (entries_of i at (core_facts s))
+    (own_ready s i at ready).of_known
 
 -- all that is due ----
 

@@ -1,8 +1,10 @@
 -- What holds of every core: what is asked, what is decided, and what its next entries need.
 use Rattle.std.specs.Prelude.{◌≡◌, ℕ, Bool, true, false, List, [], ◌∷◌, map, Some, is_some}
 use Rattle.iss_model.specs.declared.entry.Entry.{Entry}
+use Rattle.iss_model.specs.declared.entry.Entry.TheVariants as entry
 use Rattle.iss_model.specs.declared.input.Input.{Input}
 use Rattle.iss_model.specs.Inputs.{event_token}
+use Rattle.iss_model.specs.rules.Facts.{Accepted}
 use Rattle.iss_model.specs.rules.Settings.{product_named}
 use Rattle.iss_model.specs.state.Cores.{CoreState, ProductNow, after_entry}
 use Rattle.iss_invariants.specs.Sound.{is_accepted}
@@ -27,6 +29,11 @@ pub record IsWell (s : CoreState) : Type 0 where
 abbrev pub AreAllowed : CoreState → List Entry → Type 0
 AreAllowed s [] = Unit {0}
 AreAllowed s (e ∷ es) = IsAllowed (docket_of s) e × AreAllowed (after_entry s e) es
+
+-- an event that an entry decides was accepted
+abbrev pub decides_accepted : List Accepted → Entry → Bool
+decides_accepted accepted (entry.Decided event verdict) = is_accepted accepted event
+decides_accepted accepted _ = true
 
 -- A record with this input was taken up, and hasn't made its own entries yet: its event is accepted, and wasn't known before.
 pub record HasTakenUp (s : CoreState) (i : Input) : Type 0 where

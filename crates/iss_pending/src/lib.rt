@@ -14,8 +14,12 @@
 //! reads off `AreAllowed` what each entry needs: a new token, or a field of `MayOpen`, `MayClose`, `MayDecide` or `MayEnd`.
 #![tactic(auto)]
 
+mod few;
 mod pending;
 mod sweeps;
 
-pub use pending::{calls_are_well, entries_are_allowed, events_are_decided_once};
+pub use few::few_numbers_are_given;
+pub use pending::{
+    accepted_events_are_decided, calls_are_well, entries_are_allowed, events_are_decided_once,
+};
 pub use sweeps::{answers_are_judged, due_items_close_calls};

@@ -1,5 +1,6 @@
 //! What holds of every core, and what its entries need.
 ghost use Rattle.std.specs.Prelude.{◌≡◌, ℕ, ◌+◌, Bool, true, List, fold};
+ghost use Rattle.std.specs.List.{list_all};
 ghost use Rattle.iss_model.specs.declared.input.Input.{Input};
 ghost use Rattle.iss_model.specs.declared.input.Record.{Record};
 ghost use Rattle.iss_model.specs.rules.Activity.{CallNow, is_asked};
@@ -10,7 +11,7 @@ ghost use Rattle.iss_model.specs.rules.Histories.{IsLegal};
 ghost use Rattle.iss_model.specs.state.Cores.{CoreState, no_core, after_entry, with_record, core_facts, core_keeper, core_of};
 ghost use Rattle.iss_docket.specs.Well.{has_live, decided_times, asked_times};
 ghost use Rattle.iss_invariants.specs.Sound.{is_accepted, IsNewEvent};
-ghost use Rattle.iss_pending.specs.Pending.{IsWell, AreAllowed, HasTakenUp};
+ghost use Rattle.iss_pending.specs.Pending.{IsWell, AreAllowed, HasTakenUp, decides_accepted};
 
 /// Legal records leave a core well: its calls, its transactions and its decisions. A step keeps it so where the event is new; and then an
 /// asked call's transaction stands and is live.
@@ -32,6 +33,14 @@ pub fn entries_are_allowed()
     ensures due { (s : CoreState) → (i : Input) → (thing : DueThing) → (at : ℕ) → HasTakenUp s i
         → AreAllowed s (thing_entries thing at (core_facts s)) }
     ensures own { (s : CoreState) → (i : Input) → (at : ℕ) → HasTakenUp s i → AreAllowed s (entries_of i at (core_facts s)) }
+{}
+
+/// What an entry decides was accepted: each entry of a due thing, and each of a record's own.
+pub fn accepted_events_are_decided()
+    ensures due { (s : CoreState) → (i : Input) → (thing : DueThing) → (at : ℕ) → HasTakenUp s i
+        → list_all (decides_accepted s.accepted) (thing_entries thing at (core_facts s)) ≡ true }
+    ensures own { (s : CoreState) → (i : Input) → (at : ℕ) → HasTakenUp s i
+        → list_all (decides_accepted s.accepted) (entries_of i at (core_facts s)) ≡ true }
 {}
 
 /// Each accepted event is decided once, or isn't decided and waits for the one call that is asked for it.

@@ -75,7 +75,7 @@ impl Products {
         if self.get(&product.name).is_some() {
             return Err(ProductFault::Exists);
         }
-        if self.len() >= MOST {
+        if self.is_full() {
             return Err(ProductFault::Limit);
         }
         self.push(product)?;
@@ -117,6 +117,13 @@ impl Products {
         ensures { result ≡ length self.now }
     {
         self.by_name.len()
+    }
+
+    /// Whether there are as many products as there may be.
+    pub fn is_full(&self) -> bool
+        ensures { result ≡ is_full self.now }
+    {
+        self.len() >= MOST
     }
 
     fn push(&mut self, product: &Product) -> Result<(), AllocError>

@@ -78,7 +78,7 @@ impl Groups {
         if self.has(name) {
             return Err(GroupFault::Exists);
         }
-        if self.len >= MOST {
+        if self.is_full() {
             return Err(GroupFault::Limit);
         }
         let mccs = Mccs::from_rising(mccs.to_vec(alloc)?);
@@ -96,6 +96,13 @@ impl Groups {
         self.by_name.add(MerchantGroup { name: *name, mccs })?;
         self.len += 1;
         Ok(())
+    }
+
+    /// Whether there are as many groups as there may be.
+    pub fn is_full(&self) -> bool
+        ensures { result ≡ is_full self.now }
+    {
+        self.len >= MOST
     }
 
     /// Whether there is a group of that name.

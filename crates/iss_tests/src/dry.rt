@@ -1,4 +1,8 @@
 //! Dry runs over an edge in memory: the calls that they make, and what a failing one leaves.
+use crate::scripts::{
+    A_DAY, A_DAY_TOLD, EARLY_ACKNOWLEDGEMENT, EARLY_ACKNOWLEDGEMENT_TOLD, REPEAT_AT_THE_DEADLINE,
+    REPEAT_AT_THE_DEADLINE_TOLD, TWO_TIMEOUTS_AND_AN_EXPIRY, TWO_TIMEOUTS_AND_AN_EXPIRY_TOLD,
+};
 use crate::support::{dry, edge_of, run_by, sent};
 use std::test::Fail;
 
@@ -6,32 +10,12 @@ const TWO_USERS: &str = r#"{"type":"user","token":"t1","user":"u1"}
 {"type":"user","token":"t2","user":"u2"}
 "#;
 
-/// Lines that are not taken yet, with lines before, between and after them that are.
-const NOT_TAKEN_YET: &str = r#"{"type":"user","token":"t1","user":"u1"}
-{"type":"load","token":"t3","user":"u1","currency":"USD","amount":"1.00","at":5}
-{"type":"load","at":5}
-{"type":"product","token":"p1","product":"g","currency":"USD","funding":"GATEWAY"}
-{"type":"product","funding":"GATEWAY"}
-{"type":"user","token":"t1","user":"u1"}
-{"type":"product","at":0}
-{"type":"move","at":0}
-{"type":"time","at":5}
-{"type":"time"}
-{"type":"load","token":"t3","user":"u1","currency":"JPY","amount":"1"}
-"#;
-
-const NOT_TAKEN_YET_TOLD: &str = r#"{"event":"t1","reply":"done"}
-{"fault":"NOT_BUILT","reply":"form"}
-{"fault":"NOT_BUILT","reply":"form"}
-{"fault":"NOT_BUILT","reply":"form"}
-{"fault":"NOT_BUILT","reply":"form"}
-{"event":"t1","reply":"done"}
-{"fault":"NOT_BUILT","reply":"form"}
-{"fault":"NOT_BUILT","reply":"form"}
-{"fault":"NOT_BUILT","reply":"form"}
-{"fault":"NOT_BUILT","reply":"form"}
-{"event":"t3","reply":"done"}
-"#;
+const SCRIPTS: [(&str, &str); 4] = [
+    (REPEAT_AT_THE_DEADLINE, REPEAT_AT_THE_DEADLINE_TOLD),
+    (EARLY_ACKNOWLEDGEMENT, EARLY_ACKNOWLEDGEMENT_TOLD),
+    (TWO_TIMEOUTS_AND_AN_EXPIRY, TWO_TIMEOUTS_AND_AN_EXPIRY_TOLD),
+    (A_DAY, A_DAY_TOLD),
+];
 
 #[test]
 fn no_input_is_one_take(rt: HostRuntime) -> Result<(), Fail> {
@@ -66,10 +50,29 @@ fn a_failed_emit_ends_the_run_after_three_bytes(rt: HostRuntime) -> Result<(), F
     Ok(())
 }
 
+/// The last line is told six texts.
 #[test]
-fn lines_that_are_not_taken_yet_change_nothing(rt: HostRuntime) -> Result<(), Fail> {
-    let (status, told) = dry(rt.alloc(), NOT_TAKEN_YET.as_bytes())?;
-    assert_eq!(rt; status, 0);
-    assert!(rt; told.as_slice() == NOT_TAKEN_YET_TOLD.as_bytes());
+fn each_text_of_a_line_is_one_emit(rt: HostRuntime) -> Result<(), Fail> {
+    let mut edge = edge_of(rt.alloc(), TWO_TIMEOUTS_AND_AN_EXPIRY.as_bytes(), &[])?;
+    assert_eq!(rt; run_by(rt.alloc(), "dry", &mut edge)?, 0);
+    assert_eq!(rt; edge.trace().len(), 13);
+    Ok(())
+}
+
+#[test]
+fn a_failed_emit_ends_the_run_within_a_line(rt: HostRuntime) -> Result<(), Fail> {
+    let mut edge = edge_of(rt.alloc(), TWO_TIMEOUTS_AND_AN_EXPIRY.as_bytes(), &[10])?;
+    assert_eq!(rt; run_by(rt.alloc(), "dry", &mut edge)?, 5);
+    assert_eq!(rt; edge.trace().len(), 9);
+    Ok(())
+}
+
+#[test]
+fn worked_scripts_are_told_their_texts(rt: HostRuntime) -> Result<(), Fail> {
+    for (lines, texts) in SCRIPTS {
+        let (status, told) = dry(rt.alloc(), lines.as_bytes())?;
+        assert_eq!(rt; status, 0);
+        assert!(rt; told.as_slice() == texts.as_bytes());
+    }
     Ok(())
 }

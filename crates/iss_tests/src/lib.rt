@@ -13,6 +13,8 @@ mod format;
 #[cfg(test)]
 mod journal;
 #[cfg(test)]
+mod scripts;
+#[cfg(test)]
 mod support;
 #[cfg(test)]
 mod views;

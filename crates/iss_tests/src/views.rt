@@ -1,13 +1,10 @@
 //! The core on a user, a card, a load and a purchase, and what it answers after them.
-ghost use Rattle.std.specs.Prelude.{◌≡◌, true, IfOk, IfSome, IsTrue};
+ghost use Rattle.std.specs.Prelude.{IfSome, IsTrue};
 ghost use Rattle.iss_model.specs.Forms.{is_in_form};
-ghost use Rattle.iss_model.specs.rules.CardReasons.{is_account_funded};
-ghost use Rattle.iss_core.specs.Built.{is_built};
-ghost use Rattle.iss_top.specs.Start.{IsAtStart};
 
 use iss_core::Core;
 use iss_event::{Line, Mode, read_line};
-use iss_model::{Account, Answer, Currency, Entry, Funding, Input, Judged, Reply, Token, Verdict};
+use iss_model::{Account, Answer, Currency, Entry, Input, Judged, Reply, Token, Verdict};
 use std::alloc::{AllocError, Global};
 use std::test::Fail;
 
@@ -22,46 +19,18 @@ const LINES: [&str; 4] = [
 const OTHER: &str =
     r#"{"type":"authorization","token":"a1","card":"c1","currency":"USD","amount":"20.01","mcc":"5411","mid":"m1"}"#;
 
-/// Whether the core takes the input: it doesn't take every kind yet.
-fn is_built(input: &Input) -> bool
-    ensures { result ≡ is_built input.now }
-{
-    match input {
-        Input::User { .. }
-        | Input::Card { .. }
-        | Input::Move { .. }
-        | Input::Load { .. }
-        | Input::Authorization { .. } => true,
-        Input::Product { funding, .. } => is_account_funded(*funding),
-        _ => false,
-    }
-}
-
-fn is_account_funded(funding: Funding) -> bool
-    ensures { result ≡ is_account_funded funding }
-{
-    match funding {
-        Funding::Account => true,
-        Funding::Gateway => false,
-    }
-}
-
-/// What a line says, where the core takes it.
+/// What a line says.
 fn said(alloc: Global, line: &str) -> Option<Input>
-    ensures input_form { IfSome result (λ input. IsTrue (is_in_form input)) }
-    ensures built { IfSome result (λ input. is_built input ≡ true) }
+    ensures { IfSome result (λ input. IsTrue (is_in_form input)) }
 {
     match read_line(alloc, line.as_bytes(), Mode::Lines) {
-        Ok(Line { input, at: _ }) if is_built(&input) => Some(input),
-        _ => None,
+        Ok(Line { input, at: _ }) => Some(input),
+        Err(_) => None,
     }
 }
 
 /// The core after a line and the entries that it made: `None` where the line is no new event.
-fn taken(alloc: Global, core: Core, line: &str) -> Result<Option<(Core, Vec<Entry>)>, AllocError>
-    requires start { IsAtStart core.state }
-    ensures { IfOk result (λ next. IfSome next (λ x. IsAtStart x.0.state)) }
-{
+fn taken(alloc: Global, core: Core, line: &str) -> Result<Option<(Core, Vec<Entry>)>, AllocError> {
     match said(alloc, line) {
         Some(input) => taken_input(alloc, core, &input),
         None => Ok(None),
@@ -73,24 +42,19 @@ fn taken_input(
     core: Core,
     input: &Input,
 ) -> Result<Option<(Core, Vec<Entry>)>, AllocError>
-    requires start { IsAtStart core.state }
-    requires input_form { IsTrue (is_in_form input.now) }
-    requires built { is_built input.now ≡ true }
-    ensures { IfOk result (λ next. IfSome next (λ x. IsAtStart x.0.state)) }
+    requires { IsTrue (is_in_form input.now) }
 {
     if core.count() >= 1000 {
         return Ok(None);
     }
-    match core.judge(input, 0)? {
+    match core.judge(alloc, input, 0)? {
         Judged::New(record) => Ok(Some(core.step(alloc, &record)?)),
         _ => Ok(None),
     }
 }
 
 /// The core of instance 7 after lines: `None` where one of them is no new event.
-fn core_behind(alloc: Global, lines: &[&str]) -> Result<Option<Core>, AllocError>
-    ensures { IfOk result (λ behind. IfSome behind (λ core. IsAtStart core.state)) }
-{
+fn core_behind(alloc: Global, lines: &[&str]) -> Result<Option<Core>, AllocError> {
     let mut core = Core::new(alloc, 7)?;
     for line in lines {
         match taken(alloc, core, line)? {
@@ -102,20 +66,17 @@ fn core_behind(alloc: Global, lines: &[&str]) -> Result<Option<Core>, AllocError
 }
 
 /// What a line is told where its event stands.
-fn told(alloc: Global, core: &Core, line: &str) -> Result<Option<Answer>, AllocError>
-    requires start { IsAtStart core.now.state }
-{
+fn told(alloc: Global, core: &Core, line: &str) -> Result<Option<Answer>, AllocError> {
     match said(alloc, line) {
-        Some(input) => told_input(core, input),
+        Some(input) => told_input(alloc, core, &input),
         None => Ok(None),
     }
 }
 
-fn told_input(core: &Core, input: Input) -> Result<Option<Answer>, AllocError>
-    requires start { IsAtStart core.now.state }
-    requires built { is_built input ≡ true }
+fn told_input(alloc: Global, core: &Core, input: &Input) -> Result<Option<Answer>, AllocError>
+    requires { IsTrue (is_in_form input.now) }
 {
-    match core.judge(&input, 0)? {
+    match core.judge(alloc, input, 0)? {
         Judged::Told(answer) => Ok(Some(answer)),
         _ => Ok(None),
     }

@@ -1,31 +1,30 @@
--- How the text to come shortens with each byte of the input.
+-- How the texts to come get fewer with each byte of the input.
 use Rattle.std.proofs.Common.{◌≡◌, ℕ, ◌+◌, ◌-◌, ◌*◌, ◌<◌, ◌≤◌, Bool, true, false, cond, ◌&&◌, ◌||◌, nat_eq, nat_lt, List, [], ◌∷◌, ◌++◌, length, take, fold, unwrap_or, Err, refl, sym, ap, ◌∙◌, append-nil, append_assoc, arith, length-append}
 use Rattle.std.specs.Prelude.{Option, Result, Ok}
 use Rattle.std.proofs.lemmas.List.{length-take}
 use Rattle.std.proofs.lemmas.List.Folds.{list_all-append}
 use Rattle.std.proofs.lemmas.Bool.Decides.{nat_tests}
+use Rattle.iss_model.specs.declared.input.Input.{Input}
 use Rattle.iss_model.specs.declared.input.Record.{Record}
 use Rattle.iss_model.specs.declared.decision.Judged.{Judged}
 use Rattle.iss_model.specs.declared.decision.Judged.TheVariants as judged
-use Rattle.iss_model.specs.rules.Judging.{judge}
-use Rattle.iss_model.specs.state.Cores.{CoreState, with_record, core_facts, core_keeper}
-use Rattle.iss_core.proofs.Stepped.{all_entered_count}
-use Rattle.iss_model.specs.run.Transcripts.{sound, faulty, after_line, bytes_of}
-use Rattle.iss_model.specs.run.Sayings.{reaction, reaction_as}
-use Rattle.iss_model.specs.rules.Keeper.{Growth}
 use Rattle.iss_model.specs.rules.Due.{DueItem, due_items, thing_entries}
-use Rattle.iss_model.specs.declared.input.Input.{Input}
+use Rattle.iss_model.specs.rules.Judging.{judge}
+use Rattle.iss_model.specs.rules.Keeper.{Growth}
 use Rattle.iss_model.specs.rules.Stepping.{own_entries, settle, step}
+use Rattle.iss_model.specs.state.Cores.{CoreState, with_record, core_facts, core_keeper}
+use Rattle.iss_model.specs.run.Sayings.{reaction, reaction_as}
+use Rattle.iss_model.specs.run.Transcripts.{sound, after_line}
+use Rattle.iss_invariants.proofs.Kept.{entries_count}
 use Rattle.iss_event.specs.declared.line.Mode.TheVariants.{Lines}
 use Rattle.iss_event.specs.declared.line.FormFault.TheVariants.{Long}
 use Rattle.iss_event.specs.declared.line.Line.{Line}
 use Rattle.iss_event.specs.declared.line.FormFault.{FormFault}
-use Rattle.iss_event.specs.Readings.{Opened, as_fault, opened_line, said_line}
-use Rattle.iss_event.proofs.LeastLine.{least_open}
+use Rattle.iss_event.specs.Readings.{opened_line, line_read}
+use Rattle.iss_event.proofs.LeastLine.{least_line}
 use Rattle.iss_top.specs.Lines.{has_line_feed, is_blank_byte, is_blank, onto_first, parts_of, kept_with}
-use Rattle.iss_top.specs.Dry.{reading_of, as_reading, opened_reading, reply_of_line}
-use Rattle.iss_top.specs.NotTaken.{is_not_taken, not_taken_line}
-use Rattle.iss_top.specs.Progress.{line_text, line_next, lines_text, text_to_come}
+use Rattle.iss_top.specs.Dry.{reading_of, as_reading, each_bytes, reply_of_line}
+use Rattle.iss_top.specs.Progress.{line_texts, line_next, lines_texts, texts_to_come}
 
 -- bytes before what stands before the first part
 onto_first-append : (a b : List ℕ) (parts : List (List ℕ)) → onto_first a (onto_first b parts) ≡ onto_first (a ++ b) parts
@@ -33,28 +32,28 @@ onto_first-append a b [] = refl
 onto_first-append a b (p ∷ ps) = ap (λ (q : List ℕ). q ∷ ps) (sym (append_assoc a b p))
 
 -- a byte that ends no line goes after the line
-to_come-byte : (h : CoreState) (line : List ℕ) (b : ℕ) (rest : List ℕ) → nat_eq b 10 ≡ false → text_to_come h line (b ∷ rest) ≡ text_to_come h (line ++ b ∷ []) rest
-unfolding text_to_come
+to_come-byte : (h : CoreState) (line : List ℕ) (b : ℕ) (rest : List ℕ) → nat_eq b 10 ≡ false → texts_to_come h line (b ∷ rest) ≡ texts_to_come h (line ++ b ∷ []) rest
+unfolding texts_to_come
 to_come-byte h line b rest e =
-    ap (λ (t : Bool). lines_text h (onto_first line (cond t ([] ∷ parts_of rest) (onto_first (b ∷ []) (parts_of rest))))) e
-    ∙ ap (lines_text h) (onto_first-append line (b ∷ []) (parts_of rest))
+    ap (λ (t : Bool). lines_texts h (onto_first line (cond t ([] ∷ parts_of rest) (onto_first (b ∷ []) (parts_of rest))))) e
+    ∙ ap (lines_texts h) (onto_first-append line (b ∷ []) (parts_of rest))
 
 pub some_parts : (rest : List ℕ) → onto_first [] (parts_of rest) ≡ parts_of rest
 some_parts [] = refl
 some_parts (b ∷ bs) = elim (nat_eq b 10) as (λ t. onto_first [] (cond t ([] ∷ parts_of bs) (onto_first (b ∷ []) (parts_of bs))) ≡ cond t ([] ∷ parts_of bs) (onto_first (b ∷ []) (parts_of bs))) [ true ↦ refl | false ↦ onto_first-append [] (b ∷ []) (parts_of bs) ]
 
 -- a line feed ends the line: it is told, and the next begins
-pub to_come-end : (h : CoreState) (line rest : List ℕ) → text_to_come h line (10 ∷ rest) ≡ line_text h line ++ text_to_come (line_next h line) [] rest
-unfolding text_to_come
+pub to_come-end : (h : CoreState) (line rest : List ℕ) → texts_to_come h line (10 ∷ rest) ≡ line_texts h line ++ texts_to_come (line_next h line) [] rest
+unfolding texts_to_come
 to_come-end h line rest =
-    ap (λ (l : List ℕ). line_text h l ++ lines_text (line_next h l) (parts_of rest)) (append-nil line)
-    ∙ ap (λ (ps : List (List ℕ)). line_text h line ++ lines_text (line_next h line) ps) (sym (some_parts rest))
+    ap (λ (l : List ℕ). line_texts h l ++ lines_texts (line_next h l) (parts_of rest)) (append-nil line)
+    ∙ ap (λ (ps : List (List ℕ)). line_texts h line ++ lines_texts (line_next h line) ps) (sym (some_parts rest))
 
 -- the end of the input ends the line too
-pub to_come-last : (h : CoreState) (line : List ℕ) → text_to_come h line [] ≡ line_text h line
-unfolding text_to_come
+pub to_come-last : (h : CoreState) (line : List ℕ) → texts_to_come h line [] ≡ line_texts h line
+unfolding texts_to_come
 to_come-last h line =
-    ap (λ (l : List ℕ). line_text h l ++ []) (append-nil line) ∙ append-nil (line_text h line)
+    ap (λ (l : List ℕ). line_texts h l ++ []) (append-nil line) ∙ append-nil (line_texts h line)
 
 -- Two lines of more than 16384 bytes, both blank or neither, are told the same and leave the same.
 pub record IsAlike (line other : List ℕ) : Type 0 where
@@ -62,21 +61,21 @@ pub record IsAlike (line other : List ℕ) : Type 0 where
   pub long : 16384 < length line
   pub other_long : 16384 < length other
 
-long_reading : (line : List ℕ) → 16384 < length line → opened_line Lines line ≡ Err Long
-unfolding opened_line
+long_reading : (line : List ℕ) → 16384 < length line → line_read Lines line ≡ Err Long
+unfolding line_read opened_line
 long_reading line h =
     let is_long : nat_lt 16384 (length line) ≡ true = grind (arith, nat_tests) in
     rw is_long refl
 
 alike_reading : (line other : List ℕ) → IsAlike line other → reading_of line ≡ reading_of other
 unfolding reading_of
-alike_reading line other a = ap opened_reading (long_reading line a.long ∙ sym (long_reading other a.other_long))
+alike_reading line other a = ap as_reading (long_reading line a.long ∙ sym (long_reading other a.other_long))
 
-alike_text : (h : CoreState) (line other : List ℕ) → IsAlike line other → line_text h line ≡ line_text h other
-unfolding line_text
-alike_text h line other a =
-    ap (λ (t : Bool). cond t [] (bytes_of (reply_of_line h line).texts)) a.blank
-    ∙ ap (λ r. cond (is_blank other) [] (bytes_of (after_line core_keeper h r).texts)) (alike_reading line other a)
+alike_texts : (h : CoreState) (line other : List ℕ) → IsAlike line other → line_texts h line ≡ line_texts h other
+unfolding line_texts
+alike_texts h line other a =
+    ap (λ (t : Bool). cond t [] (each_bytes (reply_of_line h line).texts)) a.blank
+    ∙ ap (λ r. cond (is_blank other) [] (each_bytes (after_line core_keeper h r).texts)) (alike_reading line other a)
 
 alike_next : (h : CoreState) (line other : List ℕ) → IsAlike line other → line_next h line ≡ line_next h other
 unfolding line_next
@@ -92,16 +91,16 @@ alike_more line other more a =
       other_long = omega (arith, a.other_long, length-append {A = ℕ} other more);
     }
 
-alike_lines : (h : CoreState) (line other : List ℕ) (parts : List (List ℕ)) → IsAlike line other → lines_text h (onto_first line parts) ≡ lines_text h (onto_first other parts)
+alike_lines : (h : CoreState) (line other : List ℕ) (parts : List (List ℕ)) → IsAlike line other → lines_texts h (onto_first line parts) ≡ lines_texts h (onto_first other parts)
 alike_lines h line other [] a =
-    ap (λ (t : List ℕ). t ++ []) (alike_text h line other a)
+    ap (λ (t : List (List ℕ)). t ++ []) (alike_texts h line other a)
 alike_lines h line other (p ∷ ps) a =
     let b = alike_more line other p a in
-    ap (λ (t : List ℕ). t ++ lines_text (line_next h (line ++ p)) ps) (alike_text h (line ++ p) (other ++ p) b)
-    ∙ ap (λ (n : CoreState). line_text h (other ++ p) ++ lines_text n ps) (alike_next h (line ++ p) (other ++ p) b)
+    ap (λ (t : List (List ℕ)). t ++ lines_texts (line_next h (line ++ p)) ps) (alike_texts h (line ++ p) (other ++ p) b)
+    ∙ ap (λ (n : CoreState). line_texts h (other ++ p) ++ lines_texts n ps) (alike_next h (line ++ p) (other ++ p) b)
 
-pub to_come-alike : (h : CoreState) (line other rest : List ℕ) → IsAlike line other → text_to_come h line rest ≡ text_to_come h other rest
-unfolding text_to_come
+pub to_come-alike : (h : CoreState) (line other rest : List ℕ) → IsAlike line other → texts_to_come h line rest ≡ texts_to_come h other rest
+unfolding texts_to_come
 to_come-alike h line other rest a = alike_lines h line other (parts_of rest) a
 
 and_true : (t : Bool) → (t && true) ≡ t
@@ -135,14 +134,14 @@ kept_long line b h false e =
     }
 
 to_come-kept_as : (h : CoreState) (line : List ℕ) (b : ℕ) (rest : List ℕ) (short : Bool) → nat_lt (length line) 16385 ≡ short
-    → text_to_come h (cond short (line ++ b ∷ []) (cond (is_blank_byte b) line (take (length line - 1) line ++ b ∷ []))) rest ≡ text_to_come h (line ++ b ∷ []) rest
+    → texts_to_come h (cond short (line ++ b ∷ []) (cond (is_blank_byte b) line (take (length line - 1) line ++ b ∷ []))) rest ≡ texts_to_come h (line ++ b ∷ []) rest
 to_come-kept_as h line b rest true e = refl
 to_come-kept_as h line b rest false e =
     let long : 16384 < length line = grind (arith, nat_tests) in
     to_come-alike h _ (line ++ b ∷ []) rest (kept_long line b long (is_blank_byte b) refl)
 
 -- a byte that ends no line goes after what is kept of the line
-to_come-kept : (h : CoreState) (line : List ℕ) (b : ℕ) (rest : List ℕ) → nat_eq b 10 ≡ false → text_to_come h line (b ∷ rest) ≡ text_to_come h (kept_with line b) rest
+to_come-kept : (h : CoreState) (line : List ℕ) (b : ℕ) (rest : List ℕ) → nat_eq b 10 ≡ false → texts_to_come h line (b ∷ rest) ≡ texts_to_come h (kept_with line b) rest
 to_come-kept h line b rest e =
     to_come-byte h line b rest e ∙ sym (to_come-kept_as h line b rest (nat_lt (length line) 16385) refl)
 
@@ -168,15 +167,15 @@ neither_second true t e = cc
 neither_second false t e = e
 
 -- bytes that end no line go after the line
-pub to_come-run : (h : CoreState) (line bytes rest : List ℕ) → has_line_feed bytes ≡ false → text_to_come h line (bytes ++ rest) ≡ text_to_come h (line ++ bytes) rest
-to_come-run h line [] rest e = ap (λ (l : List ℕ). text_to_come h l rest) (sym (append-nil line))
+pub to_come-run : (h : CoreState) (line bytes rest : List ℕ) → has_line_feed bytes ≡ false → texts_to_come h line (bytes ++ rest) ≡ texts_to_come h (line ++ bytes) rest
+to_come-run h line [] rest e = ap (λ (l : List ℕ). texts_to_come h l rest) (sym (append-nil line))
 to_come-run h line (b ∷ bs) rest e =
     to_come-byte h line b (bs ++ rest) (neither_first (nat_eq b 10) (has_line_feed bs) e)
     ∙ to_come-run h (line ++ b ∷ []) bs rest (neither_second (nat_eq b 10) (has_line_feed bs) e)
-    ∙ ap (λ (l : List ℕ). text_to_come h l rest) (append_assoc line (b ∷ []) bs)
+    ∙ ap (λ (l : List ℕ). texts_to_come h l rest) (append_assoc line (b ∷ []) bs)
 
 -- and after what is kept of the line
-pub to_come-kept_run : (h : CoreState) (line bytes rest : List ℕ) → has_line_feed bytes ≡ false → text_to_come h line (bytes ++ rest) ≡ text_to_come h (fold kept_with line bytes) rest
+pub to_come-kept_run : (h : CoreState) (line bytes rest : List ℕ) → has_line_feed bytes ≡ false → texts_to_come h line (bytes ++ rest) ≡ texts_to_come h (fold kept_with line bytes) rest
 to_come-kept_run h line [] rest e = refl
 to_come-kept_run h line (b ∷ bs) rest e =
     to_come-kept h line b (bs ++ rest) (neither_first (nat_eq b 10) (has_line_feed bs) e)
@@ -186,14 +185,14 @@ to_come-kept_run h line (b ∷ bs) rest e =
 due_count : (at : ℕ) (items : List DueItem) (g : Growth CoreState) → (fold (settle core_keeper at) g items).world.count ≡ g.world.count
 due_count at [] g = refl
 due_count at (item ∷ items) g =
-    due_count at items (settle core_keeper at g item) ∙ all_entered_count g.world (thing_entries item.thing at (core_facts g.world))
+    due_count at items (settle core_keeper at g item) ∙ entries_count g.world (thing_entries item.thing at (core_facts g.world))
 
 step_count : (h : CoreState) (r : Record) → (step core_keeper h r).world.count ≡ h.count + 1
 unfolding step
 step_count h r =
     let taken = with_record h r in
     let ready : Growth CoreState = fold (settle core_keeper r.at) (record { world = taken; entries = [] }) (due_items (core_facts taken) r.at) in
-    all_entered_count ready.world (own_entries r (core_facts ready.world)) ∙ due_count r.at (due_items (core_facts taken) r.at) (record { world = taken; entries = [] })
+    entries_count ready.world (own_entries r (core_facts ready.world)) ∙ due_count r.at (due_items (core_facts taken) r.at) (record { world = taken; entries = [] })
 
 -- a line makes at most one record
 judged_count : (h : CoreState) (i : Input) (at : ℕ) (j : Judged) → (reaction_as core_keeper h i at j).world.count ≤ h.count + 1
@@ -206,20 +205,14 @@ unfolding reaction
 sound_count h i at = judged_count h i (unwrap_or at 0) (judge core_keeper h i (unwrap_or at 0))
 
 -- Five times the records, and the bytes of the line, are at most the bytes that came: a line that makes a record has four bytes at least, and a line feed or the end.
-said_room : (h : CoreState) (n : ℕ) (b : Bool) (said : Result Line FormFault) → 4 ≤ n
-    → 5 * (after_line core_keeper h (cond b (faulty not_taken_line) (as_reading said))).world.count ≤ 5 * h.count + n + 1
-said_room h n true said least = omega arith
-said_room h n false (Ok said) least = omega (arith, sound_count h said.input said.at, least)
-said_room h n false (Err fault) least = omega arith
-
-read_room : (h : CoreState) (line : List ℕ) (o : Result Opened FormFault) → opened_line Lines line ≡ o → 5 * (after_line core_keeper h (opened_reading o)).world.count ≤ 5 * h.count + length line + 1
-read_room h line (Ok opened) e = said_room h (length line) (is_not_taken opened) (as_fault (said_line opened)) (least_open Lines line opened e)
+read_room : (h : CoreState) (line : List ℕ) (r : Result Line FormFault) → line_read Lines line ≡ r → 5 * (after_line core_keeper h (as_reading r)).world.count ≤ 5 * h.count + length line + 1
+read_room h line (Ok said) e = omega (arith, sound_count h said.input said.at, least_line Lines line said e)
 read_room h line (Err fault) e = omega arith
 
 next_room_as : (h : CoreState) (line : List ℕ) (blank : Bool) → 5 * (cond blank h (reply_of_line h line).world).count ≤ 5 * h.count + length line + 1
 unfolding reading_of
 next_room_as h line true = omega arith
-next_room_as h line false = read_room h line (opened_line Lines line) refl
+next_room_as h line false = read_room h line (line_read Lines line) refl
 
 pub next_room : (h : CoreState) (line : List ℕ) → 5 * (line_next h line).count ≤ 5 * h.count + length line + 1
 unfolding line_next

@@ -1,13 +1,15 @@
-pub mod TakenLines
+pub mod Rows
 pub mod ReplyLemmas
 pub mod Feeding
 pub mod Keeping
 pub mod Finding
 pub mod Saying
+pub mod ToldSaying
 pub mod Fed
 pub mod ToldFed
 pub mod Running
 pub mod ToldRuns
+pub mod RunBytes
 pub mod Commands
 pub mod Numbers
 pub mod Formatted

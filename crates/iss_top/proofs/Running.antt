@@ -1,50 +1,49 @@
 -- A dry run from its start to each of its ends.
 use Rattle.std.proofs.Common.{◌≡◌, ℕ, ◌+◌, ◌≤◌, Bool, true, false, cond, not, List, [], ◌∷◌, ◌++◌, length, map, filter, take, refl, sym, ap, subst, ◌∙◌, append-nil, append_assoc, arith, length-append}
-use Rattle.std.proofs.lemmas.List.{length-take}
+use Rattle.std.proofs.lemmas.List.{length-take, map-append}
 use Rattle.iss_edge.specs.World.{World}
 use Rattle.iss_edge.specs.Calls.{Same, Takes}
 use Rattle.iss_model.specs.declared.limits.TheConstants.{MOST_INPUT}
 use Rattle.iss_model.specs.state.Cores.{CoreState, no_core, core_keeper}
 use Rattle.iss_agreement.proofs.CoreOfBook.{core_transcript}
-use Rattle.iss_model.specs.run.Transcripts.{Text, transcript, bytes_of}
+use Rattle.iss_model.specs.run.Transcripts.{Text, transcript}
 use Rattle.iss_top.specs.Lines.{is_blank, parts_of, lines_of}
-use Rattle.iss_top.specs.Dry.{reading_of, reply_of_line, dry_output}
-use Rattle.iss_top.specs.Progress.{line_text, line_next, lines_text, text_to_come, Says, SaysPrefix, Fed, Begins, FedPart}
-use Rattle.iss_top.specs.Runs.{Passes, IsOnItsWay, DryRun}
-use Rattle.iss_top.proofs.Saying.{sends_nothing, sends_then, sends_on}
+use Rattle.iss_top.specs.Dry.{reading_of, each_bytes, reply_of_line, dry_texts}
+use Rattle.iss_top.specs.Progress.{line_texts, line_next, lines_texts, texts_to_come, emits, GoOut, SendsEach, SendsSome, Says, SaysSome, Fed, AreFirst, FedPart}
+use Rattle.iss_top.specs.Runs.{TakesIn, IsOnItsWay, EmitsTexts, Ran}
+use Rattle.iss_top.proofs.Saying.{sends_nothing, sends_then, sends_on, all_out, all_sent, then_some, some_first}
 use Rattle.iss_top.proofs.Feeding.{to_come-last, some_parts}
 
 -- ---- the transcript is what the parts are told in a row
 
-bytes_of-append : (xs ys : List Text) → bytes_of (xs ++ ys) ≡ bytes_of xs ++ bytes_of ys
-bytes_of-append [] ys = refl
-bytes_of-append (x ∷ xs) ys =
-    ap (λ (rest : List ℕ). x.bytes ++ rest) (bytes_of-append xs ys) ∙ sym (append_assoc x.bytes (bytes_of xs) (bytes_of ys))
+each_bytes-append : (xs ys : List Text) → each_bytes (xs ++ ys) ≡ each_bytes xs ++ each_bytes ys
+each_bytes-append xs ys = map-append (λ (t : Text). t.bytes) xs ys
 
-first_part : (h : CoreState) (p : List ℕ) (more : List (List ℕ)) (rest : List ℕ) (blank : Bool)
-    → bytes_of (transcript core_keeper h (map reading_of more)) ≡ rest → (s : List ℕ) → bytes_of (transcript core_keeper (reply_of_line h p).world (map reading_of more)) ≡ s
-    → bytes_of (transcript core_keeper h (map reading_of (cond (not blank) (p ∷ more) more))) ≡ cond blank [] (bytes_of (reply_of_line h p).texts) ++ cond blank rest s
+first_part : (h : CoreState) (p : List ℕ) (more rest : List (List ℕ)) (blank : Bool)
+    → each_bytes (transcript core_keeper h (map reading_of more)) ≡ rest → (s : List (List ℕ)) → each_bytes (transcript core_keeper (reply_of_line h p).world (map reading_of more)) ≡ s
+    → each_bytes (transcript core_keeper h (map reading_of (cond (not blank) (p ∷ more) more))) ≡ cond blank [] (each_bytes (reply_of_line h p).texts) ++ cond blank rest s
 first_part h p more rest true e s f = e
 first_part h p more rest false e s f =
-    bytes_of-append (reply_of_line h p).texts (transcript core_keeper (reply_of_line h p).world (map reading_of more)) ∙ ap (λ (t : List ℕ). bytes_of (reply_of_line h p).texts ++ t) f
+    each_bytes-append (reply_of_line h p).texts (transcript core_keeper (reply_of_line h p).world (map reading_of more))
+    ∙ ap (λ (t : List (List ℕ)). each_bytes (reply_of_line h p).texts ++ t) f
 
-either_rest : (blank : Bool) (h n : CoreState) (ps : List (List ℕ)) → cond blank (lines_text h ps) (lines_text n ps) ≡ lines_text (cond blank h n) ps
+either_rest : (blank : Bool) (h n : CoreState) (ps : List (List ℕ)) → cond blank (lines_texts h ps) (lines_texts n ps) ≡ lines_texts (cond blank h n) ps
 either_rest true h n ps = refl
 either_rest false h n ps = refl
 
-transcript-parts : (h : CoreState) (parts : List (List ℕ)) → bytes_of (transcript core_keeper h (map reading_of (filter (λ (p : List ℕ). not (is_blank p)) parts))) ≡ lines_text h parts
-unfolding line_text line_next
+transcript-parts : (h : CoreState) (parts : List (List ℕ)) → each_bytes (transcript core_keeper h (map reading_of (filter (λ (p : List ℕ). not (is_blank p)) parts))) ≡ lines_texts h parts
+unfolding line_texts line_next
 transcript-parts h [] = refl
 transcript-parts h (p ∷ ps) =
     let more = filter (λ (q : List ℕ). not (is_blank q)) ps in
-    first_part h p more (lines_text h ps) (is_blank p) (transcript-parts h ps) (lines_text (reply_of_line h p).world ps) (transcript-parts (reply_of_line h p).world ps)
-    ∙ ap (λ (t : List ℕ). cond (is_blank p) [] (bytes_of (reply_of_line h p).texts) ++ t) (either_rest (is_blank p) h (reply_of_line h p).world ps)
+    first_part h p more (lines_texts h ps) (is_blank p) (transcript-parts h ps) (lines_texts (reply_of_line h p).world ps) (transcript-parts (reply_of_line h p).world ps)
+    ∙ ap (λ (t : List (List ℕ)). cond (is_blank p) [] (each_bytes (reply_of_line h p).texts) ++ t) (either_rest (is_blank p) h (reply_of_line h p).world ps)
 
-pub output-to_come : (input : List ℕ) → dry_output input ≡ text_to_come no_core [] input
-unfolding text_to_come
-output-to_come input =
-    ap bytes_of (sym (core_transcript (map reading_of (lines_of input))))
-    ∙ transcript-parts no_core (parts_of input) ∙ ap (lines_text no_core) (sym (some_parts input))
+pub texts-to_come : (input : List ℕ) → each_bytes (dry_texts input) ≡ texts_to_come no_core [] input
+unfolding texts_to_come
+texts-to_come input =
+    ap each_bytes (sym (core_transcript (map reading_of (lines_of input))))
+    ∙ transcript-parts no_core (parts_of input) ∙ ap (lines_texts no_core) (sym (some_parts input))
 
 -- ---- on the way
 
@@ -52,27 +51,27 @@ pub way_begins : (a : World) → IsOnItsWay 0 no_core [] a a
 way_begins a =
     record {
       took = [];
-      text = [];
-      passes = record { bytes = refl; others = λ c other. refl; sends = sends_nothing a };
+      texts = [];
+      takes = record { bytes = refl; others = λ c other. refl };
+      sends = sends_nothing a;
       count = refl;
       onward = λ rest. refl;
     }
 
 -- a take adds to the bytes that were taken
-passes_taken : (took text buffer : List ℕ) (count : ℕ) (a b c : World) → Passes took text a b → Takes (record { 0 = 0 }) count buffer b c → Passes (took ++ take count buffer) text a c
-passes_taken took text buffer count a b c p t =
+takes_more : (took buffer : List ℕ) (count : ℕ) (a b c : World) → TakesIn took a b → Takes (record { 0 = 0 }) count buffer b c → TakesIn (took ++ take count buffer) a c
+takes_more took buffer count a b c p t =
     record {
       bytes = p.bytes ∙ ap (λ (l : List ℕ). took ++ l) t.bytes ∙ sym (append_assoc took (take count buffer) (c.left 0));
       others = λ ch other. t.others ch other ∙ p.others ch other;
-      sends = sends_on text a b c p.sends t.device t.trace;
     }
 
-passes_said : (took text more : List ℕ) (a b c : World) → Passes took text a b → Says more b c → Passes took (text ++ more) a c
-passes_said took text more a b c p s =
+-- what takes nothing in
+takes_same : (took : List ℕ) (a b c : World) → TakesIn took a b → c.left ≡ b.left → TakesIn took a c
+takes_same took a b c p left =
     record {
-      bytes = p.bytes ∙ ap (λ (l : ℕ → List ℕ). took ++ l 0) (sym s.left);
-      others = λ ch other. ap (λ (l : ℕ → List ℕ). l ch) s.left ∙ p.others ch other;
-      sends = sends_then text more a b c p.sends s.sends;
+      bytes = p.bytes ∙ ap (λ (l : ℕ → List ℕ). took ++ l 0) (sym left);
+      others = λ ch other. ap (λ (l : ℕ → List ℕ). l ch) left ∙ p.others ch other;
     }
 
 taken_length : (took buffer : List ℕ) (count n : ℕ) → length took ≡ n → count ≤ length buffer → length (took ++ take count buffer) ≡ n + count
@@ -84,88 +83,93 @@ way_goes_on n count h h' l l' buffer a b c d le w t f =
     let piece = take count buffer in
     record {
       took = w.took ++ piece;
-      text = w.text ++ f.text;
-      passes = passes_said (w.took ++ piece) w.text f.text a c d (passes_taken w.took w.text buffer count a b c w.passes t) f.says;
+      texts = w.texts ++ f.texts;
+      takes = takes_same (w.took ++ piece) a c d (takes_more w.took buffer count a b c w.takes t) f.says.left;
+      sends = sends_then w.texts f.texts a c d (sends_on w.texts a b c w.sends t.device t.trace) f.says.sends;
       count = taken_length w.took buffer count n w.count le;
       onward =
           λ rest.
-          ap (text_to_come no_core []) (append_assoc w.took piece rest)
+          ap (texts_to_come no_core []) (append_assoc w.took piece rest)
           ∙ w.onward (piece ++ rest)
-          ∙ ap (λ (x : List ℕ). w.text ++ x) (f.onward rest)
-          ∙ sym (append_assoc w.text f.text (text_to_come h' l' rest));
+          ∙ ap (λ (x : List (List ℕ)). w.texts ++ x) (f.onward rest)
+          ∙ sym (append_assoc w.texts f.texts (texts_to_come h' l' rest));
     }
 
 -- ---- the ends
 
-pub ends_early : (status : ℕ) (took text : List ℕ) (a b : World) → (status ≡ 0 → ⊥) → (status ≡ 8 → ⊥) → Passes took text a b → length took ≤ MOST_INPUT
-    → Begins text (text_to_come no_core [] (took ++ b.left 0)) → DryRun status a b
-ends_early status took text a b not_done not_long p le f =
+-- some of the first texts of the input went out
+emitted_some : (status : ℕ) (took : List ℕ) (texts : List (List ℕ)) (a b : World) → (status ≡ 0 → ⊥) → TakesIn took a b → SendsSome texts a b → AreFirst texts (texts_to_come no_core [] (took ++ b.left 0))
+    → EmitsTexts status a b
+emitted_some status took texts a b not_done takes sends first =
+    let all : each_bytes (dry_texts (a.left 0)) ≡ texts_to_come no_core [] (took ++ b.left 0) = texts-to_come (a.left 0) ∙ ap (texts_to_come no_core []) takes.bytes in
+    let some = some_first texts (each_bytes (dry_texts (a.left 0))) a b (record { back = first.back; cut = all ∙ first.cut }) sends in
+    record { actions = some.actions; grew = some.grew; out = some.out; whole = λ e. absurd (not_done e) }
+
+pub ends_early : (status : ℕ) (took : List ℕ) (texts : List (List ℕ)) (a b : World) → (status ≡ 0 → ⊥) → (status ≡ 8 → ⊥) → TakesIn took a b → SendsSome texts a b → length took ≤ MOST_INPUT
+    → AreFirst texts (texts_to_come no_core [] (took ++ b.left 0)) → Ran status a b
+ends_early status took texts a b not_done not_long takes sends le first =
     record {
       took = took;
-      text = text;
-      passes = p;
-      prefix = subst (λ (x : List ℕ). Begins text x) (ap (text_to_come no_core []) (sym p.bytes) ∙ sym (output-to_come (a.left 0))) f;
-      whole = λ e. absurd (not_done e);
+      takes = takes;
+      device = sends.device;
+      emits = emitted_some status took texts a b not_done takes sends first;
+      over = λ e. absurd (not_done e);
       long = (λ e. absurd (not_long e), λ e. absurd (omega arith));
       bound = omega arith;
     }
 
 -- nothing was done
-pub ends_at_start : (a : World) → DryRun 7 a a
+pub ends_at_start : (a : World) → Ran 7 a a
 unfolding way_begins
 ends_at_start a =
-    ends_early 7 [] [] a a (λ e. cc) (λ e. cc) (way_begins a).passes (omega arith) (record { back = text_to_come no_core [] (a.left 0); cut = refl })
+    ends_early 7 [] [] a a (λ e. cc) (λ e. cc) (way_begins a).takes (all_sent [] a a (sends_nothing a)) (omega arith)
+    (record { back = texts_to_come no_core [] (a.left 0); cut = refl })
 
 -- a take failed
-pub ends_at_input : (n : ℕ) (h : CoreState) (l : List ℕ) (a b c : World) → n ≤ MOST_INPUT → IsOnItsWay n h l a b → Same b c → DryRun 3 a c
+pub ends_at_input : (n : ℕ) (h : CoreState) (l : List ℕ) (a b c : World) → n ≤ MOST_INPUT → IsOnItsWay n h l a b → Same b c → Ran 3 a c
 ends_at_input n h l a b c le w s =
-    ends_early 3 w.took w.text a c (λ e. cc) (λ e. cc)
-    (record {
-      bytes = w.passes.bytes ∙ ap (λ (f : ℕ → List ℕ). w.took ++ f 0) (sym s.left);
-      others = λ ch other. ap (λ (f : ℕ → List ℕ). f ch) s.left ∙ w.passes.others ch other;
-      sends = sends_on w.text a b c w.passes.sends s.device s.trace;
-    })
-    (omega (arith, w.count))
-    (record { back = text_to_come h l (c.left 0); cut = w.onward (c.left 0) })
+    ends_early 3 w.took w.texts a c (λ e. cc) (λ e. cc) (takes_same w.took a b c w.takes s.left)
+    (all_sent w.texts a c (sends_on w.texts a b c w.sends s.device s.trace)) (omega (arith, w.count))
+    (record { back = texts_to_come h l (c.left 0); cut = w.onward (c.left 0) })
 
 -- a line was told in part
 pub ends_in_piece : (status n count : ℕ) (h : CoreState) (l buffer : List ℕ) (a b c d : World) → (status ≡ 0 → ⊥) → (status ≡ 8 → ⊥) → count ≤ length buffer → n + count ≤ MOST_INPUT
-    → IsOnItsWay n h l a b → Takes (record { 0 = 0 }) count buffer b c → FedPart h l (take count buffer) c d → DryRun status a d
+    → IsOnItsWay n h l a b → Takes (record { 0 = 0 }) count buffer b c → FedPart h l (take count buffer) c d → Ran status a d
 ends_in_piece status n count h l buffer a b c d not_done not_long le limit w t f =
     let piece = take count buffer in
     let rest = d.left 0 in
-    ends_early status (w.took ++ piece) (w.text ++ f.text) a d not_done not_long
-    (passes_said (w.took ++ piece) w.text f.text a c d (passes_taken w.took w.text buffer count a b c w.passes t) f.says)
+    ends_early status (w.took ++ piece) (w.texts ++ f.texts) a d not_done not_long
+    (takes_same (w.took ++ piece) a c d (takes_more w.took buffer count a b c w.takes t) f.says.left)
+    (then_some w.texts f.texts a c d (sends_on w.texts a b c w.sends t.device t.trace) f.says.sends)
     (omega (arith, taken_length w.took buffer count n w.count le))
     (record {
       back = (f.onward rest).back;
       cut =
-          ap (text_to_come no_core []) (append_assoc w.took piece rest)
+          ap (texts_to_come no_core []) (append_assoc w.took piece rest)
           ∙ w.onward (piece ++ rest)
-          ∙ ap (λ (x : List ℕ). w.text ++ x) (f.onward rest).cut
-          ∙ sym (append_assoc w.text f.text (f.onward rest).back);
+          ∙ ap (λ (x : List (List ℕ)). w.texts ++ x) (f.onward rest).cut
+          ∙ sym (append_assoc w.texts f.texts (f.onward rest).back);
     })
 
 -- one byte too many came
 pub ends_too_long : (n count : ℕ) (h : CoreState) (l buffer : List ℕ) (a b c : World) → count ≤ length buffer → n + count ≡ MOST_INPUT + 1
-    → IsOnItsWay n h l a b → Takes (record { 0 = 0 }) count buffer b c → DryRun 8 a c
+    → IsOnItsWay n h l a b → Takes (record { 0 = 0 }) count buffer b c → Ran 8 a c
 ends_too_long n count h l buffer a b c le limit w t =
     let piece = take count buffer in
-    let p = passes_taken w.took w.text buffer count a b c w.passes t in
+    let takes = takes_more w.took buffer count a b c w.takes t in
+    let sends = sends_on w.texts a b c w.sends t.device t.trace in
     let all : length (w.took ++ piece) ≡ MOST_INPUT + 1 = taken_length w.took buffer count n w.count le ∙ limit in
     record {
       took = w.took ++ piece;
-      text = w.text;
-      passes = p;
-      prefix =
-          record {
-            back = text_to_come h l (piece ++ c.left 0);
-            cut =
-                output-to_come (a.left 0)
-                ∙ ap (text_to_come no_core []) (p.bytes ∙ append_assoc w.took piece (c.left 0))
-                ∙ w.onward (piece ++ c.left 0);
-          };
-      whole = λ e. cc;
+      takes = takes;
+      device = sends.device;
+      emits =
+          emitted_some 8 (w.took ++ piece) w.texts a c (λ e. cc) takes (all_sent w.texts a c sends)
+          (record {
+            back = texts_to_come h l (piece ++ c.left 0);
+            cut = ap (texts_to_come no_core []) (append_assoc w.took piece (c.left 0)) ∙ w.onward (piece ++ c.left 0);
+          });
+      over = λ e. cc;
       long = (λ e. all, λ e. refl);
       bound = omega arith;
     }
@@ -175,44 +179,56 @@ nothing_left : (text rest : List ℕ) → text ++ rest ≡ [] → rest ≡ []
 nothing_left [] rest e = e
 nothing_left (t ∷ ts) rest e = cc
 
+-- where the input ended, nothing was taken and nothing is left
+at_end : (buffer : List ℕ) (b c d : World) → Takes (record { 0 = 0 }) 0 buffer b c → d.left ≡ c.left → d.left 0 ≡ []
+at_end buffer b c d t left =
+    ap (λ (f : ℕ → List ℕ). f 0) left ∙ nothing_left (take 0 buffer) (c.left 0) (sym t.bytes ∙ t.ends.0 refl)
+
+takes_none : (took buffer : List ℕ) (a b c : World) → TakesIn took a b → Takes (record { 0 = 0 }) 0 buffer b c → TakesIn took a c
+takes_none took buffer a b c p t = subst (λ (x : List ℕ). TakesIn x a c) (append-nil took) (takes_more took buffer 0 a b c p t)
+
 pub ends_well : (n : ℕ) (h : CoreState) (l buffer : List ℕ) (a b c d : World) → n ≤ MOST_INPUT
-    → IsOnItsWay n h l a b → Takes (record { 0 = 0 }) 0 buffer b c → Says (line_text h l) c d → DryRun 0 a d
+    → IsOnItsWay n h l a b → Takes (record { 0 = 0 }) 0 buffer b c → Says (line_texts h l) c d → Ran 0 a d
 ends_well n h l buffer a b c d limit w t s =
-    let over : b.left 0 ≡ [] = t.ends.0 refl in
-    let none : c.left 0 ≡ [] = nothing_left (take 0 buffer) (c.left 0) (sym t.bytes ∙ over) in
-    let last : d.left 0 ≡ [] = ap (λ (f : ℕ → List ℕ). f 0) s.left ∙ none in
-    let p = passes_said w.took w.text (line_text h l) a c d (subst (λ (x : List ℕ). Passes x w.text a c) (append-nil w.took) (passes_taken w.took w.text buffer 0 a b c w.passes t)) s in
-    let all : dry_output (a.left 0) ≡ w.text ++ line_text h l =
-    output-to_come (a.left 0)
-    ∙ ap (text_to_come no_core []) (p.bytes ∙ ap (λ (x : List ℕ). w.took ++ x) last)
+    let last : d.left 0 ≡ [] = at_end buffer b c d t s.left in
+    let takes = takes_same w.took a c d (takes_none w.took buffer a b c w.takes t) s.left in
+    let sends = sends_then w.texts (line_texts h l) a c d (sends_on w.texts a b c w.sends t.device t.trace) s.sends in
+    let all : each_bytes (dry_texts (a.left 0)) ≡ w.texts ++ line_texts h l =
+    texts-to_come (a.left 0)
+    ∙ ap (texts_to_come no_core []) (takes.bytes ∙ ap (λ (x : List ℕ). w.took ++ x) last)
     ∙ w.onward []
-    ∙ ap (λ (x : List ℕ). w.text ++ x) (to_come-last h l)
+    ∙ ap (λ (x : List (List ℕ)). w.texts ++ x) (to_come-last h l)
     in
     record {
       took = w.took;
-      text = w.text ++ line_text h l;
-      passes = p;
-      prefix = record { back = []; cut = all ∙ sym (append-nil (w.text ++ line_text h l)) };
-      whole = λ e. (sym all, last);
+      takes = takes;
+      device = sends.device;
+      emits =
+          record {
+            actions = emits (w.texts ++ line_texts h l);
+            grew = sends.grew;
+            out = subst (λ (xs : List (List ℕ)). GoOut xs (emits (w.texts ++ line_texts h l))) (sym all) (all_out (w.texts ++ line_texts h l));
+            whole = λ e. ap emits (sym all);
+          };
+      over = λ e. last;
       long = (λ e. cc, λ e. absurd (omega (arith, w.count)));
       bound = omega (arith, w.count);
     }
 
 -- the input ended, and its last line was told in part
 pub ends_in_last : (status n : ℕ) (h : CoreState) (l buffer : List ℕ) (a b c d : World) → (status ≡ 0 → ⊥) → (status ≡ 8 → ⊥) → n ≤ MOST_INPUT
-    → IsOnItsWay n h l a b → Takes (record { 0 = 0 }) 0 buffer b c → SaysPrefix (line_text h l) c d → DryRun status a d
+    → IsOnItsWay n h l a b → Takes (record { 0 = 0 }) 0 buffer b c → SaysSome (line_texts h l) c d → Ran status a d
 ends_in_last status n h l buffer a b c d not_done not_long limit w t s =
-    let over : b.left 0 ≡ [] = t.ends.0 refl in
-    let none : c.left 0 ≡ [] = nothing_left (take 0 buffer) (c.left 0) (sym t.bytes ∙ over) in
-    let last : d.left 0 ≡ [] = ap (λ (f : ℕ → List ℕ). f 0) s.says.left ∙ none in
-    ends_early status w.took (w.text ++ s.prefix) a d not_done not_long
-    (passes_said w.took w.text s.prefix a c d (subst (λ (x : List ℕ). Passes x w.text a c) (append-nil w.took) (passes_taken w.took w.text buffer 0 a b c w.passes t)) s.says)
+    let last : d.left 0 ≡ [] = at_end buffer b c d t s.left in
+    ends_early status w.took (w.texts ++ line_texts h l) a d not_done not_long
+    (takes_same w.took a c d (takes_none w.took buffer a b c w.takes t) s.left)
+    (then_some w.texts (line_texts h l) a c d (sends_on w.texts a b c w.sends t.device t.trace) s.sends)
     (omega (arith, w.count))
     (record {
-      back = s.back;
+      back = [];
       cut =
-          ap (λ (x : List ℕ). text_to_come no_core [] (w.took ++ x)) last
+          ap (λ (x : List ℕ). texts_to_come no_core [] (w.took ++ x)) last
           ∙ w.onward []
-          ∙ ap (λ (x : List ℕ). w.text ++ x) (to_come-last h l ∙ s.cut)
-          ∙ sym (append_assoc w.text s.prefix s.back);
+          ∙ ap (λ (x : List (List ℕ)). w.texts ++ x) (to_come-last h l)
+          ∙ sym (append-nil (w.texts ++ line_texts h l));
     })

@@ -1,85 +1,189 @@
--- What went out, one replying after another.
-use Rattle.std.proofs.Common.{◌≡◌, ℕ, Bool, true, false, ◌&&◌, inl, inr, List, [], ◌∷◌, ◌++◌, refl, sym, ap, ◌∙◌, append-nil, append_assoc}
-use Rattle.std.proofs.lemmas.List.Folds.{list_all-append}
+-- What went out, one text after another.
+use Rattle.std.proofs.Common.{◌≡◌, ℕ, true, false, inl, inr, List, [], ◌∷◌, ◌++◌, refl, sym, ap, subst, ◌∙◌, append-nil, append_assoc}
+use Rattle.std.proofs.lemmas.List.{map-append}
 use Rattle.iss_edge.specs.declared.outside.Action.{Action}
 use Rattle.iss_edge.specs.declared.outside.Action.TheVariants.{Emit}
-use Rattle.iss_edge.specs.World.{World, sent_on}
+use Rattle.iss_edge.specs.World.{World}
 use Rattle.iss_edge.specs.Calls.{Emits, SendsPrefix, EmitsPart}
-use Rattle.iss_edge.proofs.Tolds.{sent_on-append}
-use Rattle.iss_top.specs.Progress.{is_output, Sends, Says, SaysPrefix}
+use Rattle.iss_top.specs.Progress.{emits, FailsAt, GoOut, SendsEach, SendsSome, Says, SaysSome, AreFirst}
 
-pub sends_nothing : (a : World) → Sends [] a a
-sends_nothing a =
-    record { device = refl; actions = []; grew = sym (append-nil a.trace); outputs = refl; sent = refl }
+-- ---- each text
+
+emits-append : (xs ys : List (List ℕ)) → emits (xs ++ ys) ≡ emits xs ++ emits ys
+emits-append xs ys = map-append (λ (text : List ℕ). Emit (record { 0 = 0 }) text true) xs ys
+
+pub sends_nothing : (a : World) → SendsEach [] a a
+sends_nothing a = record { device = refl; grew = sym (append-nil a.trace) }
 
 pub says_nothing : (a : World) → Says [] a a
 says_nothing a = record { left = refl; sends = sends_nothing a }
 
-both_true : (s t : Bool) → s ≡ true → t ≡ true → (s && t) ≡ true
-both_true s t p q = rw (p, q) refl
-
-pub sends_then : (text more : List ℕ) (a b c : World) → Sends text a b → Sends more b c → Sends (text ++ more) a c
-sends_then text more a b c p q =
+pub sends_then : (xs ys : List (List ℕ)) (a b c : World) → SendsEach xs a b → SendsEach ys b c → SendsEach (xs ++ ys) a c
+sends_then xs ys a b c p q =
     record {
       device = q.device ∙ p.device;
-      actions = p.actions ++ q.actions;
-      grew = q.grew ∙ ap (λ (t : List Action). t ++ q.actions) p.grew ∙ append_assoc a.trace p.actions q.actions;
-      outputs = list_all-append is_output p.actions q.actions ∙ both_true _ _ p.outputs q.outputs;
-      sent = sent_on-append 0 p.actions q.actions ∙ ap (λ (t : List ℕ). t ++ sent_on 0 q.actions) p.sent ∙ ap (λ (t : List ℕ). text ++ t) q.sent;
+      grew =
+          q.grew
+          ∙ ap (λ (t : List Action). t ++ emits ys) p.grew
+          ∙ append_assoc a.trace (emits xs) (emits ys)
+          ∙ ap (λ (t : List Action). a.trace ++ t) (sym (emits-append xs ys));
     }
 
 -- a step that leaves the device and does nothing sends nothing
-pub sends_on : (text : List ℕ) (a b c : World) → Sends text a b → c.device ≡ b.device → c.trace ≡ b.trace → Sends text a c
-sends_on text a b c p device trace =
-    record { device = device ∙ p.device; actions = p.actions; grew = trace ∙ p.grew; outputs = p.outputs; sent = p.sent }
+pub sends_on : (xs : List (List ℕ)) (a b c : World) → SendsEach xs a b → c.device ≡ b.device → c.trace ≡ b.trace → SendsEach xs a c
+sends_on xs a b c p device trace = record { device = device ∙ p.device; grew = trace ∙ p.grew }
 
-pub says_then : (text more : List ℕ) (a b c : World) → Says text a b → Says more b c → Says (text ++ more) a c
-says_then text more a b c p q =
-    record { left = q.left ∙ p.left; sends = sends_then text more a b c p.sends q.sends }
+pub says_then : (xs ys : List (List ℕ)) (a b c : World) → Says xs a b → Says ys b c → Says (xs ++ ys) a c
+says_then xs ys a b c p q = record { left = q.left ∙ p.left; sends = sends_then xs ys a b c p.sends q.sends }
 
-pub says_emitted : (text : List ℕ) (a b : World) → Emits (record { 0 = 0 }) text a b → Says text a b
-says_emitted text a b e =
+pub says_emitted : (text : List ℕ) (a b : World) → Emits (record { 0 = 0 }) text a b → Says (text ∷ []) a b
+says_emitted text a b e = record { left = e.left; sends = record { device = e.device; grew = e.trace } }
+
+-- ---- some of them
+
+fails_before : (xs ys : List (List ℕ)) (last : List Action) → FailsAt xs last → FailsAt (xs ++ ys) last
+fails_before xs ys last f =
+    record {
+      text = f.text;
+      others = f.others ++ ys;
+      first = ap (λ (t : List (List ℕ)). t ++ ys) f.first;
+      prefix = f.prefix;
+      back = f.back;
+      cut = f.cut;
+      action = f.action;
+    }
+
+-- nothing was done
+pub nothing_sent : (xs : List (List ℕ)) (a b : World) → b.device ≡ a.device → b.trace ≡ a.trace → SendsSome xs a b
+nothing_sent xs a b device trace =
+    record {
+      device = device;
+      actions = [];
+      grew = trace ∙ sym (append-nil a.trace);
+      out = record { whole = []; rest = xs; cut = refl; last = []; done = refl; ended = inl refl };
+    }
+
+pub all_out : (xs : List (List ℕ)) → GoOut xs (emits xs)
+all_out xs = record { whole = xs; rest = []; cut = sym (append-nil xs); last = []; done = sym (append-nil (emits xs)); ended = inl refl }
+
+-- all were sent
+pub all_sent : (xs : List (List ℕ)) (a b : World) → SendsEach xs a b → SendsSome xs a b
+all_sent xs a b p =
+    record {
+      device = p.device;
+      actions = emits xs;
+      grew = p.grew;
+      out = all_out xs;
+    }
+
+-- some of these after all of those
+pub then_some : (xs ys : List (List ℕ)) (a b c : World) → SendsEach xs a b → SendsSome ys b c → SendsSome (xs ++ ys) a c
+then_some xs ys a b c p q =
+    record {
+      device = q.device ∙ p.device;
+      actions = emits xs ++ q.actions;
+      grew = q.grew ∙ ap (λ (t : List Action). t ++ q.actions) p.grew ∙ append_assoc a.trace (emits xs) q.actions;
+      out =
+          record {
+            whole = xs ++ q.out.whole;
+            rest = q.out.rest;
+            cut = ap (λ (t : List (List ℕ)). xs ++ t) q.out.cut ∙ sym (append_assoc xs q.out.whole q.out.rest);
+            last = q.out.last;
+            done =
+                ap (λ (t : List Action). emits xs ++ t) q.out.done
+                ∙ sym (append_assoc (emits xs) (emits q.out.whole) q.out.last)
+                ∙ ap (λ (t : List Action). t ++ q.out.last) (sym (emits-append xs q.out.whole));
+            ended = q.out.ended;
+          };
+    }
+
+-- some of the first are some of all
+pub some_first : (xs whole : List (List ℕ)) (a b : World) → AreFirst xs whole → SendsSome xs a b → SendsSome whole a b
+some_first xs whole a b first p =
+    record {
+      device = p.device;
+      actions = p.actions;
+      grew = p.grew;
+      out =
+          record {
+            whole = p.out.whole;
+            rest = p.out.rest ++ first.back;
+            cut = first.cut ∙ ap (λ (t : List (List ℕ)). t ++ first.back) p.out.cut ∙ append_assoc p.out.whole p.out.rest first.back;
+            last = p.out.last;
+            done = p.out.done;
+            ended = elim p.out.ended [ inl none ↦ inl none | inr failed ↦ inr (fails_before p.out.rest first.back p.out.last failed) ];
+          };
+    }
+
+-- a step that leaves the device and does nothing sends nothing
+pub some_on : (xs : List (List ℕ)) (a b c : World) → SendsSome xs a b → c.device ≡ b.device → c.trace ≡ b.trace → SendsSome xs a c
+some_on xs a b c p device trace =
+    record { device = device ∙ p.device; actions = p.actions; grew = trace ∙ p.grew; out = p.out }
+
+pub says_none : (xs : List (List ℕ)) (a : World) → SaysSome xs a a
+says_none xs a = record { left = refl; sends = nothing_sent xs a a refl refl }
+
+pub says_all : (xs : List (List ℕ)) (a b : World) → Says xs a b → SaysSome xs a b
+says_all xs a b p = record { left = p.left; sends = all_sent xs a b p.sends }
+
+pub says_then_some : (xs ys : List (List ℕ)) (a b c : World) → Says xs a b → SaysSome ys b c → SaysSome (xs ++ ys) a c
+says_then_some xs ys a b c p q = record { left = q.left ∙ p.left; sends = then_some xs ys a b c p.sends q.sends }
+
+pub says_first : (xs whole : List (List ℕ)) (a b : World) → AreFirst xs whole → SaysSome xs a b → SaysSome whole a b
+says_first xs whole a b first p = record { left = p.left; sends = some_first xs whole a b first p.sends }
+
+prefix_sent : (text : List ℕ) (a b : World) → EmitsPart (record { 0 = 0 }) text a b → SendsPrefix (record { 0 = 0 }) text a.trace b.trace → SaysSome (text ∷ []) a b
+prefix_sent text a b e s =
     record {
       left = e.left;
       sends =
           record {
             device = e.device;
-            actions = Emit (record { 0 = 0 }) text true ∷ [];
-            grew = e.trace;
-            outputs = refl;
-            sent = append-nil text;
-          };
-    }
-
-front_sent : (text : List ℕ) (a b : World) → EmitsPart (record { 0 = 0 }) text a b → SendsPrefix (record { 0 = 0 }) text a.trace b.trace → SaysPrefix text a b
-front_sent text a b e sends =
-    record {
-      prefix = sends.prefix;
-      back = sends.back;
-      cut = sends.cut;
-      says =
-          record {
-            left = e.left;
-            sends =
+            actions = Emit (record { 0 = 0 }) s.prefix false ∷ [];
+            grew = s.added;
+            out =
                 record {
-                  device = e.device;
-                  actions = Emit (record { 0 = 0 }) sends.prefix false ∷ [];
-                  grew = sends.added;
-                  outputs = refl;
-                  sent = append-nil sends.prefix;
+                  whole = [];
+                  rest = text ∷ [];
+                  cut = refl;
+                  last = Emit (record { 0 = 0 }) s.prefix false ∷ [];
+                  done = refl;
+                  ended = inr (record { text = text; others = []; first = refl; prefix = s.prefix; back = s.back; cut = s.cut; action = refl });
                 };
           };
     }
 
-nothing_sent : (text : List ℕ) (a b : World) → EmitsPart (record { 0 = 0 }) text a b → b.trace ≡ a.trace → SaysPrefix text a b
-nothing_sent text a b e same =
+pub says_prefix : (text : List ℕ) (a b : World) → EmitsPart (record { 0 = 0 }) text a b → SaysSome (text ∷ []) a b
+says_prefix text a b e =
+    elim e.trace [
+      | inl same ↦ record { left = e.left; sends = nothing_sent (text ∷ []) a b e.device same }
+      | inr sends ↦ prefix_sent text a b e sends
+    ]
+
+-- ---- one after the other
+
+-- of these texts all but the rest were sent
+pub record SaidUpTo (texts rest : List (List ℕ)) (a b : World) : Type 0 where
+  pub said : List (List ℕ)
+  pub says : Says said a b
+  pub cut : texts ≡ said ++ rest
+
+pub upto_begins : (texts : List (List ℕ)) (a : World) → SaidUpTo texts texts a a
+upto_begins texts a = record { said = []; says = says_nothing a; cut = refl }
+
+pub upto_next : (texts rest : List (List ℕ)) (text : List ℕ) (a b c : World) → SaidUpTo texts (text ∷ rest) a b → Says (text ∷ []) b c → SaidUpTo texts rest a c
+upto_next texts rest text a b c p q =
     record {
-      prefix = [];
-      back = text;
-      cut = refl;
-      says = record { left = e.left; sends = sends_on [] a a b (sends_nothing a) e.device same };
+      said = p.said ++ text ∷ [];
+      says = says_then p.said (text ∷ []) a b c p.says q;
+      cut = p.cut ∙ sym (append_assoc p.said (text ∷ []) rest);
     }
 
-pub says_front : (text : List ℕ) (a b : World) → EmitsPart (record { 0 = 0 }) text a b → SaysPrefix text a b
-says_front text a b e =
-    elim e.trace [ inl same ↦ nothing_sent text a b e same | inr sends ↦ front_sent text a b e sends ]
+pub upto_fails : (texts rest : List (List ℕ)) (text : List ℕ) (a b c : World) → SaidUpTo texts (text ∷ rest) a b → SaysSome (text ∷ []) b c → SaysSome texts a c
+upto_fails texts rest text a b c p q =
+    says_first (p.said ++ text ∷ []) texts a c
+    (record { back = rest; cut = p.cut ∙ sym (append_assoc p.said (text ∷ []) rest) })
+    (says_then_some p.said (text ∷ []) a b c p.says q)
+
+pub upto_ends : (texts : List (List ℕ)) (a b : World) → SaidUpTo texts [] a b → Says texts a b
+upto_ends texts a b p = subst (λ (xs : List (List ℕ)). Says xs a b) (sym (p.cut ∙ append-nil p.said)) p.says

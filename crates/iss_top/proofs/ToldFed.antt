@@ -4,25 +4,21 @@ use Rattle.iss_edge.specs.World.{World, Told}
 use Rattle.iss_edge.proofs.Tolds.{told_map, told_then, told_self}
 use Rattle.iss_model.specs.state.Cores.{CoreState}
 use Rattle.iss_top.specs.Lines.{has_line_feed, kept_with}
-use Rattle.iss_top.specs.Progress.{line_text, line_next, Says, SaysPrefix, Fed, FedPart}
-use Rattle.iss_top.proofs.Saying.{says_nothing}
+use Rattle.iss_top.specs.Progress.{line_texts, line_next, Says, SaysSome, Fed, FedPart}
 use Rattle.iss_top.proofs.Feeding.{next_room}
 use Rattle.iss_top.proofs.Fed.{FedUpTo, IsToldAs, fed_run, fed_line, part_line, part_nothing, upto_begins, upto_then, upto_part, upto_ends, upto_stops}
 
-pub told_line : (h h' : CoreState) (line bytes said line' : List ℕ) (x y : Option World) → IsToldAs h line bytes said → h' ≡ line_next h said → line' ≡ [] → Told (Says (line_text h said)) x y
+pub told_line : (h h' : CoreState) (line bytes said line' : List ℕ) (x y : Option World) → IsToldAs h line bytes said → h' ≡ line_next h said → line' ≡ [] → Told (Says (line_texts h said)) x y
     → Told (Fed h line (bytes ++ 10 ∷ []) h' line') x y
 told_line h h' line bytes said line' x y same next empty told =
-    rw (next, empty) (told_map (Says (line_text h said)) (Fed h line (bytes ++ 10 ∷ []) (line_next h said) []) x y (λ a b. fed_line h line bytes said a b same) told)
+    rw (next, empty) (told_map (Says (line_texts h said)) (Fed h line (bytes ++ 10 ∷ []) (line_next h said) []) x y (λ a b. fed_line h line bytes said a b same) told)
 
-pub told_part_line : (h : CoreState) (line bytes said : List ℕ) (x y : Option World) → IsToldAs h line bytes said → Told (SaysPrefix (line_text h said)) x y
+pub told_part_line : (h : CoreState) (line bytes said : List ℕ) (x y : Option World) → IsToldAs h line bytes said → Told (SaysSome (line_texts h said)) x y
     → Told (FedPart h line (bytes ++ 10 ∷ [])) x y
 told_part_line h line bytes said x y same told =
-    told_map (SaysPrefix (line_text h said)) (FedPart h line (bytes ++ 10 ∷ [])) x y (λ a b. part_line h line bytes said a b same) told
+    told_map (SaysSome (line_texts h said)) (FedPart h line (bytes ++ 10 ∷ [])) x y (λ a b. part_line h line bytes said a b same) told
 
 -- nothing went out
-pub told_no_text : (text : List ℕ) (x : Option World) → Told (SaysPrefix text) x x
-told_no_text text x = told_self (SaysPrefix text) x (λ a. record { prefix = []; back = text; cut = refl; says = says_nothing a })
-
 pub told_part_nothing : (h : CoreState) (line piece : List ℕ) (x : Option World) → Told (FedPart h line piece) x x
 told_part_nothing h line piece x = told_self (FedPart h line piece) x (λ a. part_nothing h line piece a)
 

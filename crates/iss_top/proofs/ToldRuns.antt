@@ -9,8 +9,8 @@ use Rattle.iss_model.specs.state.Cores.{CoreState, no_core}
 use Rattle.iss_top.specs.declared.stop.Stop.{Stop}
 use Rattle.iss_top.specs.declared.stop.Stop.TheVariants as stop
 use Rattle.iss_top.specs.Statuses.{status_of}
-use Rattle.iss_top.specs.Progress.{line_text, Says, SaysPrefix, Fed, FedPart, ReplyCause}
-use Rattle.iss_top.specs.Runs.{IsOnItsWay, DryRun}
+use Rattle.iss_top.specs.Progress.{line_texts, Says, SaysSome, Fed, FedPart, ReplyCause}
+use Rattle.iss_top.specs.Runs.{IsOnItsWay, Ran}
 use Rattle.iss_top.proofs.Running.{way_begins, way_goes_on, ends_at_start, ends_at_input, ends_in_piece, ends_too_long, ends_well, ends_in_last}
 
 -- three steps, one after the other
@@ -28,8 +28,8 @@ pub told_way_begins : (x : Option World) → Told (IsOnItsWay 0 no_core []) x x
 told_way_begins x = told_self (IsOnItsWay 0 no_core []) x way_begins
 
 -- an allocation failed at the start
-pub told_not_begun : (x : Option World) → Told (DryRun 7) x x
-told_not_begun x = told_self (DryRun 7) x ends_at_start
+pub told_not_begun : (x : Option World) → Told (Ran 7) x x
+told_not_begun x = told_self (Ran 7) x ends_at_start
 
 pub told_way_goes_on : (n count : ℕ) (h h' : CoreState) (l l' buffer piece : List ℕ) (x y z w : Option World) → count ≤ length buffer → piece ≡ take count buffer
     → Told (IsOnItsWay n h l) x y → Told (Takes (record { 0 = 0 }) count buffer) y z → Told (Fed h l piece h' l') z w → Told (IsOnItsWay (n + count) h' l') x w
@@ -37,14 +37,14 @@ told_way_goes_on n count h h' l l' buffer piece x y z w le is p q r =
     told_three (IsOnItsWay n h l) (Takes (record { 0 = 0 }) count buffer) (Fed h l (take count buffer) h' l') (IsOnItsWay (n + count) h' l') x y z w
     (λ a b c d u v f. way_goes_on n count h h' l l' buffer a b c d le u v f) p q (subst (λ (t : List ℕ). Told (Fed h l t h' l') z w) is r)
 
-pub told_input_fails : (n : ℕ) (h : CoreState) (l : List ℕ) (x y z : Option World) → n ≤ MOST_INPUT → Told (IsOnItsWay n h l) x y → Told Same y z → Told (DryRun 3) x z
+pub told_input_fails : (n : ℕ) (h : CoreState) (l : List ℕ) (x y z : Option World) → n ≤ MOST_INPUT → Told (IsOnItsWay n h l) x y → Told Same y z → Told (Ran 3) x z
 told_input_fails n h l x y z le p q =
-    told_then (IsOnItsWay n h l) Same (DryRun 3) x y z (λ a b c u v. ends_at_input n h l a b c le u v) p q
+    told_then (IsOnItsWay n h l) Same (Ran 3) x y z (λ a b c u v. ends_at_input n h l a b c le u v) p q
 
 pub told_too_long : (n count : ℕ) (h : CoreState) (l buffer : List ℕ) (x y z : Option World) → count ≤ length buffer → n + count ≡ MOST_INPUT + 1
-    → Told (IsOnItsWay n h l) x y → Told (Takes (record { 0 = 0 }) count buffer) y z → Told (DryRun 8) x z
+    → Told (IsOnItsWay n h l) x y → Told (Takes (record { 0 = 0 }) count buffer) y z → Told (Ran 8) x z
 told_too_long n count h l buffer x y z le limit p q =
-    told_then (IsOnItsWay n h l) (Takes (record { 0 = 0 }) count buffer) (DryRun 8) x y z (λ a b c u v. ends_too_long n count h l buffer a b c le limit u v) p q
+    told_then (IsOnItsWay n h l) (Takes (record { 0 = 0 }) count buffer) (Ran 8) x y z (λ a b c u v. ends_too_long n count h l buffer a b c le limit u v) p q
 
 -- replying ends with status 5 or 7
 replying_not_done : (before now : Faults) (s : Stop) → ReplyCause before now s → status_of {A = Unit {0}} (Err s) ≡ 0 → ⊥
@@ -60,27 +60,27 @@ replying_not_long before now stop.Memory cause e = cc
 replying_not_long before now stop.InputLong cause e = absurd cause
 
 pub told_piece_fails : (s : Stop) (before now : Faults) (n count : ℕ) (h : CoreState) (l buffer piece : List ℕ) (x y z w : Option World) → ReplyCause before now s → count ≤ length buffer → n + count ≤ MOST_INPUT
-    → piece ≡ take count buffer → Told (IsOnItsWay n h l) x y → Told (Takes (record { 0 = 0 }) count buffer) y z → Told (FedPart h l piece) z w → Told (DryRun (status_of {A = Unit {0}} (Err s))) x w
+    → piece ≡ take count buffer → Told (IsOnItsWay n h l) x y → Told (Takes (record { 0 = 0 }) count buffer) y z → Told (FedPart h l piece) z w → Told (Ran (status_of {A = Unit {0}} (Err s))) x w
 told_piece_fails s before now n count h l buffer piece x y z w cause le limit is p q r =
-    told_three (IsOnItsWay n h l) (Takes (record { 0 = 0 }) count buffer) (FedPart h l (take count buffer)) (DryRun (status_of {A = Unit {0}} (Err s))) x y z w
+    told_three (IsOnItsWay n h l) (Takes (record { 0 = 0 }) count buffer) (FedPart h l (take count buffer)) (Ran (status_of {A = Unit {0}} (Err s))) x y z w
     (λ a b c d u v f. ends_in_piece (status_of {A = Unit {0}} (Err s)) n count h l buffer a b c d (replying_not_done before now s cause) (replying_not_long before now s cause) le limit u v f)
     p q (subst (λ (t : List ℕ). Told (FedPart h l t) z w) is r)
 
 -- the last line was told
 pub told_last_done : (n count : ℕ) (h : CoreState) (l said buffer : List ℕ) (x y z w : Option World) → n ≤ MOST_INPUT → count ≡ 0 → said ≡ l
-    → Told (IsOnItsWay n h l) x y → Told (Takes (record { 0 = 0 }) count buffer) y z → Told (Says (line_text h said)) z w → Told (DryRun 0) x w
+    → Told (IsOnItsWay n h l) x y → Told (Takes (record { 0 = 0 }) count buffer) y z → Told (Says (line_texts h said)) z w → Told (Ran 0) x w
 told_last_done n count h l said buffer x y z w le none same p q r =
-    told_three (IsOnItsWay n h l) (Takes (record { 0 = 0 }) 0 buffer) (Says (line_text h l)) (DryRun 0) x y z w
+    told_three (IsOnItsWay n h l) (Takes (record { 0 = 0 }) 0 buffer) (Says (line_texts h l)) (Ran 0) x y z w
     (λ a b c d u v f. ends_well n h l buffer a b c d le u v f)
-    p (subst (λ k. Told (Takes (record { 0 = 0 }) k buffer) y z) none q) (subst (λ (t : List ℕ). Told (Says (line_text h t)) z w) same r)
+    p (subst (λ k. Told (Takes (record { 0 = 0 }) k buffer) y z) none q) (subst (λ (t : List ℕ). Told (Says (line_texts h t)) z w) same r)
 
 -- the last line was told in part
 pub told_last_fails : (s : Stop) (before now : Faults) (n count : ℕ) (h : CoreState) (l said buffer : List ℕ) (x y z w : Option World) → ReplyCause before now s → n ≤ MOST_INPUT → count ≡ 0 → said ≡ l
-    → Told (IsOnItsWay n h l) x y → Told (Takes (record { 0 = 0 }) count buffer) y z → Told (SaysPrefix (line_text h said)) z w → Told (DryRun (status_of {A = Unit {0}} (Err s))) x w
+    → Told (IsOnItsWay n h l) x y → Told (Takes (record { 0 = 0 }) count buffer) y z → Told (SaysSome (line_texts h said)) z w → Told (Ran (status_of {A = Unit {0}} (Err s))) x w
 told_last_fails s before now n count h l said buffer x y z w cause le none same p q r =
-    told_three (IsOnItsWay n h l) (Takes (record { 0 = 0 }) 0 buffer) (SaysPrefix (line_text h l)) (DryRun (status_of {A = Unit {0}} (Err s))) x y z w
+    told_three (IsOnItsWay n h l) (Takes (record { 0 = 0 }) 0 buffer) (SaysSome (line_texts h l)) (Ran (status_of {A = Unit {0}} (Err s))) x y z w
     (λ a b c d u v f. ends_in_last (status_of {A = Unit {0}} (Err s)) n h l buffer a b c d (replying_not_done before now s cause) (replying_not_long before now s cause) le u v f)
-    p (subst (λ k. Told (Takes (record { 0 = 0 }) k buffer) y z) none q) (subst (λ (t : List ℕ). Told (SaysPrefix (line_text h t)) z w) same r)
+    p (subst (λ k. Told (Takes (record { 0 = 0 }) k buffer) y z) none q) (subst (λ (t : List ℕ). Told (SaysSome (line_texts h t)) z w) same r)
 
 -- past the limit one byte more is asked for, and before it none that passes the limit
 pub one_too_many : (taken count asked : ℕ) → taken ≤ MOST_INPUT → count ≤ asked → MOST_INPUT < taken + count → (taken ≡ MOST_INPUT → asked ≡ 1) → (taken < MOST_INPUT → taken + asked ≤ MOST_INPUT)

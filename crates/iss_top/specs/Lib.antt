@@ -1,8 +1,7 @@
 pub mod Statuses
 pub mod Lines
-pub mod NotTaken
+pub mod TextRows
 pub mod Dry
-pub mod Start
 pub mod Progress
 pub mod Runs
 pub mod Words

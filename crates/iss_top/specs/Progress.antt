@@ -1,32 +1,31 @@
 -- A dry run on its way: what was told so far, and what the rest of the input will be told.
-use Rattle.std.specs.Prelude.{◌≡◌, ℕ, List, [], ◌∷◌, ◌++◌, Bool, false, ◌==◌, IsTrue, IfErr, Result, if◌then◌else◌}
+use Rattle.std.specs.Prelude.{◌≡◌, ℕ, List, [], ◌∷◌, ◌++◌, Bool, true, false, ◌==◌, ◌⊎◌, map, IsTrue, IfErr, Result, if◌then◌else◌}
 use Rattle.std.specs.List.{list_all}
 use Rattle.iss_edge.specs.declared.outside.Action.{Action}
 use Rattle.iss_edge.specs.declared.outside.Action.TheVariants.{Write, Sync, Emit, Dial, Close}
 use Rattle.iss_edge.specs.World.{World, Faults, Later, Rose, sent_on}
 use Rattle.iss_model.specs.state.Cores.{CoreState}
-use Rattle.iss_model.specs.run.Transcripts.{bytes_of}
 use Rattle.iss_top.specs.declared.stop.Stop.{Stop}
 use Rattle.iss_top.specs.declared.stop.Stop.TheVariants as stop
 use Rattle.iss_top.specs.Lines.{is_blank, onto_first, parts_of}
-use Rattle.iss_top.specs.Dry.{reply_of_line}
+use Rattle.iss_top.specs.Dry.{reply_of_line, each_bytes}
 
 -- what a line is told: nothing where it is blank
-unfoldable pub line_text : CoreState → List ℕ → List ℕ
-line_text s line = if is_blank line then [] else bytes_of (reply_of_line s line).texts
+unfoldable pub line_texts : CoreState → List ℕ → List (List ℕ)
+line_texts s line = if is_blank line then [] else each_bytes (reply_of_line s line).texts
 
 -- what stands after a line
 unfoldable pub line_next : CoreState → List ℕ → CoreState
 line_next s line = if is_blank line then s else (reply_of_line s line).world
 
 -- what lines in a row are told
-abbrev pub lines_text : CoreState → List (List ℕ) → List ℕ
-lines_text s [] = []
-lines_text s (line ∷ lines) = line_text s line ++ lines_text (line_next s line) lines
+abbrev pub lines_texts : CoreState → List (List ℕ) → List (List ℕ)
+lines_texts s [] = []
+lines_texts s (line ∷ lines) = line_texts s line ++ lines_texts (line_next s line) lines
 
 -- what is still to be told where these bytes of a line came already, and the rest is to come
-unfoldable pub text_to_come : CoreState → List ℕ → List ℕ → List ℕ
-text_to_come s line rest = lines_text s (onto_first line (parts_of rest))
+unfoldable pub texts_to_come : CoreState → List ℕ → List ℕ → List (List ℕ)
+texts_to_come s line rest = lines_texts s (onto_first line (parts_of rest))
 
 -- sends bytes on channel 0
 abbrev pub is_output : Action → Bool
@@ -44,36 +43,74 @@ pub record Sends (text : List ℕ) (a b : World) : Type 0 where
   pub outputs : IsTrue (list_all is_output actions)
   pub sent : sent_on 0 actions ≡ text
 
--- nothing was done but that this text went out on channel 0
-pub record Says (text : List ℕ) (a b : World) : Type 0 where
-  pub left : b.left ≡ a.left
-  pub sends : Sends text a b
+-- an emit on channel 0 for each text
+abbrev pub emits : List (List ℕ) → List Action
+emits texts = map (λ text. Emit (record { 0 = 0 }) text true) texts
 
--- nothing was done but that a prefix of this text went out on channel 0
-pub record SaysPrefix (text : List ℕ) (a b : World) : Type 0 where
+-- what was done is a failed emit on channel 0 of a prefix of the first text
+pub record FailsAt (texts : List (List ℕ)) (actions : List Action) : Type 0 where
+  pub text : List ℕ
+  pub others : List (List ℕ)
+  pub first : texts ≡ text ∷ others
   pub prefix : List ℕ
   pub back : List ℕ
   pub cut : text ≡ prefix ++ back
-  pub says : Says prefix a b
+  pub action : actions ≡ Emit (record { 0 = 0 }) prefix false ∷ []
+
+-- What was done is an emit on channel 0 for each of some first texts, and then nothing, or a failed emit of a prefix of the next.
+pub record GoOut (texts : List (List ℕ)) (actions : List Action) : Type 0 where
+  pub whole : List (List ℕ)
+  pub rest : List (List ℕ)
+  pub cut : texts ≡ whole ++ rest
+  pub last : List Action
+  pub done : actions ≡ emits whole ++ last
+  pub ended : (last ≡ []) ⊎ FailsAt rest last
+
+-- the device is as it was, and each of these texts went out by an emit of its own
+pub record SendsEach (texts : List (List ℕ)) (a b : World) : Type 0 where
+  pub device : b.device ≡ a.device
+  pub grew : b.trace ≡ a.trace ++ emits texts
+
+-- the device is as it was, and of these texts as many went out as came to it
+pub record SendsSome (texts : List (List ℕ)) (a b : World) : Type 0 where
+  pub device : b.device ≡ a.device
+  pub actions : List Action
+  pub grew : b.trace ≡ a.trace ++ actions
+  pub out : GoOut texts actions
+
+-- nothing was done but that each of these texts went out
+pub record Says (texts : List (List ℕ)) (a b : World) : Type 0 where
+  pub left : b.left ≡ a.left
+  pub sends : SendsEach texts a b
+
+-- nothing was done but that some of these texts went out
+pub record SaysSome (texts : List (List ℕ)) (a b : World) : Type 0 where
+  pub left : b.left ≡ a.left
+  pub sends : SendsSome texts a b
 
 -- a piece of input was taken in: what it is told went out, and the rest of the input is still to be told
 pub record Fed (s : CoreState) (line piece : List ℕ) (s' : CoreState) (line' : List ℕ) (a b : World) : Type 0 where
-  pub text : List ℕ
-  pub says : Says text a b
-  pub onward : (rest : List ℕ) → text_to_come s line (piece ++ rest) ≡ text ++ text_to_come s' line' rest
+  pub texts : List (List ℕ)
+  pub says : Says texts a b
+  pub onward : (rest : List ℕ) → texts_to_come s line (piece ++ rest) ≡ texts ++ texts_to_come s' line' rest
 
 -- what is still to be told where this text came first
 pub record Begins (text whole : List ℕ) : Type 0 where
   pub back : List ℕ
   pub cut : whole ≡ text ++ back
 
--- a piece of input was taken in in part: what went out is the prefix of what is to be told, whatever comes after the piece
-pub record FedPart (s : CoreState) (line piece : List ℕ) (a b : World) : Type 0 where
-  pub text : List ℕ
-  pub says : Says text a b
-  pub onward : (rest : List ℕ) → Begins text (text_to_come s line (piece ++ rest))
+-- these texts come first
+pub record AreFirst (texts whole : List (List ℕ)) : Type 0 where
+  pub back : List (List ℕ)
+  pub cut : whole ≡ texts ++ back
 
--- why replying a line may end early: an emit failed, or an allocation failed
+-- a piece of input was taken in in part: what went out is some of the first texts that are to be told, whatever comes after the piece
+pub record FedPart (s : CoreState) (line piece : List ℕ) (a b : World) : Type 0 where
+  pub texts : List (List ℕ)
+  pub says : SaysSome texts a b
+  pub onward : (rest : List ℕ) → AreFirst texts (texts_to_come s line (piece ++ rest))
+
+-- why replying to a line may end early: an emit failed, or an allocation failed
 abbrev pub ReplyCause : Faults → Faults → Stop → Type 0
 ReplyCause before now stop.Input = ⊥
 ReplyCause before now stop.Output = Rose before.output now.output

@@ -1,12 +1,13 @@
 -- What a run does, whatever status it ends with.
 use Rattle.std.specs.Prelude.{◌≡◌, ◌+◌, ℕ, ◌≤◌, ◌↔◌, ◌⊎◌, List, [], ◌++◌, length, IfErr, Result}
+use Rattle.iss_edge.specs.declared.outside.Action.{Action}
 use Rattle.iss_edge.specs.World.{World, Faults, Later, Rose}
 use Rattle.iss_model.specs.declared.limits.TheConstants.{MOST_INPUT}
 use Rattle.iss_model.specs.state.Cores.{CoreState, no_core}
 use Rattle.iss_top.specs.declared.stop.Stop.{Stop}
 use Rattle.iss_top.specs.declared.stop.Stop.TheVariants as stop
-use Rattle.iss_top.specs.Dry.{dry_output}
-use Rattle.iss_top.specs.Progress.{text_to_come, Sends, Begins}
+use Rattle.iss_top.specs.Dry.{dry_texts, dry_output, each_bytes}
+use Rattle.iss_top.specs.Progress.{texts_to_come, Sends, emits, GoOut, SendsEach, Begins}
 
 -- these bytes were taken from channel 0, this text went out on it, and nothing else was done
 pub record Passes (took text : List ℕ) (a b : World) : Type 0 where
@@ -14,13 +15,19 @@ pub record Passes (took text : List ℕ) (a b : World) : Type 0 where
   pub others : (c : ℕ) → (c ≡ 0 → ⊥) → b.left c ≡ a.left c
   pub sends : Sends text a b
 
+-- these bytes were taken from channel 0, and none from another
+pub record TakesIn (took : List ℕ) (a b : World) : Type 0 where
+  pub bytes : a.left 0 ≡ took ++ b.left 0
+  pub others : (c : ℕ) → (c ≡ 0 → ⊥) → b.left c ≡ a.left c
+
 -- so many bytes were taken, all lines that ended in them were told, and of the rest the line that began
 pub record IsOnItsWay (taken : ℕ) (s : CoreState) (line : List ℕ) (a b : World) : Type 0 where
   pub took : List ℕ
-  pub text : List ℕ
-  pub passes : Passes took text a b
+  pub texts : List (List ℕ)
+  pub takes : TakesIn took a b
+  pub sends : SendsEach texts a b
   pub count : length took ≡ taken
-  pub onward : (rest : List ℕ) → text_to_come no_core [] (took ++ rest) ≡ text ++ text_to_come s line rest
+  pub onward : (rest : List ℕ) → texts_to_come no_core [] (took ++ rest) ≡ texts ++ texts_to_come s line rest
 
 -- What a dry run with this status did. What went out is a prefix of what its input is to be told, and all of it at status 0, where the input was read to its end.
 -- Status 8 comes exactly where 4294967296 bytes were taken and another came.
@@ -30,6 +37,24 @@ pub record DryRun (status : ℕ) (a b : World) : Type 0 where
   pub passes : Passes took text a b
   pub prefix : Begins text (dry_output (a.left 0))
   pub whole : status ≡ 0 → (text ≡ dry_output (a.left 0)) × (b.left 0 ≡ [])
+  pub long : (status ≡ 8) ↔ (length took ≡ MOST_INPUT + 1)
+  pub bound : length took ≤ MOST_INPUT + 1
+
+-- What a dry run with this status emitted: the texts that its input is to be told, in order, each by an emit of its own, and all of them at status 0.
+-- Where it ended early, the last emit may have failed, and a prefix of its text went out.
+pub record EmitsTexts (status : ℕ) (a b : World) : Type 0 where
+  pub actions : List Action
+  pub grew : b.trace ≡ a.trace ++ actions
+  pub out : GoOut (each_bytes (dry_texts (a.left 0))) actions
+  pub whole : status ≡ 0 → actions ≡ emits (each_bytes (dry_texts (a.left 0)))
+
+-- both of what it took and what it emitted, with the device as it was
+pub record Ran (status : ℕ) (a b : World) : Type 0 where
+  pub took : List ℕ
+  pub takes : TakesIn took a b
+  pub device : b.device ≡ a.device
+  pub emits : EmitsTexts status a b
+  pub over : status ≡ 0 → b.left 0 ≡ []
   pub long : (status ≡ 8) ↔ (length took ≡ MOST_INPUT + 1)
   pub bound : length took ≤ MOST_INPUT + 1
 

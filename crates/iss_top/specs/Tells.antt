@@ -1,17 +1,20 @@
 -- What a line leaves and is told, as a call answers it.
-use Rattle.std.specs.Prelude.{◌≡◌, ℕ, List}
+use Rattle.std.specs.Prelude.{◌≡◌, List}
+use Rattle.std.specs.List.{flat_map}
 use Rattle.iss_model.specs.declared.input.Record.{Record}
 use Rattle.iss_model.specs.rules.Stepping.{step}
 use Rattle.iss_model.specs.state.Cores.{CoreState, core_keeper}
-use Rattle.iss_model.specs.run.Transcripts.{LineReply, bytes_of}
-use Rattle.iss_top.specs.Dry.{entries_text}
+use Rattle.iss_model.specs.run.Transcripts.{LineReply, entry_texts}
+use Rattle.iss_top.specs.declared.texts.Texts.{Texts}
+use Rattle.iss_top.specs.Dry.{each_bytes}
+use Rattle.iss_top.specs.TextRows.{Gains, HasAll}
 
--- this state stands after a line, and these bytes are its texts
-pub record Replies (told : LineReply CoreState) (after : CoreState) (text : List ℕ) : Type 0 where
+-- this state stands after a line, and these are its texts
+pub record Replies (told : LineReply CoreState) (after : CoreState) (kept : Texts) : Type 0 where
   pub state : after ≡ told.world
-  pub bytes : text ≡ bytes_of told.texts
+  pub texts : HasAll (each_bytes told.texts) kept
 
--- this state stands after a record, and these bytes are the texts of its entries
-pub record Records (before : CoreState) (r : Record) (after : CoreState) (text : List ℕ) : Type 0 where
+-- this state stands after a record, and the texts of its entries came behind those that were there
+pub record Records (before : CoreState) (r : Record) (after : CoreState) (old new : Texts) : Type 0 where
   pub state : after ≡ (step core_keeper before r).world
-  pub bytes : text ≡ entries_text (step core_keeper before r).entries
+  pub texts : Gains (flat_map entry_texts (step core_keeper before r).entries) old new

@@ -1,129 +1,105 @@
-//! The reply to a line.
-ghost use Rattle.std.specs.Prelude.{◌≡◌, ◌<◌, [], true, None, IfOk, OnOk, IsTrue};
-ghost use Rattle.std.specs.List.{list_all};
-ghost use Rattle.iss_core.specs.Built.{is_built, is_built_entry};
+//! What a line is told.
+ghost use Rattle.std.specs.Prelude.{◌≡◌, ◌<◌, map, IfOk, OnOk, IsTrue};
 ghost use Rattle.iss_model.specs.declared.limits.TheConstants.{MOST_RECORDS};
+ghost use Rattle.iss_model.specs.Forms.{is_in_form, is_stamp, is_stamp_or_none};
+ghost use Rattle.iss_model.specs.rules.Judging.{judge};
 ghost use Rattle.iss_model.specs.state.Cores.{core_keeper};
-ghost use Rattle.iss_model.specs.Forms.{is_in_form};
-ghost use Rattle.iss_model.specs.run.Transcripts.{sound, after_line, bytes_of};
-ghost use Rattle.iss_event.specs.Readings.{opened_as};
+ghost use Rattle.iss_model.specs.run.Sayings.{answer_left};
+ghost use Rattle.iss_model.specs.run.Transcripts.{sound, said_text, after_line};
 ghost use Rattle.iss_core.specs.Values.{IsNext};
-ghost use Rattle.iss_top.specs.Dry.{reply_of_line, open_reading, entries_text};
-ghost use Rattle.iss_top.specs.Start.{IsAtStart};
+ghost use Rattle.iss_top.specs.Dry.{reply_of_line};
+ghost use Rattle.iss_top.specs.TextRows.{Gains, HasNone};
 ghost use Rattle.iss_top.specs.Tells.{Replies, Records};
 
-use crate::taken::{is_not_taken, put_not_taken};
+use crate::texts::Texts;
 use iss_core::Core;
-use iss_event::{
-    Line, LineFault, Mode, OpenLine, Scratch, open_line, put_form, put_reply, put_told,
-};
-use iss_model::{Entry, Judged, Record, Reply};
+use iss_event::{Line, LineFault, Mode, Scratch, read_line_in};
+use iss_model::{Input, Judged, Record};
 use std::alloc::{AllocError, Global};
 
-/// Takes a line that is not blank, writes its reply to an empty text, and returns the core after it.
+/// Takes a line that is not blank, adds what it is told to no texts, and returns the core after it.
 pub(crate) fn answer(
     alloc: Global,
     core: Core,
     line: &[u8],
     scratch: &mut Scratch,
-    text: &mut Vec<u8>,
+    texts: &mut Texts,
 ) -> Result<Core, AllocError>
     requires room { core.state.count < MOST_RECORDS }
-    requires start { IsAtStart core.state }
-    requires empty { text.old.items ≡ [] }
-    ensures told { IfOk result (λ next. Replies (reply_of_line core.state line.now) next.state text.new.items) }
-    ensures start { IfOk result (λ next. IsAtStart next.state) }
+    requires empty { HasNone texts.old }
+    ensures { IfOk result (λ next. Replies (reply_of_line core.state line.now) next.state texts.new) }
 {
-    match open_line(scratch, alloc, line, Mode::Lines) {
-        Ok(opened) => answer_opened(alloc, core, &opened, text),
+    match read_line_in(scratch, alloc, line, Mode::Lines) {
+        Ok(said) => decide(alloc, core, &said, texts),
         Err(LineFault::Form(fault)) => {
-            put_form(text, &fault)?;
+            texts.put_form(&fault)?;
             Ok(core)
         }
         Err(LineFault::OutOfMemory) => Err(AllocError),
     }
 }
 
-/// Takes a line of a good type. One that the core doesn't take yet is told so, whatever its other fields.
-fn answer_opened(
-    alloc: Global,
-    core: Core,
-    line: &OpenLine<'_>,
-    text: &mut Vec<u8>,
-) -> Result<Core, AllocError>
+/// Judges the input of a line at its stamp. A new one is a record. One that isn't new gets its answer, after the record of
+/// its time where something is due by then.
+fn decide(alloc: Global, core: Core, said: &Line, texts: &mut Texts) -> Result<Core, AllocError>
     requires room { core.state.count < MOST_RECORDS }
-    requires start { IsAtStart core.state }
-    requires empty { text.old.items ≡ [] }
-    ensures told { IfOk result (λ next. Replies (after_line core_keeper core.state (open_reading (opened_as line.now))) next.state text.new.items) }
-    ensures start { IfOk result (λ next. IsAtStart next.state) }
+    requires input_form { IsTrue (is_in_form said.now.input) }
+    requires stamp_form { IsTrue (is_stamp_or_none said.now.at) }
+    requires empty { HasNone texts.old }
+    ensures { IfOk result (λ next. Replies (after_line core_keeper core.state (sound said.now.input said.now.at)) next.state texts.new) }
 {
-    if is_not_taken(line) {
-        put_not_taken(text)?;
-        return Ok(core);
-    }
-    match line.read(alloc) {
-        Ok(said) => decide(alloc, core, said, text),
-        Err(LineFault::Form(fault)) => {
-            put_form(text, &fault)?;
-            Ok(core)
+    let at = said.at.unwrap_or(0);
+    match core.judge(alloc, &said.input, at)? {
+        Judged::New(accepted) => {
+            let next = take_up(alloc, core, &accepted, texts)?;
+            texts.put_time_taken(&said.input)?;
+            Ok(next)
         }
-        Err(LineFault::OutOfMemory) => Err(AllocError),
-    }
-}
-
-/// Judges the input of a line: one that isn't new gets its answer, and a new one is a record.
-fn decide(alloc: Global, core: Core, said: Line, text: &mut Vec<u8>) -> Result<Core, AllocError>
-    requires room { core.state.count < MOST_RECORDS }
-    requires start { IsAtStart core.state }
-    requires input_form { IsTrue (is_in_form said.input) }
-    requires built { is_built said.input ≡ true }
-    requires no_stamp { said.at ≡ None }
-    requires empty { text.old.items ≡ [] }
-    ensures told { IfOk result (λ next. Replies (after_line core_keeper core.state (sound said.input said.at)) next.state text.new.items) }
-    ensures start { IfOk result (λ next. IsAtStart next.state) }
-{
-    match core.judge(&said.input, said.at.unwrap_or(0))? {
-        Judged::New(accepted) => take_up(alloc, core, &accepted, text),
-        Judged::Clock(_) => unreachable!(),
+        Judged::Clock(clock) => {
+            let next = take_up(alloc, core, &clock, texts)?;
+            put_answer_left(alloc, &next, &said.input, at, texts)?;
+            Ok(next)
+        }
         Judged::Told(answer) => {
-            put_told(text, &answer)?;
+            texts.put_told(&answer)?;
             Ok(core)
         }
     }
 }
 
-/// Takes up a record that is next, writes the texts of its entries, and returns the core after it.
+/// Takes up a record that is next, adds the texts of its entries, and returns the core after it.
 fn take_up(
     alloc: Global,
     core: Core,
     accepted: &Record,
-    text: &mut Vec<u8>,
+    texts: &mut Texts,
 ) -> Result<Core, AllocError>
     requires room { core.state.count < MOST_RECORDS }
-    requires start { IsAtStart core.state }
     requires next { IsNext core accepted.now }
     requires input_form { IsTrue (is_in_form accepted.now.input) }
-    requires built { is_built accepted.now.input ≡ true }
-    requires at_start { accepted.now.at ≡ 0 }
-    requires empty { text.old.items ≡ [] }
-    ensures told { IfOk result (λ next. Records core.state accepted.now next.state text.new.items) }
-    ensures start { IfOk result (λ next. IsAtStart next.state) }
+    requires stamp_form { IsTrue (is_stamp accepted.now.at) }
+    ensures { IfOk result (λ next. Records core.state accepted.now next.state texts.old texts.new) }
 {
-    let (core, entries) = core.step(alloc, accepted)?;
-    put_entries(text, &entries)?;
-    Ok(core)
+    let (next, entries) = core.step(alloc, accepted)?;
+    texts.put_entries(&entries)?;
+    Ok(next)
 }
 
-/// Writes the texts of entries that are built: one for each decision.
-fn put_entries(text: &mut Vec<u8>, entries: &[Entry]) -> Result<(), AllocError>
-    requires built { list_all is_built_entry entries.now ≡ true }
-    requires empty { text.old.items ≡ [] }
-    ensures { OnOk result (text.new.items ≡ entries_text entries.now) }
+/// Adds the answer of an input that isn't new once the time is taken up.
+fn put_answer_left(
+    alloc: Global,
+    core: &Core,
+    input: &Input,
+    at: u64,
+    texts: &mut Texts,
+) -> Result<(), AllocError>
+    requires input_form { IsTrue (is_in_form input.now) }
+    requires stamp_form { IsTrue (is_stamp at) }
+    ensures { OnOk result (Gains (map said_text (answer_left (judge core_keeper core.now.state input.now at))) texts.old texts.new) }
 {
-    for entry in entries {
-        if let Entry::Decided(event, verdict) = entry {
-            put_reply(text, event, &Reply::Decided(*verdict))?;
-        }
+    match core.judge(alloc, input, at)? {
+        Judged::Told(answer) => texts.put_told(&answer),
+        Judged::New(_) => Ok(()),
+        Judged::Clock(_) => Ok(()),
     }
-    Ok(())
 }

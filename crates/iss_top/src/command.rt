@@ -3,7 +3,7 @@ ghost use Rattle.std.specs.Prelude.{◌≡◌, ◌↔◌, ◌==◌, None, map, s
 ghost use Rattle.std.specs.List.{list_any};
 ghost use Rattle.iss_edge.specs.World.{Told, Rose};
 ghost use Rattle.iss_top.specs.Words.{command_of_words, statuses, IsOtherSize, OnDry, OnFormat};
-ghost use Rattle.iss_top.specs.Runs.{DryRun, EndsWell};
+ghost use Rattle.iss_top.specs.Runs.{DryRun, EmitsTexts, EndsWell};
 ghost use Rattle.iss_top.specs.FormatRuns.{FormatRun};
 
 use crate::dry::dry;
@@ -18,11 +18,12 @@ const USAGE: u8 = 2;
 
 /// Does all that the program does, by the words after the program's name, and returns the exit status.
 ///
-/// The one word `dry` reads event lines from channel 0 to its end and writes what they are told, one line of JSON
-/// (RFC 8259) each. `format DEVICE SIZE INSTANCE` makes the device, of SIZE bytes, one of this instance that stands for
+/// The one word `dry` reads event lines from channel 0 to its end and writes what they are told: lines of JSON (RFC 8259),
+/// each by one emit. `format DEVICE SIZE INSTANCE` makes the device, of SIZE bytes, one of this instance that stands for
 /// no records. The statuses are 0 for a run that came to its end, 2 for words that are no command, 3 where the input
 /// failed, 4 where the device has another size, 5 where the output failed, 6 where a call on the device failed, 7 where
 /// an allocation failed, and 8 where the input has more than 4294967296 bytes.
+#[tactic(auto, using(crate::proofs::RunBytes::told_run))]
 pub fn run<E: Edge>(alloc: Global, words: &[String], edge: &mut E) -> u8
     // No other status, by the words.
     ensures known { IsTrue (list_any (λ status. result == status) (statuses (command_of_words (map string_bytes words.now)))) }
@@ -41,9 +42,12 @@ pub fn run<E: Edge>(alloc: Global, words: &[String], edge: &mut E) -> u8
     ensures disk_fault { result ≡ 6 → Rose (E.faults edge.old).disk (E.faults edge.new).disk }
 
     // Of a dry run what went out is the transcript of the input's lines, or a prefix of it; 8 comes exactly at its number.
+    // Each text of the transcript goes out by an emit of its own, in their order.
     // Where the outside isn't at fault, and the input isn't too long, it comes to its end, or an allocation fails.
     ensures transcript { OnDry (command_of_words (map string_bytes words.now))
         (Told (DryRun result) (E.told edge.old) (E.told edge.new)) }
+    ensures emits { OnDry (command_of_words (map string_bytes words.now))
+        (Told (EmitsTexts result) (E.told edge.old) (E.told edge.new)) }
     ensures complete { OnDry (command_of_words (map string_bytes words.now))
         (Told (EndsWell (E.faults edge.old) (E.faults edge.new) result) (E.told edge.old) (E.told edge.new)) }
 

@@ -3,12 +3,13 @@ ghost use Rattle.std.specs.Prelude.{◌≡◌, ◌+◌, ◌<◌, ◌≤◌, leng
 ghost use Rattle.iss_edge.specs.World.{Told, HasCause};
 ghost use Rattle.iss_edge.specs.Calls.{Takes, Same};
 ghost use Rattle.iss_top.specs.Statuses.{status_of};
-ghost use Rattle.iss_top.specs.Runs.{DryRun, IsCaused};
+ghost use Rattle.iss_top.specs.Runs.{Ran, IsCaused};
 
 use crate::buffer::LineBuffer;
 use crate::feed::feed;
 use crate::replying::send_reply;
 use crate::stop::Stop;
+use crate::texts::DRY_INSTANCE;
 use crate::workspace::Workspace;
 use iss_core::Core;
 use iss_edge::{Channel, Edge};
@@ -20,7 +21,7 @@ const PIECE: usize = 65536;
 
 /// Reads lines to the end of the input and writes their replies.
 pub(crate) fn dry<E: Edge>(alloc: Global, edge: &mut E) -> Result<(), Stop>
-    ensures ran { Told (DryRun (status_of result)) (E.told edge.old) (E.told edge.new) }
+    ensures ran { Told (Ran (status_of result)) (E.told edge.old) (E.told edge.new) }
     ensures caused { IsCaused (E.faults edge.old) (E.faults edge.new) result }
 {
     let mut buffer = zeros(alloc, PIECE)?;
@@ -37,10 +38,10 @@ fn zeros(alloc: Global, len: usize) -> Result<Vec<u8>, AllocError>
 /// Reads lines to the end of the input, in pieces that the buffer has room for, and writes their replies.
 fn read_lines<E: Edge>(alloc: Global, edge: &mut E, buffer: &mut [u8]) -> Result<(), Stop>
     requires piece { length buffer.old ≡ PIECE }
-    ensures ran { Told (DryRun (status_of result)) (E.told edge.old) (E.told edge.new) }
+    ensures ran { Told (Ran (status_of result)) (E.told edge.old) (E.told edge.new) }
     ensures caused { IsCaused (E.faults edge.old) (E.faults edge.new) result }
 {
-    let mut core = Core::new(alloc, 0)?;
+    let mut core = Core::new(alloc, DRY_INSTANCE)?;
     let mut line = LineBuffer::new(alloc);
     let mut workspace = Workspace::new(alloc);
     let mut taken = 0;

@@ -3,7 +3,6 @@ ghost use Rattle.std.specs.Prelude.{◌≡◌, ◌+◌, ◌*◌, ◌^◌, ◌≤
 ghost use Rattle.iss_edge.specs.World.{Told};
 ghost use Rattle.iss_top.specs.Lines.{has_line_feed};
 ghost use Rattle.iss_top.specs.Progress.{Fed, FedPart, IsReplying};
-ghost use Rattle.iss_top.specs.Start.{IsAtStart};
 
 use crate::buffer::LineBuffer;
 use crate::replying::send_reply;
@@ -14,7 +13,8 @@ use iss_edge::Edge;
 use memchr::memchr;
 use std::alloc::Global;
 
-/// Takes in a piece of the input: each line that ends in it gets its reply. Returns the core after it.
+/// Takes in a piece of the input: each line that ends in it is told. Returns the core after it.
+#[tactic(auto, using(crate::proofs::ToldFed::told_upto_stops))]
 pub(crate) fn feed<E: Edge>(
     alloc: Global,
     core: Core,
@@ -24,14 +24,12 @@ pub(crate) fn feed<E: Edge>(
     piece: &[u8],
 ) -> Result<Core, Stop>
     requires room { 5 * core.state.count + length line.old + length piece.now ≤ 2 ^ 32 }
-    requires start { IsAtStart core.state }
     ensures fed { IfOk result (λ next.
         Told (Fed core.state line.old piece.now next.state line.new) (E.told edge.old) (E.told edge.new)) }
     ensures part { OnErr result (Told (FedPart core.state line.old piece.now) (E.told edge.old) (E.told edge.new)) }
     ensures replying { IsReplying (E.faults edge.old) (E.faults edge.new) result }
     ensures room { IfOk result (λ next. 5 * next.state.count + length line.new
         ≤ 5 * core.state.count + length line.old + length piece.now) }
-    ensures start { IfOk result (λ next. IsAtStart next.state) }
 {
     let mut next = core;
     let mut rest = piece;
@@ -44,6 +42,7 @@ pub(crate) fn feed<E: Edge>(
 }
 
 /// Takes in the last bytes of a line, and the line feed after them. A line that lies whole in a piece isn't copied.
+#[tactic(auto, using(crate::proofs::ToldFed::told_part_nothing))]
 fn end_line<E: Edge>(
     alloc: Global,
     core: Core,
@@ -53,7 +52,6 @@ fn end_line<E: Edge>(
     bytes: &[u8],
 ) -> Result<Core, Stop>
     requires room { 5 * core.state.count + length line.old + length bytes.now + 1 ≤ 2 ^ 32 }
-    requires start { IsAtStart core.state }
     requires one_line { has_line_feed bytes.now ≡ false }
     ensures fed { IfOk result (λ next.
         Told (Fed core.state line.old (bytes.now ++ 10 ∷ []) next.state line.new) (E.told edge.old) (E.told edge.new)) }
@@ -61,7 +59,6 @@ fn end_line<E: Edge>(
     ensures replying { IsReplying (E.faults edge.old) (E.faults edge.new) result }
     ensures room { IfOk result (λ next. 5 * next.state.count + length line.new
         ≤ 5 * core.state.count + length line.old + length bytes.now + 1) }
-    ensures start { IfOk result (λ next. IsAtStart next.state) }
 {
     let next = if line.as_slice().is_empty() {
         send_reply(alloc, core, bytes, workspace, edge)?

@@ -12,7 +12,7 @@ mod feed;
 mod format;
 mod replying;
 mod stop;
-mod taken;
+mod texts;
 mod words;
 mod workspace;
 

@@ -1,19 +1,20 @@
 //! What is kept from line to line.
+use crate::texts::Texts;
 use iss_event::Scratch;
 use std::alloc::Global;
 
-/// Room for the reading of a line and for its reply, kept so that a line allocates none of its own.
+/// Room for the reading of a line and for its texts, kept so that a line allocates none of its own.
 #[derive(Drop)]
 pub(crate) struct Workspace {
     pub(crate) scratch: Scratch,
-    pub(crate) text: Vec<u8>,
+    pub(crate) texts: Texts,
 }
 
 impl Workspace {
     pub(crate) fn new(alloc: Global) -> Workspace {
         Workspace {
             scratch: Scratch::new(alloc),
-            text: Vec::new(alloc),
+            texts: Texts::new(alloc),
         }
     }
 }

@@ -195,6 +195,9 @@ pub not_full_so : (users : Users) (past : Past) (ss : List Standing) → length 
 not_full_so users past ss h =
     ap (λ (n : ℕ). nat_le 256 n) (as_many_kept users past 0 ss) ∙ grind (arith, nat_tests)
 
+pub full_is : (users : Users) (past : Past) (ss : List Standing) → nat_le 256 (length ss) ≡ is_full (controls_from users past 0 ss)
+full_is users past ss = ap (λ (n : ℕ). nat_le 256 n) (sym (as_many_kept users past 0 ss))
+
 -- a table with one more control, or with others of as many places
 pub table_more : (users : Users) (past : Past) (ss after : List Standing) (s : Standing)
     → ((user : List ℕ) (place : ℕ) (n : ℤ) → slice_get ss place ≡ None → used_at users past user place n ≡ None) → after ≡ ss ++ s ∷ []

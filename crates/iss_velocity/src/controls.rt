@@ -3,6 +3,7 @@ ghost use Rattle.std.specs.Prelude.{◌≡◌, [], IsTrue, is_some, map, option_
 ghost use Rattle.std.specs.Option.{option_copied};
 ghost use Rattle.iss_model.specs.Forms.{is_stamp, is_amount};
 ghost use Rattle.iss_model.specs.declared.entry.Entry.TheVariants as entry;
+ghost use Rattle.iss_model.specs.rules.Reasons.{is_full};
 ghost use Rattle.iss_model.specs.state.Cores.{with_control, control_after_use, control_facts};
 ghost use Rattle.iss_velocity.specs.Words.{asked_use, breach_of, used_of};
 ghost use Rattle.iss_velocity.specs.Puts.{kept_named, put_reason, control_after_limits, control_after_activity, reason_of_result};
@@ -110,6 +111,13 @@ impl Controls {
         ensures { option_copied result ≡ option_map (λ c. c.control) (kept_named name.now self.now) }
     {
         Some(&self.table.standing(name)?.control)
+    }
+
+    /// Whether there are as many controls as there may be.
+    pub fn is_full(&self) -> bool
+        ensures { result ≡ is_full self.now }
+    {
+        self.table.is_full()
     }
 
     /// Counts a row for each control that counts it: an active one or not. Where allocation fails all that the calls show stays.

@@ -19,6 +19,7 @@ mod worked;
 
 pub use ask::Ask;
 pub use controls::{ControlFault, Controls};
+pub use standing::is_same_control;
 pub use laws::{
     breach_looks_at_use, control_that_is_put_counts_no_earlier_use,
     controls_that_stay_count_the_same, counters_are_sums_of_noted_use,

@@ -87,11 +87,18 @@ impl Standing {
     pub(crate) fn is_fixed_as(&self, other: &Control) -> bool
         ensures { result ≡ is_same_control self.now.control other.now.currency other.now.window other.now.association other.now.scope }
     {
-        self.control.currency.number() == other.currency.number()
-            && self.control.window.number() == other.window.number()
-            && is_same_association(&self.control.association, &other.association)
-            && is_same_scope(&self.control.scope, &other.scope)
+        is_same_control(&self.control, other)
     }
+}
+
+/// Whether two controls are the same in what may not change: the currency, the window, the association and the scope.
+pub fn is_same_control(standing: &Control, put: &Control) -> bool
+    ensures { result ≡ is_same_control standing.now put.now.currency put.now.window put.now.association put.now.scope }
+{
+    standing.currency.number() == put.currency.number()
+        && standing.window.number() == put.window.number()
+        && is_same_association(&standing.association, &put.association)
+        && is_same_scope(&standing.scope, &put.scope)
 }
 
 fn is_associated(association: &Association, user: &Token, product: &Token) -> bool

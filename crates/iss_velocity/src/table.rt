@@ -6,6 +6,7 @@ ghost use Rattle.iss_model.specs.Forms.{is_stamp};
 ghost use Rattle.iss_model.specs.declared.entry.Entry.TheVariants as entry;
 ghost use Rattle.iss_model.specs.state.Cores.{control_facts, control_after_use, with_control};
 ghost use Rattle.iss_model.specs.rules.Asks.{used_by};
+ghost use Rattle.iss_model.specs.rules.Reasons.{is_full};
 ghost use Rattle.iss_velocity.specs.Words.{breach_of, used_of};
 ghost use Rattle.iss_velocity.specs.Puts.{kept_named, put_reason, reason_of_result, kept_after_change, standing_named, standing_after_change};
 ghost use Rattle.iss_velocity.specs.Lists.{rising_from};
@@ -148,6 +149,14 @@ impl Table {
             },
         );
         Ok(())
+    }
+
+    /// Whether there are as many controls as there may be.
+    #[tactic(auto, using(crate::proofs::Putting::full_is))]
+    pub(crate) fn is_full(&self) -> bool
+        ensures { result ≡ is_full (controls_in self.now) }
+    {
+        self.controls.len() >= MOST
     }
 
     /// Adds a control of a new name.

@@ -1,4 +1,4 @@
-use Rattle.std.proofs.Common.{rules, ◌≡◌, List, ℕ, sym, ap, ◌∙◌}
+use Rattle.std.proofs.Common.{rules, ◌≡◌, List, ℕ, ap, ◌∙◌}
 use Rattle.iss_model.specs.Amounts.{amount_text}
 use Rattle.iss_event.specs.ReportLines.{account_piece, account_currency, balance_text}
 use Rattle.iss_event.proofs.ReportTexts.{whole, account_text, account_as}

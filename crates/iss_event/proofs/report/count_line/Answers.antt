@@ -1,4 +1,4 @@
-use Rattle.std.proofs.Common.{◌≡◌, sym, ◌∙◌}
+use Rattle.std.proofs.Common.{sym, ◌∙◌}
 use Rattle.iss_event.specs.ReportLines.{counts_text, counts_piece}
 use Rattle.iss_event.proofs.ReportTexts.{whole, counts, counts_as}
 use Rattle.iss_event.proofs.report.count_line.Goals as goal

@@ -1,7 +1,6 @@
-use Rattle.std.proofs.Common.{rules, ◌≡◌, List, ℕ, ◌++◌, codes, sym, ap, ◌∙◌}
+use Rattle.std.proofs.Common.{List, ℕ, ◌++◌, codes, sym, ap, ◌∙◌}
 use Rattle.iss_model.specs.declared.account.Account.{Account}
-use Rattle.iss_model.specs.Currencies.{currency_code}
-use Rattle.iss_event.specs.ReportLines.{start_piece, holder_piece, account_piece}
+use Rattle.iss_event.specs.ReportLines.{start_piece, account_piece}
 use Rattle.iss_event.proofs.Lines.{named}
 use Rattle.iss_event.proofs.report.put_account.Goals as goal
 

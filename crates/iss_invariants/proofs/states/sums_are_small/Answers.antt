@@ -1,4 +1,4 @@
-use Rattle.iss_invariants.proofs.Enterable.{records_small, sound_small}
+use Rattle.iss_invariants.proofs.Enterable.{asked_small, records_small, sound_small}
 use Rattle.iss_invariants.proofs.states.sums_are_small.Goals as goal
 
 pub returns-clause-sound : goal.returns-clause-sound
@@ -6,3 +6,6 @@ returns-clause-sound c = sound_small
 
 pub returns-clause-records : goal.returns-clause-records
 returns-clause-records c = records_small
+
+pub returns-clause-asked : goal.returns-clause-asked
+returns-clause-asked c = asked_small

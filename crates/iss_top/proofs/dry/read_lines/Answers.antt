@@ -66,7 +66,6 @@ input-preserved g c =
       piece = omega (arith, c.input.invariant.piece);
       limit = omega arith;
       room = omega (arith, c.in_ok-core-2.ensures.room, length-take c.in_ok-count.count c.take_piece.new.buffer);
-      start = c.in_ok-core-2.ensures.start;
       told =
           told_way_goes_on c.input.taken c.in_ok-count.count c.input.core.state c.in_ok-core-2.core.state c.input.line c.feed.new.line c.take_piece.new.buffer (take c.in_ok-count.count c.take_piece.new.buffer)
           (g.E.Edge.told c.args.edge.now) (g.E.Edge.told c.input.edge) (g.E.Edge.told c.take_piece.new.edge) (g.E.Edge.told c.feed.new.edge)

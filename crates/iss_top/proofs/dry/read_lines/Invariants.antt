@@ -2,7 +2,6 @@ use Rattle.iss_model.specs.declared.limits.TheConstants.{MOST_INPUT}
 use Rattle.std.proofs.Common.{◌≡◌, ◌+◌, ◌-◌, ◌*◌, ◌≤◌, length}
 use Rattle.iss_edge.specs.World.{Told, Later}
 use Rattle.iss_top.specs.Runs.{IsOnItsWay}
-use Rattle.iss_top.specs.Start.{IsAtStart}
 use Rattle.iss_top.proofs.dry.read_lines.Given as goal
 
 abbrev pub invariant-input : goal.invariant-input
@@ -10,7 +9,6 @@ invariant-input g l = record {
   piece : length l.buffer ≡ 65536;
   limit : l.taken ≤ MOST_INPUT;
   room : 5 * l.core.state.count + length l.line ≤ l.taken;
-  start : IsAtStart l.core.state;
   told : Told (IsOnItsWay l.taken l.core.state l.line) (g.E.Edge.told l.initial.edge) (g.E.Edge.told l.edge);
   later : Later (g.E.Edge.faults l.initial.edge) (g.E.Edge.faults l.edge);
 }

@@ -31,7 +31,6 @@ lines-preserved g c =
           );
       later = later_then _ _ _ c.lines.invariant.later c.in_ok-next.ensures.replying.later;
       room = rw (slice_to_end rest (at + 1)) (omega (arith, within, c.lines.invariant.room, c.in_ok-next.ensures.room, length-take at rest, length-drop (at + 1) rest));
-      start = c.in_ok-next.ensures.start;
     }
 
 pub returns-clause-fed : goal.returns-clause-fed

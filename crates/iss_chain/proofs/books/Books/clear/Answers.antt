@@ -13,7 +13,7 @@ use Rattle.iss_chain.proofs.books.Books.clear.Goals as goal
 pub clear-requires-clause-amount : goal.clear-requires-clause-amount
 clear-requires-clause-amount c =
     let chain = chain_of c.args.self.now in
-    let hold = c.in-Some.hold.now in
+    let hold = c.in-Some.hold in
     clear_reaches chain hold.txn (taken_to_clear (parts_of hold) c.args.amount) c.args.amount c.args.at (clearing_end_entries (now_of hold) (parts_of hold) c.args.amount c.args.last) c.requires.kept.small
     (subst (λ (es : List Entry). StaysSmall chain es)
     (sym (made_for chain c.args.txn.now hold (λ now parts. clearing_money_entries now.txn (taken_to_clear parts c.args.amount) c.args.amount c.args.at ++ clearing_end_entries now parts c.args.amount c.args.last) c.in-Some.ensures.txn c.in-Some.ensures.parts))
@@ -21,7 +21,7 @@ clear-requires-clause-amount c =
 
 pub returns-clause-entries : goal.returns-clause-entries
 returns-clause-entries c =
-    let hold = c.in-Some.hold.now in
+    let hold = c.in-Some.hold in
     c.in_ok-end_clearing.ensures
     ∙ ap (λ (es : List Entry). es ++ clearing_end_entries (now_of hold) (parts_of hold) c.args.amount c.args.last) (alone c.in_ok-clear.ensures c.new-entries.ensures.items)
     ∙ made_for (chain_of c.args.self.now) c.args.txn.now hold (λ now parts. clearing_money_entries now.txn (taken_to_clear parts c.args.amount) c.args.amount c.args.at ++ clearing_end_entries now parts c.args.amount c.args.last) c.in-Some.ensures.txn c.in-Some.ensures.parts
@@ -31,4 +31,4 @@ returns-clause-place c =
     c.len-place.ensures ∙ c.clear.new.out.ok.0
     ∙ ap (λ (es : List Entry). length es)
     (alone c.in_ok-clear.ensures c.new-entries.ensures.items
-    ∙ made_for (chain_of c.args.self.now) c.args.txn.now c.in-Some.hold.now (λ now parts. clearing_money_entries now.txn (taken_to_clear parts c.args.amount) c.args.amount c.args.at) c.in-Some.ensures.txn c.in-Some.ensures.parts)
+    ∙ made_for (chain_of c.args.self.now) c.args.txn.now c.in-Some.hold (λ now parts. clearing_money_entries now.txn (taken_to_clear parts c.args.amount) c.args.amount c.args.at) c.in-Some.ensures.txn c.in-Some.ensures.parts)

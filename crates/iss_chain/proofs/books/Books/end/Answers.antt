@@ -7,4 +7,4 @@ use Rattle.iss_chain.proofs.books.Books.end.Goals as goal
 pub returns : goal.returns
 returns c =
     alone c.in_ok-end.ensures c.new-entries.ensures.items
-    ∙ made_for (chain_of c.args.self.now) c.args.txn.now c.in-Some.hold.now (λ now parts. end_money_entries now.txn parts) c.in-Some.ensures.txn c.in-Some.ensures.parts
+    ∙ made_for (chain_of c.args.self.now) c.args.txn.now c.in-Some.hold (λ now parts. end_money_entries now.txn parts) c.in-Some.ensures.txn c.in-Some.ensures.parts

@@ -7,4 +7,4 @@ use Rattle.iss_chain.proofs.books.Books.reverse.Goals as goal
 pub returns : goal.returns
 returns c =
     alone c.in_ok-reverse.ensures c.new-entries.ensures.items
-    ∙ made_for (chain_of c.args.self.now) c.args.txn.now c.in-Some.hold.now (λ now parts. reversal_money_entries now.txn parts c.args.amount) c.in-Some.ensures.txn c.in-Some.ensures.parts
+    ∙ made_for (chain_of c.args.self.now) c.args.txn.now c.in-Some.hold (λ now parts. reversal_money_entries now.txn parts c.args.amount) c.in-Some.ensures.txn c.in-Some.ensures.parts

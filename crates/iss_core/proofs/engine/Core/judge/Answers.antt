@@ -1,33 +1,30 @@
-use Rattle.std.proofs.Common.{ap}
-use Rattle.iss_model.specs.declared.decision.Judged.TheVariants as judged
+use Rattle.std.proofs.Common.{◌≡◌, ℕ, true, ap, subst}
+use Rattle.std.specs.Prelude.{IfOk}
+use Rattle.iss_model.specs.Forms.{is_stamp}
+use Rattle.iss_model.specs.rules.Judging.{judge}
+use Rattle.iss_model.specs.state.Cores.{core_keeper}
 use Rattle.iss_core.specs.States.{state_of}
-use Rattle.iss_core.proofs.OnBook.{judged_on_book}
-use Rattle.iss_core.proofs.Quiet.{gives_next}
-use Rattle.iss_core.proofs.Stepped.{told_so, new_so}
+use Rattle.iss_core.proofs.Judged.{judged_now, all_next, all_formed, all_on_book}
 use Rattle.iss_core.proofs.engine.Core.judge.Goals as goal
 
-pub returns-in-Some-clause-judged : goal.returns-in-Some-clause-judged
-returns-in-Some-clause-judged c =
-    told_so c.args.self.now (state_of c.self.inside.state.value) c.args.input.now c.args.at c.in-Some.answer (ap (λ x. x.state) c.self.view_is) c.requires.quiet (rw c.deref.ensures at c.in-Some.ensures)
+pub returns-clause-judged : goal.returns-clause-judged
+returns-clause-judged c =
+    judged_now c.args.self.now (state_of c.self.inside.state.value) c.judge.result c.args.input.now c.args.at c.max.result (ap (λ x. x.state) c.self.view_is)
+    (rw c.deref-2.ensures at c.max.ensures) (rw c.deref.ensures at c.judge.ensures)
 
-pub returns-in-Some-clause-on_book : goal.returns-in-Some-clause-on_book
-returns-in-Some-clause-on_book c = λ rs stands.
-    judged_on_book c.args.self.now rs c.args.input.now c.args.at (judged.Told c.in-Some.answer) stands
-    (told_so c.args.self.now (state_of c.self.inside.state.value) c.args.input.now c.args.at c.in-Some.answer (ap (λ x. x.state) c.self.view_is) c.requires.quiet (rw c.deref.ensures at c.in-Some.ensures))
+pub returns-clause-next : goal.returns-clause-next
+returns-clause-next c = all_next c.args.self.now c.judge.result c.args.input.now c.args.at
+    (judged_now c.args.self.now (state_of c.self.inside.state.value) c.judge.result c.args.input.now c.args.at c.max.result (ap (λ x. x.state) c.self.view_is)
+    (rw c.deref-2.ensures at c.max.ensures) (rw c.deref.ensures at c.judge.ensures))
 
-pub returns-in_ok-clone-in-None-clause-judged : goal.returns-in_ok-clone-in-None-clause-judged
-returns-in_ok-clone-in-None-clause-judged c =
-    new_so c.args.self.now (state_of c.self.inside.state.value) c.args.input.now c.in_ok-clone-in-None.field-0 c.args.at c.max.result (ap (λ x. x.state) c.self.view_is) c.requires.quiet
-    (rw c.deref.ensures at c.in-None.ensures) c.in_ok-clone-in-None.ensures (rw c.deref-in-None.ensures at c.max.ensures)
+pub returns-clause-in_form : goal.returns-clause-in_form
+returns-clause-in_form c = all_formed c.args.self.now c.judge.result c.args.input.now c.args.at
+    (judged_now c.args.self.now (state_of c.self.inside.state.value) c.judge.result c.args.input.now c.args.at c.max.result (ap (λ x. x.state) c.self.view_is)
+    (rw c.deref-2.ensures at c.max.ensures) (rw c.deref.ensures at c.judge.ensures))
+    c.requires.input_form c.requires.stamp (subst (λ (n : ℕ). is_stamp n ≡ true) (ap (λ x. x.state.now) c.self.view_is) c.self.invariant.forms.now)
 
-pub returns-in_ok-clone-in-None-clause-next : goal.returns-in_ok-clone-in-None-clause-next
-returns-in_ok-clone-in-None-clause-next c =
-    gives_next c.args.self.now c.args.input.now c.args.at (judged.New (record { at = c.max.result; input = c.in_ok-clone-in-None.field-0 })) c.requires.quiet
-    (new_so c.args.self.now (state_of c.self.inside.state.value) c.args.input.now c.in_ok-clone-in-None.field-0 c.args.at c.max.result (ap (λ x. x.state) c.self.view_is) c.requires.quiet
-    (rw c.deref.ensures at c.in-None.ensures) c.in_ok-clone-in-None.ensures (rw c.deref-in-None.ensures at c.max.ensures))
-
-pub returns-in_ok-clone-in-None-clause-on_book : goal.returns-in_ok-clone-in-None-clause-on_book
-returns-in_ok-clone-in-None-clause-on_book c = λ rs stands.
-    judged_on_book c.args.self.now rs c.args.input.now c.args.at (judged.New (record { at = c.max.result; input = c.in_ok-clone-in-None.field-0 })) stands
-    (new_so c.args.self.now (state_of c.self.inside.state.value) c.args.input.now c.in_ok-clone-in-None.field-0 c.args.at c.max.result (ap (λ x. x.state) c.self.view_is) c.requires.quiet
-    (rw c.deref.ensures at c.in-None.ensures) c.in_ok-clone-in-None.ensures (rw c.deref-in-None.ensures at c.max.ensures))
+pub returns-clause-on_book : goal.returns-clause-on_book
+returns-clause-on_book c = λ rs stands.
+    all_on_book c.args.self.now rs c.judge.result c.args.input.now c.args.at
+    (judged_now c.args.self.now (state_of c.self.inside.state.value) c.judge.result c.args.input.now c.args.at c.max.result (ap (λ x. x.state) c.self.view_is)
+    (rw c.deref-2.ensures at c.max.ensures) (rw c.deref.ensures at c.judge.ensures)) stands

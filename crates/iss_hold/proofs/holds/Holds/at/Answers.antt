@@ -1,12 +1,24 @@
-use Rattle.iss_hold.proofs.HoldCalls.{stands_at, parts_at, small_at}
+use Rattle.std.proofs.Common.{sym, ap, ◌∙◌}
+use Rattle.std.specs.Prelude.{Option, slice_get}
+use Rattle.std.specs.Option.{option_map}
+use Rattle.std.proofs.lemmas.Option.{slice_get-map}
+use Rattle.iss_model.specs.state.Cores.{Holdings}
+use Rattle.iss_hold.specs.declared.hold.Hold.{Hold}
+use Rattle.iss_hold.specs.Holdings.{now_of}
+use Rattle.iss_hold.proofs.HoldCalls.{within_holds, parts_at, small_at}
 use Rattle.iss_hold.proofs.holds.Holds.at.Goals as goal
 
+pub at-requires : goal.at-requires
+at-requires c = within_holds c.self.inside.table.holds c.args.place c.self.view_is c.requires
+
+pub returns-clause-txn : goal.returns-clause-txn
+returns-clause-txn c =
+    ap (λ (h : Holdings). slice_get h.txns c.args.place) (sym c.self.view_is)
+    ∙ slice_get-map now_of c.self.inside.table.holds c.args.place
+    ∙ ap (λ (o : Option Hold). option_map now_of o) c.at.ensures
+
 pub returns-clause-parts : goal.returns-clause-parts
-returns-clause-parts c =
-    let hs = c.self.inside.table.holds.items in
-    parts_at hs c.args.place c.index.result.now c.self.view_is c.self.invariant.distinct (stands_at hs c.args.place c.index.result.now c.self.view_is c.requires c.index.ensures)
+returns-clause-parts c = parts_at c.self.inside.table.holds c.args.place c.at.result c.self.view_is c.self.invariant.distinct c.at.ensures
 
 pub returns-clause-small : goal.returns-clause-small
-returns-clause-small c =
-    let hs = c.self.inside.table.holds.items in
-    small_at hs c.args.place c.index.result.now c.self.invariant.summed (stands_at hs c.args.place c.index.result.now c.self.view_is c.requires c.index.ensures)
+returns-clause-small c = small_at c.self.inside.table.holds c.args.place c.at.result c.self.invariant.summed c.at.ensures

@@ -1,28 +1,24 @@
-use Rattle.std.proofs.Common.{rules, ◌≡◌, length, sym, ap, ◌∙◌, arith}
+use Rattle.std.proofs.Common.{rules, ◌≡◌, sym, ap, ◌∙◌}
 use Rattle.std.specs.Prelude.{None}
-use Rattle.std.specs.Vec.{vec_len}
 use Rattle.iss_model.specs.rules.Activity.{txn_named}
 use Rattle.iss_model.specs.state.Cores.{Holdings}
 use Rattle.iss_hold.proofs.Places.{inside, is_at}
 use Rattle.iss_hold.proofs.HoldCalls.{parts_there, whole_small, not_started}
 use Rattle.iss_hold.proofs.holds.Holds.get.Goals as goal
 
-pub index-requires : goal.index-requires
-index-requires c =
-    let below = inside c.args.txn.now c.self.invariant.placed c.in_ok-place.ensures.value in
-    let len : vec_len c.self.inside.table.holds ≡ length c.self.inside.table.holds.items = c.self.inside.table.holds.ok.0 in
-    omega arith
+pub at-requires : goal.at-requires
+at-requires c = inside c.args.txn.now c.self.invariant.placed c.in_ok-place.ensures.value
 
 pub returns-clause-txn : goal.returns-clause-txn
 returns-clause-txn c =
-    let at = is_at c.self.invariant.placed c.in_ok-place.ensures.value c.index.ensures in
+    let at = is_at c.self.invariant.placed c.in_ok-place.ensures.value c.at.ensures in
     sym at.found ∙ ap (λ (h : Holdings). txn_named c.args.txn.now h.txns) c.self.view_is
 
 pub returns-clause-parts : goal.returns-clause-parts
-returns-clause-parts c = parts_there (is_at c.self.invariant.placed c.in_ok-place.ensures.value c.index.ensures) c.self.view_is c.self.invariant.distinct
+returns-clause-parts c = parts_there (is_at c.self.invariant.placed c.in_ok-place.ensures.value c.at.ensures) c.self.view_is c.self.invariant.distinct
 
 pub returns-clause-small : goal.returns-clause-small
-returns-clause-small c = whole_small (is_at c.self.invariant.placed c.in_ok-place.ensures.value c.index.ensures) c.self.invariant.summed
+returns-clause-small c = whole_small (is_at c.self.invariant.placed c.in_ok-place.ensures.value c.at.ensures) c.self.invariant.summed
 
 pub returns-in_err-place-clause-txn : goal.returns-in_err-place-clause-txn
 returns-in_err-place-clause-txn c =

@@ -1,19 +1,24 @@
-use Rattle.std.proofs.Common.{◌≡◌, ℕ, List, map, sym, ap, subst, ◌∙◌}
+use Rattle.std.proofs.Common.{rules, ◌≡◌, ℕ, List, ap, subst, ◌∙◌}
+use Rattle.std.specs.Prelude.{None}
 use Rattle.std.specs.List.{IsDistinct}
 use Rattle.std.specs.Str.{bytes_eq}
-use Rattle.iss_model.specs.rules.Activity.{TxnNow}
-use Rattle.iss_model.specs.state.Cores.{Holdings}
-use Rattle.iss_model.proofs.Lists.{map-map}
-use Rattle.iss_hold.specs.declared.hold.Hold.{Hold}
-use Rattle.iss_hold.specs.Holdings.{now_of, tokens}
-use Rattle.iss_hold.specs.Indexes.{names, place_in}
+use Rattle.iss_hold.specs.Indexes.{place_in}
 use Rattle.iss_hold.proofs.Places.{same_names}
 use Rattle.iss_hold.proofs.holds.Holds.place.Goals as goal
 
 pub returns-clause-place : goal.returns-clause-place
 returns-clause-place c =
-    c.copied.ensures ∙ c.get.ensures.value ∙ c.self.invariant.placed.place c.args.txn.now
-    ∙ ap (λ (ns : List (List ℕ)). place_in c.args.txn.now ns) (same_names c.self.inside.table.holds.items c.self.view_is)
+    c.in_ok-place.ensures.value ∙ c.self.invariant.placed.place c.args.txn.now
+    ∙ ap (λ (ns : List (List ℕ)). place_in c.args.txn.now ns) (same_names c.self.inside.table.holds c.self.view_is)
 
 pub returns-clause-once : goal.returns-clause-once
-returns-clause-once c = subst (λ (ns : List (List ℕ)). IsDistinct bytes_eq ns) (same_names c.self.inside.table.holds.items c.self.view_is) c.self.invariant.distinct
+returns-clause-once c = subst (λ (ns : List (List ℕ)). IsDistinct bytes_eq ns) (same_names c.self.inside.table.holds c.self.view_is) c.self.invariant.distinct
+
+pub returns-in_err-place-clause-place : goal.returns-in_err-place-clause-place
+returns-in_err-place-clause-place c =
+    let failed : c.from_residual.result ≡ None = search rules in
+    failed ∙ c.in_err-place.ensures.value ∙ c.self.invariant.placed.place c.args.txn.now
+    ∙ ap (λ (ns : List (List ℕ)). place_in c.args.txn.now ns) (same_names c.self.inside.table.holds c.self.view_is)
+
+pub returns-in_err-place-clause-once : goal.returns-in_err-place-clause-once
+returns-in_err-place-clause-once c = subst (λ (ns : List (List ℕ)). IsDistinct bytes_eq ns) (same_names c.self.inside.table.holds c.self.view_is) c.self.invariant.distinct

@@ -1,0 +1,114 @@
+-- What is kept where an event is added.
+use Rattle.std.proofs.Common.{◌≡◌, ℕ, true, cond, List, [], ◌∷◌, ◌++◌, length, map, find, Option, Some, None, refl, sym, ap, ap₂, subst, ◌∙◌}
+use Rattle.std.specs.Prelude.{IsSome, option_map, is_some}
+use Rattle.std.specs.BTreeMap.{BTreeMap, get, is_at}
+use Rattle.std.specs.Cmp.Lexicographic.{slice_cmp}
+use Rattle.std.specs.List.{AllByRecursion}
+use Rattle.std.specs.Map.{lookup}
+use Rattle.std.specs.Ordering.{nat_cmp, is_eq}
+use Rattle.std.proofs.lemmas.List.{length-map, map-append}
+use Rattle.iss_model.specs.declared.input.Input.{Input}
+use Rattle.iss_model.specs.Inputs.{event_token, is_event}
+use Rattle.iss_model.specs.texts.Spelling.{spelling, is_record}
+use Rattle.iss_model.specs.rules.Facts.{Accepted}
+use Rattle.iss_index.specs.Places.{IsIndexed}
+use Rattle.iss_index.proofs.Placed.{indexed-push}
+use Rattle.iss_accepted.specs.declared.row.Row.{Row}
+use Rattle.iss_accepted.specs.Values.{EventsNow}
+use Rattle.iss_accepted.specs.Standing.{Standing, name_of, token_or_none, standing_named, AreDecided}
+use Rattle.iss_accepted.specs.Kept.{standing_of, standings_of, events_now, IsSpelledIn, IsKept}
+use Rattle.iss_accepted.proofs.Spans.{standings_stay, all_stay, all_last, record_with, standing_new, new_standing, new_spelled}
+use Rattle.iss_accepted.proofs.Decided.{decisions_last, decided_last}
+use Rattle.iss_accepted.proofs.Found.{event_in, event_found}
+use Rattle.iss_accepted.proofs.Steps.{all_named}
+
+module _ (bytes : List ℕ) (rows : List Row) (places : BTreeMap (List ℕ) ℕ) (decided : List ℕ) (value : EventsNow)
+    (kept : IsKept bytes rows places decided) (view : events_now (standings_of bytes rows) decided ≡ value) where
+  -- ---- bytes are added, and no row
+
+  module _ (all more : List ℕ) (rows_now : List Row) (places_now : BTreeMap (List ℕ) ℕ) (grown : all ≡ bytes ++ more) (same : rows_now ≡ rows) (unchanged : places_now.entries ≡ places.entries) where
+    standings_same : standings_of all rows_now ≡ standings_of bytes rows
+    standings_same = ap₂ (λ (bs : List ℕ) (rs : List Row). standings_of bs rs) grown same ∙ standings_stay bytes more rows kept.spelled
+
+    places_same : (name : List ℕ) → get (slice_cmp nat_cmp) places_now name ≡ get (slice_cmp nat_cmp) places name
+    places_same name = ap (λ (es : List (List ℕ × ℕ)). lookup (is_at (slice_cmp nat_cmp name)) es) unchanged
+
+    pub grown_kept : IsKept all rows_now places_now decided
+    grown_kept =
+        record {
+          spelled =
+              subst (λ (bs : List ℕ). AllByRecursion (IsSpelledIn bs) rows_now) (sym grown)
+              (subst (λ (rs : List Row). AllByRecursion (IsSpelledIn (bytes ++ more)) rs) (sym same) (all_stay bytes more rows kept.spelled));
+          placed =
+              subst (λ (ss : List Standing). IsIndexed places_now (map name_of ss)) (sym standings_same)
+              (record { found = λ name. places_same name ∙ kept.placed.found name; apart = kept.placed.apart });
+          verdicts = subst (λ (ss : List Standing). AreDecided ss decided) (sym standings_same) kept.verdicts;
+        }
+
+    pub grown_view : events_now (standings_of all rows_now) decided ≡ value
+    grown_view = ap (λ (ss : List Standing). events_now ss decided) standings_same ∙ view
+
+  -- ---- an event is added
+
+  module _ (all : List ℕ) (rows_now : List Row) (places_now : BTreeMap (List ℕ) ℕ) (row : Row) (i : Input) (token : List ℕ) (len : ℕ)
+      (added : all ≡ bytes ++ spelling (record_with row i)) (begins : row.start ≡ length bytes) (ends : row.end ≡ length all)
+      (form : is_record (record_with row i) ≡ true) (pending : row.verdict ≡ None)
+      (own : event_token i ≡ Some token) (unknown : find (λ (a : Accepted). is_event token a.input) value.accepted ≡ None)
+      (count : len ≡ length rows)
+      (noted : (q : List ℕ) → get (slice_cmp nat_cmp) places_now q ≡ cond (is_eq (slice_cmp nat_cmp token q)) (Some len) (get (slice_cmp nat_cmp) places q))
+      (pushed : rows_now ≡ rows ++ row ∷ []) where
+    -- the event that is added
+    abbrev pub newest : Standing
+    newest = standing_new row i
+
+    name_is : name_of newest ≡ token
+    name_is = ap token_or_none own
+
+    standings_now : standings_of all rows_now ≡ standings_of bytes rows ++ newest ∷ []
+    standings_now =
+        ap (λ (rs : List Row). standings_of all rs) pushed
+        ∙ map-append (standing_of all) rows (row ∷ [])
+        ∙ ap₂ (λ (ss : List Standing) (s : Standing). ss ++ s ∷ [])
+        (ap (λ (bs : List ℕ). standings_of bs rows) added ∙ standings_stay bytes (spelling (record_with row i)) rows kept.spelled)
+        (new_standing bytes all row i added begins ends form)
+
+    not_named : standing_named (name_of newest) (standings_of bytes rows) ≡ None
+    not_named =
+        ap (λ (n : List ℕ). standing_named n (standings_of bytes rows)) name_is
+        ∙ nothing (standing_named token (standings_of bytes rows))
+        (sym (event_found token (standings_of bytes rows) (all_named bytes rows kept.spelled))
+        ∙ ap (λ (e : EventsNow). find (λ (a : Accepted). is_event token a.input) e.accepted) view
+        ∙ unknown)
+      where
+        nothing : (o : Option Standing) → option_map event_in o ≡ None → o ≡ None
+        nothing None e = refl
+        nothing (Some s) e = cc
+
+    row_named : IsSome (event_token i)
+    row_named = subst (λ (o : Option (List ℕ)). IsSome o) (sym own) refl
+
+    pub added_kept : IsKept all rows_now places_now decided
+    added_kept =
+        record {
+          spelled =
+              subst (λ (rs : List Row). AllByRecursion (IsSpelledIn all) rs) (sym pushed)
+              (all_last (IsSpelledIn all) rows row
+              (subst (λ (bs : List ℕ). AllByRecursion (IsSpelledIn bs) rows) (sym added) (all_stay bytes (spelling (record_with row i)) rows kept.spelled))
+              (new_spelled bytes all row i added begins ends form row_named));
+          placed =
+              indexed-push name_of places places_now (standings_of bytes rows) (standings_of all rows_now) newest token len kept.placed not_named (sym name_is)
+              (count ∙ sym (length-map rows (standing_of bytes))) noted standings_now;
+          verdicts =
+              subst (λ (ss : List Standing). AreDecided ss decided) (sym standings_now)
+              (decided_last (standings_of bytes rows) newest decided kept.verdicts pending);
+        }
+
+    pub added_view : events_now (standings_of all rows_now) decided ≡ record value { accepted = value.accepted ++ (cond (is_some (event_token i)) (record { number = row.number; at = row.at; input = i } ∷ []) []) }
+    added_view =
+        ap (λ (ss : List Standing). events_now ss decided) standings_now
+        ∙ (λ j. record {
+          accepted = map-append (λ (s : Standing). s.event) (standings_of bytes rows) (newest ∷ []) j;
+          decisions = decisions_last (standings_of bytes rows) newest decided kept.verdicts pending j;
+        })
+        ∙ ap (λ (e : EventsNow). record e { accepted = e.accepted ++ record { number = row.number; at = row.at; input = i } ∷ [] }) view
+        ∙ ap (λ (o : Option (List ℕ)). record value { accepted = value.accepted ++ (cond (is_some o) (record { number = row.number; at = row.at; input = i } ∷ []) []) }) (sym own)

@@ -1,0 +1,5 @@
+pub mod Spans
+pub mod Decided
+pub mod Found
+pub mod Steps
+pub mod Added

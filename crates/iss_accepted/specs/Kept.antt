@@ -1,0 +1,66 @@
+-- How the accepted events are kept: rows, and the bytes that spell their records.
+use Rattle.std.specs.Prelude.{◌≡◌, ℕ, ◌≤◌, List, map, length, Option, Some, None, IsTrue, if◌then◌else◌}
+use Rattle.std.specs.BTreeMap.{BTreeMap}
+use Rattle.std.specs.List.{AllByRecursion, slice_range}
+use Rattle.std.specs.Str.{bytes_eq}
+use Rattle.iss_model.specs.declared.decision.Answer.{Answer}
+use Rattle.iss_model.specs.declared.decision.Answer.TheVariants as answer
+use Rattle.iss_model.specs.declared.input.Input.{Input}
+use Rattle.iss_model.specs.declared.input.Input.TheVariants as input
+use Rattle.iss_model.specs.declared.input.Record.{Record}
+use Rattle.iss_model.specs.texts.Spelling.{spelling, is_record}
+use Rattle.iss_model.specs.rules.Facts.{Accepted}
+use Rattle.iss_codec.specs.TakingRecords.{record_spelled}
+use Rattle.iss_index.specs.Places.{IsIndexed}
+use Rattle.iss_accepted.specs.declared.row.Row.{Row}
+use Rattle.iss_accepted.specs.Values.{EventsNow}
+use Rattle.iss_accepted.specs.Standing.{Standing, IsNamed, name_of, decisions_at, reply_told, AreDecided}
+
+-- the bytes of a row's record
+abbrev pub bytes_of : List ℕ → Row → List ℕ
+bytes_of bytes row = slice_range bytes row.start row.end
+
+-- the input of a record that was read
+abbrev pub input_read : Option Record → Input
+input_read None = input.Time
+input_read (Some r) = r.input
+
+-- the event of a row: its bytes are read
+abbrev pub event_of : List ℕ → Row → Accepted
+event_of bytes row = record { number = row.number; at = row.at; input = input_read (record_spelled (bytes_of bytes row)) }
+
+-- the record of an event
+abbrev pub record_of : Accepted → Record
+record_of a = record { at = a.at; input = a.input }
+
+-- the event of a row with its verdict
+abbrev pub standing_of : List ℕ → Row → Standing
+standing_of bytes row = record { event = event_of bytes row; verdict = row.verdict }
+
+-- the events of all rows
+abbrev pub standings_of : List ℕ → List Row → List Standing
+standings_of bytes rows = map (standing_of bytes) rows
+
+-- a row's bytes are the spelling of its event's record
+pub record IsSpelledIn (bytes : List ℕ) (row : Row) : Type 0 where
+  pub begins : row.start ≤ row.end
+  pub within : row.end ≤ length bytes
+  pub spelled : bytes_of bytes row ≡ spelling (record_of (event_of bytes row))
+  pub form : IsTrue (is_record (record_of (event_of bytes row)))
+  pub named : IsNamed (standing_of bytes row)
+
+-- What an input is told by the row of its token: the reply again where the row's bytes spell it, and else the number of the row's record.
+abbrev pub row_answer : List ℕ → Row → List ℕ → Input → Answer
+row_answer bytes row token i =
+    if bytes_eq (bytes_of bytes row) (spelling (record { at = row.at; input = i })) then answer.Repeat token (reply_told row.verdict)
+    else answer.Conflict token row.number
+
+-- what the rows tell
+abbrev pub events_now : List Standing → List ℕ → EventsNow
+events_now ss decided = record { accepted = map (λ s. s.event) ss; decisions = decisions_at ss decided }
+
+-- Each row is spelled in the buffer, each name has its row's place, and the decided rows are known.
+pub record IsKept (bytes : List ℕ) (rows : List Row) (places : BTreeMap (List ℕ) ℕ) (decided : List ℕ) : Type 0 where
+  pub spelled : AllByRecursion (IsSpelledIn bytes) rows
+  pub placed : IsIndexed places (map name_of (standings_of bytes rows))
+  pub verdicts : AreDecided (standings_of bytes rows) decided

@@ -1,0 +1,135 @@
+//! The accepted events.
+ghost use Rattle.std.specs.Prelude.{◌≡◌, [], ◌∷◌, ◌++◌, List, ℕ, Some, None, IsTrue, IsSome, IfOk, OnOk, OnErr, is_some, find, if◌then◌else◌};
+ghost use Rattle.std.specs.Str.{bytes_eq};
+ghost use Rattle.iss_model.specs.Forms.{is_stamp, is_in_form};
+ghost use Rattle.iss_model.specs.Inputs.{event_token, is_event};
+ghost use Rattle.iss_model.specs.rules.Facts.{event_reply};
+ghost use Rattle.iss_accepted.specs.Values.{no_events, events_facts, answer_in};
+
+use crate::row::{Row, push};
+use iss_codec::put_record;
+use iss_model::{Answer, Input, Reply, Token, Verdict};
+use std::alloc::{AllocError, Global};
+use std::collections::BTreeMap;
+use std::marker::Model;
+
+/// Accepted events in the order of their records, each with what it says and its decision. Contracts see the list of the
+/// events, and that of the decisions in the order in which they were made.
+///
+/// Tokens come from outside, so the places of their rows are kept in a tree, where no choice of tokens makes a look-up slow.
+#[derive(Drop)]
+pub struct Events {
+    rows: Vec<Row>,
+    bytes: Vec<u8>,
+    places: BTreeMap<Token, usize>,
+    decided: Vec<usize>,
+    spelled: Vec<u8>,
+}
+
+impl Model for Events {
+    ghost use Rattle.iss_accepted.specs.Values.{EventsNow};
+
+    ghost Value = { EventsNow };
+
+    ghost use Rattle.iss_accepted.specs.Kept.{events_now, standings_of, IsKept};
+
+    ghost view = { λ e. events_now (standings_of e.bytes.items e.rows.items) e.decided.items };
+
+    ghost invariant = { λ e. IsKept e.bytes.items e.rows.items e.places e.decided.items };
+}
+
+impl Events {
+    /// No event. Nothing is allocated.
+    pub fn new(alloc: Global) -> Events
+        ensures { result ≡ no_events }
+    {
+        Events {
+            rows: Vec::new(alloc),
+            bytes: Vec::new(alloc),
+            places: BTreeMap::new(alloc),
+            decided: Vec::new(alloc),
+            spelled: Vec::new(alloc),
+        }
+    }
+
+    /// Whether the event is accepted.
+    pub fn has(&self, event: &Token) -> bool
+        ensures { result ≡ is_some (find (λ a. is_event event.now a.input) self.now.accepted) }
+    {
+        self.places.contains_key(event)
+    }
+
+    /// What is told of an event that is accepted.
+    pub fn reply(&self, event: &Token) -> Option<Reply>
+        ensures { result ≡ event_reply (events_facts self.now) event.now }
+    {
+        match self.places.get(event) {
+            Some(place) => Some(self.rows[*place].reply()),
+            None => None,
+        }
+    }
+
+    /// What an input is told where it is an event that stands: its reply again where it says the same, and else the number
+    /// of its first record.
+    pub fn answer(&self, alloc: Global, input: &Input) -> Result<Option<Answer>, AllocError>
+        requires form { IsTrue (is_in_form input.now) }
+        ensures { IfOk result (λ told. told ≡ answer_in (events_facts self.now) input.now) }
+    {
+        let Some(token) = input.event() else {
+            return Ok(None);
+        };
+        let Some(place) = self.places.get(&token).copied() else {
+            return Ok(None);
+        };
+        let told = self.rows[place].answer(alloc, &self.bytes, &token, input)?;
+        Ok(Some(told))
+    }
+
+    /// Adds the input of a record, where it is an event. Where allocation fails all stays as it was.
+    pub fn add(&mut self, number: u32, at: u64, input: &Input) -> Result<(), AllocError>
+        requires form { IsTrue (is_in_form input.now) }
+        requires stamp { IsTrue (is_stamp at) }
+        requires new { (token : List ℕ) → event_token input.now ≡ Some token → find (λ a. is_event token a.input) self.old.accepted ≡ None }
+        ensures added { OnOk result (self.new ≡ record self.old {
+          accepted = self.old.accepted
+              ++ (if is_some (event_token input.now) then record { number = number; at = at; input = input.now } ∷ [] else []);
+        }) }
+        ensures refused { OnErr result (self.new ≡ self.old) }
+    {
+        let Some(token) = input.event() else {
+            return Ok(());
+        };
+        self.spelled.clear();
+        put_record(&mut self.spelled, at, input)?;
+        self.rows.reserve(1)?;
+        let start = self.bytes.len();
+        self.bytes.extend_from_slice(&self.spelled)?;
+        self.places.insert(token, self.rows.len())?;
+        push(
+            &mut self.rows,
+            &Row {
+                number,
+                at,
+                start,
+                end: self.bytes.len(),
+                verdict: None,
+            },
+        )?;
+        Ok(())
+    }
+
+    /// Notes how an accepted event is decided. Where allocation fails all stays as it was.
+    pub fn decide(&mut self, event: &Token, verdict: Verdict) -> Result<(), AllocError>
+        requires accepted { IsSome (find (λ a. is_event event.now a.input) self.old.accepted) }
+        requires undecided { find (λ d. bytes_eq d.event event.now) self.old.decisions ≡ None }
+        ensures decided { OnOk result (self.new ≡ record self.old { decisions = self.old.decisions ++ record { event = event.now; verdict = verdict } ∷ [] }) }
+        ensures refused { OnErr result (self.new ≡ self.old) }
+    {
+        let Some(place) = self.places.get(event).copied() else {
+            return Ok(());
+        };
+        self.decided.push(place)?;
+        self.rows[place].verdict = Some(verdict);
+        Ok(())
+    }
+}

@@ -1,0 +1,76 @@
+//! The row of an accepted event.
+ghost use Rattle.std.specs.Prelude.{◌≡◌, ◌++◌, ◌∷◌, [], ◌≤◌, IsTrue, IfOk, OnOk, OnErr, length};
+ghost use Rattle.std.specs.List.{list_all};
+ghost use Rattle.std.specs.Str.{bytes_eq};
+ghost use Rattle.std.specs.Vec.{vec_len, vec_capacity};
+ghost use Rattle.iss_model.specs.Tokens.{is_token};
+ghost use Rattle.iss_model.specs.texts.Spelling.{spelling, tokens_of};
+ghost use Rattle.iss_accepted.specs.Standing.{reply_told};
+ghost use Rattle.iss_accepted.specs.Kept.{row_answer};
+
+use iss_codec::put_record;
+use iss_model::{Answer, Input, Reply, Token, Verdict};
+use std::alloc::{AllocError, Global};
+
+/// An accepted event: its record's number and stamp, where its record's bytes begin and end, and its verdict where it is
+/// decided.
+#[derive(Clone, Copy)]
+pub(crate) struct Row {
+    pub(crate) number: u32,
+    pub(crate) at: u64,
+    pub(crate) start: usize,
+    pub(crate) end: usize,
+    pub(crate) verdict: Option<Verdict>,
+}
+
+impl Row {
+    /// The verdict, or that the event's call is open.
+    pub(crate) fn reply(&self) -> Reply
+        ensures { result ≡ reply_told self.now.verdict }
+    {
+        match self.verdict {
+            None => Reply::Pending,
+            Some(verdict) => Reply::Decided(verdict),
+        }
+    }
+
+    /// What an input of this event's token is told, where the row's bytes lie in `bytes`.
+    pub(crate) fn answer(
+        &self,
+        alloc: Global,
+        bytes: &[u8],
+        token: &Token,
+        input: &Input,
+    ) -> Result<Answer, AllocError>
+        requires begins { self.now.start ≤ self.now.end }
+        requires within { self.now.end ≤ length bytes.now }
+        ensures told { IfOk result (λ told. told ≡ row_answer bytes.now self.now token.now input.now) }
+        ensures tokens { OnOk result (IsTrue (list_all is_token (tokens_of input.now))) }
+    {
+        if is_spelling(alloc, &bytes[self.start..self.end], self.at, input)? {
+            Ok(Answer::Repeat(*token, self.reply()))
+        } else {
+            Ok(Answer::Conflict(*token, self.number))
+        }
+    }
+}
+
+/// Whether these bytes are the spelling of the record of that stamp and input.
+fn is_spelling(alloc: Global, bytes: &[u8], at: u64, input: &Input) -> Result<bool, AllocError>
+    ensures same { IfOk result (λ same. same ≡ bytes_eq bytes.now (spelling (record { at = at; input = input.now }))) }
+    ensures tokens { OnOk result (IsTrue (list_all is_token (tokens_of input.now))) }
+{
+    let mut again = Vec::new(alloc);
+    put_record(&mut again, at, input)?;
+    Ok(bytes == again.as_slice())
+}
+
+/// Adds a thing after the others. With room for it, it can't fail.
+pub(crate) fn push<T: Copy + Drop>(things: &mut Vec<T>, thing: &T) -> Result<(), AllocError>
+    ensures pushed { OnOk result (things.new.items ≡ things.old.items ++ thing.now ∷ []) }
+    ensures refused { OnErr result (things.new.items ≡ things.old.items) }
+    ensures full { OnErr result (vec_capacity things.old ≤ vec_len things.old) }
+{
+    things.push(*thing)?;
+    Ok(())
+}

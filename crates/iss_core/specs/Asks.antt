@@ -1,0 +1,34 @@
+-- An ask as the code has it, and why it is declined by what it asks for.
+use Rattle.std.specs.Prelude.{List, [], ◌∷◌, Option}
+use Rattle.iss_model.specs.declared.decision.Reason.{Reason}
+use Rattle.iss_model.specs.declared.decision.Reason.TheVariants as reason
+use Rattle.iss_model.specs.rules.Facts.{Facts}
+use Rattle.iss_model.specs.rules.Asks as rule
+use Rattle.iss_model.specs.rules.Asks.{breach}
+use Rattle.iss_model.specs.rules.Reasons.{first_reason}
+use Rattle.iss_model.specs.rules.CardReasons.{control_breach, lacks_funds}
+use Rattle.iss_velocity.specs.declared.ask.Ask as velocity
+use Rattle.iss_core.specs.declared.asks.Ask.{Ask}
+
+-- an ask as the rules speak of it
+abbrev pub ask_of : Ask → rule.Ask
+ask_of ask = record { event = ask.event; txn = ask.txn; amount = ask.amount; is_first = ask.first; at = ask.at }
+
+-- an ask is declined by the control that it breaches, and else where the user's own balance lacks the funds
+abbrev pub ask_reason : Facts → rule.Ask → Option Reason
+ask_reason f ask = first_reason (control_breach (breach f ask) ∷ (lacks_funds f ask, reason.InsufficientFunds) ∷ [])
+
+-- an ask as velocity controls are asked
+abbrev pub wanted_of : rule.Ask → velocity.Ask
+wanted_of ask =
+    record {
+      txn = ask.txn.token;
+      origin = ask.txn.origin;
+      user = ask.txn.user;
+      product = ask.txn.product;
+      currency = ask.txn.currency;
+      mcc = ask.txn.mcc;
+      mid = ask.txn.mid;
+      amount = ask.amount;
+      first = ask.is_first;
+    }

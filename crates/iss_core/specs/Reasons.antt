@@ -1,0 +1,18 @@
+-- Why a control or a set is declined whose name is new.
+use Rattle.std.specs.Prelude.{ℕ, List, Option, None}
+use Rattle.iss_model.specs.declared.currency.Currency.{Currency}
+use Rattle.iss_model.specs.declared.currency.Currency.TheVariants.{Usd}
+use Rattle.iss_model.specs.declared.setting.Window.TheVariants.{Day}
+use Rattle.iss_model.specs.declared.setting.Association.{Association}
+use Rattle.iss_model.specs.declared.setting.Scope.{Scope}
+use Rattle.iss_model.specs.declared.decision.Reason.{Reason}
+use Rattle.iss_model.specs.rules.Facts.{Facts}
+use Rattle.iss_model.specs.rules.Reasons.{put_control_reason, put_set_reason}
+
+-- a new control's currency and window are never a reason
+abbrev pub new_control_reason : Facts → Association → Scope → Option Reason
+new_control_reason f association scope = put_control_reason None f Usd Day association scope
+
+-- a new set is of a known product, in its currency, and fits in
+abbrev pub new_set_reason : Facts → List ℕ → Currency → Option Reason
+new_set_reason f product currency = put_set_reason None f product currency

@@ -1,0 +1,76 @@
+//! A record that was taken up settles what is due, and then makes its own entries.
+ghost use Rattle.std.specs.Prelude.{◌≡◌, ◌++◌, [], fold, OnOk, IsTrue};
+ghost use Rattle.iss_model.specs.Forms.{is_in_form, is_stamp};
+ghost use Rattle.iss_model.specs.rules.Stepping.{after_due, entries_of};
+ghost use Rattle.iss_model.specs.state.Cores.{core_facts, core_keeper, after_entry};
+ghost use Rattle.iss_core.specs.States.{state_of};
+ghost use Rattle.iss_core.specs.Sound.{IsTakenUp};
+ghost use Rattle.iss_core.specs.Sweeps.{thing_of, settle_thing};
+
+use crate::due::Due;
+use crate::state::State;
+use iss_model::{Entry, Record};
+use std::alloc::{AllocError, Global};
+
+impl State {
+    /// Settles all that is due at the record's stamp, and adds the entries to none.
+    pub(crate) fn settle_due(
+        &mut self,
+        alloc: Global,
+        out: &mut Vec<Entry>,
+        accepted: &Record,
+    ) -> Result<(), AllocError>
+        requires taken_up { IsTakenUp accepted.now.input (state_of self.old) }
+        requires stamp { IsTrue (is_stamp accepted.now.at) }
+        requires empty { out.old.items ≡ [] }
+        ensures settled { OnOk result (record { world = state_of self.new; entries = out.new.items } ≡ after_due core_keeper (state_of self.old) accepted.now.at) }
+        ensures taken_up { OnOk result (IsTakenUp accepted.now.input (state_of self.new)) }
+    {
+        if !self.is_due(accepted.at) {
+            return Ok(());
+        }
+        let due = self.due(alloc, accepted.at)?;
+        for thing in &due {
+            self.settle(alloc, out, thing, accepted)?;
+        }
+        Ok(())
+    }
+
+    /// Settles a due thing, and adds its entries.
+    fn settle(
+        &mut self,
+        alloc: Global,
+        out: &mut Vec<Entry>,
+        thing: &Due,
+        accepted: &Record,
+    ) -> Result<(), AllocError>
+        requires taken_up { IsTakenUp accepted.now.input (state_of self.old) }
+        requires stamp { IsTrue (is_stamp accepted.now.at) }
+        ensures settled { OnOk result (record { world = state_of self.new; entries = out.new.items }
+            ≡ settle_thing accepted.now.at (record { world = state_of self.old; entries = out.old.items }) (thing_of thing.now)) }
+        ensures taken_up { OnOk result (IsTakenUp accepted.now.input (state_of self.new)) }
+    {
+        let start = out.len();
+        self.put_due(alloc, out, thing, accepted.at)?;
+        self.enter_all(alloc, &out[start..])
+    }
+
+    /// Makes the record's own entries, enters them, and adds them.
+    pub(crate) fn make(
+        &mut self,
+        alloc: Global,
+        out: &mut Vec<Entry>,
+        accepted: &Record,
+    ) -> Result<(), AllocError>
+        requires taken_up { IsTakenUp accepted.now.input (state_of self.old) }
+        requires input_form { IsTrue (is_in_form accepted.now.input) }
+        requires stamp { IsTrue (is_stamp accepted.now.at) }
+        ensures entries { OnOk result (out.new.items ≡ out.old.items ++ entries_of accepted.now.input accepted.now.at (core_facts (state_of self.old))) }
+        ensures state { OnOk result (state_of self.new
+            ≡ fold after_entry (state_of self.old) (entries_of accepted.now.input accepted.now.at (core_facts (state_of self.old)))) }
+    {
+        let start = out.len();
+        self.put_own(alloc, out, accepted)?;
+        self.enter_all(alloc, &out[start..])
+    }
+}

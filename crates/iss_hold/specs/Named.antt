@@ -1,0 +1,54 @@
+-- Names that are kept once, and holds with the places of their names.
+use Rattle.std.specs.Prelude.{◌≡◌, ℕ, List, [], ◌∷◌, slice_get, Some, IsSome, unwrap_or}
+use Rattle.std.specs.BTreeMap as tree
+use Rattle.std.specs.BTreeMap.{BTreeMap}
+use Rattle.iss_hold.specs.declared.hold.Hold.{Hold}
+use Rattle.iss_hold.specs.declared.list.Row.{Row}
+use Rattle.iss_hold.specs.Indexes.{by_name}
+
+-- the places in a tree are those of its names
+pub record AreFound (names : List (List ℕ)) (places : BTreeMap (List ℕ) ℕ) : Type 0 where
+  pub found : (name : List ℕ) (place : ℕ) → tree.get by_name places name ≡ Some place → slice_get names place ≡ Some name
+
+-- each name that stood stands at its place
+pub record IsGrown (before after : List (List ℕ)) : Type 0 where
+  pub stands : (place : ℕ) (name : List ℕ) → slice_get before place ≡ Some name → slice_get after place ≡ Some name
+
+-- the name at a place
+abbrev pub name_in : List (List ℕ) → ℕ → List ℕ
+name_in names place = unwrap_or (slice_get names place) []
+
+-- the hold of a row, over these names
+abbrev pub hold_in : List (List ℕ) → Row → Hold
+hold_in names row =
+    record {
+      txn = record {
+        token = row.token;
+        card = name_in names row.card;
+        user = name_in names row.user;
+        product = name_in names row.product;
+        currency = row.currency;
+        funding = row.funding;
+        mcc = row.mcc;
+        mid = name_in names row.mid;
+        origin = row.origin;
+        at = row.at;
+        expires = row.expires;
+      };
+      live = row.live;
+      g = row.g;
+      p = row.p;
+      s = row.s;
+    }
+
+-- each place of a row has its name
+pub record IsNamed (names : List (List ℕ)) (row : Row) : Type 0 where
+  pub card : IsSome (slice_get names row.card)
+  pub user : IsSome (slice_get names row.user)
+  pub product : IsSome (slice_get names row.product)
+  pub mid : IsSome (slice_get names row.mid)
+
+-- and so of each row
+abbrev pub AreNamed : List (List ℕ) → List Row → Type 0
+AreNamed names [] = Unit {0}
+AreNamed names (row ∷ rows) = IsNamed names row × AreNamed names rows

@@ -1,0 +1,175 @@
+//! Holds in a list that keeps each name once.
+ghost use Rattle.std.specs.Prelude.{◌≡◌, ◌<◌, ◌≤◌, [], ◌∷◌, ◌++◌, Some, IfOk, OnOk, OnErr, length, set, take, slice_get};
+ghost use Rattle.std.specs.Option.{option_map};
+ghost use Rattle.iss_hold.specs.Holdings.{begun};
+ghost use Rattle.iss_hold.specs.Named.{hold_in, IsNamed, IsGrown};
+
+use crate::hold::Hold;
+use crate::names::Names;
+use iss_model::{Currency, Funding, Token, Txn};
+use std::alloc::{AllocError, Global};
+use std::marker::Model;
+
+/// A hold, with the places of its transaction's names in place of the names.
+#[derive(Clone, Copy)]
+pub(crate) struct Row {
+    token: Token,
+    card: u32,
+    user: u32,
+    product: u32,
+    mid: u32,
+    currency: Currency,
+    funding: Funding,
+    mcc: u16,
+    origin: u32,
+    at: u64,
+    expires: u64,
+    live: bool,
+    g: u64,
+    p: u64,
+    s: u64,
+}
+
+/// Holds in the order in which their transactions began. Contracts see their list.
+#[derive(Drop)]
+pub(crate) struct HoldList {
+    rows: Vec<Row>,
+    names: Names,
+}
+
+impl Model for HoldList {
+    ghost use Rattle.std.specs.Prelude.{List, map};
+    ghost use Rattle.iss_hold.specs.declared.hold.Hold.{Hold};
+
+    ghost Value = { List Hold };
+
+    ghost use Rattle.iss_hold.specs.Named.{hold_in, AreNamed};
+
+    ghost view = { λ l. map (hold_in l.names) l.rows.items };
+
+    ghost invariant = { λ l. AreNamed l.names l.rows.items };
+}
+
+impl HoldList {
+    /// No hold.
+    pub(crate) fn new(alloc: Global) -> HoldList
+        ensures { result ≡ [] }
+    {
+        HoldList {
+            rows: Vec::new(alloc),
+            names: Names::new(alloc),
+        }
+    }
+
+    pub(crate) fn len(&self) -> usize
+        ensures { result ≡ length self.now }
+    {
+        self.rows.len()
+    }
+
+    /// The hold at a place.
+    pub(crate) fn at(&self, place: usize) -> Hold
+        requires { place < length self.now }
+        ensures { slice_get self.now place ≡ Some result }
+    {
+        hold_of(&self.names, &self.rows[place])
+    }
+
+    /// Adds the hold of a transaction that begins. Where allocation fails all stays as it was.
+    pub(crate) fn add(&mut self, txn: &Txn) -> Result<(), AllocError>
+        ensures added { OnOk result (self.new ≡ self.old ++ begun txn.now ∷ []) }
+        ensures refused { OnErr result (self.new ≡ self.old) }
+    {
+        self.rows.reserve(1)?;
+        let row = row_of(&mut self.names, txn)?;
+        self.rows.push(row)?;
+        Ok(())
+    }
+
+    /// Puts a hold in the place of another of its transaction.
+    pub(crate) fn put(&mut self, place: usize, hold: &Hold)
+        requires { option_map (λ h. h.txn) (slice_get self.old place) ≡ Some hold.now.txn }
+        ensures { self.new ≡ set self.old place hold.now }
+    {
+        let row = self.rows[place];
+        self.rows[place] = row.with_parts(hold);
+    }
+
+    /// Takes the holds from a place on away.
+    pub(crate) fn shorten(&mut self, place: usize)
+        ensures { self.new ≡ take place self.old }
+    {
+        self.rows.truncate(place);
+    }
+}
+
+impl Row {
+    /// The row with what another hold of its transaction holds.
+    fn with_parts(&self, hold: &Hold) -> Row
+        ensures { result ≡ record (self.now) { live = hold.now.live; g = hold.now.g; p = hold.now.p; s = hold.now.s } }
+    {
+        Row {
+            live: hold.live,
+            g: hold.g,
+            p: hold.p,
+            s: hold.s,
+            ..*self
+        }
+    }
+}
+
+/// The hold of a row.
+fn hold_of(names: &Names, row: &Row) -> Hold
+    requires { IsNamed names.now row.now }
+    ensures { result ≡ hold_in names.now row.now }
+{
+    let txn = Txn {
+        token: row.token,
+        card: names.at(row.card),
+        user: names.at(row.user),
+        product: names.at(row.product),
+        currency: row.currency,
+        funding: row.funding,
+        mcc: row.mcc,
+        mid: names.at(row.mid),
+        origin: row.origin,
+        at: row.at,
+        expires: row.expires,
+    };
+    Hold {
+        txn,
+        live: row.live,
+        g: row.g,
+        p: row.p,
+        s: row.s,
+    }
+}
+
+/// The row of a transaction that begins. Names that have no place are added.
+fn row_of(names: &mut Names, txn: &Txn) -> Result<Row, AllocError>
+    ensures grown { IsGrown names.old names.new }
+    ensures named { IfOk result (λ row. IsNamed names.new row) }
+    ensures begun { IfOk result (λ row. hold_in names.new row ≡ begun txn.now) }
+{
+    let card = names.place_of(&txn.card)?;
+    let user = names.place_of(&txn.user)?;
+    let product = names.place_of(&txn.product)?;
+    let mid = names.place_of(&txn.mid)?;
+    Ok(Row {
+        token: txn.token,
+        card,
+        user,
+        product,
+        mid,
+        currency: txn.currency,
+        funding: txn.funding,
+        mcc: txn.mcc,
+        origin: txn.origin,
+        at: txn.at,
+        expires: txn.expires,
+        live: true,
+        g: 0,
+        p: 0,
+        s: 0,
+    })
+}

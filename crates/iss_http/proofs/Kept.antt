@@ -1,0 +1,211 @@
+-- What comes behind the longest message changes nothing, so it needn't be kept.
+use Rattle.std.proofs.Common.{◌≡◌, refl, sym, ap, subst, Vec, Global, ◌∙◌, ℕ, ◌+◌, ◌≤◌, ◌<◌, Bool, true, false, List, ◌++◌, length, take, drop, Option, Some, None, append_assoc, arith, inl, inr}
+use Rattle.std.specs.Prelude.{◌-◌, not, ◌||◌, nat_lt, nat_le, if◌then◌else◌, bytes_eq, codes, Result, Ok, Err, IfOk, IfErr, IfNone, option_map}
+use Rattle.std.proofs.lemmas.Bool.{false≢true, cases_lt, ltb-false, leb-false, le-leb}
+use Rattle.std.proofs.lemmas.List.{length-append, length-take, length-drop, take-take, drop-take, take-append-drop, take_all}
+use Rattle.httparse.specs.Grammar.{print_request}
+use Rattle.iss_http.specs.declared.lengths.ContentLength.{ContentLength}
+use Rattle.iss_http.specs.declared.lengths.ContentLength.TheVariants.{Absent, Bad, Good}
+use Rattle.iss_http.specs.declared.faults.HttpFault.{HttpFault}
+use Rattle.iss_http.specs.declared.faults.HttpFault.TheVariants.{Head, HeadLong, Method, Path, Coding, NoLength, BodyLong}
+use Rattle.iss_http.specs.declared.faults.FeedFault.{FeedFault}
+use Rattle.iss_http.specs.declared.faults.FeedFault.TheVariants.{Http, OutOfMemory}
+use Rattle.iss_http.specs.Heads.{RequestHead, request_head}
+use Rattle.iss_http.specs.Lengths.{has, content_length}
+use Rattle.iss_http.specs.Requests as asks
+use Rattle.iss_http.specs.Requests.{Request, more, body, faulty, request, answered, told, IsHopelessRequest, HasFault, IsCause}
+use Rattle.iss_http.proofs.Sections.{is_there}
+use Rattle.iss_http.proofs.RequestHeads.{head_read}
+use Rattle.iss_http.proofs.RequestsBack.{head_back}
+
+-- a size that is at most k stays within the first k
+pub within_cut : (n k : ℕ) (xs : List ℕ) → n ≤ k → nat_le n (length (take k xs)) ≡ nat_le n (length xs)
+within_cut n k xs small =
+    elim (cases_lt (length xs) n) [
+      | inl less ↦ ap (λ (ys : List ℕ). nat_le n (length ys)) (take_all k xs (omega (arith, small, less)))
+      | inr fits ↦ le-leb n (length (take k xs)) (omega (arith, length-take k xs, small, fits)) ∙ sym (le-leb n (length xs) fits)
+    ]
+
+body_cut : (n k : ℕ) (rest : List ℕ) → 16384 ≤ k → asks.body_within (take k rest) n ≡ asks.body_within rest n
+body_cut n k rest room = by n k rest room (nat_lt 16384 n) refl
+  where
+    by : (n k : ℕ) (rest : List ℕ) → 16384 ≤ k → (t : Bool) → nat_lt 16384 n ≡ t
+        → (if t then faulty BodyLong else if nat_le n (length (take k rest)) then body (take n (take k rest)) else more)
+        ≡ (if t then faulty BodyLong else if nat_le n (length rest) then body (take n rest) else more)
+    by n k rest room true is = refl
+    by n k rest room false is =
+        let small : n ≤ k = omega (arith, ltb-false 16384 n is, room) in
+        ap (λ (t : Bool). if t then body (take n (take k rest)) else more) (within_cut n k rest small)
+        ∙ ap (λ (xs : List ℕ). if nat_le n (length rest) then body xs else more) (take-take n k rest small)
+
+sized_cut : (size : ContentLength) (k : ℕ) (rest : List ℕ) → 16384 ≤ k → asks.sized_body (take k rest) size ≡ asks.sized_body rest size
+sized_cut Absent k rest room = refl
+sized_cut Bad k rest room = refl
+sized_cut (Good n) k rest room = body_cut n k rest room
+
+headed_cut : (bytes : List ℕ) (h : RequestHead) → h.size ≤ 8192 → asks.headed (take 24576 bytes) h ≡ asks.headed bytes h
+unfolding asks.headed
+headed_cut bytes h small =
+    let k = 24576 - h.size in
+    let total : 24576 ≡ h.size + k = omega (arith, small) in
+    let rest : drop h.size (take 24576 bytes) ≡ take k (drop h.size bytes) = ap (λ (n : ℕ). drop h.size (take n bytes)) total ∙ drop-take h.size k bytes in
+    let same = ap (λ (xs : List ℕ). asks.sized_body xs (content_length h.headers)) rest ∙ sized_cut (content_length h.headers) k (drop h.size bytes) (omega (arith, small)) in
+    ap (asks.headed_with h) same
+
+-- a head is no longer than the bytes that it is read from
+pub small_head : (buf : List ℕ) (h : RequestHead) → request_head buf ≡ Some h → h.size ≤ length buf
+small_head buf h is =
+    let k = head_back buf (ap is_there is) in
+    let same = sym (head_read buf k.head k.rest k.reads k.few) ∙ is in
+    let size : length (print_request k.head) ≡ h.size = ap size_of same in
+    let all : length buf ≡ length (print_request k.head ++ k.rest) = ap length k.reads.1 in
+    omega (arith, all, length-append (print_request k.head) k.rest, size)
+  where
+    size_of : Option RequestHead → ℕ
+    size_of None = 0
+    size_of (Some h) = h.size
+
+pub request_cut : (bytes : List ℕ) → request (take 24576 bytes) ≡ request bytes
+unfolding request
+request_cut bytes =
+    ap (λ (front : List ℕ). asks.read_by (take 24576 bytes) (request_head front)) (take-take 8192 24576 bytes (omega arith))
+    ∙ by bytes (request_head (take 8192 bytes)) refl
+  where
+    by : (bytes : List ℕ) (o : Option RequestHead) → request_head (take 8192 bytes) ≡ o → asks.read_by (take 24576 bytes) o ≡ asks.read_by bytes o
+    by bytes None is = ap (λ (t : Bool). if t then faulty HeadLong else more) (within_cut 8192 24576 bytes (omega arith))
+    by bytes (Some h) is = headed_cut bytes h (omega (arith, small_head (take 8192 bytes) h is, length-take 8192 bytes))
+
+pub hopeless_cut : (n : ℕ) (bytes : List ℕ) → IsHopelessRequest (take n bytes) → IsHopelessRequest bytes
+unfolding IsHopelessRequest
+hopeless_cut n bytes none = λ rest.
+    ap (λ (xs : List ℕ). request_head (xs ++ rest)) (sym (take-append-drop n bytes))
+    ∙ ap request_head (append_assoc (take n bytes) (drop n bytes) rest)
+    ∙ none (drop n bytes ++ rest)
+
+-- a request that waits for more is shorter than the longest
+abbrev is_more : Request → Bool
+is_more more = true
+is_more (body text) = false
+is_more (faulty f) = false
+
+body_short : (n : ℕ) (rest : List ℕ) → is_more (asks.body_within rest n) ≡ true → length rest < 16384
+body_short n rest e = by (nat_lt 16384 n) refl (nat_le n (length rest)) refl e
+  where
+    by : (s : Bool) → nat_lt 16384 n ≡ s → (t : Bool) → nat_le n (length rest) ≡ t
+        → is_more (if s then faulty BodyLong else if t then body (take n rest) else more) ≡ true → length rest < 16384
+    by true es t et e = absurd (false≢true e)
+    by false es true et e = absurd (false≢true e)
+    by false es false et e = omega (arith, ltb-false 16384 n es, leb-false n (length rest) et)
+
+sized_short : (size : ContentLength) (rest : List ℕ) → is_more (asks.sized_body rest size) ≡ true → length rest < 16384
+sized_short Absent rest e = absurd (false≢true e)
+sized_short Bad rest e = absurd (false≢true e)
+sized_short (Good n) rest e = body_short n rest e
+
+with_more : (h : RequestHead) (sized : Request) → is_more (asks.headed_with h sized) ≡ true → is_more sized ≡ true
+with_more h sized e =
+    by (not (bytes_eq h.method (codes "POST"))) (not (bytes_eq h.target (codes "/events")))
+    (has (codes "transfer-encoding") h.headers || has (codes "content-encoding") h.headers) sized e
+  where
+    by : (a b c : Bool) (sized : Request) → is_more (if a then faulty Method else if b then faulty Path else if c then faulty Coding else sized) ≡ true → is_more sized ≡ true
+    by true b c sized e = absurd (false≢true e)
+    by false true c sized e = absurd (false≢true e)
+    by false false true sized e = absurd (false≢true e)
+    by false false false sized e = e
+
+head_short : (bytes : List ℕ) (h : RequestHead) → is_more (asks.headed bytes h) ≡ true → length (drop h.size bytes) < 16384
+unfolding asks.headed
+head_short bytes h e =
+    sized_short (content_length h.headers) (drop h.size bytes) (with_more h (asks.sized_body (drop h.size bytes) (content_length h.headers)) e)
+
+pub more_short : (bytes : List ℕ) → request bytes ≡ more → take 24576 bytes ≡ bytes
+unfolding request
+more_short bytes e = take_all 24576 bytes (by (request_head (take 8192 bytes)) refl (ap is_more e))
+  where
+    early : (t : Bool) → nat_le 8192 (length bytes) ≡ t → is_more (if t then faulty HeadLong else more) ≡ true → length bytes ≤ 24576
+    early true et e = absurd (false≢true e)
+    early false et e = omega (arith, leb-false 8192 (length bytes) et)
+
+    by : (o : Option RequestHead) → request_head (take 8192 bytes) ≡ o → is_more (asks.read_by bytes o) ≡ true → length bytes ≤ 24576
+    by None is e = early (nat_le 8192 (length bytes)) refl e
+    by (Some h) is e =
+        omega (arith, head_short bytes h e, length-drop h.size bytes, small_head (take 8192 bytes) h is, length-take 8192 bytes)
+
+-- what waits for more when only the longest is looked at is looked at whole
+pub more_whole : (bytes : List ℕ) → request (take 24576 bytes) ≡ more → take 24576 bytes ≡ bytes
+more_whole bytes e = more_short bytes (sym (request_cut bytes) ∙ e)
+
+-- a whole head has no bad head for its fault
+abbrev is_head : Request → Bool
+is_head (faulty Head) = true
+is_head (faulty f) = false
+is_head (body text) = false
+is_head more = false
+
+never_head : (bytes : List ℕ) (h : RequestHead) → is_head (asks.headed bytes h) ≡ false
+unfolding asks.headed
+never_head bytes h =
+    by (not (bytes_eq h.method (codes "POST"))) (not (bytes_eq h.target (codes "/events")))
+    (has (codes "transfer-encoding") h.headers || has (codes "content-encoding") h.headers)
+    (asks.sized_body (drop h.size bytes) (content_length h.headers)) (sized (content_length h.headers) (drop h.size bytes))
+  where
+    within : (s t : Bool) (text : List ℕ) → is_head (if s then faulty BodyLong else if t then body text else more) ≡ false
+    within true t text = refl
+    within false true text = refl
+    within false false text = refl
+
+    sized : (l : ContentLength) (rest : List ℕ) → is_head (asks.sized_body rest l) ≡ false
+    sized Absent rest = refl
+    sized Bad rest = refl
+    sized (Good n) rest = within (nat_lt 16384 n) (nat_le n (length rest)) (take n rest)
+
+    by : (a b c : Bool) (r : Request) → is_head r ≡ false → is_head (if a then faulty Method else if b then faulty Path else if c then faulty Coding else r) ≡ false
+    by true b c r e = refl
+    by false true c r e = refl
+    by false false true r e = refl
+    by false false false r e = e
+
+pub whole_request : (bytes : List ℕ) (h : RequestHead) → request_head (take 8192 bytes) ≡ Some h → request bytes ≡ asks.headed bytes h
+unfolding request
+whole_request bytes h e = ap (asks.read_by bytes) e
+
+pub whole_fault : {A : Type 0} (text : A → List ℕ) (bytes : List ℕ) (h : RequestHead) (r : Result (Option A) HttpFault)
+    → request_head (take 8192 bytes) ≡ Some h → told text r ≡ asks.headed bytes h → IfErr r (HasFault bytes)
+whole_fault text bytes h (Ok said) is e = tt
+whole_fault text bytes h (Err Head) is e = absurd (false≢true (sym (never_head bytes h) ∙ ap is_head (sym e)))
+whole_fault text bytes h (Err HeadLong) is e = whole_request bytes h is ∙ sym e
+whole_fault text bytes h (Err Method) is e = whole_request bytes h is ∙ sym e
+whole_fault text bytes h (Err Path) is e = whole_request bytes h is ∙ sym e
+whole_fault text bytes h (Err Coding) is e = whole_request bytes h is ∙ sym e
+whole_fault text bytes h (Err NoLength) is e = whole_request bytes h is ∙ sym e
+whole_fault text bytes h (Err BodyLong) is e = whole_request bytes h is ∙ sym e
+
+-- a fault of what is kept is one of all that came
+pub cause_kept : (bytes : List ℕ) (f : FeedFault) → IsCause (take 24576 bytes) f → IsCause bytes f
+cause_kept bytes OutOfMemory e = tt
+cause_kept bytes (Http Head) e = hopeless_cut 24576 bytes e
+cause_kept bytes (Http HeadLong) e = sym (request_cut bytes) ∙ e
+cause_kept bytes (Http Method) e = sym (request_cut bytes) ∙ e
+cause_kept bytes (Http Path) e = sym (request_cut bytes) ∙ e
+cause_kept bytes (Http Coding) e = sym (request_cut bytes) ∙ e
+cause_kept bytes (Http NoLength) e = sym (request_cut bytes) ∙ e
+cause_kept bytes (Http BodyLong) e = sym (request_cut bytes) ∙ e
+
+-- what is read of the bytes that are kept is what is read of all that came
+pub body_fed : {E : Type 0} (seen bytes joined : List ℕ) (r : Result (Option (Vec ℕ Global)) E) → seen ≡ bytes → bytes ≡ take 24576 joined
+    → IfOk r (λ said. request seen ≡ answered (option_map (λ text. text.items) said))
+    → IfOk r (λ said. request joined ≡ answered (option_map (λ text. text.items) said))
+body_fed seen bytes joined (Ok said) same kept e = sym (ap request (same ∙ kept) ∙ request_cut joined) ∙ e
+body_fed seen bytes joined (Err f) same kept e = tt
+
+pub cause_fed : {A : Type 0} (seen bytes joined : List ℕ) (r : Result A FeedFault) → seen ≡ bytes → bytes ≡ take 24576 joined
+    → IfErr r (IsCause seen) → IfErr r (IsCause joined)
+cause_fed seen bytes joined (Ok said) same kept e = tt
+cause_fed seen bytes joined (Err f) same kept e = cause_kept joined f (subst (λ (xs : List ℕ). IsCause xs f) (same ∙ kept) e)
+
+pub more_kept : {E : Type 0} (seen bytes joined : List ℕ) (r : Result (Option (Vec ℕ Global)) E) → seen ≡ bytes → bytes ≡ take 24576 joined
+    → IfOk r (λ said. request seen ≡ answered (option_map (λ text. text.items) said))
+    → IfOk r (λ said. IfNone said (bytes ≡ joined))
+more_kept seen bytes joined (Ok None) same kept e = kept ∙ more_whole joined (sym (ap request (same ∙ kept)) ∙ e)
+more_kept seen bytes joined (Ok (Some text)) same kept e = tt
+more_kept seen bytes joined (Err f) same kept e = tt

@@ -1,0 +1,72 @@
+-- A client's request, of the bytes that came so far.
+use Rattle.std.specs.Prelude.{◌≡◌, ℕ, not, ◌||◌, nat_lt, nat_le, List, ◌++◌, length, take, drop, codes, Option, Some, None, option_map, Result, Ok, Err, if◌then◌else◌, bytes_eq, ⊤}
+use Rattle.iss_http.specs.declared.faults.HttpFault.{HttpFault}
+use Rattle.iss_http.specs.declared.faults.HttpFault.TheVariants.{Head, HeadLong, Method, Path, Coding, NoLength, BodyLong}
+use Rattle.iss_http.specs.declared.faults.FeedFault.{FeedFault}
+use Rattle.iss_http.specs.declared.faults.FeedFault.TheVariants.{Http, OutOfMemory}
+use Rattle.iss_http.specs.declared.lengths.ContentLength.{ContentLength}
+use Rattle.iss_http.specs.declared.lengths.ContentLength.TheVariants.{Absent, Bad, Good}
+use Rattle.iss_http.specs.Heads.{RequestHead, request_head}
+use Rattle.iss_http.specs.Lengths.{has, content_length}
+
+-- what the bytes are: not yet a request, one with this body, or one that isn't taken
+pub data Request : Type 0 where
+  more : Request
+  body : List ℕ → Request
+  faulty : HttpFault → Request
+
+-- a body of this length, once it came
+abbrev pub body_within : List ℕ → ℕ → Request
+body_within rest size =
+    if nat_lt 16384 size then faulty BodyLong else if nat_le size (length rest) then body (take size rest) else more
+
+-- by the length of the body, where there is a good one
+abbrev pub sized_body : List ℕ → ContentLength → Request
+sized_body rest Absent = faulty NoLength
+sized_body rest Bad = faulty NoLength
+sized_body rest (Good size) = body_within rest size
+
+-- a POST on the one path, with no coding, is what its body is
+abbrev pub headed_with : RequestHead → Request → Request
+headed_with h sized =
+    if not (bytes_eq h.method (codes "POST")) then faulty Method
+    else if not (bytes_eq h.target (codes "/events")) then faulty Path
+    else if has (codes "transfer-encoding") h.headers || has (codes "content-encoding") h.headers then faulty Coding
+    else sized
+
+-- a request whose head came whole
+unfoldable pub headed : List ℕ → RequestHead → Request
+headed bytes h = headed_with h (sized_body (drop h.size bytes) (content_length h.headers))
+
+-- by the head, if there is one in the first 8192 bytes
+abbrev pub read_by : List ℕ → Option RequestHead → Request
+read_by bytes None = if nat_le 8192 (length bytes) then faulty HeadLong else more
+read_by bytes (Some h) = headed bytes h
+
+-- what the bytes are, where a bad head is told as late as may be
+unfoldable pub request : List ℕ → Request
+request bytes = read_by bytes (request_head (take 8192 bytes))
+
+-- whatever comes behind them, the bytes begin with no head
+unfoldable pub IsHopelessRequest : List ℕ → Type 0
+IsHopelessRequest bytes = (rest : List ℕ) → request_head (bytes ++ rest) ≡ None
+
+-- what a reader answers where nothing is wrong: no body yet, or this one
+abbrev pub answered : Option (List ℕ) → Request
+answered None = more
+answered (Some text) = body text
+
+-- what an answer says that the bytes are
+abbrev pub told : {A : Type 0} → (A → List ℕ) → Result (Option A) HttpFault → Request
+told text (Ok said) = answered (option_map text said)
+told text (Err f) = faulty f
+
+-- the bytes have this fault; a bad head is told only where no bytes behind them mend it
+abbrev pub HasFault : List ℕ → HttpFault → Type 0
+HasFault bytes Head = IsHopelessRequest bytes
+HasFault bytes f = request bytes ≡ faulty f
+
+-- the bytes have the fault that is told
+abbrev pub IsCause : List ℕ → FeedFault → Type 0
+IsCause bytes (Http f) = HasFault bytes f
+IsCause bytes OutOfMemory = ⊤

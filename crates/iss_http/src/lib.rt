@@ -1,0 +1,27 @@
+//! HTTP/1.1 messages (RFC 9110, RFC 9112): a client's request and the gateway's answer, read in any pieces, and the texts
+//! of responses and of requests to the gateway.
+//!
+//! It may cite `httparse` and `http`.
+//! It must not cite channels, JSON or the model: it knows no events and sends nothing.
+#![tactic(auto)]
+
+mod answers;
+mod faults;
+mod heads;
+mod laws;
+mod lengths;
+mod limits;
+mod messages;
+mod pieces;
+mod requests;
+mod worked;
+
+pub use answers::{Answer, AnswerReader};
+pub use faults::{FeedFault, HttpFault};
+pub use laws::{a_bad_head_begins_nothing, what_is_whole_stays};
+pub use messages::{ask, respond};
+pub use requests::Reader;
+pub use worked::{worked_answers, worked_faults, worked_hopeless, worked_requests, worked_texts};
+
+#[cfg(test)]
+mod tests;

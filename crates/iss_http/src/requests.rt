@@ -1,0 +1,145 @@
+//! A client's request, read in any pieces.
+ghost use Rattle.std.specs.Prelude.{◌≡◌, ◌≤◌, ◌++◌, [], length, option_map, IfOk, IfErr, IfNone};
+ghost use Rattle.iss_http.specs.Requests.{request, answered, told, headed, sized_body, HasFault, IsCause};
+ghost use Rattle.iss_http.specs.Spans.{request_from};
+
+use crate::faults::{FeedFault, HttpFault};
+use crate::heads::{Found, behind, find_request, front, has_header, no_headers, part};
+use crate::lengths::{ContentLength, content_length};
+use crate::limits::{MOST_BODY, MOST_HEAD, MOST_REQUEST};
+use crate::pieces::keep;
+use http::Method;
+use httparse::spans::{HeaderSpan, RequestSpans};
+use std::alloc::{AllocError, Global};
+use std::marker::Model;
+
+/// The one path.
+const PATH: &str = "/events";
+
+/// Reads one request, whose bytes come in any pieces. A contract sees the bytes that came so far.
+#[derive(Drop)]
+pub struct Reader {
+    bytes: Vec<u8>,
+}
+
+impl Model for Reader {
+    ghost use Rattle.std.specs.Prelude.{List, ℕ, length, ◌≤◌};
+
+    ghost Value = { List ℕ };
+
+    ghost view = { λ r. r.bytes.items };
+
+    ghost invariant = { λ r. length r.bytes.items ≤ 24576 };
+}
+
+impl Reader {
+    /// A reader to which no bytes came.
+    pub fn new(alloc: Global) -> Result<Reader, AllocError>
+        ensures { IfOk result (λ reader. reader ≡ []) }
+    {
+        Ok(Reader {
+            bytes: Vec::with_capacity(alloc, 1024)?,
+        })
+    }
+
+    /// Takes the next bytes, and gives the body once the request is whole; what comes behind it is passed over.
+    ///
+    /// `None` where the bytes that came aren't yet a request. A fault is the first that they have, in the order of
+    /// `HttpFault`; `Head` comes in place of `None` or `HeadLong`, and only where no bytes behind them make a head. However
+    /// much comes, at most 24576 bytes are kept. After another answer than `None` the reader isn't fed again.
+    pub fn feed(&mut self, alloc: Global, piece: &[u8]) -> Result<Option<Vec<u8>>, FeedFault>
+        ensures body { IfOk result
+            (λ said. request (self.old ++ piece.now) ≡ answered (option_map (λ text. text.items) said)) }
+        ensures fault { IfErr result (IsCause (self.old ++ piece.now)) }
+        ensures kept { IfOk result (λ said. IfNone said (self.new ≡ self.old ++ piece.now)) }
+        ensures bounded { length self.new ≤ 24576 }
+    {
+        feed_bytes(&mut self.bytes, alloc, piece)
+    }
+}
+
+/// Keeps a piece, and reads what is kept.
+fn feed_bytes(
+    bytes: &mut Vec<u8>,
+    alloc: Global,
+    piece: &[u8],
+) -> Result<Option<Vec<u8>>, FeedFault>
+    requires { length bytes.old.items ≤ 24576 }
+    ensures body { IfOk result
+        (λ said. request (bytes.old.items ++ piece.now) ≡ answered (option_map (λ text. text.items) said)) }
+    ensures fault { IfErr result (IsCause (bytes.old.items ++ piece.now)) }
+    ensures kept { IfOk result (λ said. IfNone said (bytes.new.items ≡ bytes.old.items ++ piece.now)) }
+    ensures bounded { length bytes.new.items ≤ 24576 }
+{
+    let Ok(()) = keep(bytes, piece, MOST_REQUEST) else {
+        return Err(FeedFault::OutOfMemory);
+    };
+    body_in(alloc, bytes)
+}
+
+/// The body of the request that the bytes are, if they are a whole one.
+fn body_in(alloc: Global, bytes: &[u8]) -> Result<Option<Vec<u8>>, FeedFault>
+    ensures body { IfOk result
+        (λ said. request bytes.now ≡ answered (option_map (λ text. text.items) said)) }
+    ensures fault { IfErr result (IsCause bytes.now) }
+{
+    match body_of(bytes) {
+        Ok(Some(body)) => match body.to_vec(alloc) {
+            Ok(body) => Ok(Some(body)),
+            Err(_) => Err(FeedFault::OutOfMemory),
+        },
+        Ok(None) => Ok(None),
+        Err(fault) => Err(FeedFault::Http(fault)),
+    }
+}
+
+/// Where the body of the request lies, if the bytes are a whole one.
+#[tactic(auto, unfolding(crate::specs::Requests::request))]
+fn body_of(bytes: &[u8]) -> Result<Option<&[u8]>, HttpFault>
+    ensures body { IfOk result (λ said. request bytes.now ≡ answered (option_map (λ text. text.now) said)) }
+    ensures fault { IfErr result (HasFault bytes.now) }
+{
+    let mut headers = no_headers();
+    let start = front(bytes);
+    match find_request(start, &mut headers) {
+        Found::Whole(head) => body_behind(bytes, start, head, &headers[..head.headers]),
+        Found::Part if bytes.len() >= MOST_HEAD => Err(HttpFault::HeadLong),
+        Found::Part => Ok(None),
+        Found::Hopeless => Err(HttpFault::Head),
+    }
+}
+
+/// What the bytes are by their head, whose parts lie in `start`.
+#[tactic(auto, unfolding(crate::specs::Requests::headed))]
+fn body_behind<'b>(
+    bytes: &'b [u8],
+    start: &[u8],
+    head: RequestSpans,
+    headers: &[HeaderSpan],
+) -> Result<Option<&'b [u8]>, HttpFault>
+    ensures { told (λ text. text.now) result ≡ headed bytes.now (request_from start.now headers.now head) }
+{
+    if part(start, head.method) != Method::POST.as_str().as_bytes() {
+        return Err(HttpFault::Method);
+    }
+    if part(start, head.path) != PATH.as_bytes() {
+        return Err(HttpFault::Path);
+    }
+    if has_header(start, headers, "transfer-encoding")
+        || has_header(start, headers, "content-encoding")
+    {
+        return Err(HttpFault::Coding);
+    }
+    sized_body(behind(bytes, head.len), content_length(start, headers))
+}
+
+/// What the bytes behind the head are, by the length of the body.
+fn sized_body(rest: &[u8], length: ContentLength) -> Result<Option<&[u8]>, HttpFault>
+    ensures { told (λ text. text.now) result ≡ sized_body rest.now length }
+{
+    match length {
+        ContentLength::Good(size) if size > MOST_BODY => Err(HttpFault::BodyLong),
+        ContentLength::Good(size) => Ok(rest.get(..size as usize)),
+        _ => Err(HttpFault::NoLength),
+    }
+}

@@ -1,0 +1,19 @@
+-- How many calls and notices records can have made.
+use Rattle.std.specs.Prelude.{ℕ, ◌+◌, ◌*◌, ◌≤◌, length, filter}
+use Rattle.iss_model.specs.rules.Activity.{is_asked}
+use Rattle.iss_model.specs.state.Cores.{CoreState}
+
+-- the notices that were made, and those that may still be without a further record: two for each asked call and one for each live transaction
+abbrev pub notices_in_sight : CoreState → ℕ
+notices_in_sight s = s.outbox.made + 2 * length (filter is_asked s.calls) + length (filter (λ t. t.live) s.holdings.txns)
+
+-- So many records can have made so few calls and notices: each opens one call at most, and brings three notices in sight at most,
+-- as an authorisation does with its call and its transaction.
+pub record HasFewNumbers (records : ℕ) (s : CoreState) : Type 0 where
+  pub calls : length s.calls ≤ records
+  pub notices : notices_in_sight s ≤ 3 * records
+
+-- a later state has no fewer calls, and made no fewer notices
+pub record HasNoFewer (s later : CoreState) : Type 0 where
+  pub calls : length s.calls ≤ length later.calls
+  pub notices : s.outbox.made ≤ later.outbox.made

@@ -1,0 +1,34 @@
+-- The texts of a line, kept in one row of bytes with the places where they end.
+use Rattle.std.specs.Prelude.{◌≡◌, ℕ, ◌+◌, ◌-◌, ◌≤◌, List, [], ◌∷◌, ◌++◌, length, take, drop}
+use Rattle.std.specs.List.{concat}
+use Rattle.iss_top.specs.declared.texts.Texts.{Texts}
+
+-- where texts end that follow one another from this place on
+abbrev pub ends_of : ℕ → List (List ℕ) → List ℕ
+ends_of start [] = []
+ends_of start (text ∷ texts) = (start + length text) ∷ ends_of (start + length text) texts
+
+-- these texts came behind those that were there
+pub record Gains (texts : List (List ℕ)) (before after : Texts) : Type 0 where
+  pub bytes : after.bytes.items ≡ before.bytes.items ++ concat texts
+  pub ends : after.ends.items ≡ before.ends.items ++ ends_of (length before.bytes.items) texts
+
+-- there is no text
+pub record HasNone (t : Texts) : Type 0 where
+  pub bytes : t.bytes.items ≡ []
+  pub ends : t.ends.items ≡ []
+
+-- there are these texts alone
+pub record HasAll (texts : List (List ℕ)) (t : Texts) : Type 0 where
+  pub bytes : t.bytes.items ≡ concat texts
+  pub ends : t.ends.items ≡ ends_of 0 texts
+
+-- the texts that end at these places, the first of which begins here
+abbrev pub cut_at : ℕ → List ℕ → List ℕ → List (List ℕ)
+cut_at start bytes [] = []
+cut_at start bytes (end ∷ ends) = take (end - start) (drop start bytes) ∷ cut_at end bytes ends
+
+-- each of these places is at or behind the one before it, and within so many bytes
+abbrev pub AreEnds : ℕ → ℕ → List ℕ → Type 0
+AreEnds start size [] = Unit {0}
+AreEnds start size (end ∷ ends) = (start ≤ end) × ((end ≤ size) × AreEnds end size ends)
