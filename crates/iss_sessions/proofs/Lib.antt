@@ -1,2 +1,1 @@
 pub mod Hopeless
-pub mod ClientLines

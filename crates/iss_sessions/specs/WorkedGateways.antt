@@ -7,7 +7,7 @@ use Rattle.iss_serving.specs.Items.{judges}
 use Rattle.iss_serving.specs.Sessions.{session_of}
 use Rattle.iss_serving.specs.Happenings.{session_after}
 use Rattle.iss_sessions.specs.Program.{program_readers}
-use Rattle.iss_sessions.specs.Telling.{WorkedSession, comes, is_ready, time, idle, over, gives, ends, dial_fails, goes_out, asks, sent_to_gateway, purchase, response, request, void, bare_answer, closes}
+use Rattle.iss_sessions.specs.Telling.{WorkedSession, comes, is_ready, time, idle, over, gives, ends, dial_fails, goes_out, asks, sent_to_gateway, purchase, response, request, void, bare_answer, closes, take_fails}
 
 -- a device with instance 7 that holds a product of the gateway, a user and a card
 abbrev pub gateway_device : Run
@@ -168,7 +168,7 @@ abbrev pub notice_refused : WorkedSession
 notice_refused =
     record {
       start = session_of (session_after program_readers unreachable_gateway.start unreachable_gateway.happenings).run 1000;
-      happenings = sent_to_gateway 1000001 (is_ready 1000001 ∷ gives 1000001 (bare_answer "500 Internal Server Error") ∷ over ∷ []);
+      happenings = sent_to_gateway 1000001 (is_ready 1000001 ∷ gives 1000001 (bare_answer "202 Accepted") ∷ over ∷ []);
       done = void 1000001 (closes 1000001 []);
       levels = 5 ∷ [];
       records = 5;
@@ -201,5 +201,40 @@ garbled_answer =
           (response 1 "200 OK" "65" "{\"event\":\"a1\",\"reason\":\"GATEWAY_APPLICATION\",\"reply\":\"declined\"}"
           (closes 1000002 []))));
       levels = 4 ∷ 5 ∷ 5 ∷ [];
+      records = 5;
+    }
+
+-- The connection ends amid an answer. That is a failure of the connection, as if there were none.
+abbrev pub answer_cut_short : WorkedSession
+answer_cut_short =
+    record {
+      start = session_of gateway_device 1000;
+      happenings =
+          asks 1 (purchase "a1" "60.00") (judges ∷ sent_to_gateway 1000001
+          (is_ready 1000001 ∷ gives 1000001 (codes "HTTP/1.1 200 OK\r\n")
+          ∷ is_ready 1000001 ∷ ends 1000001
+          ∷ judges ∷ sent_to_gateway 1000002 (goes_out 1 ∷ over ∷ [])));
+      done =
+          request 1000001 "1" "a1" "60.00"
+          (closes 1000001
+          (void 1000002
+          (response 1 "200 OK" "64" "{\"event\":\"a1\",\"reason\":\"GATEWAY_CONNECTION\",\"reply\":\"declined\"}"
+          (closes 1000002 []))));
+      levels = 4 ∷ 5 ∷ 5 ∷ [];
+      records = 5;
+    }
+
+-- a client whose connection fails while its event waits: the event is decided, and nobody is told
+abbrev pub waiting_client_fails : WorkedSession
+waiting_client_fails =
+    record {
+      start = session_of gateway_device 1000;
+      happenings =
+          asks 1 (purchase "a1" "60.00") (judges ∷ sent_to_gateway 1000001
+          (is_ready 1 ∷ take_fails 1
+          ∷ is_ready 1000001 ∷ gives 1000001 (bare_answer "402 Payment Required")
+          ∷ judges ∷ over ∷ []));
+      done = request 1000001 "1" "a1" "60.00" (closes 1 (closes 1000001 []));
+      levels = 4 ∷ [];
       records = 5;
     }

@@ -4,8 +4,6 @@
 //! It must not cite any body of the program.
 #![tactic(auto)]
 
-mod reading;
 mod worked;
 
-pub use reading::clients_send_events;
 pub use worked::{sessions_with_clients, sessions_with_the_gateway};
