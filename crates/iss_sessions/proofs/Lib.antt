@@ -1,1 +1,2 @@
 pub mod Hopeless
+pub mod ClientLines

@@ -4,6 +4,8 @@
 //! It must not cite any body of the program.
 #![tactic(auto)]
 
+mod reading;
 mod worked;
 
+pub use reading::clients_send_events;
 pub use worked::{sessions_with_clients, sessions_with_the_gateway};
