@@ -3,4 +3,5 @@ pub mod GivenMoney
 pub mod LeastLine
 pub mod Lines
 pub mod LinesInForm
+pub mod ClientLines
 pub mod ReportTexts

@@ -1,0 +1,14 @@
+pub mod Items
+pub mod Desks
+pub mod Links
+pub mod Sessions
+pub mod Judgements
+pub mod Hearings
+pub mod Happenings
+pub mod Levels
+pub mod Openings
+pub mod Sendings
+pub mod Serving
+pub mod Accounts
+pub mod Accepted
+pub mod Turns

@@ -1,0 +1,16 @@
+//! What a server says to whom, after whatever it heard, as definitions with their laws.
+//!
+//! It may cite `iss_edge`, `iss_model`, `iss_http` and the laws of book and state.
+//! It must not cite any body of the program, nor how JSON is read.
+#![tactic(auto)]
+
+mod accounts;
+mod channels;
+mod laws;
+
+pub use accounts::accounts_stay_local;
+pub use channels::channels_are_closed;
+pub use laws::{
+    heard_decides_happenings, levels_never_fall, parts_follow, sessions_are_good_stretches,
+    sessions_judge_lines, texts_are_sent, waits_are_turns,
+};

@@ -1,0 +1,2 @@
+pub mod Hopeless
+pub mod ClientLines
