@@ -1,5 +1,6 @@
 //! Worked sessions: the checker computes what each of them sends and closes, at which levels, and how many records then stand.
 ghost use Rattle.std.specs.Prelude.{◌≡◌};
+ghost use Rattle.iss_model.specs.declared.limits.TheConstants.{LAST_STAMP};
 ghost use Rattle.iss_serving.specs.Happenings.{session_after};
 ghost use Rattle.iss_sessions.specs.Program.{program_readers};
 ghost use Rattle.iss_sessions.specs.Telling.{Goes};
@@ -36,5 +37,5 @@ pub fn sessions_with_the_gateway()
     ensures garbled_answer { Goes garbled_answer }
     ensures answer_cut_short { Goes answer_cut_short }
     ensures waiting_client_fails { Goes waiting_client_fails }
-    ensures last_stamp { (session_after program_readers too_late.start too_late.happenings).clock ≡ 253370764799999 }
+    ensures last_stamp { (session_after program_readers too_late.start too_late.happenings).clock ≡ LAST_STAMP }
 {}
