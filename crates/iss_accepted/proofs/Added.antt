@@ -1,18 +1,13 @@
 -- What is kept where an event is added.
 use Rattle.std.proofs.Common.{◌≡◌, ℕ, true, cond, List, [], ◌∷◌, ◌++◌, length, map, find, Option, Some, None, refl, sym, ap, ap₂, subst, ◌∙◌}
 use Rattle.std.specs.Prelude.{IsSome, option_map, is_some}
-use Rattle.std.specs.BTreeMap.{BTreeMap, get, is_at}
-use Rattle.std.specs.Cmp.Lexicographic.{slice_cmp}
 use Rattle.std.specs.List.{AllByRecursion}
-use Rattle.std.specs.Map.{lookup}
-use Rattle.std.specs.Ordering.{nat_cmp, is_eq}
-use Rattle.std.proofs.lemmas.List.{length-map, map-append}
+use Rattle.std.proofs.lemmas.List.{map-append}
 use Rattle.iss_model.specs.declared.input.Input.{Input}
 use Rattle.iss_model.specs.Inputs.{event_token, is_event}
 use Rattle.iss_model.specs.texts.Spelling.{spelling, is_record}
 use Rattle.iss_model.specs.rules.Facts.{Accepted}
-use Rattle.iss_index.specs.Places.{IsIndexed}
-use Rattle.iss_index.proofs.Placed.{indexed-push}
+use Rattle.iss_index.proofs.Placed.{names-last}
 use Rattle.iss_accepted.specs.declared.row.Row.{Row}
 use Rattle.iss_accepted.specs.Values.{EventsNow}
 use Rattle.iss_accepted.specs.Standing.{Standing, name_of, token_or_none, standing_named, AreDecided}
@@ -22,26 +17,21 @@ use Rattle.iss_accepted.proofs.Decided.{decisions_last, decided_last}
 use Rattle.iss_accepted.proofs.Found.{event_in, event_found}
 use Rattle.iss_accepted.proofs.Steps.{all_named}
 
-module _ (bytes : List ℕ) (rows : List Row) (places : BTreeMap (List ℕ) ℕ) (decided : List ℕ) (value : EventsNow)
-    (kept : IsKept bytes rows places decided) (view : events_now (standings_of bytes rows) decided ≡ value) where
+module _ (bytes : List ℕ) (rows : List Row) (names : List (List ℕ)) (decided : List ℕ) (value : EventsNow)
+    (kept : IsKept bytes rows names decided) (view : events_now (standings_of bytes rows) decided ≡ value) where
   -- ---- bytes are added, and no row
 
-  module _ (all more : List ℕ) (rows_now : List Row) (places_now : BTreeMap (List ℕ) ℕ) (grown : all ≡ bytes ++ more) (same : rows_now ≡ rows) (unchanged : places_now.entries ≡ places.entries) where
+  module _ (all more : List ℕ) (rows_now : List Row) (names_now : List (List ℕ)) (grown : all ≡ bytes ++ more) (same : rows_now ≡ rows) (unchanged : names_now ≡ names) where
     standings_same : standings_of all rows_now ≡ standings_of bytes rows
     standings_same = ap₂ (λ (bs : List ℕ) (rs : List Row). standings_of bs rs) grown same ∙ standings_stay bytes more rows kept.spelled
 
-    places_same : (name : List ℕ) → get (slice_cmp nat_cmp) places_now name ≡ get (slice_cmp nat_cmp) places name
-    places_same name = ap (λ (es : List (List ℕ × ℕ)). lookup (is_at (slice_cmp nat_cmp name)) es) unchanged
-
-    pub grown_kept : IsKept all rows_now places_now decided
+    pub grown_kept : IsKept all rows_now names_now decided
     grown_kept =
         record {
           spelled =
               subst (λ (bs : List ℕ). AllByRecursion (IsSpelledIn bs) rows_now) (sym grown)
               (subst (λ (rs : List Row). AllByRecursion (IsSpelledIn (bytes ++ more)) rs) (sym same) (all_stay bytes more rows kept.spelled));
-          placed =
-              subst (λ (ss : List Standing). IsIndexed places_now (map name_of ss)) (sym standings_same)
-              (record { found = λ name. places_same name ∙ kept.placed.found name; apart = kept.placed.apart });
+          placed = unchanged ∙ kept.placed ∙ ap (λ (ss : List Standing). map name_of ss) (sym standings_same);
           verdicts = subst (λ (ss : List Standing). AreDecided ss decided) (sym standings_same) kept.verdicts;
         }
 
@@ -50,12 +40,11 @@ module _ (bytes : List ℕ) (rows : List Row) (places : BTreeMap (List ℕ) ℕ)
 
   -- ---- an event is added
 
-  module _ (all : List ℕ) (rows_now : List Row) (places_now : BTreeMap (List ℕ) ℕ) (row : Row) (i : Input) (token : List ℕ) (len : ℕ)
+  module _ (all : List ℕ) (rows_now : List Row) (names_now : List (List ℕ)) (row : Row) (i : Input) (token : List ℕ)
       (added : all ≡ bytes ++ spelling (record_with row i)) (begins : row.start ≡ length bytes) (ends : row.end ≡ length all)
       (form : is_record (record_with row i) ≡ true) (pending : row.verdict ≡ None)
       (own : event_token i ≡ Some token) (unknown : find (λ (a : Accepted). is_event token a.input) value.accepted ≡ None)
-      (count : len ≡ length rows)
-      (noted : (q : List ℕ) → get (slice_cmp nat_cmp) places_now q ≡ cond (is_eq (slice_cmp nat_cmp token q)) (Some len) (get (slice_cmp nat_cmp) places q))
+      (noted : names_now ≡ names ++ token ∷ [])
       (pushed : rows_now ≡ rows ++ row ∷ []) where
     -- the event that is added
     abbrev pub newest : Standing
@@ -87,7 +76,7 @@ module _ (bytes : List ℕ) (rows : List Row) (places : BTreeMap (List ℕ) ℕ)
     row_named : IsSome (event_token i)
     row_named = subst (λ (o : Option (List ℕ)). IsSome o) (sym own) refl
 
-    pub added_kept : IsKept all rows_now places_now decided
+    pub added_kept : IsKept all rows_now names_now decided
     added_kept =
         record {
           spelled =
@@ -96,8 +85,9 @@ module _ (bytes : List ℕ) (rows : List Row) (places : BTreeMap (List ℕ) ℕ)
               (subst (λ (bs : List ℕ). AllByRecursion (IsSpelledIn bs) rows) (sym added) (all_stay bytes (spelling (record_with row i)) rows kept.spelled))
               (new_spelled bytes all row i added begins ends form row_named));
           placed =
-              indexed-push name_of places places_now (standings_of bytes rows) (standings_of all rows_now) newest token len kept.placed not_named (sym name_is)
-              (count ∙ sym (length-map rows (standing_of bytes))) noted standings_now;
+              noted
+              ∙ ap₂ (λ (ns : List (List ℕ)) (n : List ℕ). ns ++ n ∷ []) kept.placed (sym name_is)
+              ∙ sym (ap (λ (ss : List Standing). map name_of ss) standings_now ∙ names-last name_of (standings_of bytes rows) newest);
           verdicts =
               subst (λ (ss : List Standing). AreDecided ss decided) (sym standings_now)
               (decided_last (standings_of bytes rows) newest decided kept.verdicts pending);

@@ -3,4 +3,3 @@ pub mod Decided
 pub mod Found
 pub mod Steps
 pub mod Added
-pub mod Newest

@@ -1,11 +1,8 @@
 -- What each call finds and leaves, by what is kept.
 use Rattle.std.proofs.Common.{◌≡◌, ℕ, zero, suc, ◌<◌, Bool, true, false, cond, List, [], ◌∷◌, ◌++◌, ◌&&◌, length, map, find, Option, Some, None, slice_get, get_or, set, refl, sym, ap, ap₂, subst, ◌∙◌, arith}
 use Rattle.std.specs.Prelude.{IsSome, option_map, is_some}
-use Rattle.std.specs.BTreeMap.{BTreeMap, get}
-use Rattle.std.specs.Cmp.Lexicographic.{slice_cmp}
 use Rattle.std.specs.List.{AllByRecursion, list_all}
 use Rattle.std.specs.Option.{option_and_then}
-use Rattle.std.specs.Ordering.{nat_cmp}
 use Rattle.std.specs.Str.{bytes_eq}
 use Rattle.std.proofs.lemmas.List.{get_or-map, get_or-set_same, length-map}
 use Rattle.std.proofs.lemmas.Option.{slice_get-get_or, same_Some}
@@ -26,8 +23,8 @@ use Rattle.iss_model.proofs.Names.{one_name, name-sym}
 use Rattle.iss_codec.specs.TakingRecords.{record_spelled}
 use Rattle.iss_codec.proofs.TakenRecords.{spelled_again}
 use Rattle.iss_codec.proofs.EqualInputs.{same_exactly}
-use Rattle.iss_index.specs.Places.{place_of, IsIndexed}
-use Rattle.iss_index.proofs.Placed.{found-within, found-named, none-named, found-indexed, indexed_none}
+use Rattle.iss_index.specs.Places.{place_of}
+use Rattle.iss_index.proofs.Placed.{found-within, found-named, none-named, found-names}
 use Rattle.iss_accepted.specs.declared.row.Row.{Row}
 use Rattle.iss_accepted.specs.Values.{EventsNow, events_facts, answer_in, token_answer}
 use Rattle.iss_accepted.specs.Standing.{Standing, IsNamed, name_of, standing_named, decision_made, decisions_at, decision_named, reply_told, AreDecided}
@@ -104,19 +101,19 @@ placed_found name (s ∷ ss) =
 
 -- ---- at the start
 
-pub kept_none : (bytes : List ℕ) (rows : List Row) (places : BTreeMap (List ℕ) ℕ) (decided : List ℕ) → rows ≡ [] → places.entries ≡ [] → decided ≡ []
-    → IsKept bytes rows places decided
-kept_none bytes rows places decided none empty undecided =
+pub kept_none : (bytes : List ℕ) (rows : List Row) (names : List (List ℕ)) (decided : List ℕ) → rows ≡ [] → names ≡ [] → decided ≡ []
+    → IsKept bytes rows names decided
+kept_none bytes rows names decided none empty undecided =
     record {
       spelled = subst (λ (rs : List Row). AllByRecursion (IsSpelledIn bytes) rs) (sym none) tt;
-      placed = indexed_none places (map name_of (standings_of bytes rows)) empty (ap (λ (rs : List Row). map name_of (standings_of bytes rs)) none);
+      placed = empty ∙ sym (ap (λ (rs : List Row). map name_of (standings_of bytes rs)) none);
       verdicts = nothing_decided (standings_of bytes rows) decided (ap (λ (rs : List Row). standings_of bytes rs) none) undecided;
     }
 
 -- ---- a look-up
 
-module _ (bytes : List ℕ) (rows : List Row) (places : BTreeMap (List ℕ) ℕ) (decided : List ℕ) (value : EventsNow) (token : List ℕ)
-    (kept : IsKept bytes rows places decided) (view : events_now (standings_of bytes rows) decided ≡ value) where
+module _ (bytes : List ℕ) (rows : List Row) (names : List (List ℕ)) (decided : List ℕ) (value : EventsNow) (token : List ℕ)
+    (kept : IsKept bytes rows names decided) (view : events_now (standings_of bytes rows) decided ≡ value) where
   -- what stands
   abbrev pub standing : List Standing
   standing = standings_of bytes rows
@@ -124,10 +121,10 @@ module _ (bytes : List ℕ) (rows : List Row) (places : BTreeMap (List ℕ) ℕ)
   named : AllByRecursion IsNamed standing
   named = all_named bytes rows kept.spelled
 
-  pub has_found : (found : Bool) → found ≡ is_some (get (slice_cmp nat_cmp) places token) → found ≡ is_some (find (λ (a : Accepted). is_event token a.input) value.accepted)
+  pub has_found : (found : Bool) → found ≡ is_some (place_of token names) → found ≡ is_some (find (λ (a : Accepted). is_event token a.input) value.accepted)
   has_found found is =
       is
-      ∙ ap (λ (o : Option ℕ). is_some o) (kept.placed.found token)
+      ∙ ap (λ (o : Option ℕ). is_some o) (ap (place_of token) kept.placed)
       ∙ placed_found token standing
       ∙ sym (mapped (standing_named token standing))
       ∙ ap (λ (o : Option Accepted). is_some o) (sym (event_found token standing named))
@@ -139,34 +136,43 @@ module _ (bytes : List ℕ) (rows : List Row) (places : BTreeMap (List ℕ) ℕ)
 
   -- ---- of a token that has no place
 
-  nothing_named : None ≡ get (slice_cmp nat_cmp) places token → standing_named token standing ≡ None
-  nothing_named is = sym (none-named name_of places standing token token kept.placed refl is)
+  pub new_unplaced : find (λ (a : Accepted). is_event token a.input) value.accepted ≡ None → place_of token names ≡ None
+  new_unplaced unknown =
+      nothing (place_of token names)
+      (has_found (is_some (place_of token names)) refl ∙ ap (λ (o : Option Accepted). is_some o) unknown)
+    where
+      nothing : (o : Option ℕ) → is_some o ≡ false → o ≡ None
+      nothing None e = refl
+      nothing (Some i) e = cc
 
-  pub none_replied : None ≡ get (slice_cmp nat_cmp) places token → None ≡ event_reply (events_facts value) token
+  nothing_named : None ≡ place_of token names → standing_named token standing ≡ None
+  nothing_named is = sym (none-named name_of standing token (is ∙ ap (place_of token) kept.placed))
+
+  pub none_replied : None ≡ place_of token names → None ≡ event_reply (events_facts value) token
   none_replied is =
       ap (option_map (λ (s : Standing). reply_told s.verdict)) (sym (nothing_named is))
       ∙ sym (reply_found standing decided token named kept.verdicts)
       ∙ ap (λ (e : EventsNow). event_reply (events_facts e) token) view
 
-  pub none_answered : (i : Input) → event_token i ≡ Some token → None ≡ get (slice_cmp nat_cmp) places token → None ≡ answer_in (events_facts value) i
+  pub none_answered : (i : Input) → event_token i ≡ Some token → None ≡ place_of token names → None ≡ answer_in (events_facts value) i
   none_answered i own is =
       ap (standing_answer i token) (sym (nothing_named is))
       ∙ sym (answer_found standing decided token named kept.verdicts i)
       ∙ ap (token_answer (events_facts (events_now standing decided)) i) (sym own)
       ∙ ap (λ (e : EventsNow). answer_in (events_facts e) i) view
 
-  pub none_accepted : None ≡ get (slice_cmp nat_cmp) places token → IsSome (find (λ (a : Accepted). is_event token a.input) value.accepted) → ⊥
+  pub none_accepted : None ≡ place_of token names → IsSome (find (λ (a : Accepted). is_event token a.input) value.accepted) → ⊥
   none_accepted is accepted =
       let none : false ≡ is_some (find (λ (a : Accepted). is_event token a.input) value.accepted) = has_found false (ap (λ (o : Option ℕ). is_some o) is) in
       cc
 
   -- ---- of a token that has a place
 
-  pub placed_within : (place : ℕ) → Some place ≡ get (slice_cmp nat_cmp) places token → place < length rows
+  pub placed_within : (place : ℕ) → Some place ≡ place_of token names → place < length rows
   placed_within place is =
-      subst (λ (n : ℕ). place < n) (length-map rows (standing_of bytes)) (found-within name_of places standing token token kept.placed refl place is)
+      subst (λ (n : ℕ). place < n) (length-map rows (standing_of bytes)) (found-within name_of standing token place (is ∙ ap (place_of token) kept.placed))
 
-  module _ (place : ℕ) (row : Row) (is : Some place ≡ get (slice_cmp nat_cmp) places token) (own : row ≡ get_or rows place row) where
+  module _ (place : ℕ) (row : Row) (is : Some place ≡ place_of token names) (own : row ≡ get_or rows place row) where
     within : place < length rows
     within = placed_within place is
 
@@ -174,7 +180,7 @@ module _ (bytes : List ℕ) (rows : List Row) (places : BTreeMap (List ℕ) ℕ)
     standing_at = ap (standing_of bytes) own ∙ sym (get_or-map (standing_of bytes) rows place row (standing_of bytes row) within)
 
     pub found_standing : Some (standing_of bytes row) ≡ standing_named token standing
-    found_standing = found-named name_of places standing token token kept.placed refl place (standing_of bytes row) is standing_at
+    found_standing = found-named name_of standing token place (standing_of bytes row) (is ∙ ap (place_of token) kept.placed) standing_at
 
     pub row_spelled : IsSpelledIn bytes row
     row_spelled = subst (IsSpelledIn bytes) (sym own) (all_at (IsSpelledIn bytes) rows place row kept.spelled within)
@@ -231,7 +237,7 @@ module _ (bytes : List ℕ) (rows : List Row) (places : BTreeMap (List ℕ) ℕ)
       name_is = found_own token standing before (sym found_standing)
 
       below : place < length standing
-      below = found-within name_of places standing token token kept.placed refl place is
+      below = found-within name_of standing token place (is ∙ ap (place_of token) kept.placed)
 
       here : slice_get standing place ≡ Some before
       here = slice_get-get_or standing place before below ∙ ap (λ (s : Standing). Some s) (sym standing_at)
@@ -254,13 +260,13 @@ module _ (bytes : List ℕ) (rows : List Row) (places : BTreeMap (List ℕ) ℕ)
       found_before : standing_named (name_of before) standing ≡ Some before
       found_before = ap (λ (n : List ℕ). standing_named n standing) name_is ∙ sym found_standing
 
-      placed_after : IsIndexed places (map name_of standing_after)
-      placed_after = found-indexed name_of places standing token token kept.placed refl place (with_verdict before verdict) is name_is
+      placed_after : names ≡ map name_of standing_after
+      placed_after = kept.placed ∙ found-names name_of standing token place (with_verdict before verdict) (is ∙ ap (place_of token) kept.placed) name_is
 
       found_after : standing_named (name_of before) standing_after ≡ Some (with_verdict before verdict)
       found_after =
           ap (λ (n : List ℕ). standing_named n standing_after) name_is
-          ∙ sym (found-named name_of places standing_after token token placed_after refl place (with_verdict before verdict) is
+          ∙ sym (found-named name_of standing_after token place (with_verdict before verdict) (is ∙ ap (place_of token) placed_after)
           (sym (get_or-set_same standing place (with_verdict before verdict) (with_verdict before verdict) below)))
 
       rows_after : (rs : List Row) (p : ℕ) → standings_of bytes (set rs p row_decided) ≡ set (standings_of bytes rs) p (with_verdict before verdict)
@@ -291,11 +297,11 @@ module _ (bytes : List ℕ) (rows : List Row) (places : BTreeMap (List ℕ) ℕ)
         standings_now : standings_of bytes rows_now ≡ standing_after
         standings_now = ap (λ (rs : List Row). standings_of bytes rs) set_so ∙ rows_after rows place
 
-        pub decided_kept : IsKept bytes rows_now places decided_now
+        pub decided_kept : IsKept bytes rows_now names decided_now
         decided_kept =
             record {
               spelled = subst (λ (rs : List Row). AllByRecursion (IsSpelledIn bytes) rs) (sym set_so) (spelled_after rows place kept.spelled);
-              placed = subst (λ (ss : List Standing). IsIndexed places (map name_of ss)) (sym standings_now) placed_after;
+              placed = placed_after ∙ ap (λ (ss : List Standing). map name_of ss) (sym standings_now);
               verdicts =
                   subst (λ (ss : List Standing). AreDecided ss decided_now) (sym standings_now)
                   (subst (λ (ps : List ℕ). AreDecided standing_after ps) (sym pushed)

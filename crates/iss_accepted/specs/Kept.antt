@@ -1,6 +1,5 @@
 -- How the accepted events are kept: rows, and the bytes that spell their records.
 use Rattle.std.specs.Prelude.{◌≡◌, ℕ, ◌≤◌, List, map, length, Option, Some, None, IsTrue, if◌then◌else◌}
-use Rattle.std.specs.BTreeMap.{BTreeMap}
 use Rattle.std.specs.List.{AllByRecursion, slice_range}
 use Rattle.std.specs.Str.{bytes_eq}
 use Rattle.iss_model.specs.declared.decision.Answer.{Answer}
@@ -11,7 +10,6 @@ use Rattle.iss_model.specs.declared.input.Record.{Record}
 use Rattle.iss_model.specs.texts.Spelling.{spelling, is_record}
 use Rattle.iss_model.specs.rules.Facts.{Accepted}
 use Rattle.iss_codec.specs.TakingRecords.{record_spelled}
-use Rattle.iss_index.specs.Places.{IsIndexed}
 use Rattle.iss_accepted.specs.declared.row.Row.{Row}
 use Rattle.iss_accepted.specs.Values.{EventsNow}
 use Rattle.iss_accepted.specs.Standing.{Standing, IsNamed, name_of, decisions_at, reply_told, AreDecided}
@@ -59,8 +57,8 @@ row_answer bytes row token i =
 abbrev pub events_now : List Standing → List ℕ → EventsNow
 events_now ss decided = record { accepted = map (λ s. s.event) ss; decisions = decisions_at ss decided }
 
--- Each row is spelled in the buffer, each name has its row's place, and the decided rows are known.
-pub record IsKept (bytes : List ℕ) (rows : List Row) (places : BTreeMap (List ℕ) ℕ) (decided : List ℕ) : Type 0 where
+-- Each row is spelled in the buffer, the names are those of the rows, and the decided rows are known.
+pub record IsKept (bytes : List ℕ) (rows : List Row) (names : List (List ℕ)) (decided : List ℕ) : Type 0 where
   pub spelled : AllByRecursion (IsSpelledIn bytes) rows
-  pub placed : IsIndexed places (map name_of (standings_of bytes rows))
+  pub placed : names ≡ map name_of (standings_of bytes rows)
   pub verdicts : AreDecided (standings_of bytes rows) decided

@@ -1,4 +1,3 @@
-pub mod Newest
 pub mod Values
 pub mod Standing
 pub mod Kept

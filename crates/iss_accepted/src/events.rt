@@ -4,28 +4,24 @@ ghost use Rattle.std.specs.Str.{bytes_eq};
 ghost use Rattle.iss_model.specs.Forms.{is_stamp, is_in_form};
 ghost use Rattle.iss_model.specs.Inputs.{event_token, is_event};
 ghost use Rattle.iss_model.specs.rules.Facts.{event_reply};
-ghost use Rattle.std.specs.BTreeMap as tree;
-ghost use Rattle.iss_accepted.specs.Newest.{by_name, IsNewest};
 ghost use Rattle.iss_accepted.specs.Values.{no_events, events_facts, answer_in};
 
 use crate::row::{Row, push};
 use iss_codec::put_record;
+use iss_index::Names;
 use iss_model::{Answer, Input, Reply, Token, Verdict};
 use std::alloc::{AllocError, Global};
-use std::collections::BTreeMap;
 use std::marker::Model;
 
 /// Accepted events in the order of their records, each with what it says and its decision. Contracts see the list of the
 /// events, and that of the decisions in the order in which they were made.
 ///
-/// Tokens come from outside, so the places of their rows are kept in a tree, where no choice of tokens makes a look-up slow.
-/// The newest is at hand beside it, since most events are decided as soon as they are accepted.
+/// The row of an event stands at the place of its name.
 #[derive(Drop)]
 pub struct Events {
     rows: Vec<Row>,
     bytes: Vec<u8>,
-    places: BTreeMap<Token, u32>,
-    newest: Option<(Token, u32)>,
+    names: Names,
     decided: Vec<u32>,
     spelled: Vec<u8>,
 }
@@ -36,11 +32,10 @@ impl Model for Events {
     ghost Value = { EventsNow };
 
     ghost use Rattle.iss_accepted.specs.Kept.{events_now, standings_of, IsKept};
-    ghost use Rattle.iss_accepted.specs.Newest.{IsNewest};
 
     ghost view = { λ e. events_now (standings_of e.bytes.items e.rows.items) e.decided.items };
 
-    ghost invariant = { λ e. IsKept e.bytes.items e.rows.items e.places e.decided.items × IsNewest e.places e.newest };
+    ghost invariant = { λ e. IsKept e.bytes.items e.rows.items e.names e.decided.items };
 }
 
 impl Events {
@@ -51,8 +46,7 @@ impl Events {
         Events {
             rows: Vec::new(alloc),
             bytes: Vec::new(alloc),
-            places: BTreeMap::new(alloc),
-            newest: None,
+            names: Names::new(alloc),
             decided: Vec::new(alloc),
             spelled: Vec::new(alloc),
         }
@@ -62,15 +56,15 @@ impl Events {
     pub fn has(&self, event: &Token) -> bool
         ensures { result ≡ is_some (find (λ a. is_event event.now a.input) self.now.accepted) }
     {
-        self.places.contains_key(event)
+        self.names.find(event).is_some()
     }
 
     /// What is told of an event that is accepted.
     pub fn reply(&self, event: &Token) -> Option<Reply>
         ensures { result ≡ event_reply (events_facts self.now) event.now }
     {
-        match self.places.get(event) {
-            Some(place) => Some(self.rows[*place as usize].reply()),
+        match self.names.find(event) {
+            Some(place) => Some(self.rows[place as usize].reply()),
             None => None,
         }
     }
@@ -84,15 +78,15 @@ impl Events {
         let Some(token) = input.event() else {
             return Ok(None);
         };
-        let Some(place) = self.places.get(&token).copied() else {
+        let Some(place) = self.names.find(&token) else {
             return Ok(None);
         };
         let told = self.rows[place as usize].answer(alloc, &self.bytes, &token, input)?;
         Ok(Some(told))
     }
 
-    /// Adds the input of a record, where it is an event. Where allocation fails all stays as it was, and so where 2^32 events
-    /// stand, as many as places are kept for.
+    /// Adds the input of a record, where it is an event. Where allocation fails all stays as it was, and so where
+    /// 2^32 - 1 events stand, as many as places are kept for.
     pub fn add(&mut self, number: u32, at: u64, input: &Input) -> Result<(), AllocError>
         requires form { IsTrue (is_in_form input.now) }
         requires stamp { IsTrue (is_stamp at) }
@@ -108,12 +102,10 @@ impl Events {
         };
         self.spelled.clear();
         put_record(&mut self.spelled, at, input)?;
-        let place = place_after(self.rows.len())?;
         self.rows.reserve(1)?;
         let start = self.bytes.len();
         self.bytes.extend_from_slice(&self.spelled)?;
-        self.places.insert(token, place)?;
-        self.newest = Some((token, place));
+        self.names.add(&token)?;
         push(
             &mut self.rows,
             &Row {
@@ -134,35 +126,11 @@ impl Events {
         ensures decided { OnOk result (self.new ≡ record self.old { decisions = self.old.decisions ++ record { event = event.now; verdict = verdict } ∷ [] }) }
         ensures refused { OnErr result (self.new ≡ self.old) }
     {
-        let Some(place) = place_of(&self.places, &self.newest, event) else {
+        let Some(place) = self.names.find(event) else {
             return Ok(());
         };
         self.decided.push(place)?;
         self.rows[place as usize].verdict = Some(verdict);
         Ok(())
     }
-}
-
-/// The place of a name in a tree, of which the newest is at hand.
-fn place_of(
-    places: &BTreeMap<Token, u32>,
-    newest: &Option<(Token, u32)>,
-    name: &Token,
-) -> Option<u32>
-    requires { IsNewest places.now newest.now }
-    ensures { result ≡ tree.get by_name places.now name.now }
-{
-    if let Some((newest, place)) = newest {
-        if newest == name {
-            return Some(*place);
-        }
-    }
-    places.get(name).copied()
-}
-
-/// The place of one row more after so many.
-fn place_after(count: usize) -> Result<u32, AllocError>
-    ensures { IfOk result (λ place. place ≡ count) }
-{
-    u32::try_from(count).map_err(|_| AllocError)
 }

@@ -6,7 +6,6 @@ use Rattle.std.proofs.lemmas.Bool.Decides.{nat_tests}
 use Rattle.std.specs.Prelude.{Option, Some, slice_get, unwrap_or, None, is_some, ◌≤ℤ◌}
 use Rattle.std.specs.List.{IsDistinct}
 use Rattle.std.specs.Str.{bytes_eq}
-use Rattle.std.specs.BTreeMap as tree
 use Rattle.std.specs.BTreeMap.{BTreeMap}
 use Rattle.iss_model.specs.declared.account.Part.{Part}
 use Rattle.iss_model.specs.declared.account.Part.TheVariants as part
@@ -24,15 +23,16 @@ use Rattle.iss_model.specs.state.Cores.{Holdings, with_hold}
 use Rattle.std.specs.FinMap as finite
 use Rattle.std.specs.Cmp.Lexicographic.{slice_cmp}
 use Rattle.std.specs.Ordering.{nat_cmp}
+use Rattle.iss_index.specs.Places.{place_of}
 use Rattle.iss_hold.specs.declared.hold.Hold.{Hold}
 use Rattle.iss_hold.specs.declared.hold.Taken.{Taken}
 use Rattle.iss_hold.specs.Holdings.{now_of, part_of, with_part, parts_of, without_parts, whole_of, part_sums, sums_from, holdings_of}
 use Rattle.iss_hold.specs.Bounds.{AreLow}
 use Rattle.iss_hold.specs.Entries.{after_holds, entries_on, change_entries, IsCovered, parts_in, clearing_unhold_entries, release_unhold_entries, taken_in_all, parts_taken}
-use Rattle.iss_hold.specs.Indexes.{names, is_of, total_of, by_name, ArePlaced, AreSummed, IsAt}
+use Rattle.iss_hold.specs.Indexes.{names, is_of, total_of, ArePlaced, AreSummed, IsAt}
 use Rattle.iss_hold.proofs.HoldSums.{holdings_set}
 use Rattle.iss_hold.proofs.HoldTotals.{user_total, part_kept, whole_within, total_set}
-use Rattle.iss_hold.proofs.Places.{has_place}
+use Rattle.iss_hold.proofs.Places.{has_place, place_is}
 use Rattle.iss_hold.proofs.IndexCalls.{none_some}
 use Rattle.iss_hold.proofs.Changes.{get_set}
 
@@ -312,6 +312,6 @@ module _ {name : List ℕ} {hs : List Hold} {i : ℕ} {h : Hold} (at : IsAt name
   left_low taken {k} e = lower k (ap (λ (x : Hold). x.txn) e) (subst (λ (x : Hold). whole_of x ≤ whole_of h) (sym e) (omega arith))
 
 -- a name without a place was not started
-pub not_started : {hs : List Hold} {places : BTreeMap (List ℕ) ℕ} (name : List ℕ) → ArePlaced hs places → None ≡ tree.get by_name places name → txn_named name (map now_of hs) ≡ None
+pub not_started : {hs : List Hold} {places : List (List ℕ)} (name : List ℕ) → ArePlaced hs places → None ≡ place_of name places → txn_named name (map now_of hs) ≡ None
 not_started {hs} name placed e =
-    none_some (txn_named name (map now_of hs)) (sym (has_place name hs) ∙ ap (λ (o : Option ℕ). is_some o) (sym (placed.place name) ∙ sym e))
+    none_some (txn_named name (map now_of hs)) (sym (has_place name hs) ∙ ap (λ (o : Option ℕ). is_some o) (sym (place_is placed name) ∙ sym e))

@@ -1,5 +1,5 @@
 -- What calls on the indexes leave.
-use Rattle.std.proofs.Common.{◌≡◌, ℕ, ◌==◌, Bool, true, false, cond, ◌&&◌, List, refl, sym, ap, ap₂, ◌∙◌, subst, arith}
+use Rattle.std.proofs.Common.{◌≡◌, ℕ, ◌==◌, Bool, true, false, cond, ◌&&◌, List, [], ◌∷◌, refl, sym, ap, ap₂, ◌∙◌, subst, arith}
 use Rattle.std.proofs.lemmas.Bool.Decides.{nat_tests}
 use Rattle.std.specs.Prelude.{Option, Some, None, IsSome, is_some, unwrap_or}
 use Rattle.std.specs.declared.cmp.Ordering.{Ordering}
@@ -9,10 +9,12 @@ use Rattle.std.specs.Cmp.{unsigned_ties}
 use Rattle.std.specs.Cmp.Lexicographic.{slice_cmp}
 use Rattle.std.specs.Str.{bytes_eq}
 use Rattle.std.specs.BTreeMap as tree
-use Rattle.std.specs.BTreeMap.{BTreeMap, is_at}
+use Rattle.std.specs.BTreeMap.{BTreeMap, is_at, insert_entry}
+use Rattle.std.specs.Map.{lookup, remove_entry}
+use Rattle.std.proofs.lemmas.Option.{none-some}
 use Rattle.std.proofs.lemmas.Map.Text.{is_eq-slice_cmp}
 use Rattle.iss_model.proofs.Names.{one_name}
-use Rattle.iss_hold.specs.Indexes.{by_name, by_user}
+use Rattle.iss_hold.specs.Indexes.{by_user, by_expiry}
 use Rattle.iss_hold.specs.Sums.{sum_in}
 
 then_eq : (r s : Ordering) → is_eq (ordering_then r s) ≡ (is_eq r && is_eq s)
@@ -63,19 +65,37 @@ pub begun_stay : (m n : BTreeMap (List ℕ × ℕ) ℕ) (key : List ℕ × ℕ) 
 begun_stay m n key sum u user number h =
     subst (λ (o : Option ℕ). IsSome o) (sym (u.0 (user, number))) (stands_by (is_at (by_user key) (user, number)) sum (tree.get by_user m (user, number)) h)
 
-left_by : (b c : Bool) (place : ℕ) (o : Option ℕ) → b ≡ c → (b ≡ true → o ≡ None) → cond b None (cond c (Some place) o) ≡ o
-left_by true c place o e h = sym (h refl)
-left_by false true place o e h = cc
-left_by false false place o e h = refl
+-- an expiry of another record is another key
+pub other_key : (a b : ℕ × ℕ) → (a.1 == b.1) ≡ false → is_at (by_expiry a) b ≡ false
+other_key a b apart =
+    then_eq (nat_cmp a.0 b.0) (nat_cmp a.1 b.1)
+    ∙ ap (λ (t : Bool). is_eq (nat_cmp a.0 b.0) && t) (sym (unsigned_ties a.1 b.1) ∙ apart)
+    ∙ never (is_eq (nat_cmp a.0 b.0))
+  where
+    never : (t : Bool) → (t && false) ≡ false
+    never true = refl
+    never false = refl
 
--- a place that was entered and taken out again leaves all as it was
-pub left_again : (m first n : BTreeMap (List ℕ) ℕ) (key other : List ℕ) (place : ℕ) → tree.get by_name m key ≡ None
-    → tree.Updates by_name m first key (Some place) → tree.UpdatesBy by_name (by_name other) first n None → other ≡ key
-    → (name : List ℕ) → tree.get by_name n name ≡ tree.get by_name m name
-left_again m first n key other place none u v same name =
-    v.0 name
-    ∙ ap (λ (o : Option ℕ). cond (is_at (by_name other) name) None o) (u.0 name)
-    ∙ left_by (is_at (by_name other) name) (is_at (by_name key) name) place (tree.get by_name m name)
-    (ap (λ (k : List ℕ). is_at (by_name k) name) same)
-    (λ (e : is_at (by_name other) name ≡ true).
-    ap (λ (k : List ℕ). tree.get by_name m k) (sym (one_name other name (sym (is_eq-slice_cmp other name) ∙ e)) ∙ same) ∙ none)
+own_key : (a : ℕ × ℕ) → is_at (by_expiry a) a ≡ true
+own_key a =
+    then_eq (nat_cmp a.0 a.0) (nat_cmp a.1 a.1)
+    ∙ ap₂ (λ (s t : Bool). s && t) (sym (unsigned_ties a.0 a.0) ∙ itself a.0) (sym (unsigned_ties a.1 a.1) ∙ itself a.1)
+  where
+    itself : (n : ℕ) → (n == n) ≡ true
+    itself n = grind (arith, nat_tests)
+
+-- an expiry that was entered and taken out again leaves all as it was
+pub left_again : (key : ℕ × ℕ) (place : ℕ) (es : List ((ℕ × ℕ) × ℕ)) → lookup (is_at (by_expiry key)) es ≡ None
+    → remove_entry (is_at (by_expiry key)) (insert_entry by_expiry es key place) ≡ es
+left_again key place [] none = ap (λ (b : Bool). cond b [] ((key, place) ∷ [])) (own_key key)
+left_again key place (e ∷ es) none = at (by_expiry key e.0) refl (left_again key place es)
+  where
+    at : (o : Ordering) → by_expiry key e.0 ≡ o → (lookup (is_at (by_expiry key)) es ≡ None → remove_entry (is_at (by_expiry key)) (insert_entry by_expiry es key place) ≡ es)
+        → remove_entry (is_at (by_expiry key)) (insert_entry by_expiry (e ∷ es) key place) ≡ e ∷ es
+    at Less is rest = rw is (ap (λ (b : Bool). cond b (e ∷ es) ((key, place) ∷ remove_entry (is_at (by_expiry key)) (e ∷ es))) (own_key key))
+    at Equal is rest =
+        let first : Some e.1 ≡ None = rw is at none in
+        absurd (none-some e.1 (sym first))
+    at Greater is rest =
+        let next : lookup (is_at (by_expiry key)) es ≡ None = rw is at none in
+        rw (is, is) (ap (λ (xs : List ((ℕ × ℕ) × ℕ)). e ∷ xs) (rest next))

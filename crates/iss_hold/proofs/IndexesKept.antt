@@ -1,30 +1,30 @@
 -- The indexes agree with the holds after each change.
-use Rattle.std.proofs.Common.{◌≡◌, ℕ, zero, suc, ◌<◌, ◌^◌, nat_eq, ◌==◌, Bool, true, false, cond, ◌||◌, List, [], ◌∷◌, ◌++◌, map, length, set, refl, sym, ap, ◌∙◌, subst, arith}
+use Rattle.std.proofs.Common.{◌≡◌, ℕ, zero, suc, ◌<◌, ◌^◌, nat_eq, ◌==◌, Bool, true, false, cond, ◌||◌, List, [], ◌∷◌, ◌++◌, map, fold, filter, length, set, refl, sym, ap, ◌∙◌, subst, arith}
 use Rattle.std.specs.Prelude.{Option, Some, None, IsSome, is_some, slice_get, unwrap_or}
-use Rattle.std.specs.List.{IsDistinct, list_any}
+use Rattle.std.specs.List.{IsDistinct, list_any, AllByRecursion}
 use Rattle.std.specs.Cmp.{nat_eq_equiv}
 use Rattle.std.specs.Cmp.Lexicographic.{nat_list_eq_equiv}
 use Rattle.std.specs.Str.{bytes_eq}
 use Rattle.std.specs.BTreeMap as tree
 use Rattle.std.specs.BTreeMap.{BTreeMap, is_at, insert_entry}
-use Rattle.std.specs.Map.{lookup, remove_entry}
+use Rattle.std.specs.Map.{lookup, remove_entry, keys_of}
 use Rattle.std.specs.List.Sorted.{IsStrictlySortedBy}
 use Rattle.std.proofs.lemmas.Map.Keys.{IsDistinct-push}
-use Rattle.std.proofs.lemmas.Map.Text.{is_eq-slice_cmp}
 use Rattle.iss_model.specs.declared.txn.Txn.{Txn}
 use Rattle.iss_model.specs.rules.Activity.{TxnNow, txn_named}
+use Rattle.iss_model.specs.rules.Due.{is_before}
 use Rattle.iss_model.specs.Currencies.{iso_number}
-use Rattle.iss_model.proofs.Names.{one_name}
+use Rattle.iss_index.specs.Places.{place_of}
 use Rattle.iss_hold.specs.declared.hold.Hold.{Hold}
 use Rattle.iss_hold.specs.Holdings.{begun, now_of}
-use Rattle.iss_hold.specs.Expiries.{Expiry, expiries}
-use Rattle.iss_hold.specs.Indexes.{names, origins, place_in, total_of, by_name, by_user, by_expiry, with_name, with_token, AreSummed, AreIndexed}
+use Rattle.iss_hold.specs.Expiries.{Expiry, expiry_of, item_of, with_expiry, expiries}
+use Rattle.iss_hold.specs.Indexes.{names, origins, place_in, total_of, by_user, by_expiry, with_name, with_token, AreSummed, AreIndexed}
 use Rattle.iss_hold.specs.Sums.{sum_in}
-use Rattle.iss_hold.proofs.IndexCalls.{none_some}
+use Rattle.iss_hold.proofs.IndexCalls.{none_some, other_key}
 use Rattle.iss_hold.proofs.HoldSums.{map_set}
 use Rattle.iss_hold.proofs.HoldTotals.{total_set, total_more}
 use Rattle.iss_hold.proofs.Changes.{there_or_set}
-use Rattle.iss_hold.proofs.Places.{IsReplaced, place_more, no_place, has_place}
+use Rattle.iss_hold.proofs.Places.{IsReplaced, no_place, has_place, place_is}
 use Rattle.iss_hold.proofs.Beginnings.{map_push, entries_more}
 use Rattle.iss_hold.proofs.Endings.{ended, expiries_less, expiries_same}
 use Rattle.iss_hold.proofs.NamedExpiries.{named_insert, named_remove, same_keys}
@@ -41,21 +41,16 @@ length_map : {A B : Type 0} (f : A → B) (xs : List A) → length (map f xs) �
 length_map f [] = refl
 length_map f (a ∷ xs) = ap suc (length_map f xs)
 
-new_place : (b : Bool) (o p : Option ℕ) (n m : ℕ) → o ≡ p → n ≡ m → (b ≡ true → p ≡ None) → cond b (Some n) o ≡ cond (is_some p) p (cond b (Some m) None)
-new_place true o p n m e f h = ap (λ (k : ℕ). Some k) f ∙ ap (λ (q : Option ℕ). cond (is_some q) q (Some m)) (sym (h refl))
-new_place false o None n m e f h = e
-new_place false o (Some j) n m e f h = e
-
 no_origin : (number : ℕ) (hs : List Hold) → list_any (λ t. number == t.txn.origin) (map now_of hs) ≡ list_any (nat_eq number) (origins hs)
 no_origin number [] = refl
 no_origin number (h ∷ hs) = ap (λ (b : Bool). (number == h.txn.origin) || b) (no_origin number hs)
 
 -- one more transaction: its place, its user's sum and its expiry are there
-pub indexed_more : (hs : List Hold) (places more_places : BTreeMap (List ℕ) ℕ) (sums more_sums : BTreeMap (List ℕ × ℕ) ℕ) (order more_order : BTreeMap (ℕ × ℕ) ℕ) (t : Txn)
+pub indexed_more : (hs : List Hold) (places more_places : List (List ℕ)) (sums more_sums : BTreeMap (List ℕ × ℕ) ℕ) (order more_order : BTreeMap (ℕ × ℕ) ℕ) (t : Txn)
     → AreIndexed hs places sums order
     → txn_named t.token (map now_of hs) ≡ None
     → list_any (λ u. t.origin == u.txn.origin) (map now_of hs) ≡ false
-    → tree.Updates by_name places more_places t.token (Some (length hs))
+    → more_places ≡ places ++ t.token ∷ []
     → ((user : List ℕ) (number : ℕ) → sum_in more_sums user number ≡ sum_in sums user number)
     → ((user : List ℕ) (number : ℕ) → IsSome (tree.get by_user sums (user, number)) → IsSome (tree.get by_user more_sums (user, number)))
     → IsSome (tree.get by_user more_sums (t.user, iso_number t.currency))
@@ -69,16 +64,7 @@ indexed_more hs places more_places sums more_sums order more_order t a unknown n
       distinct =
           subst (λ (xs : List (List ℕ)). IsDistinct bytes_eq xs) (sym ns)
           (IsDistinct-push nat_list_eq_equiv (names hs) t.token a.distinct (no_place t.token (names hs) none));
-      placed = record {
-        place = λ name.
-            placed.0 name
-            ∙ ap (λ (b : Bool). cond b (Some (length hs)) (tree.get by_name places name)) (is_eq-slice_cmp t.token name)
-            ∙ new_place (bytes_eq t.token name) (tree.get by_name places name) (place_in name (names hs)) (length hs) (length (names hs)) (a.placed.place name)
-            (sym (length_map (λ (h : Hold). h.txn.token) hs))
-            (λ (e : bytes_eq t.token name ≡ true). ap (λ (n : List ℕ). place_in n (names hs)) (sym (one_name t.token name e)) ∙ none_some (place_in t.token (names hs)) none)
-            ∙ sym (place_more name (names hs) t.token)
-            ∙ ap (λ (xs : List (List ℕ)). place_in name xs) (sym ns);
-      };
+      placed = record { same = placed ∙ ap (λ (xs : List (List ℕ)). xs ++ t.token ∷ []) a.placed.same ∙ sym ns };
       summed = record {
         summed = λ user number. same user number ∙ a.summed.summed user number ∙ sym (total_more user number hs (begun t) refl);
         standing =
@@ -98,9 +84,9 @@ indexed_more hs places more_places sums more_sums order more_order t a unknown n
     }
 
 -- indexes that find the same are in order
-pub indexed_same : {hs : List Hold} {places same_places : BTreeMap (List ℕ) ℕ} {sums same_sums : BTreeMap (List ℕ × ℕ) ℕ} {order same_order : BTreeMap (ℕ × ℕ) ℕ}
+pub indexed_same : {hs : List Hold} {places same_places : List (List ℕ)} {sums same_sums : BTreeMap (List ℕ × ℕ) ℕ} {order same_order : BTreeMap (ℕ × ℕ) ℕ}
     → AreIndexed hs places sums order
-    → ((name : List ℕ) → tree.get by_name same_places name ≡ tree.get by_name places name)
+    → same_places ≡ places
     → ((user : List ℕ) (number : ℕ) → sum_in same_sums user number ≡ sum_in sums user number)
     → ((user : List ℕ) (number : ℕ) → IsSome (tree.get by_user sums (user, number)) → IsSome (tree.get by_user same_sums (user, number)))
     → same_order.entries ≡ order.entries
@@ -109,7 +95,7 @@ pub indexed_same : {hs : List Hold} {places same_places : BTreeMap (List ℕ) �
 indexed_same {hs} a found same stay entries rising =
     record {
       distinct = a.distinct;
-      placed = record { place = λ name. found name ∙ a.placed.place name };
+      placed = record { same = found ∙ a.placed.same };
       summed = record {
         summed = λ user number. same user number ∙ a.summed.summed user number;
         standing = λ i h e. stay h.txn.user (iso_number h.txn.currency) (a.summed.standing i h e);
@@ -121,14 +107,14 @@ indexed_same {hs} a found same stay entries rising =
     }
 
 -- a hold takes the place of another of its transaction, where the sums agree again
-pub indexed_set : {hs : List Hold} {places : BTreeMap (List ℕ) ℕ} {sums new_sums : BTreeMap (List ℕ × ℕ) ℕ} {order : BTreeMap (ℕ × ℕ) ℕ} {i : ℕ} {h k : Hold}
+pub indexed_set : {hs : List Hold} {places : List (List ℕ)} {sums new_sums : BTreeMap (List ℕ × ℕ) ℕ} {order : BTreeMap (ℕ × ℕ) ℕ} {i : ℕ} {h k : Hold}
     → AreIndexed hs places sums order → IsReplaced hs i h k → AreSummed (set hs i k) new_sums → AreIndexed (set hs i k) places new_sums order
 indexed_set {hs} {places} {sums} {new_sums} {order} {i} {h} {k} a s summed =
     let ns : names (set hs i k) ≡ names hs = map_set (λ (x : Hold). x.txn.token) hs i h k s.is_there (ap (λ (t : TxnNow). t.txn.token) (sym s.same)) in
     let os : origins (set hs i k) ≡ origins hs = map_set (λ (x : Hold). x.txn.origin) hs i h k s.is_there (ap (λ (t : TxnNow). t.txn.origin) (sym s.same)) in
     record {
       distinct = subst (λ (xs : List (List ℕ)). IsDistinct bytes_eq xs) (sym ns) a.distinct;
-      placed = record { place = λ name. a.placed.place name ∙ ap (λ (xs : List (List ℕ)). place_in name xs) (sym ns) };
+      placed = record { same = a.placed.same ∙ sym ns };
       summed = summed;
       once = subst (λ (xs : List ℕ). IsDistinct nat_eq xs) (sym os) a.once;
       ordered =
@@ -141,7 +127,7 @@ same_total_end : (user : List ℕ) (number : ℕ) (hs : List Hold) (i : ℕ) (h 
 same_total_end user number hs i h at = let e = total_set user number hs i h (ended h) at refl in omega arith
 
 -- a transaction ends, and its expiry is gone
-pub indexed_end : (hs : List Hold) (places : BTreeMap (List ℕ) ℕ) (sums : BTreeMap (List ℕ × ℕ) ℕ) (order new_order : BTreeMap (ℕ × ℕ) ℕ) (i : ℕ) (h : Hold)
+pub indexed_end : (hs : List Hold) (places : List (List ℕ)) (sums : BTreeMap (List ℕ × ℕ) ℕ) (order new_order : BTreeMap (ℕ × ℕ) ℕ) (i : ℕ) (h : Hold)
     → AreIndexed hs places sums order
     → slice_get hs i ≡ Some h
     → new_order.entries ≡ remove_entry (is_at (by_expiry (h.txn.expires, h.txn.origin))) order.entries
@@ -152,7 +138,7 @@ indexed_end hs places sums order new_order i h a at entries rising =
     let os : origins (set hs i (ended h)) ≡ origins hs = map_set (λ (x : Hold). x.txn.origin) hs i h (ended h) at refl in
     record {
       distinct = subst (λ (xs : List (List ℕ)). IsDistinct bytes_eq xs) (sym ns) a.distinct;
-      placed = record { place = λ name. a.placed.place name ∙ ap (λ (xs : List (List ℕ)). place_in name xs) (sym ns) };
+      placed = record { same = a.placed.same ∙ sym ns };
       summed = record {
         summed = λ u n. a.summed.summed u n ∙ sym (same_total_end u n hs i h at);
         standing =
@@ -171,14 +157,14 @@ indexed_end hs places sums order new_order i h a at entries rising =
     }
 
 -- no transaction, and empty indexes
-pub indexed_none : (hs : List Hold) (places : BTreeMap (List ℕ) ℕ) (sums : BTreeMap (List ℕ × ℕ) ℕ) (order : BTreeMap (ℕ × ℕ) ℕ)
-    → hs ≡ [] → places.entries ≡ [] → sums.entries ≡ [] → order.entries ≡ [] → tree.IsOrdered by_expiry order → AreIndexed hs places sums order
+pub indexed_none : (hs : List Hold) (places : List (List ℕ)) (sums : BTreeMap (List ℕ × ℕ) ℕ) (order : BTreeMap (ℕ × ℕ) ℕ)
+    → hs ≡ [] → places ≡ [] → sums.entries ≡ [] → order.entries ≡ [] → tree.IsOrdered by_expiry order → AreIndexed hs places sums order
 unfolding IsDistinct
 indexed_none hs places sums order e p s o rising =
     subst (λ (xs : List Hold). AreIndexed xs places sums order) (sym e)
     (record {
       distinct = tt;
-      placed = record { place = λ name. ap (λ (es : List (List ℕ × ℕ)). lookup (is_at (by_name name)) es) p };
+      placed = record { same = p };
       summed = record {
         summed = λ user number. ap (λ (es : List ((List ℕ × ℕ) × ℕ)). unwrap_or (lookup (is_at (by_user (user, number))) es) 0) s;
         standing = λ i h h_is. cc;
@@ -189,7 +175,58 @@ indexed_none hs places sums order e p s o rising =
       rising = rising;
     })
 
-pub no_place_yet : (hs : List Hold) (places : BTreeMap (List ℕ) ℕ) (sums : BTreeMap (List ℕ × ℕ) ℕ) (order : BTreeMap (ℕ × ℕ) ℕ) (name : List ℕ)
-    → AreIndexed hs places sums order → txn_named name (map now_of hs) ≡ None → tree.get by_name places name ≡ None
+pub no_place_yet : (hs : List Hold) (places : List (List ℕ)) (sums : BTreeMap (List ℕ × ℕ) ℕ) (order : BTreeMap (ℕ × ℕ) ℕ) (name : List ℕ)
+    → AreIndexed hs places sums order → txn_named name (map now_of hs) ≡ None → place_of name places ≡ None
 no_place_yet hs places sums order name a unknown =
-    a.placed.place name ∙ none_some (place_in name (names hs)) (has_place name hs ∙ ap (λ (o : Option TxnNow). is_some o) unknown)
+    place_is a.placed name ∙ none_some (place_in name (names hs)) (has_place name hs ∙ ap (λ (o : Option TxnNow). is_some o) unknown)
+
+-- ---- a new expiry
+
+-- what each expiry is like is kept where one more is put among them
+all_with : (P : Expiry → Type 0) (x : Expiry) (es : List Expiry) → P x → AllByRecursion P es → AllByRecursion P (with_expiry es x)
+all_with P x [] own all = (own, tt)
+all_with P x (a ∷ es) own all =
+    elim (is_before (item_of x) (item_of a)) as (λ t. AllByRecursion P (cond t (x ∷ a ∷ es) (a ∷ with_expiry es x))) [ true ↦ (own, all) | false ↦ (all.0, all_with P x es own all.1) ]
+
+all_put : (P : Expiry → Type 0) (acc xs : List Expiry) → AllByRecursion P acc → AllByRecursion P xs → AllByRecursion P (fold with_expiry acc xs)
+all_put P acc [] all more = all
+all_put P acc (x ∷ xs) all more = all_put P (with_expiry acc x) xs (all_with P x acc more.0 all) more.1
+
+-- an expiry of another record
+abbrev pub IsOther : ℕ → Expiry → Type 0
+IsOther origin e = (origin == e.0.1) ≡ false
+
+all_others : (origin : ℕ) (hs : List Hold) → list_any (λ u. origin == u.txn.origin) (map now_of hs) ≡ false
+    → AllByRecursion (IsOther origin) (map expiry_of (filter (λ h. h.live) hs))
+all_others origin [] new = tt
+all_others origin (h ∷ hs) new = at (origin == h.txn.origin) refl (all_others origin hs)
+  where
+    at : (b : Bool) → (origin == h.txn.origin) ≡ b
+        → (list_any (λ u. origin == u.txn.origin) (map now_of hs) ≡ false → AllByRecursion (IsOther origin) (map expiry_of (filter (λ k. k.live) hs)))
+        → AllByRecursion (IsOther origin) (map expiry_of (filter (λ k. k.live) (h ∷ hs)))
+    at true e others = cc
+    at false e others =
+        let rest : list_any (λ u. origin == u.txn.origin) (map now_of hs) ≡ false = rw e at new in
+        elim h.live as (λ t. AllByRecursion (IsOther origin) (map expiry_of (cond t (h ∷ filter (λ k. k.live) hs) (filter (λ k. k.live) hs)))) [
+          | true ↦ (e, others rest)
+          | false ↦ others rest
+        ]
+
+keys_others : (expires origin : ℕ) (es : List Expiry) → AllByRecursion (IsOther origin) es → AllByRecursion (λ key. is_at (by_expiry (expires, origin)) key ≡ false) (keys_of es)
+keys_others expires origin [] all = tt
+keys_others expires origin (e ∷ es) all = (other_key (expires, origin) e.0 all.0, keys_others expires origin es all.1)
+
+none_of : (test : ℕ × ℕ → Bool) (es : List ((ℕ × ℕ) × ℕ)) → AllByRecursion (λ key. test key ≡ false) (keys_of es) → lookup test es ≡ None
+none_of test [] all = refl
+none_of test (e ∷ es) all = ap (λ (b : Bool). cond b (Some e.1) (lookup test es)) all.0 ∙ none_of test es all.1
+
+-- a new transaction's expiry isn't there yet
+pub no_expiry_yet : (hs : List Hold) (places : List (List ℕ)) (sums : BTreeMap (List ℕ × ℕ) ℕ) (order : BTreeMap (ℕ × ℕ) ℕ) (expires origin : ℕ)
+    → AreIndexed hs places sums order → list_any (λ u. origin == u.txn.origin) (map now_of hs) ≡ false
+    → tree.get by_expiry order (expires, origin) ≡ None
+no_expiry_yet hs places sums order expires origin a new =
+    none_of (is_at (by_expiry (expires, origin))) order.entries
+    (subst (λ (ks : List (ℕ × ℕ)). AllByRecursion (λ key. is_at (by_expiry (expires, origin)) key ≡ false) ks)
+    (sym (same_keys (names hs) order.entries (expiries hs) a.ordered))
+    (keys_others expires origin (expiries hs)
+    (all_put (IsOther origin) [] (map expiry_of (filter (λ h. h.live) hs)) tt (all_others origin hs new))))

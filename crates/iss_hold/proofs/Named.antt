@@ -1,18 +1,15 @@
 -- Holds whose names are kept once, as names are added and holds change.
-use Rattle.std.proofs.Common.{◌≡◌, ℕ, zero, suc, Bool, true, false, cond, List, [], ◌∷◌, ◌++◌, get_or, map, length, set, take, refl, sym, ap, ◌∙◌, subst}
-use Rattle.std.proofs.lemmas.Map.Text.{is_eq-slice_cmp}
+use Rattle.std.proofs.Common.{◌≡◌, ℕ, zero, suc, List, [], ◌∷◌, ◌++◌, get_or, map, length, set, take, refl, sym, ap, ap₂, ◌∙◌, subst}
 use Rattle.std.proofs.lemmas.Option.{slice_get-map}
-use Rattle.std.specs.Prelude.{Option, Some, None, IsSome, slice_get, unwrap_or}
+use Rattle.std.specs.Prelude.{Option, Some, None, Result, Ok, Err, OnOk, OnErr, IfOk, IsSome, slice_get, unwrap_or}
 use Rattle.std.specs.Option.{option_map}
-use Rattle.std.specs.Str.{bytes_eq}
-use Rattle.std.specs.BTreeMap as tree
-use Rattle.std.specs.BTreeMap.{BTreeMap}
 use Rattle.iss_model.specs.declared.txn.Txn.{Txn}
-use Rattle.iss_model.proofs.Names.{one_name}
+use Rattle.iss_index.specs.Places.{place_of}
+use Rattle.iss_index.proofs.Placed.{place_there}
 use Rattle.iss_hold.specs.declared.hold.Hold.{Hold}
 use Rattle.iss_hold.specs.declared.list.Row.{Row}
-use Rattle.iss_hold.specs.Indexes.{names, by_name}
-use Rattle.iss_hold.specs.Named.{AreFound, IsGrown, hold_in, IsNamed, AreNamed}
+use Rattle.iss_hold.specs.Indexes.{names}
+use Rattle.iss_hold.specs.Named.{IsGrown, hold_in, IsNamed, AreNamed}
 use Rattle.iss_hold.proofs.NamedExpiries.{there_before, last_there}
 use Rattle.iss_hold.proofs.Beginnings.{map_push}
 
@@ -27,25 +24,19 @@ grown_same ns = record { stands = λ place name e. e }
 pub grown_then : {a b c : List (List ℕ)} → IsGrown a b → IsGrown b c → IsGrown a c
 grown_then g h = record { stands = λ place name e. h.stands place name (g.stands place name e) }
 
-found_by : (ns : List (List ℕ)) (n name : List ℕ) (place : ℕ) (b : Bool) (o : Option ℕ) → bytes_eq n name ≡ b
-    → cond b (Some (length ns)) o ≡ Some place → (o ≡ Some place → slice_get ns place ≡ Some name) → slice_get (ns ++ n ∷ []) place ≡ Some name
-found_by ns n name place true o e f before =
-    let same : length ns ≡ place = cc in
-    ap (λ (i : ℕ). slice_get (ns ++ n ∷ []) i) (sym same) ∙ last_there ns n ∙ ap (λ (k : List ℕ). Some k) (one_name n name e)
-found_by ns n name place false o e f before = there_before ns n place name (before f)
+-- what an added name leaves, and where it stands
+pub grown_by : {E : Type 0} (ns ms : List (List ℕ)) (n : List ℕ) (r : Result ℕ E) → OnOk r (ms ≡ ns ++ n ∷ []) → OnErr r (ms ≡ ns) → IsGrown ns ms
+grown_by ns ms n (Ok place) added refused = subst (λ (xs : List (List ℕ)). IsGrown ns xs) (sym added) (grown_push ns n)
+grown_by ns ms n (Err e) added refused = subst (λ (xs : List (List ℕ)). IsGrown ns xs) (sym refused) (grown_same ns)
 
--- a name that was added is found
-pub found_push : (ns : List (List ℕ)) (places more : BTreeMap (List ℕ) ℕ) (n : List ℕ) (place : ℕ) → AreFound ns places → place ≡ length ns
-    → tree.Updates by_name places more n (Some place) → AreFound (ns ++ n ∷ []) more
-found_push ns places more n place a p u =
-    record {
-      found = λ name i e.
-          found_by ns n name i (bytes_eq n name) (tree.get by_name places name) refl
-          (ap (λ (k : ℕ). cond (bytes_eq n name) (Some k) (tree.get by_name places name)) (sym p)
-          ∙ ap (λ (b : Bool). cond b (Some place) (tree.get by_name places name)) (sym (is_eq-slice_cmp n name))
-          ∙ sym (u.0 name) ∙ e)
-          (a.found name i);
-    }
+pub there_by : {E : Type 0} (ns ms : List (List ℕ)) (n : List ℕ) (r : Result ℕ E) → OnOk r (ms ≡ ns ++ n ∷ []) → IfOk r (λ place. place ≡ length ns)
+    → IfOk r (λ place. slice_get ms place ≡ Some n)
+there_by ns ms n (Ok place) added is = ap₂ (λ (xs : List (List ℕ)) (i : ℕ). slice_get xs i) added is ∙ last_there ns n
+there_by ns ms n (Err e) added is = tt
+
+-- the name at its place
+pub at_its_place : (ns : List (List ℕ)) (name : List ℕ) (place : ℕ) → Some place ≡ place_of name ns → slice_get ns place ≡ Some name
+at_its_place ns name place is = place_there ns name place (sym is)
 
 -- ---- names that have grown leave holds as they are
 

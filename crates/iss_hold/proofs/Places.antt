@@ -1,19 +1,18 @@
 -- The place of a name, and what stands there.
-use Rattle.std.proofs.Common.{◌≡◌, ℕ, zero, suc, ◌<◌, Bool, true, false, cond, List, [], ◌∷◌, ◌++◌, get_or, map, length, refl, sym, ap, ◌∙◌, subst, arith}
-use Rattle.std.proofs.lemmas.Option.{get_or_from_slice_get, same_Some}
+use Rattle.std.proofs.Common.{◌≡◌, ℕ, zero, suc, ◌<◌, Bool, true, false, cond, List, [], ◌∷◌, ◌++◌, get_or, map, length, refl, sym, ap, ap₂, ◌∙◌, subst, arith}
+use Rattle.std.proofs.lemmas.Option.{get_or_from_slice_get}
 use Rattle.std.specs.Prelude.{Option, Some, None, is_some, slice_get}
 use Rattle.std.specs.Option.{option_map}
-use Rattle.std.specs.List.{list_any, IsDistinct, AllByRecursion}
+use Rattle.std.specs.List.{list_any}
 use Rattle.std.specs.Str.{bytes_eq}
-use Rattle.std.specs.BTreeMap as tree
-use Rattle.std.specs.BTreeMap.{BTreeMap}
-use Rattle.iss_model.proofs.Names.{one_name, its_name, name-sym}
+use Rattle.iss_model.proofs.Names.{one_name, name-sym}
 use Rattle.iss_model.specs.rules.Activity.{TxnNow, txn_named}
+use Rattle.iss_index.specs.Places.{place_of}
 use Rattle.iss_hold.specs.declared.hold.Hold.{Hold}
 use Rattle.iss_model.specs.state.Cores.{Holdings}
 use Rattle.iss_model.proofs.Lists.{map-map}
 use Rattle.iss_hold.specs.Holdings.{now_of, tokens, holdings_of}
-use Rattle.iss_hold.specs.Indexes.{names, place_in, by_name, ArePlaced, IsAt}
+use Rattle.iss_hold.specs.Indexes.{names, place_in, ArePlaced, IsAt}
 
 -- the names of the holds are the tokens of the holdings that they make
 pub same_names : (hs : List Hold) {s : Holdings} → holdings_of hs ≡ s → names hs ≡ tokens s.txns
@@ -36,9 +35,17 @@ inside_list : (name : List ℕ) (hs : List Hold) (i : ℕ) → place_in name (na
 inside_list name [] i e = cc
 inside_list name (x ∷ hs) i e = inside_by (bytes_eq x.txn.token name) (place_in name (names hs)) i (length hs) (λ j. inside_list name hs j) e
 
+placed_in : (name : List ℕ) (ns : List (List ℕ)) → place_of name ns ≡ place_in name ns
+placed_in name [] = refl
+placed_in name (n ∷ ns) = ap₂ (λ (b : Bool) (o : Option ℕ). cond b (Some 0) (option_map suc o)) (name-sym name n) (placed_in name ns)
+
+-- the place that is known of a name is its place among the holds
+pub place_is : {hs : List Hold} {places : List (List ℕ)} → ArePlaced hs places → (name : List ℕ) → place_of name places ≡ place_in name (names hs)
+place_is {hs} placed name = ap (place_of name) placed.same ∙ placed_in name (names hs)
+
 -- a place is one of the list's
-pub inside : {hs : List Hold} {places : BTreeMap (List ℕ) ℕ} {i : ℕ} (name : List ℕ) → ArePlaced hs places → Some i ≡ tree.get by_name places name → i < length hs
-inside {hs} {places} {i} name placed e = inside_list name hs i (sym (placed.place name) ∙ sym e)
+pub inside : {hs : List Hold} {places : List (List ℕ)} {i : ℕ} (name : List ℕ) → ArePlaced hs places → Some i ≡ place_of name places → i < length hs
+inside {hs} {places} {i} name placed e = inside_list name hs i (sym (place_is placed name) ∙ sym e)
 
 is_at_by : (name : List ℕ) (x : Hold) (hs : List Hold) (i : ℕ) (h : Hold) (b : Bool) → bytes_eq x.txn.token name ≡ b
     → ((j : ℕ) → place_in name (names hs) ≡ Some j → h ≡ get_or hs j h → IsAt name hs j h)
@@ -57,8 +64,8 @@ is_at_list name [] i h e g = cc
 is_at_list name (x ∷ hs) i h e g = is_at_by name x hs i h (bytes_eq x.txn.token name) refl (λ j. is_at_list name hs j h) e g
 
 -- what stands at the place of a name
-pub is_at : {name : List ℕ} {hs : List Hold} {places : BTreeMap (List ℕ) ℕ} {i : ℕ} {h : Hold} → ArePlaced hs places → Some i ≡ tree.get by_name places name → slice_get hs i ≡ Some h → IsAt name hs i h
-is_at {name} {hs} {places} {i} {h} placed e g = is_at_list name hs i h (sym (placed.place name) ∙ sym e) (sym (get_or_from_slice_get hs i h h g))
+pub is_at : {name : List ℕ} {hs : List Hold} {places : List (List ℕ)} {i : ℕ} {h : Hold} → ArePlaced hs places → Some i ≡ place_of name places → slice_get hs i ≡ Some h → IsAt name hs i h
+is_at {name} {hs} {places} {i} {h} placed e g = is_at_list name hs i h (sym (place_is placed name) ∙ sym e) (sym (get_or_from_slice_get hs i h h g))
 
 -- a hold stands at a place that another of its transaction may take
 pub record IsReplaced (hs : List Hold) (i : ℕ) (h k : Hold) : Type 0 where
@@ -122,25 +129,3 @@ no_place_by name n ns false e p rest =
 pub no_place : (name : List ℕ) (ns : List (List ℕ)) → is_some (place_in name ns) ≡ false → list_any (λ other. bytes_eq name other) ns ≡ false
 no_place name [] e = refl
 no_place name (n ∷ ns) e = no_place_by name n ns (bytes_eq n name) refl e (no_place name ns)
-
-all_at : (P : List ℕ → Type 0) (ns : List (List ℕ)) (i : ℕ) (name : List ℕ) → AllByRecursion P ns → slice_get ns i ≡ Some name → P name
-all_at P [] i name all e = cc
-all_at P (n ∷ ns) zero name all e = subst P (same_Some n name e) all.0
-all_at P (n ∷ ns) (suc i) name all e = all_at P ns i name all.1 e
-
--- where no name stands twice, each stands at its place
-pub place_here : (ns : List (List ℕ)) (i : ℕ) (name : List ℕ) → IsDistinct bytes_eq ns → slice_get ns i ≡ Some name → place_in name ns ≡ Some i
-unfolding IsDistinct
-place_here [] i name apart e = cc
-place_here (n ∷ ns) zero name apart e =
-    let same : bytes_eq n name ≡ true = subst (λ (m : List ℕ). bytes_eq n m ≡ true) (same_Some n name e) (its_name n) in
-    rw same refl
-place_here (n ∷ ns) (suc i) name apart e =
-    let other : bytes_eq n name ≡ false = all_at (λ (m : List ℕ). bytes_eq n m ≡ false) ns i name apart.0 e in
-    rw (other, place_here ns i name apart.1 e) refl
-
--- the place of the name that stands last
-pub newest_place : {hs : List Hold} {places : BTreeMap (List ℕ) ℕ} (i : ℕ) (name last : List ℕ) → IsDistinct bytes_eq (names hs) → ArePlaced hs places
-    → slice_get (names hs) i ≡ Some last → bytes_eq last name ≡ true → Some i ≡ tree.get by_name places name
-newest_place {hs} {places} i name last apart placed e same =
-    sym (placed.place name ∙ place_here (names hs) i name apart (e ∙ ap (λ (n : List ℕ). Some n) (one_name last name same)))

@@ -38,9 +38,6 @@ total_of user number [] = 0
 total_of user number (hold ∷ rest) = (if is_of user number hold then whole_of hold else 0) + total_of user number rest
 
 -- the orders of the indexes' keys
-abbrev pub by_name : List ℕ → List ℕ → Ordering
-by_name a b = slice_cmp nat_cmp a b
-
 abbrev pub by_user : (List ℕ × ℕ) → (List ℕ × ℕ) → Ordering
 by_user a b = ordering_then (slice_cmp nat_cmp a.0 b.0) (nat_cmp a.1 b.1)
 
@@ -53,9 +50,9 @@ pub record IsAt (name : List ℕ) (holds : List Hold) (place : ℕ) (hold : Hold
   pub named : hold.txn.token ≡ name
   pub found : txn_named name (map now_of holds) ≡ Some (now_of hold)
 
--- each name has its place
-pub record ArePlaced (holds : List Hold) (places : BTreeMap (List ℕ) ℕ) : Type 0 where
-  pub place : (name : List ℕ) → tree.get by_name places name ≡ place_in name (names holds)
+-- the names whose places are known are those of the holds
+pub record ArePlaced (holds : List Hold) (places : List (List ℕ)) : Type 0 where
+  pub same : places ≡ names holds
 
 -- each user's sum is what the user's holds come to, it stands where there is one, and it is small
 pub record AreSummed (holds : List Hold) (sums : BTreeMap (List ℕ × ℕ) ℕ) : Type 0 where
@@ -73,7 +70,7 @@ with_token e = (e.0, Some e.1)
 
 -- the indexes agree with the holds: each name has its place, each user its sum, and the expiries are in their order, each with the
 -- place of its transaction
-pub record AreIndexed (holds : List Hold) (places : BTreeMap (List ℕ) ℕ) (sums : BTreeMap (List ℕ × ℕ) ℕ) (order : BTreeMap (ℕ × ℕ) ℕ) : Type 0 where
+pub record AreIndexed (holds : List Hold) (places : List (List ℕ)) (sums : BTreeMap (List ℕ × ℕ) ℕ) (order : BTreeMap (ℕ × ℕ) ℕ) : Type 0 where
   pub distinct : IsDistinct bytes_eq (names holds)
   pub placed : ArePlaced holds places
   pub summed : AreSummed holds sums

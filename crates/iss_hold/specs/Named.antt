@@ -1,14 +1,7 @@
 -- Names that are kept once, and holds with the places of their names.
 use Rattle.std.specs.Prelude.{◌≡◌, ℕ, List, [], ◌∷◌, slice_get, Some, IsSome, unwrap_or}
-use Rattle.std.specs.BTreeMap as tree
-use Rattle.std.specs.BTreeMap.{BTreeMap}
 use Rattle.iss_hold.specs.declared.hold.Hold.{Hold}
 use Rattle.iss_hold.specs.declared.list.Row.{Row}
-use Rattle.iss_hold.specs.Indexes.{by_name}
-
--- the places in a tree are those of its names
-pub record AreFound (names : List (List ℕ)) (places : BTreeMap (List ℕ) ℕ) : Type 0 where
-  pub found : (name : List ℕ) (place : ℕ) → tree.get by_name places name ≡ Some place → slice_get names place ≡ Some name
 
 -- each name that stood stands at its place
 pub record IsGrown (before after : List (List ℕ)) : Type 0 where

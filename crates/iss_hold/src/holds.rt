@@ -20,6 +20,7 @@ use crate::hold::{Hold, Taken};
 use crate::indexes::{begin_sum, enter, place_after, sum_of, user_key};
 use crate::list::HoldList;
 use crate::table::Table;
+use iss_index::Names;
 use iss_model::{Currency, Part, Token, Txn};
 use std::alloc::{AllocError, Global};
 use std::collections::BTreeMap;
@@ -57,7 +58,7 @@ impl Holds {
         Ok(Holds {
             table: Table {
                 holds: HoldList::new(alloc),
-                places: BTreeMap::new(alloc),
+                places: Names::new(alloc),
                 sums: BTreeMap::new(alloc),
                 order: BTreeMap::new(alloc),
             },
@@ -70,8 +71,8 @@ impl Holds {
         ensures parts { IfSome result (λ hold. parts_of hold ≡ parts_in self.now txn.now) }
         ensures small { IfSome result (λ hold. whole_of hold < 2 ^ 62) }
     {
-        let place = self.table.places.get(txn)?;
-        Some(self.table.holds.at(*place as usize))
+        let place = self.table.places.find(txn)?;
+        Some(self.table.holds.at(place as usize))
     }
 
     /// The place of a transaction in the order in which they began, `None` exactly where it wasn't started.
@@ -79,8 +80,8 @@ impl Holds {
         ensures place { result ≡ place_in txn.now (tokens self.now.txns) }
         ensures once { IsDistinct bytes_eq (tokens self.now.txns) }
     {
-        let place = self.table.places.get(txn)?;
-        Some(*place as usize)
+        let place = self.table.places.find(txn)?;
+        Some(place as usize)
     }
 
     /// The transaction at a place with what it holds.
@@ -108,7 +109,7 @@ impl Holds {
     }
 
     /// Begins a transaction, which holds nothing yet. The later calls on it take no memory. Where allocation
-    /// fails all stays as it was, and so where 2^32 transactions stand, as many as places are kept for.
+    /// fails all stays as it was, and so where 2^32 - 1 transactions stand, as many as places are kept for.
     pub fn start(&mut self, txn: &Txn) -> Result<(), AllocError>
         requires unknown { txn_named txn.now.token self.old.txns ≡ None }
         requires origin { list_any (λ t. txn.now.origin == t.txn.origin) self.old.txns ≡ false }

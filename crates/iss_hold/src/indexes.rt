@@ -1,10 +1,12 @@
 //! The indexes beside the holds: places by token, sums by user and currency, and expiries in their order.
-ghost use Rattle.std.specs.Prelude.{◌≡◌, ℕ, List, Some, None, IsSome, IfOk, OnOk, OnErr};
+ghost use Rattle.std.specs.Prelude.{◌≡◌, ℕ, List, [], ◌∷◌, ◌++◌, Some, None, IsSome, IfOk, OnOk, OnErr};
 ghost use Rattle.std.specs.BTreeMap as tree;
 ghost use Rattle.iss_model.specs.Currencies.{iso_number};
-ghost use Rattle.iss_hold.specs.Indexes.{by_name, by_user, by_expiry};
+ghost use Rattle.iss_hold.specs.Indexes.{by_user, by_expiry};
+ghost use Rattle.iss_index.specs.Places.{place_of};
 ghost use Rattle.iss_hold.specs.Sums.{sum_in};
 
+use iss_index::Names;
 use iss_model::{Currency, Token, Txn};
 use std::alloc::AllocError;
 use std::collections::BTreeMap;
@@ -55,25 +57,26 @@ pub(crate) fn place_after(count: usize) -> Result<u32, AllocError>
     u32::try_from(count).map_err(|_| AllocError)
 }
 
-/// Enters a transaction's place, by its token and by its expiry, or neither where allocation fails.
+/// Enters a transaction's place, by its expiry and by its token, or neither where allocation fails.
 pub(crate) fn enter(
-    places: &mut BTreeMap<Token, u32>,
+    places: &mut Names,
     order: &mut BTreeMap<(u64, u32), u32>,
     txn: &Txn,
     place: u32,
 ) -> Result<(), AllocError>
-    requires { tree.get by_name places.old txn.now.token ≡ None }
-    ensures placed { OnOk result (tree.Updates by_name places.old places.new txn.now.token (Some place)) }
+    requires unknown { place_of txn.now.token places.old ≡ None }
+    requires unordered { tree.get by_expiry order.old (txn.now.expires, txn.now.origin) ≡ None }
+    ensures placed { OnOk result (places.new ≡ places.old ++ txn.now.token ∷ []) }
     ensures entered { OnOk result (order.new.entries ≡ tree.insert_entry by_expiry order.old.entries (txn.now.expires, txn.now.origin) place) }
     ensures rising { tree.IsOrdered by_expiry order.old → tree.IsOrdered by_expiry order.new }
-    ensures places_stay { OnErr result ((name : List ℕ) → tree.get by_name places.new name ≡ tree.get by_name places.old name) }
+    ensures places_stay { OnErr result (places.new ≡ places.old) }
     ensures order_stays { OnErr result (order.new.entries ≡ order.old.entries) }
 {
-    places.insert(txn.token, place)?;
-    let entered = order.insert((txn.expires, txn.origin), place);
-    if entered.is_err() {
-        places.remove(&txn.token);
+    let expiry = (txn.expires, txn.origin);
+    order.insert(expiry, place)?;
+    let Ok(_) = places.add(&txn.token) else {
+        order.remove(&expiry);
         return Err(AllocError);
-    }
+    };
     Ok(())
 }

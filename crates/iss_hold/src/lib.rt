@@ -10,7 +10,6 @@ mod hold;
 mod holds;
 mod indexes;
 mod list;
-mod names;
 mod table;
 #[cfg(test)]
 mod tests;

@@ -2,11 +2,10 @@
 ghost use Rattle.std.specs.Prelude.{◌≡◌, ◌<◌, ◌≤◌, [], ◌∷◌, ◌++◌, Some, IfOk, OnOk, OnErr, length, set, take, slice_get};
 ghost use Rattle.std.specs.Option.{option_map};
 ghost use Rattle.iss_hold.specs.Holdings.{begun};
-ghost use Rattle.iss_hold.specs.Indexes.{names};
 ghost use Rattle.iss_hold.specs.Named.{hold_in, IsNamed, IsGrown};
 
 use crate::hold::Hold;
-use crate::names::Names;
+use iss_index::Names;
 use iss_model::{Currency, Funding, Token, Txn};
 use std::alloc::{AllocError, Global};
 use std::marker::Model;
@@ -77,14 +76,6 @@ impl HoldList {
         hold_of(&self.names, &self.rows[place])
     }
 
-    /// The token of the transaction at a place.
-    pub(crate) fn token(&self, place: usize) -> Token
-        requires { place < length self.now }
-        ensures { slice_get (names self.now) place ≡ Some result }
-    {
-        self.rows[place].token
-    }
-
     /// Adds the hold of a transaction that begins. Where allocation fails all stays as it was.
     pub(crate) fn add(&mut self, txn: &Txn) -> Result<(), AllocError>
         ensures added { OnOk result (self.new ≡ self.old ++ begun txn.now ∷ []) }
@@ -135,13 +126,13 @@ fn hold_of(names: &Names, row: &Row) -> Hold
 {
     let txn = Txn {
         token: row.token,
-        card: names.at(row.card),
-        user: names.at(row.user),
-        product: names.at(row.product),
+        card: *names.at(row.card as usize),
+        user: *names.at(row.user as usize),
+        product: *names.at(row.product as usize),
         currency: row.currency,
         funding: row.funding,
         mcc: row.mcc,
-        mid: names.at(row.mid),
+        mid: *names.at(row.mid as usize),
         origin: row.origin,
         at: row.at,
         expires: row.expires,
@@ -161,10 +152,10 @@ fn row_of(names: &mut Names, txn: &Txn) -> Result<Row, AllocError>
     ensures named { IfOk result (λ row. IsNamed names.new row) }
     ensures begun { IfOk result (λ row. hold_in names.new row ≡ begun txn.now) }
 {
-    let card = names.place_of(&txn.card)?;
-    let user = names.place_of(&txn.user)?;
-    let product = names.place_of(&txn.product)?;
-    let mid = names.place_of(&txn.mid)?;
+    let card = place_of(names, &txn.card)?;
+    let user = place_of(names, &txn.user)?;
+    let product = place_of(names, &txn.product)?;
+    let mid = place_of(names, &txn.mid)?;
     Ok(Row {
         token: txn.token,
         card,
@@ -182,4 +173,15 @@ fn row_of(names: &mut Names, txn: &Txn) -> Result<Row, AllocError>
         p: 0,
         s: 0,
     })
+}
+
+/// The place of a name, which is added where it has none.
+fn place_of(names: &mut Names, name: &Token) -> Result<u32, AllocError>
+    ensures there { IfOk result (λ place. slice_get names.new place ≡ Some name.now) }
+    ensures grown { IsGrown names.old names.new }
+{
+    if let Some(place) = names.find(name) {
+        return Ok(place);
+    }
+    names.add(name)
 }

@@ -1,17 +1,17 @@
 //! The holds with the indexes beside them.
 ghost use Rattle.std.specs.Prelude.{◌≡◌, ◌<◌, ◌^◌, map, set, slice_get, Some, IsSome, IfOk};
-ghost use Rattle.std.specs.BTreeMap as tree;
 ghost use Rattle.std.specs.Option.{option_map};
 ghost use Rattle.iss_model.specs.Currencies.{iso_number};
 ghost use Rattle.iss_model.specs.rules.Activity.{txn_named};
 ghost use Rattle.iss_model.specs.rules.Due.{txn_due};
 ghost use Rattle.iss_hold.specs.Expiries.{txns_due};
 ghost use Rattle.iss_hold.specs.Holdings.{now_of, holdings_of};
-ghost use Rattle.iss_hold.specs.Indexes.{by_name, total_of, IsAt, IsIndexed};
+ghost use Rattle.iss_hold.specs.Indexes.{total_of, IsAt, IsIndexed};
 
 use crate::hold::Hold;
 use crate::indexes::{set_sum, sum_of, user_key};
 use crate::list::HoldList;
+use iss_index::Names;
 use iss_model::Token;
 use std::alloc::{AllocError, Global};
 use std::collections::BTreeMap;
@@ -21,7 +21,7 @@ use std::collections::BTreeMap;
 #[derive(Drop)]
 pub(crate) struct Table {
     pub(crate) holds: HoldList,
-    pub(crate) places: BTreeMap<Token, u32>,
+    pub(crate) places: Names,
     pub(crate) sums: BTreeMap<(Token, u16), u64>,
     pub(crate) order: BTreeMap<(u64, u32), u32>,
 }
@@ -33,23 +33,10 @@ impl Table {
         requires started { IsSome (txn_named txn.now (map now_of self.now.holds)) }
         ensures { IsAt txn.now self.now.holds result.0 result.1 }
     {
-        match self.place_of(txn) {
-            Some(place) => (place, self.holds.at(place)),
+        match self.places.find(txn) {
+            Some(place) => (place as usize, self.holds.at(place as usize)),
             None => unreachable!(),
         }
-    }
-
-    /// The place of a transaction. The newest is looked at first, since a purchase is held as soon as it begins.
-    fn place_of(&self, txn: &Token) -> Option<usize>
-        requires { IsIndexed self.now }
-        ensures { result ≡ tree.get by_name self.now.places txn.now }
-    {
-        let count = self.holds.len();
-        if count > 0 && self.holds.token(count - 1) == *txn {
-            return Some(count - 1);
-        }
-        let place = self.places.get(txn)?;
-        Some(*place as usize)
     }
 
     /// Puts a hold in the place of another of its transaction, and changes its user's sum by as much.

@@ -1,16 +1,12 @@
--- What a tree with the places of names says of a list of things that have these names.
-use Rattle.std.proofs.Common.{◌≡◌, ℕ, zero, suc, ◌<◌, Bool, true, false, cond, List, [], ◌∷◌, ◌++◌, length, map, find, Option, Some, None, slice_get, get_or, set, BTreeMap, refl, sym, ap, ap₂, subst, ◌∙◌, arith}
+-- What the place of a name says of a list of things that have names.
+use Rattle.std.proofs.Common.{◌≡◌, ℕ, zero, suc, ◌<◌, Bool, true, false, cond, List, [], ◌∷◌, ◌++◌, length, map, find, Option, Some, None, slice_get, get_or, set, refl, sym, ap, ap₂, subst, ◌∙◌, arith}
 use Rattle.std.specs.Prelude.{IfSome}
-use Rattle.std.specs.BTreeMap.{get}
-use Rattle.std.specs.Cmp.Lexicographic.{slice_cmp}
 use Rattle.std.specs.List.{AllByRecursion, IsDistinct}
 use Rattle.std.specs.Option.{option_map, option_and_then}
-use Rattle.std.specs.Ordering.{nat_cmp, is_eq}
 use Rattle.std.specs.Str.{bytes_eq}
-use Rattle.std.proofs.lemmas.Map.Text.{is_eq-slice_cmp}
 use Rattle.std.proofs.lemmas.Option.{slice_get-get_or, same_Some, none-some}
 use Rattle.iss_model.proofs.Names.{one_name, name-sym}
-use Rattle.iss_index.specs.Places.{place_of, IsIndexed, changed_at}
+use Rattle.iss_index.specs.Places.{place_of, changed_at}
 
 -- the place after one more name
 abbrev pub later : Option ℕ → Option ℕ
@@ -51,8 +47,26 @@ within name (n ∷ ns) (suc i) is = at (bytes_eq name n) refl (within name ns i)
         let below : i < length ns = rest (later_is (place_of name ns) i next) in
         omega (arith, below)
 
+-- the name stands at its place
+pub place_there : (ns : List (List ℕ)) (name : List ℕ) (i : ℕ) → place_of name ns ≡ Some i → slice_get ns i ≡ Some name
+place_there [] name i is = absurd (none-some i is)
+place_there (n ∷ ns) name zero is = at (bytes_eq name n) refl
+  where
+    at : (b : Bool) → bytes_eq name n ≡ b → Some n ≡ Some name
+    at true e = ap (λ (m : List ℕ). Some m) (sym (one_name name n e))
+    at false e =
+        let next : later (place_of name ns) ≡ Some zero = rw e at is in
+        absurd (later_first (place_of name ns) next)
+place_there (n ∷ ns) name (suc i) is = at (bytes_eq name n) refl (place_there ns name i)
+  where
+    at : (b : Bool) → bytes_eq name n ≡ b → (place_of name ns ≡ Some i → slice_get ns i ≡ Some name) → slice_get ns i ≡ Some name
+    at true e rest = absurd (not_first i (rw e at is))
+    at false e rest =
+        let next : later (place_of name ns) ≡ Some (suc i) = rw e at is in
+        rest (later_is (place_of name ns) i next)
+
 -- the place of a name where a name that the list lacks is added to it
-place-last : (q k : List ℕ) (ns : List (List ℕ)) → place_of k ns ≡ None
+pub place-last : (q k : List ℕ) (ns : List (List ℕ)) → place_of k ns ≡ None
     → place_of q (ns ++ k ∷ []) ≡ cond (bytes_eq k q) (Some (length ns)) (place_of q ns)
 place-last q k [] none = ap (λ (b : Bool). cond b (Some zero) None) (name-sym q k)
 place-last q k (n ∷ ns) none = at (bytes_eq k n) (bytes_eq q n) refl refl (place-last q k ns)
@@ -83,11 +97,11 @@ others : (name n : List ℕ) (ns : List (List ℕ)) → bytes_eq name n ≡ true
 unfolding IsDistinct
 others name n ns is apart = subst (λ (m : List ℕ). Lacks m ns) (sym (one_name name n is)) apart.0
 
-rest_apart : (n : List ℕ) (ns : List (List ℕ)) → IsDistinct bytes_eq (n ∷ ns) → IsDistinct bytes_eq ns
+pub rest_apart : (n : List ℕ) (ns : List (List ℕ)) → IsDistinct bytes_eq (n ∷ ns) → IsDistinct bytes_eq ns
 unfolding IsDistinct
 rest_apart n ns apart = apart.1
 
-none_apart : IsDistinct bytes_eq []
+pub none_apart : IsDistinct bytes_eq []
 unfolding IsDistinct
 none_apart = tt
 
@@ -99,12 +113,12 @@ lacks_last : (n k : List ℕ) (ns : List (List ℕ)) → Lacks n ns → bytes_eq
 lacks_last n k [] lacks other = (other, tt)
 lacks_last n k (m ∷ ns) lacks other = (lacks.0, lacks_last n k ns lacks.1 other)
 
-first_lacks : (n : List ℕ) (ns : List (List ℕ)) → IsDistinct bytes_eq (n ∷ ns) → Lacks n ns
+pub first_lacks : (n : List ℕ) (ns : List (List ℕ)) → IsDistinct bytes_eq (n ∷ ns) → Lacks n ns
 unfolding IsDistinct
 first_lacks n ns apart = apart.0
 
 -- a name that the list lacks may be added
-apart-last : (k : List ℕ) (ns : List (List ℕ)) → IsDistinct bytes_eq ns → place_of k ns ≡ None → IsDistinct bytes_eq (ns ++ k ∷ [])
+pub apart-last : (k : List ℕ) (ns : List (List ℕ)) → IsDistinct bytes_eq ns → place_of k ns ≡ None → IsDistinct bytes_eq (ns ++ k ∷ [])
 apart-last k [] apart none = apart_cons k [] tt none_apart
 apart-last k (n ∷ ns) apart none = at (bytes_eq k n) refl (apart-last k ns (rest_apart n ns apart))
   where
@@ -117,28 +131,6 @@ apart-last k (n ∷ ns) apart none = at (bytes_eq k n) refl (apart-last k ns (re
         let next : later (place_of k ns) ≡ None = rw e at none in
         apart_cons n (ns ++ k ∷ []) (lacks_last n k ns (first_lacks n ns apart) (name-sym n k ∙ e))
         (rest (later_none (place_of k ns) next))
-
--- a tree without entries has the places of no names
-pub indexed_none : (places : BTreeMap (List ℕ) ℕ) (ns : List (List ℕ)) → places.entries ≡ [] → ns ≡ [] → IsIndexed places ns
-indexed_none places ns empty none =
-    record {
-      found = λ name. rw (empty, none);
-      apart = subst (IsDistinct bytes_eq) (sym none) none_apart;
-    }
-
--- a tree with the place of one more name
-pub indexed_last : (places after : BTreeMap (List ℕ) ℕ) (ns : List (List ℕ)) (k : List ℕ) (len : ℕ) → IsIndexed places ns → place_of k ns ≡ None → len ≡ length ns
-    → ((q : List ℕ) → get (slice_cmp nat_cmp) after q ≡ cond (is_eq (slice_cmp nat_cmp k q)) (Some len) (get (slice_cmp nat_cmp) places q))
-    → IsIndexed after (ns ++ k ∷ [])
-indexed_last places after ns k len indexed none is noted =
-    record {
-      found = λ q.
-          noted q
-          ∙ ap₂ (λ (b : Bool) (o : Option ℕ). cond b (Some len) o) (is_eq-slice_cmp k q) (indexed.found q)
-          ∙ ap (λ (l : ℕ). cond (bytes_eq k q) (Some l) (place_of q ns)) is
-          ∙ sym (place-last q k ns none);
-      apart = apart-last k ns indexed.apart none;
-    }
 
 module _ {A : Type 0} (nm : A → List ℕ) where
   -- the first thing of a name
@@ -165,7 +157,7 @@ module _ {A : Type 0} (nm : A → List ℕ) where
           rw (e, here) (rest ∙ shift (place_of name (map nm xs)))
 
   -- a name that no thing has, has no place
-  unplaced : (name : List ℕ) (xs : List A) → named name xs ≡ None → place_of name (map nm xs) ≡ None
+  pub unplaced : (name : List ℕ) (xs : List A) → named name xs ≡ None → place_of name (map nm xs) ≡ None
   unplaced name [] none = refl
   unplaced name (x ∷ xs) none = at (bytes_eq name (nm x)) refl (unplaced name xs)
     where
@@ -268,7 +260,7 @@ module _ {A : Type 0} (nm : A → List ℕ) where
       put f (subst (λ (o : Option A). IfSome o (λ x. f x ≡ f d)) found refl)
       ∙ ap (λ (n : List ℕ). changed_at nm n f before) same
 
-  names-last : (xs : List A) (y : A) → map nm (xs ++ y ∷ []) ≡ map nm xs ++ nm y ∷ []
+  pub names-last : (xs : List A) (y : A) → map nm (xs ++ y ∷ []) ≡ map nm xs ++ nm y ∷ []
   names-last [] y = refl
   names-last (x ∷ xs) y = ap (λ (ns : List (List ℕ)). nm x ∷ ns) (names-last xs y)
 
@@ -276,50 +268,36 @@ module _ {A : Type 0} (nm : A → List ℕ) where
   names-len [] = refl
   names-len (x ∷ xs) = ap (λ (n : ℕ). suc n) (names-len xs)
 
-  -- What a tree with the places finds, by the name that a call was given.
-  module _ (places : BTreeMap (List ℕ) ℕ) (xs : List A) (name key : List ℕ) (indexed : IsIndexed places (map nm xs)) (same : key ≡ name) where
-    place-found : (got : Option ℕ) → got ≡ get (slice_cmp nat_cmp) places key → place_of name (map nm xs) ≡ got
-    place-found got is =
-        sym (is ∙ indexed.found key ∙ ap (λ (k : List ℕ). place_of k (map nm xs)) same)
-
-    pub found-within : (i : ℕ) → Some i ≡ get (slice_cmp nat_cmp) places key → i < length xs
+  -- What the place of a name says of the things.
+  module _ (xs : List A) (name : List ℕ) where
+    pub found-within : (i : ℕ) → Some i ≡ place_of name (map nm xs) → i < length xs
     found-within i is =
-        let below : i < length (map nm xs) = within name (map nm xs) i (place-found (Some i) is) in
+        let below : i < length (map nm xs) = within name (map nm xs) i (sym is) in
         subst (λ (n : ℕ). i < n) (names-len xs) below
 
-    pub found-named : (i : ℕ) (d : A) → Some i ≡ get (slice_cmp nat_cmp) places key → d ≡ get_or xs i d → Some d ≡ named name xs
+    pub found-named : (i : ℕ) (d : A) → Some i ≡ place_of name (map nm xs) → d ≡ get_or xs i d → Some d ≡ named name xs
     found-named i d is own =
         ap (λ (x : A). Some x) own
         ∙ sym (slice_get-get_or xs i d (found-within i is))
-        ∙ sym (named-place name xs ∙ ap (λ (o : Option ℕ). option_and_then (λ i. slice_get xs i) o) (place-found (Some i) is))
+        ∙ sym (named-place name xs ∙ ap (λ (o : Option ℕ). option_and_then (λ i. slice_get xs i) o) (sym is))
 
-    pub none-named : None ≡ get (slice_cmp nat_cmp) places key → None ≡ named name xs
-    none-named is = sym (named-place name xs ∙ ap (λ (o : Option ℕ). option_and_then (λ i. slice_get xs i) o) (place-found None is))
+    pub none-named : None ≡ place_of name (map nm xs) → None ≡ named name xs
+    none-named is = sym (named-place name xs ∙ ap (λ (o : Option ℕ). option_and_then (λ i. slice_get xs i) o) (sym is))
 
-    pub none-changed : None ≡ get (slice_cmp nat_cmp) places key → (f : A → A) → xs ≡ changed_at nm name f xs
-    none-changed is f = unplaced-changed name f xs (place-found None is)
+    pub none-changed : None ≡ place_of name (map nm xs) → (f : A → A) → xs ≡ changed_at nm name f xs
+    none-changed is f = unplaced-changed name f xs (sym is)
 
-    pub found-put : (i : ℕ) (y : A) → Some i ≡ get (slice_cmp nat_cmp) places key → (f : A → A) → IfSome (named name xs) (λ x. f x ≡ y) → set xs i y ≡ changed_at nm name f xs
-    found-put i y is f makes = put-changed name f xs i y (place-found (Some i) is) indexed.apart makes
+    pub found-put : (i : ℕ) (y : A) → Some i ≡ place_of name (map nm xs) → IsDistinct bytes_eq (map nm xs) → (f : A → A) → IfSome (named name xs) (λ x. f x ≡ y)
+        → set xs i y ≡ changed_at nm name f xs
+    found-put i y is apart f makes = put-changed name f xs i y (sym is) apart makes
 
-    pub found-placed : (i : ℕ) (y : A) → Some i ≡ get (slice_cmp nat_cmp) places key → set xs i y ≡ changed_at nm name (λ x. y) xs
-    found-placed i y is = found-put i y is (λ x. y) (itself (named name xs))
+    pub found-placed : (i : ℕ) (y : A) → Some i ≡ place_of name (map nm xs) → IsDistinct bytes_eq (map nm xs) → set xs i y ≡ changed_at nm name (λ x. y) xs
+    found-placed i y is apart = found-put i y is apart (λ x. y) (itself (named name xs))
       where
         itself : (o : Option A) → IfSome o (λ x. y ≡ y)
         itself None = tt
         itself (Some x) = refl
 
-    -- a tree serves each list with the same names
-    pub found-indexed : (i : ℕ) (y : A) → Some i ≡ get (slice_cmp nat_cmp) places key → nm y ≡ name → IsIndexed places (map nm (set xs i y))
-    found-indexed i y is own = subst (IsIndexed places) (sym (names-put name xs i y (place-found (Some i) is) own)) indexed
-
-  -- a tree that has the place of one more thing
-  pub indexed-push : (places after : BTreeMap (List ℕ) ℕ) (xs ys : List A) (y : A) (key : List ℕ) (len : ℕ) → IsIndexed places (map nm xs)
-      → named (nm y) xs ≡ None → key ≡ nm y → len ≡ length xs
-      → ((q : List ℕ) → get (slice_cmp nat_cmp) after q ≡ cond (is_eq (slice_cmp nat_cmp key q)) (Some len) (get (slice_cmp nat_cmp) places q))
-      → ys ≡ xs ++ y ∷ [] → IsIndexed after (map nm ys)
-  indexed-push places after xs ys y key len indexed none same is noted pushed =
-      subst (IsIndexed after) (sym (ap (map nm) pushed ∙ names-last xs y ∙ ap (λ (n : List ℕ). map nm xs ++ n ∷ []) (sym same)))
-      (indexed_last places after (map nm xs) key len indexed
-      (ap (λ (k : List ℕ). place_of k (map nm xs)) same ∙ unplaced (nm y) xs none)
-      (is ∙ sym (names-len xs)) noted)
+    -- the names stay
+    pub found-names : (i : ℕ) (y : A) → Some i ≡ place_of name (map nm xs) → nm y ≡ name → map nm xs ≡ map nm (set xs i y)
+    found-names i y is own = sym (names-put name xs i y (sym is) own)

@@ -1,32 +1,28 @@
-//! A list of named things with a tree of their places.
+//! A list of named things, each found by its name.
 ghost use Rattle.std.specs.Prelude.{◌≡◌, [], ◌∷◌, ◌++◌, None, IfSome, map, find, option_map, OnOk, OnErr};
 ghost use Rattle.std.specs.Str.{bytes_eq};
 ghost use Rattle.iss_index.specs.Places.{changed_at};
 
+use crate::Names;
 use iss_model::{Named, Token};
 use std::alloc::{AllocError, Global};
-use std::collections::BTreeMap;
 use std::marker::Model;
 
 /// Named things in the order in which they were added, no two of one name. Contracts see their list.
-///
-/// Names come from outside, so their places are kept in a tree, where no choice of names makes a look-up slow.
 #[derive(Drop)]
 pub struct Index<T: Named> {
     things: Vec<T>,
-    places: BTreeMap<Token, usize>,
+    names: Names,
 }
 
 impl<T: Named> Model for Index<T> {
-    ghost use Rattle.std.specs.Prelude.{List, map};
+    ghost use Rattle.std.specs.Prelude.{◌≡◌, List, map};
 
     ghost Value = { List T };
 
-    ghost use Rattle.iss_index.specs.Places.{IsIndexed};
-
     ghost view = { λ index. index.things.items };
 
-    ghost invariant = { λ index. IsIndexed index.places (map T.name_of index.things.items) };
+    ghost invariant = { λ index. index.names ≡ map T.name_of index.things.items };
 }
 
 impl<T: Named + Drop> Index<T> {
@@ -36,7 +32,7 @@ impl<T: Named + Drop> Index<T> {
     {
         Index {
             things: Vec::new(alloc),
-            places: BTreeMap::new(alloc),
+            names: Names::new(alloc),
         }
     }
 
@@ -44,8 +40,8 @@ impl<T: Named + Drop> Index<T> {
     pub fn get(&self, name: &Token) -> Option<&T>
         ensures { option_map (λ found. found.now) result ≡ find (λ t. bytes_eq (T.name_of t) name.now) self.now }
     {
-        let place = *self.places.get(name)?;
-        Some(&self.things[place])
+        let place = self.names.find(name)?;
+        Some(&self.things[place as usize])
     }
 
     /// Adds a thing of a new name after the others. Where allocation fails all stays as it was.
@@ -56,7 +52,7 @@ impl<T: Named + Drop> Index<T> {
     {
         let name = *thing.name();
         self.things.reserve(1)?;
-        self.places.insert(name, self.things.len())?;
+        self.names.add(&name)?;
         self.things.push(thing)?;
         Ok(())
     }
@@ -70,9 +66,9 @@ impl<T: Named + Drop> Index<T> {
         ensures changed { (change : T → T) → IfSome (find (λ t. bytes_eq (T.name_of t) (T.name_of thing)) self.old) (λ t. change t ≡ thing)
             → self.new ≡ changed_at T.name_of (T.name_of thing) change self.old }
     {
-        let Some(place) = self.places.get(thing.name()).copied() else {
+        let Some(place) = self.names.find(thing.name()) else {
             return;
         };
-        self.things[place] = thing;
+        self.things[place as usize] = thing;
     }
 }

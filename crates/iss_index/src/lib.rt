@@ -4,8 +4,12 @@
 //! It must not cite what its things are.
 #![tactic(auto)]
 
+mod groups;
 mod index;
+mod names;
+mod places;
 #[cfg(test)]
 mod tests;
 
 pub use index::Index;
+pub use names::Names;

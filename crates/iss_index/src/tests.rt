@@ -1,4 +1,4 @@
-use crate::Index;
+use crate::{Index, Names};
 use iss_model::{Named, Token, User, UserState};
 use std::alloc::{AllocError, Global};
 use std::test::Fail;
@@ -60,5 +60,46 @@ fn users_by_name(rt: HostRuntime) -> Result<(), Fail> {
     assert_eq!(rt; added, [true, true, false]);
     let wanted = [Some(UserState::Active), Some(UserState::Suspended), None];
     assert_eq!(rt; states, wanted);
+    Ok(())
+}
+
+/// A name with a number.
+fn numbered(alloc: Global, number: u32) -> Result<Token, AllocError> {
+    let text = format!(in alloc; "name-{number}")?;
+    Token::new(text.as_bytes()).ok_or(AllocError)
+}
+
+/// So many names, each once, though each is offered twice.
+fn filled(alloc: Global, count: u32) -> Result<Names, AllocError> {
+    let mut names = Names::new(alloc);
+    for number in 0..count {
+        let name = numbered(alloc, number / 2)?;
+        if names.find(&name).is_none() {
+            names.add(&name)?;
+        }
+    }
+    Ok(names)
+}
+
+/// How many of so many names stand at the place of their number.
+fn placed(alloc: Global, names: &Names, count: u32) -> Result<u32, AllocError> {
+    let mut placed: u32 = 0;
+    for number in 0..count {
+        if names.find(&numbered(alloc, number)?) == Some(number) {
+            placed = placed.saturating_add(1);
+        }
+    }
+    Ok(placed)
+}
+
+fn placed_of(alloc: Global) -> Result<(usize, u32), AllocError> {
+    let names = filled(alloc, 4000)?;
+    Ok((names.len(), placed(alloc, &names, 3000)?))
+}
+
+/// Enough names that some groups are full.
+#[test]
+fn names_by_hash(rt: HostRuntime) -> Result<(), Fail> {
+    assert_eq!(rt; placed_of(rt.alloc())?, (2000, 2000));
     Ok(())
 }

@@ -1,6 +1,6 @@
 //! The order of accounts: by kind, then by the user's token, then by the number of the currency.
 ghost use Rattle.std.specs.Prelude.{◌≡◌, Some, refl, true};
-ghost use Rattle.std.specs.Ordering.{nat_cmp, as_partial_cmp};
+ghost use Rattle.std.specs.Ordering.{nat_cmp, as_partial_cmp, ordering_then};
 ghost use Rattle.std.specs.Cmp.Lexicographic.{slice_cmp, nat_list_cmp_total, nat_list_eq_equiv, texts_po, texts_ties};
 ghost use Rattle.std.specs.Cmp.{partial_equiv_from_equiv};
 ghost use Rattle.std.specs.Str.{bytes_eq};
@@ -84,9 +84,20 @@ impl Ord for AccountKey {
 fn by_key(a: &Account, b: &Account) -> Ordering
     ensures { result ≡ slice_cmp nat_cmp (account_key a.now) (account_key b.now) }
 {
+    match kind(a).cmp(&kind(b)) {
+        Ordering::Equal => by_owner(a, b),
+        by_kind => by_kind,
+    }
+}
+
+/// The order of two accounts of one kind.
+fn by_owner(a: &Account, b: &Account) -> Ordering
+    ensures order { result ≡ ordering_then (slice_cmp nat_cmp (user_of a.now) (user_of b.now)) (nat_cmp (number_of a.now) (number_of b.now)) }
+    ensures first_plain { list_all is_above_zero (user_of a.now) ≡ true }
+    ensures second_plain { list_all is_above_zero (user_of b.now) ≡ true }
+{
     let by_user = user(a).cmp(user(b));
-    let by_currency = currency(a).cmp(&currency(b));
-    kind(a).cmp(&kind(b)).then(by_user.then(by_currency))
+    by_user.then(currency(a).cmp(&currency(b)))
 }
 
 fn kind(account: &Account) -> u8

@@ -2,8 +2,7 @@ use Rattle.std.proofs.Common.{List, ℕ, [], ◌∷◌, ◌++◌, ◌∙◌, Non
 use Rattle.std.specs.Prelude.{Result, Ok, Err, OnErr}
 use Rattle.iss_model.specs.texts.Spelling.{spelling}
 use Rattle.iss_accepted.specs.declared.row.Row.{Row}
-use Rattle.iss_accepted.proofs.Steps.{in_form}
-use Rattle.iss_accepted.proofs.Newest.{newest_stays}
+use Rattle.iss_accepted.proofs.Steps.{in_form, new_unplaced}
 use Rattle.iss_accepted.proofs.Added.{grown_kept, grown_view, added_kept, added_view}
 use Rattle.iss_accepted.proofs.events.Events.add.Goals as goal
 
@@ -12,53 +11,52 @@ stays : {T E P : Type 0} (r : Result T E) → P → OnErr r P
 stays (Ok x) p = tt
 stays (Err e) p = p
 
-pub invariant_of-self-in_err-insert : goal.invariant_of-self-in_err-insert
-invariant_of-self-in_err-insert c = (
-  grown_kept c.self.inside.bytes.items c.self.inside.rows.items c.self.inside.places c.self.inside.decided.items c.args.self.now c.self.invariant.0 c.self.view_is
-      c.extend_from_slice.new.self.items c.deref.result.now c.reserve.new.self.items c.insert.new.self
-      c.in_ok-extend_from_slice.ensures.items c.in_ok-reserve.ensures.items c.in_err-insert.ensures.err,
-  newest_stays c.self.inside.places c.insert.new.self c.self.inside.newest c.in_err-insert.ensures.err c.self.invariant.1,
-)
+pub add-requires : goal.add-requires
+add-requires c =
+    new_unplaced c.self.inside.bytes.items c.self.inside.rows.items c.self.inside.names c.self.inside.decided.items c.args.self.now c.in-Some.token
+    c.self.invariant c.self.view_is (c.requires.new c.in-Some.token (sym c.in-Some.ensures))
 
-pub returns-in_err-insert-clause-refused : goal.returns-in_err-insert-clause-refused
-returns-in_err-insert-clause-refused c =
-    stays c.from_residual-in_err-insert.result
-    (grown_view c.self.inside.bytes.items c.self.inside.rows.items c.self.inside.places c.self.inside.decided.items c.args.self.now c.self.invariant.0 c.self.view_is
-    c.extend_from_slice.new.self.items c.deref.result.now c.reserve.new.self.items c.insert.new.self
-    c.in_ok-extend_from_slice.ensures.items c.in_ok-reserve.ensures.items c.in_err-insert.ensures.err)
+pub invariant_of-self-in_err-add : goal.invariant_of-self-in_err-add
+invariant_of-self-in_err-add c =
+    grown_kept c.self.inside.bytes.items c.self.inside.rows.items c.self.inside.names c.self.inside.decided.items c.args.self.now c.self.invariant c.self.view_is
+    c.extend_from_slice.new.self.items c.deref.result.now c.reserve.new.self.items c.add.new.self
+    c.in_ok-extend_from_slice.ensures.items c.in_ok-reserve.ensures.items c.in_err-add.ensures.refused
+
+pub returns-in_err-add-clause-refused : goal.returns-in_err-add-clause-refused
+returns-in_err-add-clause-refused c =
+    stays c.from_residual-in_err-add.result
+    (grown_view c.self.inside.bytes.items c.self.inside.rows.items c.self.inside.names c.self.inside.decided.items c.args.self.now c.self.invariant c.self.view_is
+    c.extend_from_slice.new.self.items c.deref.result.now c.reserve.new.self.items c.add.new.self
+    c.in_ok-extend_from_slice.ensures.items c.in_ok-reserve.ensures.items c.in_err-add.ensures.refused)
 
 pub invariant_of-self-2 : goal.invariant_of-self-2
 invariant_of-self-2 c =
-    let row : Row = record { number = c.args.number; at = c.args.at; start = c.len-start.result; end = c.len-2.result; verdict = None } in (
-      added_kept c.self.inside.bytes.items c.self.inside.rows.items c.self.inside.places c.self.inside.decided.items c.args.self.now c.self.invariant.0 c.self.view_is
-          c.extend_from_slice.new.self.items c.push.new.things.items c.insert.new.self row c.args.input.now c.in-Some.token c.in_ok-place.place
-          (c.in_ok-extend_from_slice.ensures.items
-          ∙ ap (λ (xs : List ℕ). c.self.inside.bytes.items ++ xs)
-          (c.deref.ensures.value ∙ c.in_ok-put_record.ensures.spelled
-          ∙ ap (λ (xs : List ℕ). xs ++ spelling (record { at = c.args.at; input = c.args.input.now })) c.clear.ensures.items))
-          (omega (arith, c.len-start.ensures, c.self.inside.bytes.ok.0))
-          (omega (arith, c.len-2.ensures, c.extend_from_slice.new.self.ok.0))
-          (in_form c.args.at c.args.input.now c.requires.stamp c.requires.form c.in_ok-put_record.ensures.tokens)
-          refl (sym c.in-Some.ensures) (c.requires.new c.in-Some.token (sym c.in-Some.ensures))
-          (omega (arith, c.in_ok-place.ensures, c.len.ensures, c.self.inside.rows.ok.0))
-          c.in_ok-insert.ensures.updates.0
-          (c.in_ok-push.ensures.pushed ∙ ap (λ (xs : List Row). xs ++ row ∷ []) c.in_ok-reserve.ensures.items),
-      c.in_ok-insert.ensures.updates.1,
-    )
-
-pub returns-clause-added : goal.returns-clause-added
-returns-clause-added c =
-    let row : Row = record { number = c.args.number; at = c.args.at; start = c.len-start.result; end = c.len-2.result; verdict = None } in
-    added_view c.self.inside.bytes.items c.self.inside.rows.items c.self.inside.places c.self.inside.decided.items c.args.self.now c.self.invariant.0 c.self.view_is
-    c.extend_from_slice.new.self.items c.push.new.things.items c.insert.new.self row c.args.input.now c.in-Some.token c.in_ok-place.place
+    let row : Row = record { number = c.args.number; at = c.args.at; start = c.len-start.result; end = c.len.result; verdict = None } in
+    added_kept c.self.inside.bytes.items c.self.inside.rows.items c.self.inside.names c.self.inside.decided.items c.args.self.now c.self.invariant c.self.view_is
+    c.extend_from_slice.new.self.items c.push.new.things.items c.add.new.self row c.args.input.now c.in-Some.token
     (c.in_ok-extend_from_slice.ensures.items
     ∙ ap (λ (xs : List ℕ). c.self.inside.bytes.items ++ xs)
     (c.deref.ensures.value ∙ c.in_ok-put_record.ensures.spelled
     ∙ ap (λ (xs : List ℕ). xs ++ spelling (record { at = c.args.at; input = c.args.input.now })) c.clear.ensures.items))
     (omega (arith, c.len-start.ensures, c.self.inside.bytes.ok.0))
-    (omega (arith, c.len-2.ensures, c.extend_from_slice.new.self.ok.0))
+    (omega (arith, c.len.ensures, c.extend_from_slice.new.self.ok.0))
     (in_form c.args.at c.args.input.now c.requires.stamp c.requires.form c.in_ok-put_record.ensures.tokens)
     refl (sym c.in-Some.ensures) (c.requires.new c.in-Some.token (sym c.in-Some.ensures))
-    (omega (arith, c.in_ok-place.ensures, c.len.ensures, c.self.inside.rows.ok.0))
-    c.in_ok-insert.ensures.updates.0
+    c.in_ok-add.ensures.added
+    (c.in_ok-push.ensures.pushed ∙ ap (λ (xs : List Row). xs ++ row ∷ []) c.in_ok-reserve.ensures.items)
+
+pub returns-clause-added : goal.returns-clause-added
+returns-clause-added c =
+    let row : Row = record { number = c.args.number; at = c.args.at; start = c.len-start.result; end = c.len.result; verdict = None } in
+    added_view c.self.inside.bytes.items c.self.inside.rows.items c.self.inside.names c.self.inside.decided.items c.args.self.now c.self.invariant c.self.view_is
+    c.extend_from_slice.new.self.items c.push.new.things.items c.add.new.self row c.args.input.now c.in-Some.token
+    (c.in_ok-extend_from_slice.ensures.items
+    ∙ ap (λ (xs : List ℕ). c.self.inside.bytes.items ++ xs)
+    (c.deref.ensures.value ∙ c.in_ok-put_record.ensures.spelled
+    ∙ ap (λ (xs : List ℕ). xs ++ spelling (record { at = c.args.at; input = c.args.input.now })) c.clear.ensures.items))
+    (omega (arith, c.len-start.ensures, c.self.inside.bytes.ok.0))
+    (omega (arith, c.len.ensures, c.extend_from_slice.new.self.ok.0))
+    (in_form c.args.at c.args.input.now c.requires.stamp c.requires.form c.in_ok-put_record.ensures.tokens)
+    refl (sym c.in-Some.ensures) (c.requires.new c.in-Some.token (sym c.in-Some.ensures))
+    c.in_ok-add.ensures.added
     (c.in_ok-push.ensures.pushed ∙ ap (λ (xs : List Row). xs ++ row ∷ []) c.in_ok-reserve.ensures.items)

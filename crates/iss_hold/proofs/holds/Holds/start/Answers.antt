@@ -1,5 +1,5 @@
 use Rattle.std.proofs.Common.{◌≡◌, ◌==◌, ℕ, false, List, length, take, sym, subst, ap, ap₂, ◌∙◌}
-use Rattle.std.specs.Prelude.{Some, None, IsSome}
+use Rattle.std.specs.Prelude.{None, IsSome}
 use Rattle.std.specs.List.{list_any}
 use Rattle.std.specs.BTreeMap as tree
 use Rattle.std.specs.BTreeMap.{insert_entry}
@@ -7,14 +7,19 @@ use Rattle.iss_model.specs.rules.Activity.{txn_named}
 use Rattle.iss_model.specs.state.Cores.{Holdings, with_txn}
 use Rattle.iss_hold.specs.declared.hold.Hold.{Hold}
 use Rattle.iss_hold.specs.Holdings.{begun, holdings_of}
-use Rattle.iss_hold.specs.Indexes.{AreIndexed, by_name, by_user, by_expiry}
+use Rattle.iss_hold.specs.Indexes.{AreIndexed, by_user, by_expiry}
 use Rattle.iss_hold.proofs.Beginnings.{holdings_more}
-use Rattle.iss_hold.proofs.IndexesKept.{indexed_more, indexed_same, no_place_yet}
+use Rattle.iss_hold.proofs.IndexesKept.{indexed_more, indexed_same, no_place_yet, no_expiry_yet}
 use Rattle.iss_hold.proofs.Named.{without_last}
 use Rattle.iss_hold.proofs.holds.Holds.start.Goals as goal
 
-pub enter-requires : goal.enter-requires
-enter-requires c =
+pub enter-requires-clause-unordered : goal.enter-requires-clause-unordered
+enter-requires-clause-unordered c =
+    no_expiry_yet c.self.inside.table.holds c.self.inside.table.places c.self.inside.table.sums c.self.inside.table.order c.args.txn.now.expires c.args.txn.now.origin
+    c.self.invariant (subst (λ (h : Holdings). list_any (λ u. c.args.txn.now.origin == u.txn.origin) h.txns ≡ false) (sym c.self.view_is) c.requires.origin)
+
+pub enter-requires-clause-unknown : goal.enter-requires-clause-unknown
+enter-requires-clause-unknown c =
     no_place_yet c.self.inside.table.holds c.self.inside.table.places c.self.inside.table.sums c.self.inside.table.order c.args.txn.now.token c.self.invariant
     (subst (λ (h : Holdings). txn_named c.args.txn.now.token h.txns ≡ None) (sym c.self.view_is) c.requires.unknown)
 
@@ -27,7 +32,7 @@ invariant_of-self-in-Ok c =
     (indexed_more hs c.self.inside.table.places c.enter.new.places c.self.inside.table.sums c.begin_sum.new.sums c.self.inside.table.order c.enter.new.order t c.self.invariant
     (subst (λ (h : Holdings). txn_named t.token h.txns ≡ None) (sym c.self.view_is) c.requires.unknown)
     (subst (λ (h : Holdings). list_any (λ u. t.origin == u.txn.origin) h.txns ≡ false) (sym c.self.view_is) c.requires.origin)
-    (subst (λ (n : ℕ). tree.Updates by_name c.self.inside.table.places c.enter.new.places t.token (Some n)) len c.in-Ok.ensures.placed)
+    c.in-Ok.ensures.placed
     c.begin_sum.ensures.same c.begin_sum.ensures.stay
     (subst (λ (key : List ℕ × ℕ). IsSome (tree.get by_user c.begin_sum.new.sums key)) c.user_key.ensures c.in_ok-begin_sum.ensures.stands)
     (subst (λ (n : ℕ). c.enter.new.order.entries ≡ insert_entry by_expiry c.self.inside.table.order.entries (t.expires, t.origin) n) len c.in-Ok.ensures.entered)

@@ -1,0 +1,11 @@
+use Rattle.std.proofs.Common.{◌<◌, length, take, rules}
+use Rattle.iss_index.proofs.Hashed.{next_at, next_new, next_found}
+use Rattle.iss_index.proofs.places.Places.widened.Goals as goal
+
+pub loop-place-preserved : goal.loop-place-preserved
+loop-place-preserved c =
+    let below : c.loop-place.place < length c.args.names.now = search rules in
+    next_found c.args.names.now c.loop-place.place c.index-names-place.result below c.index-names-place.is c.put.new.self.groups.items c.put.new.self.others
+    (c.in_ok-put.ensures.put (take c.loop-place.place c.args.names.now) c.loop-place.invariant
+    (next_at c.args.names.now c.loop-place.place c.index-names-place.result below c.index-names-place.is)
+    (next_new c.args.names.now c.loop-place.place c.index-names-place.result below c.index-names-place.is c.requires.apart))

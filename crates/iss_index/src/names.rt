@@ -1,0 +1,107 @@
+//! Names, each once, found by hash.
+ghost use Rattle.std.specs.Prelude.{◌≡◌, ◌+◌, ◌<◌, ◌^◌, ◌∷◌, ◌++◌, [], None, Some, IfOk, OnOk, OnErr, length, slice_get};
+ghost use Rattle.std.specs.List.{IsDistinct};
+ghost use Rattle.std.specs.Str.{bytes_eq};
+ghost use Rattle.iss_index.specs.Places.{place_of};
+
+use crate::places::Places;
+use iss_model::Token;
+use std::alloc::{AllocError, Global};
+use std::marker::Model;
+
+/// Names in the order in which they were added, no two alike. Contracts see their list.
+///
+/// A name's hash points to a group of eight slots, one of which has its place. Names come from outside, and the hash is known to
+/// everybody: a name whose group is full has its place in a tree, where no choice of names makes a look-up slow.
+#[derive(Drop)]
+pub struct Names {
+    names: Vec<Token>,
+    places: Places,
+    alloc: Global,
+}
+
+impl Model for Names {
+    ghost use Rattle.std.specs.Prelude.{List, ℕ};
+
+    ghost Value = { List (List ℕ) };
+
+    ghost use Rattle.iss_index.specs.Hashing.{AreKept};
+
+    ghost view = { λ n. n.names.items };
+
+    ghost invariant = { λ n. AreKept n.places.groups.items n.places.others n.names.items };
+}
+
+impl Names {
+    /// No name. Nothing is allocated.
+    pub fn new(alloc: Global) -> Names
+        ensures { result ≡ [] }
+    {
+        Names {
+            names: Vec::new(alloc),
+            places: Places::new(alloc),
+            alloc,
+        }
+    }
+
+    /// How many names there are.
+    pub fn len(&self) -> usize
+        ensures { result ≡ length self.now }
+    {
+        self.names.len()
+    }
+
+    /// The name at a place.
+    pub fn at(&self, place: usize) -> &Token
+        requires { place < length self.now }
+        ensures { slice_get self.now place ≡ Some result.now }
+    {
+        &self.names[place]
+    }
+
+    /// The place of a name, counted from 0, or `None` where it wasn't added.
+    pub fn find(&self, name: &Token) -> Option<u32>
+        ensures value { result ≡ place_of name.now self.now }
+        ensures apart { IsDistinct bytes_eq self.now }
+    {
+        self.places.find(&self.names, name)
+    }
+
+    /// Adds a new name after the others, and tells its place. Where allocation fails all stays as it was, and so where
+    /// 2^32 - 1 names stand, as many as places are kept for.
+    pub fn add(&mut self, name: &Token) -> Result<u32, AllocError>
+        requires { place_of name.now self.old ≡ None }
+        ensures added { OnOk result (self.new ≡ self.old ++ name.now ∷ []) }
+        ensures place { IfOk result (λ place. place ≡ length self.old) }
+        ensures refused { OnErr result (self.new ≡ self.old) }
+    {
+        let place = place_after(self.names.len())?;
+        self.widen()?;
+        self.names.reserve(1)?;
+        self.places.put(name, place)?;
+        self.names.push(*name)?;
+        Ok(place)
+    }
+
+    /// Makes more groups where one name more is to have them.
+    fn widen(&mut self) -> Result<(), AllocError>
+        requires { length self.old + 1 < 2 ^ 32 }
+        ensures { self.new ≡ self.old }
+    {
+        if self.places.is_full(self.names.len()) {
+            self.places = self.places.widened(self.alloc, &self.names)?;
+        }
+        Ok(())
+    }
+}
+
+/// The place of one name more after so many.
+fn place_after(count: usize) -> Result<u32, AllocError>
+    ensures value { IfOk result (λ place. place ≡ count) }
+    ensures few { IfOk result (λ place. place + 1 < 2 ^ 32) }
+{
+    match u32::try_from(count) {
+        Ok(place) if place < u32::MAX => Ok(place),
+        _ => Err(AllocError),
+    }
+}

@@ -1,0 +1,122 @@
+//! The places of names, found by hash.
+ghost use Rattle.std.specs.Prelude.{◌≡◌, ◌+◌, ◌<◌, ◌≤◌, ◌^◌, ◌∷◌, ◌++◌, [], false, List, ℕ, None, IfOk, OnOk, OnErr, length, replicate};
+ghost use Rattle.std.specs.Bool.{OnTrue, OnFalse};
+ghost use Rattle.std.specs.List.{IsDistinct};
+ghost use Rattle.std.specs.Str.{bytes_eq};
+ghost use Rattle.iss_index.specs.Places.{place_of};
+ghost use Rattle.iss_index.specs.Hashing.{hash_of, group_of, has_room, slots_at, AreFound, PutsName, FillsGroup, free_group};
+
+use crate::groups::{FREE, Group, hash_of};
+use iss_model::Token;
+use std::alloc::{AllocError, Global};
+use std::collections::BTreeMap;
+
+/// How many names a group holds on average before there are twice as many groups.
+const LOAD: usize = 4;
+/// How many groups the first names are given.
+const FIRST_GROUPS: usize = 16;
+
+/// The places of names in a list that stands elsewhere.
+#[derive(Drop)]
+pub(crate) struct Places {
+    groups: Vec<Group>,
+    others: BTreeMap<Token, u32>,
+}
+
+impl Places {
+    /// No place. Nothing is allocated.
+    pub(crate) fn new(alloc: Global) -> Places
+        ensures { AreFound result.groups.items result.others [] }
+    {
+        Places {
+            groups: Vec::new(alloc),
+            others: BTreeMap::new(alloc),
+        }
+    }
+
+    /// The places of these names, in groups twice as many as now.
+    pub(crate) fn widened(&self, alloc: Global, names: &[Token]) -> Result<Places, AllocError>
+        requires few { length names.now < 2 ^ 32 }
+        requires apart { IsDistinct bytes_eq names.now }
+        ensures { IfOk result (λ places. AreFound places.groups.items places.others names.now) }
+    {
+        let count = self.groups.len().saturating_mul(2).max(FIRST_GROUPS);
+        let mut places = Places {
+            groups: free_groups(alloc, count)?,
+            others: BTreeMap::new(alloc),
+        };
+        for (place, name) in names.iter().enumerate() {
+            places.put(name, place as u32)?;
+        }
+        Ok(places)
+    }
+
+    /// Whether one name more is to have more groups first.
+    pub(crate) fn is_full(&self, count: usize) -> bool {
+        count / LOAD >= self.groups.len()
+    }
+
+    /// The place of a name.
+    pub(crate) fn find(&self, names: &[Token], name: &Token) -> Option<u32>
+        requires { AreFound self.now.groups.items self.now.others names.now }
+        ensures { result ≡ place_of name.now names.now }
+    {
+        if self.groups.is_empty() {
+            return self.others.get(name).copied();
+        }
+        let hash = hash_of(name);
+        let group = &self.groups[group_of(self.groups.len(), hash)];
+        if let Some(place) = group.place_of(hash, names, name) {
+            return Some(place);
+        }
+        if group.has_room() {
+            return None;
+        }
+        self.others.get(name).copied()
+    }
+
+    /// Notes the place of a name that has none. Where allocation fails all stays as it was.
+    pub(crate) fn put(&mut self, name: &Token, place: u32) -> Result<(), AllocError>
+        requires few { place + 1 < 2 ^ 32 }
+        ensures put { OnOk result (PutsName self.old.groups.items self.old.others self.new.groups.items self.new.others name.now place) }
+        ensures refused { OnErr result ((names : List (List ℕ)) → AreFound self.old.groups.items self.old.others names → AreFound self.new.groups.items self.new.others names) }
+    {
+        if self.put_in_group(name, place) {
+            return Ok(());
+        }
+        self.others.insert(*name, place)?;
+        Ok(())
+    }
+
+    /// Gives the place of a name a free slot of its group. Tells whether there was one.
+    fn put_in_group(&mut self, name: &Token, place: u32) -> bool
+        requires few { place + 1 < 2 ^ 32 }
+        ensures filled { OnTrue result (FillsGroup self.old.groups.items self.new.groups.items name.now place) }
+        ensures full { OnFalse result (self.new.groups.items ≡ self.old.groups.items) }
+        ensures no_room { OnFalse result (has_room (slots_at self.old.groups.items (group_of (length self.old.groups.items) (hash_of name.now))) ≡ false) }
+        ensures others { self.new.others ≡ self.old.others }
+    {
+        if self.groups.is_empty() {
+            return false;
+        }
+        let hash = hash_of(name);
+        let at = group_of(self.groups.len(), hash);
+        self.groups[at].put(hash, place)
+    }
+}
+
+/// The group, of so many, that a hash points to.
+fn group_of(count: usize, hash: u64) -> usize
+    requires { 0 < count }
+    ensures value { result ≡ group_of count hash }
+    ensures within { result < count }
+{
+    (hash / (1 << 32)) as usize % count
+}
+
+/// So many groups whose slots are free.
+fn free_groups(alloc: Global, count: usize) -> Result<Vec<Group>, AllocError>
+    ensures { IfOk result (λ groups. groups.items ≡ replicate count free_group) }
+{
+    Ok(vec![in alloc; FREE; count]?)
+}
