@@ -5,14 +5,9 @@ use Rattle.std.specs.Option.{option_map}
 use Rattle.iss_model.specs.declared.call.CallId.{CallId}
 use Rattle.iss_model.specs.declared.call.Opened.{Opened}
 use Rattle.iss_model.specs.rules.Activity.{CallNow, call_numbered}
-use Rattle.iss_call.specs.States.{asked_of}
+use Rattle.iss_call.specs.States.{looked_up}
 use Rattle.iss_call.specs.Orders.{AreNumbered}
 use Rattle.iss_call.proofs.Numbered.{found_at, number_at}
-
--- the calls of these numbers as they were opened, where there are such
-abbrev pub looked_up : List CallNow → List CallId → List Opened
-looked_up calls [] = []
-looked_up calls (id ∷ ids) = option_to_list (option_map (λ (c : CallNow). c.opened) (call_numbered id.0 calls)) ++ looked_up calls ids
 
 -- each of these is the call of its number
 abbrev AreFound : List CallNow → List CallNow → Type 0
@@ -42,9 +37,9 @@ looked_so all (c ∷ cs) h =
     ap (λ (o : Option CallNow). option_to_list (option_map (λ (d : CallNow). d.opened) o) ++ looked_up all (map (λ (d : CallNow). d.opened.call) cs)) h.0
     ∙ ap (λ (os : List Opened). c.opened ∷ os) (looked_so all cs h.1)
 
--- the asked calls of a transaction are those of their numbers
-pub asked_found : (all : List CallNow) (txn : List ℕ) (ids : List CallId) → AreNumbered 1 all → ids ≡ map (λ (c : CallNow). c.opened.call) (asked_of all txn)
-    → looked_up all ids ≡ map (λ (c : CallNow). c.opened) (asked_of all txn)
-asked_found all txn ids a e =
+-- those of the calls that pass a test are those of their numbers
+pub found_by : (all : List CallNow) (p : CallNow → Bool) (ids : List CallId) → AreNumbered 1 all → ids ≡ map (λ (c : CallNow). c.opened.call) (filter p all)
+    → looked_up all ids ≡ map (λ (c : CallNow). c.opened) (filter p all)
+found_by all p ids a e =
     ap (looked_up all) e
-    ∙ looked_so all (asked_of all txn) (found_where all _ all (all_found all all (λ i c at. by_place all i c a at)))
+    ∙ looked_so all (filter p all) (found_where all p all (all_found all all (λ i c at. by_place all i c a at)))

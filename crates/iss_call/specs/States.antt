@@ -1,7 +1,10 @@
 -- Calls as they stand, the state of one, those that are due and those of a transaction.
-use Rattle.std.specs.Prelude.{ℕ, nat_le, ◌&&◌, List, [], map, filter, fold, Option, Some, None}
+use Rattle.std.specs.Prelude.{ℕ, nat_le, ◌&&◌, List, [], ◌∷◌, ◌++◌, map, filter, fold, Option, Some, None, option_to_list}
+use Rattle.std.specs.Option.{option_map}
 use Rattle.std.specs.Str.{bytes_eq}
+use Rattle.iss_model.specs.declared.call.CallId.{CallId}
 use Rattle.iss_model.specs.declared.call.How.{How}
+use Rattle.iss_model.specs.declared.call.Opened.{Opened}
 use Rattle.iss_model.specs.declared.call.CallState.{CallState}
 use Rattle.iss_model.specs.declared.call.CallState.TheVariants as call_state
 use Rattle.iss_model.specs.rules.Activity.{CallNow, call_numbered, is_asked}
@@ -33,3 +36,8 @@ calls_due calls now = fold items_with [] (filter (λ item. nat_le item.since now
 -- the asked calls of a transaction, by number
 abbrev pub asked_of : List CallNow → List ℕ → List CallNow
 asked_of calls txn = filter (λ c. is_asked c && bytes_eq c.opened.txn txn) calls
+
+-- the calls of these numbers as they were opened, where there are such
+abbrev pub looked_up : List CallNow → List CallId → List Opened
+looked_up calls [] = []
+looked_up calls (id ∷ ids) = option_to_list (option_map (λ (c : CallNow). c.opened) (call_numbered id.0 calls)) ++ looked_up calls ids

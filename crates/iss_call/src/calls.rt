@@ -6,7 +6,7 @@ ghost use Rattle.iss_model.specs.declared.call.CallState.TheVariants as call_sta
 ghost use Rattle.iss_model.specs.rules.Activity.{call_numbered, is_asked};
 ghost use Rattle.iss_model.specs.rules.Due.{call_due, is_quiet};
 ghost use Rattle.iss_model.specs.state.Cores.{with_closed};
-ghost use Rattle.iss_call.specs.States.{now_of, state_in, calls_due, asked_of};
+ghost use Rattle.iss_call.specs.States.{now_of, state_in, calls_due, asked_of, looked_up};
 
 use crate::call::{Call, NotOpen};
 use crate::orders::Orders;
@@ -135,6 +135,15 @@ impl Calls {
         Ok(asked)
     }
 
+    /// The calls that are still asked as they were opened, by number.
+    pub fn asked_opened(&self, alloc: Global) -> Result<Vec<Opened>, AllocError>
+        ensures { IfOk result (λ v. v.items ≡ map (λ c. c.opened) (filter is_asked self.now)) }
+    {
+        let _calls = &self.calls;
+        let ids = self.asked(alloc)?;
+        self.opened_of(alloc, &ids)
+    }
+
     /// Whether the deadline of an asked call has come.
     pub fn is_due(&self, now: u64) -> bool
         ensures { result ≡ not (is_quiet (calls_due self.now now)) }
@@ -173,13 +182,20 @@ impl Calls {
     {
         let _calls = &self.calls;
         let ids = self.of_txn(alloc, txn)?;
-        let mut asked = Vec::new(alloc);
-        for id in &ids {
+        self.opened_of(alloc, &ids)
+    }
+
+    /// The calls of these numbers as they were opened, where there are such.
+    fn opened_of(&self, alloc: Global, ids: &[CallId]) -> Result<Vec<Opened>, AllocError>
+        ensures { IfOk result (λ v. v.items ≡ looked_up self.now ids.now) }
+    {
+        let mut found = Vec::new(alloc);
+        for id in ids {
             if let Some(call) = self.get(*id) {
-                asked.push(call.opened)?;
+                found.push(call.opened)?;
             }
         }
-        Ok(asked)
+        Ok(found)
     }
 
     /// Closes a call that is asked.

@@ -12,7 +12,7 @@ ghost use Rattle.iss_model.specs.rules.Histories.{time_of, history_facts, histor
 ghost use Rattle.iss_model.specs.state.Cores.{core_facts};
 ghost use Rattle.iss_call.specs.States as called;
 ghost use Rattle.iss_core.specs.Values.{StandsFor};
-ghost use Rattle.iss_core.specs.Views.{pending_notice, asked_calls, pending_numbers};
+ghost use Rattle.iss_core.specs.Views.{pending_notice, asked_calls, asked_openings, pending_numbers};
 
 use crate::Core;
 use iss_model::{Account, CallId, CallState, Currency, Notice, Opened, Reply, Token, Used};
@@ -123,6 +123,24 @@ impl Core {
             → IfOk result (λ v. v.items ≡ pending_numbers (history_facts (history_of rs))) }
     {
         self.state.notices.pending(alloc)
+    }
+
+    /// The calls that are asked as they were opened, by number.
+    pub fn asked(&self, alloc: Global) -> Result<Vec<Opened>, AllocError>
+        ensures value { IfOk result (λ v. v.items ≡ asked_openings (core_facts self.now.state)) }
+        ensures on_book { (rs : List Record) → StandsFor self.now rs
+            → IfOk result (λ v. v.items ≡ asked_openings (history_facts (history_of rs))) }
+    {
+        self.state.calls.asked_opened(alloc)
+    }
+
+    /// The notices that aren't acknowledged yet, in the order of their numbers.
+    pub fn pending(&self, alloc: Global) -> Result<Vec<Notice>, AllocError>
+        ensures value { IfOk result (λ v. v.items ≡ (core_facts self.now.state).pending) }
+        ensures on_book { (rs : List Record) → StandsFor self.now rs
+            → IfOk result (λ v. v.items ≡ (history_facts (history_of rs)).pending) }
+    {
+        self.state.notices.pending_notices(alloc)
     }
 
     /// The accounts that money was moved to or from: each gateway's by the number of its currency, and so each

@@ -10,7 +10,7 @@ use Rattle.iss_edge.proofs.PutLemmas.{puts_then, part_more, part_then, part_all}
 use Rattle.iss_edge.proofs.PutStretches.{puts_good, puts_go_on}
 use Rattle.iss_edge.proofs.StretchLemmas.{none_goes_on, good_up}
 use Rattle.iss_journal.specs.Place.{Place, free_at}
-use Rattle.iss_journal.specs.Region.{Region, append_bytes, EndsWith, ShowsClosed, ShowsFirmly, RestsFirst, StandsFirst}
+use Rattle.iss_journal.specs.Region.{Region, append_bytes, EndsWith, ShowsClosed, RestsFirst, StandsFirst}
 use Rattle.iss_journal.specs.Append.{ComesNext, append_puts, AppendsGood, AppendsGoing}
 use Rattle.iss_journal.proofs.Gates.{splice_behind, splice_gate, gate_open, gate_shut, one_byte}
 
@@ -25,7 +25,7 @@ module _ (region : Region) (bodies : List (List ℕ)) (j : ℕ) (body : List ℕ
         low = omega arith;
         high = omega arith;
         stand =
-            subst (λ (l : List (List ℕ)). ShowsFirmly region l image) (sym comes.next) (inl
+            inl (subst (λ (l : List (List ℕ)). ShowsClosed region l image) (sym comes.next)
             (record {
               rest = rest;
               ends = gate_open region (take j bodies) body rest image comes.is_body (omega (arith, room, comes.here, comes.to)) ends;
@@ -38,7 +38,7 @@ module _ (region : Region) (bodies : List (List ℕ)) (j : ℕ) (body : List ℕ
         high = omega arith;
         stand =
             inr
-            (body, gate_shut region (take j bodies) body (suc (suc gate)) rest image (λ one. omega (arith, one)) comes.is_body (omega (arith, room, comes.here, comes.to)) ends);
+            (body, comes.next, gate_shut region (take j bodies) body (suc (suc gate)) rest image (λ one. omega (arith, one)) comes.is_body (omega (arith, room, comes.here, comes.to)) ends);
       }
 
   stands_still : (image : List ℕ) → ShowsClosed region (take j bodies) image → StandsUpTo (StandsFirst region bodies) j (j + 1) image

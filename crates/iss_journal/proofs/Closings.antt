@@ -37,6 +37,14 @@ pub shows_firm : (region : Region) (bodies : List (List ℕ)) (image : List ℕ)
 shows_firm region bodies image firm =
     elim firm [ inl closed ↦ shows_closed region bodies image closed | inr left ↦ left.1.shows ]
 
+-- what an opening starts with is what it may leave
+pub opens_unchanged : (region : Region) (bodies : List (List ℕ)) (start image : List ℕ) (j : ℕ) → OpensFirst region bodies start image j → OpenedOrOneMore region bodies start image j
+opens_unchanged region bodies start image j opens =
+    elim opens.firm [
+      | inl closed ↦ inl closed
+      | inr left ↦ inr (left.0, subst (λ (l : List ℕ). LeavesBehind region (take j bodies) left.0 l) opens.same left.1, inl left.1)
+    ]
+
 -- one byte over another is a byte set
 spliced_one : (at byte : ℕ) (bytes : List ℕ) → at < length bytes → splice at (byte ∷ []) bytes ≡ set bytes at byte
 spliced_one at byte bytes lt =
@@ -57,24 +65,24 @@ module _ (region : Region) (bodies : List (List ℕ)) (j : ℕ) (place : Place) 
   -- the end gate before a record left behind, with any byte in its place
   torn_gate : (body : List ℕ) (byte : ℕ) (image : List ℕ) → LeavesBehind region (take j bodies) body start → LeavesBehind region (take j bodies) body image → OpenedOrOneMore region bodies start (splice place.gate (byte ∷ []) image) j
   torn_gate body zero image at_start left =
-      inl (inl (record {
+      inl (record {
         rest = left.shows.rest;
         ends = splice_gate region (take j bodies) place.gate left.shows.gate 0 left.shows.rest image is_end.here left.shows.ends;
-      }))
+      })
   torn_gate body (suc zero) image at_start left =
       let set_is : set image (length (bytes_before_gate region (take j bodies))) 1 ≡ splice place.gate (1 ∷ []) image =
       ap (λ (n : ℕ). set image n 1) is_end.here ∙ sym (spliced_one place.gate 1 image (within_image image left.shows)) in
-      inr (body, at_start, subst (λ (l : List ℕ). ShowsClosed region (take j bodies ++ body ∷ []) l) set_is left.opened)
+      inr (body, at_start, inr (subst (λ (l : List ℕ). ShowsClosed region (take j bodies ++ body ∷ []) l) set_is left.opened))
   torn_gate body (suc (suc byte)) image at_start left =
       let now = splice place.gate (suc (suc byte) ∷ []) image in
       let prefix = bytes_before_gate region (take j bodies) in
       let set_is : set image (length prefix) 1 ≡ set now (length prefix) 1 =
       sym (set-set image (length prefix) (suc (suc byte)) 1)
       ∙ ap (λ (l : List ℕ). set l (length prefix) 1) (ap (λ (n : ℕ). set image n (suc (suc byte))) is_end.here ∙ sym (spliced_one place.gate (suc (suc byte)) image (within_image image left.shows))) in
-      inl
-      (inr (
+      inr (
         body,
-        record {
+        at_start,
+        inl (record {
           shows = record {
             gate = suc (suc byte);
             shut = λ one. omega (arith, one);
@@ -82,8 +90,8 @@ module _ (region : Region) (bodies : List (List ℕ)) (j : ℕ) (place : Place) 
             ends = splice_gate region (take j bodies) place.gate left.shows.gate (suc (suc byte)) left.shows.rest image is_end.here left.shows.ends;
           };
           opened = subst (λ (l : List ℕ). ShowsClosed region (take j bodies ++ body ∷ []) l) set_is left.opened;
-        },
-      ))
+        }),
+      )
 
   -- a start whose end gate is not 0 has a record left behind
   left_at : (image : List ℕ) → (get_or start place.gate 0 ≡ 0 → ⊥) → OpensFirst region bodies start image j → (body : List ℕ) × LeavesBehind region (take j bodies) body image
@@ -108,11 +116,11 @@ module _ (region : Region) (bodies : List (List ℕ)) (j : ℕ) (place : Place) 
       let left = left_at image other opens in
       let at_start : LeavesBehind region (take j bodies) left.0 start = subst (λ (l : List ℕ). LeavesBehind region (take j bodies) left.0 l) opens.same left.1 in (
         omega (arith, lt),
-        stands_at image (inl opens.firm),
+        stands_at image (opens_unchanged region bodies start image j opens),
         λ torn one.
             let byte = one_byte torn one in
             stands_at (splice place.gate torn image) (subst (λ (l : List ℕ). OpenedOrOneMore region bodies start (splice place.gate l image) j) (sym byte.1) (torn_gate left.0 byte.0 image at_start left.1)),
-        stands_at (splice place.gate (0 ∷ []) image) (inl (inl (closed_now image shows))),
+        stands_at (splice place.gate (0 ∷ []) image) (inl (closed_now image shows)),
       )
 
   -- where the end gate is 0 already
@@ -122,7 +130,7 @@ module _ (region : Region) (bodies : List (List ℕ)) (j : ℕ) (place : Place) 
 
 still_none : (region : Region) (bodies : List (List ℕ)) (start : List ℕ) (j : ℕ) (steps : List Step) → actions_of steps ≡ [] → GoesOn (OpensFirst region bodies start) (OpenedOrOneMore region bodies start) (OpensFirst region bodies start) j j steps
 still_none region bodies start j steps none =
-    none_goes_on (OpensFirst region bodies start) (OpenedOrOneMore region bodies start) j steps (λ bytes opens. inl opens.firm) none
+    none_goes_on (OpensFirst region bodies start) (OpenedOrOneMore region bodies start) j steps (λ bytes opens. opens_unchanged region bodies start bytes j opens) none
 
 abbrev unput : (place : Place) (a b : World) → Same a b → PutsPart (one_put place.gate (0 ∷ [])) a b
 unput place a b same =

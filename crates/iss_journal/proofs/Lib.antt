@@ -2,7 +2,7 @@ mod Readings
 pub mod Records
 pub mod Gates
 mod Appends
-mod Formats
+pub mod Formats
 mod Scans
 pub mod Closings
-mod ReadLemmas
+pub mod ReadLemmas

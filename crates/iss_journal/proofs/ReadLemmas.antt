@@ -4,7 +4,7 @@ use Rattle.std.specs.Int.{w32, to_be_bytes, from_be_bytes}
 use Rattle.std.proofs.lemmas.List.{append_cancel_left, take-append-drop, drop_more, get_or-drop}
 use Rattle.std.proofs.lemmas.Nat.{from_be_bytes-to_be_bytes_4}
 use Rattle.iss_journal.specs.Place.{Place}
-use Rattle.iss_journal.specs.Region.{Region, AreBodies, with_length, need_of, frames, bytes_before_gate}
+use Rattle.iss_journal.specs.Region.{Region, AreBodies, with_length, need_of, frames, bytes_before_gate, Shows}
 use Rattle.iss_journal.specs.Opening.{BadAt}
 use Rattle.iss_journal.specs.Reading.{ReadUpTo, BeginsToRead, ReadsOn, ReadsToTheEnd, BadShowsNothing}
 use Rattle.iss_journal.proofs.Records.{front-push, are_bodies-push, length-spelled, SameSpelled, same_spelled}
@@ -64,8 +64,9 @@ reads_to_the_end region bodies place device read shut =
     }
 
 -- what is left of a list of records after those that it begins with
-record NextOf (bodies others : List (List ℕ)) (gate : ℕ) (rest tail : List ℕ) : Type 0 where
-  left : List (List ℕ)
+pub record NextOf (bodies others : List (List ℕ)) (gate : ℕ) (rest tail : List ℕ) : Type 0 where
+  pub left : List (List ℕ)
+  pub begins : others ≡ bodies ++ left
   sound : AreBodies left
   size : length (frames others) ≡ length (frames bodies) + length (frames left)
   is : tail ≡ frames left ++ gate ∷ rest
@@ -76,7 +77,7 @@ length-framed body bodies = omega (arith, length-append (with_length body) (fram
 -- records that stand before an open gate are the first of each list that the device shows
 first_of : (bodies others : List (List ℕ)) (gate : ℕ) (rest tail : List ℕ) → AreBodies bodies → AreBodies others → (gate ≡ 1 → ⊥) → frames bodies ++ tail ≡ frames others ++ gate ∷ rest → NextOf bodies others gate rest tail
 first_of [] others gate rest tail sound_b sound_o shut e =
-    record { left = others; sound = sound_o; size = omega arith; is = e }
+    record { left = others; begins = refl; sound = sound_o; size = omega arith; is = e }
 first_of (b ∷ bodies) [] gate rest tail sound_b sound_o shut e = let one : gate ≡ 1 = cc in absurd (shut one)
 first_of (b ∷ bodies) (o ∷ others) gate rest tail sound_b sound_o shut e =
     let tails : (with_length b ++ frames bodies) ++ tail ≡ (with_length o ++ frames others) ++ gate ∷ rest = ap (λ (l : List ℕ). drop 1 l) e in
@@ -86,6 +87,7 @@ first_of (b ∷ bodies) (o ∷ others) gate rest tail sound_b sound_o shut e =
     let next : NextOf bodies others gate rest tail = first_of bodies others gate rest tail sound_b.1 sound_o.1 shut same.rest in
     record {
       left = next.left;
+      begins = ap (λ (x : List ℕ). x ∷ others) (sym same.body) ∙ ap (λ (l : List (List ℕ)). b ∷ l) next.begins;
       sound = next.sound;
       size = omega (arith, next.size, length-framed b bodies, length-framed o others, ap length same.body);
       is = next.is;
@@ -115,14 +117,19 @@ not_bad (body ∷ left) place gate rest device sound shut room is first bad =
           ]
     ]
 
-pub bad_shows_nothing : BadShowsNothing
-bad_shows_nothing region bodies others place device read bad shows =
+-- what was read is the first of what the device shows
+pub next_shown : (region : Region) (bodies others : List (List ℕ)) (place : Place) (device : List ℕ) → ReadUpTo region bodies place device → (shows : Shows region others device) → NextOf bodies others shows.gate shows.rest (drop place.gate device)
+next_shown region bodies others place device read shows =
     let tail = drop place.gate device in
     let both : bytes_before_gate region bodies ++ tail ≡ bytes_before_gate region others ++ shows.gate ∷ shows.rest = sym read.is ∙ shows.ends.is in
     let grouped : region.below ++ (frames bodies ++ tail) ≡ region.below ++ (frames others ++ shows.gate ∷ shows.rest) =
     sym (append_assoc region.below (frames bodies) tail) ∙ both ∙ append_assoc region.below (frames others) (shows.gate ∷ shows.rest) in
-    let next : NextOf bodies others shows.gate shows.rest tail =
-    first_of bodies others shows.gate shows.rest tail read.sound shows.ends.sound shows.shut (append_cancel_left region.below (frames bodies ++ tail) (frames others ++ shows.gate ∷ shows.rest) grouped) in
+    first_of bodies others shows.gate shows.rest tail read.sound shows.ends.sound shows.shut (append_cancel_left region.below (frames bodies ++ tail) (frames others ++ shows.gate ∷ shows.rest) grouped)
+
+pub bad_shows_nothing : BadShowsNothing
+bad_shows_nothing region bodies others place device read bad shows =
+    let tail = drop place.gate device in
+    let next : NextOf bodies others shows.gate shows.rest tail = next_shown region bodies others place device read shows in
     let room : place.gate + length (frames next.left) < place.to =
     omega (arith, next.size, shows.ends.within, read.end_gate.here, read.end_gate.to, length-append region.below (frames bodies), length-append region.below (frames others)) in
     let first : get_or device place.gate 0 ≡ get_or tail 0 0 = ap (λ (n : ℕ). get_or device n 0) (sym (add-zero place.gate)) ∙ sym (get_or-drop place.gate device 0 0) in

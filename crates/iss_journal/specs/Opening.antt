@@ -56,11 +56,13 @@ pub record OpensFirst (region : Region) (bodies : List (List ℕ)) (start image 
   pub same : image ≡ start
   pub firm : ShowsFirmly region (take i bodies) image
 
--- what a stop may leave within an opening: the first i of these records firmly, or also the one that was left behind at the start
+-- What a stop may leave within an opening: the first i of these records with an end gate of 0, or with the record left behind that was so
+-- at the start, or also that one.
 abbrev pub OpenedOrOneMore : Region → List (List ℕ) → List ℕ → List ℕ → ℕ → Type 0
 OpenedOrOneMore region bodies start image i =
-    ShowsFirmly region (take i bodies) image
-    ⊎ ((body : List ℕ) × LeavesBehind region (take i bodies) body start × ShowsClosed region (take i bodies ++ body ∷ []) image)
+    ShowsClosed region (take i bodies) image
+    ⊎ ((body : List ℕ) × LeavesBehind region (take i bodies) body start
+    × (LeavesBehind region (take i bodies) body image ⊎ ShowsClosed region (take i bodies ++ body ∷ []) image))
 
 -- the end gate of these records stands at this place
 pub record IsEndGate (region : Region) (bodies : List (List ℕ)) (place : Place) : Type 0 where
@@ -68,7 +70,7 @@ pub record IsEndGate (region : Region) (bodies : List (List ℕ)) (place : Place
   pub to : region.to ≡ place.to
 
 -- The end gate was made 0, or a part of that was done, or nothing, and that is good where the end gate of the first j records stands
--- at this place: each image of each moment shows them firmly, or also the record that was left behind.
+-- at this place: each image of each moment shows them, with nothing left behind or what was, or also the record that was left behind.
 pub record ClosesGood (place : Place) (a b : World) : Type 0 where
   pub part : PutsPart (one_put place.gate (0 ∷ [])) a b
   pub good : (region : Region) (bodies : List (List ℕ)) (j : ℕ) (steps : List Step)

@@ -77,6 +77,8 @@ ShowsOnce = (region : Region) (xs ys : List (List ℕ)) (image : List ℕ) → S
 abbrev pub RestsFirst : Region → List (List ℕ) → List ℕ → ℕ → Type 0
 RestsFirst region bodies image i = ShowsClosed region (take i bodies) image
 
--- what a stop may leave within a stretch: the first i of these records, firmly
+-- What a stop may leave within a stretch: the first i of these records with an end gate of 0, or with the next of them left behind.
 abbrev pub StandsFirst : Region → List (List ℕ) → List ℕ → ℕ → Type 0
-StandsFirst region bodies image i = ShowsFirmly region (take i bodies) image
+StandsFirst region bodies image i =
+    ShowsClosed region (take i bodies) image
+    ⊎ ((body : List ℕ) × (take (i + 1) bodies ≡ take i bodies ++ body ∷ []) × LeavesBehind region (take i bodies) body image)

@@ -85,6 +85,13 @@ impl Notices {
         self.pending.keys().copied().collect(alloc)
     }
 
+    /// The notices that aren't acknowledged yet, in the order of their numbers.
+    pub fn pending_notices(&self, alloc: Global) -> Result<Vec<Notice>, AllocError>
+        ensures { IfOk result (λ v. v.items ≡ self.now.pending) }
+    {
+        self.pending.values().copied().collect(alloc)
+    }
+
     /// A notice, `None` exactly where there is none of that number or it is acknowledged.
     pub fn get(&self, number: u32) -> Option<&Notice>
         ensures { option_copied result ≡ pending_notice number self.now }

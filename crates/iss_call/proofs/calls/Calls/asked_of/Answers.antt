@@ -1,10 +1,13 @@
-use Rattle.std.proofs.Common.{◌++◌, List, ap, ◌∙◌, subst}
-use Rattle.iss_model.specs.declared.call.Opened.{Opened}
+use Rattle.std.proofs.Common.{◌∙◌, subst, ◌&&◌}
+use Rattle.std.specs.Str.{bytes_eq}
+use Rattle.std.proofs.lemmas.Result.{IfOk-weaker}
+use Rattle.iss_model.specs.rules.Activity.{is_asked}
 use Rattle.iss_call.specs.Orders.{AreNumbered}
-use Rattle.iss_call.proofs.Found.{looked_up, asked_found}
+use Rattle.iss_call.proofs.Found.{found_by}
 use Rattle.iss_call.proofs.calls.Calls.asked_of.Goals as goal
 
-pub loop-id-init : goal.loop-id-init
-loop-id-init c =
-    ap (λ (os : List Opened). os ++ looked_up c.args.self.now c.deref-id-items.result.now) c.new-asked.ensures.items
-    ∙ asked_found c.args.self.now c.args.txn.now c.deref-id-items.result.now (subst (AreNumbered 1) c.self.view_is c.self.invariant.numbered) (c.deref-id-items.ensures.value ∙ c.in_ok-ids.ensures)
+pub returns : goal.returns
+returns c =
+    IfOk-weaker c.opened_of.result _ _
+    (λ v e. e ∙ found_by c.args.self.now (λ x. is_asked x && bytes_eq x.opened.txn c.args.txn.now) c.deref.result.now (subst (AreNumbered 1) c.self.view_is c.self.invariant.numbered) (c.deref.ensures.value ∙ c.in_ok-ids.ensures))
+    c.opened_of.ensures
