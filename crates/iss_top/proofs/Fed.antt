@@ -4,8 +4,9 @@ use Rattle.std.proofs.lemmas.Bool.{eqb-true}
 use Rattle.iss_edge.specs.World.{World}
 use Rattle.iss_model.specs.state.Cores.{CoreState}
 use Rattle.iss_top.specs.Lines.{has_line_feed, kept_with}
-use Rattle.iss_top.specs.Progress.{line_texts, line_next, texts_to_come, Says, SaysSome, Fed, FedPart}
-use Rattle.iss_top.proofs.Saying.{says_nothing, says_none, says_all, says_then, says_then_some}
+use Rattle.iss_top.specs.Progress.{line_texts, line_next, texts_to_come, Fed, FedPart}
+use Rattle.iss_texts.specs.Sending.{Says, SaysSome}
+use Rattle.iss_texts.proofs.Saying.{says_nothing, says_none, says_all, says_then, says_then_some}
 use Rattle.iss_top.proofs.Feeding.{to_come-run, to_come-kept_run, to_come-end}
 
 -- bytes that end no line were kept

@@ -1,10 +1,7 @@
-pub mod Rows
 pub mod ReplyLemmas
 pub mod Feeding
 pub mod Keeping
 pub mod Finding
-pub mod Saying
-pub mod ToldSaying
 pub mod Fed
 pub mod ToldFed
 pub mod Running

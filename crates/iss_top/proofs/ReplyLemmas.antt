@@ -21,13 +21,13 @@ use Rattle.iss_event.specs.declared.line.Mode.TheVariants.{Lines}
 use Rattle.iss_event.specs.declared.line.FormFault.{FormFault}
 use Rattle.iss_event.specs.Readings.{line_read}
 use Rattle.iss_event.specs.FormLines.{form_text}
-use Rattle.iss_top.specs.declared.texts.Texts.{Texts}
+use Rattle.iss_texts.specs.declared.row.Texts.{Texts}
 use Rattle.iss_top.specs.Dry.{as_reading, reading_of, each_bytes, reply_of_line}
 use Rattle.iss_top.specs.Lines.{is_blank}
-use Rattle.iss_top.specs.TextRows.{Gains, HasNone, HasAll, cut_at}
+use Rattle.iss_texts.specs.TextRows.{Gains, HasNone, HasAll}
 use Rattle.iss_top.specs.Progress.{line_texts}
 use Rattle.iss_top.specs.Tells.{Replies, Records}
-use Rattle.iss_top.proofs.Rows.{gains_then, gained_all, all_cut}
+use Rattle.iss_texts.proofs.Rows.{gains_then, gained_all}
 
 -- ---- texts
 
@@ -120,10 +120,7 @@ pub stamp_or_start : (at : Option ℕ) → is_stamp_or_none at ≡ true → is_s
 stamp_or_start (Some at) h = h
 stamp_or_start None h = refl
 
--- the texts in the row of a line that isn't blank are those that it is told
-pub line_cut : (s : CoreState) (line bytes ends : List ℕ) (t : Texts) → is_blank line ≡ false → bytes ≡ t.bytes.items → ends ≡ t.ends.items → HasAll (each_bytes (reply_of_line s line).texts) t
-    → cut_at 0 bytes ends ≡ line_texts s line
+-- a line that isn't blank is told what its input is told
+pub line_told : (s : CoreState) (line : List ℕ) → is_blank line ≡ false → each_bytes (reply_of_line s line).texts ≡ line_texts s line
 unfolding line_texts
-line_cut s line bytes ends t written row places all =
-    let texts = each_bytes (reply_of_line s line).texts in
-    rw (row, places) (all_cut texts t all) ∙ ap (λ (b : Bool). cond b [] texts) (sym written)
+line_told s line written = ap (λ (b : Bool). cond b [] (each_bytes (reply_of_line s line).texts)) (sym written)

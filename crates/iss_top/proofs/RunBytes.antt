@@ -8,9 +8,10 @@ use Rattle.iss_edge.specs.World.{World, Told, sent_on}
 use Rattle.iss_edge.proofs.Tolds.{told_map, sent_on-append}
 use Rattle.iss_model.specs.run.Transcripts.{Text, bytes_of}
 use Rattle.iss_top.specs.Dry.{each_bytes, dry_texts, dry_output}
-use Rattle.iss_top.specs.Progress.{is_output, Sends, emits, FailsAt, GoOut, Begins}
+use Rattle.iss_top.specs.Progress.{is_output, Sends, Begins}
+use Rattle.iss_texts.specs.Sending.{emits, FailsAt, GoOut}
 use Rattle.iss_top.specs.Runs.{DryRun, EmitsTexts, Ran}
-use Rattle.iss_top.proofs.Rows.{concat-append}
+use Rattle.iss_texts.proofs.Rows.{concat-append}
 
 bytes_in_row : (texts : List Text) → bytes_of texts ≡ concat (each_bytes texts)
 bytes_in_row [] = refl

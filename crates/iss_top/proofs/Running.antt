@@ -9,9 +9,10 @@ use Rattle.iss_agreement.proofs.CoreOfBook.{core_transcript}
 use Rattle.iss_model.specs.run.Transcripts.{Text, transcript}
 use Rattle.iss_top.specs.Lines.{is_blank, parts_of, lines_of}
 use Rattle.iss_top.specs.Dry.{reading_of, each_bytes, reply_of_line, dry_texts}
-use Rattle.iss_top.specs.Progress.{line_texts, line_next, lines_texts, texts_to_come, emits, GoOut, SendsEach, SendsSome, Says, SaysSome, Fed, AreFirst, FedPart}
+use Rattle.iss_top.specs.Progress.{line_texts, line_next, lines_texts, texts_to_come, Fed, FedPart}
+use Rattle.iss_texts.specs.Sending.{emits, GoOut, SendsEach, SendsSome, Says, SaysSome, AreFirst}
 use Rattle.iss_top.specs.Runs.{TakesIn, IsOnItsWay, EmitsTexts, Ran}
-use Rattle.iss_top.proofs.Saying.{sends_nothing, sends_then, sends_on, all_out, all_sent, then_some, some_first}
+use Rattle.iss_texts.proofs.Saying.{sends_nothing, sends_then, sends_on, all_out, all_sent, then_some, some_first}
 use Rattle.iss_top.proofs.Feeding.{to_come-last, some_parts}
 
 -- ---- the transcript is what the parts are told in a row

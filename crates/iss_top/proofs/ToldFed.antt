@@ -4,7 +4,8 @@ use Rattle.iss_edge.specs.World.{World, Told}
 use Rattle.iss_edge.proofs.Tolds.{told_map, told_then, told_self}
 use Rattle.iss_model.specs.state.Cores.{CoreState}
 use Rattle.iss_top.specs.Lines.{has_line_feed, kept_with}
-use Rattle.iss_top.specs.Progress.{line_texts, line_next, Says, SaysSome, Fed, FedPart}
+use Rattle.iss_top.specs.Progress.{line_texts, line_next, Fed, FedPart}
+use Rattle.iss_texts.specs.Sending.{Says, SaysSome}
 use Rattle.iss_top.proofs.Feeding.{next_room}
 use Rattle.iss_top.proofs.Fed.{FedUpTo, IsToldAs, fed_run, fed_line, part_line, part_nothing, upto_begins, upto_then, upto_part, upto_ends, upto_stops}
 

@@ -9,7 +9,8 @@ use Rattle.iss_model.specs.state.Cores.{CoreState, no_core}
 use Rattle.iss_top.specs.declared.stop.Stop.{Stop}
 use Rattle.iss_top.specs.declared.stop.Stop.TheVariants as stop
 use Rattle.iss_top.specs.Statuses.{status_of}
-use Rattle.iss_top.specs.Progress.{line_texts, Says, SaysSome, Fed, FedPart, ReplyCause}
+use Rattle.iss_top.specs.Progress.{line_texts, Fed, FedPart, ReplyCause}
+use Rattle.iss_texts.specs.Sending.{Says, SaysSome}
 use Rattle.iss_top.specs.Runs.{IsOnItsWay, Ran}
 use Rattle.iss_top.proofs.Running.{way_begins, way_goes_on, ends_at_start, ends_at_input, ends_in_piece, ends_too_long, ends_well, ends_in_last}
 

@@ -1,6 +1,5 @@
 pub mod Statuses
 pub mod Lines
-pub mod TextRows
 pub mod Dry
 pub mod Progress
 pub mod Runs

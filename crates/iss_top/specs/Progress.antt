@@ -1,10 +1,11 @@
 -- A dry run on its way: what was told so far, and what the rest of the input will be told.
-use Rattle.std.specs.Prelude.{◌≡◌, ℕ, List, [], ◌∷◌, ◌++◌, Bool, true, false, ◌==◌, ◌⊎◌, map, IsTrue, IfErr, Result, if◌then◌else◌}
+use Rattle.std.specs.Prelude.{◌≡◌, ℕ, List, [], ◌∷◌, ◌++◌, Bool, false, ◌==◌, IsTrue, IfErr, Result, if◌then◌else◌}
 use Rattle.std.specs.List.{list_all}
 use Rattle.iss_edge.specs.declared.outside.Action.{Action}
 use Rattle.iss_edge.specs.declared.outside.Action.TheVariants.{Write, Sync, Emit, Dial, Close}
 use Rattle.iss_edge.specs.World.{World, Faults, Later, Rose, sent_on}
 use Rattle.iss_model.specs.state.Cores.{CoreState}
+use Rattle.iss_texts.specs.Sending.{Says, SaysSome, AreFirst}
 use Rattle.iss_top.specs.declared.stop.Stop.{Stop}
 use Rattle.iss_top.specs.declared.stop.Stop.TheVariants as stop
 use Rattle.iss_top.specs.Lines.{is_blank, onto_first, parts_of}
@@ -43,51 +44,6 @@ pub record Sends (text : List ℕ) (a b : World) : Type 0 where
   pub outputs : IsTrue (list_all is_output actions)
   pub sent : sent_on 0 actions ≡ text
 
--- an emit on channel 0 for each text
-abbrev pub emits : List (List ℕ) → List Action
-emits texts = map (λ text. Emit (record { 0 = 0 }) text true) texts
-
--- what was done is a failed emit on channel 0 of a prefix of the first text
-pub record FailsAt (texts : List (List ℕ)) (actions : List Action) : Type 0 where
-  pub text : List ℕ
-  pub others : List (List ℕ)
-  pub first : texts ≡ text ∷ others
-  pub prefix : List ℕ
-  pub back : List ℕ
-  pub cut : text ≡ prefix ++ back
-  pub action : actions ≡ Emit (record { 0 = 0 }) prefix false ∷ []
-
--- What was done is an emit on channel 0 for each of some first texts, and then nothing, or a failed emit of a prefix of the next.
-pub record GoOut (texts : List (List ℕ)) (actions : List Action) : Type 0 where
-  pub whole : List (List ℕ)
-  pub rest : List (List ℕ)
-  pub cut : texts ≡ whole ++ rest
-  pub last : List Action
-  pub done : actions ≡ emits whole ++ last
-  pub ended : (last ≡ []) ⊎ FailsAt rest last
-
--- the device is as it was, and each of these texts went out by an emit of its own
-pub record SendsEach (texts : List (List ℕ)) (a b : World) : Type 0 where
-  pub device : b.device ≡ a.device
-  pub grew : b.trace ≡ a.trace ++ emits texts
-
--- the device is as it was, and of these texts as many went out as came to it
-pub record SendsSome (texts : List (List ℕ)) (a b : World) : Type 0 where
-  pub device : b.device ≡ a.device
-  pub actions : List Action
-  pub grew : b.trace ≡ a.trace ++ actions
-  pub out : GoOut texts actions
-
--- nothing was done but that each of these texts went out
-pub record Says (texts : List (List ℕ)) (a b : World) : Type 0 where
-  pub left : b.left ≡ a.left
-  pub sends : SendsEach texts a b
-
--- nothing was done but that some of these texts went out
-pub record SaysSome (texts : List (List ℕ)) (a b : World) : Type 0 where
-  pub left : b.left ≡ a.left
-  pub sends : SendsSome texts a b
-
 -- a piece of input was taken in: what it is told went out, and the rest of the input is still to be told
 pub record Fed (s : CoreState) (line piece : List ℕ) (s' : CoreState) (line' : List ℕ) (a b : World) : Type 0 where
   pub texts : List (List ℕ)
@@ -98,11 +54,6 @@ pub record Fed (s : CoreState) (line piece : List ℕ) (s' : CoreState) (line' :
 pub record Begins (text whole : List ℕ) : Type 0 where
   pub back : List ℕ
   pub cut : whole ≡ text ++ back
-
--- these texts come first
-pub record AreFirst (texts whole : List (List ℕ)) : Type 0 where
-  pub back : List (List ℕ)
-  pub cut : whole ≡ texts ++ back
 
 -- a piece of input was taken in in part: what went out is some of the first texts that are to be told, whatever comes after the piece
 pub record FedPart (s : CoreState) (line piece : List ℕ) (a b : World) : Type 0 where

@@ -7,7 +7,8 @@ use Rattle.iss_model.specs.state.Cores.{CoreState, no_core}
 use Rattle.iss_top.specs.declared.stop.Stop.{Stop}
 use Rattle.iss_top.specs.declared.stop.Stop.TheVariants as stop
 use Rattle.iss_top.specs.Dry.{dry_texts, dry_output, each_bytes}
-use Rattle.iss_top.specs.Progress.{texts_to_come, Sends, emits, GoOut, SendsEach, Begins}
+use Rattle.iss_top.specs.Progress.{texts_to_come, Sends, Begins}
+use Rattle.iss_texts.specs.Sending.{emits, GoOut, SendsEach}
 
 -- these bytes were taken from channel 0, this text went out on it, and nothing else was done
 pub record Passes (took text : List ℕ) (a b : World) : Type 0 where

@@ -5,9 +5,9 @@ use Rattle.iss_model.specs.declared.input.Record.{Record}
 use Rattle.iss_model.specs.rules.Stepping.{step}
 use Rattle.iss_model.specs.state.Cores.{CoreState, core_keeper}
 use Rattle.iss_model.specs.run.Transcripts.{LineReply, entry_texts}
-use Rattle.iss_top.specs.declared.texts.Texts.{Texts}
+use Rattle.iss_texts.specs.declared.row.Texts.{Texts}
 use Rattle.iss_top.specs.Dry.{each_bytes}
-use Rattle.iss_top.specs.TextRows.{Gains, HasAll}
+use Rattle.iss_texts.specs.TextRows.{Gains, HasAll}
 
 -- this state stands after a line, and these are its texts
 pub record Replies (told : LineReply CoreState) (after : CoreState) (kept : Texts) : Type 0 where

@@ -4,18 +4,21 @@ ghost use Rattle.iss_model.specs.declared.limits.TheConstants.{MOST_RECORDS};
 ghost use Rattle.iss_model.specs.Forms.{is_in_form, is_stamp, is_stamp_or_none};
 ghost use Rattle.iss_model.specs.rules.Judging.{judge};
 ghost use Rattle.iss_model.specs.state.Cores.{core_keeper};
-ghost use Rattle.iss_model.specs.run.Sayings.{answer_left};
+ghost use Rattle.iss_model.specs.run.Sayings.{answer_left, said_of_time};
 ghost use Rattle.iss_model.specs.run.Transcripts.{sound, said_text, after_line};
 ghost use Rattle.iss_core.specs.Values.{IsNext};
 ghost use Rattle.iss_top.specs.Dry.{reply_of_line};
-ghost use Rattle.iss_top.specs.TextRows.{Gains, HasNone};
+ghost use Rattle.iss_texts.specs.TextRows.{Gains, HasNone};
 ghost use Rattle.iss_top.specs.Tells.{Replies, Records};
 
-use crate::texts::Texts;
 use iss_core::Core;
 use iss_event::{Line, LineFault, Mode, Scratch, read_line_in};
 use iss_model::{Input, Judged, Record};
+use iss_texts::Texts;
 use std::alloc::{AllocError, Global};
+
+/// The instance whose tokens stand in the texts of a dry run.
+pub(crate) const DRY_INSTANCE: u64 = 0;
 
 /// Takes a line that is not blank, adds what it is told to no texts, and returns the core after it.
 pub(crate) fn answer(
@@ -52,7 +55,7 @@ fn decide(alloc: Global, core: Core, said: &Line, texts: &mut Texts) -> Result<C
     match core.judge(alloc, &said.input, at)? {
         Judged::New(accepted) => {
             let next = take_up(alloc, core, &accepted, texts)?;
-            texts.put_time_taken(&said.input)?;
+            put_time_taken(&said.input, texts)?;
             Ok(next)
         }
         Judged::Clock(clock) => {
@@ -81,8 +84,19 @@ fn take_up(
     ensures { IfOk result (λ next. Records core.state accepted.now next.state texts.old texts.new) }
 {
     let (next, entries) = core.step(alloc, accepted)?;
-    texts.put_entries(&entries)?;
+    texts.put_entries(&entries, DRY_INSTANCE)?;
     Ok(next)
+}
+
+/// Adds that a time was taken, where the input is one.
+#[tactic(auto, using(iss_texts::proofs::Rows::none_more))]
+fn put_time_taken(input: &Input, texts: &mut Texts) -> Result<(), AllocError>
+    ensures { OnOk result (Gains (map said_text (said_of_time input.now)) texts.old texts.new) }
+{
+    match input {
+        Input::Time => texts.put_time(),
+        _ => Ok(()),
+    }
 }
 
 /// Adds the answer of an input that isn't new once the time is taken up.

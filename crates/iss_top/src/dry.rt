@@ -5,11 +5,11 @@ ghost use Rattle.iss_edge.specs.Calls.{Takes, Same};
 ghost use Rattle.iss_top.specs.Statuses.{status_of};
 ghost use Rattle.iss_top.specs.Runs.{Ran, IsCaused};
 
+use crate::answer::DRY_INSTANCE;
 use crate::buffer::LineBuffer;
 use crate::feed::feed;
 use crate::replying::send_reply;
 use crate::stop::Stop;
-use crate::texts::DRY_INSTANCE;
 use crate::workspace::Workspace;
 use iss_core::Core;
 use iss_edge::{Channel, Edge};

@@ -12,7 +12,6 @@ mod feed;
 mod format;
 mod replying;
 mod stop;
-mod texts;
 mod words;
 mod workspace;
 

@@ -1,20 +1,20 @@
 //! The texts that lines are told, on channel 0.
-ghost use Rattle.std.specs.Prelude.{◌≡◌, ◌<◌, [], ◌∷◌, length, IfOk, OnOk, OnErr};
+ghost use Rattle.std.specs.Prelude.{◌≡◌, ◌<◌, IfOk, OnOk, OnErr};
 ghost use Rattle.iss_model.specs.declared.limits.TheConstants.{MOST_RECORDS};
 ghost use Rattle.iss_edge.specs.World.{Told};
-ghost use Rattle.iss_top.specs.TextRows.{cut_at, AreEnds};
-ghost use Rattle.iss_top.specs.Progress.{line_texts, line_next, Says, SaysSome, IsReplying};
+ghost use Rattle.iss_top.specs.Progress.{line_texts, line_next, IsReplying};
+ghost use Rattle.iss_texts.specs.Sending.{Says, SaysSome};
 
 use crate::answer::answer;
 use crate::buffer::is_blank;
 use crate::stop::Stop;
 use crate::workspace::Workspace;
 use iss_core::Core;
-use iss_edge::{Channel, Edge};
+use iss_edge::Edge;
 use std::alloc::Global;
 
 /// Sends what a line is told, and returns the core after it. A blank line is told nothing.
-#[tactic(auto, using(crate::proofs::Saying::says_nothing), unfolding(crate::specs::Progress::line_texts, crate::specs::Progress::line_next))]
+#[tactic(auto, using(iss_texts::proofs::Saying::says_nothing), unfolding(crate::specs::Progress::line_texts, crate::specs::Progress::line_next))]
 pub(crate) fn send_reply<E: Edge>(
     alloc: Global,
     core: Core,
@@ -34,32 +34,8 @@ pub(crate) fn send_reply<E: Edge>(
     let Workspace { scratch, texts } = workspace;
     texts.clear();
     let next = answer(alloc, core, line, scratch, texts)?;
-    send_each(edge, &texts.bytes, &texts.ends)?;
-    Ok(next)
-}
-
-/// Sends each text of a row, by an emit of its own.
-fn send_each<E: Edge>(edge: &mut E, bytes: &[u8], ends: &[usize]) -> Result<(), Stop>
-    requires { AreEnds 0 (length bytes.now) ends.now }
-    ensures told { OnOk result (Told (Says (cut_at 0 bytes.now ends.now)) (E.told edge.old) (E.told edge.new)) }
-    ensures part { OnErr result (Told (SaysSome (cut_at 0 bytes.now ends.now)) (E.told edge.old) (E.told edge.new)) }
-    ensures replying { IsReplying (E.faults edge.old) (E.faults edge.new) result }
-{
-    let mut start = 0;
-    for end in ends {
-        send(edge, &bytes[start..*end])?;
-        start = *end;
-    }
-    Ok(())
-}
-
-fn send<E: Edge>(edge: &mut E, text: &[u8]) -> Result<(), Stop>
-    ensures told { OnOk result (Told (Says (text.now ∷ [])) (E.told edge.old) (E.told edge.new)) }
-    ensures part { OnErr result (Told (SaysSome (text.now ∷ [])) (E.told edge.old) (E.told edge.new)) }
-    ensures replying { IsReplying (E.faults edge.old) (E.faults edge.new) result }
-{
-    match edge.emit(Channel(0), text) {
-        Ok(()) => Ok(()),
+    match texts.send(edge) {
+        Ok(()) => Ok(next),
         Err(_) => Err(Stop::Output),
     }
 }

@@ -1,6 +1,6 @@
 //! What is kept from line to line.
-use crate::texts::Texts;
 use iss_event::Scratch;
+use iss_texts::Texts;
 use std::alloc::Global;
 
 /// Room for the reading of a line and for its texts, kept so that a line allocates none of its own.

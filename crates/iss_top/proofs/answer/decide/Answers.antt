@@ -5,7 +5,7 @@ use Rattle.iss_top.proofs.answer.decide.Goals as goal
 pub returns-in_ok-put_time_taken-in-New : goal.returns-in_ok-put_time_taken-in-New
 returns-in_ok-put_time_taken-in-New c =
     record_tells c.args.core.state c.args.said.now.input c.args.said.now.at c.unwrap_or-at.result c.in-New.accepted c.in_ok-next-in-New.next.state
-    c.args.texts.now c.take_up.new.texts c.put_time_taken.new.self
+    c.args.texts.now c.take_up.new.texts c.put_time_taken.new.texts
     c.unwrap_or-at.ensures (sym c.in-New.is ∙ c.in_ok-accepted.ensures.judged) c.requires.empty c.in_ok-next-in-New.ensures c.in_ok-put_time_taken-in-New.ensures
 
 pub returns-in_ok-put_answer_left-in-Clock : goal.returns-in_ok-put_answer_left-in-Clock

@@ -1,28 +1,25 @@
-use Rattle.std.proofs.Common.{List, ℕ, sym, subst, ◌∙◌, rules}
+use Rattle.std.proofs.Common.{List, ℕ, sym, subst, ◌∙◌}
 use Rattle.iss_edge.specs.World.{Told}
+use Rattle.iss_texts.specs.Sending.{Says, SaysSome}
+use Rattle.iss_texts.proofs.Rows.{all_end}
 use Rattle.iss_top.specs.Dry.{each_bytes, reply_of_line}
-use Rattle.iss_top.specs.Progress.{Says, SaysSome}
-use Rattle.iss_top.proofs.Rows.{all_end}
-use Rattle.iss_top.proofs.ReplyLemmas.{line_cut}
+use Rattle.iss_top.proofs.ReplyLemmas.{line_told}
 use Rattle.iss_top.proofs.replying.send_reply.Goals as goal
 
-pub send_each-requires : goal.send_each-requires
-send_each-requires g c =
-    let all = all_end (each_bytes (reply_of_line c.args.core.state c.args.line.now).texts) c.answer.new.texts c.in_ok-next.ensures.texts in
-    rw (c.deref.ensures.value, c.deref-2.ensures.value) all
+pub send-requires : goal.send-requires
+send-requires g c =
+    record { ends = all_end (each_bytes (reply_of_line c.args.core.state c.args.line.now).texts) c.answer.new.texts c.in_ok-next.ensures.texts }
 
-pub returns-in_err-send_each-clause-part : goal.returns-in_err-send_each-clause-part
-returns-in_err-send_each-clause-part g c =
-    let part =
-    subst (λ (texts : List (List ℕ)). Told (SaysSome texts) (g.E.Edge.told c.args.edge.now) (g.E.Edge.told c.send_each.new.edge))
-    (line_cut c.args.core.state c.args.line.now c.deref.result.now c.deref-2.result.now c.answer.new.texts (sym c.is_blank.ensures ∙ c.if-is_blank.false)
-    c.deref.ensures.value c.deref-2.ensures.value c.in_ok-next.ensures.texts)
-    c.in_err-send_each.ensures.part in
-    search rules
+pub returns-in-Ok-clause-told : goal.returns-in-Ok-clause-told
+returns-in-Ok-clause-told g c =
+    let texts = each_bytes (reply_of_line c.args.core.state c.args.line.now).texts in
+    subst (λ (texts : List (List ℕ)). Told (Says texts) (g.E.Edge.told c.args.edge.now) (g.E.Edge.told c.send.new.edge))
+    (line_told c.args.core.state c.args.line.now (sym c.is_blank.ensures ∙ c.if-is_blank.false))
+    (rw c.in-Ok.is at (c.send.ensures.told texts c.in_ok-next.ensures.texts))
 
-pub returns-clause-told : goal.returns-clause-told
-returns-clause-told g c =
-    subst (λ (texts : List (List ℕ)). Told (Says texts) (g.E.Edge.told c.args.edge.now) (g.E.Edge.told c.send_each.new.edge))
-    (line_cut c.args.core.state c.args.line.now c.deref.result.now c.deref-2.result.now c.answer.new.texts (sym c.is_blank.ensures ∙ c.if-is_blank.false)
-    c.deref.ensures.value c.deref-2.ensures.value c.in_ok-next.ensures.texts)
-    c.in_ok-send_each.ensures.told
+pub returns-in-Err-clause-part : goal.returns-in-Err-clause-part
+returns-in-Err-clause-part g c =
+    let texts = each_bytes (reply_of_line c.args.core.state c.args.line.now).texts in
+    subst (λ (texts : List (List ℕ)). Told (SaysSome texts) (g.E.Edge.told c.args.edge.now) (g.E.Edge.told c.send.new.edge))
+    (line_told c.args.core.state c.args.line.now (sym c.is_blank.ensures ∙ c.if-is_blank.false))
+    (rw c.in-Err.is at (c.send.ensures.part texts c.in_ok-next.ensures.texts))

@@ -1,7 +1,10 @@
--- The texts of a line, kept in one row of bytes with the places where they end.
-use Rattle.std.specs.Prelude.{◌≡◌, ℕ, ◌+◌, ◌-◌, ◌≤◌, List, [], ◌∷◌, ◌++◌, length, take, drop}
+-- Texts, kept in one row of bytes with the places where they end.
+use Rattle.std.specs.Prelude.{map, ◌≡◌, ℕ, ◌+◌, ◌-◌, ◌≤◌, List, [], ◌∷◌, ◌++◌, length, take, drop}
 use Rattle.std.specs.List.{concat}
-use Rattle.iss_top.specs.declared.texts.Texts.{Texts}
+use Rattle.iss_model.specs.declared.entry.Entry.{Entry}
+use Rattle.iss_model.specs.run.Sayings.{Said, said_by}
+use Rattle.iss_model.specs.run.Transcripts.{said_text_at}
+use Rattle.iss_texts.specs.declared.row.Texts.{Texts}
 
 -- where texts end that follow one another from this place on
 abbrev pub ends_of : ℕ → List (List ℕ) → List ℕ
@@ -32,3 +35,11 @@ cut_at start bytes (end ∷ ends) = take (end - start) (drop start bytes) ∷ cu
 abbrev pub AreEnds : ℕ → ℕ → List ℕ → Type 0
 AreEnds start size [] = Unit {0}
 AreEnds start size (end ∷ ends) = (start ≤ end) × ((end ≤ size) × AreEnds end size ends)
+
+-- the texts of what is said, at an instance
+abbrev pub said_texts : ℕ → List Said → List (List ℕ)
+said_texts instance said = map (said_text_at instance) said
+
+-- the texts that an entry goes out with, at an instance
+abbrev pub entry_texts_at : ℕ → Entry → List (List ℕ)
+entry_texts_at instance e = said_texts instance (said_by e)

@@ -5,8 +5,8 @@ use Rattle.std.specs.Prelude.{slice_index_or}
 use Rattle.std.proofs.lemmas.List.{take_more, drop_more}
 use Rattle.std.proofs.lemmas.Grind.{flat_map-append}
 use Rattle.std.proofs.Math.Seq.{take-append_seam, drop-append_seam}
-use Rattle.iss_top.specs.declared.texts.Texts.{Texts}
-use Rattle.iss_top.specs.TextRows.{ends_of, Gains, HasNone, HasAll, cut_at, AreEnds}
+use Rattle.iss_texts.specs.declared.row.Texts.{Texts}
+use Rattle.iss_texts.specs.TextRows.{ends_of, Gains, HasNone, HasAll, cut_at, AreEnds}
 
 pub concat-append : (xs ys : List (List ℕ)) → concat (xs ++ ys) ≡ concat xs ++ concat ys
 concat-append [] ys = refl

@@ -3,9 +3,13 @@ use Rattle.std.proofs.Common.{◌≡◌, ℕ, true, false, inl, inr, List, [], �
 use Rattle.std.proofs.lemmas.List.{map-append}
 use Rattle.iss_edge.specs.declared.outside.Action.{Action}
 use Rattle.iss_edge.specs.declared.outside.Action.TheVariants.{Emit}
+use Rattle.iss_edge.specs.declared.outside.Answered.{Answered}
+use Rattle.iss_edge.specs.declared.outside.Answered.TheVariants.{Emitted}
 use Rattle.iss_edge.specs.World.{World}
 use Rattle.iss_edge.specs.Calls.{Emits, SendsPrefix, EmitsPart}
-use Rattle.iss_top.specs.Progress.{emits, FailsAt, GoOut, SendsEach, SendsSome, Says, SaysSome, AreFirst}
+use Rattle.iss_edge.specs.Outer.{Outer, Tears}
+use Rattle.iss_edge.proofs.Outers.{adds_then}
+use Rattle.iss_texts.specs.Sending.{emits, FailsAt, GoOut, SendsEach, SendsSome, Says, SaysSome, emitted, SentEach, StopsAt, AreFirst}
 
 -- ---- each text
 
@@ -16,7 +20,7 @@ pub sends_nothing : (a : World) → SendsEach [] a a
 sends_nothing a = record { device = refl; grew = sym (append-nil a.trace) }
 
 pub says_nothing : (a : World) → Says [] a a
-says_nothing a = record { left = refl; sends = sends_nothing a }
+says_nothing a = record { left = refl; arrivals = refl; sends = sends_nothing a }
 
 pub sends_then : (xs ys : List (List ℕ)) (a b c : World) → SendsEach xs a b → SendsEach ys b c → SendsEach (xs ++ ys) a c
 sends_then xs ys a b c p q =
@@ -34,10 +38,10 @@ pub sends_on : (xs : List (List ℕ)) (a b c : World) → SendsEach xs a b → c
 sends_on xs a b c p device trace = record { device = device ∙ p.device; grew = trace ∙ p.grew }
 
 pub says_then : (xs ys : List (List ℕ)) (a b c : World) → Says xs a b → Says ys b c → Says (xs ++ ys) a c
-says_then xs ys a b c p q = record { left = q.left ∙ p.left; sends = sends_then xs ys a b c p.sends q.sends }
+says_then xs ys a b c p q = record { left = q.left ∙ p.left; arrivals = q.arrivals ∙ p.arrivals; sends = sends_then xs ys a b c p.sends q.sends }
 
 pub says_emitted : (text : List ℕ) (a b : World) → Emits (record { 0 = 0 }) text a b → Says (text ∷ []) a b
-says_emitted text a b e = record { left = e.left; sends = record { device = e.device; grew = e.trace } }
+says_emitted text a b e = record { left = e.left; arrivals = e.arrivals; sends = record { device = e.device; grew = e.trace } }
 
 -- ---- some of them
 
@@ -121,21 +125,22 @@ some_on xs a b c p device trace =
     record { device = device ∙ p.device; actions = p.actions; grew = trace ∙ p.grew; out = p.out }
 
 pub says_none : (xs : List (List ℕ)) (a : World) → SaysSome xs a a
-says_none xs a = record { left = refl; sends = nothing_sent xs a a refl refl }
+says_none xs a = record { left = refl; arrivals = refl; sends = nothing_sent xs a a refl refl }
 
 pub says_all : (xs : List (List ℕ)) (a b : World) → Says xs a b → SaysSome xs a b
-says_all xs a b p = record { left = p.left; sends = all_sent xs a b p.sends }
+says_all xs a b p = record { left = p.left; arrivals = p.arrivals; sends = all_sent xs a b p.sends }
 
 pub says_then_some : (xs ys : List (List ℕ)) (a b c : World) → Says xs a b → SaysSome ys b c → SaysSome (xs ++ ys) a c
-says_then_some xs ys a b c p q = record { left = q.left ∙ p.left; sends = then_some xs ys a b c p.sends q.sends }
+says_then_some xs ys a b c p q = record { left = q.left ∙ p.left; arrivals = q.arrivals ∙ p.arrivals; sends = then_some xs ys a b c p.sends q.sends }
 
 pub says_first : (xs whole : List (List ℕ)) (a b : World) → AreFirst xs whole → SaysSome xs a b → SaysSome whole a b
-says_first xs whole a b first p = record { left = p.left; sends = some_first xs whole a b first p.sends }
+says_first xs whole a b first p = record { left = p.left; arrivals = p.arrivals; sends = some_first xs whole a b first p.sends }
 
 prefix_sent : (text : List ℕ) (a b : World) → EmitsPart (record { 0 = 0 }) text a b → SendsPrefix (record { 0 = 0 }) text a.trace b.trace → SaysSome (text ∷ []) a b
 prefix_sent text a b e s =
     record {
       left = e.left;
+      arrivals = e.arrivals;
       sends =
           record {
             device = e.device;
@@ -156,34 +161,58 @@ prefix_sent text a b e s =
 pub says_prefix : (text : List ℕ) (a b : World) → EmitsPart (record { 0 = 0 }) text a b → SaysSome (text ∷ []) a b
 says_prefix text a b e =
     elim e.trace [
-      | inl same ↦ record { left = e.left; sends = nothing_sent (text ∷ []) a b e.device same }
+      | inl same ↦ record { left = e.left; arrivals = e.arrivals; sends = nothing_sent (text ∷ []) a b e.device same }
       | inr sends ↦ prefix_sent text a b e sends
     ]
 
--- ---- one after the other
+-- ---- with what was heard
 
--- of these texts all but the rest were sent
-pub record SaidUpTo (texts rest : List (List ℕ)) (a b : World) : Type 0 where
-  pub said : List (List ℕ)
-  pub says : Says said a b
-  pub cut : texts ≡ said ++ rest
+pub sent_nothing : (a : Outer) → SentEach [] a a
+sent_nothing a =
+    record { device = refl; trace = sym (append-nil a.world.trace); heard = sym (append-nil a.heard) }
 
-pub upto_begins : (texts : List (List ℕ)) (a : World) → SaidUpTo texts texts a a
-upto_begins texts a = record { said = []; says = says_nothing a; cut = refl }
-
-pub upto_next : (texts rest : List (List ℕ)) (text : List ℕ) (a b c : World) → SaidUpTo texts (text ∷ rest) a b → Says (text ∷ []) b c → SaidUpTo texts rest a c
-upto_next texts rest text a b c p q =
+pub sent_then : (xs ys : List (List ℕ)) (a b c : Outer) → SentEach xs a b → SentEach ys b c → SentEach (xs ++ ys) a c
+sent_then xs ys a b c p q =
+    let both = adds_then (emits xs) (emits ys) (emitted xs) (emitted ys) a b c p q in
     record {
-      said = p.said ++ text ∷ [];
-      says = says_then p.said (text ∷ []) a b c p.says q;
-      cut = p.cut ∙ sym (append_assoc p.said (text ∷ []) rest);
+      device = both.device;
+      trace = both.trace ∙ ap (λ (t : List Action). a.world.trace ++ t) (sym (emits-append xs ys));
+      heard = both.heard ∙ ap (λ (t : List Answered). a.heard ++ t) (sym (map-append (λ (text : List ℕ). Emitted (record { 0 = 0 }) true) xs ys));
     }
 
-pub upto_fails : (texts rest : List (List ℕ)) (text : List ℕ) (a b c : World) → SaidUpTo texts (text ∷ rest) a b → SaysSome (text ∷ []) b c → SaysSome texts a c
-upto_fails texts rest text a b c p q =
-    says_first (p.said ++ text ∷ []) texts a c
-    (record { back = rest; cut = p.cut ∙ sym (append_assoc p.said (text ∷ []) rest) })
-    (says_then_some p.said (text ∷ []) a b c p.says q)
+-- ---- one after the other
 
-pub upto_ends : (texts : List (List ℕ)) (a b : World) → SaidUpTo texts [] a b → Says texts a b
-upto_ends texts a b p = subst (λ (xs : List (List ℕ)). Says xs a b) (sym (p.cut ∙ append-nil p.said)) p.says
+-- of these texts all but the rest went out, in the sense of this relation
+pub record UpTo {W : Type 0} (R : List (List ℕ) → W → W → Type 0) (texts rest : List (List ℕ)) (a b : W) : Type 0 where
+  pub first : List (List ℕ)
+  pub went : R first a b
+  pub cut : texts ≡ first ++ rest
+
+-- texts that went out one list after the other went out in a row
+abbrev pub GoesInARow : {W : Type 0} → (List (List ℕ) → W → W → Type 0) → Type 0
+GoesInARow {W} R = (xs ys : List (List ℕ)) (a b c : W) → R xs a b → R ys b c → R (xs ++ ys) a c
+
+pub upto_begins : {W : Type 0} (R : List (List ℕ) → W → W → Type 0) → ((a : W) → R [] a a) → (texts : List (List ℕ)) (a : W) → UpTo R texts texts a a
+upto_begins R none texts a = record { first = []; went = none a; cut = refl }
+
+pub upto_next : {W : Type 0} (R : List (List ℕ) → W → W → Type 0) → GoesInARow R → (texts rest : List (List ℕ)) (text : List ℕ) (a b c : W)
+    → UpTo R texts (text ∷ rest) a b → R (text ∷ []) b c → UpTo R texts rest a c
+upto_next R in_row texts rest text a b c p q =
+    record {
+      first = p.first ++ text ∷ [];
+      went = in_row p.first (text ∷ []) a b c p.went q;
+      cut = p.cut ∙ sym (append_assoc p.first (text ∷ []) rest);
+    }
+
+pub upto_ends : {W : Type 0} (R : List (List ℕ) → W → W → Type 0) (texts : List (List ℕ)) (a b : W) → UpTo R texts [] a b → R texts a b
+upto_ends R texts a b p = subst (λ (xs : List (List ℕ)). R xs a b) (sym (p.cut ∙ append-nil p.first)) p.went
+
+pub upto_fails : (texts rest : List (List ℕ)) (text : List ℕ) (a b c : World) → UpTo Says texts (text ∷ rest) a b → SaysSome (text ∷ []) b c → SaysSome texts a c
+upto_fails texts rest text a b c p q =
+    says_first (p.first ++ text ∷ []) texts a c
+    (record { back = rest; cut = p.cut ∙ sym (append_assoc p.first (text ∷ []) rest) })
+    (says_then_some p.first (text ∷ []) a b c p.went q)
+
+pub upto_stops : (texts rest : List (List ℕ)) (text : List ℕ) (a b c : Outer) → UpTo SentEach texts (text ∷ rest) a b → Tears (record { 0 = 0 }) text b c → StopsAt texts a c
+upto_stops texts rest text a b c p q =
+    record { whole = p.first; text = text; rest = rest; cut = p.cut; between = b; sent = p.went; torn = q }

@@ -1,0 +1,2 @@
+pub mod TextRows
+pub mod Sending

@@ -1,9 +1,0 @@
-use Rattle.std.proofs.Common.{arith}
-use Rattle.iss_model.specs.run.Transcripts.{entry_texts}
-use Rattle.iss_top.proofs.Rows.{gains_more}
-use Rattle.iss_top.proofs.texts.Texts.put_entries.Goals as goal
-
-pub loop-entry-preserved : goal.loop-entry-preserved
-loop-entry-preserved c =
-    gains_more entry_texts c.args.entries.now c.loop-entry.entry-index c.entry-item.result c.args.self.now c.loop-entry.self c.put_entry.new.self
-    (omega arith) c.entry-item.is c.loop-entry.invariant c.in_ok-put_entry.ensures
