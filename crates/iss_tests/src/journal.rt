@@ -17,7 +17,7 @@ const OPENING: u64 = 6;
 
 /// What unfinished writes left.
 #[derive(Clone, Copy)]
-enum Left {
+pub(crate) enum Left {
     Nothing,
     All,
     OpenGates,
@@ -62,7 +62,7 @@ fn overwrite(image: &mut [u8], at: u64, bytes: &[u8]) {
 }
 
 /// What a stop after these actions leaves of a device.
-fn image_of(
+pub(crate) fn image_of(
     alloc: Global,
     start: &[u8],
     actions: &[Action],

@@ -1,0 +1,14 @@
+pub mod Lengths
+pub mod Regions
+pub mod Histories
+pub mod Plans
+pub mod Commits
+pub mod Stays
+pub mod Readings
+pub mod ToldReadings
+pub mod Counts
+pub mod Openings
+pub mod ToldOpenings
+pub mod Said
+pub mod Causes
+pub mod GoodDevices

@@ -1,0 +1,7 @@
+pub mod Values
+pub mod Standing
+pub mod Faults
+pub mod Planning
+pub mod Committing
+pub mod Saying
+pub mod Opening

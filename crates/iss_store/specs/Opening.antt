@@ -1,0 +1,164 @@
+-- What opening a device finds, and what it leaves at each of its moments.
+use Rattle.std.specs.Prelude.{◌≡◌, ℕ, ◌+◌, List, [], ◌∷◌, ◌++◌, length, Result, Ok, Err, IsErrOf, slice_index}
+use Rattle.iss_edge.specs.declared.outside.Action.{Action}
+use Rattle.iss_edge.specs.World.{World, Faults, Later, Rose}
+use Rattle.iss_edge.specs.Stretches.{Step, actions_of, IsGood, GoesOn}
+use Rattle.iss_journal.specs.Place.{Place}
+use Rattle.iss_journal.specs.Region.{RestsFirst}
+use Rattle.iss_journal.specs.Header.{HasInstance, IsUnformatted}
+use Rattle.iss_journal.specs.Opening.{RecordAt, BadAt, OpensFirst, OpenedOrOneMore}
+use Rattle.iss_journal.specs.Reading.{ReadUpTo}
+use Rattle.iss_model.specs.declared.input.Record.{Record}
+use Rattle.iss_model.specs.rules.Histories.{Follows, history_of}
+use Rattle.iss_codec.specs.Meanings.{IsSpellingOf}
+use Rattle.iss_core.specs.Values.{CoreNow, IsNext}
+use Rattle.iss_core.specs.Values as cores
+use Rattle.iss_store.specs.declared.fault.OpenFault.{OpenFault}
+use Rattle.iss_store.specs.declared.fault.OpenFault.TheVariants.{Disk, NotFormatted, BadRecord, BadSpelling, BadHistory, OutOfMemory}
+use Rattle.iss_store.specs.Values.{StoreNow}
+use Rattle.iss_store.specs.Standing.{region_of, bodies_of, AreHistory, StandsFor, DeviceStandsFor}
+
+-- On this device these records stand before this gate, and they are a history of this instance.
+pub record ReadsHistory (instance : ℕ) (rs : List Record) (place : Place) (device : List ℕ) : Type 0 where
+  pub header : HasInstance device instance
+  pub history : AreHistory rs
+  pub read : ReadUpTo (region_of instance (length device)) (bodies_of rs) place device
+
+-- the record behind this gate, after a history
+pub record BodyAfterHistory (gate : ℕ) (device : List ℕ) : Type 0 where
+  pub instance : ℕ
+  pub rs : List Record
+  pub place : Place
+  pub here : place.gate ≡ gate
+  pub reads : ReadsHistory instance rs place device
+  pub body : List ℕ
+  pub there : RecordAt place body device
+
+-- behind this open gate, after a history, the length is wrong
+pub record BadRecordAt (gate : ℕ) (device : List ℕ) : Type 0 where
+  pub instance : ℕ
+  pub rs : List Record
+  pub place : Place
+  pub here : place.gate ≡ gate
+  pub reads : ReadsHistory instance rs place device
+  pub bad : BadAt place device
+
+-- behind this gate, after a history, the bytes spell no record
+pub record BadSpellingAt (gate : ℕ) (device : List ℕ) : Type 0 where
+  pub after : BodyAfterHistory gate device
+  pub none : (r : Record) → IsSpellingOf r after.body → ⊥
+
+-- behind this gate, after a history, stands a record that isn't new on it, or goes back in time
+pub record BadHistoryAt (gate : ℕ) (device : List ℕ) : Type 0 where
+  pub after : BodyAfterHistory gate device
+  pub r : Record
+  pub spelled : IsSpellingOf r after.body
+  pub illegal : Follows (history_of after.rs) r → ⊥
+
+-- the store stands for the records for which the device stands, at its instance
+pub record OpensStore (s : StoreNow) (device : List ℕ) : Type 0 where
+  pub rs : List Record
+  pub device_stands : DeviceStandsFor s.core.instance rs device
+  pub stands : StandsFor s rs
+
+-- What opening comes to on a device: a store that stands for what the device stands for, or the first fault that is there, by its gate.
+abbrev pub Opens : Result StoreNow OpenFault → World → World → Type 0
+Opens (Ok s) a b = OpensStore s a.device
+Opens (Err NotFormatted) a b = IsUnformatted a.device
+Opens (Err (BadRecord gate)) a b = BadRecordAt gate a.device
+Opens (Err (BadSpelling gate)) a b = BadSpellingAt gate a.device
+Opens (Err (BadHistory gate)) a b = BadHistoryAt gate a.device
+Opens (Err Disk) a b = Unit {0}
+Opens (Err OutOfMemory) a b = Unit {0}
+
+-- a fault of the disk, or that an allocation failed
+abbrev pub IsOfDiskOrMemory : OpenFault → Type 0
+IsOfDiskOrMemory Disk = Unit {0}
+IsOfDiskOrMemory OutOfMemory = Unit {0}
+IsOfDiskOrMemory NotFormatted = ⊥
+IsOfDiskOrMemory (BadRecord gate) = ⊥
+IsOfDiskOrMemory (BadSpelling gate) = ⊥
+IsOfDiskOrMemory (BadHistory gate) = ⊥
+
+-- where a device stands for records, no other fault is found
+abbrev pub GoodDevicesOpen : Type 0
+GoodDevicesOpen =
+    (instance : ℕ) (rs : List Record) (fault : OpenFault) (a b : World)
+    → DeviceStandsFor instance rs a.device → Opens (Err fault) a b → IsOfDiskOrMemory fault
+
+-- What an opening does is good, whichever records the device stands for at its start: each image of each moment stands for them, with nothing
+-- left behind or with what was, or also for the one that was left behind at the start.
+pub record OpensGood (a b : World) : Type 0 where
+  pub left : b.left ≡ a.left
+  pub added : List Action
+  pub grew : b.trace ≡ a.trace ++ added
+  pub good : (instance : ℕ) (rs : List Record) (j : ℕ) (steps : List Step)
+      → HasInstance a.device instance → actions_of steps ≡ added
+      → IsGood (OpensFirst (region_of instance (length a.device)) (bodies_of rs) a.device)
+      (OpenedOrOneMore (region_of instance (length a.device)) (bodies_of rs) a.device) j j steps
+
+-- And the run may go on after it: the device is then at rest and stands for the same records, with an end gate of 0.
+pub record OpensGoing (a b : World) : Type 0 where
+  pub left : b.left ≡ a.left
+  pub added : List Action
+  pub grew : b.trace ≡ a.trace ++ added
+  pub goes_on : (instance : ℕ) (rs : List Record) (j : ℕ) (steps : List Step)
+      → HasInstance a.device instance → actions_of steps ≡ added
+      → GoesOn (OpensFirst (region_of instance (length a.device)) (bodies_of rs) a.device)
+      (OpenedOrOneMore (region_of instance (length a.device)) (bodies_of rs) a.device)
+      (RestsFirst (region_of instance (length a.device)) (bodies_of rs)) j j steps
+  pub rests : (rs : List Record) (instance : ℕ) → DeviceStandsFor instance rs a.device
+      → RestsFirst (region_of instance (length a.device)) (bodies_of rs) b.device (length rs)
+
+-- where the device was opened
+abbrev pub OnOpened : {T : Type 0} → Result T OpenFault → Type 0 → Type 0
+OnOpened (Ok value) P = P
+OnOpened (Err fault) P = Unit {0}
+
+-- no count of faults has fallen, and a fault of the disk has the disk's count risen
+pub record OpenCause {T : Type 0} (before now : Faults) (result : Result T OpenFault) : Type 0 where
+  pub later : Later before now
+  pub disk : IsErrOf result Disk → Rose before.disk now.disk
+
+-- the core took up the record that this body spells
+pub record TakesUp (before : CoreNow) (body : List ℕ) (after : CoreNow) : Type 0 where
+  pub r : Record
+  pub spelled : IsSpellingOf r body
+  pub next : IsNext before r
+  pub kept : after.instance ≡ before.instance
+  pub count : after.state.count ≡ before.state.count + 1
+  pub on_book : (rs : List Record) → cores.StandsFor before rs → AreHistory rs
+      → cores.StandsFor after (rs ++ r ∷ []) × AreHistory (rs ++ r ∷ [])
+
+-- the body spells a record that doesn't follow on what the core stands for
+pub record FollowsNot (before : CoreNow) (body : List ℕ) : Type 0 where
+  pub r : Record
+  pub spelled : IsSpellingOf r body
+  pub illegal : (rs : List Record) → cores.StandsFor before rs → Follows (history_of rs) r → ⊥
+
+-- the body was taken up, or has a fault, which is named by the gate before it
+abbrev pub TakesIn : CoreNow → ℕ → List ℕ → Result CoreNow OpenFault → Type 0
+TakesIn before gate body (Ok after) = TakesUp before body after
+TakesIn before gate body (Err (BadSpelling at)) = (at ≡ gate) × ((r : Record) → IsSpellingOf r body → ⊥)
+TakesIn before gate body (Err (BadHistory at)) = (at ≡ gate) × FollowsNot before body
+TakesIn before gate body (Err OutOfMemory) = Unit {0}
+TakesIn before gate body (Err Disk) = ⊥
+TakesIn before gate body (Err NotFormatted) = ⊥
+TakesIn before gate body (Err (BadRecord at)) = ⊥
+
+-- all records up to this gate, which isn't open, were read and taken up
+pub record ReadsCore (place : Place) (c : CoreNow) (device : List ℕ) : Type 0 where
+  pub rs : List Record
+  pub reads : (instance : ℕ) → HasInstance device instance → place.to ≡ length device → ReadsHistory instance rs place device
+  pub stands : cores.StandsFor c rs
+  pub shut : slice_index device place.gate ≡ 1 → ⊥
+
+-- what reading all records of a device of this instance comes to
+abbrev pub ReadsAll : ℕ → Place → Result CoreNow OpenFault → World → World → Type 0
+ReadsAll instance place (Ok c) a b = ReadsCore place c a.device
+ReadsAll instance place (Err NotFormatted) a b = ⊥
+ReadsAll instance place (Err (BadRecord gate)) a b = HasInstance a.device instance → place.to ≡ length a.device → BadRecordAt gate a.device
+ReadsAll instance place (Err (BadSpelling gate)) a b = HasInstance a.device instance → place.to ≡ length a.device → BadSpellingAt gate a.device
+ReadsAll instance place (Err (BadHistory gate)) a b = HasInstance a.device instance → place.to ≡ length a.device → BadHistoryAt gate a.device
+ReadsAll instance place (Err Disk) a b = Unit {0}
+ReadsAll instance place (Err OutOfMemory) a b = Unit {0}

@@ -1,0 +1,58 @@
+-- What a store says, and that saying leaves the device as it is.
+use Rattle.std.specs.Prelude.{◌≡◌, ℕ, List, [], ◌∷◌, ◌++◌, Result, IsErrOf}
+use Rattle.iss_edge.specs.declared.outside.Action.{Action}
+use Rattle.iss_edge.specs.World.{World, Faults, Later, Rose}
+use Rattle.iss_edge.specs.Stretches.{Step, actions_of, SentUpTo, GoesOn, AreStill}
+use Rattle.iss_journal.specs.Region.{Region, RestsFirst, StandsFirst}
+use Rattle.iss_model.specs.declared.input.Record.{Record}
+use Rattle.iss_model.specs.declared.call.Notice.{Notice}
+use Rattle.iss_model.specs.declared.call.Opened.{Opened}
+use Rattle.iss_model.specs.rules.Histories.{history_facts, history_of}
+use Rattle.iss_model.specs.state.Cores.{core_facts}
+use Rattle.iss_model.specs.run.Sayings.{asked, noticed}
+use Rattle.iss_model.specs.run.Runs.{said_first}
+use Rattle.iss_texts.specs.TextRows.{said_texts}
+use Rattle.iss_store.specs.declared.fault.StoreFault.{StoreFault}
+use Rattle.iss_store.specs.declared.fault.StoreFault.TheVariants.{Disk, Output}
+use Rattle.iss_store.specs.Values.{StoreNow, DurableNow, said_of}
+
+-- the record of the store's last commit
+abbrev pub IsDurableOf : StoreNow → DurableNow → Type 0
+IsDurableOf s d = d.number ≡ s.core.state.count
+
+-- the texts of a record that lasts, at the store's instance
+abbrev pub texts_of_record : StoreNow → DurableNow → List (List ℕ)
+texts_of_record s d = said_texts s.core.instance (said_of d)
+
+-- the request of a call
+abbrev pub request_texts : ℕ → Opened → List (List ℕ)
+request_texts instance opened = said_texts instance (asked opened ∷ [])
+
+-- a notice
+abbrev pub notice_texts : ℕ → Notice → List (List ℕ)
+notice_texts instance notice = said_texts instance (noticed notice ∷ [])
+
+-- what still waits for the gateway: requests, and then notices
+abbrev pub texts_pending : StoreNow → List (List ℕ)
+texts_pending s = said_texts s.core.instance (said_first (core_facts s.core.state))
+
+-- the same by the book: the texts with which a run on these records begins
+abbrev pub texts_pending_on_book : ℕ → List Record → List (List ℕ)
+texts_pending_on_book instance rs = said_texts instance (said_first (history_facts (history_of rs)))
+
+-- Nothing was written or synced. So a device that stands for j records does so at each moment, and the run may go on after it, where
+-- each text of which a byte went out has at most that level.
+pub record StaysGood (a b : World) : Type 0 where
+  pub device : b.device ≡ a.device
+  pub added : List Action
+  pub grew : b.trace ≡ a.trace ++ added
+  pub still : AreStill added
+  pub goes_on : (region : Region) (bodies : List (List ℕ)) (j : ℕ) (steps : List Step)
+      → actions_of steps ≡ added → SentUpTo j steps
+      → GoesOn (RestsFirst region bodies) (StandsFirst region bodies) (RestsFirst region bodies) j j steps
+
+-- No count of faults has fallen, a fault of output has the output's count risen, and there is none of the disk.
+pub record SayingCause {T : Type 0} (before now : Faults) (result : Result T StoreFault) : Type 0 where
+  pub later : Later before now
+  pub output : IsErrOf result Output → Rose before.output now.output
+  pub no_disk : IsErrOf result Disk → ⊥

@@ -1,0 +1,20 @@
+//! A record that lasts.
+use iss_model::Entry;
+use std::marker::Model;
+
+/// What a committed record has to say. A commit alone makes one, and a release takes it. Contracts see the record's number,
+/// its entries, and whether it is a time that is told so.
+#[derive(Drop)]
+pub struct Durable {
+    pub(crate) number: u32,
+    pub(crate) entries: Vec<Entry>,
+    pub(crate) is_time: bool,
+}
+
+impl Model for Durable {
+    ghost use Rattle.iss_store.specs.Values.{DurableNow};
+
+    ghost Value = { DurableNow };
+
+    ghost view = { λ d. record { number = d.number; entries = d.entries.items; is_time = d.is_time } };
+}

@@ -1,0 +1,25 @@
+//! The store: the one place where a decision lasts before anybody hears of it.
+//!
+//! An input is planned, its record is committed, and then what it says is released: a `Planned` is a record that is new and
+//! fits, and can't be sent; a `Durable` is one that lasts, and is made by a commit alone. Between a plan and its open gate
+//! nothing but the device can refuse.
+//!
+//! It may cite `iss_edge`, `iss_journal`, `iss_codec`, `iss_core`, `iss_link`, `iss_event`, `iss_texts`, `iss_model` and its laws.
+//! It must not cite lines that come in, nor what a run is for.
+#![tactic(auto)]
+
+mod durable;
+mod fault;
+mod laws;
+mod opening;
+mod planned;
+mod routes;
+mod saying;
+mod store;
+
+pub use durable::Durable;
+pub use fault::{OpenFault, PlanFault, StoreFault};
+pub use laws::good_devices_open;
+pub use planned::Planned;
+pub use routes::Routes;
+pub use store::Store;

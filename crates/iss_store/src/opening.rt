@@ -1,0 +1,100 @@
+//! Opening a device: each record is read once, and taken up.
+ghost use Rattle.std.specs.Prelude.{◌≡◌, ◌+◌, ◌*◌, ◌<◌, ◌≤◌, ◌^◌, IfOk};
+ghost use Rattle.iss_edge.specs.World.{Told};
+ghost use Rattle.iss_edge.specs.Calls.{Same, HearsNothing};
+ghost use Rattle.iss_store.specs.Opening.{Opens, OpensGood, OpensGoing, OnOpened, OpenCause, TakesIn, ReadsAll};
+
+use crate::OpenFault;
+use crate::store::{HEAD, Store};
+use iss_codec::decode;
+use iss_core::Core;
+use iss_edge::Edge;
+use iss_journal::{Journal, Scan};
+use iss_model::Judged;
+use std::alloc::Global;
+
+/// The place of the first gate: behind the header.
+const FIRST_GATE: u64 = 16;
+
+impl Store {
+    /// Opens the device: its records are read in order, each is decoded, judged and taken up, and an end gate other than 0
+    /// is made 0, so that a record which a stop has left behind it never stands.
+    ///
+    /// # Errors
+    ///
+    /// `NotFormatted` where the size or the header is wrong, `BadRecord`, `BadSpelling` and `BadHistory` with the place of
+    /// the first gate behind which stands no record, no spelling, or a record that isn't new or goes back in time.
+    #[tactic(auto, using(crate::proofs::ToldOpenings::told_unopened, crate::proofs::ToldOpenings::told_unsynced, crate::proofs::ToldOpenings::told_unread, crate::proofs::ToldOpenings::told_unclosed, crate::proofs::ToldOpenings::told_closed, crate::proofs::ToldOpenings::told_opens, crate::proofs::ToldOpenings::told_opens_fault, crate::proofs::ToldOpenings::told_header_fault, crate::proofs::ToldOpenings::told_opens_disk, crate::proofs::Causes::caused_well, crate::proofs::Causes::caused_by_header, crate::proofs::Causes::caused_by_disk, crate::proofs::Causes::caused_after))]
+    pub fn open<E: Edge>(alloc: Global, edge: &mut E) -> Result<Store, OpenFault>
+        ensures opens { Told (Opens result) (E.told edge.old) (E.told edge.new) }
+        ensures moments { Told OpensGood (E.told edge.old) (E.told edge.new) }
+        ensures rests { OnOpened result (Told OpensGoing (E.told edge.old) (E.told edge.new)) }
+        ensures size { IfOk result (λ store. store.place.to ≡ E.extent edge.new) }
+        ensures cause { OpenCause (E.faults edge.old) (E.faults edge.new) result }
+        ensures heard { Told HearsNothing (E.heard edge.old) (E.heard edge.new) }
+        ensures kept { E.extent edge.new ≡ E.extent edge.old }
+        ensures channels { E.channels edge.new ≡ E.channels edge.old }
+    {
+        let instance = Journal::instance(edge)?;
+        let to = edge.size();
+        let mut scan = Scan::start(edge, FIRST_GATE, to)?;
+        let core = read_all(alloc, edge, &mut scan, instance)?;
+        let journal = scan.finish(edge)?;
+        Ok(Store { core, journal })
+    }
+}
+
+/// The core of all records from the first gate on.
+#[tactic(auto, using(crate::proofs::ToldReadings::told_nothing_read, crate::proofs::ToldReadings::told_no_core, crate::proofs::ToldReadings::told_same, crate::proofs::ToldReadings::told_read_same, crate::proofs::ToldReadings::told_one_more, crate::proofs::ToldReadings::told_to_the_end, crate::proofs::ToldReadings::told_journal_fault, crate::proofs::ToldReadings::told_take_fault, crate::proofs::Causes::caused_well, crate::proofs::Causes::caused_by_memory, crate::proofs::Causes::caused_by_next, crate::proofs::Causes::caused_by_record, crate::proofs::Causes::caused_after))]
+fn read_all<E: Edge>(
+    alloc: Global,
+    edge: &mut E,
+    scan: &mut Scan,
+    instance: u64,
+) -> Result<Core, OpenFault>
+    requires start { scan.old.gate ≡ 16 }
+    requires within { scan.old.gate < scan.old.to }
+    requires room { scan.old.to ≤ E.extent edge.old }
+    requires small { instance < 2 ^ 48 }
+    requires size { scan.old.to ≤ 2 ^ 32 }
+    ensures reads { Told (ReadsAll instance scan.new result) (E.told edge.old) (E.told edge.new) }
+    ensures same { Told Same (E.told edge.old) (E.told edge.new) }
+    ensures to { scan.new.to ≡ scan.old.to }
+    ensures few { IfOk result (λ core. 16 + 6 * core.state.count ≤ scan.new.gate) }
+    ensures instance { IfOk result (λ core. core.instance ≡ instance) }
+    ensures cause { OpenCause (E.faults edge.old) (E.faults edge.new) result }
+    ensures heard { Told HearsNothing (E.heard edge.old) (E.heard edge.new) }
+    ensures kept { E.extent edge.new ≡ E.extent edge.old }
+    ensures channels { E.channels edge.new ≡ E.channels edge.old }
+{
+    let mut core = Core::new(alloc, instance)?;
+    let mut gate = FIRST_GATE;
+    'reading: loop {
+        let Some(body) = scan.next(alloc, edge)? else {
+            return Ok(core);
+        };
+        core = take_in(alloc, core, gate, body.as_slice())?;
+        gate += HEAD + body.len() as u64;
+    }
+}
+
+/// Takes up the record that this body spells, which stands behind that gate.
+#[tactic(auto, using(crate::proofs::Readings::judged_itself, crate::proofs::Readings::too_early, crate::proofs::Readings::not_judged_new, crate::proofs::Readings::takes_up, crate::proofs::Counts::step_count))]
+fn take_in(alloc: Global, core: Core, gate: u64, body: &[u8]) -> Result<Core, OpenFault>
+    requires room { 16 + 6 * core.state.count ≤ gate }
+    requires size { gate < 2 ^ 32 }
+    ensures takes { TakesIn core gate body.now result }
+{
+    let Some(accepted) = decode(alloc, body)? else {
+        return Err(OpenFault::BadSpelling(gate));
+    };
+    if accepted.at < core.now() {
+        return Err(OpenFault::BadHistory(gate));
+    }
+    let judged = core.judge(alloc, &accepted.input, accepted.at)?;
+    let Judged::New(_) = judged else {
+        return Err(OpenFault::BadHistory(gate));
+    };
+    let (next, _) = core.step(alloc, &accepted)?;
+    Ok(next)
+}
