@@ -23,6 +23,10 @@ const PATIENCE: u64 = 100;
 /// How many milliseconds pass at least between two times that are told.
 const TICK: u64 = 20;
 
+/// How many waits pass without a look for a client after one that found nothing, as long as nothing comes. That look costs about as
+/// much as the rest of a wait. So a client waits for four pauses at most.
+const REST: u32 = 3;
+
 /// How many writes an emit makes at most, with a pause after each that could write nothing.
 const WRITES: u32 = 100;
 
@@ -38,8 +42,10 @@ pub struct Sockets<N> {
     /// The greatest number that a channel got.
     last: u32,
     ready: Option<u32>,
-    /// Whether the last wait looked for a client first.
+    /// Whether the last look for a client came before the channels.
     listened_first: bool,
+    /// How many waits look at the channels alone before a client is looked for again, where none of them is ready.
+    rest: u32,
     /// The time that was told last, in milliseconds since 1970.
     told: u64,
 }
@@ -72,6 +78,7 @@ impl<N> Sockets<N> {
             last: 0,
             ready: None,
             listened_first: false,
+            rest: 0,
             told: 0,
         }
     }
@@ -124,7 +131,7 @@ impl<N: Net<Listener = TcpListener, Stream = TcpStream> + Clock + Drop> Sockets<
         self.gateway = Some(port);
     }
 
-    /// The time where none was told lately, and else a channel that is ready or a client, each socket looked at once. Where
+    /// The time where none was told lately, and else a channel that is ready or a client, each socket looked at once at most. Where
     /// there is none, it sleeps for a moment.
     pub fn wait(&mut self) -> io::Result<Arrival>
         ensures unused { IfOk result (ComesUnused self.old) }
@@ -140,15 +147,23 @@ impl<N: Net<Listener = TcpListener, Stream = TcpStream> + Clock + Drop> Sockets<
                 pause(&self.net);
                 Ok(Arrival::Idle)
             }
-            arrives => Ok(arrives),
+            arrives => {
+                self.rest = 0;
+                Ok(arrives)
+            }
         }
     }
 
-    /// A client or a channel that is ready, by turns the one or the other first.
+    /// A client or a channel that is ready, by turns the one or the other first. After a look that found nothing, the next few are for
+    /// the channels alone.
     fn look(&mut self) -> io::Result<Arrival>
         ensures unused { IfOk result (ComesUnused self.old) }
         ensures channels { self.new ≡ after_wait (result_ok result) self.old }
     {
+        if let Some(rest) = self.rest.checked_sub(1) {
+            self.rest = rest;
+            return Ok(self.find_ready());
+        }
         self.listened_first = !self.listened_first;
         if self.listened_first {
             return match self.accept()? {
@@ -174,7 +189,10 @@ impl<N: Net<Listener = TcpListener, Stream = TcpStream> + Clock + Drop> Sockets<
                 self.last = number;
                 Ok(Arrival::Client(Channel(number)))
             }
-            None => Ok(Arrival::Idle),
+            None => {
+                self.rest = REST;
+                Ok(Arrival::Idle)
+            }
         }
     }
 

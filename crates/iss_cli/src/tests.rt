@@ -1,4 +1,4 @@
-//! The real outside: a file and one loopback connection, one step after the other.
+//! The real outside: a file and loopback connections, one step after the other.
 
 ghost use Rattle.std.specs.Prelude.{◌<◌, length};
 
@@ -6,18 +6,41 @@ use crate::device::Device;
 use crate::real_edge::RealEdge;
 use crate::sockets::Sockets;
 use iss_edge::{Arrival, Channel, Edge};
-use std::fs::remove_file;
+use std::fs::{read_dir, remove_file};
 use std::io;
+use std::io::{Empty, Sink};
+use std::net::{Ipv4Addr, TcpStream};
 use std::test::Fail;
 
 /// How many waits may bring nothing.
-const WAITS: u32 = 1000;
+const WAITS: u32 = 300;
 
-/// A port that no other program here is likely to have.
-const PORT: u16 = 39217;
+/// Ports that no other program here is likely to have, one for each test.
+const PORTS: [u16; 3] = [39217, 39218, 39219];
 
-/// A file that the test makes and takes away.
-const FILE: &str = "/tmp/issuer-edge-test";
+/// A file that a test makes where it runs, and takes away.
+const FILE: &str = "edge-test";
+
+/// Where the system lists this process's open handles.
+const HANDLES: &str = "/proc/self/fd";
+
+/// How many connections are opened at once, each of two channels.
+const CONNECTIONS: u32 = 40;
+
+/// How many times a peer is sent bytes that it doesn't read.
+const EMITS: u32 = 1000;
+
+/// An outside that listens on a port, and dials it.
+fn edge_on(
+    rt: HostRuntime,
+    port: u16,
+    device: Device,
+) -> io::Result<RealEdge<Empty, Sink, HostRuntime>> {
+    let mut sockets = Sockets::none(rt, rt.alloc());
+    sockets.listen(port)?;
+    sockets.set_gateway(port);
+    Ok(RealEdge::new(io::empty(), io::sink(), device, sockets))
+}
 
 /// The next client.
 fn client<E: Edge>(edge: &mut E) -> Option<Channel> {
@@ -29,6 +52,11 @@ fn client<E: Edge>(edge: &mut E) -> Option<Channel> {
         }
     }
     None
+}
+
+/// A connection from the edge to itself: the channel that was dialled, and the client's.
+fn connection<E: Edge>(edge: &mut E) -> Option<(Channel, Channel)> {
+    Some((edge.dial().ok()?, client(edge)?))
 }
 
 /// The next channel that is ready, and how many bytes were taken from it.
@@ -57,7 +85,7 @@ fn keeps_what_is_written<E: Edge>(edge: &mut E) -> bool {
 /// Whether a connection that the edge dials to itself brings what is sent, both ways, and then its end, once.
 fn connects<E: Edge>(edge: &mut E) -> bool {
     let mut buf = [0; 8];
-    let (Ok(ours), Some(theirs)) = (edge.dial(), client(edge)) else {
+    let Some((ours, theirs)) = connection(edge) else {
         return false;
     };
     let asked = edge.emit(ours, b"ask").is_ok()
@@ -75,15 +103,71 @@ fn connects<E: Edge>(edge: &mut E) -> bool {
 #[test]
 fn a_file_and_a_connection(rt: HostRuntime) -> Result<(), Fail> {
     let _ = remove_file(&rt, FILE);
-    let mut sockets = Sockets::none(rt, rt.alloc());
-    sockets.listen(PORT)?;
-    sockets.set_gateway(PORT);
     let device = Device::opened_or_made(&rt, FILE, 8);
-    let mut edge = RealEdge::new(io::empty(), io::sink(), device, sockets);
+    // Its handle keeps the file until the test ends, however it does.
+    remove_file(&rt, FILE)?;
+    let mut edge = edge_on(rt, PORTS[0], device)?;
 
     assert!(rt; keeps_what_is_written(&mut edge));
     assert!(rt; connects(&mut edge));
+    Ok(())
+}
 
-    remove_file(&rt, FILE)?;
+/// Whether an emit on the channel fails in the end, as it has to where nobody reads.
+fn fails_to_emit<E: Edge>(edge: &mut E, ch: Channel) -> bool {
+    for _ in 0..EMITS {
+        if edge.emit(ch, &[b'x'; 65536]).is_err() {
+            return true;
+        }
+    }
+    false
+}
+
+#[test]
+fn a_peer_that_neither_reads_nor_writes(rt: HostRuntime) -> Result<(), Fail> {
+    let mut edge = edge_on(rt, PORTS[1], Device::absent())?;
+    let _peer = TcpStream::connect(&rt, (Ipv4Addr::LOCALHOST, PORTS[1]))?;
+    let Some(ch) = client(&mut edge) else {
+        return Err(Fail::from(io::Error::from(io::ErrorKind::NotConnected)));
+    };
+
+    assert!(rt; fails_to_emit(&mut edge, ch));
+    assert!(rt; connects(&mut edge));
+    Ok(())
+}
+
+/// How many handles this process has open.
+fn handles(rt: &HostRuntime) -> io::Result<usize> {
+    Ok(read_dir(rt, HANDLES)?.count())
+}
+
+/// Opens connections until one can't be had, for want of a handle, and closes them all.
+fn open_many<E: Edge>(edge: &mut E) {
+    for _ in 0..CONNECTIONS {
+        if connection(edge).is_none() {
+            break;
+        }
+    }
+    for number in 1..=2 * CONNECTIONS {
+        edge.close(Channel(number));
+    }
+    close_if_one_comes(edge);
+}
+
+/// Where no handle was left for a client, it comes once there is one.
+fn close_if_one_comes<E: Edge>(edge: &mut E) {
+    if let Some(late) = client(edge) {
+        edge.close(late);
+    }
+}
+
+#[test]
+fn more_connections_than_handles(rt: HostRuntime) -> Result<(), Fail> {
+    let mut edge = edge_on(rt, PORTS[2], Device::absent())?;
+    let before = handles(&rt)?;
+
+    open_many(&mut edge);
+    assert_eq!(rt; handles(&rt)?, before);
+    assert!(rt; connects(&mut edge));
     Ok(())
 }

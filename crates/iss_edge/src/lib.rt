@@ -11,8 +11,6 @@ mod edge;
 mod memory;
 mod outside;
 #[cfg(test)]
-mod session_tests;
-#[cfg(test)]
 mod tests;
 
 pub use bytes::Bytes;

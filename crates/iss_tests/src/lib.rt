@@ -1,4 +1,5 @@
-//! Tests of the top call over an outside in memory, of the core's calls, and of the journal on devices in memory.
+//! Tests of the top call over an outside in memory, of that outside's channels, of the core's calls, and of the journal and the
+//! store on devices in memory.
 //!
 //! It may cite every crate below.
 //! Nothing may cite it.
@@ -14,6 +15,12 @@ mod format;
 mod journal;
 #[cfg(test)]
 mod scripts;
+#[cfg(test)]
+mod session_rows;
+#[cfg(test)]
+mod sessions;
+#[cfg(test)]
+mod store;
 #[cfg(test)]
 mod support;
 #[cfg(test)]
