@@ -270,10 +270,10 @@ fn lasts_where_call_fails(alloc: Global, call: u64) -> Result<bool, AllocError> 
     let mut edge = edge_on(alloc, &device, &[call])?;
     let _ = replay(alloc, &mut edge, &ASKED);
     let told = sent(alloc, &edge)?;
-    let mut lines = 0;
+    let mut lines: u32 = 0;
     for byte in &told {
         if *byte == b'\n' {
-            lines += 1;
+            lines = lines.saturating_add(1);
         }
     }
     let mut again = edge_on(alloc, edge.device(), &[])?;
@@ -299,10 +299,10 @@ fn stands_after(
     actions: &[Action],
     left: Left,
 ) -> Result<bool, AllocError> {
-    let mut texts = 0;
+    let mut texts: u32 = 0;
     for action in actions {
         if let Action::Emit { .. } = action {
-            texts += 1;
+            texts = texts.saturating_add(1);
         }
     }
     let image = image_of(alloc, start, actions, left)?;
