@@ -17,6 +17,15 @@ use Rattle.iss_accepted.proofs.Decided.{decisions_last, decided_last}
 use Rattle.iss_accepted.proofs.Found.{event_in, event_found}
 use Rattle.iss_accepted.proofs.Steps.{all_named}
 
+-- what is kept agrees, and shows these events
+pub record Shows (bytes : List ℕ) (rows : List Row) (names : List (List ℕ)) (decided : List ℕ) (value : EventsNow) : Type 0 where
+  pub kept : IsKept bytes rows names decided
+  pub view : events_now (standings_of bytes rows) decided ≡ value
+
+-- the same with an input of this stamp and number, where it is an event
+abbrev pub with_input : EventsNow → Row → Input → EventsNow
+with_input value row i = record value { accepted = value.accepted ++ (cond (is_some (event_token i)) (record { number = row.number; at = row.at; input = i } ∷ []) []) }
+
 module _ (bytes : List ℕ) (rows : List Row) (names : List (List ℕ)) (decided : List ℕ) (value : EventsNow)
     (kept : IsKept bytes rows names decided) (view : events_now (standings_of bytes rows) decided ≡ value) where
   -- ---- bytes are added, and no row
@@ -25,7 +34,7 @@ module _ (bytes : List ℕ) (rows : List Row) (names : List (List ℕ)) (decided
     standings_same : standings_of all rows_now ≡ standings_of bytes rows
     standings_same = ap₂ (λ (bs : List ℕ) (rs : List Row). standings_of bs rs) grown same ∙ standings_stay bytes more rows kept.spelled
 
-    pub grown_kept : IsKept all rows_now names_now decided
+    grown_kept : IsKept all rows_now names_now decided
     grown_kept =
         record {
           spelled =
@@ -35,8 +44,11 @@ module _ (bytes : List ℕ) (rows : List Row) (names : List (List ℕ)) (decided
           verdicts = subst (λ (ss : List Standing). AreDecided ss decided) (sym standings_same) kept.verdicts;
         }
 
-    pub grown_view : events_now (standings_of all rows_now) decided ≡ value
+    grown_view : events_now (standings_of all rows_now) decided ≡ value
     grown_view = ap (λ (ss : List Standing). events_now ss decided) standings_same ∙ view
+
+    pub grown_shows : Shows all rows_now names_now decided value
+    grown_shows = record { kept = grown_kept; view = grown_view }
 
   -- ---- an event is added
 
@@ -76,7 +88,7 @@ module _ (bytes : List ℕ) (rows : List Row) (names : List (List ℕ)) (decided
     row_named : IsSome (event_token i)
     row_named = subst (λ (o : Option (List ℕ)). IsSome o) (sym own) refl
 
-    pub added_kept : IsKept all rows_now names_now decided
+    added_kept : IsKept all rows_now names_now decided
     added_kept =
         record {
           spelled =
@@ -93,7 +105,7 @@ module _ (bytes : List ℕ) (rows : List Row) (names : List (List ℕ)) (decided
               (decided_last (standings_of bytes rows) newest decided kept.verdicts pending);
         }
 
-    pub added_view : events_now (standings_of all rows_now) decided ≡ record value { accepted = value.accepted ++ (cond (is_some (event_token i)) (record { number = row.number; at = row.at; input = i } ∷ []) []) }
+    added_view : events_now (standings_of all rows_now) decided ≡ with_input value row i
     added_view =
         ap (λ (ss : List Standing). events_now ss decided) standings_now
         ∙ (λ j. record {
@@ -102,3 +114,6 @@ module _ (bytes : List ℕ) (rows : List Row) (names : List (List ℕ)) (decided
         })
         ∙ ap (λ (e : EventsNow). record e { accepted = e.accepted ++ record { number = row.number; at = row.at; input = i } ∷ [] }) view
         ∙ ap (λ (o : Option (List ℕ)). record value { accepted = value.accepted ++ (cond (is_some o) (record { number = row.number; at = row.at; input = i } ∷ []) []) }) (sym own)
+
+    pub added_shows : Shows all rows_now names_now decided (with_input value row i)
+    added_shows = record { kept = added_kept; view = added_view }

@@ -126,7 +126,7 @@ impl Events {
         ensures decided { OnOk result (self.new ≡ record self.old { decisions = self.old.decisions ++ record { event = event.now; verdict = verdict } ∷ [] }) }
         ensures refused { OnErr result (self.new ≡ self.old) }
     {
-        let Some(place) = self.names.find(event) else {
+        let Some(place) = self.names.find_last(event) else {
             return Ok(());
         };
         self.decided.push(place)?;

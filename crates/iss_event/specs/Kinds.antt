@@ -11,7 +11,16 @@ use Rattle.iss_event.specs.declared.line.Mode.TheVariants.{Client}
 -- the kind that a text names
 unfoldable pub kind_of_text : List ℕ → Option Kind
 kind_of_text text =
-    if bytes_eq text (codes "user") then Some kind.User
+    if bytes_eq text (codes "authorization") then Some kind.Authorization
+    else if bytes_eq text (codes "answer") then Some kind.Answer
+    else if bytes_eq text (codes "clearing") then Some kind.Clearing
+    else if bytes_eq text (codes "increment") then Some kind.Increment
+    else if bytes_eq text (codes "reversal") then Some kind.Reversal
+    else if bytes_eq text (codes "load") then Some kind.Load
+    else if bytes_eq text (codes "refund") then Some kind.Refund
+    else if bytes_eq text (codes "ack") then Some kind.Ack
+    else if bytes_eq text (codes "time") then Some kind.Time
+    else if bytes_eq text (codes "user") then Some kind.User
     else if bytes_eq text (codes "card") then Some kind.Card
     else if bytes_eq text (codes "move") then Some kind.Move
     else if bytes_eq text (codes "product") then Some kind.Product
@@ -19,15 +28,6 @@ kind_of_text text =
     else if bytes_eq text (codes "control") then Some kind.Control
     else if bytes_eq text (codes "set") then Some kind.Set
     else if bytes_eq text (codes "switch") then Some kind.Switch
-    else if bytes_eq text (codes "load") then Some kind.Load
-    else if bytes_eq text (codes "authorization") then Some kind.Authorization
-    else if bytes_eq text (codes "increment") then Some kind.Increment
-    else if bytes_eq text (codes "reversal") then Some kind.Reversal
-    else if bytes_eq text (codes "clearing") then Some kind.Clearing
-    else if bytes_eq text (codes "refund") then Some kind.Refund
-    else if bytes_eq text (codes "answer") then Some kind.Answer
-    else if bytes_eq text (codes "ack") then Some kind.Ack
-    else if bytes_eq text (codes "time") then Some kind.Time
     else None
 
 -- the kind, where a line of that mode may be of it: no client says what a gateway answered or that time went by

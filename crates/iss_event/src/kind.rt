@@ -42,12 +42,21 @@ impl Form for KindForm {
     }
 }
 
-/// The kind that a text names.
+/// The kind that a text names. Those that come most often are looked for first.
 #[tactic(auto, unfolding(crate::specs::Kinds::kind_of_text))]
 pub(crate) fn kind_of_text(text: &str) -> Option<Kind>
     ensures { result ≡ kind_of_text text.now }
 {
     match text {
+        "authorization" => Some(Kind::Authorization),
+        "answer" => Some(Kind::Answer),
+        "clearing" => Some(Kind::Clearing),
+        "increment" => Some(Kind::Increment),
+        "reversal" => Some(Kind::Reversal),
+        "load" => Some(Kind::Load),
+        "refund" => Some(Kind::Refund),
+        "ack" => Some(Kind::Ack),
+        "time" => Some(Kind::Time),
         "user" => Some(Kind::User),
         "card" => Some(Kind::Card),
         "move" => Some(Kind::Move),
@@ -56,15 +65,6 @@ pub(crate) fn kind_of_text(text: &str) -> Option<Kind>
         "control" => Some(Kind::Control),
         "set" => Some(Kind::Set),
         "switch" => Some(Kind::Switch),
-        "load" => Some(Kind::Load),
-        "authorization" => Some(Kind::Authorization),
-        "increment" => Some(Kind::Increment),
-        "reversal" => Some(Kind::Reversal),
-        "clearing" => Some(Kind::Clearing),
-        "refund" => Some(Kind::Refund),
-        "answer" => Some(Kind::Answer),
-        "ack" => Some(Kind::Ack),
-        "time" => Some(Kind::Time),
         _ => None,
     }
 }

@@ -12,3 +12,4 @@ pub mod HoldCalls
 pub mod TestBounds
 pub mod NamedExpiries
 pub mod Named
+pub mod Earliest

@@ -1,9 +1,10 @@
 -- How the indexes beside the holds agree with them.
-use Rattle.std.specs.Prelude.{◌≡◌, ℕ, suc, ◌+◌, ◌^◌, ◌<◌, nat_eq, Bool, ◌&&◌, ◌==◌, List, [], ◌∷◌, map, slice_get, Option, Some, None, IsSome, unwrap_or, if◌then◌else◌}
+use Rattle.std.specs.Prelude.{◌≡◌, ℕ, suc, ◌+◌, ◌^◌, ◌<◌, nat_eq, Bool, ◌&&◌, ◌==◌, List, [], ◌∷◌, ◌++◌, map, slice_get, Option, Some, None, IsSome, unwrap_or, if◌then◌else◌}
 use Rattle.std.specs.Option.{option_map}
 use Rattle.std.specs.List.{IsDistinct}
 use Rattle.std.specs.Str.{bytes_eq}
 use Rattle.std.specs.declared.cmp.Ordering.{Ordering}
+use Rattle.std.specs.declared.cmp.Reverse.{Reverse}
 use Rattle.std.specs.Ordering.{nat_cmp, ordering_then}
 use Rattle.std.specs.Cmp.Lexicographic.{slice_cmp}
 use Rattle.std.specs.BTreeMap as tree
@@ -44,6 +45,15 @@ by_user a b = ordering_then (slice_cmp nat_cmp a.0 b.0) (nat_cmp a.1 b.1)
 abbrev pub by_expiry : (ℕ × ℕ) → (ℕ × ℕ) → Ordering
 by_expiry a b = ordering_then (nat_cmp a.0 b.0) (nat_cmp a.1 b.1)
 
+-- the tree's own order begins with the last expiry, so that a new one, which is mostly the last, is soon found its place
+abbrev pub by_later : Reverse (ℕ × ℕ) → Reverse (ℕ × ℕ) → Ordering
+by_later a b = by_expiry b.0 a.0
+
+-- the entries of that tree, beginning with the first expiry
+abbrev pub earliest : List (Reverse (ℕ × ℕ) × ℕ) → List ((ℕ × ℕ) × ℕ)
+earliest [] = []
+earliest (e ∷ es) = earliest es ++ (e.0.0, e.1) ∷ []
+
 -- what a started transaction holds, and its place
 pub record IsAt (name : List ℕ) (holds : List Hold) (place : ℕ) (hold : Hold) : Type 0 where
   pub is_there : slice_get holds place ≡ Some hold
@@ -70,13 +80,13 @@ with_token e = (e.0, Some e.1)
 
 -- the indexes agree with the holds: each name has its place, each user its sum, and the expiries are in their order, each with the
 -- place of its transaction
-pub record AreIndexed (holds : List Hold) (places : List (List ℕ)) (sums : BTreeMap (List ℕ × ℕ) ℕ) (order : BTreeMap (ℕ × ℕ) ℕ) : Type 0 where
+pub record AreIndexed (holds : List Hold) (places : List (List ℕ)) (sums : BTreeMap (List ℕ × ℕ) ℕ) (order : BTreeMap (Reverse (ℕ × ℕ)) ℕ) : Type 0 where
   pub distinct : IsDistinct bytes_eq (names holds)
   pub placed : ArePlaced holds places
   pub summed : AreSummed holds sums
   pub once : IsDistinct nat_eq (origins holds)
-  pub ordered : map (with_name (names holds)) order.entries ≡ map with_token (expiries holds)
-  pub rising : tree.IsOrdered by_expiry order
+  pub ordered : map (with_name (names holds)) (earliest order.entries) ≡ map with_token (expiries holds)
+  pub rising : tree.IsOrdered by_later order
 
 -- a table's indexes agree with its holds
 abbrev pub IsIndexed : Table → Type 0

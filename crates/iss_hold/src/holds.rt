@@ -23,6 +23,7 @@ use crate::table::Table;
 use iss_index::Names;
 use iss_model::{Currency, Part, Token, Txn};
 use std::alloc::{AllocError, Global};
+use std::cmp::Reverse;
 use std::collections::BTreeMap;
 use std::marker::Model;
 
@@ -198,7 +199,7 @@ impl Holds {
         ensures { self.new ≡ with_end self.old txn.now }
     {
         let (place, hold) = self.table.hold_of(txn);
-        let expiry = (hold.txn.expires, hold.txn.origin);
+        let expiry = Reverse((hold.txn.expires, hold.txn.origin));
         self.table.order.remove(&expiry);
         self.table.holds.put(place, &hold.ended());
     }
@@ -223,8 +224,8 @@ impl Holds {
     pub fn is_due(&self, now: u64) -> bool
         ensures { result ≡ not (is_quiet (txns_due self.now now)) }
     {
-        match self.table.order.first_key_value() {
-            Some(((expires, _), _)) => *expires <= now,
+        match self.table.order.last_key_value() {
+            Some((expiry, _)) => expiry.0.0 <= now,
             None => false,
         }
     }

@@ -2,13 +2,14 @@
 ghost use Rattle.std.specs.Prelude.{◌≡◌, ℕ, List, [], ◌∷◌, ◌++◌, Some, None, IsSome, IfOk, OnOk, OnErr};
 ghost use Rattle.std.specs.BTreeMap as tree;
 ghost use Rattle.iss_model.specs.Currencies.{iso_number};
-ghost use Rattle.iss_hold.specs.Indexes.{by_user, by_expiry};
+ghost use Rattle.iss_hold.specs.Indexes.{by_user, by_later};
 ghost use Rattle.iss_index.specs.Places.{place_of};
 ghost use Rattle.iss_hold.specs.Sums.{sum_in};
 
 use iss_index::Names;
 use iss_model::{Currency, Token, Txn};
 use std::alloc::AllocError;
+use std::cmp::Reverse;
 use std::collections::BTreeMap;
 
 /// A user and the number of a currency.
@@ -60,19 +61,19 @@ pub(crate) fn place_after(count: usize) -> Result<u32, AllocError>
 /// Enters a transaction's place, by its expiry and by its token, or neither where allocation fails.
 pub(crate) fn enter(
     places: &mut Names,
-    order: &mut BTreeMap<(u64, u32), u32>,
+    order: &mut BTreeMap<Reverse<(u64, u32)>, u32>,
     txn: &Txn,
     place: u32,
 ) -> Result<(), AllocError>
     requires unknown { place_of txn.now.token places.old ≡ None }
-    requires unordered { tree.get by_expiry order.old (txn.now.expires, txn.now.origin) ≡ None }
+    requires unordered { tree.get by_later order.old (record { 0 = (txn.now.expires, txn.now.origin) }) ≡ None }
     ensures placed { OnOk result (places.new ≡ places.old ++ txn.now.token ∷ []) }
-    ensures entered { OnOk result (order.new.entries ≡ tree.insert_entry by_expiry order.old.entries (txn.now.expires, txn.now.origin) place) }
-    ensures rising { tree.IsOrdered by_expiry order.old → tree.IsOrdered by_expiry order.new }
+    ensures entered { OnOk result (order.new.entries ≡ tree.insert_entry by_later order.old.entries (record { 0 = (txn.now.expires, txn.now.origin) }) place) }
+    ensures rising { tree.IsOrdered by_later order.old → tree.IsOrdered by_later order.new }
     ensures places_stay { OnErr result (places.new ≡ places.old) }
     ensures order_stays { OnErr result (order.new.entries ≡ order.old.entries) }
 {
-    let expiry = (txn.expires, txn.origin);
+    let expiry = Reverse((txn.expires, txn.origin));
     order.insert(expiry, place)?;
     let Ok(_) = places.add(&txn.token) else {
         order.remove(&expiry);

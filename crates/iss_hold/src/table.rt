@@ -14,6 +14,7 @@ use crate::list::HoldList;
 use iss_index::Names;
 use iss_model::Token;
 use std::alloc::{AllocError, Global};
+use std::cmp::Reverse;
 use std::collections::BTreeMap;
 
 /// What the transactions hold, in the order in which they began, with their places, the sums of their users and the
@@ -23,7 +24,7 @@ pub(crate) struct Table {
     pub(crate) holds: HoldList,
     pub(crate) places: Names,
     pub(crate) sums: BTreeMap<(Token, u16), u64>,
-    pub(crate) order: BTreeMap<(u64, u32), u32>,
+    pub(crate) order: BTreeMap<Reverse<(u64, u32)>, u32>,
 }
 
 impl Table {
@@ -33,7 +34,7 @@ impl Table {
         requires started { IsSome (txn_named txn.now (map now_of self.now.holds)) }
         ensures { IsAt txn.now self.now.holds result.0 result.1 }
     {
-        match self.places.find(txn) {
+        match self.places.find_last(txn) {
             Some(place) => (place as usize, self.holds.at(place as usize)),
             None => unreachable!(),
         }
@@ -59,8 +60,8 @@ impl Table {
         ensures { IfOk result (λ v. map (λ token. txn_due token) v.items ≡ map (λ item. item.thing) (txns_due (holdings_of self.now.holds) now)) }
     {
         let mut due = Vec::new(alloc);
-        for ((expires, _), place) in &self.order {
-            if *expires > now {
+        for (expiry, place) in self.order.iter().rev() {
+            if expiry.0.0 > now {
                 break;
             }
             due.push(self.holds.at(*place as usize).txn.token)?;

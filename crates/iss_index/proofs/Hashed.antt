@@ -15,7 +15,7 @@ use Rattle.iss_index.specs.declared.groups.Slot.{Slot}
 use Rattle.iss_index.specs.Places.{place_of}
 use Rattle.iss_index.specs.Hashing.{hash_of, tag_of, group_of, is_name, is_at, is_zero, slot_has, slots_of, has_room, in_slots, slots_at, found_in, AreWithin, AreFound, AreKept, PutsName, FillsSlot, FillsGroup, free_group}
 use Rattle.iss_model.proofs.Names.{one_name, name-sym}
-use Rattle.iss_index.proofs.Placed.{later, place-last, apart-last, first_lacks, rest_apart}
+use Rattle.iss_index.proofs.Placed.{later, place-last, apart-last, place_here, first_lacks, rest_apart}
 
 -- ---- lists
 
@@ -487,3 +487,13 @@ module _ (groups : List Group) (others : BTreeMap (List ℕ) ℕ) (names : List 
   pub nowhere : None ≡ in_slots (tag_of (hash_of q)) names q (slots_at groups (group_of (length groups) (hash_of q)))
       → has_room (slots_at groups (group_of (length groups) (hash_of q))) ≡ true → None ≡ place_of q names
   nowhere is room = sym (found.clear q room) ∙ in_the_tree is
+
+-- a name that is at a place has it
+pub its_place : (names : List (List ℕ)) (i : ℕ) (name : List ℕ) → IsDistinct bytes_eq names → is_at names i name ≡ true → Some i ≡ place_of name names
+its_place names i name apart is = sym (place_here names i name apart (by (slice_get names i) refl))
+  where
+    by : (o : Option (List ℕ)) → slice_get names i ≡ o → slice_get names i ≡ Some name
+    by None e =
+        let never : false ≡ true = sym (ap (is_name name) e) ∙ is in
+        absurd (false≢true never)
+    by (Some n) e = e ∙ ap (λ (m : List ℕ). Some m) (one_name n name (sym (ap (is_name name) e) ∙ is))

@@ -5,7 +5,7 @@ use Rattle.std.specs.List.{AllByRecursion, IsDistinct}
 use Rattle.std.specs.Option.{option_map, option_and_then}
 use Rattle.std.specs.Str.{bytes_eq}
 use Rattle.std.proofs.lemmas.Option.{slice_get-get_or, same_Some, none-some}
-use Rattle.iss_model.proofs.Names.{one_name, name-sym}
+use Rattle.iss_model.proofs.Names.{one_name, its_name, name-sym}
 use Rattle.iss_index.specs.Places.{place_of, changed_at}
 
 -- the place after one more name
@@ -116,6 +116,21 @@ lacks_last n k (m ∷ ns) lacks other = (lacks.0, lacks_last n k ns lacks.1 othe
 pub first_lacks : (n : List ℕ) (ns : List (List ℕ)) → IsDistinct bytes_eq (n ∷ ns) → Lacks n ns
 unfolding IsDistinct
 first_lacks n ns apart = apart.0
+
+lacked_at : (n : List ℕ) (ns : List (List ℕ)) (i : ℕ) (name : List ℕ) → Lacks n ns → slice_get ns i ≡ Some name → bytes_eq n name ≡ false
+lacked_at n [] i name lacks is = absurd (none-some name is)
+lacked_at n (m ∷ ns) zero name lacks is = subst (λ (k : List ℕ). bytes_eq n k ≡ false) (same_Some m name is) lacks.0
+lacked_at n (m ∷ ns) (suc i) name lacks is = lacked_at n ns i name lacks.1 is
+
+-- where no name stands twice, a name that stands at a place has it
+pub place_here : (ns : List (List ℕ)) (i : ℕ) (name : List ℕ) → IsDistinct bytes_eq ns → slice_get ns i ≡ Some name → place_of name ns ≡ Some i
+place_here [] i name apart is = absurd (none-some name is)
+place_here (n ∷ ns) zero name apart is =
+    let same : bytes_eq name n ≡ true = name-sym name n ∙ subst (λ (m : List ℕ). bytes_eq n m ≡ true) (same_Some n name is) (its_name n) in
+    rw same refl
+place_here (n ∷ ns) (suc i) name apart is =
+    let other : bytes_eq name n ≡ false = name-sym name n ∙ lacked_at n ns i name (first_lacks n ns apart) is in
+    rw other (ap later (place_here ns i name (rest_apart n ns apart) is))
 
 -- a name that the list lacks may be added
 pub apart-last : (k : List ℕ) (ns : List (List ℕ)) → IsDistinct bytes_eq ns → place_of k ns ≡ None → IsDistinct bytes_eq (ns ++ k ∷ [])

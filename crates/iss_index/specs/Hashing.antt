@@ -9,6 +9,7 @@ use Rattle.std.specs.Ordering.{nat_cmp}
 use Rattle.std.specs.Str.{bytes_eq}
 use Rattle.iss_index.specs.declared.groups.Group.{Group}
 use Rattle.iss_index.specs.declared.groups.Slot.{Slot}
+use Rattle.iss_index.specs.declared.places.Places.{Places}
 use Rattle.iss_index.specs.Places.{place_of}
 
 -- the hash of a name, in 64 bits
@@ -79,6 +80,22 @@ abbrev pub PutsName : List Group → BTreeMap (List ℕ) ℕ → List Group → 
 PutsName before others after others_after name place =
     (names : List (List ℕ)) → AreFound before others names → place ≡ length names → place_of name names ≡ None
     → AreFound after others_after (names ++ name ∷ [])
+
+-- these places are those of these names, and of no other
+abbrev pub Finds : Places → List (List ℕ) → Type 0
+Finds places names = AreFound places.groups.items places.others names
+
+-- whatever names they were the places of, they are still
+abbrev pub StaysFound : Places → Places → Type 0
+StaysFound before after = (names : List (List ℕ)) → Finds before names → Finds after names
+
+-- the place of one name more was put among them
+abbrev pub PutsPlace : Places → Places → List ℕ → ℕ → Type 0
+PutsPlace before after name place = PutsName before.groups.items before.others after.groups.items after.others name place
+
+-- the group that a name's hash points to has a free slot
+abbrev pub has_room_for : List Group → List ℕ → Bool
+has_room_for groups name = has_room (slots_at groups (group_of (length groups) (hash_of name)))
 
 -- a free slot got the place of a name
 pub record FillsSlot (before after : List Slot) (tag place : ℕ) : Type 0 where

@@ -46,7 +46,7 @@ fn tag_of(hash: u64) -> u32
 }
 
 /// Whether the name at a place is this one.
-fn is_at(names: &[Token], place: usize, name: &Token) -> bool
+pub(crate) fn is_at(names: &[Token], place: usize, name: &Token) -> bool
     ensures { result ≡ is_at names.now place name.now }
 {
     match names.get(place) {

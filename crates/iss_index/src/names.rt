@@ -1,9 +1,11 @@
 //! Names, each once, found by hash.
-ghost use Rattle.std.specs.Prelude.{◌≡◌, ◌+◌, ◌<◌, ◌^◌, ◌∷◌, ◌++◌, [], None, Some, IfOk, OnOk, OnErr, length, slice_get};
+ghost use Rattle.std.specs.Prelude.{◌≡◌, ◌+◌, ◌<◌, ◌^◌, ◌∷◌, ◌++◌, [], true, None, Some, IfSome, IfOk, OnOk, OnErr, length, slice_get};
 ghost use Rattle.std.specs.List.{IsDistinct};
 ghost use Rattle.std.specs.Str.{bytes_eq};
+ghost use Rattle.iss_index.specs.Hashing.{is_at};
 ghost use Rattle.iss_index.specs.Places.{place_of};
 
+use crate::groups::is_at;
 use crate::places::Places;
 use iss_model::Token;
 use std::alloc::{AllocError, Global};
@@ -67,6 +69,17 @@ impl Names {
         self.places.find(&self.names, name)
     }
 
+    /// The same, where the name is likely to be the last one.
+    pub fn find_last(&self, name: &Token) -> Option<u32>
+        ensures value { result ≡ place_of name.now self.now }
+        ensures apart { IsDistinct bytes_eq self.now }
+    {
+        match last_place(&self.names, name) {
+            Some(place) => Some(place),
+            None => self.find(name),
+        }
+    }
+
     /// Adds a new name after the others, and tells its place. Where allocation fails all stays as it was, and so where
     /// 2^32 - 1 names stand, as many as places are kept for.
     pub fn add(&mut self, name: &Token) -> Result<u32, AllocError>
@@ -103,5 +116,16 @@ fn place_after(count: usize) -> Result<u32, AllocError>
     match u32::try_from(count) {
         Ok(place) if place < u32::MAX => Ok(place),
         _ => Err(AllocError),
+    }
+}
+
+/// The last place, where the name there is this one.
+fn last_place(names: &[Token], name: &Token) -> Option<u32>
+    ensures { IfSome result (λ place. is_at names.now place name.now ≡ true) }
+{
+    let last = names.len().checked_sub(1)?;
+    match u32::try_from(last) {
+        Ok(place) if is_at(names, place as usize, name) => Some(place),
+        _ => None,
     }
 }

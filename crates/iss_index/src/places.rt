@@ -1,18 +1,20 @@
 //! The places of names, found by hash.
-ghost use Rattle.std.specs.Prelude.{◌≡◌, ◌+◌, ◌<◌, ◌≤◌, ◌^◌, ◌∷◌, ◌++◌, [], false, List, ℕ, None, IfOk, OnOk, OnErr, length, replicate};
+ghost use Rattle.std.specs.Prelude.{◌≡◌, ◌+◌, ◌<◌, ◌^◌, [], false, IfOk, OnOk, OnErr, length, replicate};
 ghost use Rattle.std.specs.Bool.{OnTrue, OnFalse};
 ghost use Rattle.std.specs.List.{IsDistinct};
 ghost use Rattle.std.specs.Str.{bytes_eq};
 ghost use Rattle.iss_index.specs.Places.{place_of};
-ghost use Rattle.iss_index.specs.Hashing.{hash_of, group_of, has_room, slots_at, AreFound, PutsName, FillsGroup, free_group};
+ghost use Rattle.iss_index.specs.Hashing.{group_of, has_room_for, Finds, StaysFound, PutsPlace, FillsGroup, free_group};
 
 use crate::groups::{FREE, Group, hash_of};
 use iss_model::Token;
 use std::alloc::{AllocError, Global};
 use std::collections::BTreeMap;
 
-/// How many names a group holds on average before there are twice as many groups.
-const LOAD: usize = 4;
+/// How many names a group holds on average before there are more groups.
+const LOAD: usize = 5;
+/// How many times as many groups there are then.
+const GROWTH: usize = 4;
 /// How many groups the first names are given.
 const FIRST_GROUPS: usize = 16;
 
@@ -26,7 +28,7 @@ pub(crate) struct Places {
 impl Places {
     /// No place. Nothing is allocated.
     pub(crate) fn new(alloc: Global) -> Places
-        ensures { AreFound result.groups.items result.others [] }
+        ensures { Finds result [] }
     {
         Places {
             groups: Vec::new(alloc),
@@ -34,13 +36,13 @@ impl Places {
         }
     }
 
-    /// The places of these names, in groups twice as many as now.
+    /// The places of these names, in more groups than now.
     pub(crate) fn widened(&self, alloc: Global, names: &[Token]) -> Result<Places, AllocError>
         requires few { length names.now < 2 ^ 32 }
         requires apart { IsDistinct bytes_eq names.now }
-        ensures { IfOk result (λ places. AreFound places.groups.items places.others names.now) }
+        ensures { IfOk result (λ places. Finds places names.now) }
     {
-        let count = self.groups.len().saturating_mul(2).max(FIRST_GROUPS);
+        let count = self.groups.len().saturating_mul(GROWTH).max(FIRST_GROUPS);
         let mut places = Places {
             groups: free_groups(alloc, count)?,
             others: BTreeMap::new(alloc),
@@ -51,14 +53,15 @@ impl Places {
         Ok(places)
     }
 
-    /// Whether one name more is to have more groups first.
+    /// Whether one name more is to have more groups first. It decides how soon names are found and what memory their places
+    /// take, and nothing of what is found, so no clause speaks of it.
     pub(crate) fn is_full(&self, count: usize) -> bool {
         count / LOAD >= self.groups.len()
     }
 
     /// The place of a name.
     pub(crate) fn find(&self, names: &[Token], name: &Token) -> Option<u32>
-        requires { AreFound self.now.groups.items self.now.others names.now }
+        requires { Finds self.now names.now }
         ensures { result ≡ place_of name.now names.now }
     {
         if self.groups.is_empty() {
@@ -78,8 +81,8 @@ impl Places {
     /// Notes the place of a name that has none. Where allocation fails all stays as it was.
     pub(crate) fn put(&mut self, name: &Token, place: u32) -> Result<(), AllocError>
         requires few { place + 1 < 2 ^ 32 }
-        ensures put { OnOk result (PutsName self.old.groups.items self.old.others self.new.groups.items self.new.others name.now place) }
-        ensures refused { OnErr result ((names : List (List ℕ)) → AreFound self.old.groups.items self.old.others names → AreFound self.new.groups.items self.new.others names) }
+        ensures put { OnOk result (PutsPlace self.old self.new name.now place) }
+        ensures refused { OnErr result (StaysFound self.old self.new) }
     {
         if self.put_in_group(name, place) {
             return Ok(());
@@ -93,7 +96,7 @@ impl Places {
         requires few { place + 1 < 2 ^ 32 }
         ensures filled { OnTrue result (FillsGroup self.old.groups.items self.new.groups.items name.now place) }
         ensures full { OnFalse result (self.new.groups.items ≡ self.old.groups.items) }
-        ensures no_room { OnFalse result (has_room (slots_at self.old.groups.items (group_of (length self.old.groups.items) (hash_of name.now))) ≡ false) }
+        ensures no_room { OnFalse result (has_room_for self.old.groups.items name.now ≡ false) }
         ensures others { self.new.others ≡ self.old.others }
     {
         if self.groups.is_empty() {

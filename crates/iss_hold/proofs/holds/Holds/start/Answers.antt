@@ -7,7 +7,7 @@ use Rattle.iss_model.specs.rules.Activity.{txn_named}
 use Rattle.iss_model.specs.state.Cores.{Holdings, with_txn}
 use Rattle.iss_hold.specs.declared.hold.Hold.{Hold}
 use Rattle.iss_hold.specs.Holdings.{begun, holdings_of}
-use Rattle.iss_hold.specs.Indexes.{AreIndexed, by_user, by_expiry}
+use Rattle.iss_hold.specs.Indexes.{AreIndexed, by_user, by_later}
 use Rattle.iss_hold.proofs.Beginnings.{holdings_more}
 use Rattle.iss_hold.proofs.IndexesKept.{indexed_more, indexed_same, no_place_yet, no_expiry_yet}
 use Rattle.iss_hold.proofs.Named.{without_last}
@@ -35,7 +35,7 @@ invariant_of-self-in-Ok c =
     c.in-Ok.ensures.placed
     c.begin_sum.ensures.same c.begin_sum.ensures.stay
     (subst (λ (key : List ℕ × ℕ). IsSome (tree.get by_user c.begin_sum.new.sums key)) c.user_key.ensures c.in_ok-begin_sum.ensures.stands)
-    (subst (λ (n : ℕ). c.enter.new.order.entries ≡ insert_entry by_expiry c.self.inside.table.order.entries (t.expires, t.origin) n) len c.in-Ok.ensures.entered)
+    (subst (λ (n : ℕ). c.enter.new.order.entries ≡ insert_entry by_later c.self.inside.table.order.entries (record { 0 = (t.expires, t.origin) }) n) len c.in-Ok.ensures.entered)
     (c.enter.ensures.rising c.self.invariant.rising))
 
 pub returns-in-Ok-clause-started : goal.returns-in-Ok-clause-started
