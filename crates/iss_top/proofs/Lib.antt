@@ -7,3 +7,7 @@ pub mod Numbers
 pub mod Formatted
 pub mod Continues
 pub mod Goings
+pub mod Lasting
+pub mod Taken
+pub mod TakenLines
+pub mod TakingCauses

@@ -1,6 +1,8 @@
 -- A run on a device on its way: what each line is told on what stands, what was done for it, and what the rest of the input will be told.
-use Rattle.std.specs.Prelude.{◌≡◌, ℕ, ◌+◌, ◌≤◌, ◌↔◌, ◌⊎◌, List, [], ◌∷◌, ◌++◌, length, map, filter, take, Option, Some, IfErr, Result, if◌then◌else◌}
+use Rattle.std.specs.Prelude.{◌≡◌, ℕ, ◌+◌, ◌≤◌, ◌==◌, ◌↔◌, ◌⊎◌, Bool, true, false, List, [], ◌∷◌, ◌++◌, length, map, filter, take, Option, Some, IsTrue, IfErr, Result, if◌then◌else◌}
+use Rattle.std.specs.List.{list_all}
 use Rattle.iss_edge.specs.declared.outside.Action.{Action}
+use Rattle.iss_edge.specs.declared.outside.Action.TheVariants.{Write, Sync, Emit, Dial, Close}
 use Rattle.iss_edge.specs.World.{World, Faults, Later, Rose}
 use Rattle.iss_edge.specs.Stretches.{Step, actions_of, IsGood, GoesOn}
 use Rattle.iss_model.specs.declared.input.Record.{Record}
@@ -14,7 +16,7 @@ use Rattle.iss_model.specs.run.Runs.{Run, Response, response}
 use Rattle.iss_model.specs.run.Sayings.{reaction_to_record, said_of_time, answer_left}
 use Rattle.iss_model.specs.run.Transcripts.{Reading, Text, at_level, said_text_at}
 use Rattle.iss_store.specs.Values.{StoreNow, Plan, room_of}
-use Rattle.iss_store.specs.Standing.{StandsFor, RestsAt, StandsAt}
+use Rattle.iss_store.specs.Standing.{StandsFor, RestsAt, StandsAt, AreHistory}
 use Rattle.iss_texts.specs.Sending.{emits, GoOut}
 use Rattle.iss_top.specs.declared.stop.Stop.{Stop}
 use Rattle.iss_top.specs.declared.stop.Stop.TheVariants as stop
@@ -44,6 +46,14 @@ told_lines s (line ∷ lines) = then_told (told_line s line).texts (told_lines (
 abbrev pub outputs_of : List Action → List Action
 outputs_of actions = filter is_output actions
 
+-- writes to the device, syncs it, or emits on channel 0
+abbrev pub is_of_run : Action → Bool
+is_of_run (Write at bytes ok) = true
+is_of_run (Sync ok) = true
+is_of_run (Emit ch bytes ok) = ch.0 == 0
+is_of_run (Dial ch) = false
+is_of_run (Close ch) = false
+
 -- the levels of what was sent on channel 0
 abbrev pub output_levels : List Step → List ℕ
 output_levels steps = map (λ step. step.level) (filter (λ step. is_output step.action) steps)
@@ -57,14 +67,9 @@ pub record AreFirstOf (rs all : List Record) : Type 0 where
   pub later : List Record
   pub cut : all ≡ rs ++ later
 
--- these texts and these records come first among those of a response
-pub record IsFirstOf (texts : List Text) (rs : List Record) (all : Response) : Type 0 where
-  pub later : List Text
-  pub cut : all.texts ≡ texts ++ later
-  pub records : AreFirstOf rs all.run.history.records
-
 -- From these records of a store up to those, each of these texts went out by an emit of its own at its level, and what was done is a
--- stretch that is good from the one number of records to the other, after which the run goes on.
+-- stretch that is good from the one number of records to the other, after which the run goes on. Nothing was done but on the device and
+-- on channel 0.
 pub record Goes (s : StoreNow) (rs rs' : List Record) (texts : List Text) (a b : World) : Type 0 where
   pub more : AreFirstOf rs rs'
   pub steps : List Step
@@ -74,6 +79,7 @@ pub record Goes (s : StoreNow) (rs rs' : List Record) (texts : List Text) (a b :
   pub goes_on : (all : List Record) → AreFirstOf rs' all
       → GoesOn (RestsAt s all) (StandsAt s all) (RestsAt s all) (length rs) (length rs') steps
   pub rests : RestsAt s rs a.device (length rs) → RestsAt s rs' b.device (length rs')
+  pub kinds : IsTrue (list_all is_of_run (actions_of steps))
 
 -- The same in part: some of these texts went out, the last one maybe as a prefix of it, and the stretch is good; the run ends.
 pub record GoesPart (s : StoreNow) (rs rs' : List Record) (texts : List Text) (a b : World) : Type 0 where
@@ -83,6 +89,7 @@ pub record GoesPart (s : StoreNow) (rs rs' : List Record) (texts : List Text) (a
   pub out : GoOut (each_bytes texts) (outputs_of (actions_of steps))
   pub levels : (later : List ℕ) × (levels_of texts ≡ output_levels steps ++ later)
   pub good : (all : List Record) → AreFirstOf rs' all → IsGood (RestsAt s all) (StandsAt s all) (length rs) (length rs') steps
+  pub kinds : IsTrue (list_all is_of_run (actions_of steps))
 
 -- the same for what lines in a row are told
 abbrev pub GoesFor : StoreNow → List Record → List (List ℕ) → World → World → Type 0
@@ -132,15 +139,24 @@ pub record IsReplaying (opened s : StoreNow) (now : ReaderNow) (a b : World) : T
   pub on_book : (rs : List Record) → StandsFor opened rs
       → StandsFor s (told_lines (run_at opened rs) parts).run.history.records × GoesFor opened rs parts a b
 
--- What a run with this status did since its store was opened on these records: what was told is the first of what its input is to be told,
--- at 0 all of it, and at 3 and 8 that of the lines which ended within the bytes that were taken.
-pub record RunsOnBook (status : ℕ) (opened : StoreNow) (rs : List Record) (took : List ℕ) (a b : World) : Type 0 where
+-- All that this says was done, from these records of a store on, and the records that then stand are a history.
+pub record GoesWhole (s : StoreNow) (rs : List Record) (told : Response) (a b : World) : Type 0 where
+  pub goes : Goes s rs told.run.history.records told.texts a b
+  pub history : AreHistory told.run.history.records
+
+-- What a run with this status did on a store that stood for these records, where parts of the input are told so. What went out is the
+-- first of what its input is to be told, and the records are the first of those that it makes; at 0 it is all of that, and at 3 and 8
+-- that of exactly the lines which ended within the bytes that were taken.
+pub record RunsAs (tell : List (List ℕ) → Response) (status : ℕ) (opened : StoreNow) (rs : List Record) (took : List ℕ) (a b : World) : Type 0 where
   pub rs' : List Record
-  pub texts : List Text
-  pub goes : GoesPart opened rs rs' texts a b
-  pub first : IsFirstOf texts rs' (told_lines (run_at opened rs) (parts_of (a.left 0)))
-  pub whole : status ≡ 0 → (b.left 0 ≡ []) × GoesFor opened rs (parts_of (a.left 0)) a b
-  pub stopped : (status ≡ 3) ⊎ (status ≡ 8) → GoesFor opened rs (all_but_last (parts_of (take MOST_INPUT took))) a b
+  pub records : AreFirstOf rs' (tell (parts_of (a.left 0))).run.history.records
+  pub goes : GoesPart opened rs rs' (tell (parts_of (a.left 0))).texts a b
+  pub whole : status ≡ 0 → (b.left 0 ≡ []) × GoesWhole opened rs (tell (parts_of (a.left 0))) a b
+  pub stopped : (status ≡ 3) ⊎ (status ≡ 8) → GoesWhole opened rs (tell (all_but_last (parts_of (take MOST_INPUT took)))) a b
+
+-- the same since its store was opened on these records
+abbrev pub RunsOnBook : ℕ → StoreNow → List Record → List ℕ → World → World → Type 0
+RunsOnBook status opened rs took a b = RunsAs (told_lines (run_at opened rs)) status opened rs took a b
 
 -- the same, whatever records the store stood for
 pub record RunsFrom (status : ℕ) (opened : StoreNow) (a b : World) : Type 0 where
