@@ -1,5 +1,6 @@
 -- A record is made to last, and then what it says goes out.
-use Rattle.std.proofs.Common.{◌≡◌, ℕ, ◌+◌, Bool, true, false, cond, List, [], ◌∷◌, ◌++◌, length, map, take, Option, inl, refl, sym, ap, subst, ◌∙◌, append_assoc, length-append}
+use Rattle.std.proofs.Common.{◌≡◌, ℕ, ◌+◌, Bool, true, false, cond, List, [], ◌∷◌, ◌++◌, length, map, take, Option, Ok, Err, inl, refl, sym, ap, subst, ◌∙◌, append_assoc, length-append}
+use Rattle.std.specs.Prelude.{Result, OnErr}
 use Rattle.std.specs.List.{list_all}
 use Rattle.std.proofs.Math.Seq.{take-append_seam}
 use Rattle.iss_edge.specs.declared.outside.Action.{Action}
@@ -223,6 +224,11 @@ not_kept s p a b good =
     }
 
 -- ---- the same of what an edge tells
+
+-- what holds anyway holds where something failed
+pub anyway : {A E : Type 0} (result : Result A E) (P : Type 0) → P → OnErr result P
+anyway (Ok value) P p = tt
+anyway (Err why) P p = p
 
 pub told_kept : (s s' : StoreNow) (p : Plan) (d : DurableNow) (x y z : Option World) → Committed s p s' d → Told (CommitsGoing s p.accepted) x y → Told (Says (texts_of_record s' d)) y z
     → Told (TakesAs (response_to_plan p) s s') x z
