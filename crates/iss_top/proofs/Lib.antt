@@ -10,4 +10,3 @@ pub mod Goings
 pub mod Lasting
 pub mod Taken
 pub mod TakenLines
-pub mod TakingCauses
