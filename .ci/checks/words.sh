@@ -17,6 +17,8 @@ refused
 refused pay
 refused replay
 refused replay a b
+refused replay ''
+refused replay -a
 refused serve d 80 81 0
 refused drill 0
 refused Dry

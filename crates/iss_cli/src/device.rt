@@ -39,8 +39,15 @@ impl Device {
         }
     }
 
+    /// The file of this name. Where it can't be opened, or another program has it open as a device, the device is absent.
+    pub fn opened<R: Files<File = File>>(files: &R, name: &str) -> Device {
+        Device::open(files, name).unwrap_or(Device::absent())
+    }
+
     fn open<R: Files<File = File>>(files: &R, name: &str) -> io::Result<Device> {
         let file = OpenOptions::new().read(true).write(true).open(files, name)?;
+        // Another program that writes it would break what is known of the file.
+        file.try_lock()?;
         let size = file.metadata()?.len();
         Ok(Device {
             file: Some(file),
@@ -101,13 +108,14 @@ impl Device {
     }
 }
 
-/// Gives a new file its length, and makes the file and its name last.
+/// Locks a new file, gives it its length, and makes the file and its name last.
 fn lengthen<R: Files<File = File>>(
     files: &R,
     file: &File,
     name: &str,
     size: u64,
 ) -> io::Result<()> {
+    file.try_lock()?;
     file.set_len(size)?;
     file.sync_all()?;
     File::open(files, folder_of(name))?.sync_all()

@@ -49,12 +49,13 @@ fn status_of(rt: &HostRuntime, words: &[String]) -> u8 {
     run(rt.alloc(), words, &mut edge)
 }
 
-/// The device that the words name: its file, which is made where there is none.
+/// The device that the words name. Formatting makes its file where there is none.
 fn device_of(files: &impl Files<File = File>, words: &[String]) -> Device {
     match (command_of(words), words.get(1)) {
         (Ok(Command::Format { size, .. }), Some(name)) => {
             Device::opened_or_made(files, name.as_str(), size)
         }
+        (Ok(Command::Replay), Some(name)) => Device::opened(files, name.as_str()),
         _ => Device::absent(),
     }
 }

@@ -171,3 +171,19 @@ fn more_connections_than_handles(rt: HostRuntime) -> Result<(), Fail> {
     assert!(rt; connects(&mut edge));
     Ok(())
 }
+
+/// The file of the device that is opened twice.
+const LOCKED: &str = "locked";
+
+#[test]
+fn a_device_is_open_once(rt: HostRuntime) -> Result<(), Fail> {
+    let _ = remove_file(&rt, LOCKED);
+    assert_eq!(rt; Device::opened(&rt, LOCKED).size(), 0);
+    let first = Device::opened_or_made(&rt, LOCKED, 8);
+    assert_eq!(rt; first.size(), 8);
+    assert_eq!(rt; Device::opened(&rt, LOCKED).size(), 0);
+    drop(first);
+    assert_eq!(rt; Device::opened(&rt, LOCKED).size(), 8);
+    remove_file(&rt, LOCKED)?;
+    Ok(())
+}

@@ -14,11 +14,15 @@ mod format;
 #[cfg(test)]
 mod journal;
 #[cfg(test)]
+mod replay;
+#[cfg(test)]
 mod scripts;
 #[cfg(test)]
 mod session_rows;
 #[cfg(test)]
 mod sessions;
+#[cfg(test)]
+mod stops;
 #[cfg(test)]
 mod store;
 #[cfg(test)]

@@ -25,6 +25,19 @@ pub(crate) fn edge_on(alloc: Global, device: &[u8], fails: &[u64]) -> Result<Mem
     MemoryEdge::new(alloc, device, Vec::new(alloc), Vec::new(alloc), fails)
 }
 
+/// An edge in memory with this device and input, whose calls of these numbers fail.
+pub(crate) fn edge_with(
+    alloc: Global,
+    device: &[u8],
+    input: &[u8],
+    fails: &[u64],
+) -> Result<MemoryEdge, AllocError> {
+    let device = device.to_vec(alloc)?;
+    let input = input.to_vec(alloc)?;
+    let fails = fails.to_vec(alloc)?;
+    MemoryEdge::new(alloc, device, input, Vec::new(alloc), fails)
+}
+
 /// The status of a run by one word.
 pub(crate) fn run_by(alloc: Global, word: &str, edge: &mut MemoryEdge) -> Result<u8, AllocError> {
     run_words(alloc, &[word], edge)

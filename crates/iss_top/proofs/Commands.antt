@@ -10,6 +10,8 @@ use Rattle.iss_top.specs.Runs.{Ran, IsCaused, EndsWell}
 ends_well : (ended : Result (Unit {0}) Stop) (before now : Faults) (a b : World) → IsCaused before now ended → Ran (status_of ended) a b → EndsWell before now (status_of ended) a b
 ends_well (Ok done) before now a b caused run input output short = inl refl
 ends_well (Err stop.Input) before now a b caused run input output short = absurd (input caused.cause)
+ends_well (Err stop.Device) before now a b caused run input output short = absurd caused.cause
+ends_well (Err stop.Disk) before now a b caused run input output short = absurd caused.cause
 ends_well (Err stop.Output) before now a b caused run input output short = absurd (output caused.cause)
 ends_well (Err stop.Memory) before now a b caused run input output short = inr refl
 ends_well (Err stop.InputLong) before now a b caused run input output short =

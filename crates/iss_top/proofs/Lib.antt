@@ -1,12 +1,12 @@
 pub mod ReplyLemmas
-pub mod Feeding
 pub mod Keeping
 pub mod Finding
-pub mod Fed
-pub mod ToldFed
-pub mod Running
-pub mod ToldRuns
 pub mod RunBytes
 pub mod Commands
 pub mod Numbers
 pub mod Formatted
+pub mod Continues
+pub mod Goings
+pub mod Lasting
+pub mod Taken
+pub mod TakenLines

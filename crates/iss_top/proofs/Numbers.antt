@@ -20,15 +20,15 @@ either false o h = refl
 pub stays_great : (least most n : ℕ) (ds : List ℕ) → most < n → number_after n least most ds ≡ None
 stays_great least most n ds h = either (list_all is_digit ds) _ (value_above least most n ds h)
 
--- words of another number than 1 and 4 are no command
+-- words of another number than 1, 2 and 4 are no command
 module _ {A : Type 0} (f : A → List ℕ) where
-  pub two_or_three : (ws : List A) → 2 ≤ length ws → length ws < 4 → None ≡ command_of_words (map f ws)
+  pub three : (ws : List A) → 3 ≤ length ws → length ws < 4 → None ≡ command_of_words (map f ws)
   unfolding command_of_words
-  two_or_three [] low high = absurd (omega (arith, low))
-  two_or_three (a ∷ []) low high = absurd (omega (arith, low))
-  two_or_three (a ∷ b ∷ []) low high = refl
-  two_or_three (a ∷ b ∷ c ∷ []) low high = refl
-  two_or_three (a ∷ b ∷ c ∷ d ∷ ws) low high = absurd (omega (arith, high))
+  three [] low high = absurd (omega (arith, low))
+  three (a ∷ []) low high = absurd (omega (arith, low))
+  three (a ∷ b ∷ []) low high = absurd (omega (arith, low))
+  three (a ∷ b ∷ c ∷ []) low high = refl
+  three (a ∷ b ∷ c ∷ d ∷ ws) low high = absurd (omega (arith, high))
 
   pub five_or_more : (ws : List A) → 5 ≤ length ws → None ≡ command_of_words (map f ws)
   unfolding command_of_words

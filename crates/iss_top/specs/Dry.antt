@@ -19,9 +19,13 @@ as_reading (Err fault) = faulty (form_text fault)
 unfoldable pub reading_of : List ℕ → Reading
 reading_of line = as_reading (line_read Lines line)
 
--- the texts that the lines of these bytes are told, in order
+-- the texts that lines are told, in order, from the empty history
+abbrev pub texts_of_lines : List (List ℕ) → List Text
+texts_of_lines lines = transcript history_keeper nothing_yet (map reading_of lines)
+
+-- the texts that the lines of these bytes are told
 abbrev pub dry_texts : List ℕ → List Text
-dry_texts input = transcript history_keeper nothing_yet (map reading_of (lines_of input))
+dry_texts input = texts_of_lines (lines_of input)
 
 -- all that is to go out
 abbrev pub dry_output : List ℕ → List ℕ

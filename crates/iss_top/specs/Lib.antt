@@ -1,8 +1,11 @@
 pub mod Statuses
 pub mod Lines
 pub mod Dry
+pub mod Reader
 pub mod Progress
 pub mod Runs
 pub mod Words
 pub mod FormatRuns
 pub mod Tells
+pub mod Replaying
+pub mod Replays

@@ -28,6 +28,16 @@ parts_of (b ∷ bs) = if b == 10 then [] ∷ parts_of bs else onto_first (b ∷ 
 abbrev pub lines_of : List ℕ → List (List ℕ)
 lines_of bytes = filter (λ part. not (is_blank part)) (parts_of bytes)
 
+-- all but the last of these
+abbrev pub all_but_last : List (List ℕ) → List (List ℕ)
+all_but_last [] = []
+all_but_last (part ∷ []) = []
+all_but_last (part ∷ next ∷ parts) = part ∷ all_but_last (next ∷ parts)
+
+-- the lines that ended within these bytes, by their line feeds
+abbrev pub ended_lines : List ℕ → List (List ℕ)
+ended_lines bytes = filter (λ part. not (is_blank part)) (all_but_last (parts_of bytes))
+
 -- What a buffer keeps of a line with one more byte. A line of more than 16384 bytes is told the same whatever it holds, so once it has more,
 -- a blank is left out and any other byte takes the place of the last.
 abbrev pub kept_with : List ℕ → ℕ → List ℕ

@@ -1,15 +1,16 @@
--- A dry run on its way: what was told so far, and what the rest of the input will be told.
-use Rattle.std.specs.Prelude.{◌≡◌, ℕ, List, [], ◌∷◌, ◌++◌, Bool, false, ◌==◌, IsTrue, IfErr, Result, if◌then◌else◌}
+-- A run on its way: the parts of the input that were read, and what they were told.
+use Rattle.std.specs.Prelude.{◌≡◌, ℕ, List, [], ◌∷◌, ◌++◌, Bool, true, false, ◌==◌, IsTrue, IfErr, Result, length, if◌then◌else◌}
 use Rattle.std.specs.List.{list_all}
 use Rattle.iss_edge.specs.declared.outside.Action.{Action}
 use Rattle.iss_edge.specs.declared.outside.Action.TheVariants.{Write, Sync, Emit, Dial, Close}
 use Rattle.iss_edge.specs.World.{World, Faults, Later, Rose, sent_on}
-use Rattle.iss_model.specs.state.Cores.{CoreState}
-use Rattle.iss_texts.specs.Sending.{Says, SaysSome, AreFirst}
+use Rattle.iss_model.specs.state.Cores.{CoreState, no_core}
+use Rattle.iss_texts.specs.Sending.{SendsEach}
 use Rattle.iss_top.specs.declared.stop.Stop.{Stop}
 use Rattle.iss_top.specs.declared.stop.Stop.TheVariants as stop
-use Rattle.iss_top.specs.Lines.{is_blank, onto_first, parts_of}
+use Rattle.iss_top.specs.Lines.{is_blank, parts_of}
 use Rattle.iss_top.specs.Dry.{reply_of_line, each_bytes}
+use Rattle.iss_top.specs.Reader.{ReaderNow, TakesIn}
 
 -- what a line is told: nothing where it is blank
 unfoldable pub line_texts : CoreState → List ℕ → List (List ℕ)
@@ -24,9 +25,10 @@ abbrev pub lines_texts : CoreState → List (List ℕ) → List (List ℕ)
 lines_texts s [] = []
 lines_texts s (line ∷ lines) = line_texts s line ++ lines_texts (line_next s line) lines
 
--- what is still to be told where these bytes of a line came already, and the rest is to come
-unfoldable pub texts_to_come : CoreState → List ℕ → List ℕ → List (List ℕ)
-texts_to_come s line rest = lines_texts s (onto_first line (parts_of rest))
+-- what stands after lines in a row
+abbrev pub lines_next : CoreState → List (List ℕ) → CoreState
+lines_next s [] = s
+lines_next s (line ∷ lines) = lines_next (line_next s line) lines
 
 -- sends bytes on channel 0
 abbrev pub is_output : Action → Bool
@@ -44,26 +46,32 @@ pub record Sends (text : List ℕ) (a b : World) : Type 0 where
   pub outputs : IsTrue (list_all is_output actions)
   pub sent : sent_on 0 actions ≡ text
 
--- a piece of input was taken in: what it is told went out, and the rest of the input is still to be told
-pub record Fed (s : CoreState) (line piece : List ℕ) (s' : CoreState) (line' : List ℕ) (a b : World) : Type 0 where
-  pub texts : List (List ℕ)
-  pub says : Says texts a b
-  pub onward : (rest : List ℕ) → texts_to_come s line (piece ++ rest) ≡ texts ++ texts_to_come s' line' rest
+-- These parts of the input were read: the bytes that were taken, whatever comes after them, begin with these parts, and the rest is what
+-- isn't read yet; or the input has ended, and these are all its parts.
+pub record HasRead (parts : List (List ℕ)) (now : ReaderNow) (a b : World) : Type 0 where
+  pub took : List ℕ
+  pub takes : TakesIn took a b
+  pub count : length took ≡ now.taken
+  pub cut : now.ended ≡ false → (rest : List ℕ) → parts_of (took ++ rest) ≡ parts ++ parts_of (now.unread ++ rest)
+  pub all : now.ended ≡ true → (parts_of took ≡ parts) × (b.left 0 ≡ [])
+
+-- a dry run is on its way: what was told so far, and what stands, is that of the parts that were read
+pub record IsOnItsWay (s : CoreState) (now : ReaderNow) (a b : World) : Type 0 where
+  pub parts : List (List ℕ)
+  pub read : HasRead parts now a b
+  pub sends : SendsEach (lines_texts no_core parts) a b
+  pub state : s ≡ lines_next no_core parts
 
 -- what is still to be told where this text came first
 pub record Begins (text whole : List ℕ) : Type 0 where
   pub back : List ℕ
   pub cut : whole ≡ text ++ back
 
--- a piece of input was taken in in part: what went out is some of the first texts that are to be told, whatever comes after the piece
-pub record FedPart (s : CoreState) (line piece : List ℕ) (a b : World) : Type 0 where
-  pub texts : List (List ℕ)
-  pub says : SaysSome texts a b
-  pub onward : (rest : List ℕ) → AreFirst texts (texts_to_come s line (piece ++ rest))
-
 -- why replying to a line may end early: an emit failed, or an allocation failed
 abbrev pub ReplyCause : Faults → Faults → Stop → Type 0
 ReplyCause before now stop.Input = ⊥
+ReplyCause before now stop.Device = ⊥
+ReplyCause before now stop.Disk = ⊥
 ReplyCause before now stop.Output = Rose before.output now.output
 ReplyCause before now stop.Memory = Unit {0}
 ReplyCause before now stop.InputLong = ⊥

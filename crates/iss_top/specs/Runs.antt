@@ -1,34 +1,21 @@
 -- What a run does, whatever status it ends with.
-use Rattle.std.specs.Prelude.{◌≡◌, ◌+◌, ℕ, ◌≤◌, ◌↔◌, ◌⊎◌, List, [], ◌++◌, length, IfErr, Result}
+use Rattle.std.specs.Prelude.{◌≡◌, ◌+◌, ℕ, ◌≤◌, ◌↔◌, ◌⊎◌, List, [], ◌++◌, length, take, IfErr, Result}
 use Rattle.iss_edge.specs.declared.outside.Action.{Action}
 use Rattle.iss_edge.specs.World.{World, Faults, Later, Rose}
 use Rattle.iss_model.specs.declared.limits.TheConstants.{MOST_INPUT}
-use Rattle.iss_model.specs.state.Cores.{CoreState, no_core}
 use Rattle.iss_top.specs.declared.stop.Stop.{Stop}
 use Rattle.iss_top.specs.declared.stop.Stop.TheVariants as stop
-use Rattle.iss_top.specs.Dry.{dry_texts, dry_output, each_bytes}
-use Rattle.iss_top.specs.Progress.{texts_to_come, Sends, Begins}
-use Rattle.iss_texts.specs.Sending.{emits, GoOut, SendsEach}
+use Rattle.iss_top.specs.Lines.{ended_lines}
+use Rattle.iss_top.specs.Dry.{texts_of_lines, dry_texts, dry_output, each_bytes}
+use Rattle.iss_top.specs.Progress.{Sends, Begins}
+use Rattle.iss_top.specs.Reader.{TakesIn}
+use Rattle.iss_texts.specs.Sending.{emits, GoOut}
 
 -- these bytes were taken from channel 0, this text went out on it, and nothing else was done
 pub record Passes (took text : List ℕ) (a b : World) : Type 0 where
   pub bytes : a.left 0 ≡ took ++ b.left 0
   pub others : (c : ℕ) → (c ≡ 0 → ⊥) → b.left c ≡ a.left c
   pub sends : Sends text a b
-
--- these bytes were taken from channel 0, and none from another
-pub record TakesIn (took : List ℕ) (a b : World) : Type 0 where
-  pub bytes : a.left 0 ≡ took ++ b.left 0
-  pub others : (c : ℕ) → (c ≡ 0 → ⊥) → b.left c ≡ a.left c
-
--- so many bytes were taken, all lines that ended in them were told, and of the rest the line that began
-pub record IsOnItsWay (taken : ℕ) (s : CoreState) (line : List ℕ) (a b : World) : Type 0 where
-  pub took : List ℕ
-  pub texts : List (List ℕ)
-  pub takes : TakesIn took a b
-  pub sends : SendsEach texts a b
-  pub count : length took ≡ taken
-  pub onward : (rest : List ℕ) → texts_to_come no_core [] (took ++ rest) ≡ texts ++ texts_to_come s line rest
 
 -- What a dry run with this status did. What went out is a prefix of what its input is to be told, and all of it at status 0, where the input was read to its end.
 -- Status 8 comes exactly where 4294967296 bytes were taken and another came.
@@ -49,12 +36,20 @@ pub record EmitsTexts (status : ℕ) (a b : World) : Type 0 where
   pub out : GoOut (each_bytes (dry_texts (a.left 0))) actions
   pub whole : status ≡ 0 → actions ≡ emits (each_bytes (dry_texts (a.left 0)))
 
--- both of what it took and what it emitted, with the device as it was
+-- At 3 and 8 a dry run emitted exactly the texts of the lines that ended within the bytes that it took, of which a last one beyond
+-- 4294967296 doesn't count.
+pub record StopsAtLines (status : ℕ) (a b : World) : Type 0 where
+  pub took : List ℕ
+  pub takes : TakesIn took a b
+  pub exactly : (status ≡ 3) ⊎ (status ≡ 8) → b.trace ≡ a.trace ++ emits (each_bytes (texts_of_lines (ended_lines (take MOST_INPUT took))))
+
+-- all of what it took and what it emitted, with the device as it was
 pub record Ran (status : ℕ) (a b : World) : Type 0 where
   pub took : List ℕ
   pub takes : TakesIn took a b
   pub device : b.device ≡ a.device
   pub emits : EmitsTexts status a b
+  pub stopped : (status ≡ 3) ⊎ (status ≡ 8) → b.trace ≡ a.trace ++ emits (each_bytes (texts_of_lines (ended_lines (take MOST_INPUT took))))
   pub over : status ≡ 0 → b.left 0 ≡ []
   pub long : (status ≡ 8) ↔ (length took ≡ MOST_INPUT + 1)
   pub bound : length took ≤ MOST_INPUT + 1
@@ -62,6 +57,8 @@ pub record Ran (status : ℕ) (a b : World) : Type 0 where
 -- why a run may end early
 abbrev pub RunCause : Faults → Faults → Stop → Type 0
 RunCause before now stop.Input = Rose before.input now.input
+RunCause before now stop.Device = ⊥
+RunCause before now stop.Disk = ⊥
 RunCause before now stop.Output = Rose before.output now.output
 RunCause before now stop.Memory = Unit {0}
 RunCause before now stop.InputLong = Unit {0}

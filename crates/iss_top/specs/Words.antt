@@ -4,7 +4,7 @@ use Rattle.std.specs.List.{list_all}
 use Rattle.std.specs.Str.{bytes_eq}
 use Rattle.iss_model.specs.Amounts.{is_digit, digits_value, is_whole_text, value_after}
 use Rattle.iss_top.specs.declared.words.Command.{Command}
-use Rattle.iss_top.specs.declared.words.Command.TheVariants.{Dry, Format}
+use Rattle.iss_top.specs.declared.words.Command.TheVariants.{Dry, Format, Replay}
 
 -- this number, where it is from the least to the most
 abbrev pub within : ℕ → ℕ → ℕ → Option ℕ
@@ -35,9 +35,14 @@ format_command name device size instance =
     then format_of (number_in 17 4294967296 size) (number_in 0 281474976710655 instance)
     else None
 
+-- `replay DEVICE`
+abbrev pub replay_command : List ℕ → List ℕ → Option Command
+replay_command name device = if bytes_eq name (codes "replay") && is_device device then Some Replay else None
+
 -- what the words ask for
 unfoldable pub command_of_words : List (List ℕ) → Option Command
 command_of_words (name ∷ []) = dry_command name
+command_of_words (name ∷ device ∷ []) = replay_command name device
 command_of_words (name ∷ device ∷ size ∷ instance ∷ []) = format_command name device size instance
 command_of_words words = None
 
@@ -48,6 +53,7 @@ number_after start least most digits = if list_all is_digit digits then within l
 -- a command's numbers are in their ranges
 abbrev pub IsInRange : Command → Type 0
 IsInRange Dry = Unit {0}
+IsInRange Replay = Unit {0}
 IsInRange (Format size instance) =
     (17 ≤ size) × (size ≤ 2 ^ 32) × (instance < 2 ^ 48)
 
@@ -55,22 +61,26 @@ IsInRange (Format size instance) =
 abbrev pub statuses : Option Command → List ℕ
 statuses (Some Dry) = 0 ∷ 3 ∷ 5 ∷ 7 ∷ 8 ∷ []
 statuses (Some (Format size instance)) = 0 ∷ 4 ∷ 6 ∷ []
+statuses (Some Replay) = 0 ∷ 3 ∷ 4 ∷ 5 ∷ 6 ∷ 7 ∷ 8 ∷ []
 statuses None = 2 ∷ []
-
--- the words ask to format a device of another size than this one's
-abbrev pub IsOtherSize : Option Command → ℕ → Type 0
-IsOtherSize (Some (Format size instance)) extent = extent ≡ size → ⊥
-IsOtherSize (Some Dry) extent = ⊥
-IsOtherSize None extent = ⊥
 
 -- where the words ask for a dry run, this holds
 abbrev pub OnDry : Option Command → Type 0 → Type 0
 OnDry (Some Dry) P = P
 OnDry (Some (Format size instance)) P = Unit {0}
+OnDry (Some Replay) P = Unit {0}
 OnDry None P = Unit {0}
 
 -- where the words ask for formatting, this holds of the size and the instance
 abbrev pub OnFormat : Option Command → (ℕ → ℕ → Type 0) → Type 0
 OnFormat (Some (Format size instance)) P = P size instance
 OnFormat (Some Dry) P = Unit {0}
+OnFormat (Some Replay) P = Unit {0}
 OnFormat None P = Unit {0}
+
+-- where the words ask for a run on a device, this holds
+abbrev pub OnReplay : Option Command → Type 0 → Type 0
+OnReplay (Some Replay) P = P
+OnReplay (Some Dry) P = Unit {0}
+OnReplay (Some (Format size instance)) P = Unit {0}
+OnReplay None P = Unit {0}

@@ -2,12 +2,14 @@
 ghost use Rattle.std.specs.Prelude.{◌≡◌, ◌↔◌, ◌==◌, None, map, string_bytes, IsTrue};
 ghost use Rattle.std.specs.List.{list_any};
 ghost use Rattle.iss_edge.specs.World.{Told, Rose};
-ghost use Rattle.iss_top.specs.Words.{command_of_words, statuses, IsOtherSize, OnDry, OnFormat};
-ghost use Rattle.iss_top.specs.Runs.{DryRun, EmitsTexts, EndsWell};
+ghost use Rattle.iss_top.specs.Words.{command_of_words, statuses, OnDry, OnFormat, OnReplay};
+ghost use Rattle.iss_top.specs.Runs.{DryRun, EmitsTexts, EndsWell, StopsAtLines};
+ghost use Rattle.iss_top.specs.Replays.{ReplayRun, EveryMomentStands, RefusesExactly, ReplayEndsWell};
 ghost use Rattle.iss_top.specs.FormatRuns.{FormatRun};
 
 use crate::dry::dry;
 use crate::format::format;
+use crate::replay::replay;
 use crate::stop::status_of;
 use crate::words::{Command, Usage, command_of};
 use iss_edge::Edge;
@@ -20,9 +22,12 @@ const USAGE: u8 = 2;
 ///
 /// The one word `dry` reads event lines from channel 0 to its end and writes what they are told: lines of JSON (RFC 8259),
 /// each by one emit. `format DEVICE SIZE INSTANCE` makes the device, of SIZE bytes, one of this instance that stands for
-/// no records. The statuses are 0 for a run that came to its end, 2 for words that are no command, 3 where the input
-/// failed, 4 where the device has another size, 5 where the output failed, 6 where a call on the device failed, 7 where
-/// an allocation failed, and 8 where the input has more than 4294967296 bytes.
+/// no records. `replay DEVICE` opens the device, writes the requests and notices that still wait for the gateway, and then takes
+/// event lines as `dry` does; what a line makes lasts on the device before any of its texts goes out.
+///
+/// The statuses are 0 for a run that came to its end, 2 for words that are no command, 3 where the input failed, 4 where the
+/// device has another size or stands for no records, 5 where the output failed, 6 where a call on the device failed, 7 where an
+/// allocation failed, and 8 where the input has more than 4294967296 bytes.
 #[tactic(auto, using(crate::proofs::RunBytes::told_run))]
 pub fn run<E: Edge>(alloc: Global, words: &[String], edge: &mut E) -> u8
     // No other status, by the words.
@@ -32,9 +37,11 @@ pub fn run<E: Edge>(alloc: Global, words: &[String], edge: &mut E) -> u8
     ensures usage { (result ≡ 2) ↔ (command_of_words (map string_bytes words.now) ≡ None) }
     ensures untouched { result ≡ 2 → edge.new ≡ edge.old }
 
-    // The device's size decides over 4, and then nothing is done.
-    ensures other_size { (result ≡ 4) ↔ IsOtherSize (command_of_words (map string_bytes words.now)) (E.extent edge.old) }
-    ensures unwritten { result ≡ 4 → edge.new ≡ edge.old }
+    // Of formatting the device's size decides over 4, and then nothing is done.
+    ensures other_size { OnFormat (command_of_words (map string_bytes words.now)) (λ size instance.
+        (result ≡ 4) ↔ (E.extent edge.old ≡ size → ⊥)) }
+    ensures unwritten { OnFormat (command_of_words (map string_bytes words.now)) (λ size instance.
+        result ≡ 4 → edge.new ≡ edge.old) }
 
     // The outside is at fault where it is blamed.
     ensures input_fault { result ≡ 3 → Rose (E.faults edge.old).input (E.faults edge.new).input }
@@ -51,6 +58,27 @@ pub fn run<E: Edge>(alloc: Global, words: &[String], edge: &mut E) -> u8
     ensures complete { OnDry (command_of_words (map string_bytes words.now))
         (Told (EndsWell (E.faults edge.old) (E.faults edge.new) result) (E.told edge.old) (E.told edge.new)) }
 
+    // At 3 and 8 what went out is the transcript of exactly the lines that ended within the bytes that were taken.
+    ensures stopped { OnDry (command_of_words (map string_bytes words.now))
+        (Told (StopsAtLines result) (E.told edge.old) (E.told edge.new)) }
+
+    // A run on a device that stands for records: what went out is the transcript of its lines on them, or a prefix of it, and the
+    // device then stands for those records and the ones that the lines made.
+    ensures replaying { OnReplay (command_of_words (map string_bytes words.now))
+        (Told (ReplayRun result) (E.told edge.old) (E.told edge.new)) }
+
+    // At whatever moment it stops, the device stands for the old records and a prefix of the accepted inputs that holds every one
+    // of which a byte went out.
+    ensures moments { OnReplay (command_of_words (map string_bytes words.now))
+        (Told EveryMomentStands (E.told edge.old) (E.told edge.new)) }
+
+    // A device that stands for no records decides over 4. Where the outside isn't at fault, the input isn't too long and the device
+    // stands for records, the run comes to its end, or an allocation fails.
+    ensures refused { OnReplay (command_of_words (map string_bytes words.now))
+        (Told (RefusesExactly result) (E.told edge.old) (E.told edge.new)) }
+    ensures replay_complete { OnReplay (command_of_words (map string_bytes words.now))
+        (Told (ReplayEndsWell (E.faults edge.old) (E.faults edge.new) result) (E.told edge.old) (E.told edge.new)) }
+
     // What formatting does.
     ensures formatting { OnFormat (command_of_words (map string_bytes words.now)) (λ size instance.
         FormatRun size instance (E.extent edge.old) result (E.faults edge.old) (E.faults edge.new) (E.told edge.old) (E.told edge.new)) }
@@ -58,6 +86,7 @@ pub fn run<E: Edge>(alloc: Global, words: &[String], edge: &mut E) -> u8
     match command_of(words) {
         Ok(Command::Dry) => status_of(dry(alloc, edge)),
         Ok(Command::Format { size, instance }) => format(edge, size, instance),
+        Ok(Command::Replay) => status_of(replay(alloc, edge)),
         Err(Usage) => USAGE,
     }
 }

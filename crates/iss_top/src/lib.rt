@@ -8,12 +8,17 @@ mod answer;
 mod buffer;
 mod command;
 mod dry;
-mod feed;
 mod format;
+mod laws;
+mod piece;
+mod reader;
+mod replay;
 mod replying;
 mod stop;
+mod taking;
 mod words;
 mod workspace;
 
 pub use command::run;
+pub use laws::transcripts_continue;
 pub use words::{Command, Usage, command_of};

@@ -1,16 +1,21 @@
 //! What ends a run early.
 ghost use Rattle.std.specs.Prelude.{◌≡◌};
 ghost use Rattle.iss_top.specs.declared.stop.Stop.TheVariants.{Memory};
-ghost use Rattle.iss_top.specs.Statuses.{status_of};
+ghost use Rattle.iss_top.specs.Statuses.{status_of, stop_of_opening, stop_of_store};
 
+use iss_store::{OpenFault, StoreFault};
 use std::alloc::AllocError;
 
 #[derive(Clone, Copy)]
 pub(crate) enum Stop {
     /// A take of the input failed.
     Input,
+    /// The device doesn't stand for records.
+    Device,
     /// An emit failed.
     Output,
+    /// A call on the device failed.
+    Disk,
     /// An allocation failed.
     Memory,
     /// The input has more than 4294967296 bytes.
@@ -25,6 +30,33 @@ impl From<AllocError> for Stop {
     }
 }
 
+impl From<OpenFault> for Stop {
+    ghost from_gives = { λ fault stop. stop ≡ stop_of_opening fault };
+
+    fn from(fault: OpenFault) -> Self {
+        match fault {
+            OpenFault::Disk => Stop::Disk,
+            OpenFault::OutOfMemory => Stop::Memory,
+            OpenFault::NotFormatted
+            | OpenFault::BadRecord(_)
+            | OpenFault::BadSpelling(_)
+            | OpenFault::BadHistory(_) => Stop::Device,
+        }
+    }
+}
+
+impl From<StoreFault> for Stop {
+    ghost from_gives = { λ fault stop. stop ≡ stop_of_store fault };
+
+    fn from(fault: StoreFault) -> Self {
+        match fault {
+            StoreFault::Disk => Stop::Disk,
+            StoreFault::Output => Stop::Output,
+            StoreFault::OutOfMemory => Stop::Memory,
+        }
+    }
+}
+
 /// The exit status of a run that ended so.
 pub(crate) fn status_of(ended: Result<(), Stop>) -> u8
     ensures { result ≡ status_of ended }
@@ -32,7 +64,9 @@ pub(crate) fn status_of(ended: Result<(), Stop>) -> u8
     match ended {
         Ok(()) => 0,
         Err(Stop::Input) => 3,
+        Err(Stop::Device) => 4,
         Err(Stop::Output) => 5,
+        Err(Stop::Disk) => 6,
         Err(Stop::Memory) => 7,
         Err(Stop::InputLong) => 8,
     }

@@ -2,7 +2,7 @@
 ghost use Rattle.std.specs.Prelude.{◌≡◌, ◌≤◌, map, string_bytes, IfOk, IfSome};
 ghost use Rattle.std.specs.Result.{result_ok};
 ghost use Rattle.iss_model.specs.Amounts.{is_unpadded};
-ghost use Rattle.iss_top.specs.Words.{is_device, number_after, number_in, dry_command, format_command, command_of_words, IsInRange};
+ghost use Rattle.iss_top.specs.Words.{is_device, number_after, number_in, dry_command, replay_command, format_command, command_of_words, IsInRange};
 
 /// The most bytes that the name of a device has.
 const LONGEST_NAME: usize = 4096;
@@ -23,6 +23,8 @@ pub enum Command {
     Dry,
     /// `format DEVICE SIZE INSTANCE`: the device of so many bytes is made one of this instance that stands for no records.
     Format { size: u64, instance: u64 },
+    /// `replay DEVICE`: lines get their replies, and what they make lasts on the device.
+    Replay,
 }
 
 /// The words are no command.
@@ -44,13 +46,14 @@ pub fn command_of(words: &[String]) -> Result<Command, Usage>
 }
 
 /// The command that the words say, where they say one.
-#[tactic(auto, using(crate::proofs::Numbers::two_or_three, crate::proofs::Numbers::five_or_more), unfolding(crate::specs::Words::command_of_words))]
+#[tactic(auto, using(crate::proofs::Numbers::three, crate::proofs::Numbers::five_or_more), unfolding(crate::specs::Words::command_of_words))]
 fn said(words: &[String]) -> Option<Command>
     ensures said { result ≡ command_of_words (map string_bytes words.now) }
     ensures ranges { IfSome result IsInRange }
 {
     match words {
         [name] => dry_said(name.as_str()),
+        [name, device] => replay_said(name.as_str(), device.as_bytes()),
         [name, device, size, instance] => format_said(
             name.as_str(),
             device.as_bytes(),
@@ -67,6 +70,14 @@ fn dry_said(name: &str) -> Option<Command>
     ensures ranges { IfSome result IsInRange }
 {
     (name == "dry").then_some(Command::Dry)
+}
+
+/// What two words ask for.
+fn replay_said(name: &str, device: &[u8]) -> Option<Command>
+    ensures said { result ≡ replay_command name.now device.now }
+    ensures ranges { IfSome result IsInRange }
+{
+    (name == "replay" && is_device(device)).then_some(Command::Replay)
 }
 
 /// What four words ask for.

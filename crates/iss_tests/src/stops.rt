@@ -1,0 +1,229 @@
+//! Runs on devices in memory that stop: after each action, with three of the images that it may leave, and by each call failing.
+use crate::journal::{Left, image_of};
+use crate::replay::{FIVE_USERS, FIVE_USERS_TOLD, USER, USER_DONE, replayed};
+use crate::scripts::{
+    A_DAY, A_DAY_TOLD, EARLY_ACKNOWLEDGEMENT, EARLY_ACKNOWLEDGEMENT_TOLD, REPEAT_AT_THE_DEADLINE,
+    REPEAT_AT_THE_DEADLINE_TOLD, TWO_TIMEOUTS_AND_AN_EXPIRY, TWO_TIMEOUTS_AND_AN_EXPIRY_TOLD,
+};
+use crate::store::{USER_RECORD, device_of};
+use crate::support::{edge_on, sent};
+use iss_edge::Action;
+use iss_store::Store;
+use std::alloc::{AllocError, Global};
+use std::test::Fail;
+
+/// A run on a device of this size that stands for no records: its input, its texts, each a line, and how many records stand
+/// before each text goes out.
+#[derive(Clone, Copy)]
+struct Worked {
+    size: usize,
+    lines: &'static str,
+    told: &'static str,
+    levels: &'static [u32],
+}
+
+const RUNS: [Worked; 6] = [
+    Worked {
+        size: 100,
+        lines: USER,
+        told: USER_DONE,
+        levels: &[1],
+    },
+    Worked {
+        size: 75,
+        lines: FIVE_USERS,
+        told: FIVE_USERS_TOLD,
+        levels: &[1, 2, 2, 3, 3, 3],
+    },
+    Worked {
+        size: 1000,
+        lines: REPEAT_AT_THE_DEADLINE,
+        told: REPEAT_AT_THE_DEADLINE_TOLD,
+        levels: &[1, 2, 3, 4, 5, 5, 5, 5],
+    },
+    Worked {
+        size: 1000,
+        lines: EARLY_ACKNOWLEDGEMENT,
+        told: EARLY_ACKNOWLEDGEMENT_TOLD,
+        levels: &[1, 2, 3, 4, 4, 5, 5, 5, 6],
+    },
+    Worked {
+        size: 1000,
+        lines: TWO_TIMEOUTS_AND_AN_EXPIRY,
+        told: TWO_TIMEOUTS_AND_AN_EXPIRY_TOLD,
+        levels: &[1, 2, 3, 4, 5, 6, 7, 8, 8, 8, 8, 8, 8],
+    },
+    Worked {
+        size: 2000,
+        lines: A_DAY,
+        told: A_DAY_TOLD,
+        levels: &[
+            1, 2, 3, 4, 5, 6, 7, 8, 8, 9, 10, 11, 12, 13, 13, 14, 15, 16, 16, 17, 17, 18, 19, 19,
+            19, 20, 20,
+        ],
+    },
+];
+
+/// How many bytes these actions sent.
+fn count_sent(actions: &[Action]) -> usize {
+    let mut count = 0usize;
+    for action in actions {
+        if let Action::Emit { bytes, .. } = action {
+            count = count.saturating_add(bytes.as_slice().len());
+        }
+    }
+    count
+}
+
+/// The level of the last text of which a byte is among the first so many.
+fn level_at(run: &Worked, count: usize) -> u32 {
+    let mut line = 0;
+    for byte in run.told.as_bytes().iter().take(count.saturating_sub(1)) {
+        if *byte == b'\n' {
+            line += 1;
+        }
+    }
+    if count == 0 {
+        return 0;
+    }
+    run.levels.get(line).copied().unwrap_or(0)
+}
+
+/// The place of the gate behind the first so many records of a device.
+fn gate_behind(device: &[u8], count: u32) -> Option<usize> {
+    let mut gate = 16usize;
+    for _ in 0..count {
+        let length = device.get(gate.saturating_add(1)..gate.saturating_add(5))?;
+        let number = u32::from_be_bytes([length[0], length[1], length[2], length[3]]);
+        gate = gate.saturating_add(5).saturating_add(number as usize);
+    }
+    Some(gate)
+}
+
+/// How many records an image opens with, where they are the first ones of this device and the end gate behind them is 0.
+fn records_on(alloc: Global, image: &[u8], whole: &[u8]) -> Result<Option<u32>, AllocError> {
+    let mut edge = edge_on(alloc, image, &[])?;
+    let Ok(store) = Store::open(alloc, &mut edge) else {
+        return Ok(None);
+    };
+    let count = store.core().count();
+    let Some(gate) = gate_behind(edge.device(), count) else {
+        return Ok(None);
+    };
+    let are_first = edge.device().get(..gate) == whole.get(..gate);
+    let is_shut = edge.device().get(gate) == Some(&0);
+    Ok((are_first && is_shut).then_some(count))
+}
+
+/// Whether each of three images after these actions stands for a prefix of this device's records that has the record of each
+/// text of which a byte went out.
+fn stands_after(
+    alloc: Global,
+    run: &Worked,
+    start: &[u8],
+    actions: &[Action],
+    whole: &[u8],
+) -> Result<bool, AllocError> {
+    let least = level_at(run, count_sent(actions));
+    for left in [Left::Nothing, Left::All, Left::OpenGates] {
+        let image = image_of(alloc, start, actions, left)?;
+        match records_on(alloc, &image, whole)? {
+            Some(count) if least <= count => {}
+            _ => return Ok(false),
+        }
+    }
+    Ok(true)
+}
+
+#[test]
+fn each_stop_leaves_what_was_told(rt: HostRuntime) -> Result<(), Fail> {
+    let alloc = rt.alloc();
+    for run in &RUNS {
+        let start = device_of(alloc, run.size, &[])?;
+        let (status, edge) = replayed(alloc, &start, run.lines, &[])?;
+        assert_eq!(rt; status, 0);
+        assert!(rt; sent(alloc, &edge)?.as_slice() == run.told.as_bytes());
+        for count in 0..=edge.trace().len() {
+            assert!(rt; stands_after(alloc, run, &start, &edge.trace()[..count], edge.device())?);
+        }
+    }
+    Ok(())
+}
+
+/// Whether this status is that of a run whose last action this is.
+fn is_status_after(last: Option<&Action>, status: u8) -> bool {
+    match last {
+        Some(Action::Emit { ok: false, .. }) => status == 5,
+        Some(Action::Write { ok: false, .. }) | Some(Action::Sync { ok: false }) => status == 6,
+        // A take or a read of the device failed, which is no action.
+        _ => status == 3 || status == 6,
+    }
+}
+
+/// Each call of a run fails in turn, until there is none of that number.
+#[test]
+fn each_call_may_fail(rt: HostRuntime) -> Result<(), Fail> {
+    let alloc = rt.alloc();
+    for run in &RUNS {
+        let start = device_of(alloc, run.size, &[])?;
+        let (_, whole) = replayed(alloc, &start, run.lines, &[])?;
+        let mut failing = 1;
+        'calls: loop {
+            let (status, edge) = replayed(alloc, &start, run.lines, &[failing])?;
+            if status == 0 {
+                break 'calls;
+            }
+            assert!(rt; is_status_after(edge.trace().last(), status), "{failing}");
+            assert!(rt;
+                run.told
+                    .as_bytes()
+                    .starts_with(sent(alloc, &edge)?.as_slice())
+            );
+            assert!(rt;
+                stands_after(alloc, run, &start, edge.trace(), whole.device())?,
+                "{failing}"
+            );
+            failing += 1;
+        }
+        // The opening makes four calls; there are two takes, four calls a record and one a text.
+        let records = run.levels.last().copied().unwrap_or(0);
+        assert_eq!(rt;
+            failing,
+            7 + 4 * u64::from(records) + run.levels.len() as u64
+        );
+    }
+    Ok(())
+}
+
+/// The user's record stands, and behind a torn gate another user's is left.
+fn left_behind(alloc: Global) -> Result<Vec<u8>, AllocError> {
+    device_of(
+        alloc,
+        100,
+        &[
+            USER_RECORD,
+            b"\x07\0\0\0\x0f\x01\0\0\0\0\0\0\0\0\x02t9\x02u9\0",
+        ],
+    )
+}
+
+/// Until the opening has settled the end gate, a record that was left behind it may stand.
+#[test]
+fn a_record_left_behind_may_stand_for_once(rt: HostRuntime) -> Result<(), Fail> {
+    let alloc = rt.alloc();
+    let start = left_behind(alloc)?;
+    let (status, edge) = replayed(alloc, &start, USER, &[])?;
+    assert_eq!(rt; status, 0);
+    // A sync, the gate's write, and the sync that settles it come before the reply.
+    assert_eq!(rt; edge.trace().len(), 4);
+    for (count, most) in [(0, 1), (1, 1), (2, 2), (3, 1), (4, 1)] {
+        let image = image_of(alloc, &start, &edge.trace()[..count], Left::OpenGates)?;
+        let mut again = edge_on(alloc, &image, &[])?;
+        let found = match Store::open(alloc, &mut again) {
+            Ok(store) => store.core().count(),
+            Err(_) => 0,
+        };
+        assert_eq!(rt; found, most, "{count}");
+    }
+    Ok(())
+}

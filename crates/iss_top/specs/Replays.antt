@@ -1,0 +1,124 @@
+-- What a run on a device does, whatever status it ends with.
+use Rattle.std.specs.Prelude.{◌≡◌, ◌+◌, ℕ, ◌≤◌, ◌↔◌, ◌⊎◌, List, [], ◌∷◌, ◌++◌, length, map, take, Some}
+use Rattle.iss_edge.specs.declared.outside.Action.{Action}
+use Rattle.iss_edge.specs.World.{World, Faults, Rose}
+use Rattle.iss_edge.specs.Stretches.{Step, actions_of, ShowsUpTo}
+use Rattle.iss_edge.specs.Disk.{Disk, after_actions, IsAtRest, IsImage}
+use Rattle.iss_journal.specs.Region.{StandsFirst}
+use Rattle.iss_journal.specs.Header.{IsUnformatted}
+use Rattle.iss_journal.specs.Opening.{OpensFirst, OpenedOrOneMore}
+use Rattle.iss_model.specs.declared.input.Record.{Record}
+use Rattle.iss_model.specs.declared.limits.TheConstants.{MOST_INPUT}
+use Rattle.iss_model.specs.rules.Histories.{history_of}
+use Rattle.iss_model.specs.run.Runs.{Run, transcript_of, line_texts, accepted_records}
+use Rattle.iss_model.specs.run.Transcripts.{Reading, Text}
+use Rattle.iss_store.specs.Standing.{region_of, bodies_of, DeviceStandsFor}
+use Rattle.iss_store.specs.Opening.{BadRecordAt, BadSpellingAt, BadHistoryAt}
+use Rattle.iss_texts.specs.Sending.{emits, GoOut}
+use Rattle.iss_top.specs.Lines.{lines_of, ended_lines}
+use Rattle.iss_top.specs.Dry.{reading_of, each_bytes}
+use Rattle.iss_top.specs.Reader.{TakesIn}
+use Rattle.iss_top.specs.Replaying.{outputs_of, output_levels, levels_of}
+
+-- a run on a device of this instance and size that stands for these records
+abbrev pub run_on : ℕ → ℕ → List Record → Run
+run_on instance size rs = record { instance = instance; room = Some (record { size = size }); history = history_of rs }
+
+-- the same on this device
+abbrev pub run_on_device : ℕ → List Record → List ℕ → Run
+run_on_device instance rs device = run_on instance (length device) rs
+
+-- all that a run is told to write for these lines
+abbrev pub texts_for : Run → List (List ℕ) → List Text
+texts_for s lines = transcript_of s (map reading_of lines)
+
+-- the records that stood, and those that these lines make
+abbrev pub records_for : Run → List Record → List (List ℕ) → List Record
+records_for s rs lines = rs ++ accepted_records s (map reading_of lines)
+
+-- What was done for exactly these lines: the texts with which the run begins and those of each line went out, each by an emit of its
+-- own, and the device stands for the records that stood and those that the lines made.
+pub record Replayed (instance : ℕ) (rs : List Record) (lines : List (List ℕ)) (actions : List Action) (a b : World) : Type 0 where
+  pub out : outputs_of actions ≡ emits (each_bytes (texts_for (run_on_device instance rs a.device) lines))
+  pub stands : DeviceStandsFor instance (records_for (run_on_device instance rs a.device) rs lines) b.device
+
+-- What a run with this status did on a device that stands for these records. What went out is the transcript of the input, text by text,
+-- or a prefix of it. At 0 it is all of it, and the input was read to its end. At 3 and 8 it is that of exactly the lines that ended
+-- within the bytes that were taken. Status 8 comes exactly where 4294967296 bytes were taken and another came. The device stands for
+-- the records of the lines in each of these cases.
+pub record ReplayOn (status : ℕ) (instance : ℕ) (rs : List Record) (a b : World) : Type 0 where
+  pub took : List ℕ
+  pub takes : TakesIn took a b
+  pub actions : List Action
+  pub grew : b.trace ≡ a.trace ++ actions
+  pub out : GoOut (each_bytes (texts_for (run_on_device instance rs a.device) (lines_of (a.left 0)))) (outputs_of actions)
+  pub whole : status ≡ 0 → (b.left 0 ≡ []) × Replayed instance rs (lines_of (a.left 0)) actions a b
+  pub stopped : (status ≡ 3) ⊎ (status ≡ 8) → Replayed instance rs (ended_lines (take MOST_INPUT took)) actions a b
+  pub long : (status ≡ 8) ↔ (length took ≡ MOST_INPUT + 1)
+  pub bound : length took ≤ MOST_INPUT + 1
+  pub other_device : status ≡ 4 → ⊥
+
+-- whichever records the device stands for, if any
+abbrev pub ReplayRun : ℕ → World → World → Type 0
+ReplayRun status a b = (instance : ℕ) (rs : List Record) → DeviceStandsFor instance rs a.device → ReplayOn status instance rs a b
+
+-- what is wrong with a device that stands for no records
+abbrev pub IsNoStore : List ℕ → Type 0
+IsNoStore device =
+    IsUnformatted device ⊎ ((gate : ℕ) × (BadRecordAt gate device ⊎ (BadSpellingAt gate device ⊎ BadHistoryAt gate device)))
+
+-- no byte was taken, nothing was sent, and the device is as it was
+pub record Refused (a b : World) : Type 0 where
+  pub left : b.left ≡ a.left
+  pub device : b.device ≡ a.device
+  pub actions : List Action
+  pub grew : b.trace ≡ a.trace ++ actions
+  pub silent : outputs_of actions ≡ []
+
+-- Status 4 comes only where the device stands for no records by one of these faults, and nothing else comes then but a fault of the
+-- disk or of memory. At 4 no byte was taken, nothing was sent, and the device is as it was.
+pub record RefusesExactly (status : ℕ) (a b : World) : Type 0 where
+  pub only : status ≡ 4 → IsNoStore a.device × Refused a b
+  pub there : IsNoStore a.device → (status ≡ 4) ⊎ ((status ≡ 6) ⊎ (status ≡ 7))
+
+-- What a stop leaves at a moment of a run, once these steps were done: the records that stood and so many of those that its lines make,
+-- at least as many as the level of each text of which a byte went out, with nothing or the next of them left behind; or, as long as
+-- the steps are those of the opening, the records that stood, with what was left behind them at the start, or with that one too.
+abbrev pub MomentStands : ℕ → List Record → List Record → List Step → List Step → List ℕ → List ℕ → Type 0
+MomentStands instance rs all opening before start image =
+    ShowsUpTo (StandsFirst (region_of instance (length start)) (bodies_of all)) (length rs) (length all) before image
+    ⊎ (((later : List Step) × (opening ≡ before ++ later))
+    × ShowsUpTo (OpenedOrOneMore (region_of instance (length start)) (bodies_of all) start) (length rs) (length rs) before image)
+
+-- Every moment of a run that begins on a device at rest which stands firmly for these records.
+pub record EveryMoment (instance : ℕ) (rs : List Record) (a b : World) : Type 0 where
+  pub opening : List Step
+  pub later : List Step
+  pub grew : b.trace ≡ a.trace ++ actions_of (opening ++ later)
+  -- each text that was sent has its level, in the transcript's order
+  pub levels : (unsent : List ℕ) × (levels_of (texts_for (run_on_device instance rs a.device) (lines_of (a.left 0))) ≡ output_levels (opening ++ later) ++ unsent)
+  pub each : (d : Disk) → IsAtRest d
+      → OpensFirst (region_of instance (length a.device)) (bodies_of rs) a.device d.bytes (length rs)
+      → (before rest : List Step) → opening ++ later ≡ before ++ rest
+      → (image : List ℕ) → IsImage (after_actions d (actions_of before)) image
+      → MomentStands instance rs (records_for (run_on_device instance rs a.device) rs (lines_of (a.left 0))) opening before a.device image
+
+-- whichever records the device stands for at the start
+abbrev pub EveryMomentStands : World → World → Type 0
+EveryMomentStands a b = (instance : ℕ) (rs : List Record) → DeviceStandsFor instance rs a.device → EveryMoment instance rs a b
+
+-- The transcript of two inputs in a row is that of the first, and then, on what it left, that of the second without the texts with
+-- which a run begins.
+abbrev pub TranscriptsContinue : Type 0
+TranscriptsContinue =
+    (instance size : ℕ) (rs : List Record) (xs ys : List Reading)
+    → transcript_of (run_on instance size rs) (xs ++ ys)
+    ≡ transcript_of (run_on instance size rs) xs
+    ++ line_texts (run_on instance size (rs ++ accepted_records (run_on instance size rs) xs)) ys
+
+-- where no count on the device, input or output rose, the input has at most 4294967296 bytes and the device stands for records, the status is 0 or 7
+abbrev pub ReplayEndsWell : Faults → Faults → ℕ → World → World → Type 0
+ReplayEndsWell before now status a b =
+    (instance : ℕ) (rs : List Record) → DeviceStandsFor instance rs a.device
+    → (Rose before.disk now.disk → ⊥) → (Rose before.input now.input → ⊥) → (Rose before.output now.output → ⊥) → length (a.left 0) ≤ MOST_INPUT
+    → (status ≡ 0) ⊎ (status ≡ 7)

@@ -1,0 +1,42 @@
+//! A run on a device: what waits for the gateway goes out, and then each line is taken, so that what it is told lasts first.
+ghost use Rattle.std.specs.Prelude.{◌≡◌};
+ghost use Rattle.iss_edge.specs.World.{Told};
+ghost use Rattle.iss_top.specs.Statuses.{status_of};
+ghost use Rattle.iss_top.specs.Replaying.{RunsFrom, IsReplayCaused};
+ghost use Rattle.iss_top.specs.Replays.{ReplayRun, EveryMomentStands, RefusesExactly};
+
+use crate::reader::LineReader;
+use crate::stop::Stop;
+use crate::taking::take_line;
+use crate::workspace::Workspace;
+use iss_edge::Edge;
+use iss_store::{Routes, Store};
+use std::alloc::Global;
+
+/// Opens the device, sends what waits for the gateway, and takes the lines of the input to its end.
+pub(crate) fn replay<E: Edge>(alloc: Global, edge: &mut E) -> Result<(), Stop>
+    ensures ran { Told (ReplayRun (status_of result)) (E.told edge.old) (E.told edge.new) }
+    ensures moments { Told EveryMomentStands (E.told edge.old) (E.told edge.new) }
+    ensures refused { Told (RefusesExactly (status_of result)) (E.told edge.old) (E.told edge.new) }
+    ensures caused { IsReplayCaused (E.faults edge.old) (E.faults edge.new) result }
+{
+    let store = Store::open(alloc, edge)?;
+    store.resume(alloc, edge, &mut Routes::lines())?;
+    take_lines(alloc, store, edge)
+}
+
+/// Takes the lines of the input to its end.
+fn take_lines<E: Edge>(alloc: Global, opened: Store, edge: &mut E) -> Result<(), Stop>
+    requires size { E.extent edge.old ≡ opened.place.to }
+    ensures ran { Told (RunsFrom (status_of result) opened) (E.told edge.old) (E.told edge.new) }
+    ensures caused { IsReplayCaused (E.faults edge.old) (E.faults edge.new) result }
+    ensures no_device { status_of result ≡ 4 → ⊥ }
+{
+    let mut reader = LineReader::new(alloc)?;
+    let mut store = opened;
+    let mut workspace = Workspace::new(alloc);
+    'lines: while reader.read_line(edge)? {
+        store = take_line(alloc, store, reader.line(), &mut workspace, edge)?;
+    }
+    Ok(())
+}

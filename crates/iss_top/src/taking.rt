@@ -1,0 +1,139 @@
+//! What a line does on a store, and what it is told.
+ghost use Rattle.std.specs.Prelude.{◌≡◌, [], ◌∷◌, IfOk, OnOk, OnErr, IsTrue};
+ghost use Rattle.iss_edge.specs.World.{Told};
+ghost use Rattle.iss_model.specs.Forms.{is_in_form, is_stamp, is_stamp_or_none};
+ghost use Rattle.iss_model.specs.run.Runs.{response};
+ghost use Rattle.iss_model.specs.run.Transcripts.{sound};
+ghost use Rattle.iss_event.specs.FormLines.{form_text};
+ghost use Rattle.iss_texts.specs.Sending.{Says, SaysSome};
+ghost use Rattle.iss_store.specs.Planning.{IsPlanOf};
+ghost use Rattle.iss_top.specs.Replaying.{told_line, response_to_plan, texts_left, TakesAs, TakesPartAs, IsTaking};
+
+use crate::buffer::is_blank;
+use crate::stop::Stop;
+use crate::workspace::Workspace;
+use iss_edge::{Channel, Edge};
+use iss_event::{FormFault, Line, LineFault, Mode, read_line_in};
+use iss_model::{Input, Judged};
+use iss_store::{PlanFault, Planned, Routes, Store};
+use iss_texts::Texts;
+use std::alloc::Global;
+
+/// Takes a line: what it makes lasts before anything of it goes out. Returns the store after it. A blank line is told nothing.
+pub(crate) fn take_line<E: Edge>(
+    alloc: Global,
+    store: Store,
+    line: &[u8],
+    workspace: &mut Workspace,
+    edge: &mut E,
+) -> Result<Store, Stop>
+    requires size { E.extent edge.old ≡ store.place.to }
+    ensures taken { IfOk result (λ next. Told (TakesAs (λ s. told_line s line.now) store next) (E.told edge.old) (E.told edge.new)) }
+    ensures part { OnErr result (Told (TakesPartAs (λ s. told_line s line.now) store) (E.told edge.old) (E.told edge.new)) }
+    ensures taking { IsTaking (E.faults edge.old) (E.faults edge.new) result }
+    ensures kept { E.extent edge.new ≡ E.extent edge.old }
+    ensures size { IfOk result (λ next. next.place.to ≡ store.place.to) }
+{
+    if is_blank(line) {
+        return Ok(store);
+    }
+    let Workspace { scratch, texts } = workspace;
+    match read_line_in(scratch, alloc, line, Mode::Lines) {
+        Ok(said) => take_input(alloc, store, &said, edge),
+        Err(LineFault::Form(fault)) => {
+            tell_fault(texts, &fault, edge)?;
+            Ok(store)
+        }
+        Err(LineFault::OutOfMemory) => Err(Stop::Memory),
+    }
+}
+
+/// Sends what is told of a line with a fault of form.
+fn tell_fault<E: Edge>(texts: &mut Texts, fault: &FormFault, edge: &mut E) -> Result<(), Stop>
+    ensures told { OnOk result (Told (Says (form_text fault.now ∷ [])) (E.told edge.old) (E.told edge.new)) }
+    ensures part { OnErr result (Told (SaysSome (form_text fault.now ∷ [])) (E.told edge.old) (E.told edge.new)) }
+    ensures taking { IsTaking (E.faults edge.old) (E.faults edge.new) result }
+    ensures kept { E.extent edge.new ≡ E.extent edge.old }
+{
+    texts.clear();
+    texts.put_form(fault)?;
+    match texts.send(edge) {
+        Ok(()) => Ok(()),
+        Err(_) => Err(Stop::Output),
+    }
+}
+
+/// Takes the input of a line at its stamp. A record that it makes lasts first; an input that makes none is told why.
+fn take_input<E: Edge>(
+    alloc: Global,
+    store: Store,
+    said: &Line,
+    edge: &mut E,
+) -> Result<Store, Stop>
+    requires size { E.extent edge.old ≡ store.place.to }
+    requires input_form { IsTrue (is_in_form said.now.input) }
+    requires stamp_form { IsTrue (is_stamp_or_none said.now.at) }
+    ensures taken { IfOk result (λ next. Told (TakesAs (λ s. response s (sound said.now.input said.now.at)) store next) (E.told edge.old) (E.told edge.new)) }
+    ensures part { OnErr result (Told (TakesPartAs (λ s. response s (sound said.now.input said.now.at)) store) (E.told edge.old) (E.told edge.new)) }
+    ensures taking { IsTaking (E.faults edge.old) (E.faults edge.new) result }
+    ensures kept { E.extent edge.new ≡ E.extent edge.old }
+    ensures size { IfOk result (λ next. next.place.to ≡ store.place.to) }
+{
+    let at = said.at.unwrap_or(0);
+    match store.plan(alloc, &said.input, at) {
+        Ok(planned) => {
+            let more = planned.more();
+            let next = keep(alloc, store, planned, edge)?;
+            if !more {
+                return Ok(next);
+            }
+            tell_answer_left(alloc, &next, &said.input, at, edge)?;
+            Ok(next)
+        }
+        Err(PlanFault::Told(answer)) => {
+            store.tell(alloc, edge, &Routes::lines(), Channel(0), &answer)?;
+            Ok(store)
+        }
+        Err(PlanFault::OutOfMemory) => Err(Stop::Memory),
+    }
+}
+
+/// Makes the record of a plan last, and then sends what it says.
+fn keep<E: Edge>(alloc: Global, store: Store, planned: Planned, edge: &mut E) -> Result<Store, Stop>
+    requires size { E.extent edge.old ≡ store.place.to }
+    requires plan { IsPlanOf store planned }
+    ensures taken { IfOk result (λ next. Told (TakesAs (response_to_plan planned) store next) (E.told edge.old) (E.told edge.new)) }
+    ensures part { OnErr result (Told (TakesPartAs (response_to_plan planned) store) (E.told edge.old) (E.told edge.new)) }
+    ensures taking { IsTaking (E.faults edge.old) (E.faults edge.new) result }
+    ensures kept { E.extent edge.new ≡ E.extent edge.old }
+    ensures size { IfOk result (λ next. next.place.to ≡ store.place.to) }
+{
+    let (next, durable) = store.commit(alloc, edge, planned)?;
+    next.release(alloc, edge, durable, &mut Routes::lines())?;
+    Ok(next)
+}
+
+/// Sends the answer of an input that isn't new once the time is taken up.
+fn tell_answer_left<E: Edge>(
+    alloc: Global,
+    store: &Store,
+    input: &Input,
+    at: u64,
+    edge: &mut E,
+) -> Result<(), Stop>
+    requires input_form { IsTrue (is_in_form input.now) }
+    requires stamp_form { IsTrue (is_stamp at) }
+    ensures told { OnOk result (Told (Says (texts_left store.now input.now at)) (E.told edge.old) (E.told edge.new)) }
+    ensures part { OnErr result (Told (SaysSome (texts_left store.now input.now at)) (E.told edge.old) (E.told edge.new)) }
+    ensures taking { IsTaking (E.faults edge.old) (E.faults edge.new) result }
+    ensures kept { E.extent edge.new ≡ E.extent edge.old }
+{
+    match store.core().judge(alloc, input, at)? {
+        Judged::Told(answer) => {
+            store.tell(alloc, edge, &Routes::lines(), Channel(0), &answer)?;
+            Ok(())
+        }
+        Judged::New(_) => Ok(()),
+        Judged::Clock(_) => Ok(()),
+    }
+}
