@@ -1,7 +1,7 @@
 //! The lines of the input, one after the other.
-ghost use Rattle.std.specs.Prelude.{◌≡◌, ◌+◌, ◌<◌, [], false, IfOk, IfErr, OnOk};
+ghost use Rattle.std.specs.Prelude.{◌≡◌, ◌+◌, ◌<◌, [], true, IfOk, IfErr, OnOk};
 ghost use Rattle.iss_edge.specs.World.{Told};
-ghost use Rattle.iss_top.specs.Reader.{ReadsOn, ReadsNoPart, IsReading, fresh_reader};
+ghost use Rattle.iss_top.specs.Reader.{ReadsOn, ReadsNoPart, IsReading, Advances, fresh_reader};
 ghost use Rattle.iss_top.specs.AtHand.{IsAtHand, EndsLine, now_of, line_of};
 
 use crate::buffer::LineBuffer;
@@ -59,6 +59,7 @@ impl LineReader {
             Told (ReadsOn more self.old self.new) (E.told edge.old) (E.told edge.new)) }
         ensures stops { IfErr result (λ stop.
             Told (ReadsNoPart self.old stop) (E.told edge.old) (E.told edge.new)) }
+        ensures advances { IfOk result (λ more. more ≡ true → Advances self.old self.new) }
         ensures reading { IsReading (E.faults edge.old) (E.faults edge.new) result }
         ensures kept { E.extent edge.new ≡ E.extent edge.old }
     {
@@ -97,6 +98,7 @@ impl AtHand {
             Told (ReadsOn more (now_of self.old) (now_of self.new)) (E.told edge.old) (E.told edge.new)) }
         ensures stops { IfErr result (λ stop.
             Told (ReadsNoPart (now_of self.old) stop) (E.told edge.old) (E.told edge.new)) }
+        ensures advances { IfOk result (λ more. more ≡ true → Advances (now_of self.old) (now_of self.new)) }
         ensures reading { IsReading (E.faults edge.old) (E.faults edge.new) result }
         ensures kept { E.extent edge.new ≡ E.extent edge.old }
     {
