@@ -88,11 +88,10 @@ has_read_next parts before now a b c going h r =
           ∙ next_cut before.unread r.took r.part now.unread rest parts r.one_line (cut_of (before.unread ++ r.took) r.part now c r.ends more);
       all =
           λ ended.
-          let last = all_of (before.unread ++ r.took) r.part now c r.ends ended in
-          (
+          let last = all_of (before.unread ++ r.took) r.part now c r.ends ended in (
             h.cut going r.took
-            ∙ ap (λ (l : List ℕ). parts ++ parts_of l) last.0
-            ∙ ap (λ (l : List (List ℕ)). parts ++ l) (part_alone r.part r.one_line),
+                ∙ ap (λ (l : List ℕ). parts ++ parts_of l) last.0
+                ∙ ap (λ (l : List (List ℕ)). parts ++ l) (part_alone r.part r.one_line),
             last.1,
           );
     }
@@ -121,11 +120,10 @@ parts_first parts now a b h = first_where parts now a b now.ended refl h
 
 -- all of the input was read
 pub parts_all : (parts : List (List ℕ)) (now : ReaderNow) (a b : World) → now.ended ≡ true → HasRead parts now a b → (parts_of (a.left 0) ≡ parts) × (b.left 0 ≡ [])
-parts_all parts now a b ended h =
-    (
-      ap parts_of (h.takes.bytes ∙ ap (λ (l : List ℕ). h.took ++ l) (h.all ended).1 ∙ append-nil h.took) ∙ (h.all ended).0,
-      (h.all ended).1,
-    )
+parts_all parts now a b ended h = (
+  ap parts_of (h.takes.bytes ∙ ap (λ (l : List ℕ). h.took ++ l) (h.all ended).1 ∙ append-nil h.took) ∙ (h.all ended).0,
+  (h.all ended).1,
+)
 
 -- reading on gave nothing, so all of the input was read
 pub parts_over : (parts : List (List ℕ)) (before now : ReaderNow) (a b c : World) → HasRead parts before a b → ReadsOn false before now b c → (parts_of (a.left 0) ≡ parts) × (c.left 0 ≡ [])

@@ -55,9 +55,9 @@ reading_fails stop.Disk f g s before a b c cause w r = absurd cause
 reading_fails stop.Output f g s before a b c cause w r = absurd cause
 reading_fails stop.Memory f g s before a b c cause w r =
     ends_at_input 7 stop.Memory s before a b c (λ e. cc) (λ e m. neither e) (λ e. cc) (λ e. cc) w r where
-  neither : (7 ≡ 3) ⊎ (7 ≡ 8) → ⊥
-  neither (inl e) = cc
-  neither (inr e) = cc
+      neither : (7 ≡ 3) ⊎ (7 ≡ 8) → ⊥
+      neither (inl e) = cc
+      neither (inr e) = cc
 reading_fails stop.InputLong f g s before a b c cause w r =
     ends_at_input 8 stop.InputLong s before a b c (λ e. cc) (λ e m. cc) (λ e. refl) (λ e. refl) w r
 

@@ -92,11 +92,7 @@ fn room_after(taken: u64) -> usize
 }
 
 /// Takes at most so many bytes into the start of the buffer.
-fn take_piece<E: Edge>(
-    edge: &mut E,
-    buffer: &mut [u8],
-    room: usize,
-) -> Result<usize, Stop>
+fn take_piece<E: Edge>(edge: &mut E, buffer: &mut [u8], room: usize) -> Result<usize, Stop>
     requires some { 0 < room }
     requires within { room ≤ length buffer.old }
     ensures bound { IfOk result (λ count. count ≤ room) }
