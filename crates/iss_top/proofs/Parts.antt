@@ -33,13 +33,16 @@ all_but_one [] last = refl
 all_but_one (p ∷ []) last = refl
 all_but_one (p ∷ q ∷ ps) last = ap (λ (l : List (List ℕ)). p ∷ l) (all_but_one (q ∷ ps) last)
 
+never : true ≡ false → ⊥
+never e = cc
+
 -- ---- steps
 
 -- nothing was read
 pub has_read_begins : (now : ReaderNow) (a : World) → now ≡ fresh_reader → HasRead [] now a a
 has_read_begins now a fresh =
     subst (λ (n : ReaderNow). HasRead [] n a a) (sym fresh)
-    (record { took = []; takes = takes_none a a refl; count = refl; cut = λ going rest. refl; all = λ ended. cc })
+    (record { took = []; takes = takes_none a a refl; count = refl; cut = λ going rest. refl; all = λ ended. absurd (never (sym ended)) })
 
 -- what takes nothing in
 pub has_read_on : (parts : List (List ℕ)) (now : ReaderNow) (a b c : World) → HasRead parts now a b → c.left ≡ b.left → HasRead parts now a c
@@ -54,14 +57,10 @@ has_read_on parts now a b c h left =
 
 cut_of : (bytes part : List ℕ) (now : ReaderNow) (b : World) → Ends bytes part now b → now.ended ≡ false → bytes ≡ part ++ 10 ∷ now.unread
 cut_of bytes part now b (inl e) going = e.1
-cut_of bytes part now b (inr e) going = absurd (true_is_not (sym e.0 ∙ going)) where
-  true_is_not : true ≡ false → ⊥
-  true_is_not e = cc
+cut_of bytes part now b (inr e) going = absurd (never (sym e.0 ∙ going))
 
 all_of : (bytes part : List ℕ) (now : ReaderNow) (b : World) → Ends bytes part now b → now.ended ≡ true → (bytes ≡ part) × (b.left 0 ≡ [])
-all_of bytes part now b (inl e) ended = absurd (true_is_not (sym ended ∙ e.0)) where
-  true_is_not : true ≡ false → ⊥
-  true_is_not e = cc
+all_of bytes part now b (inl e) ended = absurd (never (sym ended ∙ e.0))
 all_of bytes part now b (inr e) ended = (e.1, e.2)
 
 -- where the next part ended, the rest begins behind its line feed
