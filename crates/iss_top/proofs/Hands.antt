@@ -6,8 +6,8 @@ use Rattle.memchr.specs.Find.{IsFirstByte, is_byte}
 use Rattle.iss_model.specs.declared.limits.TheConstants.{MOST_INPUT}
 use Rattle.iss_top.specs.declared.reader.AtHand.{AtHand}
 use Rattle.iss_top.specs.Lines.{kept_with}
-use Rattle.iss_top.specs.Reader.{ReaderNow, Advances, slice_of, line_at_hand, may_come}
-use Rattle.iss_top.specs.Pieces.{ArePieces, unread_of}
+use Rattle.iss_top.specs.Reader.{ReaderNow, Advances, slice_of, line_at_hand, may_come, fresh_reader}
+use Rattle.iss_top.specs.Pieces.{ArePieces, AreFresh, unread_of}
 use Rattle.iss_top.specs.AtHand.{IsAtHand, EndsLine, line_of, line_with, now_of}
 use Rattle.iss_top.proofs.ToldAs.{length-line, length-kept_run}
 
@@ -28,17 +28,35 @@ rest_slice bytes next filled at from is fits =
     ∙ sym (drop-take (at + 1) (filled - from) (drop next bytes))
     ∙ ap (λ (n : ℕ). drop (at + 1) (take n (drop next bytes))) (sym more)
 
+none_left : (l : List ℕ) → nat_eq (length l) 0 ≡ true → l ≡ []
+none_left [] e = refl
+none_left (b ∷ bs) e = absurd (omega (arith, eqb-true (length (b ∷ bs)) 0 e))
+
 kept_where : (kept whole : List ℕ) (none : Bool) → nat_eq (length kept) 0 ≡ none → whole ≡ [] → cond none whole kept ≡ kept
-kept_where kept whole true e empty = empty ∙ sym (none_left kept e) where
-  none_left : (l : List ℕ) → nat_eq (length l) 0 ≡ true → l ≡ []
-  none_left [] e = refl
-  none_left (b ∷ bs) e = absurd (omega (arith, eqb-true (length (b ∷ bs)) 0 e))
+kept_where kept whole true e empty = empty ∙ sym (none_left kept e)
 kept_where kept whole false e empty = refl
+
+none_between : (bytes : List ℕ) (from to : ℕ) → from ≡ 0 → to ≡ 0 → slice_of bytes from to ≡ []
+none_between bytes from to first last = rw (first, last) refl
 
 -- where no line lies in the piece, it is what is kept
 pub line_is_kept : (kept bytes : List ℕ) (start end : ℕ) → start ≡ 0 → end ≡ 0 → line_at_hand kept (slice_of bytes start end) ≡ kept
 line_is_kept kept bytes start end first last =
-    kept_where kept (slice_of bytes start end) (nat_eq (length kept) 0) refl (rw (first, last) refl)
+    kept_where kept (slice_of bytes start end) (nat_eq (length kept) 0) refl (none_between bytes start end first last)
+
+-- ---- at the start
+
+abbrev reader_at : ℕ → List ℕ → List ℕ → Bool → ReaderNow
+reader_at taken unread line ended = record { taken = taken; unread = unread; line = line; ended = ended }
+
+same_reader : (t t' : ℕ) (u u' l l' : List ℕ) (e e' : Bool) → t ≡ t' → u ≡ u' → l ≡ l' → e ≡ e' → reader_at t u l e ≡ reader_at t' u' l' e'
+same_reader t t' u u' l l' e e' p q r s = rw (p, q, r, s) refl
+
+pub fresh_hand : (h : AtHand) → AreFresh h.pieces → h.start ≡ 0 → h.end ≡ 0 → h.kept ≡ [] → h.ended ≡ false → now_of h ≡ fresh_reader
+fresh_hand h f start end kept ended =
+    same_reader h.pieces.taken 0 (unread_of h.pieces) [] (line_of h) [] h.ended false f.taken
+    (none_between h.pieces.bytes.items h.pieces.next h.pieces.filled f.next f.filled)
+    (line_is_kept h.kept h.pieces.bytes.items h.start h.end start end ∙ kept) ended
 
 -- ---- a line ends
 

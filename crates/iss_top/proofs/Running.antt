@@ -198,6 +198,10 @@ ends_at_input status why s before a b c not_done not_memory long is_long w r =
       bound = all.bound;
     }
 
+neither_of_none : (0 ≡ 3) ⊎ (0 ≡ 8) → ⊥
+neither_of_none (inl e) = cc
+neither_of_none (inr e) = cc
+
 -- the input ended
 pub ends_well : (s : CoreState) (before now : ReaderNow) (a b c : World) → before.taken ≤ MOST_INPUT → IsOnItsWay s before a b → ReadsOn false before now b c → Ran 0 a c
 ends_well s before now a b c limit w over =
@@ -217,11 +221,8 @@ ends_well s before now a b c limit w over =
             out = subst (λ (xs : List (List ℕ)). GoOut xs (emits texts)) (sym all) (all_out texts);
             whole = λ e. ap emits (sym all);
           };
-      stopped = λ e. absurd (neither_way e);
+      stopped = λ e. absurd (neither_of_none e);
       over = λ e. last.1;
       long = (λ e. cc, λ e. absurd (omega (arith, e, read.count, limit)));
       bound = omega (arith, read.count, limit);
-    } where
-      neither_way : (0 ≡ 3) ⊎ (0 ≡ 8) → ⊥
-      neither_way (inl e) = cc
-      neither_way (inr e) = cc
+    }

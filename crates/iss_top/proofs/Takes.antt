@@ -117,7 +117,7 @@ too_long taken count asked buffer a b limit le over more one fits t =
     record {
       took = take count buffer;
       takes = only_piece buffer count a b t;
-      none = rw room refl;
+      none = ap (λ (n : ℕ). take n (take count buffer)) room;
       long = (λ e. whole, λ e. refl);
       bound = omega (arith, whole);
     }
