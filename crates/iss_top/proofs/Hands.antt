@@ -127,9 +127,11 @@ line_advances before h n at going more found limit ends room =
     }
 
 -- the input ended
-pub last_advances : (before now : ReaderNow) → before.ended ≡ false → now.taken ≤ MOST_INPUT → now.ended ≡ true → length now.line + length now.unread + before.taken ≤ length before.unread + now.taken → Advances before now
-last_advances before now going limit ended room =
-    record { going = going; limit = limit; room = omega (arith, room, comes_not now ended) }
+pub last_advances : (before : ReaderNow) (n : AtHand) → before.ended ≡ false → n.pieces.taken ≤ MOST_INPUT → n.start ≡ 0 → n.end ≡ 0 → n.ended ≡ true
+    → length n.kept + length (unread_of n.pieces) + before.taken ≤ length before.unread + n.pieces.taken → Advances before (now_of n)
+last_advances before n going limit start end ended room =
+    let size : length (line_of n) ≡ length n.kept = ap (λ (l : List ℕ). length l) (line_is_kept n.kept n.pieces.bytes.items n.start n.end start end) in
+    record { going = going; limit = limit; room = omega (arith, room, size, comes_not (now_of n) ended) }
 
 -- what was kept of the line and what isn't read yet is among what wasn't read before and what was taken
 pub room_so_far : (kept kept' u u' : List ℕ) (n before taken taken' : ℕ) → kept' ≡ fold kept_with kept u → taken' ≡ taken + length u' → length kept + length u + before ≤ n + taken → length kept' + length u' + before ≤ n + taken'

@@ -198,7 +198,7 @@ ends_at_input status why s before a b c not_done not_memory long is_long w r =
       bound = all.bound;
     }
 
-neither_of_none : (0 ≡ 3) ⊎ (0 ≡ 8) → ⊥
+neither_of_none : (◌≡◌ {A = ℕ} 0 3) ⊎ (◌≡◌ {A = ℕ} 0 8) → ⊥
 neither_of_none (inl e) = cc
 neither_of_none (inr e) = cc
 

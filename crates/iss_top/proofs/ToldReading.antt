@@ -1,5 +1,5 @@
 -- The same of what an edge tells: taking pieces, and reading on to the next line.
-use Rattle.std.proofs.Common.{◌≡◌, ℕ, ◌+◌, ◌<◌, ◌≤◌, true, false, List, [], length, take, drop, fold, Option, Some, ap, subst, ◌∙◌, arith}
+use Rattle.std.proofs.Common.{◌≡◌, ℕ, ◌+◌, ◌<◌, ◌≤◌, Bool, true, false, List, [], length, take, drop, fold, Option, Some, refl, ap, subst, ◌∙◌, arith}
 use Rattle.memchr.specs.Find.{IsFirstByte, is_byte}
 use Rattle.iss_edge.specs.World.{World, Told}
 use Rattle.iss_edge.specs.Calls.{Same, Takes}

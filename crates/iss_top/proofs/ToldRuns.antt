@@ -47,7 +47,7 @@ told_line_fails why f g s before now line x y z w cause is p q r =
     told_then (AtLine s now) (SaysSome (line_texts s line)) (Ran (status_of {A = Unit {0}} (Err why))) x z w
     (λ a b c u v. ends_in_line (status_of {A = Unit {0}} (Err why)) s now line a b c (replying_is_other f g why cause) is u v) (at_line s before now x y z p q) r
 
-neither_of_memory : (7 ≡ 3) ⊎ (7 ≡ 8) → ⊥
+neither_of_memory : (◌≡◌ {A = ℕ} 7 3) ⊎ (◌≡◌ {A = ℕ} 7 8) → ⊥
 neither_of_memory (inl e) = cc
 neither_of_memory (inr e) = cc
 
