@@ -1,8 +1,8 @@
-use Rattle.std.proofs.Common.{◌≡◌, true, false, Err, ap, ◌∙◌, arith, rules}
+use Rattle.std.proofs.Common.{◌≡◌, true, false, Err, ap, arith, rules}
 use Rattle.iss_core.specs.Values.{CoreNow}
 use Rattle.iss_edge.proofs.Tolds.{later_self, later_then}
 use Rattle.iss_top.specs.declared.stop.Stop.TheVariants as stop
-use Rattle.iss_top.proofs.ToldRuns.{told_way_begins, told_not_begun, told_way_goes_on, told_line_fails, told_reading_fails, told_run_ends, room_for_line, room_goes_on, room_begins, limit_begins, less_to_come}
+use Rattle.iss_top.proofs.ToldRuns.{told_way_begins, told_not_begun, told_way_goes_on, told_line_fails, told_reading_fails, told_run_ends, room_for_line, room_goes_on, room_begins, limit_begins}
 use Rattle.iss_top.proofs.dry.dry.Goals as goal
 
 pub returns-in_err-reader-clause-ran : goal.returns-in_err-reader-clause-ran

@@ -1,10 +1,9 @@
 use Rattle.std.proofs.Common.{◌≡◌, ℕ, List, true, false, Some, Err, length, fold, refl, ap, subst, ◌∙◌, arith, rules}
 use Rattle.memchr.specs.Find.{IsFirstByte, is_byte}
-use Rattle.iss_edge.specs.World.{Told}
 use Rattle.iss_edge.proofs.Tolds.{later_self, later_then}
 use Rattle.iss_top.specs.declared.reader.AtHand.{AtHand}
 use Rattle.iss_top.specs.Lines.{has_line_feed, kept_with}
-use Rattle.iss_top.specs.Pieces.{TakesMore, unread_of}
+use Rattle.iss_top.specs.Pieces.{unread_of}
 use Rattle.iss_top.specs.AtHand.{now_of}
 use Rattle.iss_top.proofs.Finding.{found_none}
 use Rattle.iss_top.proofs.Hands.{line_advances, last_advances, line_is_kept, room_so_far}
