@@ -1,0 +1,149 @@
+#!/usr/bin/env bash
+# Runs on a real file, two hundred of which are killed by signal 9 at some moment while they take lines of all kinds. The next opening
+# finds the record of each text that went out, and at most one more; what still waits for the gateway is written again, byte by byte.
+. "$(dirname "$0")/../program.sh"
+. bench/inputs.sh
+
+kills=200
+count=141
+size=20000
+device=$room/device
+child=
+trap '[ -z "$child" ] || kill -9 "$child" || true; rm -rf "$room"' EXIT
+
+mkdir "$room/texts" "$room/waiting" "$room/devices"
+mixed "$count" >"$room/lines"
+mapfile -t lines <"$room/lines"
+
+formatted() {
+    rm -f "$device"
+    issue format "$device" "$size" 0
+    ended 'formatting' 0 ''
+}
+
+# replayed WHAT: a replay of standard input on the device ends well, and what it writes stands in $room/out.
+replayed() {
+    issue replay "$device" >"$room/out"
+    ended "$1" 0 ''
+}
+
+# split_texts: what each line is told, by a dry run in which a bad line stands behind each of them. texts[i] counts those of the first i.
+split_texts() {
+    issue dry <"$room/lines" >"$room/all"
+    ended 'all lines' 0 ''
+    awk '{ print; print "[]" }' "$room/lines" >"$room/in"
+    issue dry <"$room/in" >"$room/out"
+    ended 'lines with bad ones between them' 0 ''
+    awk -v folder="$room/texts" '
+        BEGIN { line = 1 }
+        $0 == "{\"fault\":\"JSON\",\"reply\":\"form\"}" { printf "" >> (folder "/" line); close(folder "/" line); line++; next }
+        { print >> (folder "/" line) }
+    ' "$room/out"
+    texts=(0)
+    local i
+    for ((i = 1; i <= count; i++)); do
+        texts[i]=$((texts[i - 1] + $(wc -l <"$room/texts/$i")))
+    done
+    cat $(seq -f "$room/texts/%g" "$count") | cmp -s - "$room/all" || fail 'the texts of the lines are not those of all'
+}
+
+# take_lines: a line a run. What waits behind the first i lines stands in waiting/i, and the device in devices/i.
+take_lines() {
+    local i own
+    formatted
+    for ((i = 1; i <= count; i++)); do
+        cp "$device" "$room/devices/$((i - 1))"
+        replayed "line $i" <<<"${lines[i - 1]}"
+        own=$((texts[i] - texts[i - 1]))
+        head -n "-$own" "$room/out" >"$room/waiting/$((i - 1))"
+        tail -n "$own" "$room/out" | cmp -s - "$room/texts/$i" || fail "line $i: it was told '$(cat "$room/out")'"
+    done
+    cp "$device" "$room/devices/$count"
+    replayed 'no line' </dev/null
+    cp "$room/out" "$room/waiting/$count"
+    # What waits was written before, each byte of it.
+    cat "$room"/waiting/* | grep -vxFf "$room/all" && fail 'what waits has other bytes than at first' || true
+}
+
+# gate_of FILE: the place of its end gate, which is where it first differs from the device that has all records.
+gate_of() {
+    local first whole
+    if read -r gate first whole < <(cmp -l "$1" "$room/devices/$count"); then
+        [ "$first $whole" = '0 1' ] || fail "$1: byte $gate is $first, and not a closed gate"
+    else
+        gate=$size
+    fi
+}
+
+split_texts
+take_lines
+gates=()
+for ((i = 0; i <= count; i++)); do
+    gate_of "$room/devices/$i"
+    gates[i]=$gate
+done
+
+# lines_at GATE: the least number of lines behind which the end gate stands there.
+lines_at() {
+    for ((at = 0; at <= count; at++)); do
+        [ "${gates[at]}" != "$1" ] || return 0
+    done
+    fail "no line leaves an end gate at $1"
+}
+
+# told_lines LINES: of how many lines a text went out, where so many of them were taken before.
+told_lines() {
+    local seen
+    seen=$(($(awk 'END { print NR }' "$room/seen") - $(wc -l <"$room/waiting/$1")))
+    for ((told = $1; texts[told] - texts[$1] < seen; told++)); do :; done
+}
+
+# opened_again LINES: after a kill the device has the records of all lines that were told, and of one more at most.
+opened_again() {
+    head -c "$(wc -c <"$room/seen")" "$room/expected" | cmp -s - "$room/seen" || fail "killed: it wrote '$(tail -n 3 "$room/seen")'"
+    told_lines "$1"
+    replayed 'after a kill' </dev/null
+    gate_of "$device"
+    lines_at "$gate"
+    [ "$gate" -ge "${gates[told]}" ] || fail "killed: of $told lines that were told it has $at"
+    for ((next = told; next < count && gates[next] == gates[told]; next++)); do :; done
+    [ "$gate" -le "${gates[next]}" ] || fail "killed: $told lines were told, and it has $at"
+    wrote 'after a kill' "$room/waiting/$at"
+}
+
+formatted
+at=0
+start=$EPOCHREALTIME
+replayed 'all lines' <"$room/lines"
+span=$((${EPOCHREALTIME/./} - ${start/./}))
+wrote 'all lines' "$room/all"
+cmp -s "$device" "$room/devices/$count" || fail 'all lines: the device is another than with a line a run'
+
+formatted
+killed=0
+amid=0
+for ((run = 0; killed < kills; run++)); do
+    [ "$run" -lt 3000 ] || fail "of $run runs $killed alone were killed"
+    before=$at
+    tail -n "+$((at + 1))" "$room/lines" >"$room/in"
+    tail -n "+$((texts[at] + 1))" "$room/all" | cat "$room/waiting/$at" - >"$room/expected"
+    "$issuer" replay "$device" <"$room/in" >"$room/seen" 2>"$room/said" &
+    child=$!
+    sleep "$(printf '0.%06d' $((RANDOM * span / 8 / 32768 % 1000000)))"
+    kill -9 "$child" 2>/dev/null || true
+    status=0
+    wait "$child" 2>/dev/null || status=$?
+    child=
+    if [ "$status" = 137 ]; then
+        killed=$((killed + 1))
+        opened_again "$before"
+        [ "$(wc -l <"$room/seen")" -le "$(wc -l <"$room/waiting/$before")" ] || amid=$((amid + 1))
+    else
+        cp "$room/seen" "$room/out"
+        ended 'a run that nobody killed' 0 ''
+        wrote 'a run that nobody killed' "$room/expected"
+        formatted
+        at=0
+    fi
+done
+[ "$amid" -ge 20 ] || fail "of $kills kills $amid alone came after a line was told"
