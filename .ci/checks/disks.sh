@@ -7,15 +7,13 @@
 refusal='issuer: device is not an issuer device'
 fault='issuer: disk fault'
 count=300
-child=
 held=
-end() {
-    [ -z "$child" ] || kill -9 "$child" || true
+leave_disks() {
     [ -z "$held" ] || chattr -i "$held" || true
     [ ! -d "$room/disk" ] || umount "$room/disk" || true
-    rm -rf "$room"
+    leave
 }
-trap end EXIT
+trap leave_disks EXIT
 
 purchases "$count" >"$room/lines"
 issue dry <"$room/lines" >"$room/all"

@@ -8,8 +8,6 @@ kills=200
 count=141
 size=20000
 device=$room/device
-child=
-trap '[ -z "$child" ] || kill -9 "$child" || true; rm -rf "$room"' EXIT
 
 mkdir "$room/texts" "$room/waiting" "$room/devices"
 mixed "$count" >"$room/lines"
