@@ -7,6 +7,7 @@
 set -eu -o pipefail
 cd "$(dirname "$0")/.."
 
+command -v gcc >/dev/null || { echo "$0: no gcc here, so nothing is compared" >&2; exit 1; }
 turns=7
 room=$(mktemp -d)
 folders=()

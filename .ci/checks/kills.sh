@@ -126,7 +126,7 @@ limit=$((span / 8 > 25000 ? span / 8 : span < 25000 ? span : 25000))
 wait_some() {
     local pause=$((RANDOM * limit / 32768 + RANDOM * start_up / 32768)) until
     until=$((${EPOCHREALTIME/./} + pause))
-    [ "$pause" -lt 10000 ] || sleep "$(printf '0.%06d' $((pause - 5000)))"
+    [ "$pause" -lt 10000 ] || sleep "$(awk -v pause="$pause" 'BEGIN { print (pause - 5000) / 1e6 }')"
     while [ "${EPOCHREALTIME/./}" -lt "$until" ]; do :; done
 }
 

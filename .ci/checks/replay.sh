@@ -89,6 +89,12 @@ for _ in {1..300}; do
     sleep 0.1
 done
 unopened 'a device that another program has open' "$device"
+ln -s "$device" "$room/link"
+unopened 'the same device by another name' "$room/link"
+cp "$device" "$room/before"
+issue format "$device" 10000 0
+ended 'formatting a device that another program has open' 4 "$refusal"
+cmp -s "$room/before" "$device" || fail 'formatting a device that another program has open: it was written'
 kill -9 "$child"
 wait "$child" 2>/dev/null || true
 child=
@@ -104,6 +110,7 @@ mkdir "$room/folder"
 unopened 'a device that is not there' "$room/none"
 [ ! -e "$room/none" ] || fail 'a device that is not there: a file was made'
 unopened 'a folder' "$room/folder"
+unopened 'a pipe' "$room/lines"
 unopened 'a device within a file' "$device/inner"
 : >"$room/empty"
 unopened 'an empty file' "$room/empty"
