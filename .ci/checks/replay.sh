@@ -95,8 +95,7 @@ cp "$device" "$room/before"
 issue format "$device" 10000 0
 ended 'formatting a device that another program has open' 4 "$refusal"
 cmp -s "$room/before" "$device" || fail 'formatting a device that another program has open: it was written'
-kill -9 "$child"
-wait "$child" 2>/dev/null || true
+{ kill -9 "$child" && wait "$child"; } 2>/dev/null || true
 child=
 exec {lines}>&-
 head -n 2 "$first_out" | cmp -s - "$room/seen" || fail "before a kill: it wrote '$(cat "$room/seen")'"
