@@ -50,4 +50,5 @@ enough disk "$disk" 5000 'what proofs leave in crates/*/out'
 enough memory "$memory" 3000 'the proof of the largest crate'
 tell ok processors "$(nproc)" 'with four, two crates are proved side by side'
 useful valgrind "$(command -v valgrind || true)" 'counts instructions, which tell growth better than seconds'
+useful gcc "$(command -v gcc || true)" 'compiles the loop that make bench compares a replay with'
 exit "$missing"

@@ -7,8 +7,14 @@ first_in=crates/iss_cli/stdin
 first_out=crates/iss_cli/stdout
 [ -x "$issuer" ] || make issuer >&2
 
+# A check that starts a program beside it keeps its number here until it has ended.
+child=
 room=$(mktemp -d)
-trap 'rm -rf "$room"' EXIT
+leave() {
+    [ -z "$child" ] || kill -9 "$child" 2>/dev/null || true
+    rm -rf "$room"
+}
+trap leave EXIT
 
 fail() {
     echo "$0: $*" >&2

@@ -84,13 +84,19 @@ mkfifo "$room/lines"
 child=$!
 exec {lines}>"$room/lines"
 head -n 2 "$first_in" >&"$lines"
-for _ in {1..100}; do
+for _ in {1..300}; do
     [ "$(wc -l <"$room/seen")" = 2 ] && break
     sleep 0.1
 done
 unopened 'a device that another program has open' "$device"
-kill -9 "$child"
-wait "$child" 2>/dev/null || true
+ln -s "$device" "$room/link"
+unopened 'the same device by another name' "$room/link"
+cp "$device" "$room/before"
+issue format "$device" 10000 0
+ended 'formatting a device that another program has open' 4 "$refusal"
+cmp -s "$room/before" "$device" || fail 'formatting a device that another program has open: it was written'
+{ kill -9 "$child" && wait "$child"; } 2>/dev/null || true
+child=
 exec {lines}>&-
 head -n 2 "$first_out" | cmp -s - "$room/seen" || fail "before a kill: it wrote '$(cat "$room/seen")'"
 cp "$device" "$room/before"
@@ -103,6 +109,7 @@ mkdir "$room/folder"
 unopened 'a device that is not there' "$room/none"
 [ ! -e "$room/none" ] || fail 'a device that is not there: a file was made'
 unopened 'a folder' "$room/folder"
+unopened 'a pipe' "$room/lines"
 unopened 'a device within a file' "$device/inner"
 : >"$room/empty"
 unopened 'an empty file' "$room/empty"
@@ -111,19 +118,24 @@ unopened 'a file of zeros' "$room/zeros"
 cp "$device" "$room/twice"
 printf '\2' | dd of="$room/twice" bs=1 conv=notrunc status=none
 unopened 'another first byte' "$room/twice"
-if [ "$(id -u)" != 0 ]; then
-    cp "$device" "$room/shut"
-    chmod a-w "$room/shut"
-    unopened 'a file without permission to write' "$room/shut"
-    chmod a-rwx "$room/shut"
-    unopened 'a file without permission' "$room/shut"
-fi
 
-# Standard streams that fail: what was taken in before lasts.
+# Standard streams that fail. What was taken in before lasts, and the device that is opened then isn't taken for a stream.
 formatted 10000
-issue replay "$device" <"$first_in" >&-
-ended 'a closed standard output' 5 'issuer: output fault'
 issue replay "$device" </ >"$room/out"
 ended 'a directory as standard input' 3 'issuer: input fault'
 wrote 'a directory as standard input' /dev/null
+issue replay "$device" <&- >"$room/out"
+ended 'a closed standard input' 3 'issuer: input fault'
+wrote 'a closed standard input' /dev/null
+replayed 'after input faults' /dev/null </dev/null
+issue replay "$device" <"$first_in" >&-
+ended 'a closed standard output' 5 'issuer: output fault'
+status=0
+"$issuer" replay "$device" <&- >&- 2>&- || status=$?
+[ "$status" = 3 ] || fail "closed standard streams: status $status, not 3"
+cp "$device" "$room/before"
+head -n 1 "$first_in" >"$room/one"
+head -n 1 "$first_out" >"$room/done"
+replayed 'the line of an output fault' "$room/done" <"$room/one"
+cmp -s "$room/before" "$device" || fail 'after an output fault: the line had no record'
 replayed 'after an output fault' "$first_out" <"$first_in"

@@ -45,7 +45,7 @@ impl Device {
     }
 
     fn open<R: Files<File = File>>(files: &R, name: &str) -> io::Result<Device> {
-        let file = OpenOptions::new().read(true).write(true).open(files, name)?;
+        let file = apart(OpenOptions::new().read(true).write(true).open(files, name)?)?;
         // Another program that writes it would break what is known of the file.
         file.try_lock()?;
         let size = file.metadata()?.len();
@@ -106,6 +106,12 @@ impl Device {
             None => Err(io::Error::from(ErrorKind::NotFound)),
         }
     }
+}
+
+/// The same file under a number of its own. Where a standard stream is closed, an opened file is given the stream's number, and texts
+/// would be written into it, or lines read from it; a second descriptor is given none of the three.
+fn apart(file: File) -> io::Result<File> {
+    file.try_clone()
 }
 
 /// Locks a new file, gives it its length, and makes the file and its name last.

@@ -1,7 +1,8 @@
 //! How many calls on the device an append and an opening make.
 ghost use Rattle.std.specs.Prelude.{◌≡◌, ◌≤◌};
 
-use crate::support::{edge_on, is_body};
+use crate::devices::edge_on;
+use crate::support::is_body;
 use iss_edge::{Edge, MemoryEdge};
 use iss_journal::{Frame, Journal, JournalFault, Scan};
 use std::alloc::Global;

@@ -2,7 +2,8 @@
 
 ghost use Rattle.std.specs.Prelude.{◌≤◌, IfOk};
 
-use crate::support::{edge_on, is_body, is_sync, is_write};
+use crate::devices::{Left, edge_on, image_of, is_sync, is_write};
+use crate::support::is_body;
 use iss_edge::{Action, Bytes, Edge, MemoryEdge};
 use iss_journal::{Frame, Journal, JournalFault, Scan};
 use std::alloc::{AllocError, Global};
@@ -14,14 +15,6 @@ const ONE_RECORD: [u8; 48] =
 
 /// How many calls opening `ONE_RECORD` makes: a sync, a gate with its length and a body, the end gate three times.
 const OPENING: u64 = 6;
-
-/// What unfinished writes left.
-#[derive(Clone, Copy)]
-pub(crate) enum Left {
-    Nothing,
-    All,
-    OpenGates,
-}
 
 /// What opening a device found: what the first three steps answered, and the journal.
 #[derive(Drop)]
@@ -51,46 +44,6 @@ fn open(alloc: Global, edge: &mut MemoryEdge) -> Result<Opened, JournalFault>
         third,
         journal,
     })
-}
-
-fn overwrite(image: &mut [u8], at: u64, bytes: &[u8]) {
-    for (i, byte) in bytes.iter().enumerate() {
-        if let Some(place) = image.get_mut((at as usize).saturating_add(i)) {
-            *place = *byte;
-        }
-    }
-}
-
-/// What a stop after these actions leaves of a device.
-pub(crate) fn image_of(
-    alloc: Global,
-    start: &[u8],
-    actions: &[Action],
-    left: Left,
-) -> Result<Vec<u8>, AllocError> {
-    let mut written = Vec::from_slice(alloc, start)?;
-    let mut image = Vec::from_slice(alloc, start)?;
-    for action in actions {
-        match action {
-            Action::Write { at, bytes, .. } => {
-                overwrite(&mut written, *at, bytes.as_slice());
-                match left {
-                    Left::Nothing => {}
-                    Left::All => overwrite(&mut image, *at, bytes.as_slice()),
-                    Left::OpenGates => {
-                        let gates = vec![in alloc; 1; bytes.len()]?;
-                        overwrite(&mut image, *at, gates.as_slice());
-                    }
-                }
-            }
-            Action::Sync { ok: true } => {
-                image.clear();
-                image.extend_from_slice(written.as_slice())?;
-            }
-            _ => {}
-        }
-    }
-    Ok(image)
 }
 
 /// Whether a device opens with the first record alone or also with the second one, which it must show where it was acknowledged.

@@ -1,31 +1,9 @@
 //! The store on devices in memory that don't open.
 
-use crate::support::edge_on;
+use crate::devices::{HEADER, USER_RECORD, device_of, edge_on};
 use iss_store::{OpenFault, Store};
 use std::alloc::{AllocError, Global};
 use std::test::Fail;
-
-/// The header of instance 0.
-pub(crate) const HEADER: &[u8] = b"\x01ISS1\x01\0\0\0\0\0\0\0\0\0\0";
-
-/// The user's record after its open gate.
-pub(crate) const USER_RECORD: &[u8] = b"\x01\0\0\0\x0f\x01\0\0\0\0\0\0\0\0\x02t1\x02u1";
-
-/// A device of instance 0 whose journal begins with these pieces.
-pub(crate) fn device_of(
-    alloc: Global,
-    size: usize,
-    pieces: &[&[u8]],
-) -> Result<Vec<u8>, AllocError> {
-    let mut device = Vec::from_slice(alloc, HEADER)?;
-    for piece in pieces {
-        device.extend_from_slice(*piece)?;
-    }
-    for _ in device.len()..size {
-        device.push(0)?;
-    }
-    Ok(device)
-}
 
 /// What opening this device comes to.
 fn opened(alloc: Global, device: &[u8]) -> Result<Option<OpenFault>, AllocError> {

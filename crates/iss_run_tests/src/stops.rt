@@ -1,14 +1,13 @@
 //! Runs on devices in memory that stop: after each action, with three of the images that it may leave, and by each call failing.
-use crate::journal::{Left, image_of};
 use crate::replay::{FIVE_USERS, FIVE_USERS_TOLD, USER, USER_DONE, replayed};
 use crate::scripts::{
     A_DAY, A_DAY_TOLD, EARLY_ACKNOWLEDGEMENT, EARLY_ACKNOWLEDGEMENT_TOLD, REPEAT_AT_THE_DEADLINE,
     REPEAT_AT_THE_DEADLINE_TOLD, TWO_TIMEOUTS_AND_AN_EXPIRY, TWO_TIMEOUTS_AND_AN_EXPIRY_TOLD,
 };
-use crate::store::{USER_RECORD, device_of};
-use crate::support::{edge_on, sent};
-use iss_edge::Action;
+use crate::support::sent;
+use iss_edge::{Action, MemoryEdge};
 use iss_store::Store;
+use iss_tests::devices::{Left, USER_RECORD, device_of, edge_on, image_of};
 use std::alloc::{AllocError, Global};
 use std::test::Fail;
 
@@ -77,14 +76,14 @@ fn count_sent(actions: &[Action]) -> usize {
 
 /// The level of the last text of which a byte is among the first so many.
 fn level_at(run: &Worked, count: usize) -> u32 {
-    let mut line = 0;
-    for byte in run.told.as_bytes().iter().take(count.saturating_sub(1)) {
-        if *byte == b'\n' {
-            line += 1;
-        }
-    }
     if count == 0 {
         return 0;
+    }
+    let mut line = 0usize;
+    for byte in run.told.as_bytes().iter().take(count - 1) {
+        if *byte == b'\n' {
+            line = line.saturating_add(1);
+        }
     }
     run.levels.get(line).copied().unwrap_or(0)
 }
@@ -93,9 +92,11 @@ fn level_at(run: &Worked, count: usize) -> u32 {
 fn gate_behind(device: &[u8], count: u32) -> Option<usize> {
     let mut gate = 16usize;
     for _ in 0..count {
-        let length = device.get(gate.saturating_add(1)..gate.saturating_add(5))?;
-        let number = u32::from_be_bytes([length[0], length[1], length[2], length[3]]);
-        gate = gate.saturating_add(5).saturating_add(number as usize);
+        let [_, a, b, c, d, ..] = device.get(gate..)? else {
+            return None;
+        };
+        let length = u32::from_be_bytes([*a, *b, *c, *d]);
+        gate = gate.saturating_add(5).saturating_add(length as usize);
     }
     Some(gate)
 }
@@ -135,18 +136,65 @@ fn stands_after(
     Ok(true)
 }
 
-#[test]
-fn each_stop_leaves_what_was_told(rt: HostRuntime) -> Result<(), Fail> {
-    let alloc = rt.alloc();
-    for run in &RUNS {
-        let start = device_of(alloc, run.size, &[])?;
-        let (status, edge) = replayed(alloc, &start, run.lines, &[])?;
-        assert_eq!(rt; status, 0);
-        assert!(rt; sent(alloc, &edge)?.as_slice() == run.told.as_bytes());
-        for count in 0..=edge.trace().len() {
-            assert!(rt; stands_after(alloc, run, &start, &edge.trace()[..count], edge.device())?);
+/// The actions of an edge up to this moment.
+fn actions_until(edge: &MemoryEdge, count: usize) -> &[Action] {
+    edge.trace().get(..count).unwrap_or(&[])
+}
+
+/// Whether a run is told its texts, and stands so after each of its actions.
+fn stands_throughout(alloc: Global, run: &Worked) -> Result<bool, AllocError> {
+    let start = device_of(alloc, run.size, &[])?;
+    let (status, edge) = replayed(alloc, &start, run.lines, &[])?;
+    for count in 0..=edge.trace().len() {
+        let actions = actions_until(&edge, count);
+        if !stands_after(alloc, run, &start, actions, edge.device())? {
+            return Ok(false);
         }
     }
+    Ok(status == 0 && sent(alloc, &edge)?.as_slice() == run.told.as_bytes())
+}
+
+#[test]
+fn each_stop_leaves_what_was_told(rt: HostRuntime) -> Result<(), Fail> {
+    for run in &RUNS {
+        assert!(rt; stands_throughout(rt.alloc(), run)?);
+    }
+    Ok(())
+}
+
+/// Whether each of three images of the run of one record, after so many actions, has a number of records within these.
+fn leaves(alloc: Global, count: usize, least: u32, most: u32) -> Result<bool, AllocError> {
+    let start = device_of(alloc, 100, &[])?;
+    let (_, edge) = replayed(alloc, &start, USER, &[])?;
+    for left in [Left::Nothing, Left::All, Left::OpenGates] {
+        let image = image_of(alloc, &start, actions_until(&edge, count), left)?;
+        match records_on(alloc, &image, edge.device())? {
+            Some(number) if least <= number && number <= most => {}
+            _ => return Ok(false),
+        }
+    }
+    Ok(true)
+}
+
+/// The actions of a run that makes one record: the opening's sync, the record and a sync, its gate and a sync, the reply. Until the
+/// gate is written no record stands, and from its sync on it surely does.
+#[test]
+fn a_stop_leaves_a_record_or_none(rt: HostRuntime) -> Result<(), Fail> {
+    let alloc = rt.alloc();
+    for (count, least, most) in [
+        (0, 0, 0),
+        (1, 0, 0),
+        (2, 0, 0),
+        (3, 0, 0),
+        (4, 0, 1),
+        (5, 1, 1),
+        (6, 1, 1),
+    ] {
+        assert!(rt; leaves(alloc, count, least, most)?, "{count}");
+    }
+    let (_, edge) = replayed(alloc, &device_of(alloc, 100, &[])?, USER, &[])?;
+    assert_eq!(rt; count_sent(actions_until(&edge, 5)), 0);
+    assert_eq!(rt; count_sent(actions_until(&edge, 6)), 30);
     Ok(())
 }
 
@@ -160,37 +208,42 @@ fn is_status_after(last: Option<&Action>, status: u8) -> bool {
     }
 }
 
-/// Each call of a run fails in turn, until there is none of that number.
+/// Whether a run ends as it has to where its call of this number fails, or well where it makes no such call.
+fn fails_well(
+    alloc: Global,
+    run: &Worked,
+    failing: u64,
+    makes_it: bool,
+) -> Result<bool, AllocError> {
+    let start = device_of(alloc, run.size, &[])?;
+    let (_, whole) = replayed(alloc, &start, run.lines, &[])?;
+    let (status, edge) = replayed(alloc, &start, run.lines, &[failing])?;
+    if !makes_it {
+        return Ok(status == 0);
+    }
+    let told = sent(alloc, &edge)?;
+    Ok(
+        is_status_after(edge.trace().last(), status)
+            && run.told.as_bytes().starts_with(told.as_slice())
+            && stands_after(alloc, run, &start, edge.trace(), whole.device())?,
+    )
+}
+
+/// How many calls that may fail a run makes: four to open, two takes, four a record and one a text.
+fn calls_of(run: &Worked) -> u64 {
+    let records = run.levels.last().copied().unwrap_or(0);
+    (6 + 4 * u64::from(records)).saturating_add(run.levels.len() as u64)
+}
+
 #[test]
 fn each_call_may_fail(rt: HostRuntime) -> Result<(), Fail> {
     let alloc = rt.alloc();
     for run in &RUNS {
-        let start = device_of(alloc, run.size, &[])?;
-        let (_, whole) = replayed(alloc, &start, run.lines, &[])?;
-        let mut failing = 1;
-        'calls: loop {
-            let (status, edge) = replayed(alloc, &start, run.lines, &[failing])?;
-            if status == 0 {
-                break 'calls;
-            }
-            assert!(rt; is_status_after(edge.trace().last(), status), "{failing}");
-            assert!(rt;
-                run.told
-                    .as_bytes()
-                    .starts_with(sent(alloc, &edge)?.as_slice())
-            );
-            assert!(rt;
-                stands_after(alloc, run, &start, edge.trace(), whole.device())?,
-                "{failing}"
-            );
-            failing += 1;
+        let calls = calls_of(run);
+        for failing in 1..=calls {
+            assert!(rt; fails_well(alloc, run, failing, true)?, "{failing}");
         }
-        // The opening makes four calls; there are two takes, four calls a record and one a text.
-        let records = run.levels.last().copied().unwrap_or(0);
-        assert_eq!(rt;
-            failing,
-            7 + 4 * u64::from(records) + run.levels.len() as u64
-        );
+        assert!(rt; fails_well(alloc, run, calls.saturating_add(1), false)?);
     }
     Ok(())
 }
@@ -217,7 +270,7 @@ fn a_record_left_behind_may_stand_for_once(rt: HostRuntime) -> Result<(), Fail> 
     // A sync, the gate's write, and the sync that settles it come before the reply.
     assert_eq!(rt; edge.trace().len(), 4);
     for (count, most) in [(0, 1), (1, 1), (2, 2), (3, 1), (4, 1)] {
-        let image = image_of(alloc, &start, &edge.trace()[..count], Left::OpenGates)?;
+        let image = image_of(alloc, &start, actions_until(&edge, count), Left::OpenGates)?;
         let mut again = edge_on(alloc, &image, &[])?;
         let found = match Store::open(alloc, &mut again) {
             Ok(store) => store.core().count(),

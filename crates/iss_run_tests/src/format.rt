@@ -1,6 +1,7 @@
 //! Runs that format a device, and words that ask for none.
-use crate::support::{edge_on, is_sync, is_write, run_words};
+use crate::support::run_words;
 use iss_edge::{Action, MemoryEdge};
+use iss_tests::devices::{edge_on, is_sync, is_write};
 use iss_top::{Command, command_of};
 use std::alloc::{AllocError, Global};
 use std::test::Fail;

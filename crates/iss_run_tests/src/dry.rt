@@ -1,4 +1,5 @@
 //! Dry runs over an edge in memory: the calls that they make, and what a failing one leaves.
+use crate::replay::{ONE_USER_AND_A_HALF, USER_DONE};
 use crate::scripts::{
     A_DAY, A_DAY_TOLD, EARLY_ACKNOWLEDGEMENT, EARLY_ACKNOWLEDGEMENT_TOLD, REPEAT_AT_THE_DEADLINE,
     REPEAT_AT_THE_DEADLINE_TOLD, TWO_TIMEOUTS_AND_AN_EXPIRY, TWO_TIMEOUTS_AND_AN_EXPIRY_TOLD,
@@ -39,6 +40,15 @@ fn a_failed_take_ends_the_run(rt: HostRuntime) -> Result<(), Fail> {
     let mut edge = edge_of(rt.alloc(), TWO_USERS.as_bytes(), &[1])?;
     assert_eq!(rt; run_by(rt.alloc(), "dry", &mut edge)?, 3);
     assert!(rt; edge.trace().is_empty());
+    Ok(())
+}
+
+/// A line that is cut short by a fault isn't told.
+#[test]
+fn a_failed_take_leaves_half_a_line(rt: HostRuntime) -> Result<(), Fail> {
+    let mut edge = edge_of(rt.alloc(), ONE_USER_AND_A_HALF.as_bytes(), &[3])?;
+    assert_eq!(rt; run_by(rt.alloc(), "dry", &mut edge)?, 3);
+    assert!(rt; sent(rt.alloc(), &edge)?.as_slice() == USER_DONE.as_bytes());
     Ok(())
 }
 
