@@ -1,3 +1,5 @@
 pub mod Posts
 pub mod BalanceSums
 pub mod EventsDecided
+pub mod Rows
+pub mod HoldsWell

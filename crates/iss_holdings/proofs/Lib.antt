@@ -1,0 +1,6 @@
+pub mod Changes
+pub mod Pieces
+pub mod Asks
+pub mod Inputs
+pub mod Ends
+pub mod Steps

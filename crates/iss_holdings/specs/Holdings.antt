@@ -1,0 +1,66 @@
+-- What transactions hold in every state: no part is below 0, and who has ended or isn't decided yet holds nothing.
+use Rattle.std.specs.Prelude.{◌≡◌, ℕ, suc, ℤ, pos, negsuc, ◌≤ℤ◌, ◌+◌, ◌≤◌, Bool, true, false, not, List, [], ◌∷◌, if◌then◌else◌}
+use Rattle.iss_model.specs.declared.account.Part.{Part}
+use Rattle.iss_model.specs.declared.entry.Entry.{Entry}
+use Rattle.iss_model.specs.declared.entry.Entry.TheVariants as entry
+use Rattle.iss_model.specs.Sums.{part_key}
+use Rattle.iss_model.specs.rules.Activity.{TxnNow, CallNow, ends_txn, txn_named}
+use Rattle.iss_model.specs.rules.Asks.{is_authorization}
+use Rattle.iss_model.specs.rules.Reasons.{is_some_with}
+use Rattle.iss_model.specs.state.Cores.{CoreState, after_entry}
+use Rattle.iss_model.specs.state.Kept.{Kept, kept_at}
+use Rattle.iss_docket.specs.Dockets.{Docket, docket_of}
+use Rattle.iss_docket.specs.Well.{IsAsked, NonePendingOf, has_live}
+
+-- the sum of a part of what a transaction holds
+abbrev pub part_sum : Kept → List ℕ → Part → ℤ
+part_sum parts token p = kept_at parts (part_key token p)
+
+-- a transaction holds nothing in any part
+abbrev pub HoldsNothing : Kept → List ℕ → Type 0
+HoldsNothing parts token = (p : Part) → part_sum parts token p ≡ pos 0
+
+-- What holds of all parts: none is below 0. A transaction that isn't live holds nothing, and neither does one whose authorisation's call is asked.
+pub record AreHeld (parts : Kept) (txns : List TxnNow) (calls : List CallNow) : Type 0 where
+  pub not_negative : (token : List ℕ) (p : Part) → pos 0 ≤ℤ part_sum parts token p
+  pub ended : (token : List ℕ) → has_live txns token ≡ false → HoldsNothing parts token
+  pub pending : (n : ℕ) (c : CallNow) → IsAsked calls n c → is_authorization c.opened.method ≡ true → HoldsNothing parts c.opened.txn
+
+-- so it is in a state
+abbrev pub IsHeldWell : CoreState → Type 0
+IsHeldWell s = AreHeld s.holdings.parts s.holdings.txns s.calls
+
+-- a transaction may hold more: it is live, and its authorisation's call isn't asked
+pub record MayHold (d : Docket) (token : List ℕ) : Type 0 where
+  pub its_live : has_live d.txns token ≡ true
+  pub none_pending : NonePendingOf d.calls token
+
+-- what is held more is of a transaction that may hold it, and what is let go is there
+abbrev pub MayChange : CoreState → List ℕ → Part → ℤ → Type 0
+MayChange s txn p (pos n) = MayHold (docket_of s) txn
+MayChange s txn p (negsuc n) = pos (suc n) ≤ℤ part_sum s.holdings.parts txn p
+
+-- What an entry needs so that transactions go on holding well: who ends holds nothing, and neither does a transaction whose authorisation is asked for.
+abbrev pub KeepsHeld : CoreState → Entry → Type 0
+KeepsHeld s (entry.Hold txn user currency p amount) = MayChange s txn p amount
+KeepsHeld s (entry.Ended txn) = HoldsNothing s.holdings.parts txn
+KeepsHeld s (entry.Opened o) = is_authorization o.method ≡ true → HoldsNothing s.holdings.parts o.txn
+KeepsHeld s _ = Unit {0}
+
+-- each entry finds what it needs behind those before it
+abbrev pub AllKeepHeld : CoreState → List Entry → Type 0
+AllKeepHeld s [] = Unit {0}
+AllKeepHeld s (e ∷ es) = KeepsHeld s e × AllKeepHeld (after_entry s e) es
+
+-- how often entries end a transaction
+abbrev pub ended_times : List ℕ → List Entry → ℕ
+ended_times token [] = 0
+ended_times token (e ∷ es) = (if ends_txn token e then 1 else 0) + ended_times token es
+
+-- a transaction has ended
+abbrev pub has_ended : List TxnNow → List ℕ → Bool
+has_ended txns token = is_some_with (λ t. not t.live) (txn_named token txns)
+
+-- how often a transaction may still end
+abbrev pub ends_left : List TxnNow → List ℕ → ℕ
+ends_left txns token = if has_ended txns token then 0 else 1
