@@ -1,5 +1,5 @@
 -- An entry that finds what it needs leaves what transactions hold well.
-use Rattle.std.proofs.Common.{◌≡◌, ℕ, suc, ℤ, pos, negsuc, ◌+ℤ◌, ◌+◌, Bool, true, false, cond, List, [], ◌∷◌, ◌++◌, map, fold, refl, sym, ap, subst, ◌∙◌, arith, ◌⊎◌, inl, inr}
+use Rattle.std.proofs.Common.{◌≡◌, ℕ, suc, ℤ, pos, negsuc, ◌+ℤ◌, ◌+◌, Bool, true, false, cond, nat_eq, List, [], ◌∷◌, ◌++◌, map, fold, refl, sym, ap, subst, ◌∙◌, arith, ◌⊎◌, inl, inr}
 use Rattle.std.proofs.lemmas.Int.{ints}
 use Rattle.std.specs.Prelude.{Option, Some, None, option_map, ◌≤ℤ◌}
 use Rattle.std.specs.Option.{option_or}
@@ -16,8 +16,8 @@ use Rattle.iss_model.specs.declared.input.Input.{Input}
 use Rattle.iss_model.specs.declared.input.Input.TheVariants as input
 use Rattle.iss_model.specs.declared.setting.Moved.TheVariants as moved
 use Rattle.iss_model.specs.declared.txn.Txn.{Txn}
-use Rattle.iss_model.specs.Sums.{Change, part_key}
-use Rattle.iss_model.specs.rules.Activity.{TxnNow, CallNow, txn_named}
+use Rattle.iss_model.specs.Sums.{Change, part_key, part_number}
+use Rattle.iss_model.specs.rules.Activity.{TxnNow, CallNow, call_numbered, txn_named}
 use Rattle.iss_model.specs.rules.Asks.{is_authorization}
 use Rattle.iss_model.specs.rules.Reasons.{is_some_with}
 use Rattle.iss_model.specs.state.Cores.{CoreState, Holdings, after_entry, after_setting, begun_part_changes, call_after_close, is_live, txn_after_end}
@@ -30,7 +30,7 @@ use Rattle.iss_docket.specs.Well.{IsAsked, has_live}
 use Rattle.iss_docket.proofs.Closing.{asked_before}
 use Rattle.iss_docket.proofs.Entering.{call_more, same_txn, txn_more}
 use Rattle.iss_docket.proofs.Lists.{by_either, either_found, not_both}
-use Rattle.iss_holdings.specs.Holdings.{AreHeld, AllKeepHeld, HoldsNothing, IsHeldWell, KeepsHeld, MayChange, MayHold, part_sum}
+use Rattle.iss_holdings.specs.Holdings.{AreHeld, AllKeepHeld, HoldsNothing, IsHeldWell, KeepsHeld, MayChange, MayHold, is_part_of, may_have, part_sum}
 
 -- one change of the parts ----
 
@@ -75,6 +75,23 @@ tails a b xs ys e = cc
 its_txn : (txn token : List ℕ) (p q : Part) → bytes_eq (part_key txn p) (part_key token q) ≡ true → txn ≡ token
 its_txn txn token p q e = tails _ _ txn token (one_name (part_key txn p) (part_key token q) e)
 
+heads : (a b : ℕ) (xs ys : List ℕ) → (a ∷ xs) ≡ (b ∷ ys) → a ≡ b
+heads a b xs ys e = cc
+
+same_part : (p q : Part) → part_number p ≡ part_number q → p ≡ q
+same_part part.G part.G e = refl
+same_part part.P part.P e = refl
+same_part part.S part.S e = refl
+same_part part.G part.P e = absurd (omega (arith, e))
+same_part part.G part.S e = absurd (omega (arith, e))
+same_part part.P part.G e = absurd (omega (arith, e))
+same_part part.P part.S e = absurd (omega (arith, e))
+same_part part.S part.G e = absurd (omega (arith, e))
+same_part part.S part.P e = absurd (omega (arith, e))
+
+its_part : (txn token : List ℕ) (p q : Part) → bytes_eq (part_key txn p) (part_key token q) ≡ true → p ≡ q
+its_part txn token p q e = same_part p q (heads (part_number p) (part_number q) txn token (one_name (part_key txn p) (part_key token q) e))
+
 at_least : (z : ℤ) (n : ℕ) → pos 0 ≤ℤ z → pos 0 ≤ℤ (z +ℤ pos n)
 at_least z n h = omega (arith, ints, h)
 
@@ -107,9 +124,22 @@ hold_nothing s txn p amount token may never nothing q = by (bytes_eq (part_key t
     by : (b : Bool) → bytes_eq (part_key txn p) (part_key token q) ≡ b → (amount : ℤ) → MayChange s txn p amount
         → part_sum (after_changes s.holdings.parts (change_of (part_key txn p) amount)) token q ≡ pos 0
     by false e amount may = changed_other s.holdings.parts (part_key txn p) (part_key token q) amount e ∙ nothing q
-    by true e (pos n) may = absurd (never (subst (MayHold (docket_of s)) (its_txn txn token p q e) may))
+    by true e (pos n) may = absurd (never (subst (MayHold (docket_of s)) (its_txn txn token p q e) may.0))
     by true e (negsuc n) may =
         not_there (part_sum s.holdings.parts txn p) n may (ap (kept_at s.holdings.parts) (one_name (part_key txn p) (part_key token q) e) ∙ nothing q)
+
+-- a part that its funding doesn't give stays at nothing
+hold_funded : (s : CoreState) (txn : List ℕ) (p : Part) (amount : ℤ) (token : List ℕ) (q : Part) → MayChange s txn p amount → may_have s.holdings.txns token q ≡ false
+    → part_sum s.holdings.parts token q ≡ pos 0
+    → part_sum (after_changes s.holdings.parts (change_of (part_key txn p) amount)) token q ≡ pos 0
+hold_funded s txn p amount token q may out nothing = by (bytes_eq (part_key txn p) (part_key token q)) refl amount may
+  where
+    by : (b : Bool) → bytes_eq (part_key txn p) (part_key token q) ≡ b → (amount : ℤ) → MayChange s txn p amount
+        → part_sum (after_changes s.holdings.parts (change_of (part_key txn p) amount)) token q ≡ pos 0
+    by false e amount may = changed_other s.holdings.parts (part_key txn p) (part_key token q) amount e ∙ nothing
+    by true e (pos n) may =
+        not_both (may_have s.holdings.txns token q) (ap (may_have s.holdings.txns token) (sym (its_part txn token p q e)) ∙ ap (λ (k : List ℕ). may_have s.holdings.txns k p) (sym (its_txn txn token p q e)) ∙ may.1) out
+    by true e (negsuc n) may = not_there (part_sum s.holdings.parts txn p) n may (ap (kept_at s.holdings.parts) (one_name (part_key txn p) (part_key token q) e) ∙ nothing)
 
 hold_held : (s : CoreState) (txn : List ℕ) (p : Part) (amount : ℤ) → MayChange s txn p amount → IsHeldWell s
     → AreHeld (after_changes s.holdings.parts (change_of (part_key txn p) amount)) s.holdings.txns s.calls
@@ -119,6 +149,8 @@ hold_held s txn p amount may held =
       ended = λ token dead. hold_nothing s txn p amount token may (λ can. not_both (has_live s.holdings.txns token) can.its_live dead) (held.ended token dead);
       pending = λ n c now first.
           hold_nothing s txn p amount c.opened.txn may (λ can. can.none_pending n c now refl first) (held.pending n c now first);
+      funded = λ token q out. hold_funded s txn p amount token q may out (held.funded token q out);
+      asked = held.asked;
     }
 
 -- a transaction ends ----
@@ -138,10 +170,24 @@ other_ended token k txns other =
     txn_ended token k txns
     ∙ as_before token (txn_named k txns) (λ t e. ap (bytes_eq token) (one_name t.txn.token k (found_passes (λ (t : TxnNow). bytes_eq t.txn.token k) txns t e)) ∙ other)
 
+-- and by its funding each does
+same_funding : (token : List ℕ) (p : Part) (o : Option TxnNow) → is_some_with (λ t. is_part_of p t.txn.funding) (option_map (txn_after_end token) o) ≡ is_some_with (λ t. is_part_of p t.txn.funding) o
+same_funding token p None = refl
+same_funding token p (Some t) = ap (λ (x : Txn). is_part_of p x.funding) (same_txn token t)
+
+pub ended_funding : (token k : List ℕ) (p : Part) (txns : List TxnNow) → may_have (map (txn_after_end token) txns) k p ≡ may_have txns k p
+ended_funding token k p txns = ap (is_some_with (λ (t : TxnNow). is_part_of p t.txn.funding)) (txn_ended token k txns) ∙ same_funding token p (txn_named k txns)
+
 end_held : (parts : Kept) (txns : List TxnNow) (calls : List CallNow) (token : List ℕ) → HoldsNothing parts token → AreHeld parts txns calls
     → AreHeld parts (map (txn_after_end token) txns) calls
 end_held parts txns calls token nothing held =
-    record { not_negative = held.not_negative; ended = λ k dead. by k (bytes_eq token k) refl dead; pending = held.pending }
+    record {
+      not_negative = held.not_negative;
+      ended = λ k dead. by k (bytes_eq token k) refl dead;
+      pending = held.pending;
+      funded = λ k p out. held.funded k p (sym (ended_funding token k p txns) ∙ out);
+      asked = λ n c now. ended_funding token c.opened.txn part.G txns ∙ held.asked n c now;
+    }
   where
     by : (k : List ℕ) (b : Bool) → bytes_eq token k ≡ b → has_live (map (txn_after_end token) txns) k ≡ false → HoldsNothing parts k
     by k true e dead = subst (HoldsNothing parts) (one_name token k e) nothing
@@ -149,9 +195,20 @@ end_held parts txns calls token nothing held =
 
 -- a transaction begins ----
 
-live_before : (o more : Option TxnNow) → is_some_with (λ t. t.live) (option_or o more) ≡ false → is_some_with (λ t. t.live) o ≡ false
-live_before None more h = refl
-live_before (Some t) more h = h
+with_before : (test : TxnNow → Bool) (o more : Option TxnNow) → is_some_with test (option_or o more) ≡ false → is_some_with test o ≡ false
+with_before test None more h = refl
+with_before test (Some t) more h = h
+
+with_more : (test : TxnNow → Bool) (o more : Option TxnNow) → is_some_with test o ≡ true → is_some_with test (option_or o more) ≡ true
+with_more test None more h = cc
+with_more test (Some t) more h = h
+
+-- what fails of a transaction among more failed before, and what held still does
+named_before : (test : TxnNow → Bool) (txns : List TxnNow) (x : TxnNow) (k : List ℕ) → is_some_with test (txn_named k (txns ++ x ∷ [])) ≡ false → is_some_with test (txn_named k txns) ≡ false
+named_before test txns x k h = with_before test (txn_named k txns) (cond (bytes_eq x.txn.token k) (Some x) None) (ap (is_some_with test) (sym (txn_more k txns x)) ∙ h)
+
+pub named_more : (test : TxnNow → Bool) (txns : List TxnNow) (x : TxnNow) (k : List ℕ) → is_some_with test (txn_named k txns) ≡ true → is_some_with test (txn_named k (txns ++ x ∷ [])) ≡ true
+named_more test txns x k h = ap (is_some_with test) (txn_more k txns x) ∙ with_more test (txn_named k txns) (cond (bytes_eq x.txn.token k) (Some x) None) h
 
 begin_held : (parts : Kept) (txns : List TxnNow) (calls : List CallNow) (t : Txn) (live : Bool) → AreHeld parts txns calls
     → AreHeld (after_changes parts (begun_part_changes t)) (txns ++ record { txn = t; live = live } ∷ []) calls
@@ -159,34 +216,46 @@ begin_held parts txns calls t live held =
     record {
       not_negative = λ token p. subst (λ (z : ℤ). pos 0 ≤ℤ z) (sym (begun_sum parts t (part_key token p))) (held.not_negative token p);
       ended = λ token dead p.
-          begun_sum parts t (part_key token p)
-          ∙ held.ended token
-          (live_before (txn_named token txns) (cond (bytes_eq t.token token) (Some (record { txn = t; live = live })) None)
-          (ap (is_some_with (λ (t : TxnNow). t.live)) (sym (txn_more token txns (record { txn = t; live = live }))) ∙ dead))
-          p;
+          begun_sum parts t (part_key token p) ∙ held.ended token (named_before (λ (t : TxnNow). t.live) txns (record { txn = t; live = live }) token dead) p;
       pending = λ n c now first p. begun_sum parts t (part_key c.opened.txn p) ∙ held.pending n c now first p;
+      funded = λ token p out.
+          begun_sum parts t (part_key token p) ∙ held.funded token p (named_before (λ (t : TxnNow). is_part_of p t.txn.funding) txns (record { txn = t; live = live }) token out);
+      asked = λ n c now. named_more (λ (t : TxnNow). is_part_of part.G t.txn.funding) txns (record { txn = t; live = live }) c.opened.txn (held.asked n c now);
     }
 
 -- calls ----
 
 close_held : (parts : Kept) (txns : List TxnNow) (calls : List CallNow) (k : ℕ) (how : How) → AreHeld parts txns calls → AreHeld parts txns (map (call_after_close k how) calls)
 close_held parts txns calls k how held =
-    record { not_negative = held.not_negative; ended = held.ended; pending = λ n c now first. held.pending n c (asked_before calls k how n c now).0 first }
+    record {
+      not_negative = held.not_negative;
+      ended = held.ended;
+      pending = λ n c now first. held.pending n c (asked_before calls k how n c now).0 first;
+      funded = held.funded;
+      asked = λ n c now. held.asked n c (asked_before calls k how n c now).0;
+    }
+
+-- an asked call among more was asked before, or is the new one
+new_or_old : (calls : List CallNow) (x : CallNow) (n : ℕ) (c : CallNow) → IsAsked (calls ++ x ∷ []) n c → IsAsked calls n c ⊎ (x ≡ c)
+new_or_old calls x n c now =
+    by_either (λ old. inl (record { stands = old; asked = now.asked })) (λ new. inr new.1)
+    (either_found (call_numbered n calls) x c (nat_eq x.opened.call.0 n) (sym (call_more n calls x) ∙ now.stands))
 
 open_held : (parts : Kept) (txns : List TxnNow) (calls : List CallNow) (o : Opened) → (is_authorization o.method ≡ true → HoldsNothing parts o.txn)
-    → AreHeld parts txns calls → AreHeld parts txns (calls ++ record { opened = o; how = None } ∷ [])
-open_held parts txns calls o nothing held =
+    → may_have txns o.txn part.G ≡ true → AreHeld parts txns calls → AreHeld parts txns (calls ++ record { opened = o; how = None } ∷ [])
+open_held parts txns calls o nothing its held =
     record {
       not_negative = held.not_negative;
       ended = held.ended;
       pending = λ n c now first.
-          by_either {C = HoldsNothing parts c.opened.txn} (λ old. held.pending n c (record { stands = old; asked = now.asked }) first)
-          (λ new. subst (λ (x : CallNow). HoldsNothing parts x.opened.txn) new.1 (nothing (ap (λ (x : CallNow). is_authorization x.opened.method) new.1 ∙ first)))
-          (either_found (call_before n) _ c _ (sym (call_more n calls (record { opened = o; how = None })) ∙ now.stands));
+          by_either {C = HoldsNothing parts c.opened.txn} (λ old. held.pending n c old first)
+          (λ new. subst (λ (x : CallNow). HoldsNothing parts x.opened.txn) new (nothing (ap (λ (x : CallNow). is_authorization x.opened.method) new ∙ first)))
+          (new_or_old calls (record { opened = o; how = None }) n c now);
+      funded = held.funded;
+      asked = λ n c now.
+          by_either (λ old. held.asked n c old) (λ new. ap (λ (x : CallNow). may_have txns x.opened.txn part.G) (sym new) ∙ its)
+          (new_or_old calls (record { opened = o; how = None }) n c now);
     }
-  where
-    call_before : ℕ → Option CallNow
-    call_before n = Rattle.iss_model.specs.rules.Activity.call_numbered n calls
 
 -- each entry ----
 
@@ -198,7 +267,7 @@ setting_held s _ held = held
 pub entry_held : (s : CoreState) (e : Entry) → KeepsHeld s e → IsHeldWell s → IsHeldWell (after_entry s e)
 entry_held s (entry.Conf i) keeps held = setting_held s i held
 entry_held s (entry.Began t) keeps held = begin_held s.holdings.parts s.holdings.txns s.calls t (is_live s.holdings.txns t.token) held
-entry_held s (entry.Opened o) keeps held = open_held s.holdings.parts s.holdings.txns s.calls o keeps held
+entry_held s (entry.Opened o) keeps held = open_held s.holdings.parts s.holdings.txns s.calls o keeps.0 keeps.1 held
 entry_held s (entry.Closed call how) keeps held = close_held s.holdings.parts s.holdings.txns s.calls call.0 how held
 entry_held s (entry.Hold txn user currency p amount) keeps held = hold_held s txn p amount keeps held
 entry_held s (entry.Ended txn) keeps held = end_held s.holdings.parts s.holdings.txns s.calls txn keeps held

@@ -41,8 +41,8 @@ use Rattle.iss_docket.specs.Well.{IsAsked, IsWellAmong, Known, has_live}
 use Rattle.iss_docket.proofs.Entering.{txn_more}
 use Rattle.iss_docket.proofs.Lists.{both_so, found_filtered, inside, never, not_both, not_some}
 use Rattle.iss_pending.specs.Pending.{HasTakenUp}
-use Rattle.iss_pending.proofs.Due.{found_live}
-use Rattle.iss_holdings.specs.Holdings.{AllKeepHeld, HoldsNothing, IsHeldWell}
+use Rattle.iss_pending.proofs.Due.{found_live, its_token}
+use Rattle.iss_holdings.specs.Holdings.{AllKeepHeld, HoldsNothing, IsHeldWell, is_part_of}
 use Rattle.iss_holdings.proofs.Asks.{MaySettle, SettlesCall, asked_keeps, failed_keeps, funding_keeps, outcome_keeps}
 use Rattle.iss_holdings.proofs.Changes.{begun_sum, keep_append}
 use Rattle.iss_holdings.proofs.Pieces.{AreCalm, HoldsJust, Leaves, abandoned_calm, calm_keep, calm_leaves, clearing_leaves, end_keeps, ended_keep, its_parts, nothing_left, post_calm, release_leaves, then_leaves}
@@ -90,7 +90,16 @@ none_ended k (t ∷ ts) e = by (bytes_eq t.txn.token k) (none_ended k ts) e
     by true rest e = cc
     by false rest e = rest e
 
--- a transaction of a new token begins live
+-- a transaction of a new token stands
+begun_stands : (txns : List TxnNow) (t : Txn) → txn_named t.token txns ≡ None
+    → txn_named t.token (txns ++ record { txn = t; live = is_live txns t.token } ∷ []) ≡ Some (record { txn = t; live = is_live txns t.token })
+begun_stands txns t none =
+    let x : TxnNow = record { txn = t; live = is_live txns t.token } in
+    txn_more t.token txns x
+    ∙ ap (λ (o : Option TxnNow). option_or o (cond (bytes_eq t.token t.token) (Some x) None)) none
+    ∙ ap (λ (b : Bool). option_or None (cond b (Some x) None)) (its_name t.token)
+
+-- and begins live
 begun_live : (txns : List TxnNow) (t : Txn) → txn_named t.token txns ≡ None → has_live (txns ++ record { txn = t; live = is_live txns t.token } ∷ []) t.token ≡ true
 begun_live txns t none =
     let x : TxnNow = record { txn = t; live = is_live txns t.token } in
@@ -109,6 +118,7 @@ begun_keeps : (known : Known) (s : CoreState) (ask : Ask) → IsWellAmong known 
 begun_keeps known s ask well held none =
     let dead : has_live s.holdings.txns ask.txn.token ≡ false = not_live (txn_named ask.txn.token s.holdings.txns) none in
     (tt, (tt, funding_keeps _ (core_facts s) ask (record {
+      its = λ p. ap (is_some_with (λ (t : TxnNow). is_part_of p t.txn.funding)) (begun_stands s.holdings.txns ask.txn none);
       may = record {
         its_live = begun_live s.holdings.txns ask.txn none;
         none_pending = λ n c now same first. not_both (has_live s.holdings.txns ask.txn.token) (ap (has_live s.holdings.txns) (sym same) ∙ well.live n c now) dead;
@@ -148,6 +158,7 @@ raised_keeps s event txn currency amount at (Some now) e none =
     let second = first_fails (not now.live) reason.TxnClosed _ none in
     let third = first_fails (is_pending f now.txn) reason.TxnPending _ second.1 in
     (tt, funding_keeps _ f (further_ask event amount at now.txn) (record {
+      its = λ p. ap (is_some_with (λ (t : TxnNow). is_part_of p t.txn.funding)) (ap (λ (k : List ℕ). txn_named k s.holdings.txns) (its_token s.holdings.txns txn now e) ∙ e);
       may = record {
         its_live = found_live s.holdings.txns txn now e (not-false now.live second.0);
         none_pending = λ n c asked same first.

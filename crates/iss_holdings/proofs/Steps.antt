@@ -110,6 +110,8 @@ nothing_held =
       not_negative = λ token p. none (kept_at nothing_kept (part_key token p)) (nothing_there (part_key token p));
       ended = λ token dead p. nothing_there (part_key token p);
       pending = λ n c now first. none_stands n c now.stands;
+      funded = λ token p out. nothing_there (part_key token p);
+      asked = λ n c now. none_stands n c now.stands;
     }
   where
     none : (z : ℤ) → z ≡ pos 0 → pos 0 ≤ℤ z
