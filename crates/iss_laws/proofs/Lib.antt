@@ -3,3 +3,4 @@ pub mod BalanceSums
 pub mod EventsDecided
 pub mod Rows
 pub mod HoldsWell
+pub mod OwnPieces
