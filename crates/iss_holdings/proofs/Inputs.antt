@@ -91,7 +91,7 @@ none_ended k (t ∷ ts) e = by (bytes_eq t.txn.token k) (none_ended k ts) e
     by false rest e = rest e
 
 -- a transaction of a new token stands
-begun_stands : (txns : List TxnNow) (t : Txn) → txn_named t.token txns ≡ None
+pub begun_stands : (txns : List TxnNow) (t : Txn) → txn_named t.token txns ≡ None
     → txn_named t.token (txns ++ record { txn = t; live = is_live txns t.token } ∷ []) ≡ Some (record { txn = t; live = is_live txns t.token })
 begun_stands txns t none =
     let x : TxnNow = record { txn = t; live = is_live txns t.token } in
@@ -137,6 +137,10 @@ token_of_ask : (f : Facts) (token : List ℕ) (currency : Currency) (amount mcc 
     → x.txn.token ≡ token
 token_of_ask f token currency amount mcc mid at None x e = cc
 token_of_ask f token currency amount mcc mid at (Some c) x e = token_of_begun f token currency amount mcc mid at c (product_named c.product f.products) x e
+
+pub authorization_token : (f : Facts) (token card : List ℕ) (currency : Currency) (amount mcc : ℕ) (mid : List ℕ) (at : ℕ) (x : Ask)
+    → authorization_ask f token card currency amount mcc mid at ≡ Some x → x.txn.token ≡ token
+authorization_token f token card currency amount mcc mid at = token_of_ask f token currency amount mcc mid at (card_named card f.cards)
 
 authorized_keeps : (known : Known) (s : CoreState) (token : List ℕ) (ask : Option Ask) → IsWellAmong known (docket_of s) → IsHeldWell s → txn_named token s.holdings.txns ≡ None
     → ((x : Ask) → ask ≡ Some x → x.txn.token ≡ token) → AllKeepHeld s (authorization_entries (core_facts s) ask)
@@ -269,7 +273,7 @@ acknowledged_keeps s notice true = (tt, tt)
 acknowledged_keeps s notice false = tt
 
 -- the event of a record that was taken up names no transaction
-unnamed : (s : CoreState) (i : Input) (event : List ℕ) → HasTakenUp s i → event_token i ≡ Some event → txn_named event s.holdings.txns ≡ None
+pub unnamed : (s : CoreState) (i : Input) (event : List ℕ) → HasTakenUp s i → event_token i ≡ Some event → txn_named event s.holdings.txns ≡ None
 unnamed s i event ready e = not_some (txn_named event s.holdings.txns) (λ h. not_both (ready.before.events event) (ready.well.txns.events event h) (ready.unknown event e))
 
 -- what an input's entries need where its record was taken up
@@ -286,7 +290,7 @@ each_kind s at =
           let ask : Option Ask = authorization_ask f token card currency amount mcc mid at in
           unless_keeps s (authorization_reason f card currency ask) token (authorization_entries f ask)
           (λ none. authorized_keeps ready.before s token ask ready.well held (unnamed s (input.Authorization token card currency amount mcc mid) token ready refl)
-          (token_of_ask f token currency amount mcc mid at (card_named card f.cards)));
+          (authorization_token f token card currency amount mcc mid at));
       increment = λ token txn currency amount ready held.
           let ask : Option Ask = increment_ask f token txn amount at in
           unless_keeps s (increment_reason f (txn_in f txn) currency ask) token (increment_entries f ask)

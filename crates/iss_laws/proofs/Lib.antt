@@ -4,3 +4,4 @@ pub mod EventsDecided
 pub mod Rows
 pub mod HoldsWell
 pub mod OwnPieces
+pub mod OwnInputs

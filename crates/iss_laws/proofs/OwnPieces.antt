@@ -19,16 +19,15 @@ use Rattle.iss_model.specs.rules.CardReasons.{is_account_funded}
 use Rattle.iss_model.specs.rules.Pieces.{Parts, hold_entries, in_all, left_of, only_gateway, only_where, post_entries, release_entries, taken_to_clear, taken_to_release, unhold_entries, use_return_entries, user_account}
 use Rattle.iss_effects.proofs.Finds.{number_is}
 use Rattle.iss_laws.specs.UserBalances.{own_changes}
+use Rattle.iss_laws.proofs.Rows.{among_summed, sum_among}
 
 -- what entries add to a user's balance, by the user's key, and to what the user owns ----
 
 abbrev pub balance_by : List ℕ → List Entry → ℤ
-balance_by key [] = pos 0
-balance_by key (e ∷ es) = changed_at (4 ∷ key) (balance_changes e) +ℤ balance_by key es
+balance_by key es = sum_among balance_changes (4 ∷ key) es
 
 abbrev pub owned_by : (List ℕ → Bool) → List ℕ → List Entry → ℤ
-owned_by own key [] = pos 0
-owned_by own key (e ∷ es) = changed_at key (own_changes own e) +ℤ owned_by own key es
+owned_by own key es = sum_among (own_changes own) key es
 
 -- entries add so much to both
 pub record Adds (own : List ℕ → Bool) (key : List ℕ) (es : List Entry) (balance owned : ℤ) : Type 0 where
@@ -39,39 +38,15 @@ pub record Adds (own : List ℕ → Bool) (key : List ℕ) (es : List Entry) (ba
 pub record AddsSame (own : List ℕ → Bool) (key : List ℕ) (es : List Entry) : Type 0 where
   pub same : balance_by key es ≡ owned_by own key es
 
-balance_append : (key : List ℕ) (xs ys : List Entry) → balance_by key (xs ++ ys) ≡ balance_by key xs +ℤ balance_by key ys
-balance_append key [] ys = none (balance_by key ys)
-  where
-    none : (z : ℤ) → z ≡ pos 0 +ℤ z
-    none z = omega (arith, ints)
-balance_append key (x ∷ xs) ys =
-    ap (λ (z : ℤ). changed_at (4 ∷ key) (balance_changes x) +ℤ z) (balance_append key xs ys)
-    ∙ regroup (changed_at (4 ∷ key) (balance_changes x)) (balance_by key xs) (balance_by key ys)
-  where
-    regroup : (a b c : ℤ) → a +ℤ (b +ℤ c) ≡ (a +ℤ b) +ℤ c
-    regroup a b c = omega (arith, ints)
-
-owned_append : (own : List ℕ → Bool) (key : List ℕ) (xs ys : List Entry) → owned_by own key (xs ++ ys) ≡ owned_by own key xs +ℤ owned_by own key ys
-owned_append own key [] ys = none (owned_by own key ys)
-  where
-    none : (z : ℤ) → z ≡ pos 0 +ℤ z
-    none z = omega (arith, ints)
-owned_append own key (x ∷ xs) ys =
-    ap (λ (z : ℤ). changed_at key (own_changes own x) +ℤ z) (owned_append own key xs ys)
-    ∙ regroup (changed_at key (own_changes own x)) (owned_by own key xs) (owned_by own key ys)
-  where
-    regroup : (a b c : ℤ) → a +ℤ (b +ℤ c) ≡ (a +ℤ b) +ℤ c
-    regroup a b c = omega (arith, ints)
-
 pub both_add : {own : List ℕ → Bool} {key : List ℕ} {xs ys : List Entry} {a b c d : ℤ} → Adds own key xs a b → Adds own key ys c d → Adds own key (xs ++ ys) (a +ℤ c) (b +ℤ d)
 both_add {own} {key} {xs} {ys} h k =
     record {
-      to_balance = balance_append key xs ys ∙ ap₂ (λ (x y : ℤ). x +ℤ y) h.to_balance k.to_balance;
-      to_owned = owned_append own key xs ys ∙ ap₂ (λ (x y : ℤ). x +ℤ y) h.to_owned k.to_owned;
+      to_balance = among_summed balance_changes (4 ∷ key) xs ys ∙ ap₂ (λ (x y : ℤ). x +ℤ y) h.to_balance k.to_balance;
+      to_owned = among_summed (own_changes own) key xs ys ∙ ap₂ (λ (x y : ℤ). x +ℤ y) h.to_owned k.to_owned;
     }
 
 pub both_same : {own : List ℕ → Bool} {key : List ℕ} {xs ys : List Entry} → AddsSame own key xs → AddsSame own key ys → AddsSame own key (xs ++ ys)
-both_same {own} {key} {xs} {ys} h k = record { same = balance_append key xs ys ∙ ap₂ (λ (x y : ℤ). x +ℤ y) h.same k.same ∙ sym (owned_append own key xs ys) }
+both_same {own} {key} {xs} {ys} h k = record { same = among_summed balance_changes (4 ∷ key) xs ys ∙ ap₂ (λ (x y : ℤ). x +ℤ y) h.same k.same ∙ sym (among_summed (own_changes own) key xs ys) }
 
 pub comes_same : {own : List ℕ → Bool} {key : List ℕ} {es : List Entry} {a b : ℤ} → Adds own key es a b → a ≡ b → AddsSame own key es
 comes_same h e = record { same = h.to_balance ∙ e ∙ sym h.to_owned }
