@@ -44,7 +44,7 @@ record IsEndedOnce (rs : List Record) (s : CoreState) : Type 0 where
   holds : HoldsWell s
   once : (token : List ℕ) → ends_left s.holdings.txns token + times (ends_txn token) (history_of rs).rows ≤ 1
 
-longer : (rs : List Record) (r : Record) → history_of (rs ++ r ∷ []) ≡ (step history_keeper (history_of rs) r).world
+pub longer : (rs : List Record) (r : Record) → history_of (rs ++ r ∷ []) ≡ (step history_keeper (history_of rs) r).world
 longer rs r = fold-append (λ (h : History) (x : Record). (step history_keeper h x).world) nothing_yet rs (r ∷ [])
 
 once_more : (rs : List Record) (r : Record) (token : List ℕ) → IsNewEvent (core_of rs) r.input → IsEndedOnce rs (core_of rs)

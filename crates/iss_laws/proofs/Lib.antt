@@ -5,3 +5,4 @@ pub mod Rows
 pub mod HoldsWell
 pub mod OwnPieces
 pub mod OwnInputs
+pub mod OwnBalances
