@@ -113,11 +113,11 @@ not_live : (o : Option TxnNow) → o ≡ None → is_some_with (λ t. t.live) o 
 not_live None e = refl
 not_live (Some t) e = cc
 
-begun_keeps : (known : Known) (s : CoreState) (ask : Ask) → IsWellAmong known (docket_of s) → IsHeldWell s → txn_named ask.txn.token s.holdings.txns ≡ None
+begun_keeps : (known : Known) (s : CoreState) (ask : Ask) → ask.txn.at ≤ s.now → IsWellAmong known (docket_of s) → IsHeldWell s → txn_named ask.txn.token s.holdings.txns ≡ None
     → AllKeepHeld s (authorization_entries (core_facts s) (Some ask))
-begun_keeps known s ask well held none =
+begun_keeps known s ask early well held none =
     let dead : has_live s.holdings.txns ask.txn.token ≡ false = not_live (txn_named ask.txn.token s.holdings.txns) none in
-    (tt, (tt, funding_keeps _ (core_facts s) ask (record {
+    (early, (tt, funding_keeps _ (core_facts s) ask (record {
       its = λ p. ap (is_some_with (λ (t : TxnNow). is_part_of p t.txn.funding)) (begun_stands s.holdings.txns ask.txn none);
       may = record {
         its_live = begun_live s.holdings.txns ask.txn none;
@@ -126,26 +126,32 @@ begun_keeps known s ask well held none =
       nothing = λ first p. begun_sum s.holdings.parts ask.txn _ ∙ held.ended ask.txn.token dead p;
     })))
 
--- an ask of an authorisation is for a transaction of its own token
+-- an ask of an authorisation is for a transaction of its own token and stamp
 token_of_begun : (f : Facts) (token : List ℕ) (currency : Currency) (amount mcc : ℕ) (mid : List ℕ) (at : ℕ) (c : Card) (product : Option Product) (x : Ask)
-    → option_map (first_ask token amount at) (option_map (λ product. txn_begun f c product token currency mcc mid at) product) ≡ Some x → x.txn.token ≡ token
+    → option_map (first_ask token amount at) (option_map (λ product. txn_begun f c product token currency mcc mid at) product) ≡ Some x → (x.txn.token ≡ token) × (x.txn.at ≡ at)
 token_of_begun f token currency amount mcc mid at c None x e = cc
-token_of_begun f token currency amount mcc mid at c (Some product) x e = ap (λ (x : Ask). x.txn.token) (sym (inside e))
+token_of_begun f token currency amount mcc mid at c (Some product) x e = (ap (λ (x : Ask). x.txn.token) (sym (inside e)), ap (λ (x : Ask). x.txn.at) (sym (inside e)))
 
 token_of_ask : (f : Facts) (token : List ℕ) (currency : Currency) (amount mcc : ℕ) (mid : List ℕ) (at : ℕ) (card : Option Card) (x : Ask)
     → option_map (first_ask token amount at) (option_and_then (λ c. option_map (λ product. txn_begun f c product token currency mcc mid at) (product_named c.product f.products)) card) ≡ Some x
-    → x.txn.token ≡ token
+    → (x.txn.token ≡ token) × (x.txn.at ≡ at)
 token_of_ask f token currency amount mcc mid at None x e = cc
 token_of_ask f token currency amount mcc mid at (Some c) x e = token_of_begun f token currency amount mcc mid at c (product_named c.product f.products) x e
 
 pub authorization_token : (f : Facts) (token card : List ℕ) (currency : Currency) (amount mcc : ℕ) (mid : List ℕ) (at : ℕ) (x : Ask)
     → authorization_ask f token card currency amount mcc mid at ≡ Some x → x.txn.token ≡ token
-authorization_token f token card currency amount mcc mid at = token_of_ask f token currency amount mcc mid at (card_named card f.cards)
+authorization_token f token card currency amount mcc mid at x e = (token_of_ask f token currency amount mcc mid at (card_named card f.cards) x e).0
 
-authorized_keeps : (known : Known) (s : CoreState) (token : List ℕ) (ask : Option Ask) → IsWellAmong known (docket_of s) → IsHeldWell s → txn_named token s.holdings.txns ≡ None
-    → ((x : Ask) → ask ≡ Some x → x.txn.token ≡ token) → AllKeepHeld s (authorization_entries (core_facts s) ask)
-authorized_keeps known s token None well held none its = tt
-authorized_keeps known s token (Some x) well held none its = begun_keeps known s x well held (ap (λ (k : List ℕ). txn_named k s.holdings.txns) (its x refl) ∙ none)
+pub authorization_stamp : (f : Facts) (token card : List ℕ) (currency : Currency) (amount mcc : ℕ) (mid : List ℕ) (at : ℕ) (x : Ask)
+    → authorization_ask f token card currency amount mcc mid at ≡ Some x → x.txn.at ≡ at
+authorization_stamp f token card currency amount mcc mid at x e = (token_of_ask f token currency amount mcc mid at (card_named card f.cards) x e).1
+
+authorized_keeps : (known : Known) (s : CoreState) (token : List ℕ) (at : ℕ) (ask : Option Ask) → at ≤ s.now → IsWellAmong known (docket_of s) → IsHeldWell s
+    → txn_named token s.holdings.txns ≡ None
+    → ((x : Ask) → ask ≡ Some x → x.txn.token ≡ token) → ((x : Ask) → ask ≡ Some x → x.txn.at ≡ at) → AllKeepHeld s (authorization_entries (core_facts s) ask)
+authorized_keeps known s token at None early well held none its stamp = tt
+authorized_keeps known s token at (Some x) early well held none its stamp =
+    begun_keeps known s x (subst (λ (n : ℕ). n ≤ s.now) (sym (stamp x refl)) early) well held (ap (λ (k : List ℕ). txn_named k s.holdings.txns) (its x refl) ∙ none)
 
 -- an increment ----
 
@@ -276,37 +282,37 @@ acknowledged_keeps s notice false = tt
 pub unnamed : (s : CoreState) (i : Input) (event : List ℕ) → HasTakenUp s i → event_token i ≡ Some event → txn_named event s.holdings.txns ≡ None
 unnamed s i event ready e = not_some (txn_named event s.holdings.txns) (λ h. not_both (ready.before.events event) (ready.well.txns.events event h) (ready.unknown event e))
 
--- what an input's entries need where its record was taken up
-abbrev KeepsWhereReady : CoreState → Input → List Entry → Type 0
-KeepsWhereReady s i es = HasTakenUp s i → IsHeldWell s → AllKeepHeld s es
+-- what an input's entries need where its record was taken up, by its stamp
+abbrev KeepsWhereReady : CoreState → ℕ → Input → List Entry → Type 0
+KeepsWhereReady s at i es = at ≤ s.now → HasTakenUp s i → IsHeldWell s → AllKeepHeld s es
 
-each_kind : (s : CoreState) (at : ℕ) → EachKind (KeepsWhereReady s) (core_facts s) at
+each_kind : (s : CoreState) (at : ℕ) → EachKind (KeepsWhereReady s at) (core_facts s) at
 each_kind s at =
     let f : Facts = core_facts s in
     record {
-      setting = λ i token why e its ready held. unless_keeps s why token (setting_entries i token) (λ none. (tt, (tt, tt)));
-      load = λ token user currency amount ready held. unless_keeps s (load_reason f user) token (load_entries token user currency amount) (λ none. (tt, (tt, tt)));
-      authorization = λ token card currency amount mcc mid ready held.
+      setting = λ i token why e its early ready held. unless_keeps s why token (setting_entries i token) (λ none. (tt, (tt, tt)));
+      load = λ token user currency amount early ready held. unless_keeps s (load_reason f user) token (load_entries token user currency amount) (λ none. (tt, (tt, tt)));
+      authorization = λ token card currency amount mcc mid early ready held.
           let ask : Option Ask = authorization_ask f token card currency amount mcc mid at in
           unless_keeps s (authorization_reason f card currency ask) token (authorization_entries f ask)
-          (λ none. authorized_keeps ready.before s token ask ready.well held (unnamed s (input.Authorization token card currency amount mcc mid) token ready refl)
-          (authorization_token f token card currency amount mcc mid at));
-      increment = λ token txn currency amount ready held.
+          (λ none. authorized_keeps ready.before s token at ask early ready.well held (unnamed s (input.Authorization token card currency amount mcc mid) token ready refl)
+          (authorization_token f token card currency amount mcc mid at) (authorization_stamp f token card currency amount mcc mid at));
+      increment = λ token txn currency amount early ready held.
           let ask : Option Ask = increment_ask f token txn amount at in
           unless_keeps s (increment_reason f (txn_in f txn) currency ask) token (increment_entries f ask)
           (raised_keeps s token txn currency amount at (txn_named txn s.holdings.txns) refl);
-      reversal = λ token txn currency amount ready held.
+      reversal = λ token txn currency amount early ready held.
           unless_keeps s (reversal_reason (txn_in f txn) currency) token (reversal_entries f token amount (txn_in f txn)) (λ none. reversed_keeps s token amount (txn_in f txn) held);
-      clearing = λ token txn currency amount last ready held.
+      clearing = λ token txn currency amount last early ready held.
           unless_keeps s (clearing_reason (txn_in f txn) currency) token (clearing_entries f token amount last at (txn_in f txn)) (λ none. cleared_keeps s token amount last at (txn_in f txn) held);
-      refund = λ token txn currency amount ready held.
+      refund = λ token txn currency amount early ready held.
           unless_keeps s (refund_reason f (txn_in f txn) currency amount) token (refund_entries f token amount (txn_in f txn))
           (λ none. calm_keep s (refund_entries f token amount (txn_in f txn)) (refunded_calm f token amount (txn_in f txn)));
-      answer = λ call what ready held.
+      answer = λ call what early ready held.
           asked_keeps ready.before s (λ (o : Opened) (t : Txn). outcome_entries what (core_facts s) o t at) call.0 (outcome_keeps what s (core_facts s) at) ready.well held;
-      acknowledgement = λ notice ready held. acknowledged_keeps s notice (is_notice f notice);
-      time = λ ready held. tt;
+      acknowledgement = λ notice early ready held. acknowledged_keeps s notice (is_notice f notice);
+      time = λ early ready held. tt;
     }
 
-pub own_keeps : (s : CoreState) (i : Input) (at : ℕ) → HasTakenUp s i → IsHeldWell s → AllKeepHeld s (entries_of i at (core_facts s))
+pub own_keeps : (s : CoreState) (i : Input) (at : ℕ) → at ≤ s.now → HasTakenUp s i → IsHeldWell s → AllKeepHeld s (entries_of i at (core_facts s))
 own_keeps s i at = walk (each_kind s at) i

@@ -27,14 +27,15 @@ use Rattle.iss_holdings.specs.Holdings.{HoldsNothing, IsHeldWell, ended_times, e
 use Rattle.iss_holdings.proofs.Changes.{entries_held}
 use Rattle.iss_holdings.proofs.Ends.{ended_append, entries_left}
 use Rattle.iss_holdings.proofs.Inputs.{own_keeps, thing_keeps}
+use Rattle.iss_holdings.proofs.Times.{stamp_by_now}
 
 -- a due thing or a record's own entries ----
 
 pub thing_held : (s : CoreState) (i : Input) (item : DueItem) (at : ℕ) → HasTakenUp s i → IsHeldWell s → IsHeldWell (fold after_entry s (thing_entries item.thing at (core_facts s)))
 thing_held s i item at ready held = entries_held s (thing_entries item.thing at (core_facts s)) (thing_keeps ready.before s item.thing at ready.well held) held
 
-pub own_held : (s : CoreState) (i : Input) (at : ℕ) → HasTakenUp s i → IsHeldWell s → IsHeldWell (fold after_entry s (entries_of i at (core_facts s)))
-own_held s i at ready held = entries_held s (entries_of i at (core_facts s)) (own_keeps s i at ready held) held
+pub own_held : (s : CoreState) (i : Input) (at : ℕ) → at ≤ s.now → HasTakenUp s i → IsHeldWell s → IsHeldWell (fold after_entry s (entries_of i at (core_facts s)))
+own_held s i at early ready held = entries_held s (entries_of i at (core_facts s)) (own_keeps s i at early ready held) held
 
 -- all that is due ----
 
@@ -80,7 +81,7 @@ pub step_held : (s : CoreState) (r : Record) → IsNewEvent s r.input → IsWell
 unfolding step
 step_held s r new well held =
     let sweep = after_sweep s r new well held in
-    own_held (after_due core_keeper (with_record s r) r.at).world r.input r.at sweep.ready sweep.held
+    own_held (after_due core_keeper (with_record s r) r.at).world r.input r.at (stamp_by_now s r) sweep.ready sweep.held
 
 -- a step ends a transaction only where it may still end
 pub step_left : (s : CoreState) (r : Record) (token : List ℕ) → IsNewEvent s r.input → IsWell s → IsHeldWell s

@@ -1,5 +1,5 @@
 -- What transactions hold in every state: no part is below 0, and who has ended or isn't decided yet holds nothing.
-use Rattle.std.specs.Prelude.{◌≡◌, ℕ, suc, ℤ, pos, negsuc, ◌≤ℤ◌, ◌+◌, ◌≤◌, Bool, true, false, not, List, [], ◌∷◌, if◌then◌else◌}
+use Rattle.std.specs.Prelude.{◌≡◌, ℕ, suc, ℤ, pos, negsuc, ◌≤ℤ◌, ◌+◌, ◌≤◌, Bool, true, false, not, List, [], ◌∷◌, Some, if◌then◌else◌}
 use Rattle.iss_model.specs.declared.account.Part.{Part}
 use Rattle.iss_model.specs.declared.account.Part.TheVariants as part
 use Rattle.iss_model.specs.declared.entry.Entry.{Entry}
@@ -57,13 +57,18 @@ MayChange s txn p (pos n) = MayHold (docket_of s) txn × (may_have s.holdings.tx
 MayChange s txn p (negsuc n) = pos (suc n) ≤ℤ part_sum s.holdings.parts txn p
 
 -- What an entry needs so that transactions go on holding well: who ends holds nothing, and neither does a transaction whose authorisation is
--- asked for; a call is for a transaction that the gateway pays.
+-- asked for; a call is for a transaction that the gateway pays, and a transaction begins by now.
 abbrev pub KeepsHeld : CoreState → Entry → Type 0
 KeepsHeld s (entry.Hold txn user currency p amount) = MayChange s txn p amount
 KeepsHeld s (entry.Ended txn) = HoldsNothing s.holdings.parts txn
 KeepsHeld s (entry.Opened o) =
     (is_authorization o.method ≡ true → HoldsNothing s.holdings.parts o.txn) × (may_have s.holdings.txns o.txn part.G ≡ true)
+KeepsHeld s (entry.Began t) = t.at ≤ s.now
 KeepsHeld s _ = Unit {0}
+
+-- transactions began by now
+abbrev pub BegunBy : ℕ → List TxnNow → Type 0
+BegunBy now txns = (token : List ℕ) (t : TxnNow) → txn_named token txns ≡ Some t → t.txn.at ≤ now
 
 -- each entry finds what it needs behind those before it
 abbrev pub AllKeepHeld : CoreState → List Entry → Type 0

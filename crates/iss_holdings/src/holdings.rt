@@ -23,7 +23,7 @@ pub fn holdings_are_well()
 pub fn entries_keep_holdings()
     ensures due { (s : CoreState) → (i : Input) → (thing : DueThing) → (at : ℕ) → HasTakenUp s i → IsHeldWell s
         → AllKeepHeld s (thing_entries thing at (core_facts s)) }
-    ensures own { (s : CoreState) → (i : Input) → (at : ℕ) → HasTakenUp s i → IsHeldWell s
+    ensures own { (s : CoreState) → (i : Input) → (at : ℕ) → at ≤ s.now → HasTakenUp s i → IsHeldWell s
         → AllKeepHeld s (entries_of i at (core_facts s)) }
 {}
 
