@@ -137,12 +137,12 @@ then_calm s xs ys token amounts first calm = then_leaves s xs ys token amounts a
 -- letting go ----
 
 -- parts without an amount of one of them
-abbrev without : Part → ℕ → Parts → Parts
+abbrev pub without : Part → ℕ → Parts → Parts
 without part.G n x = record { g = x.g - n; p = x.p; s = x.s }
 without part.P n x = record { g = x.g; p = x.p - n; s = x.s }
 without part.S n x = record { g = x.g; p = x.p; s = x.s - n }
 
-abbrev amount_of : Part → Parts → ℕ
+abbrev pub amount_of : Part → Parts → ℕ
 amount_of part.G x = x.g
 amount_of part.P x = x.p
 amount_of part.S x = x.s
@@ -182,7 +182,7 @@ let_go_just parts token part.S n x le just =
       of_user = changed_here parts (part_key token part.S) (part_key token part.S) (neg_ℤ (pos n)) (its_name token) ∙ less_there (part_sum parts token part.S) x.s n le just.of_user;
     }
 
-its_amount : (parts : Kept) (token : List ℕ) (p : Part) (x : Parts) → HoldsJust parts token x → part_sum parts token p ≡ pos (amount_of p x)
+pub its_amount : (parts : Kept) (token : List ℕ) (p : Part) (x : Parts) → HoldsJust parts token x → part_sum parts token p ≡ pos (amount_of p x)
 its_amount parts token part.G x just = just.of_gateway
 its_amount parts token part.P x just = just.of_programme
 its_amount parts token part.S x just = just.of_user

@@ -29,7 +29,7 @@ use Rattle.iss_pending.proofs.Legal.{nothing_well}
 use Rattle.iss_pending.proofs.Steps.{step_well}
 use Rattle.iss_holdings.specs.Holdings.{HoldsNothing, IsHeldWell, ended_times, ends_left, part_sum}
 use Rattle.iss_holdings.proofs.Steps.{HoldsWell, nothing_held, step_held, step_left}
-use Rattle.iss_laws.specs.Holds.{is_held_well, parts_and_ends, parts_of}
+use Rattle.iss_laws.specs.Holds.{is_held_on, parts_and_ends, parts_of}
 use Rattle.iss_laws.specs.Tests.{not_negative, times}
 use Rattle.iss_laws.proofs.Rows.{step_counted, times_among}
 
@@ -90,7 +90,7 @@ all_named Q (t ∷ ts) own each =
 
 -- the law of one transaction ----
 
-is_not_negative : (z : ℤ) → pos 0 ≤ℤ z → not_negative z ≡ true
+pub is_not_negative : (z : ℤ) → pos 0 ≤ℤ z → not_negative z ≡ true
 is_not_negative (pos n) h = none_less n
   where
     none_less : (n : ℕ) → nat_le 0 n ≡ true
@@ -105,13 +105,6 @@ is_zero z e = (Decides-int_eq z (pos 0)).1 e
 
 three : (a b c : Bool) → a ≡ true → b ≡ true → c ≡ true → (a && (b && (c && true))) ≡ true
 three a b c h k l = rw (h, k, l) refl
-
--- on given facts and rows
-abbrev is_held_on : Facts → List Row → TxnNow → Bool
-is_held_on f rows now =
-    list_all not_negative (parts_of f now.txn.token)
-    && nat_le (times (ends_txn now.txn.token) rows) 1
-    && (now.live || list_all (λ part. int_eq part (pos 0)) (parts_of f now.txn.token))
 
 held_on : (s : CoreState) (rows : List Row) (now : TxnNow) → IsHeldWell s → ends_left s.holdings.txns now.txn.token + times (ends_txn now.txn.token) rows ≤ 1
     → txn_named now.txn.token s.holdings.txns ≡ Some now → is_held_on (core_facts s) rows now ≡ true

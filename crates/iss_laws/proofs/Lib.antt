@@ -6,3 +6,8 @@ pub mod HoldsWell
 pub mod OwnPieces
 pub mod OwnInputs
 pub mod OwnBalances
+pub mod Windows
+pub mod OpenUse
+pub mod OpenPieces
+pub mod OpenInputs
+pub mod UsesWell
