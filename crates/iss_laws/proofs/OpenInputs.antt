@@ -68,7 +68,7 @@ settled k counting s n c t how told es knows same now free h =
     (both_within k s (closed ++ told) es (neg_ℤ (pos amount) +ℤ pos 0) (pos amount)
     (both_within k s closed told (neg_ℤ (pos amount)) (pos 0) (close_within k counting s n c t how knows same now) (free_pays k counting (fold after_entry s closed) told free)) h)
   where
-    even : (n : ℕ) → (neg_ℤ (pos n) +ℤ pos 0) +ℤ pos n ≤ℤ pos 0
+    even : (n : ℕ) → ((neg_ℤ (pos n) +ℤ pos 0) +ℤ pos n) ≤ℤ pos 0
     even n = omega (arith, ints)
 
 failed_uses : (k : Counting) → IsCounting k → (s : CoreState) (f : Facts) (why : Failure) (at : ℕ) → SettlesUse k (λ o t. failed_call_entries f o t why at) s

@@ -56,7 +56,7 @@ knows_after s es t same knows = subst (λ (txns : List TxnNow). Knows txns t) (s
 pub silent_txns : (s : CoreState) (es : List Entry) → AreSilent es → (fold after_entry s es).holdings.txns ≡ s.holdings.txns
 silent_txns s es h = ap (λ (d : Docket). d.txns) (comes_to s es [] h.none)
 
-silent_calls : (s : CoreState) (es : List Entry) → AreSilent es → (fold after_entry s es).calls ≡ s.calls
+pub silent_calls : (s : CoreState) (es : List Entry) → AreSilent es → (fold after_entry s es).calls ≡ s.calls
 silent_calls s es h = ap (λ (d : Docket). d.calls) (comes_to s es [] h.none)
 
 -- letting go ----
@@ -97,7 +97,7 @@ min_low a b = omega arith
 
 -- what a sum of three parts frees
 freed_in_all : (b : Bool) (x y z n : ℕ) → x + y + z ≡ n
-    → (((neg_ℤ (pos (cond b x 0)) +ℤ pos 0) +ℤ neg_ℤ (pos (cond b y 0))) +ℤ pos 0) +ℤ neg_ℤ (pos (cond b z 0)) ≤ℤ neg_ℤ (pos (cond b n 0))
+    → ((((neg_ℤ (pos (cond b x 0)) +ℤ pos 0) +ℤ neg_ℤ (pos (cond b y 0))) +ℤ pos 0) +ℤ neg_ℤ (pos (cond b z 0))) ≤ℤ neg_ℤ (pos (cond b n 0))
 freed_in_all true x y z n e = omega (arith, ints, e)
 freed_in_all false x y z n e = omega (arith, ints)
 
@@ -148,7 +148,7 @@ release_pays k counting s t x amount knows le just =
     (weaker k s (a ++ b ++ c ++ d ++ e) _ (neg_ℤ (pos (cond h amount 0))) (freed_in_all h taken.p taken.g taken.s amount (all_taken x.g x.p x.s amount le)) fifth.within)
     (returned_within k counting (fold after_entry s (a ++ b ++ c ++ d ++ e)) t amount))
   where
-    nothing : (n : ℕ) → neg_ℤ (pos n) +ℤ pos n ≤ℤ pos 0
+    nothing : (n : ℕ) → (neg_ℤ (pos n) +ℤ pos n) ≤ℤ pos 0
     nothing n = omega (arith, ints)
 
     all_taken : (g p s n : ℕ) → n ≤ g + p + s → min n p + min (n - min n p) g + min (n - min n p - min (n - min n p) g) s ≡ n
@@ -183,7 +183,7 @@ clearing_pays k counting s t x amount at knows just =
     (free_pays k counting (fold after_entry s (a ++ b ++ c ++ d)) e (post_free t (user_account t) (account.Network t.currency) amount)))
     (more_used (fold after_entry s (a ++ b ++ c ++ d ++ e)) excess)
   where
-    less : (x y z : ℕ) → (neg_ℤ (pos x) +ℤ neg_ℤ (pos y)) +ℤ neg_ℤ (pos z) ≤ℤ pos 0
+    less : (x y z : ℕ) → ((neg_ℤ (pos x) +ℤ neg_ℤ (pos y)) +ℤ neg_ℤ (pos z)) ≤ℤ pos 0
     less x y z = omega (arith, ints)
 
     counted : (c m : Bool) (n : ℕ) → neg_ℤ (cond c (cond m (pos n) (pos 0)) (pos 0)) ≤ℤ pos 0
@@ -236,7 +236,7 @@ given_back_within k counting s ask =
     (given_back (k.counts_at ask.txn ask.at) (k.counts_at ask.txn ask.txn.at) k.by_amount ask.is_first ask.amount)
     (usage_within k counting s ask.txn (neg_ℤ (pos ask.amount)) (neg_ℤ (cond ask.is_first (pos 1) (pos 0))) ask.at)
 
-even_out : (n : ℕ) → ((neg_ℤ (pos n) +ℤ pos 0) +ℤ pos n) +ℤ pos 0 ≤ℤ pos 0
+even_out : (n : ℕ) → (((neg_ℤ (pos n) +ℤ pos 0) +ℤ pos n) +ℤ pos 0) ≤ℤ pos 0
 even_out n = omega (arith, ints)
 
 pub abandoned_pays : (k : Counting) → IsCounting k → (s : CoreState) (number : ℕ) (t : Txn) (why : Reason) (cs : List CallNow) (n : ℕ) → NumbersGrowFrom n cs → Each (AsksItself s.calls) cs
@@ -326,10 +326,10 @@ hold_for : (k : Counting) → IsCounting k → (s : CoreState) (ask : Ask) (p : 
 hold_for k counting s ask p knows =
     weaker k s (hold_entries ask.txn p ask.amount) (pos (cond (holds_there k ask.txn) ask.amount 0)) (pos (opens k ask)) (held_for k ask) (hold_within k counting s ask.txn p ask.amount knows)
 
-none_first : (n : ℕ) → pos 0 +ℤ pos n ≤ℤ pos n
+none_first : (n : ℕ) → (pos 0 +ℤ pos n) ≤ℤ pos n
 none_first n = omega (arith, ints)
 
-none_last : (n : ℕ) → pos n +ℤ pos 0 ≤ℤ pos n
+none_last : (n : ℕ) → (pos n +ℤ pos 0) ≤ℤ pos n
 none_last n = omega (arith, ints)
 
 -- free entries before, and behind
@@ -400,7 +400,7 @@ funding_within k counting s f ask knows = by (is_account_funded ask.txn.funding)
     by false = gateway_within k counting s (product_named ask.txn.product f.products) f ask knows
 
 -- use is counted with an ask, where its stamp counts if its transaction's does
-asked_enough : (x y m f : Bool) (n : ℕ) → (y ≡ true → x ≡ true) → neg_ℤ (cond x (cond m (pos n) (cond f (pos 1) (pos 0))) (pos 0)) +ℤ pos (cond (x || y) (cond m n (cond f 1 0)) 0) ≤ℤ pos 0
+asked_enough : (x y m f : Bool) (n : ℕ) → (y ≡ true → x ≡ true) → (neg_ℤ (cond x (cond m (pos n) (cond f (pos 1) (pos 0))) (pos 0)) +ℤ pos (cond (x || y) (cond m n (cond f 1 0)) 0)) ≤ℤ pos 0
 asked_enough true y true f n h = omega (arith, ints)
 asked_enough true y false true n h = omega (arith, ints)
 asked_enough true y false false n h = omega (arith, ints)

@@ -108,7 +108,7 @@ step_opened s r k last early new well held begun counting on by_last =
     itself n = omega (arith, ints)
 
 -- nothing is counted
-no_counting : Counting
+abbrev no_counting : Counting
 no_counting = record { changes = λ e. []; key = []; counts_at = λ t at. false; by_amount = true }
 
 step_begun : (s : CoreState) (r : Record) → IsNewEvent s r.input → IsWell s → IsHeldWell s → BegunBy s.now s.holdings.txns → BegunBy (step core_keeper s r).world.now (step core_keeper s r).world.holdings.txns
