@@ -1,3 +1,13 @@
 pub mod Posts
 pub mod BalanceSums
 pub mod EventsDecided
+pub mod Rows
+pub mod HoldsWell
+pub mod OwnPieces
+pub mod OwnInputs
+pub mod OwnBalances
+pub mod Windows
+pub mod OpenUse
+pub mod OpenPieces
+pub mod OpenInputs
+pub mod UsesWell

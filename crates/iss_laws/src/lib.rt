@@ -7,7 +7,11 @@
 mod balances;
 mod books;
 mod events;
+mod holds;
+mod uses;
 
-pub use balances::balances_add_up;
+pub use balances::{balances_add_up, balances_are_owned};
 pub use books::laws_of_worked_books;
 pub use events::events_are_decided;
+pub use holds::holds_are_well;
+pub use uses::uses_are_well;

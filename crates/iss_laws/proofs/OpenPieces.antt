@@ -1,0 +1,418 @@
+-- The pieces of a step open no more use than they count.
+use Rattle.std.proofs.Common.{◌≡◌, ℕ, ℤ, pos, neg_ℤ, ◌+ℤ◌, ◌+◌, ◌-◌, ◌≤◌, min, Bool, true, false, not, cond, ◌&&◌, ◌||◌, nat_eq, List, [], ◌∷◌, ◌++◌, map, filter, fold, refl, sym, ap, ap₂, subst, ◌∙◌, arith}
+use Rattle.std.proofs.lemmas.Int.{ints}
+use Rattle.std.proofs.lemmas.Bool.Decides.{nat_tests}
+use Rattle.std.specs.Prelude.{◌≤ℤ◌, Option, Some, None}
+use Rattle.std.specs.Str.{bytes_eq}
+use Rattle.iss_model.specs.declared.account.Account.{Account}
+use Rattle.iss_model.specs.declared.account.Account.TheVariants as account
+use Rattle.iss_model.specs.declared.account.Part.{Part}
+use Rattle.iss_model.specs.declared.account.Part.TheVariants as part
+use Rattle.iss_model.specs.declared.call.Failure.{Failure}
+use Rattle.iss_model.specs.declared.call.Failure.TheVariants as failure
+use Rattle.iss_model.specs.declared.call.How.{How}
+use Rattle.iss_model.specs.declared.call.How.TheVariants as how
+use Rattle.iss_model.specs.declared.call.Method.TheVariants as method
+use Rattle.iss_model.specs.declared.call.Opened.{Opened}
+use Rattle.iss_model.specs.declared.decision.Reason.{Reason}
+use Rattle.iss_model.specs.declared.decision.Reason.TheVariants as reason
+use Rattle.iss_model.specs.declared.decision.Verdict.TheVariants as verdict
+use Rattle.iss_model.specs.declared.entry.Entry.{Entry}
+use Rattle.iss_model.specs.declared.entry.Entry.TheVariants as entry
+use Rattle.iss_model.specs.declared.setting.Product.{Product}
+use Rattle.iss_model.specs.declared.txn.Txn.{Txn}
+use Rattle.iss_model.specs.rules.Activity.{TxnNow, CallNow, is_asked, txn_named}
+use Rattle.iss_model.specs.rules.Asks.{Ask, ask_given_back, ask_usage, call_ask, is_authorization, usage_of}
+use Rattle.iss_model.specs.rules.CardEntries.{call_for, clearing_money_entries, funding_entries, gateway_ask_entries}
+use Rattle.iss_model.specs.rules.CardReasons.{is_account_funded}
+use Rattle.iss_model.specs.rules.Facts.{Facts, asked_calls_of, next_notice, not_below}
+use Rattle.iss_model.specs.rules.Pieces.{Parts, abandoned_call_entries, abandoned_calls_entries, declined_ask_entries, end_entries, failure_reason, funded_ask_entries, hold_entries, in_all, left_of, notice_entry, only_gateway, only_where, post_entries, release_entries, stand_entries, stand_in_entries, taken_to_clear, taken_to_release, unhold_entries, use_return_entries, user_account, void_entry}
+use Rattle.iss_model.specs.rules.Settings.{is_named_in, product_named}
+use Rattle.iss_model.specs.rules.StandIns.{Stand, allowed, over_limit, stand, uncovered}
+use Rattle.iss_model.specs.state.Cores.{CoreState, after_entry, call_after_close, core_facts}
+use Rattle.iss_model.proofs.Names.{one_name}
+use Rattle.iss_effects.specs.Stakes.{part_held}
+use Rattle.iss_invariants.specs.Numbers.{CallsNumberedFrom}
+use Rattle.iss_invariants.proofs.Passing.{EachPasses, both_pass, either_passes, gateway_passes, one_passes, passing, where_passes}
+use Rattle.iss_docket.specs.Dockets.{Docket, docket_of}
+use Rattle.iss_docket.specs.Well.{IsAsked}
+use Rattle.iss_docket.proofs.Abandoning.{asked_in, closings_txns}
+use Rattle.iss_docket.proofs.Closing.{NumbersGrowFrom, StandsItself, all_stand, asked_after, filtered_grow}
+use Rattle.iss_docket.proofs.Docketed.{AreSilent, abandoned_docketed, both_silent, clearing_silent, post_silent, release_silent, silent, where_silent, gateway_silent}
+use Rattle.iss_docket.proofs.Lists.{Each}
+use Rattle.iss_pending.proofs.Staying.{comes_to}
+use Rattle.iss_holdings.proofs.Pieces.{AreCalm, HoldsJust, Leaves, abandoned_calm, amount_of, calm_leaves, its_amount, let_go, post_calm, release_leaves, clearing_leaves, then_calm, then_leaves, without}
+use Rattle.iss_laws.proofs.OpenUse.{Counting, IsCounting, Knows, Pays, Within, ask_weight, both_pay, both_within, close_within, free_pays, hold_within, holds_there, is_free, open_within, opens, reaches, unhold_within, usage_within, weaker}
+
+-- entries without anything to count ----
+
+post_free : (t : Txn) (from to : Account) (n : ℕ) → EachPasses is_free (post_entries t from to n)
+post_free t from to n = where_passes n (one_passes refl)
+
+-- a transaction is known where the docket is the same
+pub knows_after : (s : CoreState) (es : List Entry) (t : Txn) → (fold after_entry s es).holdings.txns ≡ s.holdings.txns → Knows s.holdings.txns t → Knows (fold after_entry s es).holdings.txns t
+knows_after s es t same knows = subst (λ (txns : List TxnNow). Knows txns t) (sym same) knows
+
+pub silent_txns : (s : CoreState) (es : List Entry) → AreSilent es → (fold after_entry s es).holdings.txns ≡ s.holdings.txns
+silent_txns s es h = ap (λ (d : Docket). d.txns) (comes_to s es [] h.none)
+
+pub silent_calls : (s : CoreState) (es : List Entry) → AreSilent es → (fold after_entry s es).calls ≡ s.calls
+silent_calls s es h = ap (λ (d : Docket). d.calls) (comes_to s es [] h.none)
+
+-- letting go ----
+
+-- entries that leave a transaction these parts, within a budget, and put nothing on the docket
+record Frees (k : Counting) (s : CoreState) (t : Txn) (es : List Entry) (x : Parts) (more : ℤ) : Type 0 where
+  leaves : Leaves s es t.token x
+  within : Within k s es more
+  quiet : AreSilent es
+
+frees_then : (k : Counting) (s : CoreState) (t : Txn) (xs ys : List Entry) (x y : Parts) (a b : ℤ) → Frees k s t xs x a → Frees k (fold after_entry s xs) t ys y b → Frees k s t (xs ++ ys) y (a +ℤ b)
+frees_then k s t xs ys x y a b h l =
+    record { leaves = then_leaves s xs ys t.token x y h.leaves l.leaves; within = both_within k s xs ys a b h.within l.within; quiet = both_silent h.quiet l.quiet }
+
+frees_post : (k : Counting) → IsCounting k → (s : CoreState) (t : Txn) (from to : Account) (n : ℕ) (x : Parts) → HoldsJust s.holdings.parts t.token x
+    → Frees k s t (post_entries t from to n) x (pos 0)
+frees_post k counting s t from to n x just =
+    record {
+      leaves = calm_leaves s (post_entries t from to n) t.token x (post_calm t from to n) just;
+      within = free_pays k counting s (post_entries t from to n) (post_free t from to n);
+      quiet = post_silent t from to n;
+    }
+
+held_amount : (s : CoreState) (t : Txn) (p : Part) (x : Parts) → HoldsJust s.holdings.parts t.token x → part_held s.holdings.parts t.token p ≡ amount_of p x
+held_amount s t p x just = ap not_below (its_amount s.holdings.parts t.token p x just)
+
+frees_part : (k : Counting) → IsCounting k → (s : CoreState) (t : Txn) (p : Part) (n : ℕ) (x : Parts) → Knows s.holdings.txns t → n ≤ amount_of p x → HoldsJust s.holdings.parts t.token x
+    → Frees k s t (unhold_entries t p n) (without p n x) (neg_ℤ (pos (cond (holds_there k t) n 0)))
+frees_part k counting s t p n x knows le just =
+    record {
+      leaves = let_go s t p n x le just;
+      within = unhold_within k counting s t p n knows (subst (λ (m : ℕ). n ≤ m) (sym (held_amount s t p x just)) le);
+      quiet = where_silent n (silent refl);
+    }
+
+min_low : (a b : ℕ) → min a b ≤ b
+min_low a b = omega arith
+
+-- what a sum of three parts frees
+freed_in_all : (b : Bool) (x y z n : ℕ) → x + y + z ≡ n
+    → ((((neg_ℤ (pos (cond b x 0)) +ℤ pos 0) +ℤ neg_ℤ (pos (cond b y 0))) +ℤ pos 0) +ℤ neg_ℤ (pos (cond b z 0))) ≤ℤ neg_ℤ (pos (cond b n 0))
+freed_in_all true x y z n e = omega (arith, ints, e)
+freed_in_all false x y z n e = omega (arith, ints)
+
+-- the use that is returned
+returned_within : (k : Counting) → IsCounting k → (s : CoreState) (t : Txn) (n : ℕ) → Within k s (use_return_entries t n) (pos (cond (holds_there k t) n 0))
+returned_within k counting s t n = by (nat_eq n 0)
+  where
+    given : (m c : Bool) (n : ℕ) → neg_ℤ (cond c (cond m (neg_ℤ (pos n)) (pos 0)) (pos 0)) ≤ℤ pos (cond (m && c) n 0)
+    given true true n = omega (arith, ints)
+    given true false n = omega (arith, ints)
+    given false true n = omega (arith, ints)
+    given false false n = omega (arith, ints)
+
+    by : (b : Bool) → Within k s (cond b [] (entry.Usage (usage_of t (neg_ℤ (pos n)) (pos 0) t.at) ∷ [])) (pos (cond (holds_there k t) n 0))
+    by true = weaker k s [] (pos 0) (pos (cond (holds_there k t) n 0)) (low (cond (holds_there k t) n 0)) (free_pays k counting s [] (passing refl))
+      where
+        low : (n : ℕ) → pos 0 ≤ℤ pos n
+        low n = omega (arith, ints)
+    by false =
+        weaker k s (entry.Usage (usage_of t (neg_ℤ (pos n)) (pos 0) t.at) ∷ []) (neg_ℤ (cond (k.counts_at t t.at) (cond k.by_amount (neg_ℤ (pos n)) (pos 0)) (pos 0))) (pos (cond (holds_there k t) n 0))
+        (given k.by_amount (k.counts_at t t.at) n) (usage_within k counting s t (neg_ℤ (pos n)) (pos 0) t.at)
+
+pub release_pays : (k : Counting) → IsCounting k → (s : CoreState) (t : Txn) (x : Parts) (amount : ℕ) → Knows s.holdings.txns t → amount ≤ in_all x → HoldsJust s.holdings.parts t.token x
+    → Pays k s (release_entries t x amount)
+release_pays k counting s t x amount knows le just =
+    let taken : Parts = taken_to_release x amount in
+    let h : Bool = holds_there k t in
+    let one : Parts = without part.P taken.p x in
+    let two : Parts = without part.G taken.g one in
+    let three : Parts = without part.S taken.s two in
+    let a : List Entry = unhold_entries t part.P taken.p in
+    let b : List Entry = post_entries t (user_account t) (account.Programme t.currency) taken.p in
+    let c : List Entry = unhold_entries t part.G taken.g in
+    let d : List Entry = post_entries t (user_account t) (account.Gateway t.currency) taken.g in
+    let e : List Entry = unhold_entries t part.S taken.s in
+    let first = frees_part k counting s t part.P taken.p x knows (min_low amount x.p) just in
+    let second = frees_then k s t a b one one _ _ first (frees_post k counting (fold after_entry s a) t (user_account t) (account.Programme t.currency) taken.p one first.leaves.just) in
+    let third = frees_then k s t (a ++ b) c one two _ _ second
+        (frees_part k counting (fold after_entry s (a ++ b)) t part.G taken.g one (knows_after s (a ++ b) t (silent_txns s (a ++ b) second.quiet) knows) (min_low (amount - taken.p) x.g) second.leaves.just)
+    in
+    let fourth = frees_then k s t (a ++ b ++ c) d two two _ _ third (frees_post k counting (fold after_entry s (a ++ b ++ c)) t (user_account t) (account.Gateway t.currency) taken.g two third.leaves.just) in
+    let fifth = frees_then k s t (a ++ b ++ c ++ d) e two three _ _ fourth
+        (frees_part k counting (fold after_entry s (a ++ b ++ c ++ d)) t part.S taken.s two (knows_after s (a ++ b ++ c ++ d) t (silent_txns s (a ++ b ++ c ++ d) fourth.quiet) knows)
+        (min_low (amount - taken.p - taken.g) x.s) fourth.leaves.just)
+    in
+    weaker k s (a ++ b ++ c ++ d ++ e ++ use_return_entries t amount) (neg_ℤ (pos (cond h amount 0)) +ℤ pos (cond h amount 0)) (pos 0) (nothing (cond h amount 0))
+    (both_within k s (a ++ b ++ c ++ d ++ e) (use_return_entries t amount) (neg_ℤ (pos (cond h amount 0))) (pos (cond h amount 0))
+    (weaker k s (a ++ b ++ c ++ d ++ e) _ (neg_ℤ (pos (cond h amount 0))) (freed_in_all h taken.p taken.g taken.s amount (all_taken x.g x.p x.s amount le)) fifth.within)
+    (returned_within k counting (fold after_entry s (a ++ b ++ c ++ d ++ e)) t amount))
+  where
+    nothing : (n : ℕ) → (neg_ℤ (pos n) +ℤ pos n) ≤ℤ pos 0
+    nothing n = omega (arith, ints)
+
+    all_taken : (g p s n : ℕ) → n ≤ g + p + s → min n p + min (n - min n p) g + min (n - min n p - min (n - min n p) g) s ≡ n
+    all_taken g p s n le = omega (arith, le)
+
+pub clearing_pays : (k : Counting) → IsCounting k → (s : CoreState) (t : Txn) (x : Parts) (amount at : ℕ) → Knows s.holdings.txns t → HoldsJust s.holdings.parts t.token x
+    → Pays k s (clearing_money_entries t (taken_to_clear x amount) amount at)
+clearing_pays k counting s t x amount at knows just =
+    let taken : Parts = taken_to_clear x amount in
+    let excess : ℕ = amount - in_all taken in
+    let h : Bool = holds_there k t in
+    let one : Parts = without part.G taken.g x in
+    let two : Parts = without part.P taken.p one in
+    let a : List Entry = unhold_entries t part.G taken.g in
+    let b : List Entry = unhold_entries t part.P taken.p in
+    let c : List Entry = unhold_entries t part.S taken.s in
+    let d : List Entry = only_gateway t (post_entries t (account.Programme t.currency) (user_account t) excess) in
+    let e : List Entry = post_entries t (user_account t) (account.Network t.currency) amount in
+    let u : List Entry = only_where excess (entry.Usage (usage_of t (pos excess) (pos 0) at) ∷ []) in
+    let first = frees_part k counting s t part.G taken.g x knows (min_low amount x.g) just in
+    let second = frees_then k s t a b one two _ _ first
+        (frees_part k counting (fold after_entry s a) t part.P taken.p one (knows_after s a t (silent_txns s a first.quiet) knows) (min_low (amount - taken.g) x.p) first.leaves.just)
+    in
+    let third = frees_then k s t (a ++ b) c two (without part.S taken.s two) _ _ second
+        (frees_part k counting (fold after_entry s (a ++ b)) t part.S taken.s two (knows_after s (a ++ b) t (silent_txns s (a ++ b) second.quiet) knows) (min_low (amount - taken.g - taken.p) x.s) second.leaves.just)
+    in
+    both_pay k s (a ++ b ++ c ++ d ++ e) u
+    (both_pay k s (a ++ b ++ c ++ d) e
+    (both_pay k s (a ++ b ++ c) d
+    (weaker k s (a ++ b ++ c) _ (pos 0) (less (cond h taken.g 0) (cond h taken.p 0) (cond h taken.s 0)) third.within)
+    (free_pays k counting (fold after_entry s (a ++ b ++ c)) d (gateway_passes t (post_free t (account.Programme t.currency) (user_account t) excess))))
+    (free_pays k counting (fold after_entry s (a ++ b ++ c ++ d)) e (post_free t (user_account t) (account.Network t.currency) amount)))
+    (more_used (fold after_entry s (a ++ b ++ c ++ d ++ e)) excess)
+  where
+    less : (x y z : ℕ) → ((neg_ℤ (pos x) +ℤ neg_ℤ (pos y)) +ℤ neg_ℤ (pos z)) ≤ℤ pos 0
+    less x y z = omega (arith, ints)
+
+    counted : (c m : Bool) (n : ℕ) → neg_ℤ (cond c (cond m (pos n) (pos 0)) (pos 0)) ≤ℤ pos 0
+    counted true true n = omega (arith, ints)
+    counted true false n = omega (arith, ints)
+    counted false m n = omega (arith, ints)
+
+    more_used : (q : CoreState) (n : ℕ) → Pays k q (only_where n (entry.Usage (usage_of t (pos n) (pos 0) at) ∷ []))
+    more_used q n = by (nat_eq n 0)
+      where
+        by : (b : Bool) → Pays k q (cond b [] (entry.Usage (usage_of t (pos n) (pos 0) at) ∷ []))
+        by true = free_pays k counting q [] (passing refl)
+        by false =
+            weaker k q (entry.Usage (usage_of t (pos n) (pos 0) at) ∷ []) (neg_ℤ (cond (k.counts_at t at) (cond k.by_amount (pos n) (pos 0)) (pos 0))) (pos 0)
+            (counted (k.counts_at t at) k.by_amount n) (usage_within k counting q t (pos n) (pos 0) at)
+
+-- calls are abandoned ----
+
+-- a call that is asked, by its own number
+abbrev pub AsksItself : List CallNow → CallNow → Type 0
+AsksItself calls c = IsAsked calls c.opened.call.0 c
+
+later_asked : (n : ℕ) (how : How) (calls : List CallNow) (m : ℕ) (cs : List CallNow) → n + 1 ≤ m → NumbersGrowFrom m cs → Each (AsksItself calls) cs
+    → Each (AsksItself (map (call_after_close n how) calls)) cs
+later_asked n how calls m [] less grow asked = tt
+later_asked n how calls m (c ∷ cs) less grow asked = (
+  asked_after calls n how c.opened.call.0 c asked.0 (differ n c.opened.call.0 m less grow.0),
+  later_asked n how calls (c.opened.call.0 + 1) cs (further n m c.opened.call.0 less grow.0) grow.1 asked.1,
+)
+  where
+    differ : (a b n : ℕ) → a + 1 ≤ n → n ≤ b → nat_eq a b ≡ false
+    differ a b n h k = grind (arith, nat_tests)
+
+    further : (a n b : ℕ) → a + 1 ≤ n → n ≤ b → a + 1 ≤ b + 1
+    further a n b h k = omega (arith, h, k)
+
+-- what is given back with a call or an ask is what it may open
+given_back : (c y m f : Bool) (n : ℕ) → neg_ℤ (cond c (cond m (neg_ℤ (pos n)) (neg_ℤ (cond f (pos 1) (pos 0)))) (pos 0)) ≤ℤ pos (cond (c || y) (cond m n (cond f 1 0)) 0)
+given_back true y true f n = omega (arith, ints)
+given_back true y false true n = omega (arith, ints)
+given_back true y false false n = omega (arith, ints)
+given_back false y m f n = low (cond y (cond m n (cond f 1 0)) 0)
+  where
+    low : (n : ℕ) → neg_ℤ (pos 0) ≤ℤ pos n
+    low n = omega (arith, ints)
+
+pub given_back_within : (k : Counting) → IsCounting k → (s : CoreState) (ask : Ask) → Within k s (entry.Usage (ask_given_back ask) ∷ []) (pos (opens k ask))
+given_back_within k counting s ask =
+    weaker k s (entry.Usage (ask_given_back ask) ∷ []) (neg_ℤ (cond (k.counts_at ask.txn ask.at) (cond k.by_amount (neg_ℤ (pos ask.amount)) (neg_ℤ (cond ask.is_first (pos 1) (pos 0)))) (pos 0))) (pos (opens k ask))
+    (given_back (k.counts_at ask.txn ask.at) (k.counts_at ask.txn ask.txn.at) k.by_amount ask.is_first ask.amount)
+    (usage_within k counting s ask.txn (neg_ℤ (pos ask.amount)) (neg_ℤ (cond ask.is_first (pos 1) (pos 0))) ask.at)
+
+even_out : (n : ℕ) → (((neg_ℤ (pos n) +ℤ pos 0) +ℤ pos n) +ℤ pos 0) ≤ℤ pos 0
+even_out n = omega (arith, ints)
+
+pub abandoned_pays : (k : Counting) → IsCounting k → (s : CoreState) (number : ℕ) (t : Txn) (why : Reason) (cs : List CallNow) (n : ℕ) → NumbersGrowFrom n cs → Each (AsksItself s.calls) cs
+    → Each (λ c. c.opened.txn ≡ t.token) cs → Knows s.holdings.txns t → Pays k s (abandoned_calls_entries number t why cs)
+abandoned_pays k counting s number t why [] n grow asked its knows = free_pays k counting s [] (passing refl)
+abandoned_pays k counting s number t why (c ∷ cs) n grow asked its knows =
+    let closed : List Entry = entry.Closed c.opened.call how.Abandoned ∷ [] in
+    let told : List Entry = void_entry number t c.opened ∷ [] in
+    let back : List Entry = entry.Usage (ask_given_back (call_ask c.opened t)) ∷ [] in
+    let decided : List Entry = entry.Decided c.opened.event (verdict.Declined why) ∷ [] in
+    let amount : ℕ = opens k (call_ask c.opened t) in
+    let first = close_within k counting s c.opened.call.0 c t how.Abandoned knows its.0 asked.0 in
+    let second = both_within k s closed told (neg_ℤ (pos amount)) (pos 0) first (free_pays k counting (fold after_entry s closed) told (one_passes refl)) in
+    let third = both_within k s (closed ++ told) back (neg_ℤ (pos amount) +ℤ pos 0) (pos amount) second (given_back_within k counting (fold after_entry s (closed ++ told)) (call_ask c.opened t)) in
+    let fourth = both_within k s (closed ++ told ++ back) decided ((neg_ℤ (pos amount) +ℤ pos 0) +ℤ pos amount) (pos 0) third (free_pays k counting (fold after_entry s (closed ++ told ++ back)) decided (one_passes refl)) in
+    both_pay k s (abandoned_call_entries number t why c.opened) (abandoned_calls_entries (number + 1) t why cs)
+    (weaker k s (abandoned_call_entries number t why c.opened) _ (pos 0) (even_out amount) fourth)
+    (abandoned_pays k counting (fold after_entry s (abandoned_call_entries number t why c.opened)) (number + 1) t why cs (c.opened.call.0 + 1) grow.1
+    (later_asked c.opened.call.0 how.Abandoned s.calls (c.opened.call.0 + 1) cs (itself (c.opened.call.0 + 1)) grow.1 asked.1) its.1 knows)
+  where
+    itself : (n : ℕ) → n ≤ n
+    itself n = omega arith
+
+pub abandoned_txns : (s : CoreState) (number : ℕ) (t : Txn) (why : Reason) (cs : List CallNow) → (fold after_entry s (abandoned_calls_entries number t why cs)).holdings.txns ≡ s.holdings.txns
+abandoned_txns s number t why cs = ap (λ (d : Docket). d.txns) (comes_to s (abandoned_calls_entries number t why cs) _ (abandoned_docketed number t why cs)) ∙ closings_txns why cs (docket_of s)
+
+-- the asked calls of a transaction ask, and are its own
+filtered_asked : (calls : List CallNow) (token : List ℕ) (xs : List CallNow) → Each (StandsItself calls) xs → Each (AsksItself calls) (asked_in xs token)
+filtered_asked calls token [] h = tt
+filtered_asked calls token (x ∷ xs) h = by (is_asked x) (bytes_eq x.opened.txn token) refl h.0 (filtered_asked calls token xs h.1)
+  where
+    by : (a b : Bool) → is_asked x ≡ a → StandsItself calls x → Each (AsksItself calls) (asked_in xs token) → Each (AsksItself calls) (cond (a && b) (x ∷ asked_in xs token) (asked_in xs token))
+    by true true e stands rest = (record { stands = stands; asked = e }, rest)
+    by true false e stands rest = rest
+    by false b e stands rest = rest
+
+filtered_its : (token : List ℕ) (xs : List CallNow) → Each (λ c. c.opened.txn ≡ token) (asked_in xs token)
+filtered_its token [] = tt
+filtered_its token (x ∷ xs) = by (is_asked x) (bytes_eq x.opened.txn token) refl (filtered_its token xs)
+  where
+    by : (a b : Bool) → bytes_eq x.opened.txn token ≡ b → Each (λ c. c.opened.txn ≡ token) (asked_in xs token) → Each (λ c. c.opened.txn ≡ token) (cond (a && b) (x ∷ asked_in xs token) (asked_in xs token))
+    by true true e rest = (one_name x.opened.txn token e, rest)
+    by true false e rest = rest
+    by false b e rest = rest
+
+-- the calls of a transaction that are asked at a moment are abandoned in a state with those calls
+pub abandonment_pays : (k : Counting) → IsCounting k → (s : CoreState) (number : ℕ) (t : Txn) (why : Reason) (calls : List CallNow) → s.calls ≡ calls → CallsNumberedFrom 1 calls → Knows s.holdings.txns t
+    → Pays k s (abandoned_calls_entries number t why (asked_in calls t.token))
+abandonment_pays k counting s number t why calls same numbers knows =
+    abandoned_pays k counting s number t why (asked_in calls t.token) 1 (filtered_grow (λ (c : CallNow). is_asked c && bytes_eq c.opened.txn t.token) 1 calls numbers)
+    (subst (λ (xs : List CallNow). Each (AsksItself xs) (asked_in calls t.token)) (sym same) (filtered_asked calls t.token calls (all_stand calls numbers)))
+    (filtered_its t.token calls) knows
+
+pub end_pays : (k : Counting) → IsCounting k → (s : CoreState) (number : ℕ) (f : Facts) (t : Txn) (x : Parts) (why : Reason) → s.calls ≡ f.calls → CallsNumberedFrom 1 f.calls → Knows s.holdings.txns t
+    → HoldsJust s.holdings.parts t.token x → Pays k s (end_entries number f t x why)
+end_pays k counting s number f t x why same numbers knows just =
+    let a : List Entry = abandoned_calls_entries number t why (asked_calls_of f t.token) in
+    let b : List Entry = release_entries t x (in_all x) in
+    let left = calm_leaves s a t.token x (abandoned_calm number t why (asked_calls_of f t.token)) just in
+    both_pay k s (a ++ b) (entry.Ended t.token ∷ [])
+    (both_pay k s a b (abandonment_pays k counting s number t why f.calls same numbers knows)
+    (release_pays k counting (fold after_entry s a) t x (in_all x) (knows_after s a t (abandoned_txns s number t why (asked_calls_of f t.token)) knows) (itself (in_all x)) left.just))
+    (free_pays k counting (fold after_entry s (a ++ b)) (entry.Ended t.token ∷ []) (one_passes refl))
+  where
+    itself : (n : ℕ) → n ≤ n
+    itself n = omega arith
+
+-- asks ----
+
+-- money that is held is within what the ask may open
+held_for : (k : Counting) (ask : Ask) → pos (cond (holds_there k ask.txn) ask.amount 0) ≤ℤ pos (opens k ask)
+held_for k ask = by k.by_amount (k.counts_at ask.txn ask.txn.at) (k.counts_at ask.txn ask.at) ask.amount (cond ask.is_first 1 0)
+  where
+    by : (m y x : Bool) (n z : ℕ) → pos (cond (m && y) n 0) ≤ℤ pos (cond (x || y) (cond m n z) 0)
+    by true true true n z = omega (arith, ints)
+    by true true false n z = omega (arith, ints)
+    by true false x n z = low (cond (x || false) n 0)
+      where
+        low : (n : ℕ) → pos 0 ≤ℤ pos n
+        low n = omega (arith, ints)
+    by false y x n z = low (cond (x || y) z 0)
+      where
+        low : (n : ℕ) → pos 0 ≤ℤ pos n
+        low n = omega (arith, ints)
+
+hold_for : (k : Counting) → IsCounting k → (s : CoreState) (ask : Ask) (p : Part) → Knows s.holdings.txns ask.txn → Within k s (hold_entries ask.txn p ask.amount) (pos (opens k ask))
+hold_for k counting s ask p knows =
+    weaker k s (hold_entries ask.txn p ask.amount) (pos (cond (holds_there k ask.txn) ask.amount 0)) (pos (opens k ask)) (held_for k ask) (hold_within k counting s ask.txn p ask.amount knows)
+
+none_first : (n : ℕ) → (pos 0 +ℤ pos n) ≤ℤ pos n
+none_first n = omega (arith, ints)
+
+none_last : (n : ℕ) → (pos n +ℤ pos 0) ≤ℤ pos n
+none_last n = omega (arith, ints)
+
+-- free entries before, and behind
+free_first : (k : Counting) → IsCounting k → (s : CoreState) (xs ys : List Entry) (n : ℕ) → EachPasses is_free xs → Within k (fold after_entry s xs) ys (pos n) → Within k s (xs ++ ys) (pos n)
+free_first k counting s xs ys n free h = weaker k s (xs ++ ys) (pos 0 +ℤ pos n) (pos n) (none_first n) (both_within k s xs ys (pos 0) (pos n) (free_pays k counting s xs free) h)
+
+free_last : (k : Counting) → IsCounting k → (s : CoreState) (xs ys : List Entry) (n : ℕ) → Within k s xs (pos n) → EachPasses is_free ys → Within k s (xs ++ ys) (pos n)
+free_last k counting s xs ys n h free = weaker k s (xs ++ ys) (pos n +ℤ pos 0) (pos n) (none_last n) (both_within k s xs ys (pos n) (pos 0) h (free_pays k counting (fold after_entry s xs) ys free))
+
+paid_within : (k : Counting) → IsCounting k → (s : CoreState) (ask : Ask) (from : Account) (p : Part) → Knows s.holdings.txns ask.txn
+    → Within k s (post_entries ask.txn from (user_account ask.txn) ask.amount ++ hold_entries ask.txn p ask.amount) (pos (opens k ask))
+paid_within k counting s ask from p knows =
+    let post : List Entry = post_entries ask.txn from (user_account ask.txn) ask.amount in
+    free_first k counting s post (hold_entries ask.txn p ask.amount) (opens k ask) (post_free ask.txn from (user_account ask.txn) ask.amount)
+    (hold_for k counting (fold after_entry s post) ask p (knows_after s post ask.txn (silent_txns s post (post_silent ask.txn from (user_account ask.txn) ask.amount)) knows))
+
+pub funded_within : (k : Counting) → IsCounting k → (s : CoreState) (ask : Ask) (from : Account) (p : Part) → Knows s.holdings.txns ask.txn → Within k s (funded_ask_entries ask from p) (pos (opens k ask))
+funded_within k counting s ask from p knows =
+    free_last k counting s (post_entries ask.txn from (user_account ask.txn) ask.amount ++ hold_entries ask.txn p ask.amount) (entry.Decided ask.event verdict.Approved ∷ []) (opens k ask)
+    (paid_within k counting s ask from p knows) (one_passes refl)
+
+pub declined_within : (k : Counting) → IsCounting k → (s : CoreState) (ask : Ask) (why : Reason) → Within k s (declined_ask_entries ask why) (pos (opens k ask))
+declined_within k counting s ask why =
+    free_last k counting s (entry.Usage (ask_given_back ask) ∷ []) (cond ask.is_first (entry.Ended ask.txn.token ∷ []) [] ++ entry.Decided ask.event (verdict.Declined why) ∷ []) (opens k ask)
+    (given_back_within k counting s ask) (both_pass (either_passes ask.is_first (one_passes refl) (passing refl)) (one_passes refl))
+
+stand_within : (k : Counting) → IsCounting k → (x : Stand) (s : CoreState) (number : ℕ) (ask : Ask) (why : Failure) (at : ℕ) → Knows s.holdings.txns ask.txn
+    → Within k s (stand_entries x number ask why at) (pos (opens k ask))
+stand_within k counting (allowed x) s number ask why at knows =
+    let stood : List Entry = entry.Stood x.name ask.txn.product ask.txn.user ask.amount at ∷ [] in
+    let paid : List Entry = post_entries ask.txn (account.Programme ask.txn.currency) (user_account ask.txn) ask.amount ++ hold_entries ask.txn part.P ask.amount in
+    let told : List Entry = notice_entry number method.StandIn ask.txn None ask.amount 0 ∷ entry.Decided ask.event verdict.Approved ∷ [] in
+    free_first k counting s stood (paid ++ told) (opens k ask) (one_passes refl)
+    (free_last k counting (fold after_entry s stood) paid told (opens k ask) (paid_within k counting (fold after_entry s stood) ask (account.Programme ask.txn.currency) part.P knows) (passing refl))
+stand_within k counting (over_limit x) s number ask why at knows = declined_within k counting s ask (reason.StandInLimit x.name)
+stand_within k counting uncovered s number ask why at knows = declined_within k counting s ask (failure_reason why)
+
+pub stood_in_within : (k : Counting) → IsCounting k → (s : CoreState) (number : ℕ) (f : Facts) (ask : Ask) (why : Failure) (at : ℕ) → Knows s.holdings.txns ask.txn
+    → Within k s (stand_in_entries number f ask why at) (pos (opens k ask))
+stood_in_within k counting s number f ask why at knows = stand_within k counting (stand f ask why at) s number ask why at knows
+
+-- funding is sought ----
+
+asked_again : (product : Product) (f : Facts) (ask : Ask) → call_ask (call_for f product ask) ask.txn ≡ ask
+asked_again product f ask = ap (λ (b : Bool). record { event = ask.event; txn = ask.txn; amount = ask.amount; is_first = b; at = ask.at }) (by ask.is_first)
+  where
+    by : (b : Bool) → is_authorization (cond b method.Authorization method.Incremental) ≡ b
+    by true = refl
+    by false = refl
+
+gateway_within : (k : Counting) → IsCounting k → (s : CoreState) (product : Option Product) (f : Facts) (ask : Ask) → Knows s.holdings.txns ask.txn → Within k s (gateway_ask_entries product f ask) (pos (opens k ask))
+gateway_within k counting s None f ask knows = weaker k s [] (pos 0) (pos (opens k ask)) (low (opens k ask)) (free_pays k counting s [] (passing refl))
+  where
+    low : (n : ℕ) → pos 0 ≤ℤ pos n
+    low n = omega (arith, ints)
+gateway_within k counting s (Some product) f ask knows = by (is_named_in f.switched product.name)
+  where
+    by : (b : Bool) → Within k s (cond b (stand_in_entries (next_notice f) f ask failure.Switch ask.at) (entry.Opened (call_for f product ask) ∷ [])) (pos (opens k ask))
+    by true = stood_in_within k counting s (next_notice f) f ask failure.Switch ask.at knows
+    by false = open_within k counting s (call_for f product ask) ask.txn ask knows refl (asked_again product f ask)
+
+pub funding_within : (k : Counting) → IsCounting k → (s : CoreState) (f : Facts) (ask : Ask) → Knows s.holdings.txns ask.txn → Within k s (funding_entries f ask) (pos (opens k ask))
+funding_within k counting s f ask knows = by (is_account_funded ask.txn.funding)
+  where
+    by : (b : Bool)
+        → Within k s (cond b (hold_entries ask.txn part.S ask.amount ++ entry.Decided ask.event verdict.Approved ∷ []) (gateway_ask_entries (product_named ask.txn.product f.products) f ask)) (pos (opens k ask))
+    by true = free_last k counting s (hold_entries ask.txn part.S ask.amount) (entry.Decided ask.event verdict.Approved ∷ []) (opens k ask) (hold_for k counting s ask part.S knows) (one_passes refl)
+    by false = gateway_within k counting s (product_named ask.txn.product f.products) f ask knows
+
+-- use is counted with an ask, where its stamp counts if its transaction's does
+asked_enough : (x y m f : Bool) (n : ℕ) → (y ≡ true → x ≡ true) → (neg_ℤ (cond x (cond m (pos n) (cond f (pos 1) (pos 0))) (pos 0)) +ℤ pos (cond (x || y) (cond m n (cond f 1 0)) 0)) ≤ℤ pos 0
+asked_enough true y true f n h = omega (arith, ints)
+asked_enough true y false true n h = omega (arith, ints)
+asked_enough true y false false n h = omega (arith, ints)
+asked_enough false true m f n h = let bad : false ≡ true = h refl in cc
+asked_enough false false m f n h = omega (arith, ints)
+
+pub sought_pays : (k : Counting) → IsCounting k → (s : CoreState) (f : Facts) (ask : Ask) → Knows s.holdings.txns ask.txn → (k.counts_at ask.txn ask.txn.at ≡ true → k.counts_at ask.txn ask.at ≡ true)
+    → Pays k s (entry.Usage (ask_usage ask) ∷ funding_entries f ask)
+sought_pays k counting s f ask knows later =
+    let counts_first : List Entry = entry.Usage (ask_usage ask) ∷ [] in
+    let counted : ℤ = cond (k.counts_at ask.txn ask.at) (cond k.by_amount (pos ask.amount) (cond ask.is_first (pos 1) (pos 0))) (pos 0) in
+    weaker k s (counts_first ++ funding_entries f ask) (neg_ℤ counted +ℤ pos (opens k ask)) (pos 0)
+    (asked_enough (k.counts_at ask.txn ask.at) (k.counts_at ask.txn ask.txn.at) k.by_amount ask.is_first ask.amount later)
+    (both_within k s counts_first (funding_entries f ask) (neg_ℤ counted) (pos (opens k ask))
+    (usage_within k counting s ask.txn (pos ask.amount) (cond ask.is_first (pos 1) (pos 0)) ask.at) (funding_within k counting (fold after_entry s counts_first) f ask knows))

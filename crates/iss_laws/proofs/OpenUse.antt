@@ -1,0 +1,488 @@
+-- What is open of counted use: what counted transactions hold, and what is asked for them. No entry opens more than use counts with it.
+use Rattle.std.proofs.Common.{◌≡◌, ℕ, ℤ, pos, neg_ℤ, ◌+ℤ◌, ◌+◌, ◌-◌, ◌≤◌, min, Bool, true, false, not, cond, ◌&&◌, ◌||◌, nat_eq, List, [], ◌∷◌, ◌++◌, map, filter, fold, refl, sym, ap, ap₂, subst, ◌∙◌, arith}
+use Rattle.std.proofs.lemmas.Int.{ints}
+use Rattle.std.proofs.lemmas.Bool.{and_parts}
+use Rattle.std.proofs.lemmas.List.Sums.{fold-append}
+use Rattle.std.specs.Prelude.{◌≤ℤ◌, Option, Some, None, is_some, option_map}
+use Rattle.std.specs.List.{list_all}
+use Rattle.std.specs.Option.{option_or}
+use Rattle.std.specs.Str.{bytes_eq}
+use Rattle.iss_model.specs.declared.account.Part.{Part}
+use Rattle.iss_model.specs.declared.account.Part.TheVariants as part
+use Rattle.iss_model.specs.declared.call.How.{How}
+use Rattle.iss_model.specs.declared.call.Opened.{Opened}
+use Rattle.iss_model.specs.declared.entry.Entry.{Entry}
+use Rattle.iss_model.specs.declared.entry.Entry.TheVariants as entry
+use Rattle.iss_model.specs.declared.input.Input.{Input}
+use Rattle.iss_model.specs.declared.input.Input.TheVariants as input
+use Rattle.iss_model.specs.declared.setting.Moved.TheVariants as moved
+use Rattle.iss_model.specs.declared.txn.Txn.{Txn}
+use Rattle.iss_model.specs.Sums.{Change, changed_at, part_key}
+use Rattle.iss_model.specs.rules.Activity.{TxnNow, CallNow, call_numbered, is_asked, txn_named}
+use Rattle.iss_model.specs.rules.Asks.{Ask, call_ask, is_authorization, usage_of}
+use Rattle.iss_model.specs.rules.Facts.{not_below}
+use Rattle.iss_model.specs.rules.Pieces.{hold_entries, unhold_entries}
+use Rattle.iss_model.specs.rules.Reasons.{is_some_with}
+use Rattle.iss_model.specs.state.Cores.{CoreState, after_entry, after_setting, begun_part_changes, call_after_close, is_live, txn_after_end}
+use Rattle.iss_model.specs.state.Kept.{Kept, after_changes}
+use Rattle.iss_model.proofs.Names.{name-sym, one_name}
+use Rattle.iss_effects.specs.Stakes.{part_held, whole_held}
+use Rattle.iss_effects.proofs.Finds.{found_passes, number-sym, number_is, same_number}
+use Rattle.iss_effects.proofs.Parts.{change_of, whole_less, whole_more, whole_same}
+use Rattle.iss_invariants.proofs.Passing.{EachPasses}
+use Rattle.iss_docket.specs.Well.{HaveOwnTokens, IsAsked}
+use Rattle.iss_docket.proofs.Closing.{by_itself}
+use Rattle.iss_docket.proofs.Entering.{same_txn, txn_more}
+use Rattle.iss_docket.proofs.Lists.{Each}
+use Rattle.iss_holdings.specs.Holdings.{HoldsNothing}
+use Rattle.iss_holdings.proofs.Changes.{begun_sum, txn_ended}
+use Rattle.iss_laws.proofs.Rows.{among_summed, sum_among}
+
+-- how use is counted at a key ----
+
+-- The changes that entries make at a key, the test that tells which stamps of a transaction count there, and whether amounts are counted or times.
+pub record Counting : Type 0 where
+  pub changes : Entry → List Change
+  pub key : List ℕ
+  pub counts_at : Txn → ℕ → Bool
+  pub by_amount : Bool
+
+-- an entry counts use
+abbrev pub is_usage : Entry → Bool
+is_usage (entry.Usage row) = true
+is_usage _ = false
+
+-- use of a transaction changes the sum where its stamp counts, and nothing else does
+pub record IsCounting (k : Counting) : Type 0 where
+  pub use_ : (t : Txn) (amount count : ℤ) (at : ℕ) → changed_at k.key (k.changes (entry.Usage (usage_of t amount count at))) ≡ cond (k.counts_at t at) (cond k.by_amount amount count) (pos 0)
+  pub others : (e : Entry) → is_usage e ≡ false → changed_at k.key (k.changes e) ≡ pos 0
+
+-- what entries change of the sum
+abbrev pub used : Counting → List Entry → ℤ
+used k es = sum_among k.changes k.key es
+
+-- what a call opens, and what an ask asks: its amount, or the one time that an authorisation counts
+abbrev pub weight : Counting → Opened → ℕ
+weight k o = cond k.by_amount o.amount (cond (is_authorization o.method) 1 0)
+
+abbrev pub ask_weight : Counting → Ask → ℕ
+ask_weight k ask = cond k.by_amount ask.amount (cond ask.is_first 1 0)
+
+-- what a transaction holds counts where its own stamp does, and amounts are counted
+abbrev pub holds_there : Counting → Txn → Bool
+holds_there k t = k.by_amount && k.counts_at t t.at
+
+-- what is asked at a stamp counts where the stamp or the transaction's own does
+abbrev pub reaches : Counting → Txn → ℕ → Bool
+reaches k t at = k.counts_at t at || k.counts_at t t.at
+
+-- what an ask may open
+abbrev pub opens : Counting → Ask → ℕ
+opens k ask = cond (reaches k ask.txn ask.at) (ask_weight k ask) 0
+
+-- what is open ----
+
+abbrev pub held_open : Counting → Kept → List TxnNow → ℕ
+held_open k parts [] = 0
+held_open k parts (t ∷ ts) = cond (holds_there k t.txn) (whole_held parts t.txn.token) 0 + held_open k parts ts
+
+abbrev pub call_reaches : Counting → List TxnNow → CallNow → Bool
+call_reaches k txns c = is_some_with (λ t. reaches k t.txn c.opened.at) (txn_named c.opened.txn txns)
+
+abbrev pub call_open : Counting → List TxnNow → CallNow → ℕ
+call_open k txns c = cond (is_asked c && call_reaches k txns c) (weight k c.opened) 0
+
+abbrev pub calls_open : Counting → List TxnNow → List CallNow → ℕ
+calls_open k txns [] = 0
+calls_open k txns (c ∷ cs) = call_open k txns c + calls_open k txns cs
+
+abbrev pub open_use : Counting → CoreState → ℕ
+open_use k s = held_open k s.holdings.parts s.holdings.txns + calls_open k s.holdings.txns s.calls
+
+-- a transaction stands among those, which have tokens of their own
+pub record Knows (txns : List TxnNow) (t : Txn) : Type 0 where
+  pub own : HaveOwnTokens txns
+  pub now : TxnNow
+  pub stands : txn_named t.token txns ≡ Some now
+  pub its : now.txn ≡ t
+
+-- a hold ----
+
+same_or_zero : (b : Bool) (n m : ℕ) → n ≡ m → cond b n 0 ≡ cond b m 0
+same_or_zero true n m e = e
+same_or_zero false n m e = refl
+
+head_none : (b : Bool) (t : TxnNow) (o : Option TxnNow) → cond b (Some t) o ≡ None → (b ≡ false) × (o ≡ None)
+head_none true t o h = cc
+head_none false t o h = (refl, h)
+
+-- a hold of a token that isn't there
+held_other : (k : Counting) (parts : Kept) (token : List ℕ) (p : Part) (x : ℤ) (txns : List TxnNow) → txn_named token txns ≡ None
+    → held_open k (after_changes parts (change_of (part_key token p) x)) txns ≡ held_open k parts txns
+held_other k parts token p x [] e = refl
+held_other k parts token p x (t ∷ ts) e =
+    let both = head_none (bytes_eq t.txn.token token) t (txn_named token ts) e in
+    ap₂ (λ (m n : ℕ). m + n)
+    (same_or_zero (holds_there k t.txn) (whole_held (after_changes parts (change_of (part_key token p) x)) t.txn.token) (whole_held parts t.txn.token)
+    (whole_same parts token p x t.txn.token (name-sym token t.txn.token ∙ both.0)))
+    (held_other k parts token p x ts both.1)
+
+-- what a hold changes of a sum where the one of its token is first, by what it changes there
+more_there : (b : Bool) (a c n x : ℕ) → a ≤ c + n → cond b a 0 + x ≤ (cond b c 0 + x) + cond b n 0
+more_there true a c n x h = omega (arith, h)
+more_there false a c n x h = omega arith
+
+less_there : (b : Bool) (a c n x : ℕ) → a + n ≡ c → (cond b a 0 + x) + cond b n 0 ≤ cond b c 0 + x
+less_there true a c n x h = omega (arith, h)
+less_there false a c n x h = omega arith
+
+held_more : (k : Counting) (parts : Kept) (token : List ℕ) (p : Part) (n : ℕ) (txns : List TxnNow) (now : TxnNow) → HaveOwnTokens txns → txn_named token txns ≡ Some now
+    → held_open k (after_changes parts (change_of (part_key token p) (pos n))) txns ≤ held_open k parts txns + cond (holds_there k now.txn) n 0
+held_more k parts token p n [] now own e = cc
+held_more k parts token p n (t ∷ ts) now own e = by (bytes_eq t.txn.token token) refl e (λ later. held_more k parts token p n ts now own.1 later)
+  where
+    after : Kept
+    after = after_changes parts (change_of (part_key token p) (pos n))
+
+    further : (x y z a b : ℕ) → x ≤ y + z → a ≡ b → a + x ≤ (b + y) + z
+    further x y z a b h e = omega (arith, h, e)
+
+    by : (b : Bool) → bytes_eq t.txn.token token ≡ b → cond b (Some t) (txn_named token ts) ≡ Some now
+        → (txn_named token ts ≡ Some now → held_open k after ts ≤ held_open k parts ts + cond (holds_there k now.txn) n 0)
+        → held_open k after (t ∷ ts) ≤ held_open k parts (t ∷ ts) + cond (holds_there k now.txn) n 0
+    by true e found later =
+        let one : t ≡ now = cc in
+        let same : t.txn.token ≡ token = one_name t.txn.token token e in
+        subst (λ (x : TxnNow). held_open k after (t ∷ ts) ≤ held_open k parts (t ∷ ts) + cond (holds_there k x.txn) n 0) one
+        (subst (λ (rest : ℕ). cond (holds_there k t.txn) (whole_held after t.txn.token) 0 + rest ≤ (cond (holds_there k t.txn) (whole_held parts t.txn.token) 0 + held_open k parts ts) + cond (holds_there k t.txn) n 0)
+        (sym (held_other k parts token p (pos n) ts (ap (λ (x : List ℕ). txn_named x ts) (sym same) ∙ own.0)))
+        (more_there (holds_there k t.txn) (whole_held after t.txn.token) (whole_held parts t.txn.token) n (held_open k parts ts)
+        (subst (λ (x : List ℕ). whole_held after x ≤ whole_held parts x + n) (sym same) (whole_more parts token p n))))
+    by false e found later =
+        further (held_open k after ts) (held_open k parts ts) (cond (holds_there k now.txn) n 0) (cond (holds_there k t.txn) (whole_held after t.txn.token) 0) (cond (holds_there k t.txn) (whole_held parts t.txn.token) 0)
+        (later found)
+        (same_or_zero (holds_there k t.txn) (whole_held after t.txn.token) (whole_held parts t.txn.token) (whole_same parts token p (pos n) t.txn.token (name-sym token t.txn.token ∙ e)))
+
+held_less : (k : Counting) (parts : Kept) (token : List ℕ) (p : Part) (n : ℕ) (txns : List TxnNow) (now : TxnNow) → HaveOwnTokens txns → txn_named token txns ≡ Some now → n ≤ part_held parts token p
+    → held_open k (after_changes parts (change_of (part_key token p) (neg_ℤ (pos n)))) txns + cond (holds_there k now.txn) n 0 ≤ held_open k parts txns
+held_less k parts token p n [] now own e le = cc
+held_less k parts token p n (t ∷ ts) now own e le = by (bytes_eq t.txn.token token) refl e (λ later. held_less k parts token p n ts now own.1 later le)
+  where
+    after : Kept
+    after = after_changes parts (change_of (part_key token p) (neg_ℤ (pos n)))
+
+    further : (x y z a b : ℕ) → x + z ≤ y → a ≡ b → (a + x) + z ≤ b + y
+    further x y z a b h e = omega (arith, h, e)
+
+    by : (b : Bool) → bytes_eq t.txn.token token ≡ b → cond b (Some t) (txn_named token ts) ≡ Some now
+        → (txn_named token ts ≡ Some now → held_open k after ts + cond (holds_there k now.txn) n 0 ≤ held_open k parts ts)
+        → held_open k after (t ∷ ts) + cond (holds_there k now.txn) n 0 ≤ held_open k parts (t ∷ ts)
+    by true e found later =
+        let one : t ≡ now = cc in
+        let same : t.txn.token ≡ token = one_name t.txn.token token e in
+        subst (λ (x : TxnNow). held_open k after (t ∷ ts) + cond (holds_there k x.txn) n 0 ≤ held_open k parts (t ∷ ts)) one
+        (subst (λ (rest : ℕ). (cond (holds_there k t.txn) (whole_held after t.txn.token) 0 + rest) + cond (holds_there k t.txn) n 0 ≤ cond (holds_there k t.txn) (whole_held parts t.txn.token) 0 + held_open k parts ts)
+        (sym (held_other k parts token p (neg_ℤ (pos n)) ts (ap (λ (x : List ℕ). txn_named x ts) (sym same) ∙ own.0)))
+        (less_there (holds_there k t.txn) (whole_held after t.txn.token) (whole_held parts t.txn.token) n (held_open k parts ts)
+        (subst (λ (x : List ℕ). whole_held after x + n ≡ whole_held parts x) (sym same) (whole_less parts token p n le))))
+    by false e found later =
+        further (held_open k after ts) (held_open k parts ts) (cond (holds_there k now.txn) n 0) (cond (holds_there k t.txn) (whole_held after t.txn.token) 0) (cond (holds_there k t.txn) (whole_held parts t.txn.token) 0)
+        (later found)
+        (same_or_zero (holds_there k t.txn) (whole_held after t.txn.token) (whole_held parts t.txn.token) (whole_same parts token p (neg_ℤ (pos n)) t.txn.token (name-sym token t.txn.token ∙ e)))
+
+-- a call is closed ----
+
+call_lower : (k : Counting) (txns : List TxnNow) (n : ℕ) (how : How) (c : CallNow) → call_open k txns (call_after_close n how c) ≤ call_open k txns c
+call_lower k txns n how c = by (nat_eq n c.opened.call.0 && is_asked c)
+  where
+    low : (x : ℕ) → 0 ≤ x
+    low x = omega arith
+
+    same : (x : ℕ) → x ≤ x
+    same x = omega arith
+
+    by : (b : Bool) → call_open k txns (cond b (record c { how = Some how }) c) ≤ call_open k txns c
+    by true = low (call_open k txns c)
+    by false = same (call_open k txns c)
+
+calls_lower : (k : Counting) (txns : List TxnNow) (n : ℕ) (how : How) (calls : List CallNow) → calls_open k txns (map (call_after_close n how) calls) ≤ calls_open k txns calls
+calls_lower k txns n how [] = omega arith
+calls_lower k txns n how (c ∷ cs) = omega (arith, call_lower k txns n how c, calls_lower k txns n how cs)
+
+call_gone : (k : Counting) (txns : List TxnNow) (n : ℕ) (how : How) (c : CallNow) → nat_eq c.opened.call.0 n ≡ true → is_asked c ≡ true → call_open k txns (call_after_close n how c) ≡ 0
+call_gone k txns n how c e a = ap (λ (b : Bool). call_open k txns (cond b (record c { how = Some how }) c)) (ap₂ (λ (x y : Bool). x && y) (number-sym n c.opened.call.0 ∙ e) a)
+
+calls_less : (k : Counting) (txns : List TxnNow) (n : ℕ) (how : How) (calls : List CallNow) (c : CallNow) → call_numbered n calls ≡ Some c → is_asked c ≡ true
+    → calls_open k txns (map (call_after_close n how) calls) + call_open k txns c ≤ calls_open k txns calls
+calls_less k txns n how [] c e a = cc
+calls_less k txns n how (d ∷ ds) c e a = by (nat_eq d.opened.call.0 n) refl e (λ later. calls_less k txns n how ds c later a)
+  where
+    first : (x y z w : ℕ) → x ≡ 0 → y ≤ z → (x + y) + w ≤ w + z
+    first x y z w e h = omega (arith, e, h)
+
+    further : (x y z w u : ℕ) → x + w ≤ y → z ≤ u → (z + x) + w ≤ u + y
+    further x y z w u h l = omega (arith, h, l)
+
+    by : (b : Bool) → nat_eq d.opened.call.0 n ≡ b → cond b (Some d) (call_numbered n ds) ≡ Some c
+        → (call_numbered n ds ≡ Some c → calls_open k txns (map (call_after_close n how) ds) + call_open k txns c ≤ calls_open k txns ds)
+        → calls_open k txns (map (call_after_close n how) (d ∷ ds)) + call_open k txns c ≤ calls_open k txns (d ∷ ds)
+    by true e found later =
+        let one : d ≡ c = cc in
+        subst (λ (x : CallNow). calls_open k txns (map (call_after_close n how) (d ∷ ds)) + call_open k txns x ≤ calls_open k txns (d ∷ ds)) one
+        (first (call_open k txns (call_after_close n how d)) (calls_open k txns (map (call_after_close n how) ds)) (calls_open k txns ds) (call_open k txns d)
+        (call_gone k txns n how d e (ap is_asked one ∙ a)) (calls_lower k txns n how ds))
+    by false e found later =
+        further (calls_open k txns (map (call_after_close n how) ds)) (calls_open k txns ds) (call_open k txns (call_after_close n how d)) (call_open k txns c) (call_open k txns d) (later found) (call_lower k txns n how d)
+
+-- a call is opened ----
+
+calls_more : (k : Counting) (txns : List TxnNow) (calls : List CallNow) (c : CallNow) → calls_open k txns (calls ++ c ∷ []) ≡ calls_open k txns calls + call_open k txns c
+calls_more k txns [] c = none (call_open k txns c)
+  where
+    none : (n : ℕ) → n + 0 ≡ 0 + n
+    none n = omega arith
+calls_more k txns (d ∷ ds) c = ap (λ (n : ℕ). call_open k txns d + n) (calls_more k txns ds c) ∙ add (call_open k txns d) (calls_open k txns ds) (call_open k txns c)
+  where
+    add : (a b c : ℕ) → a + (b + c) ≡ a + b + c
+    add a b c = omega arith
+
+-- a transaction begins ----
+
+begun_whole : (parts : Kept) (t : Txn) (token : List ℕ) → whole_held (after_changes parts (begun_part_changes t)) token ≡ whole_held parts token
+begun_whole parts t token =
+    λ i. not_below (begun_sum parts t (part_key token part.G) i) + not_below (begun_sum parts t (part_key token part.P) i) + not_below (begun_sum parts t (part_key token part.S) i)
+
+nothing_whole : (parts : Kept) (token : List ℕ) → HoldsNothing parts token → whole_held parts token ≡ 0
+nothing_whole parts token nothing = λ i. not_below (nothing part.G i) + not_below (nothing part.P i) + not_below (nothing part.S i)
+
+zero_either : (b : Bool) (n : ℕ) → n ≡ 0 → cond b n 0 ≡ 0
+zero_either true n e = e
+zero_either false n e = refl
+
+held_begun : (k : Counting) (parts : Kept) (txns : List TxnNow) (t : Txn) (live : Bool) → HoldsNothing parts t.token
+    → held_open k (after_changes parts (begun_part_changes t)) (txns ++ record { txn = t; live = live } ∷ []) ≡ held_open k parts txns
+held_begun k parts [] t live nothing = ap (λ (n : ℕ). n + 0) (zero_either (holds_there k t) (whole_held (after_changes parts (begun_part_changes t)) t.token) (begun_whole parts t t.token ∙ nothing_whole parts t.token nothing))
+held_begun k parts (x ∷ xs) t live nothing =
+    ap₂ (λ (m n : ℕ). m + n) (same_or_zero (holds_there k x.txn) (whole_held (after_changes parts (begun_part_changes t)) x.txn.token) (whole_held parts x.txn.token) (begun_whole parts t x.txn.token)) (held_begun k parts xs t live nothing)
+
+-- an asked call's transaction is among these
+abbrev pub IsOfThese : List TxnNow → CallNow → Type 0
+IsOfThese txns c = is_asked c ≡ true → is_some (txn_named c.opened.txn txns) ≡ true
+
+found_more : (test : TxnNow → Bool) (o more : Option TxnNow) → is_some o ≡ true → is_some_with test (option_or o more) ≡ is_some_with test o
+found_more test None more h = cc
+found_more test (Some t) more h = refl
+
+call_begun : (k : Counting) (txns : List TxnNow) (x : TxnNow) (c : CallNow) → IsOfThese txns c → call_open k (txns ++ x ∷ []) c ≡ call_open k txns c
+call_begun k txns x c its = by (is_asked c) refl
+  where
+    by : (b : Bool) → is_asked c ≡ b → cond (b && call_reaches k (txns ++ x ∷ []) c) (weight k c.opened) 0 ≡ cond (b && call_reaches k txns c) (weight k c.opened) 0
+    by true e =
+        ap (λ (b : Bool). cond b (weight k c.opened) 0)
+        (ap (is_some_with (λ (t : TxnNow). reaches k t.txn c.opened.at)) (txn_more c.opened.txn txns x)
+        ∙ found_more (λ (t : TxnNow). reaches k t.txn c.opened.at) (txn_named c.opened.txn txns) (cond (bytes_eq x.txn.token c.opened.txn) (Some x) None) (its e))
+    by false e = refl
+
+calls_begun : (k : Counting) (txns : List TxnNow) (x : TxnNow) (calls : List CallNow) → Each (IsOfThese txns) calls → calls_open k (txns ++ x ∷ []) calls ≡ calls_open k txns calls
+calls_begun k txns x [] its = refl
+calls_begun k txns x (c ∷ cs) its = ap₂ (λ (m n : ℕ). m + n) (call_begun k txns x c its.0) (calls_begun k txns x cs its.1)
+
+-- a transaction ends ----
+
+held_ended : (k : Counting) (parts : Kept) (token : List ℕ) (txns : List TxnNow) → held_open k parts (map (txn_after_end token) txns) ≡ held_open k parts txns
+held_ended k parts token [] = refl
+held_ended k parts token (t ∷ ts) = ap₂ (λ (x : Txn) (n : ℕ). cond (holds_there k x) (whole_held parts x.token) 0 + n) (same_txn token t) (held_ended k parts token ts)
+
+reach_ended : (k : Counting) (token : List ℕ) (at : ℕ) (o : Option TxnNow) → is_some_with (λ t. reaches k t.txn at) (option_map (txn_after_end token) o) ≡ is_some_with (λ t. reaches k t.txn at) o
+reach_ended k token at None = refl
+reach_ended k token at (Some t) = ap (λ (x : Txn). reaches k x at) (same_txn token t)
+
+calls_ended : (k : Counting) (token : List ℕ) (txns : List TxnNow) (calls : List CallNow) → calls_open k (map (txn_after_end token) txns) calls ≡ calls_open k txns calls
+calls_ended k token txns [] = refl
+calls_ended k token txns (c ∷ cs) =
+    ap₂ (λ (b : Bool) (n : ℕ). cond (is_asked c && b) (weight k c.opened) 0 + n)
+    (ap (is_some_with (λ (t : TxnNow). reaches k t.txn c.opened.at)) (txn_ended token c.opened.txn txns) ∙ reach_ended k token c.opened.at (txn_named c.opened.txn txns)) (calls_ended k token txns cs)
+
+-- entries within a budget ----
+
+-- entries open no more than the use that they count, and so much
+pub record Within (k : Counting) (s : CoreState) (es : List Entry) (more : ℤ) : Type 0 where
+  pub le : pos (open_use k (fold after_entry s es)) ≤ℤ ((pos (open_use k s) +ℤ more) +ℤ used k es)
+
+-- and not more
+abbrev pub Pays : Counting → CoreState → List Entry → Type 0
+Pays k s es = Within k s es (pos 0)
+
+pub both_within : (k : Counting) (s : CoreState) (xs ys : List Entry) (a b : ℤ) → Within k s xs a → Within k (fold after_entry s xs) ys b → Within k s (xs ++ ys) (a +ℤ b)
+both_within k s xs ys a b h l =
+    record {
+      le = subst (λ (q : CoreState). pos (open_use k q) ≤ℤ ((pos (open_use k s) +ℤ (a +ℤ b)) +ℤ used k (xs ++ ys))) (sym (fold-append after_entry s xs ys))
+          (chain (pos (open_use k (fold after_entry (fold after_entry s xs) ys))) (pos (open_use k (fold after_entry s xs))) (pos (open_use k s)) a b (used k xs) (used k ys) (used k (xs ++ ys))
+          (among_summed k.changes k.key xs ys) h.le l.le);
+    }
+  where
+    chain : (z y x a b u v w : ℤ) → w ≡ u +ℤ v → y ≤ℤ ((x +ℤ a) +ℤ u) → z ≤ℤ ((y +ℤ b) +ℤ v) → z ≤ℤ ((x +ℤ (a +ℤ b)) +ℤ w)
+    chain z y x a b u v w e h l = omega (arith, ints, e, h, l)
+
+pub weaker : (k : Counting) (s : CoreState) (es : List Entry) (a b : ℤ) → a ≤ℤ b → Within k s es a → Within k s es b
+weaker k s es a b le h = record { le = more (pos (open_use k (fold after_entry s es))) (pos (open_use k s)) a b (used k es) le h.le }
+  where
+    more : (z x a b u : ℤ) → a ≤ℤ b → z ≤ℤ ((x +ℤ a) +ℤ u) → z ≤ℤ ((x +ℤ b) +ℤ u)
+    more z x a b u h l = omega (arith, ints, h, l)
+
+pub both_pay : (k : Counting) (s : CoreState) (xs ys : List Entry) → Pays k s xs → Pays k (fold after_entry s xs) ys → Pays k s (xs ++ ys)
+both_pay k s xs ys h l = both_within k s xs ys (pos 0) (pos 0) h l
+
+-- entries that count nothing and open nothing ----
+
+abbrev pub is_free : Entry → Bool
+is_free (entry.Began t) = false
+is_free (entry.Opened o) = false
+is_free (entry.Hold txn user currency p amount) = false
+is_free (entry.Usage row) = false
+is_free _ = true
+
+at_most_itself : (n : ℕ) → n ≤ n
+at_most_itself n = omega arith
+
+setting_open : (k : Counting) (s : CoreState) (i : Input) → open_use k (after_setting s i) ≤ open_use k s
+setting_open k s (input.Move token (moved.Card card to)) = at_most_itself (open_use k s)
+setting_open k s (input.Move token (moved.User user to)) = at_most_itself (open_use k s)
+setting_open k s _ = at_most_itself (open_use k s)
+
+less_behind : (a b c : ℕ) → b ≤ c → a + b ≤ a + c
+less_behind a b c h = omega (arith, h)
+
+equal_most : (a b : ℕ) → a ≡ b → a ≤ b
+equal_most a b e = omega (arith, e)
+
+free_open : (k : Counting) (s : CoreState) (e : Entry) → is_free e ≡ true → open_use k (after_entry s e) ≤ open_use k s
+free_open k s (entry.Conf i) h = setting_open k s i
+free_open k s (entry.Began t) h = cc
+free_open k s (entry.Opened o) h = cc
+free_open k s (entry.Hold txn user currency p amount) h = cc
+free_open k s (entry.Usage row) h = cc
+free_open k s (entry.Closed call how) h =
+    less_behind (held_open k s.holdings.parts s.holdings.txns) (calls_open k s.holdings.txns (map (call_after_close call.0 how) s.calls)) (calls_open k s.holdings.txns s.calls) (calls_lower k s.holdings.txns call.0 how s.calls)
+free_open k s (entry.Ended txn) h =
+    equal_most (open_use k (after_entry s (entry.Ended txn))) (open_use k s)
+    (ap₂ (λ (m n : ℕ). m + n) (held_ended k s.holdings.parts txn s.holdings.txns) (calls_ended k txn s.holdings.txns s.calls))
+free_open k s _ h = at_most_itself (open_use k s)
+
+free_is_no_usage : (e : Entry) → is_free e ≡ true → is_usage e ≡ false
+free_is_no_usage (entry.Usage row) h = cc
+free_is_no_usage _ h = refl
+
+pub free_pays : (k : Counting) → IsCounting k → (s : CoreState) (es : List Entry) → EachPasses is_free es → Pays k s es
+free_pays k counting s es h = by s es h.all
+  where
+    none : (x : ℕ) → pos x ≤ℤ ((pos x +ℤ pos 0) +ℤ pos 0)
+    none x = omega (arith, ints)
+
+    first : (z y x : ℕ) (c u : ℤ) → c ≡ pos 0 → y ≤ x → pos z ≤ℤ ((pos y +ℤ pos 0) +ℤ u) → pos z ≤ℤ ((pos x +ℤ pos 0) +ℤ (c +ℤ u))
+    first z y x c u e h l = omega (arith, ints, e, h, l)
+
+    by : (s : CoreState) (es : List Entry) → list_all is_free es ≡ true → Pays k s es
+    by s [] h = record { le = none (open_use k s) }
+    by s (e ∷ es) h =
+        let parts = and_parts (is_free e) (list_all is_free es) h in
+        let rest : Pays k (after_entry s e) es = by (after_entry s e) es parts.1 in
+        record {
+          le = first (open_use k (fold after_entry (after_entry s e) es)) (open_use k (after_entry s e)) (open_use k s) (changed_at k.key (k.changes e)) (used k es)
+              (counting.others e (free_is_no_usage e parts.0)) (free_open k s e parts.0) rest.le;
+        }
+
+-- single entries ----
+
+-- use is counted, and nothing opened
+pub usage_within : (k : Counting) → IsCounting k → (s : CoreState) (t : Txn) (amount count : ℤ) (at : ℕ)
+    → Within k s (entry.Usage (usage_of t amount count at) ∷ []) (neg_ℤ (cond (k.counts_at t at) (cond k.by_amount amount count) (pos 0)))
+usage_within k counting s t amount count at =
+    record {
+      le = even (pos (open_use k s)) (cond (k.counts_at t at) (cond k.by_amount amount count) (pos 0)) (changed_at k.key (k.changes (entry.Usage (usage_of t amount count at)))) (counting.use_ t amount count at);
+    }
+  where
+    even : (x u c : ℤ) → c ≡ u → x ≤ℤ ((x +ℤ neg_ℤ u) +ℤ (c +ℤ pos 0))
+    even x u c e = omega (arith, ints, e)
+
+-- one entry that counts nothing
+alone_within : (k : Counting) → IsCounting k → (s : CoreState) (e : Entry) (more : ℤ) → is_usage e ≡ false → pos (open_use k (after_entry s e)) ≤ℤ (pos (open_use k s) +ℤ more) → Within k s (e ∷ []) more
+alone_within k counting s e more none le =
+    record { le = also (pos (open_use k (after_entry s e))) (pos (open_use k s)) more (changed_at k.key (k.changes e)) (counting.others e none) le }
+  where
+    also : (z x a c : ℤ) → c ≡ pos 0 → z ≤ℤ (x +ℤ a) → z ≤ℤ ((x +ℤ a) +ℤ (c +ℤ pos 0))
+    also z x a c e h = omega (arith, ints, e, h)
+
+pub hold_within : (k : Counting) → IsCounting k → (s : CoreState) (t : Txn) (p : Part) (n : ℕ) → Knows s.holdings.txns t → Within k s (hold_entries t p n) (pos (cond (holds_there k t) n 0))
+hold_within k counting s t p n knows = by (nat_eq n 0)
+  where
+    none : (x y : ℕ) → pos x ≤ℤ ((pos x +ℤ pos y) +ℤ pos 0)
+    none x y = omega (arith, ints)
+
+    more : (a b c n : ℕ) → a ≤ b + n → pos (a + c) ≤ℤ (pos (b + c) +ℤ pos n)
+    more a b c n h = omega (arith, ints, h)
+
+    by : (b : Bool) → Within k s (cond b [] (entry.Hold t.token t.user t.currency p (pos n) ∷ [])) (pos (cond (holds_there k t) n 0))
+    by true = record { le = none (open_use k s) (cond (holds_there k t) n 0) }
+    by false =
+        alone_within k counting s (entry.Hold t.token t.user t.currency p (pos n)) (pos (cond (holds_there k t) n 0)) refl
+        (more (held_open k (after_changes s.holdings.parts (change_of (part_key t.token p) (pos n))) s.holdings.txns) (held_open k s.holdings.parts s.holdings.txns) (calls_open k s.holdings.txns s.calls) (cond (holds_there k t) n 0)
+        (subst (λ (x : Txn). held_open k (after_changes s.holdings.parts (change_of (part_key t.token p) (pos n))) s.holdings.txns ≤ held_open k s.holdings.parts s.holdings.txns + cond (holds_there k x) n 0) knows.its
+        (held_more k s.holdings.parts t.token p n s.holdings.txns knows.now knows.own knows.stands)))
+
+pub unhold_within : (k : Counting) → IsCounting k → (s : CoreState) (t : Txn) (p : Part) (n : ℕ) → Knows s.holdings.txns t → n ≤ part_held s.holdings.parts t.token p
+    → Within k s (unhold_entries t p n) (neg_ℤ (pos (cond (holds_there k t) n 0)))
+unhold_within k counting s t p n knows le = by (nat_eq n 0) refl
+  where
+    none : (x y : ℕ) → y ≡ 0 → pos x ≤ℤ ((pos x +ℤ neg_ℤ (pos y)) +ℤ pos 0)
+    none x y e = omega (arith, ints, e)
+
+    less : (a b c n : ℕ) → a + n ≤ b → pos (a + c) ≤ℤ (pos (b + c) +ℤ neg_ℤ (pos n))
+    less a b c n h = omega (arith, ints, h)
+
+    by : (b : Bool) → nat_eq n 0 ≡ b → Within k s (cond b [] (entry.Hold t.token t.user t.currency p (neg_ℤ (pos n)) ∷ [])) (neg_ℤ (pos (cond (holds_there k t) n 0)))
+    by true e = record { le = none (open_use k s) (cond (holds_there k t) n 0) (zero_either (holds_there k t) n (number_is n 0 e)) }
+    by false e =
+        alone_within k counting s (entry.Hold t.token t.user t.currency p (neg_ℤ (pos n))) (neg_ℤ (pos (cond (holds_there k t) n 0))) refl
+        (less (held_open k (after_changes s.holdings.parts (change_of (part_key t.token p) (neg_ℤ (pos n)))) s.holdings.txns) (held_open k s.holdings.parts s.holdings.txns) (calls_open k s.holdings.txns s.calls) (cond (holds_there k t) n 0)
+        (subst (λ (x : Txn). held_open k (after_changes s.holdings.parts (change_of (part_key t.token p) (neg_ℤ (pos n)))) s.holdings.txns + cond (holds_there k x) n 0 ≤ held_open k s.holdings.parts s.holdings.txns) knows.its
+        (held_less k s.holdings.parts t.token p n s.holdings.txns knows.now knows.own knows.stands le)))
+
+-- an asked call opens what its ask may open
+call_is_ask : (k : Counting) (txns : List TxnNow) (c : CallNow) (t : Txn) → Knows txns t → c.opened.txn ≡ t.token → is_asked c ≡ true → call_open k txns c ≡ opens k (call_ask c.opened t)
+call_is_ask k txns c t knows same asked =
+    ap (λ (b : Bool). cond (b && call_reaches k txns c) (weight k c.opened) 0) asked
+    ∙ ap (λ (o : Option TxnNow). cond (is_some_with (λ (t : TxnNow). reaches k t.txn c.opened.at) o) (weight k c.opened) 0) (ap (λ (x : List ℕ). txn_named x txns) same ∙ knows.stands)
+    ∙ ap (λ (x : Txn). cond (reaches k x c.opened.at) (weight k c.opened) 0) knows.its
+
+pub close_within : (k : Counting) → IsCounting k → (s : CoreState) (n : ℕ) (c : CallNow) (t : Txn) (how : How) → Knows s.holdings.txns t → c.opened.txn ≡ t.token → IsAsked s.calls n c
+    → Within k s (entry.Closed c.opened.call how ∷ []) (neg_ℤ (pos (opens k (call_ask c.opened t))))
+close_within k counting s n c t how knows same now =
+    alone_within k counting s (entry.Closed c.opened.call how) (neg_ℤ (pos (opens k (call_ask c.opened t)))) refl
+    (less (held_open k s.holdings.parts s.holdings.txns) (calls_open k s.holdings.txns (map (call_after_close c.opened.call.0 how) s.calls)) (calls_open k s.holdings.txns s.calls) (call_open k s.holdings.txns c) (opens k (call_ask c.opened t))
+    (call_is_ask k s.holdings.txns c t knows same now.asked)
+    (calls_less k s.holdings.txns c.opened.call.0 how s.calls c (by_itself s.calls n c now).stands now.asked))
+  where
+    less : (a b c w v : ℕ) → w ≡ v → b + w ≤ c → pos (a + b) ≤ℤ (pos (a + c) +ℤ neg_ℤ (pos v))
+    less a b c w v e h = omega (arith, ints, e, h)
+
+pub open_within : (k : Counting) → IsCounting k → (s : CoreState) (o : Opened) (t : Txn) (ask : Ask) → Knows s.holdings.txns t → o.txn ≡ t.token → call_ask o t ≡ ask
+    → Within k s (entry.Opened o ∷ []) (pos (opens k ask))
+open_within k counting s o t ask knows same its =
+    let c : CallNow = record { opened = o; how = None } in
+    alone_within k counting s (entry.Opened o) (pos (opens k ask)) refl
+    (more (held_open k s.holdings.parts s.holdings.txns) (calls_open k s.holdings.txns (s.calls ++ c ∷ [])) (calls_open k s.holdings.txns s.calls) (call_open k s.holdings.txns c) (opens k ask)
+    (calls_more k s.holdings.txns s.calls c) (call_is_ask k s.holdings.txns c t knows same refl ∙ ap (opens k) its))
+  where
+    more : (a b c w v : ℕ) → b ≡ c + w → w ≡ v → pos (a + b) ≤ℤ (pos (a + c) +ℤ pos v)
+    more a b c w v e h = omega (arith, ints, e, h)
+
+pub begin_pays : (k : Counting) → IsCounting k → (s : CoreState) (t : Txn) → HoldsNothing s.holdings.parts t.token → Each (IsOfThese s.holdings.txns) s.calls → Pays k s (entry.Began t ∷ [])
+begin_pays k counting s t nothing its =
+    alone_within k counting s (entry.Began t) (pos 0) refl
+    (even (open_use k (after_entry s (entry.Began t))) (open_use k s)
+    (ap₂ (λ (m n : ℕ). m + n) (held_begun k s.holdings.parts s.holdings.txns t (is_live s.holdings.txns t.token) nothing)
+    (calls_begun k s.holdings.txns (record { txn = t; live = is_live s.holdings.txns t.token }) s.calls its)))
+  where
+    even : (a b : ℕ) → a ≡ b → pos a ≤ℤ (pos b +ℤ pos 0)
+    even a b e = omega (arith, ints, e)

@@ -1,0 +1,138 @@
+-- On the book of every legal list of records a user's balance is what the user owns.
+use Rattle.std.proofs.Common.{◌≡◌, ℕ, ℤ, pos, ◌+ℤ◌, Bool, true, false, ◌&&◌, List, [], ◌∷◌, ◌++◌, fold, refl, sym, ap, ap₂, subst, ◌∙◌}
+use Rattle.std.proofs.lemmas.Bool.Decides.{Decides-int_eq}
+use Rattle.std.proofs.lemmas.List.Sums.{fold-append}
+use Rattle.std.specs.Prelude.{Option, Some, None, option_map}
+use Rattle.std.specs.List.{list_all}
+use Rattle.std.specs.Ordering.{int_eq}
+use Rattle.iss_model.specs.declared.account.Account.{Account}
+use Rattle.iss_model.specs.declared.account.Account.TheVariants as account
+use Rattle.iss_model.specs.declared.currency.Currency.{Currency}
+use Rattle.iss_model.specs.declared.entry.Entry.{Entry}
+use Rattle.iss_model.specs.declared.entry.Row.{Row}
+use Rattle.iss_model.specs.declared.input.Input.{Input}
+use Rattle.iss_model.specs.declared.input.Record.{Record}
+use Rattle.iss_model.specs.declared.setting.Funding.{Funding}
+use Rattle.iss_model.specs.Sums.{balance_changes, sum_at, user_key}
+use Rattle.iss_model.specs.rules.Activity.{TxnNow, txn_named}
+use Rattle.iss_model.specs.rules.CardReasons.{is_account_funded}
+use Rattle.iss_model.specs.rules.Due.{DueItem, due_items, thing_entries}
+use Rattle.iss_model.specs.rules.Facts.{Facts, balance_in}
+use Rattle.iss_model.specs.rules.Histories.{History, IsLegal, history_facts, history_keeper, history_of, nothing_yet}
+use Rattle.iss_model.specs.rules.Keeper.{Growth}
+use Rattle.iss_model.specs.rules.Stepping.{after_due, entries_of, settle, step}
+use Rattle.iss_model.specs.state.Cores.{CoreState, after_entry, core_facts, core_keeper, core_of, no_core, with_record}
+use Rattle.iss_agreement.proofs.CoreOfBook.{core_step, entries_history, facts_history}
+use Rattle.iss_invariants.specs.Sound.{IsNewEvent}
+use Rattle.iss_invariants.proofs.Legal.{legal_induction}
+use Rattle.iss_docket.proofs.Lists.{inside}
+use Rattle.iss_pending.specs.Pending.{HasTakenUp, IsWell}
+use Rattle.iss_pending.proofs.Legal.{nothing_well}
+use Rattle.iss_pending.proofs.Steps.{ready_settled, ready_taken, step_well}
+use Rattle.iss_holdings.specs.Holdings.{IsHeldWell}
+use Rattle.iss_holdings.proofs.Steps.{HoldsWell, nothing_held, step_held, thing_held}
+use Rattle.iss_laws.specs.UserBalances.{EachBalanceIsOwn, accounts_named, balances_are_own, has_own_balance, is_own, own_changes, owned_in, pays_itself}
+use Rattle.iss_laws.proofs.HoldsWell.{longer}
+use Rattle.iss_laws.proofs.OwnInputs.{Agrees, agrees_before, funding_of, input_same, thing_same}
+use Rattle.iss_laws.proofs.OwnPieces.{AddsSame, both_same, none_same}
+use Rattle.iss_laws.proofs.Rows.{step_summed, sum_among}
+
+module _ (own : List ℕ → Bool) (key : List ℕ) where
+  agrees_swept : (at : ℕ) (g : Growth CoreState) (items : List DueItem) → Agrees own (fold (settle core_keeper at) g items).world.holdings.txns → Agrees own g.world.holdings.txns
+  agrees_swept at g [] agrees = agrees
+  agrees_swept at g (item ∷ items) agrees = agrees_before own g.world (thing_entries item.thing at (core_facts g.world)) (agrees_swept at (settle core_keeper at g item) items agrees)
+
+  -- what stands after due items: a record that was taken up still is, all is held well, and the entries so far add the same
+  record Swept (i : Input) (g : Growth CoreState) : Type 0 where
+    ready : HasTakenUp g.world i
+    held : IsHeldWell g.world
+    same : AddsSame own key g.entries
+
+  swept : (at : ℕ) (g : Growth CoreState) (items : List DueItem) (i : Input) → Swept i g → Agrees own (fold (settle core_keeper at) g items).world.holdings.txns
+      → Swept i (fold (settle core_keeper at) g items)
+  swept at g [] i now agrees = now
+  swept at g (item ∷ items) i now agrees =
+      let s : CoreState = g.world in
+      swept at (settle core_keeper at g item) items i
+      (record {
+        ready = ready_settled s i item.thing at now.ready;
+        held = thing_held s i item at now.ready now.held;
+        same = both_same now.same (thing_same own key s item.thing at now.held (agrees_swept at g (item ∷ items) agrees));
+      }) agrees
+
+  step_same : (s : CoreState) (r : Record) → IsNewEvent s r.input → IsWell s → IsHeldWell s → Agrees own (step core_keeper s r).world.holdings.txns → AddsSame own key (step core_keeper s r).entries
+  unfolding step
+  step_same s r new well held agrees =
+      let due : CoreState = (after_due core_keeper (with_record s r) r.at).world in
+      let sweep : Swept r.input (after_due core_keeper (with_record s r) r.at) =
+          swept r.at (record { world = with_record s r; entries = [] }) (due_items (core_facts (with_record s r)) r.at) r.input
+          (record { ready = ready_taken s r well new; held = held; same = none_same })
+          (agrees_before own due (entries_of r.input r.at (core_facts due)) agrees)
+      in
+      both_same sweep.same (input_same own key due r.input r.at sweep.ready sweep.held agrees)
+
+  step_agrees : (s : CoreState) (r : Record) → Agrees own (step core_keeper s r).world.holdings.txns → Agrees own s.holdings.txns
+  unfolding step
+  step_agrees s r agrees =
+      let due : CoreState = (after_due core_keeper (with_record s r) r.at).world in
+      agrees_swept r.at (record { world = with_record s r; entries = [] }) (due_items (core_facts (with_record s r)) r.at)
+      (agrees_before own due (entries_of r.input r.at (core_facts due)) agrees)
+
+-- over all records ----
+
+record IsOwned (rs : List Record) (s : CoreState) : Type 0 where
+  holds : HoldsWell s
+  same : (own : List ℕ → Bool) (key : List ℕ) → Agrees own s.holdings.txns → sum_at balance_changes (4 ∷ key) (history_of rs).rows ≡ sum_at (own_changes own) key (history_of rs).rows
+
+same_more : (rs : List Record) (r : Record) (own : List ℕ → Bool) (key : List ℕ) → IsNewEvent (core_of rs) r.input → IsOwned rs (core_of rs) → Agrees own (step core_keeper (core_of rs) r).world.holdings.txns
+    → sum_at balance_changes (4 ∷ key) (history_of (rs ++ r ∷ [])).rows ≡ sum_at (own_changes own) key (history_of (rs ++ r ∷ [])).rows
+same_more rs r own key new h agrees =
+    let book : History = history_of rs in
+    let es : List Entry = (step core_keeper (core_of rs) r).entries in
+    let before = h.same own key (step_agrees own key (core_of rs) r agrees) in
+    let added : AddsSame own key es = step_same own key (core_of rs) r new h.holds.well h.holds.held agrees in
+    ap (λ (h : History). sum_at balance_changes (4 ∷ key) h.rows) (longer rs r)
+    ∙ step_summed balance_changes (4 ∷ key) book r
+    ∙ ap (λ (es : List Entry). sum_at balance_changes (4 ∷ key) book.rows +ℤ sum_among balance_changes (4 ∷ key) es) (sym (entries_history rs r))
+    ∙ ap₂ (λ (x y : ℤ). x +ℤ y) before added.same
+    ∙ ap (λ (es : List Entry). sum_at (own_changes own) key book.rows +ℤ sum_among (own_changes own) key es) (entries_history rs r)
+    ∙ sym (step_summed (own_changes own) key book r)
+    ∙ ap (λ (h : History). sum_at (own_changes own) key h.rows) (sym (longer rs r))
+
+all_owned : (rs : List Record) → IsLegal rs → IsOwned rs (core_of rs)
+all_owned rs legal =
+    legal_induction IsOwned (record { holds = record { well = nothing_well; held = nothing_held }; same = λ own key agrees. refl })
+    (λ rs r new h. record {
+      holds = record { well = step_well (core_of rs) r new h.holds.well; held = step_held (core_of rs) r new h.holds.well h.holds.held };
+      same = λ own key agrees. same_more rs r own key new h agrees;
+    }) rs legal
+
+-- the facts tell which transactions the user's own balance pays
+facts_agree : (s : CoreState) → Agrees (is_own (core_facts s)) s.holdings.txns
+facts_agree s = record { at = λ token f e. by (txn_named token s.holdings.txns) f e }
+  where
+    by : (o : Option TxnNow) (f : Funding) → option_map (λ (t : TxnNow). t.txn.funding) o ≡ Some f → pays_itself o ≡ is_account_funded f
+    by None f e = cc
+    by (Some now) f e = ap is_account_funded (inside e)
+
+pub law_owned : (rs : List Record) → IsLegal rs → EachBalanceIsOwn (history_of rs)
+law_owned rs legal user c =
+    (all_owned rs legal).same (is_own (history_facts (history_of rs))) (user_key user c)
+    (subst (λ (f : Facts). Agrees (is_own f) (core_of rs).holdings.txns) (facts_history rs) (facts_agree (core_of rs)))
+
+-- as a test ----
+
+all_true : {A : Type 0} (q : A → Bool) → ((x : A) → q x ≡ true) → (xs : List A) → list_all q xs ≡ true
+all_true q each [] = refl
+all_true q each (x ∷ xs) = ap (λ (b : Bool). b && list_all q xs) (each x) ∙ all_true q each xs
+
+has_it : (h : History) → EachBalanceIsOwn h → (a : Account) → has_own_balance h a ≡ true
+has_it h each (account.User user c) = (Decides-int_eq (balance_in (history_facts h) (account.User user c)) (owned_in h user c)).1 (each user c)
+has_it h each (account.Gateway c) = refl
+has_it h each (account.Programme c) = refl
+has_it h each (account.Network c) = refl
+
+pub law_balances : (rs : List Record) → IsLegal rs → balances_are_own (history_of rs) ≡ true
+law_balances rs legal =
+    let h : History = history_of rs in
+    all_true (λ (row : Row). list_all (has_own_balance h) (accounts_named row.entry)) (λ row. all_true (has_own_balance h) (has_it h (law_owned rs legal)) (accounts_named row.entry)) h.rows

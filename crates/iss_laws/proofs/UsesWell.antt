@@ -1,0 +1,376 @@
+-- At the time of every legal book what is open of counted use was counted, so no control has counted less than nothing.
+use Rattle.std.proofs.Common.{◌≡◌, ℕ, ℤ, pos, negsuc, neg_ℤ, ◌+ℤ◌, ◌+◌, ◌≤◌, max, Bool, true, false, cond, ◌&&◌, nat_le, List, [], ◌∷◌, ◌++◌, map, fold, append_assoc, refl, sym, ap, ap₂, subst, ◌∙◌, arith}
+use Rattle.std.proofs.lemmas.Int.{ints}
+use Rattle.std.proofs.lemmas.Bool.{and_parts}
+use Rattle.std.proofs.lemmas.Bool.Decides.{nat_tests}
+use Rattle.std.proofs.lemmas.List.{append-nil}
+use Rattle.std.proofs.lemmas.List.Folds.{list_all-map}
+use Rattle.std.proofs.lemmas.List.Sums.{fold-append}
+use Rattle.std.specs.Prelude.{◌≤ℤ◌, Option, Some, None}
+use Rattle.std.specs.List.{list_all}
+use Rattle.std.specs.Str.{bytes_eq}
+use Rattle.iss_model.specs.declared.entry.Entry.{Entry}
+use Rattle.iss_model.specs.declared.entry.Entry.TheVariants as entry
+use Rattle.iss_model.specs.declared.entry.Row.{Row}
+use Rattle.iss_model.specs.declared.input.Input.{Input}
+use Rattle.iss_model.specs.declared.input.Record.{Record}
+use Rattle.iss_model.specs.declared.setting.User.{User}
+use Rattle.iss_model.specs.declared.setting.Window.{Window}
+use Rattle.iss_model.specs.declared.setting.Window.TheVariants as window
+use Rattle.iss_model.specs.declared.txn.Txn.{Txn}
+use Rattle.iss_model.specs.declared.txn.UsageRow.{UsageRow}
+use Rattle.iss_model.specs.Calendar.{window_at}
+use Rattle.iss_model.specs.Sums.{Change, changed_at, int_key, sum_at}
+use Rattle.iss_model.specs.rules.Activity.{TxnNow, txn_named}
+use Rattle.iss_model.specs.rules.Asks.{usage_of, used_by}
+use Rattle.iss_model.specs.rules.Controls.{ControlNow, ControlPut, Group, control_puts_of, counted_changes, counted_control, counter_key, counts, groups_of, span_key, window_key}
+use Rattle.iss_model.specs.rules.Due.{DueItem, due_items, thing_entries}
+use Rattle.iss_model.specs.rules.Facts.{Facts}
+use Rattle.iss_model.specs.rules.Histories.{History, IsLegal, IsLegalAfter, history_facts, history_keeper, history_of, nothing_yet, time_of}
+use Rattle.iss_model.specs.rules.Keeper.{Growth}
+use Rattle.iss_model.specs.rules.Stepping.{after_due, entries_of, settle, step}
+use Rattle.iss_model.specs.state.Cores.{CoreState, after_entry, core_facts, core_keeper, core_of, no_core, with_record}
+use Rattle.iss_agreement.proofs.CoreOfBook.{core_step, entries_history, facts_history, judge_history}
+use Rattle.iss_invariants.specs.Sound.{IsNewEvent}
+use Rattle.iss_invariants.proofs.NewEvents.{judged_new}
+use Rattle.iss_pending.specs.Pending.{HasTakenUp, IsWell}
+use Rattle.iss_pending.proofs.Legal.{nothing_well}
+use Rattle.iss_pending.proofs.Steps.{ready_settled, ready_taken, step_well}
+use Rattle.iss_holdings.specs.Holdings.{BegunBy, IsHeldWell}
+use Rattle.iss_holdings.proofs.Inputs.{own_keeps, thing_keeps}
+use Rattle.iss_holdings.proofs.Steps.{HoldsWell, nothing_held, step_held, thing_held}
+use Rattle.iss_holdings.proofs.Times.{due_now, entries_begun, entries_now, stamp_by_now}
+use Rattle.iss_model.proofs.Names.{one_name}
+use Rattle.iss_laws.specs.Tests.{not_negative}
+use Rattle.iss_laws.specs.Uses.{counts_txn_well, counts_well, has_counted_well, is_use, use_is_not_negative, used_of}
+use Rattle.iss_laws.proofs.HoldsWell.{is_not_negative, longer}
+use Rattle.iss_laws.proofs.OpenInputs.{CountsOn, input_uses, thing_uses}
+use Rattle.iss_laws.proofs.OpenUse.{Counting, IsCounting, Pays, is_usage, open_use, used}
+use Rattle.iss_laws.proofs.Rows.{among_summed, step_summed, sum_among}
+use Rattle.iss_laws.proofs.Windows.{window_grows, window_is, window_nat}
+
+-- what is due ----
+
+-- What stands after due items: a record that was taken up still is, all is held well, transactions began by now, and no more was opened than counted.
+record Swept (i : Input) (k : Counting) (before : ℕ) (g : Growth CoreState) : Type 0 where
+  ready : HasTakenUp g.world i
+  held : IsHeldWell g.world
+  begun : BegunBy g.world.now g.world.holdings.txns
+  opened : pos (open_use k g.world) ≤ℤ (pos before +ℤ used k g.entries)
+
+more_used : (z y x : ℕ) (u v w : ℤ) → w ≡ u +ℤ v → pos y ≤ℤ (pos x +ℤ u) → pos z ≤ℤ ((pos y +ℤ pos 0) +ℤ v) → pos z ≤ℤ (pos x +ℤ w)
+more_used z y x u v w e h k = omega (arith, ints, e, h, k)
+
+swept : (k : Counting) → IsCounting k → (before at : ℕ) (g : Growth CoreState) (items : List DueItem) (i : Input) → Swept i k before g → Swept i k before (fold (settle core_keeper at) g items)
+swept k counting before at g [] i now = now
+swept k counting before at g (item ∷ items) i now =
+    let s : CoreState = g.world in
+    let es : List Entry = thing_entries item.thing at (core_facts s) in
+    let pays : Pays k s es = thing_uses k counting now.ready.before s item.thing at now.ready.well now.held in
+    swept k counting before at (settle core_keeper at g item) items i
+    (record {
+      ready = ready_settled s i item.thing at now.ready;
+      held = thing_held s i item at now.ready now.held;
+      begun = entries_begun s es (thing_keeps now.ready.before s item.thing at now.ready.well now.held) now.begun;
+      opened = more_used (open_use k (fold after_entry s es)) (open_use k s) before (used k g.entries) (used k es) (used k (g.entries ++ es)) (among_summed k.changes k.key g.entries es) now.opened pays.le;
+    })
+
+-- a step ----
+
+later_begun : (now last : ℕ) (s : CoreState) → now ≤ last → BegunBy now s.holdings.txns → BegunBy last s.holdings.txns
+later_begun now last s le begun token t e = chain t.txn.at now last (begun token t e) le
+  where
+    chain : (a b c : ℕ) → a ≤ b → b ≤ c → a ≤ c
+    chain a b c h k = omega (arith, h, k)
+
+higher : (a b : ℕ) → a ≤ max a b
+higher a b = omega arith
+
+no_higher : (a b : ℕ) → a ≤ b → max a b ≤ b
+no_higher a b h = omega (arith, h)
+
+step_opened : (s : CoreState) (r : Record) (k : Counting) (last : ℕ) → s.now ≤ r.at → IsNewEvent s r.input → IsWell s → IsHeldWell s → BegunBy s.now s.holdings.txns
+    → IsCounting k → CountsOn k last → r.at ≤ last → pos (open_use k (step core_keeper s r).world) ≤ℤ (pos (open_use k s) +ℤ used k (step core_keeper s r).entries)
+unfolding step
+step_opened s r k last early new well held begun counting on by_last =
+    let up : CoreState = with_record s r in
+    let due : Growth CoreState = after_due core_keeper up r.at in
+    let es : List Entry = entries_of r.input r.at (core_facts due.world) in
+    let sweep : Swept r.input k (open_use k s) due =
+        swept k counting (open_use k s) r.at (record { world = up; entries = [] }) (due_items (core_facts up) r.at) r.input
+        (record { ready = ready_taken s r well new; held = held; begun = later_begun s.now (max s.now r.at) s (higher s.now r.at) begun; opened = itself (open_use k s) })
+    in
+    let time : due.world.now ≤ r.at = subst (λ (n : ℕ). n ≤ r.at) (sym (due_now up r.at)) (no_higher s.now r.at early) in
+    let pays : Pays k due.world es = input_uses k counting last on due.world r.input r.at time by_last sweep.ready sweep.held sweep.begun in
+    more_used (open_use k (fold after_entry due.world es)) (open_use k due.world) (open_use k s) (used k due.entries) (used k es) (used k (due.entries ++ es)) (among_summed k.changes k.key due.entries es) sweep.opened pays.le
+  where
+    itself : (n : ℕ) → pos n ≤ℤ (pos n +ℤ pos 0)
+    itself n = omega (arith, ints)
+
+-- nothing is counted
+abbrev no_counting : Counting
+no_counting = record { changes = λ e. []; key = []; counts_at = λ t at. false; by_amount = true }
+
+step_begun : (s : CoreState) (r : Record) → IsNewEvent s r.input → IsWell s → IsHeldWell s → BegunBy s.now s.holdings.txns → BegunBy (step core_keeper s r).world.now (step core_keeper s r).world.holdings.txns
+unfolding step
+step_begun s r new well held begun =
+    let up : CoreState = with_record s r in
+    let due : Growth CoreState = after_due core_keeper up r.at in
+    let sweep : Swept r.input no_counting (open_use no_counting s) due =
+        swept no_counting (record { use_ = λ t amount count at. refl; others = λ e h. refl }) (open_use no_counting s) r.at (record { world = up; entries = [] }) (due_items (core_facts up) r.at) r.input
+        (record { ready = ready_taken s r well new; held = held; begun = later_begun s.now (max s.now r.at) s (higher s.now r.at) begun; opened = itself (open_use no_counting s) })
+    in
+    entries_begun due.world (entries_of r.input r.at (core_facts due.world)) (own_keeps due.world r.input r.at (stamp_by_now s r) sweep.ready sweep.held) sweep.begun
+  where
+    itself : (n : ℕ) → pos n ≤ℤ (pos n +ℤ pos 0)
+    itself n = omega (arith, ints)
+
+step_now : (s : CoreState) (r : Record) → (step core_keeper s r).world.now ≡ max s.now r.at
+unfolding step
+step_now s r =
+    let due : CoreState = (after_due core_keeper (with_record s r) r.at).world in
+    entries_now due (entries_of r.input r.at (core_facts due)) ∙ due_now (with_record s r) r.at
+
+-- over all records, by their stamps ----
+
+-- what is open was counted
+record IsCounted (rs : List Record) (s : CoreState) : Type 0 where
+  holds : HoldsWell s
+  begun : BegunBy s.now s.holdings.txns
+  counted : (k : Counting) (last : ℕ) → IsCounting k → CountsOn k last → s.now ≤ last → pos (open_use k s) ≤ℤ sum_at k.changes k.key (history_of rs).rows
+
+counted_step : (rs : List Record) (r : Record) → (core_of rs).now ≤ r.at → IsNewEvent (core_of rs) r.input → IsCounted rs (core_of rs) → IsCounted (rs ++ r ∷ []) (step core_keeper (core_of rs) r).world
+counted_step rs r early new h =
+    let s : CoreState = core_of rs in
+    record {
+      holds = record { well = step_well s r new h.holds.well; held = step_held s r new h.holds.well h.holds.held };
+      begun = step_begun s r new h.holds.well h.holds.held h.begun;
+      counted = λ k last counting on by_last.
+          let now : max s.now r.at ≤ last = subst (λ (n : ℕ). n ≤ last) (step_now s r) by_last in
+          subst (λ (z : ℤ). pos (open_use k (step core_keeper s r).world) ≤ℤ z)
+          (sym (ap (λ (h : History). sum_at k.changes k.key h.rows) (longer rs r) ∙ step_summed k.changes k.key (history_of rs) r
+          ∙ ap (λ (es : List Entry). sum_at k.changes k.key (history_of rs).rows +ℤ sum_among k.changes k.key es) (sym (entries_history rs r))))
+          (chain (open_use k (step core_keeper s r).world) (open_use k s) (used k (step core_keeper s r).entries) (sum_at k.changes k.key (history_of rs).rows)
+          (step_opened s r k last early new h.holds.well h.holds.held h.begun counting on (right s.now r.at last now)) (h.counted k last counting on (left s.now r.at last now)));
+    }
+  where
+    left : (a b c : ℕ) → max a b ≤ c → a ≤ c
+    left a b c h = omega (arith, h)
+
+    right : (a b c : ℕ) → max a b ≤ c → b ≤ c
+    right a b c h = omega (arith, h)
+
+    chain : (z x : ℕ) (u y : ℤ) → pos z ≤ℤ (pos x +ℤ u) → pos x ≤ℤ y → pos z ≤ℤ (y +ℤ u)
+    chain z x u y h k = omega (arith, ints, h, k)
+
+counted_from : (before rs : List Record) → IsLegalAfter (history_of before) rs → IsCounted before (core_of before) → IsCounted (before ++ rs) (core_of (before ++ rs))
+counted_from before [] legal h = subst (λ (xs : List Record). IsCounted xs (core_of xs)) (sym (append-nil before)) h
+counted_from before (r ∷ rs) legal h =
+    let more : List Record = before ++ r ∷ [] in
+    let new = judged_new (core_of before) r (judge_history before r.input r.at ∙ legal.0.is_new) in
+    let early : (core_of before).now ≤ r.at = subst (λ (f : Facts). f.now ≤ r.at) (sym (facts_history before)) legal.0.stamp in
+    let next : IsCounted more (core_of more) = subst (IsCounted more) (core_step before r) (counted_step before r early new h) in
+    subst (λ (xs : List Record). IsCounted xs (core_of xs)) (append_assoc before (r ∷ []) rs)
+    (counted_from more rs (subst (λ (h : History). IsLegalAfter h rs) (sym (longer before r)) legal.1) next)
+
+no_transactions : (k : Counting) → pos (open_use k no_core) ≤ℤ pos 0
+no_transactions k = none
+  where
+    none : pos (0 + 0) ≤ℤ pos 0
+    none = omega (arith, ints)
+
+none_named : {Q : Type 0} (t : TxnNow) → None ≡ Some t → Q
+none_named t e = cc
+
+all_counted : (rs : List Record) → IsLegal rs → IsCounted rs (core_of rs)
+all_counted rs legal =
+    counted_from [] rs legal
+    (record { holds = record { well = nothing_well; held = nothing_held }; begun = λ token t e. none_named t e; counted = λ k last counting on by_last. no_transactions k })
+
+-- controls ----
+
+-- what a control counts in a window at a key, amounts or times
+abbrev counting_of : List Group → ControlPut → Window → List ℕ → Bool → (UsageRow → ℤ) → Counting
+counting_of groups put w key by_amount worth =
+    record {
+      changes = counted_changes worth groups put;
+      key = key;
+      counts_at = λ t at. counts groups put (usage_of t (pos 0) (pos 0) at) && bytes_eq (span_key put.control w (usage_of t (pos 0) (pos 0) at)) key;
+      by_amount = by_amount;
+    }
+
+same_span : (put : ControlPut) (w : Window) (t : Txn) (amount count : ℤ) (at : ℕ) → span_key put.control w (usage_of t amount count at) ≡ span_key put.control w (usage_of t (pos 0) (pos 0) at)
+same_span put window.Transaction t amount count at = refl
+same_span put window.Day t amount count at = refl
+same_span put window.Week t amount count at = refl
+same_span put window.Month t amount count at = refl
+same_span put window.Lifetime t amount count at = refl
+
+counted_where : (x : Bool) (span key : List ℕ) (z : ℤ) → changed_at key (cond x (record { key = span; by = z } ∷ []) []) ≡ cond (x && bytes_eq span key) z (pos 0)
+counted_where true span key z = alone (cond (bytes_eq span key) z (pos 0))
+  where
+    alone : (z : ℤ) → z +ℤ pos 0 ≡ z
+    alone z = omega (arith, ints)
+counted_where false span key z = refl
+
+no_use : (worth : UsageRow → ℤ) (groups : List Group) (put : ControlPut) (key : List ℕ) (e : Entry) → is_usage e ≡ false → changed_at key (counted_changes worth groups put e) ≡ pos 0
+no_use worth groups put key (entry.Usage row) h = cc
+no_use worth groups put key _ h = refl
+
+used_there : (worth : UsageRow → ℤ) (groups : List Group) (put : ControlPut) (w : Window) (key : List ℕ) → put.control.window ≡ w → (t : Txn) (amount count : ℤ) (at : ℕ)
+    → changed_at key (counted_changes worth groups put (entry.Usage (usage_of t amount count at)))
+    ≡ cond (counts groups put (usage_of t (pos 0) (pos 0) at) && bytes_eq (span_key put.control w (usage_of t (pos 0) (pos 0) at)) key) (worth (usage_of t amount count at)) (pos 0)
+used_there worth groups put w key e t amount count at =
+    counted_where (counts groups put (usage_of t amount count at)) (span_key put.control put.control.window (usage_of t amount count at)) key (worth (usage_of t amount count at))
+    ∙ ap (λ (span : List ℕ). cond (counts groups put (usage_of t (pos 0) (pos 0) at) && bytes_eq span key) (worth (usage_of t amount count at)) (pos 0))
+    (ap (λ (w : Window). span_key put.control w (usage_of t amount count at)) e ∙ same_span put w t amount count at)
+
+amounts_count : (groups : List Group) (put : ControlPut) (w : Window) (key : List ℕ) → put.control.window ≡ w → IsCounting (counting_of groups put w key true (λ row. row.amount))
+amounts_count groups put w key e =
+    record { use_ = λ t amount count at. used_there (λ (row : UsageRow). row.amount) groups put w key e t amount count at; others = no_use (λ (row : UsageRow). row.amount) groups put key }
+
+times_count : (groups : List Group) (put : ControlPut) (w : Window) (key : List ℕ) → put.control.window ≡ w → IsCounting (counting_of groups put w key false (λ row. row.count))
+times_count groups put w key e =
+    record { use_ = λ t amount count at. used_there (λ (row : UsageRow). row.count) groups put w key e t amount count at; others = no_use (λ (row : UsageRow). row.count) groups put key }
+
+-- keys of windows ----
+
+-- the last number of a list, or 0
+abbrev last_of : List ℕ → ℕ
+last_of [] = 0
+last_of (x ∷ []) = x
+last_of (x ∷ y ∷ ys) = last_of (y ∷ ys)
+
+last_behind : (user : List ℕ) (n : ℕ) → last_of (user ++ 0 ∷ 1 ∷ n ∷ []) ≡ n
+last_behind [] n = refl
+last_behind (x ∷ []) n = refl
+last_behind (x ∷ y ∷ ys) n = last_behind (y ∷ ys) n
+
+-- a user's key of a window by its number
+key_is : (w : Window) (user : List ℕ) (at : ℕ) → window_key w (pos 0) user at ≡ user ++ 0 ∷ 1 ∷ window_nat w at ∷ []
+key_is w user at = ap (λ (z : ℤ). user ++ 0 ∷ int_key z) (window_is w at)
+
+between : (w : Window) (a b last : ℕ) → a ≤ b → b ≤ last → window_nat w a ≡ window_nat w last → window_nat w b ≡ window_nat w last
+between w a b last h k e = squeeze (window_nat w a) (window_nat w b) (window_nat w last) (window_grows w a b h) (window_grows w b last k) e
+  where
+    squeeze : (x y z : ℕ) → x ≤ y → y ≤ z → x ≡ z → y ≡ z
+    squeeze x y z h k e = omega (arith, h, k, e)
+
+-- where a stamp lies in the window of the last moment, those between do too
+window_stays : (w : Window) (one other : List ℕ) (a b last : ℕ) → a ≤ b → b ≤ last → bytes_eq (window_key w (pos 0) one a) (window_key w (pos 0) other last) ≡ true
+    → bytes_eq (window_key w (pos 0) one b) (window_key w (pos 0) other last) ≡ true
+window_stays w one other a b last h k e =
+    let keys : one ++ 0 ∷ 1 ∷ window_nat w a ∷ [] ≡ other ++ 0 ∷ 1 ∷ window_nat w last ∷ [] =
+        sym (key_is w one a) ∙ one_name (window_key w (pos 0) one a) (window_key w (pos 0) other last) e ∙ key_is w other last
+    in
+    let first : window_nat w a ≡ window_nat w last = sym (last_behind one (window_nat w a)) ∙ ap last_of keys ∙ last_behind other (window_nat w last) in
+    let same : window_key w (pos 0) one b ≡ window_key w (pos 0) one a =
+        key_is w one b ∙ ap (λ (n : ℕ). one ++ 0 ∷ 1 ∷ n ∷ []) (between w a b last h k first ∙ sym first) ∙ sym (key_is w one a)
+    in
+    ap (λ (x : List ℕ). bytes_eq x (window_key w (pos 0) other last)) same ∙ e
+
+both_hold : (x y z : Bool) → (x && y) ≡ true → (y ≡ true → z ≡ true) → (x && z) ≡ true
+both_hold true y z h k = k h
+both_hold false y z h k = cc
+
+-- in the window of the time
+counts_on : (groups : List Group) (put : ControlPut) (w : Window) (user : List ℕ) (last : ℕ) (by_amount : Bool) (worth : UsageRow → ℤ) → (w ≡ window.Transaction → ⊥)
+    → CountsOn (counting_of groups put w (window_key w (pos 0) user last) by_amount worth) last
+counts_on groups put window.Transaction user last by_amount worth other t a b h k l = absurd (other refl)
+counts_on groups put window.Day user last by_amount worth other t a b h k l =
+    both_hold (counts groups put (usage_of t (pos 0) (pos 0) a)) (bytes_eq (window_key window.Day (pos 0) t.user a) (window_key window.Day (pos 0) user last)) _ h (window_stays window.Day t.user user a b last k l)
+counts_on groups put window.Week user last by_amount worth other t a b h k l =
+    both_hold (counts groups put (usage_of t (pos 0) (pos 0) a)) (bytes_eq (window_key window.Week (pos 0) t.user a) (window_key window.Week (pos 0) user last)) _ h (window_stays window.Week t.user user a b last k l)
+counts_on groups put window.Month user last by_amount worth other t a b h k l =
+    both_hold (counts groups put (usage_of t (pos 0) (pos 0) a)) (bytes_eq (window_key window.Month (pos 0) t.user a) (window_key window.Month (pos 0) user last)) _ h (window_stays window.Month t.user user a b last k l)
+counts_on groups put window.Lifetime user last by_amount worth other t a b h k l =
+    both_hold (counts groups put (usage_of t (pos 0) (pos 0) a)) (bytes_eq (window_key window.Lifetime (pos 0) t.user a) (window_key window.Lifetime (pos 0) user last)) _ h (window_stays window.Lifetime t.user user a b last k l)
+
+-- of a transaction at any time
+counts_on_txn : (groups : List Group) (put : ControlPut) (key : List ℕ) (last : ℕ) (by_amount : Bool) (worth : UsageRow → ℤ) → CountsOn (counting_of groups put window.Transaction key by_amount worth) last
+counts_on_txn groups put key last by_amount worth t a b h k l = h
+
+-- the law ----
+
+at_least_open : (n : ℕ) (z : ℤ) → pos n ≤ℤ z → pos 0 ≤ℤ z
+at_least_open n z h = omega (arith, ints, h)
+
+two : (a b : Bool) → a ≡ true → b ≡ true → (a && b) ≡ true
+two a b h k = rw (h, k) refl
+
+-- what a control has counted at a key isn't negative
+use_at : (rs : List Record) (put : ControlPut) (w : Window) (key : List ℕ) → IsLegal rs → put.control.window ≡ w
+    → ((by_amount : Bool) (worth : UsageRow → ℤ) → CountsOn (counting_of (groups_of (history_of rs).rows) put w key by_amount worth) (core_of rs).now)
+    → is_use (record { amount = (counted_control (history_of rs).rows put).amounts key; count = (counted_control (history_of rs).rows put).times key }) ≡ true
+use_at rs put w key legal e on =
+    let groups : List Group = groups_of (history_of rs).rows in
+    let h = all_counted rs legal in
+    let amounts : Counting = counting_of groups put w key true (λ row. row.amount) in
+    let times : Counting = counting_of groups put w key false (λ row. row.count) in
+    let now : (core_of rs).now ≤ (core_of rs).now = itself (core_of rs).now in
+    two _ _
+    (is_not_negative (sum_at amounts.changes key (history_of rs).rows) (at_least_open (open_use amounts (core_of rs)) (sum_at amounts.changes key (history_of rs).rows)
+    (h.counted amounts (core_of rs).now (amounts_count groups put w key e) (on true (λ row. row.amount)) now)))
+    (is_not_negative (sum_at times.changes key (history_of rs).rows) (at_least_open (open_use times (core_of rs)) (sum_at times.changes key (history_of rs).rows)
+    (h.counted times (core_of rs).now (times_count groups put w key e) (on false (λ row. row.count)) now)))
+  where
+    itself : (n : ℕ) → n ≤ n
+    itself n = omega arith
+
+use_now : (rs : List Record) (put : ControlPut) (w : Window) (user : List ℕ) → IsLegal rs → put.control.window ≡ w → is_use (used_by (counted_control (history_of rs).rows put) w user (core_of rs).now) ≡ true
+use_now rs put window.Transaction user legal e = two _ _ (is_not_negative (pos 0) zero_low) (is_not_negative (pos 0) zero_low)
+  where
+    zero_low : pos 0 ≤ℤ pos 0
+    zero_low = omega (arith, ints)
+use_now rs put window.Day user legal e =
+    use_at rs put window.Day (window_key window.Day (pos 0) user (core_of rs).now) legal e (λ by_amount worth. counts_on (groups_of (history_of rs).rows) put window.Day user (core_of rs).now by_amount worth (λ e. never_day e))
+  where
+    never_day : window.Day ≡ window.Transaction → ⊥
+    never_day e = cc
+use_now rs put window.Week user legal e =
+    use_at rs put window.Week (window_key window.Week (pos 0) user (core_of rs).now) legal e (λ by_amount worth. counts_on (groups_of (history_of rs).rows) put window.Week user (core_of rs).now by_amount worth (λ e. never_week e))
+  where
+    never_week : window.Week ≡ window.Transaction → ⊥
+    never_week e = cc
+use_now rs put window.Month user legal e =
+    use_at rs put window.Month (window_key window.Month (pos 0) user (core_of rs).now) legal e (λ by_amount worth. counts_on (groups_of (history_of rs).rows) put window.Month user (core_of rs).now by_amount worth (λ e. never_month e))
+  where
+    never_month : window.Month ≡ window.Transaction → ⊥
+    never_month e = cc
+use_now rs put window.Lifetime user legal e =
+    use_at rs put window.Lifetime (window_key window.Lifetime (pos 0) user (core_of rs).now) legal e (λ by_amount worth. counts_on (groups_of (history_of rs).rows) put window.Lifetime user (core_of rs).now by_amount worth (λ e. never_lifetime e))
+  where
+    never_lifetime : window.Lifetime ≡ window.Transaction → ⊥
+    never_lifetime e = cc
+
+nothing_used : is_use (record { amount = pos 0; count = pos 0 }) ≡ true
+nothing_used = two _ _ (is_not_negative (pos 0) zero_low) (is_not_negative (pos 0) zero_low)
+  where
+    zero_low : pos 0 ≤ℤ pos 0
+    zero_low = omega (arith, ints)
+
+use_of : (rs : List Record) (put : ControlPut) (w : Window) (t : Txn) → IsLegal rs → put.control.window ≡ w → is_use (used_of (counted_control (history_of rs).rows put) w t) ≡ true
+use_of rs put window.Transaction t legal e =
+    use_at rs put window.Transaction (span_key put.control window.Transaction (usage_of t (pos 0) (pos 0) t.at)) legal e
+    (λ by_amount worth. counts_on_txn (groups_of (history_of rs).rows) put (span_key put.control window.Transaction (usage_of t (pos 0) (pos 0) t.at)) (core_of rs).now by_amount worth)
+use_of rs put window.Day t legal e = nothing_used
+use_of rs put window.Week t legal e = nothing_used
+use_of rs put window.Month t legal e = nothing_used
+use_of rs put window.Lifetime t legal e = nothing_used
+
+all_true : {A : Type 0} (q : A → Bool) → ((x : A) → q x ≡ true) → (xs : List A) → list_all q xs ≡ true
+all_true q each [] = refl
+all_true q each (x ∷ xs) = ap (λ (b : Bool). b && list_all q xs) (each x) ∙ all_true q each xs
+
+pub law_used : (rs : List Record) → IsLegal rs → use_is_not_negative (history_of rs) ≡ true
+law_used rs legal =
+    let h : History = history_of rs in
+    let f : Facts = history_facts h in
+    let time : (core_of rs).now ≡ f.now = ap (λ (f : Facts). f.now) (facts_history rs) in
+    list_all-map (has_counted_well f) (counted_control h.rows) (control_puts_of h.rows)
+    ∙ all_true (λ (put : ControlPut). has_counted_well f (counted_control h.rows put))
+    (λ put. two _ _
+    (all_true (counts_well f (counted_control h.rows put)) (λ user.
+        ap (λ (now : ℕ). is_use (used_by (counted_control h.rows put) put.control.window user.name now)) (sym time) ∙ use_now rs put put.control.window user.name legal refl) f.users)
+    (all_true (counts_txn_well (counted_control h.rows put)) (λ t. use_of rs put put.control.window t.txn legal refl) f.txns))
+    (control_puts_of h.rows)

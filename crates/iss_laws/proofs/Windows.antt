@@ -1,0 +1,221 @@
+-- The window of a later stamp has no smaller number.
+use Rattle.std.proofs.Common.{◌≡◌, ℕ, suc, ℤ, pos, ◌+ℤ◌, ◌*ℤ◌, ◌+◌, ◌-◌, ◌*◌, ◌/◌, ◌≤◌, Bool, true, false, cond, nat_le, nat_lt, List, [], ◌∷◌, length, filter, refl, sym, ap, subst, ◌∙◌, arith, ◌⊎◌, inl, inr}
+use Rattle.std.proofs.lemmas.Int.{ints}
+use Rattle.std.proofs.lemmas.Bool.Decides.{nat_tests}
+use Rattle.std.specs.Int.{int_div_euclid}
+use Rattle.std.specs.Prelude.{unsigned_abs}
+use Rattle.iss_model.specs.declared.setting.Window.{Window}
+use Rattle.iss_model.specs.declared.setting.Window.TheVariants as window
+use Rattle.iss_model.specs.Calendar.{day_at, days_before_year, is_leap_year, month_in_year, month_number, month_of, month_starts, week_of, window_at, year_of_day}
+
+-- days and weeks ----
+
+no_offset : (at : ℕ) → pos at +ℤ pos 60000 *ℤ pos 0 ≡ pos at
+no_offset at = omega (arith, ints)
+
+pub day_is : (at : ℕ) → day_at at (pos 0) ≡ pos (at / 86400000)
+day_is at = ap (λ (z : ℤ). int_div_euclid z (pos 86400000)) (no_offset at)
+
+more_days : (d : ℕ) → pos d +ℤ pos 4 ≡ pos (d + 4)
+more_days d = omega (arith, ints)
+
+week_is : (d : ℕ) → week_of (pos d) ≡ pos ((d + 4) / 7)
+week_is d = ap (λ (z : ℤ). int_div_euclid z (pos 7)) (more_days d)
+
+day_grows : (a b : ℕ) → a ≤ b → a / 86400000 ≤ b / 86400000
+day_grows a b h = omega (arith, h)
+
+week_grows : (a b : ℕ) → a ≤ b → (a + 4) / 7 ≤ (b + 4) / 7
+week_grows a b h = omega (arith, h)
+
+-- years ----
+
+before_grows : (a b : ℕ) → a ≤ b → days_before_year a ≤ days_before_year b
+before_grows a b h = omega (arith, h)
+
+-- a day lies in its year
+record IsInYear (day year : ℕ) : Type 0 where
+  from : days_before_year year ≤ day
+  until : day + 1 ≤ days_before_year (year + 1)
+
+in_year : (day : ℕ) → IsInYear day (year_of_day day)
+in_year day = by (nat_lt day (days_before_year near)) refl (nat_le (days_before_year (near + 1)) day) refl
+  where
+    near : ℕ
+    near = 400 * day / 146097
+
+    by : (b : Bool) → nat_lt day (days_before_year near) ≡ b → (c : Bool) → nat_le (days_before_year (near + 1)) day ≡ c
+        → IsInYear day (cond b (near - 1) (cond c (near + 1) near))
+    by true e c f =
+        let less : day + 1 ≤ days_before_year near = under day (days_before_year near) e in
+        record { from = omega (arith, less); until = omega (arith, less) }
+      where
+        under : (a b : ℕ) → nat_lt a b ≡ true → a + 1 ≤ b
+        under a b h = grind (arith, nat_tests)
+    by false e true f =
+        let more : days_before_year (near + 1) ≤ day = at_most (days_before_year (near + 1)) day f in
+        record { from = more; until = omega (arith, more) }
+      where
+        at_most : (a b : ℕ) → nat_le a b ≡ true → a ≤ b
+        at_most a b h = grind (arith, nat_tests)
+    by false e false f =
+        record { from = not_under day (days_before_year near) e; until = not_over (days_before_year (near + 1)) day f }
+      where
+        not_under : (a b : ℕ) → nat_lt a b ≡ false → b ≤ a
+        not_under a b h = grind (arith, nat_tests)
+
+        not_over : (a b : ℕ) → nat_le a b ≡ false → b + 1 ≤ a
+        not_over a b h = grind (arith, nat_tests)
+
+-- months ----
+
+counted_more : (a b : ℕ) → a ≤ b → (starts : List ℕ) → length (filter (λ start. nat_le start a) starts) ≤ length (filter (λ start. nat_le start b) starts)
+counted_more a b h [] = none
+  where
+    none : 0 ≤ 0
+    none = omega arith
+counted_more a b h (x ∷ xs) = by (nat_le x a) refl (nat_le x b) refl (counted_more a b h xs)
+  where
+    one_more : (m n : ℕ) → m ≤ n → suc m ≤ suc n
+    one_more m n h = omega (arith, h)
+
+    and_more : (m n : ℕ) → m ≤ n → m ≤ suc n
+    and_more m n h = omega (arith, h)
+
+    never : (x a b : ℕ) → a ≤ b → nat_le x a ≡ true → nat_le x b ≡ false → ⊥
+    never x a b h e f = grind (arith, nat_tests)
+
+    by : (p : Bool) → nat_le x a ≡ p → (q : Bool) → nat_le x b ≡ q
+        → length (filter (λ start. nat_le start a) xs) ≤ length (filter (λ start. nat_le start b) xs)
+        → length (cond p (x ∷ filter (λ start. nat_le start a) xs) (filter (λ start. nat_le start a) xs)) ≤ length (cond q (x ∷ filter (λ start. nat_le start b) xs) (filter (λ start. nat_le start b) xs))
+    by true e true f rest = one_more (length (filter (λ start. nat_le start a) xs)) (length (filter (λ start. nat_le start b) xs)) rest
+    by true e false f rest = absurd (never x a b h e f)
+    by false e true f rest = and_more (length (filter (λ start. nat_le start a) xs)) (length (filter (λ start. nat_le start b) xs)) rest
+    by false e false f rest = rest
+
+all_counted : (p : ℕ → Bool) (xs : List ℕ) → length (filter p xs) ≤ length xs
+all_counted p [] = none
+  where
+    none : 0 ≤ 0
+    none = omega arith
+all_counted p (x ∷ xs) = by (p x) (all_counted p xs)
+  where
+    one_more : (m n : ℕ) → m ≤ n → suc m ≤ suc n
+    one_more m n h = omega (arith, h)
+
+    and_more : (m n : ℕ) → m ≤ n → m ≤ suc n
+    and_more m n h = omega (arith, h)
+
+    by : (b : Bool) → length (filter p xs) ≤ length xs → length (cond b (x ∷ filter p xs) (filter p xs)) ≤ suc (length xs)
+    by true h = one_more (length (filter p xs)) (length xs) h
+    by false h = and_more (length (filter p xs)) (length xs) h
+
+at_most_twelve : (year place : ℕ) → month_in_year year place ≤ 12
+at_most_twelve year place = all_counted (λ start. nat_le start place) (month_starts (cond (is_leap_year year) 1 0))
+
+-- the list behind its first element
+abbrev drop_first : List ℕ → List ℕ
+drop_first [] = []
+drop_first (x ∷ xs) = xs
+
+first_month : (year place : ℕ) → 1 ≤ month_in_year year place
+first_month year place = by (nat_le 0 place) (low place)
+  where
+    low : (n : ℕ) → nat_le 0 n ≡ true
+    low n = grind (arith, nat_tests)
+
+    one : (n : ℕ) → 1 ≤ suc n
+    one n = omega arith
+
+    by : (b : Bool) → b ≡ true → 1 ≤ length (cond b (0 ∷ filter (λ start. nat_le start place) (drop_first (month_starts (cond (is_leap_year year) 1 0)))) (filter (λ start. nat_le start place) (drop_first (month_starts (cond (is_leap_year year) 1 0)))))
+    by true e = one (length (filter (λ start. nat_le start place) (drop_first (month_starts (cond (is_leap_year year) 1 0)))))
+    by false e = cc
+
+-- the number of the month of a day
+abbrev month_nat : ℕ → ℕ
+month_nat place = month_number (year_of_day place) (month_in_year (year_of_day place) (place - days_before_year (year_of_day place)))
+
+shifted : (d : ℕ) → unsigned_abs (pos d +ℤ pos 719528) ≡ d + 719528
+shifted d = ap unsigned_abs (sum d)
+  where
+    sum : (d : ℕ) → pos d +ℤ pos 719528 ≡ pos (d + 719528)
+    sum d = omega (arith, ints)
+
+month_is : (d : ℕ) → month_of (pos d) ≡ pos (month_nat (d + 719528))
+month_is d = ap (λ (place : ℕ). pos (month_nat place)) (shifted d)
+
+month_grows : (a b : ℕ) → a ≤ b → month_nat a ≤ month_nat b
+month_grows a b h = by (order (year_of_day a) (year_of_day b))
+  where
+    order : (x y : ℕ) → (x + 1 ≤ y) ⊎ ((x ≡ y) ⊎ (y + 1 ≤ x))
+    order x y = tell (nat_lt x y) refl (nat_lt y x) refl
+      where
+        yes : (a b : ℕ) → nat_lt a b ≡ true → a + 1 ≤ b
+        yes a b h = grind (arith, nat_tests)
+
+        neither : (a b : ℕ) → nat_lt a b ≡ false → nat_lt b a ≡ false → a ≡ b
+        neither a b h k = grind (arith, nat_tests)
+
+        tell : (p : Bool) → nat_lt x y ≡ p → (q : Bool) → nat_lt y x ≡ q → (x + 1 ≤ y) ⊎ ((x ≡ y) ⊎ (y + 1 ≤ x))
+        tell true e q f = inl (yes x y e)
+        tell false e true f = inr (inr (yes y x f))
+        tell false e false f = inr (inl (neither x y e f))
+
+    later : (x y m n : ℕ) → x + 1 ≤ y → m ≤ 12 → 1 ≤ n → 12 * x + m ≤ 12 * y + n
+    later x y m n h k l = omega (arith, h, k, l)
+
+    alike : (x m n : ℕ) → m ≤ n → 12 * x + m ≤ 12 * x + n
+    alike x m n h = omega (arith, h)
+
+    placed : (a b c : ℕ) → a ≤ b → a - c ≤ b - c
+    placed a b c h = omega (arith, h)
+
+    before : (x y : ℕ) → y + 1 ≤ x → days_before_year (y + 1) ≤ days_before_year x
+    before x y h = before_grows (y + 1) x h
+
+    by : (year_of_day a + 1 ≤ year_of_day b) ⊎ ((year_of_day a ≡ year_of_day b) ⊎ (year_of_day b + 1 ≤ year_of_day a)) → month_nat a ≤ month_nat b
+    by (inl less) = later (year_of_day a) (year_of_day b) _ _ less (at_most_twelve (year_of_day a) (a - days_before_year (year_of_day a))) (first_month (year_of_day b) (b - days_before_year (year_of_day b)))
+    by (inr (inl same)) =
+        subst (λ (y : ℕ). month_nat a ≤ month_number y (month_in_year y (b - days_before_year y))) same
+        (alike (year_of_day a) _ _ (counted_more (a - days_before_year (year_of_day a)) (b - days_before_year (year_of_day a)) (placed a b (days_before_year (year_of_day a)) h) (month_starts (cond (is_leap_year (year_of_day a)) 1 0))))
+    by (inr (inr more)) =
+        let there : days_before_year (year_of_day a) ≤ a = (in_year a).from in
+        let past : b + 1 ≤ days_before_year (year_of_day b + 1) = (in_year b).until in
+        let far : days_before_year (year_of_day b + 1) ≤ days_before_year (year_of_day a) = before (year_of_day a) (year_of_day b) more in
+        absurd (turn a b (days_before_year (year_of_day a)) (days_before_year (year_of_day b + 1)) h there past far)
+      where
+        turn : (a b x y : ℕ) → a ≤ b → x ≤ a → b + 1 ≤ y → y ≤ x → ⊥
+        turn a b x y h k l m = omega (arith, h, k, l, m)
+
+-- windows ----
+
+-- the number of a window, as a natural number
+abbrev pub window_nat : Window → ℕ → ℕ
+window_nat window.Transaction at = 0
+window_nat window.Day at = at / 86400000
+window_nat window.Week at = (at / 86400000 + 4) / 7
+window_nat window.Month at = month_nat (at / 86400000 + 719528)
+window_nat window.Lifetime at = 0
+
+pub window_is : (w : Window) (at : ℕ) → window_at w at (pos 0) ≡ pos (window_nat w at)
+window_is window.Transaction at = refl
+window_is window.Day at = day_is at
+window_is window.Week at = ap week_of (day_is at) ∙ week_is (at / 86400000)
+window_is window.Month at = ap month_of (day_is at) ∙ month_is (at / 86400000)
+window_is window.Lifetime at = refl
+
+pub window_grows : (w : Window) (a b : ℕ) → a ≤ b → window_nat w a ≤ window_nat w b
+window_grows window.Transaction a b h = none
+  where
+    none : 0 ≤ 0
+    none = omega arith
+window_grows window.Day a b h = day_grows a b h
+window_grows window.Week a b h = week_grows (a / 86400000) (b / 86400000) (day_grows a b h)
+window_grows window.Month a b h = month_grows (a / 86400000 + 719528) (b / 86400000 + 719528) (plus (a / 86400000) (b / 86400000) (day_grows a b h))
+  where
+    plus : (x y : ℕ) → x ≤ y → x + 719528 ≤ y + 719528
+    plus x y h = omega (arith, h)
+window_grows window.Lifetime a b h = none
+  where
+    none : 0 ≤ 0
+    none = omega arith
