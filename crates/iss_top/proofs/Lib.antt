@@ -7,3 +7,10 @@ pub mod Numbers
 pub mod Formatted
 pub mod Continues
 pub mod Goings
+pub mod ToldLines
+pub mod WereRead
+pub mod OnTheWay
+pub mod Devices
+pub mod Beginnings
+pub mod WholeRuns
+pub mod ToldReplays

@@ -14,7 +14,7 @@ use Rattle.iss_model.specs.run.Runs.{Run, Response, response}
 use Rattle.iss_model.specs.run.Sayings.{reaction_to_record, said_of_time, answer_left}
 use Rattle.iss_model.specs.run.Transcripts.{Reading, Text, at_level, said_text_at}
 use Rattle.iss_store.specs.Values.{StoreNow, Plan, room_of}
-use Rattle.iss_store.specs.Standing.{StandsFor, RestsAt, StandsAt}
+use Rattle.iss_store.specs.Standing.{StandsFor, RestsAt, StandsAt, AreHistory}
 use Rattle.iss_texts.specs.Sending.{emits, GoOut}
 use Rattle.iss_top.specs.declared.stop.Stop.{Stop}
 use Rattle.iss_top.specs.declared.stop.Stop.TheVariants as stop
@@ -132,15 +132,24 @@ pub record IsReplaying (opened s : StoreNow) (now : ReaderNow) (a b : World) : T
   pub on_book : (rs : List Record) → StandsFor opened rs
       → StandsFor s (told_lines (run_at opened rs) parts).run.history.records × GoesFor opened rs parts a b
 
--- What a run with this status did since its store was opened on these records: what was told is the first of what its input is to be told,
--- at 0 all of it, and at 3 and 8 that of the lines which ended within the bytes that were taken.
-pub record RunsOnBook (status : ℕ) (opened : StoreNow) (rs : List Record) (took : List ℕ) (a b : World) : Type 0 where
+-- All that this says was done, from these records of a store on, and the records that then stand are a history.
+pub record GoesWhole (s : StoreNow) (rs : List Record) (told : Response) (a b : World) : Type 0 where
+  pub goes : Goes s rs told.run.history.records told.texts a b
+  pub history : AreHistory told.run.history.records
+
+-- What a run with this status did on a store that stood for these records, where parts of the input are told so: what was told is the
+-- first of what its input is to be told, at 0 all of it, and at 3 and 8 that of the lines which ended within the bytes that were taken.
+pub record RunsAs (tell : List (List ℕ) → Response) (status : ℕ) (opened : StoreNow) (rs : List Record) (took : List ℕ) (a b : World) : Type 0 where
   pub rs' : List Record
   pub texts : List Text
   pub goes : GoesPart opened rs rs' texts a b
-  pub first : IsFirstOf texts rs' (told_lines (run_at opened rs) (parts_of (a.left 0)))
-  pub whole : status ≡ 0 → (b.left 0 ≡ []) × GoesFor opened rs (parts_of (a.left 0)) a b
-  pub stopped : (status ≡ 3) ⊎ (status ≡ 8) → GoesFor opened rs (all_but_last (parts_of (take MOST_INPUT took))) a b
+  pub first : IsFirstOf texts rs' (tell (parts_of (a.left 0)))
+  pub whole : status ≡ 0 → (b.left 0 ≡ []) × GoesWhole opened rs (tell (parts_of (a.left 0))) a b
+  pub stopped : (status ≡ 3) ⊎ (status ≡ 8) → GoesWhole opened rs (tell (all_but_last (parts_of (take MOST_INPUT took)))) a b
+
+-- the same since its store was opened on these records
+abbrev pub RunsOnBook : ℕ → StoreNow → List Record → List ℕ → World → World → Type 0
+RunsOnBook status opened rs took a b = RunsAs (told_lines (run_at opened rs)) status opened rs took a b
 
 -- the same, whatever records the store stood for
 pub record RunsFrom (status : ℕ) (opened : StoreNow) (a b : World) : Type 0 where

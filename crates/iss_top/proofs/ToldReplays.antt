@@ -1,0 +1,416 @@
+-- The same of what an edge tells: a run on a device at each of its ends.
+use Rattle.std.proofs.Common.{◌≡◌, ℕ, ◌+◌, ◌-◌, ◌≤◌, inl, inr, true, false, List, [], ◌∷◌, ◌++◌, length, take, Option, Some, None, Result, Ok, Err, refl, sym, ap, subst, ◌∙◌, append-nil, arith, length-append}
+use Rattle.std.specs.Prelude.{◌⊎◌, ◌↔◌, IfErr, OnErr}
+use Rattle.iss_edge.specs.declared.outside.Action.{Action}
+use Rattle.iss_edge.specs.declared.outside.Action.TheVariants.{Sync}
+use Rattle.iss_edge.specs.World.{World, Told, Faults, Later, Rose}
+use Rattle.iss_edge.specs.Calls.{Same}
+use Rattle.iss_edge.proofs.Tolds.{told_map, told_then, told_self, later_then, later_self, rose_later}
+use Rattle.iss_journal.proofs.Formats.{Sized, told_sized}
+use Rattle.iss_model.specs.declared.input.Record.{Record}
+use Rattle.iss_model.specs.declared.limits.TheConstants.{MOST_INPUT}
+use Rattle.iss_store.specs.declared.fault.OpenFault.{OpenFault}
+use Rattle.iss_store.specs.declared.fault.OpenFault.TheVariants.{Disk, NotFormatted, BadRecord, BadSpelling, BadHistory, OutOfMemory}
+use Rattle.iss_store.specs.declared.fault.StoreFault.{StoreFault}
+use Rattle.iss_store.specs.declared.fault.StoreFault.TheVariants as store
+use Rattle.iss_store.specs.Values.{StoreNow}
+use Rattle.iss_store.specs.Standing.{StandsFor, DeviceStandsFor}
+use Rattle.iss_store.specs.Opening.{Opens, OpensStore, OpensGood, OpensGoing, ReadsAlone, OnRefused, OpenCause, IsOfDiskOrMemory}
+use Rattle.iss_store.specs.Saying.{texts_pending, texts_pending_on_book, SayingCause}
+use Rattle.iss_store.proofs.GoodDevices.{good_device}
+use Rattle.iss_store.proofs.ToldReadings.{told_both}
+use Rattle.iss_texts.specs.Sending.{Says, SaysSome}
+use Rattle.iss_texts.proofs.Saying.{says_all}
+use Rattle.iss_top.specs.declared.stop.Stop.{Stop}
+use Rattle.iss_top.specs.declared.stop.Stop.TheVariants as stop
+use Rattle.iss_top.specs.Statuses.{status_of, stop_of_opening, stop_of_store}
+use Rattle.iss_top.specs.Progress.{is_output}
+use Rattle.iss_top.specs.Reader.{ReaderNow, ReadsOn, ReadsPart, ReadsNoPart, IsReading, ReadingCause}
+use Rattle.iss_top.specs.Replaying.{run_at, told_line, outputs_of, TakesAs, TakesPartAs, IsReplaying, RunsAs, RunsFrom, IsTaking, TakingCause, IsReplayCaused, ReplayCause}
+use Rattle.iss_top.specs.Replays.{ReplayRun, ReplayOn, EveryMoment, EveryMomentStands, IsNoStore, Refused, RefusesExactly, ReplayEndsWell}
+use Rattle.iss_top.proofs.OnTheWay.{way_begins, way_goes_on, ends_in_line, ends_reading, ends_at_start, ends_well}
+use Rattle.iss_top.proofs.ToldLines.{told_from_start}
+use Rattle.iss_top.proofs.Beginnings.{begins_goes, lines_from_start, stops_at_start}
+use Rattle.iss_top.proofs.Devices.{opened_on}
+use Rattle.iss_top.proofs.WholeRuns.{OpenedAs, not_opened_moments, not_opened_on, replay_on, every_moment}
+
+abbrev ended : Stop → ℕ
+ended s = status_of {A = Unit {0}} (Err s)
+
+-- ---- the loop over the lines
+
+pub told_way_begins : (s : StoreNow) (now : ReaderNow) (x : Option World) → now.taken ≡ 0 → now.unread ≡ [] → now.ended ≡ false → Told (IsReplaying s s now) x x
+told_way_begins s now x none unread going = told_self (IsReplaying s s now) x (λ a. way_begins s now a none unread going)
+
+pub told_not_begun : (s : StoreNow) (x : Option World) → Told (RunsFrom 7 s) x x
+told_not_begun s x = told_self (RunsFrom 7 s) x (ends_at_start s)
+
+-- on the way, with the next part read
+record HasNext (opened s : StoreNow) (before now : ReaderNow) (a c : World) : Type 0 where
+  between : World
+  way : IsReplaying opened s before a between
+  going : before.ended ≡ false
+  reads : ReadsPart before now between c
+
+told_next : (opened s : StoreNow) (before now : ReaderNow) (x y z : Option World) → Told (IsReplaying opened s before) x y → Told (ReadsOn true before now) y z → Told (HasNext opened s before now) x z
+told_next opened s before now x y z way reads =
+    told_then (IsReplaying opened s before) (ReadsOn true before now) (HasNext opened s before now) x y z
+    (λ a b c w r. record { between = b; way = w; going = r.0; reads = r.1 }) way reads
+
+pub told_way_goes_on : (opened s s' : StoreNow) (before now : ReaderNow) (line : List ℕ) (x y z w : Option World) → line ≡ now.line → Told (IsReplaying opened s before) x y → Told (ReadsOn true before now) y z
+    → Told (TakesAs (λ k. told_line k line) s s') z w → Told (IsReplaying opened s' now) x w
+told_way_goes_on opened s s' before now line x y z w same way reads taken =
+    told_then (HasNext opened s before now) (TakesAs (λ k. told_line k now.line) s s') (IsReplaying opened s' now) x z w
+    (λ a c d next t. way_goes_on opened s before now a next.between c next.way next.going next.reads s' d t)
+    (told_next opened s before now x y z way reads)
+    (subst (λ (l : List ℕ). Told (TakesAs (λ k. told_line k l) s s') z w) same taken)
+
+-- taking a line ends with status 5, 6 or 7
+taking_not_done : (before now : Faults) (s : Stop) → TakingCause before now s → ended s ≡ 0 → ⊥
+taking_not_done before now stop.Input cause e = absurd cause
+taking_not_done before now stop.Device cause e = absurd cause
+taking_not_done before now stop.Output cause e = cc
+taking_not_done before now stop.Disk cause e = cc
+taking_not_done before now stop.Memory cause e = cc
+taking_not_done before now stop.InputLong cause e = absurd cause
+
+taking_not_input : (before now : Faults) (s : Stop) → TakingCause before now s → ended s ≡ 3 → ⊥
+taking_not_input before now stop.Input cause e = absurd cause
+taking_not_input before now stop.Device cause e = absurd cause
+taking_not_input before now stop.Output cause e = cc
+taking_not_input before now stop.Disk cause e = cc
+taking_not_input before now stop.Memory cause e = cc
+taking_not_input before now stop.InputLong cause e = absurd cause
+
+taking_not_long : (before now : Faults) (s : Stop) → TakingCause before now s → ended s ≡ 8 → ⊥
+taking_not_long before now stop.Input cause e = absurd cause
+taking_not_long before now stop.Device cause e = absurd cause
+taking_not_long before now stop.Output cause e = cc
+taking_not_long before now stop.Disk cause e = cc
+taking_not_long before now stop.Memory cause e = cc
+taking_not_long before now stop.InputLong cause e = absurd cause
+
+pub taking_not_device : (before now : Faults) (s : Stop) → TakingCause before now s → ended s ≡ 4 → ⊥
+taking_not_device before now stop.Input cause e = absurd cause
+taking_not_device before now stop.Device cause e = absurd cause
+taking_not_device before now stop.Output cause e = cc
+taking_not_device before now stop.Disk cause e = cc
+taking_not_device before now stop.Memory cause e = cc
+taking_not_device before now stop.InputLong cause e = absurd cause
+
+pub told_line_fails : (why : Stop) (f f' : Faults) (opened s : StoreNow) (before now : ReaderNow) (line : List ℕ) (x y z w : Option World) → TakingCause f f' why → line ≡ now.line
+    → Told (IsReplaying opened s before) x y → Told (ReadsOn true before now) y z → Told (TakesPartAs (λ k. told_line k line) s) z w → Told (RunsFrom (ended why) opened) x w
+told_line_fails why f f' opened s before now line x y z w cause same way reads taken =
+    told_then (HasNext opened s before now) (TakesPartAs (λ k. told_line k now.line) s) (RunsFrom (ended why) opened) x z w
+    (λ a c d next t.
+    ends_in_line opened s before now a next.between c next.way next.going next.reads d (ended why)
+    (taking_not_done f f' why cause) (taking_not_input f f' why cause) (taking_not_long f f' why cause) next.reads.bound t)
+    (told_next opened s before now x y z way reads)
+    (subst (λ (l : List ℕ). Told (TakesPartAs (λ k. told_line k l) s) z w) same taken)
+
+-- reading ends with status 3, 7 or 8, and with 8 where the input is too long alone
+reading_not_done : (before now : Faults) (s : Stop) → ReadingCause before now s → ended s ≡ 0 → ⊥
+reading_not_done before now stop.Input cause e = cc
+reading_not_done before now stop.Device cause e = absurd cause
+reading_not_done before now stop.Output cause e = absurd cause
+reading_not_done before now stop.Disk cause e = absurd cause
+reading_not_done before now stop.Memory cause e = cc
+reading_not_done before now stop.InputLong cause e = cc
+
+pub reading_not_device : (before now : Faults) (s : Stop) → ReadingCause before now s → ended s ≡ 4 → ⊥
+reading_not_device before now stop.Input cause e = cc
+reading_not_device before now stop.Device cause e = absurd cause
+reading_not_device before now stop.Output cause e = absurd cause
+reading_not_device before now stop.Disk cause e = absurd cause
+reading_not_device before now stop.Memory cause e = cc
+reading_not_device before now stop.InputLong cause e = cc
+
+not_for_memory : (s : Stop) → (ended s ≡ 3) ⊎ (ended s ≡ 8) → s ≡ stop.Memory → ⊥
+not_for_memory s e memory =
+    let seven : ended s ≡ 7 = ap ended memory in
+    elim e [ inl three ↦ absurd (omega (arith, seven, three)) | inr eight ↦ absurd (omega (arith, seven, eight)) ]
+
+long_is : (s : Stop) → ended s ≡ 8 → s ≡ stop.InputLong
+long_is stop.Input e = absurd cc
+long_is stop.Device e = absurd cc
+long_is stop.Output e = absurd cc
+long_is stop.Disk e = absurd cc
+long_is stop.Memory e = absurd cc
+long_is stop.InputLong e = refl
+
+pub told_reading_fails : (why : Stop) (f f' : Faults) (opened s : StoreNow) (now : ReaderNow) (x y z : Option World) → ReadingCause f f' why → now.taken ≤ MOST_INPUT
+    → Told (IsReplaying opened s now) x y → Told (ReadsNoPart now why) y z → Told (RunsFrom (ended why) opened) x z
+told_reading_fails why f f' opened s now x y z cause le way reads =
+    told_then (IsReplaying opened s now) (ReadsNoPart now why) (RunsFrom (ended why) opened) x y z
+    (λ a b c w r.
+    ends_reading opened s now r.took a b c (ended why) w r.takes (reading_not_done f f' why cause) r.going le
+    (λ e. r.no_line (not_for_memory why e))
+    (λ e. r.long.0 (long_is why e), λ e. ap ended (r.long.1 e)) r.bound)
+    way reads
+
+pub told_over : (opened s : StoreNow) (before now : ReaderNow) (x y z : Option World) → before.taken ≤ MOST_INPUT → Told (IsReplaying opened s before) x y → Told (ReadsOn false before now) y z → Told (RunsFrom 0 opened) x z
+told_over opened s before now x y z le way reads =
+    told_then (IsReplaying opened s before) (ReadsOn false before now) (RunsFrom 0 opened) x y z
+    (λ a b c w r. ends_well opened s before a b c w r.0.0 le r.1.left r.1.device r.1.trace) way reads
+
+-- ---- the opening
+
+pub told_opened : (s : StoreNow) (size : ℕ) (x y : Option World) → Sized size x → s.place.to ≡ size → Told (Opens (Ok s)) x y → Told OpensGood x y → Told OpensGoing x y → Told (OpenedAs s) x y
+told_opened s size x y sized to opens good going =
+    told_sized size (λ a b. (Opens (Ok s) a b × OpensGood a b) × OpensGoing a b) (OpenedAs s) x y sized
+    (λ a b here p. record { size = to ∙ sym here; opens = p.0.0; good = p.0.1; going = p.1 })
+    (told_both (λ a b. Opens (Ok s) a b × OpensGood a b) OpensGoing x y (told_both (Opens (Ok s)) OpensGood x y opens good) going)
+
+opening_ends : (fault : OpenFault) → IsOfDiskOrMemory fault → (ended (stop_of_opening fault) ≡ 6) ⊎ (ended (stop_of_opening fault) ≡ 7)
+opening_ends Disk is = inl refl
+opening_ends OutOfMemory is = inr refl
+opening_ends NotFormatted is = absurd is
+opening_ends (BadRecord gate) is = absurd is
+opening_ends (BadSpelling gate) is = absurd is
+opening_ends (BadHistory gate) is = absurd is
+
+not_this : (n m : ℕ) → (n ≡ 6) ⊎ (n ≡ 7) → m ≤ 5 → n ≡ m → ⊥
+not_this n m ends le e = elim ends [ inl six ↦ absurd (omega (arith, six, le, e)) | inr seven ↦ absurd (omega (arith, seven, le, e)) ]
+
+not_eight : (n : ℕ) → (n ≡ 6) ⊎ (n ≡ 7) → n ≡ 8 → ⊥
+not_eight n ends e = elim ends [ inl six ↦ absurd (omega (arith, six, e)) | inr seven ↦ absurd (omega (arith, seven, e)) ]
+
+unopened_run : (fault : OpenFault) (a b : World) → Opens (Err fault) a b → OpensGood a b → ReplayRun (ended (stop_of_opening fault)) a b
+unopened_run fault a b opens good instance rs stands =
+    let n = ended (stop_of_opening fault) in
+    let ends : (n ≡ 6) ⊎ (n ≡ 7) = opening_ends fault (good_device instance rs fault a b stands opens) in
+    not_opened_on n instance rs a b (not_this n 0 ends (omega arith)) (not_this n 3 ends (omega arith)) (not_this n 4 ends (omega arith)) (not_eight n ends) good
+
+pub told_unopened_run : (fault : OpenFault) (x y : Option World) → Told (Opens (Err fault)) x y → Told OpensGood x y → Told (ReplayRun (ended (stop_of_opening fault))) x y
+told_unopened_run fault x y opens good =
+    told_map (λ a b. Opens (Err fault) a b × OpensGood a b) (ReplayRun (ended (stop_of_opening fault))) x y (λ a b p. unopened_run fault a b p.0 p.1)
+    (told_both (Opens (Err fault)) OpensGood x y opens good)
+
+pub told_unopened_moments : (x y : Option World) → Told OpensGood x y → Told EveryMomentStands x y
+told_unopened_moments x y good =
+    told_map OpensGood EveryMomentStands x y (λ a b g instance rs stands. not_opened_moments instance rs a b g stands) good
+
+-- ---- a device that stands for no records
+
+refused_alone : (a b : World) → ReadsAlone a b → Refused a b
+refused_alone a b reads =
+    elim reads.trace [
+      | inl same ↦ record { left = reads.left; device = reads.device; actions = []; grew = same ∙ sym (append-nil a.trace); silent = refl }
+      | inr synced ↦ record { left = reads.left; device = reads.device; actions = Sync true ∷ []; grew = synced; silent = refl }
+    ]
+
+refuses : (a b : World) → IsNoStore a.device → ReadsAlone a b → RefusesExactly 4 a b
+refuses a b none reads = record { only = λ e. (none, refused_alone a b reads); there = λ found. inl refl }
+
+-- a fault of the disk or of memory may come on any device
+refuses_not : (n : ℕ) (a b : World) → (n ≡ 6) ⊎ (n ≡ 7) → RefusesExactly n a b
+refuses_not n a b ends = record { only = λ e. absurd (not_this n 4 ends (omega arith) e); there = λ found. inr ends }
+
+pub told_refuses : (fault : OpenFault) (x y : Option World) → Told (Opens (Err fault)) x y → Told OpensGood x y → OnRefused {T = StoreNow} (Err fault) (Told ReadsAlone x y)
+    → Told (RefusesExactly (ended (stop_of_opening fault))) x y
+told_refuses Disk x y opens good reads = told_map OpensGood (RefusesExactly 6) x y (λ a b g. refuses_not 6 a b (inl refl)) good
+told_refuses OutOfMemory x y opens good reads = told_map OpensGood (RefusesExactly 7) x y (λ a b g. refuses_not 7 a b (inr refl)) good
+told_refuses NotFormatted x y opens good reads =
+    told_map (λ a b. Opens (Err NotFormatted) a b × ReadsAlone a b) (RefusesExactly 4) x y (λ a b p. refuses a b (inl p.0) p.1) (told_both (Opens (Err NotFormatted)) ReadsAlone x y opens reads)
+told_refuses (BadRecord gate) x y opens good reads =
+    told_map (λ a b. Opens (Err (BadRecord gate)) a b × ReadsAlone a b) (RefusesExactly 4) x y (λ a b p. refuses a b (inr (gate, inl p.0)) p.1) (told_both (Opens (Err (BadRecord gate))) ReadsAlone x y opens reads)
+told_refuses (BadSpelling gate) x y opens good reads =
+    told_map (λ a b. Opens (Err (BadSpelling gate)) a b × ReadsAlone a b) (RefusesExactly 4) x y (λ a b p. refuses a b (inr (gate, inr (inl p.0))) p.1) (told_both (Opens (Err (BadSpelling gate))) ReadsAlone x y opens reads)
+told_refuses (BadHistory gate) x y opens good reads =
+    told_map (λ a b. Opens (Err (BadHistory gate)) a b × ReadsAlone a b) (RefusesExactly 4) x y (λ a b p. refuses a b (inr (gate, inr (inr p.0))) p.1) (told_both (Opens (Err (BadHistory gate))) ReadsAlone x y opens reads)
+
+-- on a device that opens there is no such fault
+not_none : (s : StoreNow) (a b : World) → OpensStore s a.device → IsNoStore a.device → ⊥
+not_none s a b opens none =
+    let stands = opens.device_stands in
+    let good = λ (fault : OpenFault). good_device s.core.instance opens.rs fault a b stands in
+    elim none [
+      | inl unformatted ↦ good NotFormatted unformatted
+      | inr found ↦
+          elim found.1 [
+            | inl record_bad ↦ good (BadRecord found.0) record_bad
+            | inr others ↦ elim others [ inl spelling_bad ↦ good (BadSpelling found.0) spelling_bad | inr history_bad ↦ good (BadHistory found.0) history_bad ]
+          ]
+    ]
+
+opened_refuses : (n : ℕ) (s : StoreNow) (a b : World) → (n ≡ 4 → ⊥) → OpensStore s a.device → RefusesExactly n a b
+opened_refuses n s a b not_device opens =
+    record { only = λ e. absurd (not_device e); there = λ found. absurd (not_none s a b opens found) }
+
+-- ---- a run on the store that was opened
+
+-- what is told of the opening, and of what came behind it
+record Behind (s : StoreNow) (R : World → World → Type 0) (a d : World) : Type 0 where
+  between : World
+  opening : OpenedAs s a between
+  later : R between d
+
+told_behind : (s : StoreNow) (R : World → World → Type 0) (x y z : Option World) → Told (OpenedAs s) x y → Told R y z → Told (Behind s R) x z
+told_behind s R x y z opened later =
+    told_then (OpenedAs s) R (Behind s R) x y z (λ a b d o r. record { between = b; opening = o; later = r }) opened later
+
+-- what waits for the gateway is known by the book
+abbrev pub WaitsOnBook : StoreNow → Type 0
+WaitsOnBook s = (rs : List Record) → StandsFor s rs → texts_pending s ≡ texts_pending_on_book s.core.instance rs
+
+stands_opened : (instance : ℕ) (rs : List Record) (s : StoreNow) (a b : World) → OpenedAs s a b → DeviceStandsFor instance rs a.device → StandsFor s rs
+stands_opened instance rs s a b opening stands = (opened_on instance rs s a.device opening.size stands opening.opens).stands
+
+-- what waits went out in part
+saying_ends : {T : Type 0} (fault : StoreFault) (before now : Faults) → SayingCause {T = T} before now (Err fault) → (ended (stop_of_store fault) ≡ 5) ⊎ (ended (stop_of_store fault) ≡ 7)
+saying_ends store.Disk before now cause = absurd (cause.no_disk refl)
+saying_ends store.Output before now cause = inl refl
+saying_ends store.OutOfMemory before now cause = inr refl
+
+not_saying : (n m : ℕ) → (n ≡ 5) ⊎ (n ≡ 7) → m ≤ 4 → n ≡ m → ⊥
+not_saying n m ends le e = elim ends [ inl five ↦ absurd (omega (arith, five, le, e)) | inr seven ↦ absurd (omega (arith, seven, le, e)) ]
+
+not_saying_long : (n : ℕ) → (n ≡ 5) ⊎ (n ≡ 7) → n ≡ 8 → ⊥
+not_saying_long n ends e = elim ends [ inl five ↦ absurd (omega (arith, five, e)) | inr seven ↦ absurd (omega (arith, seven, e)) ]
+
+module _ (n : ℕ) (ends : (n ≡ 5) ⊎ (n ≡ 7)) (s : StoreNow) (on_book : WaitsOnBook s) (a b c : World) (opening : OpenedAs s a b) (says : SaysSome (texts_pending s) b c) (instance : ℕ) (rs : List Record)
+    (stands : DeviceStandsFor instance rs a.device) where
+  waited_part : RunsAs (told_from_start (run_at s rs)) n s rs [] b c
+  waited_part =
+      stops_at_start n s rs b c (not_saying n 0 ends (omega arith)) (not_saying n 3 ends (omega arith)) (not_saying_long n ends)
+      (on_book rs (stands_opened instance rs s a b opening stands)) says
+
+  waited_on : ReplayOn n instance rs a c
+  waited_on =
+      replay_on instance rs s n [] a b c opening stands waited_part (not_saying n 4 ends (omega arith))
+      (record { bytes = ap (λ (l : ℕ → List ℕ). l 0) (sym says.left); others = λ ch other. ap (λ (l : ℕ → List ℕ). l ch) says.left })
+      (λ e. absurd (not_saying_long n ends e), λ e. absurd (omega (arith, e))) (omega arith)
+
+  waited_moments : EveryMoment instance rs a c
+  waited_moments = every_moment instance rs s n [] a b c opening stands waited_part
+
+-- what waits went out, and then lines were taken
+record WaitsThenRuns (status : ℕ) (s : StoreNow) (b d : World) : Type 0 where
+  middle : World
+  says : Says (texts_pending s) b middle
+  runs : RunsFrom status s middle d
+
+module _ (status : ℕ) (s : StoreNow) (on_book : WaitsOnBook s) (a b d : World) (opening : OpenedAs s a b) (later : WaitsThenRuns status s b d) (instance : ℕ) (rs : List Record) (stands : DeviceStandsFor instance rs a.device) where
+  all_runs : RunsAs (told_from_start (run_at s rs)) status s rs later.runs.took b d
+  all_runs =
+      let here = stands_opened instance rs s a b opening stands in
+      lines_from_start status s rs later.runs.took b later.middle d later.says.left
+      (begins_goes s rs b later.middle (on_book rs here) later.says) (later.runs.on_book rs here)
+
+  all_on : (status ≡ 4 → ⊥) → ReplayOn status instance rs a d
+  all_on not_device =
+      replay_on instance rs s status later.runs.took a b d opening stands all_runs not_device
+      (record {
+        bytes = ap (λ (l : ℕ → List ℕ). l 0) (sym later.says.left) ∙ later.runs.takes.bytes;
+        others = λ ch other. later.runs.takes.others ch other ∙ ap (λ (l : ℕ → List ℕ). l ch) later.says.left;
+      }) later.runs.long later.runs.bound
+
+  all_moments : EveryMoment instance rs a d
+  all_moments = every_moment instance rs s status later.runs.took a b d opening stands all_runs
+
+-- ---- the same of what an edge tells
+
+module _ (s : StoreNow) (on_book : WaitsOnBook s) (x y z : Option World) (opened : Told (OpenedAs s) x y) where
+  module _ {T : Type 0} (fault : StoreFault) (before now : Faults) (cause : SayingCause {T = T} before now (Err fault)) (says : Told (SaysSome (texts_pending s)) y z) where
+    abbrev stops : ℕ
+    stops = ended (stop_of_store fault)
+
+    pub told_waited_run : Told (ReplayRun stops) x z
+    told_waited_run =
+        told_map (Behind s (SaysSome (texts_pending s))) (ReplayRun stops) x z
+        (λ a c p instance rs stands. waited_on stops (saying_ends {T = T} fault before now cause) s on_book a p.between c p.opening p.later instance rs stands)
+        (told_behind s (SaysSome (texts_pending s)) x y z opened says)
+
+    pub told_waited_moments : Told EveryMomentStands x z
+    told_waited_moments =
+        told_map (Behind s (SaysSome (texts_pending s))) EveryMomentStands x z
+        (λ a c p instance rs stands. waited_moments stops (saying_ends {T = T} fault before now cause) s on_book a p.between c p.opening p.later instance rs stands)
+        (told_behind s (SaysSome (texts_pending s)) x y z opened says)
+
+    pub told_waited_refuses : Told (RefusesExactly stops) x z
+    told_waited_refuses =
+        told_map (Behind s (SaysSome (texts_pending s))) (RefusesExactly stops) x z
+        (λ a c p. opened_refuses stops s a c (not_saying stops 4 (saying_ends {T = T} fault before now cause) (omega arith)) p.opening.opens)
+        (told_behind s (SaysSome (texts_pending s)) x y z opened says)
+
+  module _ (status : ℕ) (not_device : status ≡ 4 → ⊥) (w : Option World) (says : Told (Says (texts_pending s)) y z) (runs : Told (RunsFrom status s) z w) where
+    told_all : Told (Behind s (WaitsThenRuns status s)) x w
+    told_all =
+        told_behind s (WaitsThenRuns status s) x y w opened
+        (told_then (Says (texts_pending s)) (RunsFrom status s) (WaitsThenRuns status s) y z w (λ b c d p q. record { middle = c; says = p; runs = q }) says runs)
+
+    pub told_run : Told (ReplayRun status) x w
+    told_run =
+        told_map (Behind s (WaitsThenRuns status s)) (ReplayRun status) x w
+        (λ a d p instance rs stands. all_on status s on_book a p.between d p.opening p.later instance rs stands not_device) told_all
+
+    pub told_moments : Told EveryMomentStands x w
+    told_moments =
+        told_map (Behind s (WaitsThenRuns status s)) EveryMomentStands x w
+        (λ a d p instance rs stands. all_moments status s on_book a p.between d p.opening p.later instance rs stands) told_all
+
+    pub told_run_refuses : Told (RefusesExactly status) x w
+    told_run_refuses =
+        told_map (Behind s (WaitsThenRuns status s)) (RefusesExactly status) x w (λ a d p. opened_refuses status s a d not_device p.opening.opens) told_all
+
+-- ---- causes
+
+pub caused_by_opening : {T : Type 0} (fault : OpenFault) (before now : Faults) → OpenCause {T = T} before now (Err fault) → IsReplayCaused {A = Unit {0}} before now (Err (stop_of_opening fault))
+caused_by_opening Disk before now cause = record { later = cause.later; cause = cause.disk refl }
+caused_by_opening OutOfMemory before now cause = record { later = cause.later; cause = tt }
+caused_by_opening NotFormatted before now cause = record { later = cause.later; cause = tt }
+caused_by_opening (BadRecord gate) before now cause = record { later = cause.later; cause = tt }
+caused_by_opening (BadSpelling gate) before now cause = record { later = cause.later; cause = tt }
+caused_by_opening (BadHistory gate) before now cause = record { later = cause.later; cause = tt }
+
+-- behind calls that counted no fault down
+cause_behind : (before middle now : Faults) (s : Stop) → Later before middle → Later middle now → ReplayCause middle now s → ReplayCause before now s
+cause_behind before middle now stop.Input first second cause = rose_later before.input middle.input now.input now.input first.input second.input (omega arith) cause
+cause_behind before middle now stop.Device first second cause = tt
+cause_behind before middle now stop.Output first second cause = rose_later before.output middle.output now.output now.output first.output second.output (omega arith) cause
+cause_behind before middle now stop.Disk first second cause = rose_later before.disk middle.disk now.disk now.disk first.disk second.disk (omega arith) cause
+cause_behind before middle now stop.Memory first second cause = tt
+cause_behind before middle now stop.InputLong first second cause = tt
+
+pub caused_behind : (before middle now : Faults) (result : Result (Unit {0}) Stop) → Later before middle → IsReplayCaused middle now result → IsReplayCaused before now result
+caused_behind before middle now (Ok done) first second = record { later = later_then before middle now first second.later; cause = tt }
+caused_behind before middle now (Err s) first second =
+    record { later = later_then before middle now first second.later; cause = cause_behind before middle now s first second.later second.cause }
+
+pub caused_by_saying : {T : Type 0} (fault : StoreFault) (before now : Faults) → SayingCause {T = T} before now (Err fault) → IsReplayCaused {A = Unit {0}} before now (Err (stop_of_store fault))
+caused_by_saying store.Disk before now cause = absurd (cause.no_disk refl)
+caused_by_saying store.Output before now cause = record { later = cause.later; cause = cause.output refl }
+caused_by_saying store.OutOfMemory before now cause = record { later = cause.later; cause = tt }
+
+pub caused_by_taking : (s : Stop) (before now : Faults) → Later before now → TakingCause before now s → IsReplayCaused {A = Unit {0}} before now (Err s)
+caused_by_taking stop.Input before now later cause = absurd cause
+caused_by_taking stop.Device before now later cause = absurd cause
+caused_by_taking stop.Output before now later cause = record { later = later; cause = cause }
+caused_by_taking stop.Disk before now later cause = record { later = later; cause = cause }
+caused_by_taking stop.Memory before now later cause = record { later = later; cause = tt }
+caused_by_taking stop.InputLong before now later cause = absurd cause
+
+pub caused_by_reading : (s : Stop) (before now : Faults) → Later before now → ReadingCause before now s → IsReplayCaused {A = Unit {0}} before now (Err s)
+caused_by_reading stop.Input before now later cause = record { later = later; cause = cause }
+caused_by_reading stop.Device before now later cause = absurd cause
+caused_by_reading stop.Output before now later cause = absurd cause
+caused_by_reading stop.Disk before now later cause = absurd cause
+caused_by_reading stop.Memory before now later cause = record { later = later; cause = tt }
+caused_by_reading stop.InputLong before now later cause = record { later = later; cause = tt }
+
+-- ---- the end
+
+replay_ends_well : (result : Result (Unit {0}) Stop) (before now : Faults) (a b : World) → IsReplayCaused before now result → ReplayRun (status_of result) a b → ReplayEndsWell before now (status_of result) a b
+replay_ends_well (Ok done) before now a b caused run instance rs stands disk input output short = inl refl
+replay_ends_well (Err stop.Input) before now a b caused run instance rs stands disk input output short = absurd (input caused.cause)
+replay_ends_well (Err stop.Device) before now a b caused run instance rs stands disk input output short = absurd ((run instance rs stands).other_device refl)
+replay_ends_well (Err stop.Output) before now a b caused run instance rs stands disk input output short = absurd (output caused.cause)
+replay_ends_well (Err stop.Disk) before now a b caused run instance rs stands disk input output short = absurd (disk caused.cause)
+replay_ends_well (Err stop.Memory) before now a b caused run instance rs stands disk input output short = inr refl
+replay_ends_well (Err stop.InputLong) before now a b caused run instance rs stands disk input output short =
+    let on = run instance rs stands in
+    absurd (omega (arith, short, on.long.0 refl, ap (λ (l : List ℕ). length l) on.takes.bytes, length-append {A = ℕ} on.took (b.left 0)))
+
+pub told_replay_ends_well : (result : Result (Unit {0}) Stop) (before now : Faults) (x y : Option World) → IsReplayCaused before now result → Told (ReplayRun (status_of result)) x y → Told (ReplayEndsWell before now (status_of result)) x y
+told_replay_ends_well result before now x y caused run =
+    told_map (ReplayRun (status_of result)) (ReplayEndsWell before now (status_of result)) x y (λ a b. replay_ends_well result before now a b caused) run
