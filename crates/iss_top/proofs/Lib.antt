@@ -1,6 +1,14 @@
 pub mod ReplyLemmas
 pub mod Keeping
 pub mod Finding
+pub mod Takes
+pub mod ToldAs
+pub mod Reading
+pub mod ToldReading
+pub mod Parts
+pub mod LineRooms
+pub mod Running
+pub mod ToldRuns
 pub mod RunBytes
 pub mod Commands
 pub mod Numbers

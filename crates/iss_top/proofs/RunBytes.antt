@@ -10,7 +10,7 @@ use Rattle.iss_model.specs.run.Transcripts.{Text, bytes_of}
 use Rattle.iss_top.specs.Dry.{each_bytes, dry_texts, dry_output}
 use Rattle.iss_top.specs.Progress.{is_output, Sends, Begins}
 use Rattle.iss_texts.specs.Sending.{emits, FailsAt, GoOut}
-use Rattle.iss_top.specs.Runs.{DryRun, EmitsTexts, Ran}
+use Rattle.iss_top.specs.Runs.{DryRun, EmitsTexts, StopsAtLines, Ran}
 use Rattle.iss_texts.proofs.Rows.{concat-append}
 
 bytes_in_row : (texts : List Text) → bytes_of texts ≡ concat (each_bytes texts)
@@ -113,3 +113,7 @@ told_run status x y ran = told_map (Ran status) (DryRun status) x y (run_of stat
 
 pub told_emits : (status : ℕ) (x y : Option World) → Told (Ran status) x y → Told (EmitsTexts status) x y
 told_emits status x y ran = told_map (Ran status) (EmitsTexts status) x y (λ a b r. r.emits) ran
+
+pub told_stops : (status : ℕ) (x y : Option World) → Told (Ran status) x y → Told (StopsAtLines status) x y
+told_stops status x y ran =
+    told_map (Ran status) (StopsAtLines status) x y (λ a b r. record { took = r.took; takes = r.takes; exactly = r.stopped }) ran

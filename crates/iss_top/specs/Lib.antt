@@ -2,6 +2,8 @@ pub mod Statuses
 pub mod Lines
 pub mod Dry
 pub mod Reader
+pub mod Pieces
+pub mod AtHand
 pub mod Progress
 pub mod Runs
 pub mod Words

@@ -15,6 +15,20 @@ pub record ReaderNow : Type 0 where
   pub line : List ℕ
   pub ended : Bool
 
+-- a reader that took nothing
+abbrev pub fresh_reader : ReaderNow
+fresh_reader = record { taken = 0; unread = []; line = []; ended = false }
+
+-- one more line may come, as long as the last one hasn't
+abbrev pub may_come : ReaderNow → ℕ
+may_come now = if now.ended then 0 else 1
+
+-- A line was read: its bytes and its line feed are among those that weren't read and those that were taken.
+pub record Advances (before now : ReaderNow) : Type 0 where
+  pub going : before.ended ≡ false
+  pub limit : now.taken ≤ MOST_INPUT
+  pub room : length now.line + length now.unread + may_come now + before.taken ≤ length before.unread + now.taken
+
 -- the items of a list from one place up to another
 abbrev pub slice_of : List ℕ → ℕ → ℕ → List ℕ
 slice_of items from to = take (to - from) (drop from items)
@@ -50,6 +64,7 @@ pub record ReadsPart (before now : ReaderNow) (a b : World) : Type 0 where
   pub took : List ℕ
   pub takes : OnlyTakesIn took a b
   pub count : now.taken ≡ before.taken + length took
+  pub bound : now.taken ≤ MOST_INPUT
   pub part : List ℕ
   pub one_line : has_line_feed part ≡ false
   pub line : IsToldAs now.line part
@@ -63,6 +78,8 @@ ReadsOn false before now a b = (before.ended ≡ true) × (now ≡ before) × Sa
 -- Reading on failed: some bytes were taken, and unless memory was wanting no line ended within the 4294967296 that may be taken. One byte
 -- more came exactly where the input is too long.
 pub record ReadsNoPart (before : ReaderNow) (why : Stop) (a b : World) : Type 0 where
+  pub going : before.ended ≡ false
+  pub limit : before.taken ≤ MOST_INPUT
   pub took : List ℕ
   pub takes : OnlyTakesIn took a b
   pub no_line : (why ≡ stop.Memory → ⊥) → has_line_feed (before.unread ++ take (MOST_INPUT - before.taken) took) ≡ false

@@ -1,7 +1,9 @@
 //! The input, piece by piece.
-ghost use Rattle.std.specs.Prelude.{◌≡◌, ◌+◌, ◌<◌, ◌≤◌, length, IfOk, IfErr, OnErr};
+ghost use Rattle.std.specs.Prelude.{◌≡◌, ◌+◌, ◌<◌, ◌≤◌, true, length, IfOk, IfErr, OnErr};
 ghost use Rattle.iss_edge.specs.World.{Told, HasCause};
 ghost use Rattle.iss_edge.specs.Calls.{Takes, Same};
+ghost use Rattle.iss_top.specs.Pieces.{ArePieces, AreFresh, TakesMore, TakesNoMore, unread_of};
+ghost use Rattle.iss_top.specs.Reader.{IsReading};
 
 use crate::stop::Stop;
 use iss_edge::{Channel, Edge};
@@ -11,8 +13,64 @@ use std::alloc::{AllocError, Global};
 /// The most bytes that are taken at once.
 pub(crate) const PIECE: usize = 65536;
 
+/// The piece at hand, and how much of the input was taken in all.
+#[derive(Drop)]
+pub(crate) struct Pieces {
+    /// What was taken of it, up to `filled`, is read up to `next`.
+    pub(crate) bytes: Vec<u8>,
+    pub(crate) next: usize,
+    pub(crate) filled: usize,
+    pub(crate) taken: u64,
+}
+
+impl Pieces {
+    /// Nothing was taken.
+    pub(crate) fn new(alloc: Global) -> Result<Pieces, AllocError>
+        ensures { IfOk result AreFresh }
+    {
+        let bytes = zeros(alloc, PIECE)?;
+        Ok(Pieces {
+            bytes,
+            next: 0,
+            filled: 0,
+            taken: 0,
+        })
+    }
+
+    /// The bytes that weren't read yet.
+    pub(crate) fn unread(&self) -> &[u8]
+        requires fit { ArePieces self.now }
+        ensures { result.now ≡ unread_of self.now }
+    {
+        &self.bytes[self.next..self.filled]
+    }
+
+    /// Takes the next piece, and tells whether there was one.
+    pub(crate) fn take_more<E: Edge>(&mut self, edge: &mut E) -> Result<bool, Stop>
+        requires fit { ArePieces self.old }
+        ensures fit { ArePieces self.new }
+        ensures further { IfOk result (λ more. more ≡ true → self.old.taken < self.new.taken) }
+        ensures takes { IfOk result (λ more.
+            Told (TakesMore more self.old self.new) (E.told edge.old) (E.told edge.new)) }
+        ensures stops { IfErr result (λ stop.
+            Told (TakesNoMore self.old.taken stop) (E.told edge.old) (E.told edge.new)) }
+        ensures reading { IsReading (E.faults edge.old) (E.faults edge.new) result }
+        ensures kept { E.extent edge.new ≡ E.extent edge.old }
+    {
+        let count = take_piece(edge, &mut self.bytes, room_after(self.taken))?;
+        let taken = self.taken + count as u64;
+        if taken > MOST_INPUT {
+            return Err(Stop::InputLong);
+        }
+        self.taken = taken;
+        self.next = 0;
+        self.filled = count;
+        Ok(count > 0)
+    }
+}
+
 /// So many bytes of zero.
-pub(crate) fn zeros(alloc: Global, len: usize) -> Result<Vec<u8>, AllocError>
+fn zeros(alloc: Global, len: usize) -> Result<Vec<u8>, AllocError>
     ensures { IfOk result (λ bytes. length bytes.items ≡ len) }
 {
     let bytes = vec![in alloc; 0; len]?;
@@ -20,7 +78,7 @@ pub(crate) fn zeros(alloc: Global, len: usize) -> Result<Vec<u8>, AllocError>
 }
 
 /// How many bytes to ask for where so many were taken. Behind the most there may be, one byte more is asked for, to see whether there is one.
-pub(crate) fn room_after(taken: u64) -> usize
+fn room_after(taken: u64) -> usize
     requires { taken ≤ MOST_INPUT }
     ensures some { 0 < result }
     ensures piece { result ≤ PIECE }
@@ -34,7 +92,7 @@ pub(crate) fn room_after(taken: u64) -> usize
 }
 
 /// Takes at most so many bytes into the start of the buffer.
-pub(crate) fn take_piece<E: Edge>(
+fn take_piece<E: Edge>(
     edge: &mut E,
     buffer: &mut [u8],
     room: usize,
@@ -47,6 +105,7 @@ pub(crate) fn take_piece<E: Edge>(
     ensures unchanged { OnErr result (Told Same (E.told edge.old) (E.told edge.new)) }
     ensures stop { IfErr result (λ stop. stop ≡ Stop.Input) }
     ensures cause { HasCause (λ f. f.input) (E.faults edge.old) (E.faults edge.new) result }
+    ensures kept { E.extent edge.new ≡ E.extent edge.old }
 {
     match edge.take(Channel(0), &mut buffer[..room]) {
         Ok(count) => Ok(count),

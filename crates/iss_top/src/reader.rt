@@ -1,13 +1,13 @@
 //! The lines of the input, one after the other.
-ghost use Rattle.std.specs.Prelude.{◌≡◌, ◌≤◌, ◌<◌, ◌+◌, ◌-◌, false, length, take, drop, IfOk, IfErr, OnErr};
+ghost use Rattle.std.specs.Prelude.{◌≡◌, ◌+◌, ◌<◌, [], true, IfOk, IfErr, OnOk};
 ghost use Rattle.iss_edge.specs.World.{Told};
-ghost use Rattle.iss_top.specs.Reader.{ReadsOn, ReadsNoPart, IsReading};
+ghost use Rattle.iss_top.specs.Reader.{ReadsOn, ReadsNoPart, IsReading, Advances, fresh_reader};
+ghost use Rattle.iss_top.specs.AtHand.{IsAtHand, EndsLine, now_of, line_of};
 
 use crate::buffer::LineBuffer;
-use crate::piece::{PIECE, room_after, take_piece, zeros};
+use crate::piece::Pieces;
 use crate::stop::Stop;
 use iss_edge::Edge;
-use iss_model::limits::MOST_INPUT;
 use memchr::memchr;
 use std::alloc::{AllocError, Global};
 use std::marker::Model;
@@ -16,45 +16,33 @@ use std::marker::Model;
 /// whether that is the last one.
 #[derive(Drop)]
 pub(crate) struct LineReader {
-    /// The piece at hand: what was taken of it, up to `filled`, is read up to `next`.
-    piece: Vec<u8>,
-    next: usize,
-    filled: usize,
-    /// The line at hand lies here in the piece where none of it was kept.
-    start: usize,
-    end: usize,
-    /// What came of the line at hand in earlier pieces, and then all of it.
-    kept: LineBuffer,
-    taken: u64,
-    ended: bool,
+    hand: AtHand,
 }
 
 impl Model for LineReader {
     ghost use Rattle.iss_top.specs.Reader.{ReaderNow};
-    ghost use Rattle.iss_top.specs.Reader.{slice_of, line_at_hand};
+    ghost use Rattle.iss_top.specs.AtHand.{IsAtHand, now_of};
 
     ghost Value = { ReaderNow };
 
-    ghost view = { λ r. record {
-        taken = r.taken;
-        unread = slice_of r.piece.items r.next r.filled;
-        line = line_at_hand r.kept (slice_of r.piece.items r.start r.end);
-        ended = r.ended;
-    } };
+    ghost view = { λ r. now_of r.hand };
+
+    ghost invariant = { λ r. IsAtHand r.hand };
 }
 
 impl LineReader {
-    pub(crate) fn new(alloc: Global) -> Result<LineReader, AllocError> {
-        let piece = zeros(alloc, PIECE)?;
+    pub(crate) fn new(alloc: Global) -> Result<LineReader, AllocError>
+        ensures { IfOk result (λ reader. reader ≡ fresh_reader) }
+    {
+        let pieces = Pieces::new(alloc)?;
         Ok(LineReader {
-            piece,
-            next: 0,
-            filled: 0,
-            start: 0,
-            end: 0,
-            kept: LineBuffer::new(alloc),
-            taken: 0,
-            ended: false,
+            hand: AtHand {
+                pieces,
+                start: 0,
+                end: 0,
+                kept: LineBuffer::new(alloc),
+                ended: false,
+            },
         })
     }
 
@@ -62,11 +50,7 @@ impl LineReader {
     pub(crate) fn line(&self) -> &[u8]
         ensures { result.now ≡ self.now.line }
     {
-        if self.kept.as_slice().is_empty() {
-            &self.piece[self.start..self.end]
-        } else {
-            self.kept.as_slice()
-        }
+        self.hand.line()
     }
 
     /// Reads on to the next line, and tells whether there is one. Behind the last line feed one more begins, which may be empty.
@@ -75,6 +59,46 @@ impl LineReader {
             Told (ReadsOn more self.old self.new) (E.told edge.old) (E.told edge.new)) }
         ensures stops { IfErr result (λ stop.
             Told (ReadsNoPart self.old stop) (E.told edge.old) (E.told edge.new)) }
+        ensures advances { IfOk result (λ more. more ≡ true → Advances self.old self.new) }
+        ensures reading { IsReading (E.faults edge.old) (E.faults edge.new) result }
+        ensures kept { E.extent edge.new ≡ E.extent edge.old }
+    {
+        self.hand.read_line(edge)
+    }
+}
+
+/// What a reader has at hand.
+#[derive(Drop)]
+pub(crate) struct AtHand {
+    pub(crate) pieces: Pieces,
+    /// The line at hand lies here in the piece where none of it was kept.
+    pub(crate) start: usize,
+    pub(crate) end: usize,
+    /// What came of the line at hand in earlier pieces, and then all of it.
+    pub(crate) kept: LineBuffer,
+    pub(crate) ended: bool,
+}
+
+impl AtHand {
+    fn line(&self) -> &[u8]
+        requires fit { IsAtHand self.now }
+        ensures { result.now ≡ line_of self.now }
+    {
+        if self.kept.as_slice().is_empty() {
+            &self.pieces.bytes[self.start..self.end]
+        } else {
+            self.kept.as_slice()
+        }
+    }
+
+    fn read_line<E: Edge>(&mut self, edge: &mut E) -> Result<bool, Stop>
+        requires fit { IsAtHand self.old }
+        ensures fit { IsAtHand self.new }
+        ensures reads { IfOk result (λ more.
+            Told (ReadsOn more (now_of self.old) (now_of self.new)) (E.told edge.old) (E.told edge.new)) }
+        ensures stops { IfErr result (λ stop.
+            Told (ReadsNoPart (now_of self.old) stop) (E.told edge.old) (E.told edge.new)) }
+        ensures advances { IfOk result (λ more. more ≡ true → Advances (now_of self.old) (now_of self.new)) }
         ensures reading { IsReading (E.faults edge.old) (E.faults edge.new) result }
         ensures kept { E.extent edge.new ≡ E.extent edge.old }
     {
@@ -85,13 +109,12 @@ impl LineReader {
         self.end = 0;
         self.kept.clear();
         'pieces: loop {
-            if let Some(at) = memchr(b'\n', &self.piece[self.next..self.filled]) {
+            if let Some(at) = memchr(b'\n', self.pieces.unread()) {
                 self.end_line(at)?;
                 return Ok(true);
             }
-            self.kept.extend(&self.piece[self.next..self.filled])?;
-            self.next = self.filled;
-            if !self.take_more(edge)? {
+            self.kept.extend(self.pieces.unread())?;
+            if !self.pieces.take_more(edge)? {
                 self.ended = true;
                 return Ok(true);
             }
@@ -99,28 +122,22 @@ impl LineReader {
     }
 
     /// The line at hand ends so many bytes on. One that lies whole in the piece isn't copied.
-    fn end_line(&mut self, at: usize) -> Result<(), AllocError> {
-        let end = self.next + at;
+    fn end_line(&mut self, at: usize) -> Result<(), AllocError>
+        requires fit { IsAtHand self.old }
+        requires start { self.old.start ≡ 0 }
+        requires end { self.old.end ≡ 0 }
+        requires within { self.old.pieces.next + at < self.old.pieces.filled }
+        ensures fit { IsAtHand self.new }
+        ensures ends { OnOk result (EndsLine at self.old self.new) }
+    {
+        let end = self.pieces.next + at;
         if self.kept.as_slice().is_empty() {
-            self.start = self.next;
+            self.start = self.pieces.next;
             self.end = end;
         } else {
-            self.kept.extend(&self.piece[self.next..end])?;
+            self.kept.extend(&self.pieces.bytes[self.pieces.next..end])?;
         }
-        self.next = end + 1;
+        self.pieces.next = end + 1;
         Ok(())
-    }
-
-    /// Takes the next piece, and tells whether there was one.
-    fn take_more<E: Edge>(&mut self, edge: &mut E) -> Result<bool, Stop> {
-        let count = take_piece(edge, &mut self.piece, room_after(self.taken))?;
-        let taken = self.taken + count as u64;
-        if taken > MOST_INPUT {
-            return Err(Stop::InputLong);
-        }
-        self.taken = taken;
-        self.next = 0;
-        self.filled = count;
-        Ok(count > 0)
     }
 }
