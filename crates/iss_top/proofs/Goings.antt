@@ -1,5 +1,5 @@
 -- Parts of a run on a device, one after the other, and those that only say something.
-use Rattle.std.proofs.Common.{◌≡◌, ℕ, ◌+◌, ◌≤◌, inl, inr, true, List, [], ◌∷◌, ◌++◌, length, map, refl, sym, ap, subst, ◌∙◌, append-nil, append_assoc}
+use Rattle.std.proofs.Common.{◌≡◌, ℕ, ◌+◌, ◌≤◌, ◌⊎◌, inl, inr, true, false, List, [], ◌∷◌, ◌++◌, length, map, refl, sym, ap, subst, ◌∙◌, append-nil, append_assoc, arith, length-append}
 use Rattle.std.specs.List.{filter}
 use Rattle.std.proofs.lemmas.List.{map-append}
 use Rattle.std.proofs.lemmas.List.Elements.{filter-append}
@@ -7,12 +7,12 @@ use Rattle.iss_edge.specs.declared.outside.Action.{Action}
 use Rattle.iss_edge.specs.declared.outside.Action.TheVariants.{Emit}
 use Rattle.iss_edge.specs.World.{World}
 use Rattle.iss_edge.specs.Stretches.{Step, actions_of, AreStill, with_levels}
-use Rattle.iss_edge.proofs.StretchLemmas.{join, join_on, actions_of-append, still_goes_on, actions_of-leveled, sent_leveled}
+use Rattle.iss_edge.proofs.StretchLemmas.{join, join_on, good_up, actions_of-append, none_goes_on, still_append, still_goes_on, actions_of-leveled, sent_leveled}
 use Rattle.iss_model.specs.declared.input.Record.{Record}
 use Rattle.iss_model.specs.run.Transcripts.{Text, at_level}
 use Rattle.iss_store.specs.Values.{StoreNow}
 use Rattle.iss_store.specs.Standing.{RestsAt, StandsAt}
-use Rattle.iss_texts.specs.Sending.{emits, GoOut, Says}
+use Rattle.iss_texts.specs.Sending.{emits, FailsAt, GoOut, Says, SaysSome}
 use Rattle.iss_texts.proofs.Saying.{all_out}
 use Rattle.iss_top.specs.Dry.{each_bytes}
 use Rattle.iss_top.specs.Progress.{is_output}
@@ -161,4 +161,156 @@ says_goes s rs texts a b says =
           still_goes_on (RestsAt s all) (StandsAt s all) (length rs) steps (λ bytes rests. inl rests)
           (subst AreStill (sym same) (emits_still texts)) (sent_leveled (length rs) (emits texts));
       rests = λ start. subst (λ (device : List ℕ). RestsAt s rs device (length rs)) (sym says.sends.device) start;
+    }
+
+-- ---- texts of which some were said
+
+-- what was done are emits alone, the last of which may have failed
+outputs_last : (rest : List (List ℕ)) (last : List Action) → (last ≡ []) ⊎ FailsAt rest last → outputs_of last ≡ last
+outputs_last rest last ended =
+    elim ended [
+      | inl none ↦ subst (λ (l : List Action). outputs_of l ≡ l) (sym none) refl
+      | inr fails ↦ subst (λ (l : List Action). outputs_of l ≡ l) (sym fails.action) refl
+    ]
+
+outputs_whole : (whole : List (List ℕ)) (last : List Action) → outputs_of last ≡ last → outputs_of (emits whole ++ last) ≡ emits whole ++ last
+outputs_whole [] last h = h
+outputs_whole (text ∷ whole) last h = ap (λ (l : List Action). Emit (record { 0 = 0 }) text true ∷ l) (outputs_whole whole last h)
+
+outputs_out : (texts : List (List ℕ)) (actions : List Action) → GoOut texts actions → outputs_of actions ≡ actions
+outputs_out texts actions out =
+    subst (λ (l : List Action). outputs_of l ≡ l) (sym out.done) (outputs_whole out.whole out.last (outputs_last out.rest out.last out.ended))
+
+still_last : (rest : List (List ℕ)) (last : List Action) → (last ≡ []) ⊎ FailsAt rest last → AreStill last
+still_last rest last ended =
+    elim ended [
+      | inl none ↦ subst AreStill (sym none) tt
+      | inr fails ↦ subst AreStill (sym fails.action) (refl, tt)
+    ]
+
+still_out : (texts : List (List ℕ)) (actions : List Action) → GoOut texts actions → AreStill actions
+still_out texts actions out =
+    subst AreStill (sym out.done) (still_append (emits out.whole) out.last (emits_still out.whole) (still_last out.rest out.last out.ended))
+
+-- the levels of the texts that went out come first among those of all
+abbrev LevelsFirst : ℕ → List (List ℕ) → List Action → Type 0
+LevelsFirst n texts actions = (later : List ℕ) × (levels_of (at_level n texts) ≡ output_levels (with_levels n actions) ++ later)
+
+levels_last : (n : ℕ) (rest : List (List ℕ)) (last : List Action) → (last ≡ []) ⊎ FailsAt rest last → LevelsFirst n rest last
+levels_last n rest last ended =
+    elim ended [
+      | inl none ↦ (levels_of (at_level n rest), ap (λ (l : List Action). output_levels (with_levels n l) ++ levels_of (at_level n rest)) (sym none))
+      | inr fails ↦
+          (levels_of (at_level n fails.others),
+          ap (λ (l : List (List ℕ)). levels_of (at_level n l)) fails.first
+          ∙ ap (λ (l : List Action). output_levels (with_levels n l) ++ levels_of (at_level n fails.others)) (sym fails.action))
+    ]
+
+levels_whole : (n : ℕ) (whole rest : List (List ℕ)) (last : List Action) → LevelsFirst n rest last → LevelsFirst n (whole ++ rest) (emits whole ++ last)
+levels_whole n [] rest last h = h
+levels_whole n (text ∷ whole) rest last h =
+    let more = levels_whole n whole rest last h in
+    (more.0, ap (λ (l : List ℕ). n ∷ l) more.1)
+
+levels_out : (n : ℕ) (texts : List (List ℕ)) (actions : List Action) → GoOut texts actions → LevelsFirst n texts actions
+levels_out n texts actions out =
+    let h = levels_whole n out.whole out.rest out.last (levels_last n out.rest out.last out.ended) in
+    (h.0,
+    ap (λ (l : List (List ℕ)). levels_of (at_level n l)) out.cut
+    ∙ h.1
+    ∙ ap (λ (l : List Action). output_levels (with_levels n l) ++ h.0) (sym out.done))
+
+pub says_goes_part : (s : StoreNow) (rs : List Record) (texts : List (List ℕ)) (a b : World) → SaysSome texts a b → GoesPart s rs rs (at_level (length rs) texts) a b
+says_goes_part s rs texts a b says =
+    let n = length rs in
+    let actions = says.sends.actions in
+    let steps = with_levels n actions in
+    let same : actions_of steps ≡ actions = actions_of-leveled n actions in
+    record {
+      more = first_self rs;
+      steps = steps;
+      grew = says.sends.grew ∙ ap (λ (l : List Action). a.trace ++ l) (sym same);
+      out =
+          subst (λ (l : List (List ℕ)). GoOut l (outputs_of (actions_of steps))) (sym (bytes_at n texts))
+          (subst (λ (l : List Action). GoOut texts l) (sym (ap outputs_of same ∙ outputs_out texts actions says.sends.out)) says.sends.out);
+      levels = levels_out n texts actions says.sends.out;
+      good =
+          λ all first.
+          (still_goes_on (RestsAt s all) (StandsAt s all) n steps (λ bytes rests. inl rests)
+          (subst AreStill (sym same) (still_out texts actions says.sends.out)) (sent_leveled n actions)).good;
+    }
+
+-- ---- texts behind those of which some went out
+
+fails_more : (xs ys : List (List ℕ)) (last : List Action) → FailsAt xs last → FailsAt (xs ++ ys) last
+fails_more xs ys last f =
+    record {
+      text = f.text;
+      others = f.others ++ ys;
+      first = ap (λ (l : List (List ℕ)). l ++ ys) f.first;
+      prefix = f.prefix;
+      back = f.back;
+      cut = f.cut;
+      action = f.action;
+    }
+
+out_more : (xs ys : List (List ℕ)) (actions : List Action) → GoOut xs actions → GoOut (xs ++ ys) actions
+out_more xs ys actions out =
+    record {
+      whole = out.whole;
+      rest = out.rest ++ ys;
+      cut = ap (λ (l : List (List ℕ)). l ++ ys) out.cut ∙ append_assoc out.whole out.rest ys;
+      last = out.last;
+      done = out.done;
+      ended = elim out.ended [ inl none ↦ inl none | inr fails ↦ inr (fails_more out.rest ys out.last fails) ];
+    }
+
+pub part_more : (s : StoreNow) (rs rs' : List Record) (t u : List Text) (a b : World) → GoesPart s rs rs' t a b → GoesPart s rs rs' (t ++ u) a b
+part_more s rs rs' t u a b f =
+    record {
+      more = f.more;
+      steps = f.steps;
+      grew = f.grew;
+      out =
+          subst (λ (l : List (List ℕ)). GoOut l (outputs_of (actions_of f.steps))) (sym (map-append (λ (text : Text). text.bytes) t u))
+          (out_more (each_bytes t) (each_bytes u) (outputs_of (actions_of f.steps)) f.out);
+      levels =
+          (f.levels.0 ++ levels_of u,
+          map-append (λ (text : Text). text.level) t u
+          ∙ ap (λ (l : List ℕ). l ++ levels_of u) f.levels.1
+          ∙ append_assoc (output_levels f.steps) f.levels.0 (levels_of u));
+      good = f.good;
+    }
+
+-- ---- nothing at all
+
+pub goes_nothing : (s : StoreNow) (rs : List Record) (a : World) → Goes s rs rs [] a a
+goes_nothing s rs a =
+    record {
+      more = first_self rs;
+      steps = [];
+      grew = sym (append-nil a.trace);
+      out = refl;
+      levels = refl;
+      goes_on = λ all first. none_goes_on (RestsAt s all) (StandsAt s all) (length rs) [] (λ bytes rests. inl rests) refl;
+      rests = λ start. start;
+    }
+
+first_length : (rs rs' : List Record) → AreFirstOf rs rs' → length rs ≤ length rs'
+first_length rs rs' first =
+    omega (arith, ap (λ (l : List Record). length l) first.cut, length-append {A = Record} rs first.later)
+
+-- whatever was to come
+pub part_nothing : (s : StoreNow) (rs rs' : List Record) (t : List Text) (a : World) → AreFirstOf rs rs' → GoesPart s rs rs' t a a
+part_nothing s rs rs' t a more =
+    record {
+      more = more;
+      steps = [];
+      grew = sym (append-nil a.trace);
+      out = record { whole = []; rest = each_bytes t; cut = refl; last = []; done = refl; ended = inl refl };
+      levels = (levels_of t, refl);
+      good =
+          λ all first.
+          good_up (RestsAt s all) (StandsAt s all) (length rs) (length rs) (length rs') [] (first_length rs rs' more)
+          (none_goes_on (RestsAt s all) (StandsAt s all) (length rs) [] (λ bytes rests. inl rests) refl).good;
     }

@@ -16,9 +16,9 @@ pub mod Formatted
 pub mod Continues
 pub mod Goings
 pub mod ToldLines
-pub mod WereRead
 pub mod OnTheWay
 pub mod Devices
 pub mod Beginnings
 pub mod WholeRuns
+pub mod ToldWay
 pub mod ToldReplays

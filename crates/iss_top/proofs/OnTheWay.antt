@@ -1,9 +1,8 @@
 -- A run on a device from its opening to each of its ends, line by line.
-use Rattle.std.proofs.Common.{◌≡◌, ℕ, ◌+◌, ◌≤◌, inl, inr, true, false, List, [], ◌∷◌, ◌++◌, length, take, refl, sym, ap, subst, ◌∙◌, append-nil, arith, length-append}
+use Rattle.std.proofs.Common.{◌≡◌, ℕ, ◌+◌, ◌≤◌, inl, inr, true, false, List, [], ◌∷◌, ◌++◌, length, take, Err, refl, sym, ap, subst, ◌∙◌, arith}
 use Rattle.std.specs.Prelude.{◌⊎◌, ◌↔◌}
 use Rattle.iss_edge.specs.World.{World}
-use Rattle.iss_edge.specs.Stretches.{actions_of, IsGood, GoesOn}
-use Rattle.iss_edge.proofs.StretchLemmas.{none_goes_on}
+use Rattle.iss_edge.specs.Stretches.{IsGood, GoesOn}
 use Rattle.iss_journal.specs.Region.{Region, RestsFirst, StandsFirst}
 use Rattle.iss_model.specs.declared.input.Record.{Record}
 use Rattle.iss_model.specs.declared.limits.TheConstants.{MOST_INPUT}
@@ -11,32 +10,38 @@ use Rattle.iss_model.specs.run.Transcripts.{Text}
 use Rattle.iss_model.specs.run.Runs.{Run, Response}
 use Rattle.iss_agreement.proofs.Records.{records_history}
 use Rattle.iss_store.specs.Values.{StoreNow}
-use Rattle.iss_store.specs.Standing.{region_of, region_under, bodies_of, StandsFor, RestsAt, StandsAt}
-use Rattle.iss_top.specs.Lines.{has_line_feed, parts_of, all_but_last}
+use Rattle.iss_store.specs.Standing.{region_of, region_under, bodies_of, StandsFor, RestsAt}
+use Rattle.iss_top.specs.declared.stop.Stop.{Stop}
+use Rattle.iss_top.specs.declared.stop.Stop.TheVariants as stop
+use Rattle.iss_top.specs.Statuses.{status_of}
+use Rattle.iss_top.specs.Lines.{parts_of, all_but_last}
 use Rattle.iss_top.specs.Progress.{HasRead}
-use Rattle.iss_top.specs.Reader.{ReaderNow, TakesIn, OnlyTakesIn, IsToldAs, ReadsPart}
-use Rattle.iss_top.specs.Replaying.{run_at, told_line, told_lines, then_told, AreFirstOf, IsFirstOf, Goes, GoesPart, GoesFor, GoesWhole, IsSameDevice, TakesAs, TakesPartAs, IsReplaying, RunsAs, RunsOnBook, RunsFrom}
-use Rattle.iss_top.proofs.Goings.{goes_then, goes_then_part, goes_part, first_self}
-use Rattle.iss_top.proofs.ToldLines.{told_alike, told_one_more, first_told_of, run_then}
-use Rattle.iss_top.proofs.WereRead.{takes_then, read_begins, read_next, read_on, read_all, read_first, ComeFirst, ended_before}
+use Rattle.iss_top.specs.Reader.{ReaderNow, fresh_reader, IsToldAs, ReadsPart, ReadsNoPart, ReadsOn}
+use Rattle.iss_top.specs.Replaying.{run_at, told_line, told_lines, then_told, Goes, GoesPart, GoesFor, GoesWhole, IsSameDevice, TakesAs, TakesPartAs, IsReplaying, RunsOnBook, RunsFrom}
+use Rattle.iss_top.proofs.Goings.{goes_nothing, goes_then, goes_then_part, goes_part, part_more}
+use Rattle.iss_top.proofs.Parts.{has_read_begins, has_read_next, has_read_on, parts_first, parts_over, parts_stopped}
+use Rattle.iss_top.proofs.ToldAs.{same_told}
+use Rattle.iss_top.proofs.ToldLines.{ComesFirst, first_parts, told_one_more, run_then}
 
 -- ---- the same on what changes nothing, and on the same device
+
+-- the status of a run that ended so
+abbrev pub ends_with : Stop → ℕ
+ends_with why = status_of {A = Unit {0}} (Err why)
 
 abbrev GoesTo : StoreNow → List Record → Response → World → World → Type 0
 GoesTo s rs r a b = Goes s rs r.run.history.records r.texts a b
 
--- nothing was done yet
-pub nothing_goes : (s : StoreNow) (rs : List Record) (a : World) → Goes s rs rs [] a a
-nothing_goes s rs a =
-    record {
-      more = first_self rs;
-      steps = [];
-      grew = sym (append-nil a.trace);
-      out = refl;
-      levels = refl;
-      goes_on = λ all first. none_goes_on (RestsAt s all) (StandsAt s all) (length rs) [] (λ bytes rests. inl rests) refl;
-      rests = λ start. start;
-    }
+-- some of what the first parts are told is some of what all are told
+goes_first : (s : StoreNow) (rs : List Record) (first all : Response) (a b : World) → ComesFirst first all → GoesPart s rs first.run.history.records first.texts a b → GoesPart s rs first.run.history.records all.texts a b
+goes_first s rs first all a b more f =
+    subst (λ (t : List Text). GoesPart s rs first.run.history.records t a b) more.cut (part_more s rs first.run.history.records first.texts more.later a b f)
+
+-- the parts that were read come first among those of the input
+first_of_input : (s : Run) (parts : List (List ℕ)) (now : ReaderNow) (a b : World) → HasRead parts now a b → ComesFirst (told_lines s parts) (told_lines s (parts_of (a.left 0)))
+first_of_input s parts now a b read =
+    let first = parts_first parts now a b read in
+    subst (λ (l : List (List ℕ)). ComesFirst (told_lines s parts) (told_lines s l)) (sym first.cut) (first_parts s parts first.later)
 
 -- what neither does anything nor changes the device
 goes_still : (s : StoreNow) (rs rs' : List Record) (t : List Text) (a b c : World) → Goes s rs rs' t a b → c.device ≡ b.device → c.trace ≡ b.trace → Goes s rs rs' t a c
@@ -98,26 +103,25 @@ told_there : (opened s : StoreNow) (rs : List Record) (parts : List (List ℕ)) 
     → told_line (run_at s (told_lines (run_at opened rs) parts).run.history.records) line ≡ told_line (told_lines (run_at opened rs) parts).run part
 told_there opened s rs parts line part same alike =
     ap (λ (k : Run). told_line k line) (run_then opened s rs parts same)
-    ∙ told_alike (told_lines (run_at opened rs) parts).run line part alike
+    ∙ same_told (told_lines (run_at opened rs) parts).run line part alike
 
-pub way_begins : (s : StoreNow) (now : ReaderNow) (a : World) → now.taken ≡ 0 → now.unread ≡ [] → now.ended ≡ false → IsReplaying s s now a a
-way_begins s now a none unread going =
+pub way_begins : (s : StoreNow) (now : ReaderNow) (a : World) → now ≡ fresh_reader → IsReplaying s s now a a
+way_begins s now a fresh =
     record {
       parts = [];
-      read = read_begins now a none unread going;
+      read = has_read_begins now a fresh;
       same = record { instance = refl; to = refl };
       on_book =
           λ rs stands.
           (subst (λ (l : List Record). StandsFor s l) (sym (records_history rs)) stands,
-          subst (λ (l : List Record). Goes s rs l [] a a) (sym (records_history rs)) (nothing_goes s rs a));
+          subst (λ (l : List Record). Goes s rs l [] a a) (sym (records_history rs)) (goes_nothing s rs a));
     }
 
 -- a part of the input was read, and then its line was taken on this store
 module _ (opened s : StoreNow) (before now : ReaderNow) (a b c : World) (way : IsReplaying opened s before a b) (going : before.ended ≡ false) (reads : ReadsPart before now b c) where
   read_then : (d : World) → d.left ≡ c.left → HasRead (way.parts ++ reads.part ∷ []) now a d
   read_then d left =
-      read_on (way.parts ++ reads.part ∷ []) now a c d
-      (read_next way.parts reads.part reads.took before now a b c way.read going reads.takes.takes reads.count reads.one_line reads.ends) left
+      has_read_on (way.parts ++ reads.part ∷ []) now a c d (has_read_next way.parts before now a b c going way.read reads) left
 
   -- what was done until the line was taken
   goes_until : (rs : List Record) → StandsFor opened rs → GoesFor opened rs way.parts a c
@@ -125,15 +129,13 @@ module _ (opened s : StoreNow) (before now : ReaderNow) (a b c : World) (way : I
       let told = told_lines (run_at opened rs) way.parts in
       goes_still opened rs told.run.history.records told.texts a b c (way.on_book rs stands).1 reads.takes.device reads.takes.trace
 
-  -- what the line is told
-  told_now : (rs : List Record) → told_line (run_at s (told_lines (run_at opened rs) way.parts).run.history.records) now.line ≡ told_line (told_lines (run_at opened rs) way.parts).run reads.part
-  told_now rs = told_there opened s rs way.parts now.line reads.part way.same reads.line
+  -- what the line is told, behind the others, is what the parts are told with its part
+  told_more : (rs : List Record) → then_told (told_lines (run_at opened rs) way.parts).texts (told_line (run_at s (told_lines (run_at opened rs) way.parts).run.history.records) now.line) ≡ told_lines (run_at opened rs) (way.parts ++ reads.part ∷ [])
+  told_more rs =
+      ap (then_told (told_lines (run_at opened rs) way.parts).texts) (told_there opened s rs way.parts now.line reads.part way.same reads.line)
+      ∙ sym (told_one_more (run_at opened rs) way.parts reads.part)
 
-  -- that it is one line more
-  one_more : (rs : List Record) → then_told (told_lines (run_at opened rs) way.parts).texts (told_line (told_lines (run_at opened rs) way.parts).run reads.part) ≡ told_lines (run_at opened rs) (way.parts ++ reads.part ∷ [])
-  one_more rs = sym (told_one_more (run_at opened rs) way.parts reads.part)
-
-  taken_goes : (s' : StoreNow) (d : World) (taken : TakesAs (λ k. told_line k now.line) s s' c d) (rs : List Record) → StandsFor opened rs
+  taken_goes : (s' : StoreNow) (d : World) → TakesAs (λ k. told_line k now.line) s s' c d → (rs : List Record) → StandsFor opened rs
       → StandsFor s' (told_lines (run_at opened rs) (way.parts ++ reads.part ∷ [])).run.history.records × GoesFor opened rs (way.parts ++ reads.part ∷ []) a d
   taken_goes s' d taken rs stands =
       let told = told_lines (run_at opened rs) way.parts in
@@ -142,8 +144,7 @@ module _ (opened s : StoreNow) (before now : ReaderNow) (a b c : World) (way : I
       let whole : GoesTo opened rs (then_told told.texts line) a d =
       goes_then opened rs told.run.history.records line.run.history.records told.texts line.texts a c d (goes_until rs stands)
       (goes_same opened s told.run.history.records line.run.history.records line.texts c d way.same done.1) in
-      subst (λ (r : Response). StandsFor s' r.run.history.records × GoesTo opened rs r a d) (ap (then_told told.texts) (told_now rs) ∙ one_more rs)
-      (done.0, whole)
+      subst (λ (r : Response). StandsFor s' r.run.history.records × GoesTo opened rs r a d) (told_more rs) (done.0, whole)
 
   pub way_goes_on : (s' : StoreNow) (d : World) → TakesAs (λ k. told_line k now.line) s s' c d → IsReplaying opened s' now a d
   way_goes_on s' d taken =
@@ -155,36 +156,35 @@ module _ (opened s : StoreNow) (before now : ReaderNow) (a b c : World) (way : I
       }
 
   -- some of what it is told went out
-  taken_part : (d : World) (status : ℕ) (took : List ℕ) → (status ≡ 0 → ⊥) → (status ≡ 3 → ⊥) → (status ≡ 8 → ⊥) → TakesPartAs (λ k. told_line k now.line) s c d → ComeFirst (way.parts ++ reads.part ∷ []) (a.left 0)
-      → (rs : List Record) → StandsFor opened rs → RunsOnBook status opened rs took a d
-  taken_part d status took not_done not_input not_long taken first rs stands =
+  taken_part : (d : World) (status : ℕ) (took : List ℕ) → (status ≡ 0 → ⊥) → (status ≡ 3 → ⊥) → (status ≡ 8 → ⊥) → TakesPartAs (λ k. told_line k now.line) s c d → (rs : List Record) → StandsFor opened rs → RunsOnBook status opened rs took a d
+  taken_part d status took not_done not_input not_long taken rs stands =
       let told = told_lines (run_at opened rs) way.parts in
       let line = told_line (run_at s told.run.history.records) now.line in
       let more = told_lines (run_at opened rs) (way.parts ++ reads.part ∷ []) in
+      let first : ComesFirst more (told_lines (run_at opened rs) (parts_of (a.left 0))) =
+      first_of_input (run_at opened rs) (way.parts ++ reads.part ∷ []) now a d (read_then d taken.left) in
       let part : GoesPart opened rs line.run.history.records (told.texts ++ line.texts) a d =
       goes_then_part opened rs told.run.history.records line.run.history.records told.texts line.texts a c d (goes_until rs stands)
       (part_same opened s told.run.history.records line.run.history.records line.texts c d way.same (taken.on_book told.run.history.records (way.on_book rs stands).0)) in
       record {
         rs' = more.run.history.records;
-        texts = more.texts;
+        records = first.records;
         goes =
-            subst (λ (r : Response). GoesPart opened rs r.run.history.records r.texts a d) (ap (then_told told.texts) (told_now rs) ∙ one_more rs) part;
-        first =
-            subst (λ (l : List (List ℕ)). IsFirstOf more.texts more.run.history.records (told_lines (run_at opened rs) l)) (sym first.cut)
-            (first_told_of (run_at opened rs) (way.parts ++ reads.part ∷ []) first.later);
+            goes_first opened rs more (told_lines (run_at opened rs) (parts_of (a.left 0))) a d first
+            (subst (λ (r : Response). GoesPart opened rs r.run.history.records r.texts a d) (told_more rs) part);
         whole = λ e. absurd (not_done e);
         stopped = λ e. elim e [ inl at ↦ absurd (not_input at) | inr at ↦ absurd (not_long at) ];
       }
 
-  pub ends_in_line : (d : World) (status : ℕ) → (status ≡ 0 → ⊥) → (status ≡ 3 → ⊥) → (status ≡ 8 → ⊥) → now.taken ≤ MOST_INPUT → TakesPartAs (λ k. told_line k now.line) s c d → RunsFrom status opened a d
-  ends_in_line d status not_done not_input not_long le taken =
+  pub ends_in_line : (d : World) (status : ℕ) → (status ≡ 0 → ⊥) → (status ≡ 3 → ⊥) → (status ≡ 8 → ⊥) → TakesPartAs (λ k. told_line k now.line) s c d → RunsFrom status opened a d
+  ends_in_line d status not_done not_input not_long taken =
       let read = read_then d taken.left in
       record {
         took = read.took;
         takes = read.takes;
-        on_book = taken_part d status read.took not_done not_input not_long taken (read_first (way.parts ++ reads.part ∷ []) now a d read);
-        long = (λ e. absurd (not_long e), λ e. absurd (omega (arith, read.count, le, e)));
-        bound = omega (arith, read.count, le);
+        on_book = taken_part d status read.took not_done not_input not_long taken;
+        long = (λ e. absurd (not_long e), λ e. absurd (omega (arith, read.count, reads.bound, e)));
+        bound = omega (arith, read.count, reads.bound);
       }
 
 -- ---- the other ends
@@ -195,55 +195,66 @@ ends_before : (opened s : StoreNow) (now : ReaderNow) (took : List ℕ) (a b c :
 ends_before opened s now took a b c status way device trace not_done stopped rs stands =
     let told = told_lines (run_at opened rs) way.parts in
     let done = way.on_book rs stands in
-    let first = read_first way.parts now a b way.read in
+    let first = first_of_input (run_at opened rs) way.parts now a b way.read in
     let goes : GoesFor opened rs way.parts a c = goes_still opened rs told.run.history.records told.texts a b c done.1 device trace in
     record {
       rs' = told.run.history.records;
-      texts = told.texts;
-      goes = goes_part opened rs told.run.history.records told.texts a c goes;
-      first =
-          subst (λ (l : List (List ℕ)). IsFirstOf told.texts told.run.history.records (told_lines (run_at opened rs) l)) (sym first.cut)
-          (first_told_of (run_at opened rs) way.parts first.later);
+      records = first.records;
+      goes =
+          goes_first opened rs told (told_lines (run_at opened rs) (parts_of (a.left 0))) a c first
+          (goes_part opened rs told.run.history.records told.texts a c goes);
       whole = λ e. absurd (not_done e);
       stopped =
           λ e.
           subst (λ (l : List (List ℕ)). GoesWhole opened rs (told_lines (run_at opened rs) l) a c) (sym (stopped e)) (record { goes = goes; history = done.0.history });
     }
 
+not_for_memory : (why : Stop) → (ends_with why ≡ 3) ⊎ (ends_with why ≡ 8) → why ≡ stop.Memory → ⊥
+not_for_memory why e memory =
+    let seven : ends_with why ≡ 7 = ap ends_with memory in
+    elim e [ inl three ↦ absurd (omega (arith, seven, three)) | inr eight ↦ absurd (omega (arith, seven, eight)) ]
+
+long_is : (why : Stop) → ends_with why ≡ 8 → why ≡ stop.InputLong
+long_is stop.Input e = absurd cc
+long_is stop.Device e = absurd cc
+long_is stop.Output e = absurd cc
+long_is stop.Disk e = absurd cc
+long_is stop.Memory e = absurd cc
+long_is stop.InputLong e = refl
+
 -- reading failed
-pub ends_reading : (opened s : StoreNow) (now : ReaderNow) (took : List ℕ) (a b c : World) (status : ℕ) → IsReplaying opened s now a b → OnlyTakesIn took b c → (status ≡ 0 → ⊥) → now.ended ≡ false → now.taken ≤ MOST_INPUT
-    → ((status ≡ 3) ⊎ (status ≡ 8) → has_line_feed (now.unread ++ take (MOST_INPUT - now.taken) took) ≡ false)
-    → (status ≡ 8) ↔ (now.taken + length took ≡ MOST_INPUT + 1) → now.taken + length took ≤ MOST_INPUT + 1 → RunsFrom status opened a c
-ends_reading opened s now took a b c status way takes not_done going le none long bound =
-    let all : length (way.read.took ++ took) ≡ now.taken + length took = omega (arith, length-append {A = ℕ} way.read.took took, way.read.count) in
+pub ends_reading : (opened s : StoreNow) (now : ReaderNow) (why : Stop) (a b c : World) → (ends_with why ≡ 0 → ⊥) → IsReplaying opened s now a b → ReadsNoPart now why b c → RunsFrom (ends_with why) opened a c
+ends_reading opened s now why a b c not_done way reads =
+    let took = way.read.took ++ reads.took in
+    let stops = parts_stopped way.parts now why a b c way.read reads in
     record {
-      took = way.read.took ++ took;
-      takes = takes_then way.read.took took a b c way.read.takes takes.takes;
+      took = took;
+      takes = stops.takes;
       on_book =
-          ends_before opened s now (way.read.took ++ took) a b c status way takes.device takes.trace not_done
-          (λ e. ended_before way.parts took now a b c way.read going le (none e));
-      long = (λ e. all ∙ long.0 e, λ e. long.1 (sym all ∙ e));
-      bound = omega (arith, all, bound);
+          ends_before opened s now took a b c (ends_with why) way reads.takes.device reads.takes.trace not_done
+          (λ e. stops.ended (not_for_memory why e));
+      long = (λ e. stops.long.0 (long_is why e), λ e. ap ends_with (stops.long.1 e));
+      bound = stops.bound;
     }
 
 -- nothing was done, as memory was wanting
 pub ends_at_start : (opened : StoreNow) (a : World) → RunsFrom 7 opened a a
 ends_at_start opened a =
-    let now : ReaderNow = record { taken = 0; unread = []; line = []; ended = false } in
-    let way = way_begins opened now a refl refl refl in
     record {
       took = [];
       takes = record { bytes = refl; others = λ ch other. refl };
-      on_book = ends_before opened opened now [] a a a 7 way refl refl (λ e. cc) (λ e. elim e [ inl at ↦ cc | inr at ↦ cc ]);
+      on_book =
+          ends_before opened opened fresh_reader [] a a a 7 (way_begins opened fresh_reader a refl) refl refl (λ e. cc)
+          (λ e. elim e [ inl at ↦ cc | inr at ↦ cc ]);
       long = (λ e. cc, λ e. absurd (omega (arith, e)));
       bound = omega arith;
     }
 
 -- the input came to its end
-pub ends_well : (opened s : StoreNow) (now : ReaderNow) (a b c : World) → IsReplaying opened s now a b → now.ended ≡ true → now.taken ≤ MOST_INPUT → c.left ≡ b.left → c.device ≡ b.device → c.trace ≡ b.trace → RunsFrom 0 opened a c
-ends_well opened s now a b c way over le left device trace =
-    let read = read_on way.parts now a b c way.read left in
-    let all = read_all way.parts now a c read over in
+pub ends_well : (opened s : StoreNow) (before now : ReaderNow) (a b c : World) → before.taken ≤ MOST_INPUT → IsReplaying opened s before a b → ReadsOn false before now b c → RunsFrom 0 opened a c
+ends_well opened s before now a b c le way over =
+    let read = has_read_on way.parts before a b c way.read over.2.left in
+    let all = parts_over way.parts before now a b c way.read over in
     record {
       took = read.took;
       takes = read.takes;
@@ -251,18 +262,18 @@ ends_well opened s now a b c way over le left device trace =
           λ rs stands.
           let told = told_lines (run_at opened rs) way.parts in
           let done = way.on_book rs stands in
-          let goes : GoesFor opened rs way.parts a c = goes_still opened rs told.run.history.records told.texts a b c done.1 device trace in
+          let first = first_of_input (run_at opened rs) way.parts before a b way.read in
+          let goes : GoesFor opened rs way.parts a c = goes_still opened rs told.run.history.records told.texts a b c done.1 over.2.device over.2.trace in
           record {
             rs' = told.run.history.records;
-            texts = told.texts;
-            goes = goes_part opened rs told.run.history.records told.texts a c goes;
-            first =
-                subst (λ (l : List (List ℕ)). IsFirstOf told.texts told.run.history.records (told_lines (run_at opened rs) l)) (append-nil way.parts ∙ sym all)
-                (first_told_of (run_at opened rs) way.parts []);
+            records = first.records;
+            goes =
+                goes_first opened rs told (told_lines (run_at opened rs) (parts_of (a.left 0))) a c first
+                (goes_part opened rs told.run.history.records told.texts a c goes);
             whole =
                 λ e.
-                ((read.all over).1,
-                subst (λ (l : List (List ℕ)). GoesWhole opened rs (told_lines (run_at opened rs) l) a c) (sym all) (record { goes = goes; history = done.0.history }));
+                (all.1,
+                subst (λ (l : List (List ℕ)). GoesWhole opened rs (told_lines (run_at opened rs) l) a c) (sym all.0) (record { goes = goes; history = done.0.history }));
             stopped = λ e. elim e [ inl at ↦ cc | inr at ↦ cc ];
           };
       long = (λ e. cc, λ e. absurd (omega (arith, read.count, le, e)));

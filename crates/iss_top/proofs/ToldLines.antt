@@ -10,22 +10,9 @@ use Rattle.iss_agreement.proofs.RunLaws.{records_after}
 use Rattle.iss_store.specs.Values.{StoreNow, room_of}
 use Rattle.iss_top.specs.Lines.{is_blank, parts_of}
 use Rattle.iss_top.specs.Dry.{reading_of}
-use Rattle.iss_top.specs.Reader.{IsToldAs}
-use Rattle.iss_top.specs.Replaying.{run_at, told_line, told_lines, then_told, AreFirstOf, IsFirstOf, IsSameDevice}
+use Rattle.iss_top.specs.Replaying.{run_at, told_line, told_lines, then_told, AreFirstOf, IsSameDevice}
 use Rattle.iss_top.specs.Replays.{run_on}
 use Rattle.iss_top.proofs.Continues.{run_left}
-
--- ---- one line
-
-abbrev nothing_told : Run → Response
-nothing_told s = record { run = s; texts = [] }
-
--- lines that are told the same, whatever stands
-pub told_alike : (s : Run) (line part : List ℕ) → IsToldAs line part → told_line s line ≡ told_line s part
-unfolding told_line
-told_alike s line part as =
-    ap (λ (blank : Bool). cond blank (nothing_told s) (response s (reading_of line))) as.blank
-    ∙ ap (λ (said : Reading). cond (is_blank part) (nothing_told s) (response s said)) as.reading
 
 -- ---- in a row
 
@@ -53,6 +40,9 @@ told_one_more s xs line =
 -- the readings of the parts that aren't blank
 abbrev pub readings_of : List (List ℕ) → List Reading
 readings_of parts = map reading_of (filter (λ (part : List ℕ). not (is_blank part)) parts)
+
+abbrev nothing_told : Run → Response
+nothing_told s = record { run = s; texts = [] }
 
 abbrev response_to : Run → List Reading → Response
 response_to s lines = record { run = run_after s lines; texts = line_texts s lines }
@@ -84,14 +74,18 @@ told_records s parts =
 pub records_first : (s : Run) (parts : List (List ℕ)) → AreFirstOf s.history.records (told_lines s parts).run.history.records
 records_first s parts = record { later = accepted_records s (readings_of parts); cut = told_records s parts }
 
--- what the first parts are told, and what then stands, comes first
-pub first_told_of : (s : Run) (parts later : List (List ℕ)) → IsFirstOf (told_lines s parts).texts (told_lines s parts).run.history.records (told_lines s (parts ++ later))
-first_told_of s parts later =
+-- what this says and what then stands comes first among that
+pub record ComesFirst (first all : Response) : Type 0 where
+  pub later : List Text
+  pub cut : first.texts ++ later ≡ all.texts
+  pub records : AreFirstOf first.run.history.records all.run.history.records
+
+pub first_parts : (s : Run) (parts later : List (List ℕ)) → ComesFirst (told_lines s parts) (told_lines s (parts ++ later))
+first_parts s parts later =
     let now = told_lines s parts in
-    let rest = told_lines now.run later in
     record {
-      later = rest.texts;
-      cut = ap (λ (r : Response). r.texts) (told_then_told s parts later);
+      later = (told_lines now.run later).texts;
+      cut = ap (λ (r : Response). r.texts) (sym (told_then_told s parts later));
       records =
           record {
             later = accepted_records now.run (readings_of later);
@@ -125,12 +119,3 @@ told_from_start s parts = then_told (first_texts s) (told_lines s parts)
 pub transcript_told : (s : Run) (parts : List (List ℕ)) → (told_from_start s parts).texts ≡ transcript_of s (readings_of parts)
 unfolding transcript_of
 transcript_told s parts = ap (λ (r : Response). first_texts s ++ r.texts) (told_readings s parts)
-
--- what comes first among what lines are told comes first behind the texts with which a run begins too
-pub first_from_start : (s : Run) (texts : List Text) (rs : List Record) (parts : List (List ℕ)) → IsFirstOf texts rs (told_lines s parts) → IsFirstOf (first_texts s ++ texts) rs (told_from_start s parts)
-first_from_start s texts rs parts first =
-    record {
-      later = first.later;
-      cut = ap (λ (t : List Text). first_texts s ++ t) first.cut ∙ sym (append_assoc (first_texts s) texts first.later);
-      records = first.records;
-    }

@@ -1,14 +1,11 @@
 -- The same of what an edge tells: a run on a device at each of its ends.
-use Rattle.std.proofs.Common.{◌≡◌, ℕ, ◌+◌, ◌-◌, ◌≤◌, inl, inr, true, false, List, [], ◌∷◌, ◌++◌, length, take, Option, Some, None, Result, Ok, Err, refl, sym, ap, subst, ◌∙◌, append-nil, arith, length-append}
-use Rattle.std.specs.Prelude.{◌⊎◌, ◌↔◌, IfErr, OnErr}
-use Rattle.iss_edge.specs.declared.outside.Action.{Action}
+use Rattle.std.proofs.Common.{◌≡◌, ℕ, ◌+◌, ◌≤◌, inl, inr, List, [], ◌∷◌, ◌++◌, length, Option, Ok, Err, refl, sym, ap, ◌∙◌, append-nil, arith, length-append}
+use Rattle.std.specs.Prelude.{◌⊎◌, Result}
 use Rattle.iss_edge.specs.declared.outside.Action.TheVariants.{Sync}
-use Rattle.iss_edge.specs.World.{World, Told, Faults, Later, Rose}
-use Rattle.iss_edge.specs.Calls.{Same}
-use Rattle.iss_edge.proofs.Tolds.{told_map, told_then, told_self, later_then, later_self, rose_later}
+use Rattle.iss_edge.specs.World.{World, Told, Faults, Later}
+use Rattle.iss_edge.proofs.Tolds.{told_map, told_then, later_then, rose_later}
 use Rattle.iss_journal.proofs.Formats.{Sized, told_sized}
 use Rattle.iss_model.specs.declared.input.Record.{Record}
-use Rattle.iss_model.specs.declared.limits.TheConstants.{MOST_INPUT}
 use Rattle.iss_store.specs.declared.fault.OpenFault.{OpenFault}
 use Rattle.iss_store.specs.declared.fault.OpenFault.TheVariants.{Disk, NotFormatted, BadRecord, BadSpelling, BadHistory, OutOfMemory}
 use Rattle.iss_store.specs.declared.fault.StoreFault.{StoreFault}
@@ -20,138 +17,17 @@ use Rattle.iss_store.specs.Saying.{texts_pending, texts_pending_on_book, SayingC
 use Rattle.iss_store.proofs.GoodDevices.{good_device}
 use Rattle.iss_store.proofs.ToldReadings.{told_both}
 use Rattle.iss_texts.specs.Sending.{Says, SaysSome}
-use Rattle.iss_texts.proofs.Saying.{says_all}
 use Rattle.iss_top.specs.declared.stop.Stop.{Stop}
 use Rattle.iss_top.specs.declared.stop.Stop.TheVariants as stop
 use Rattle.iss_top.specs.Statuses.{status_of, stop_of_opening, stop_of_store}
-use Rattle.iss_top.specs.Progress.{is_output}
-use Rattle.iss_top.specs.Reader.{ReaderNow, ReadsOn, ReadsPart, ReadsNoPart, IsReading, ReadingCause}
-use Rattle.iss_top.specs.Replaying.{run_at, told_line, outputs_of, TakesAs, TakesPartAs, IsReplaying, RunsAs, RunsFrom, IsTaking, TakingCause, IsReplayCaused, ReplayCause}
+use Rattle.iss_top.specs.Reader.{ReadingCause}
+use Rattle.iss_top.specs.Replaying.{run_at, RunsAs, RunsFrom, TakingCause, IsReplayCaused, ReplayCause}
 use Rattle.iss_top.specs.Replays.{ReplayRun, ReplayOn, EveryMoment, EveryMomentStands, IsNoStore, Refused, RefusesExactly, ReplayEndsWell}
-use Rattle.iss_top.proofs.OnTheWay.{way_begins, way_goes_on, ends_in_line, ends_reading, ends_at_start, ends_well}
+use Rattle.iss_top.proofs.OnTheWay.{ends_with}
 use Rattle.iss_top.proofs.ToldLines.{told_from_start}
 use Rattle.iss_top.proofs.Beginnings.{begins_goes, lines_from_start, stops_at_start}
 use Rattle.iss_top.proofs.Devices.{opened_on}
 use Rattle.iss_top.proofs.WholeRuns.{OpenedAs, not_opened_moments, not_opened_on, replay_on, every_moment}
-
-abbrev ended : Stop → ℕ
-ended s = status_of {A = Unit {0}} (Err s)
-
--- ---- the loop over the lines
-
-pub told_way_begins : (s : StoreNow) (now : ReaderNow) (x : Option World) → now.taken ≡ 0 → now.unread ≡ [] → now.ended ≡ false → Told (IsReplaying s s now) x x
-told_way_begins s now x none unread going = told_self (IsReplaying s s now) x (λ a. way_begins s now a none unread going)
-
-pub told_not_begun : (s : StoreNow) (x : Option World) → Told (RunsFrom 7 s) x x
-told_not_begun s x = told_self (RunsFrom 7 s) x (ends_at_start s)
-
--- on the way, with the next part read
-record HasNext (opened s : StoreNow) (before now : ReaderNow) (a c : World) : Type 0 where
-  between : World
-  way : IsReplaying opened s before a between
-  going : before.ended ≡ false
-  reads : ReadsPart before now between c
-
-told_next : (opened s : StoreNow) (before now : ReaderNow) (x y z : Option World) → Told (IsReplaying opened s before) x y → Told (ReadsOn true before now) y z → Told (HasNext opened s before now) x z
-told_next opened s before now x y z way reads =
-    told_then (IsReplaying opened s before) (ReadsOn true before now) (HasNext opened s before now) x y z
-    (λ a b c w r. record { between = b; way = w; going = r.0; reads = r.1 }) way reads
-
-pub told_way_goes_on : (opened s s' : StoreNow) (before now : ReaderNow) (line : List ℕ) (x y z w : Option World) → line ≡ now.line → Told (IsReplaying opened s before) x y → Told (ReadsOn true before now) y z
-    → Told (TakesAs (λ k. told_line k line) s s') z w → Told (IsReplaying opened s' now) x w
-told_way_goes_on opened s s' before now line x y z w same way reads taken =
-    told_then (HasNext opened s before now) (TakesAs (λ k. told_line k now.line) s s') (IsReplaying opened s' now) x z w
-    (λ a c d next t. way_goes_on opened s before now a next.between c next.way next.going next.reads s' d t)
-    (told_next opened s before now x y z way reads)
-    (subst (λ (l : List ℕ). Told (TakesAs (λ k. told_line k l) s s') z w) same taken)
-
--- taking a line ends with status 5, 6 or 7
-taking_not_done : (before now : Faults) (s : Stop) → TakingCause before now s → ended s ≡ 0 → ⊥
-taking_not_done before now stop.Input cause e = absurd cause
-taking_not_done before now stop.Device cause e = absurd cause
-taking_not_done before now stop.Output cause e = cc
-taking_not_done before now stop.Disk cause e = cc
-taking_not_done before now stop.Memory cause e = cc
-taking_not_done before now stop.InputLong cause e = absurd cause
-
-taking_not_input : (before now : Faults) (s : Stop) → TakingCause before now s → ended s ≡ 3 → ⊥
-taking_not_input before now stop.Input cause e = absurd cause
-taking_not_input before now stop.Device cause e = absurd cause
-taking_not_input before now stop.Output cause e = cc
-taking_not_input before now stop.Disk cause e = cc
-taking_not_input before now stop.Memory cause e = cc
-taking_not_input before now stop.InputLong cause e = absurd cause
-
-taking_not_long : (before now : Faults) (s : Stop) → TakingCause before now s → ended s ≡ 8 → ⊥
-taking_not_long before now stop.Input cause e = absurd cause
-taking_not_long before now stop.Device cause e = absurd cause
-taking_not_long before now stop.Output cause e = cc
-taking_not_long before now stop.Disk cause e = cc
-taking_not_long before now stop.Memory cause e = cc
-taking_not_long before now stop.InputLong cause e = absurd cause
-
-pub taking_not_device : (before now : Faults) (s : Stop) → TakingCause before now s → ended s ≡ 4 → ⊥
-taking_not_device before now stop.Input cause e = absurd cause
-taking_not_device before now stop.Device cause e = absurd cause
-taking_not_device before now stop.Output cause e = cc
-taking_not_device before now stop.Disk cause e = cc
-taking_not_device before now stop.Memory cause e = cc
-taking_not_device before now stop.InputLong cause e = absurd cause
-
-pub told_line_fails : (why : Stop) (f f' : Faults) (opened s : StoreNow) (before now : ReaderNow) (line : List ℕ) (x y z w : Option World) → TakingCause f f' why → line ≡ now.line
-    → Told (IsReplaying opened s before) x y → Told (ReadsOn true before now) y z → Told (TakesPartAs (λ k. told_line k line) s) z w → Told (RunsFrom (ended why) opened) x w
-told_line_fails why f f' opened s before now line x y z w cause same way reads taken =
-    told_then (HasNext opened s before now) (TakesPartAs (λ k. told_line k now.line) s) (RunsFrom (ended why) opened) x z w
-    (λ a c d next t.
-    ends_in_line opened s before now a next.between c next.way next.going next.reads d (ended why)
-    (taking_not_done f f' why cause) (taking_not_input f f' why cause) (taking_not_long f f' why cause) next.reads.bound t)
-    (told_next opened s before now x y z way reads)
-    (subst (λ (l : List ℕ). Told (TakesPartAs (λ k. told_line k l) s) z w) same taken)
-
--- reading ends with status 3, 7 or 8, and with 8 where the input is too long alone
-reading_not_done : (before now : Faults) (s : Stop) → ReadingCause before now s → ended s ≡ 0 → ⊥
-reading_not_done before now stop.Input cause e = cc
-reading_not_done before now stop.Device cause e = absurd cause
-reading_not_done before now stop.Output cause e = absurd cause
-reading_not_done before now stop.Disk cause e = absurd cause
-reading_not_done before now stop.Memory cause e = cc
-reading_not_done before now stop.InputLong cause e = cc
-
-pub reading_not_device : (before now : Faults) (s : Stop) → ReadingCause before now s → ended s ≡ 4 → ⊥
-reading_not_device before now stop.Input cause e = cc
-reading_not_device before now stop.Device cause e = absurd cause
-reading_not_device before now stop.Output cause e = absurd cause
-reading_not_device before now stop.Disk cause e = absurd cause
-reading_not_device before now stop.Memory cause e = cc
-reading_not_device before now stop.InputLong cause e = cc
-
-not_for_memory : (s : Stop) → (ended s ≡ 3) ⊎ (ended s ≡ 8) → s ≡ stop.Memory → ⊥
-not_for_memory s e memory =
-    let seven : ended s ≡ 7 = ap ended memory in
-    elim e [ inl three ↦ absurd (omega (arith, seven, three)) | inr eight ↦ absurd (omega (arith, seven, eight)) ]
-
-long_is : (s : Stop) → ended s ≡ 8 → s ≡ stop.InputLong
-long_is stop.Input e = absurd cc
-long_is stop.Device e = absurd cc
-long_is stop.Output e = absurd cc
-long_is stop.Disk e = absurd cc
-long_is stop.Memory e = absurd cc
-long_is stop.InputLong e = refl
-
-pub told_reading_fails : (why : Stop) (f f' : Faults) (opened s : StoreNow) (now : ReaderNow) (x y z : Option World) → ReadingCause f f' why → now.taken ≤ MOST_INPUT
-    → Told (IsReplaying opened s now) x y → Told (ReadsNoPart now why) y z → Told (RunsFrom (ended why) opened) x z
-told_reading_fails why f f' opened s now x y z cause le way reads =
-    told_then (IsReplaying opened s now) (ReadsNoPart now why) (RunsFrom (ended why) opened) x y z
-    (λ a b c w r.
-    ends_reading opened s now r.took a b c (ended why) w r.takes (reading_not_done f f' why cause) r.going le
-    (λ e. r.no_line (not_for_memory why e))
-    (λ e. r.long.0 (long_is why e), λ e. ap ended (r.long.1 e)) r.bound)
-    way reads
-
-pub told_over : (opened s : StoreNow) (before now : ReaderNow) (x y z : Option World) → before.taken ≤ MOST_INPUT → Told (IsReplaying opened s before) x y → Told (ReadsOn false before now) y z → Told (RunsFrom 0 opened) x z
-told_over opened s before now x y z le way reads =
-    told_then (IsReplaying opened s before) (ReadsOn false before now) (RunsFrom 0 opened) x y z
-    (λ a b c w r. ends_well opened s before a b c w r.0.0 le r.1.left r.1.device r.1.trace) way reads
 
 -- ---- the opening
 
@@ -161,7 +37,7 @@ told_opened s size x y sized to opens good going =
     (λ a b here p. record { size = to ∙ sym here; opens = p.0.0; good = p.0.1; going = p.1 })
     (told_both (λ a b. Opens (Ok s) a b × OpensGood a b) OpensGoing x y (told_both (Opens (Ok s)) OpensGood x y opens good) going)
 
-opening_ends : (fault : OpenFault) → IsOfDiskOrMemory fault → (ended (stop_of_opening fault) ≡ 6) ⊎ (ended (stop_of_opening fault) ≡ 7)
+opening_ends : (fault : OpenFault) → IsOfDiskOrMemory fault → (ends_with (stop_of_opening fault) ≡ 6) ⊎ (ends_with (stop_of_opening fault) ≡ 7)
 opening_ends Disk is = inl refl
 opening_ends OutOfMemory is = inr refl
 opening_ends NotFormatted is = absurd is
@@ -175,15 +51,15 @@ not_this n m ends le e = elim ends [ inl six ↦ absurd (omega (arith, six, le, 
 not_eight : (n : ℕ) → (n ≡ 6) ⊎ (n ≡ 7) → n ≡ 8 → ⊥
 not_eight n ends e = elim ends [ inl six ↦ absurd (omega (arith, six, e)) | inr seven ↦ absurd (omega (arith, seven, e)) ]
 
-unopened_run : (fault : OpenFault) (a b : World) → Opens (Err fault) a b → OpensGood a b → ReplayRun (ended (stop_of_opening fault)) a b
+unopened_run : (fault : OpenFault) (a b : World) → Opens (Err fault) a b → OpensGood a b → ReplayRun (ends_with (stop_of_opening fault)) a b
 unopened_run fault a b opens good instance rs stands =
-    let n = ended (stop_of_opening fault) in
+    let n = ends_with (stop_of_opening fault) in
     let ends : (n ≡ 6) ⊎ (n ≡ 7) = opening_ends fault (good_device instance rs fault a b stands opens) in
     not_opened_on n instance rs a b (not_this n 0 ends (omega arith)) (not_this n 3 ends (omega arith)) (not_this n 4 ends (omega arith)) (not_eight n ends) good
 
-pub told_unopened_run : (fault : OpenFault) (x y : Option World) → Told (Opens (Err fault)) x y → Told OpensGood x y → Told (ReplayRun (ended (stop_of_opening fault))) x y
+pub told_unopened_run : (fault : OpenFault) (x y : Option World) → Told (Opens (Err fault)) x y → Told OpensGood x y → Told (ReplayRun (ends_with (stop_of_opening fault))) x y
 told_unopened_run fault x y opens good =
-    told_map (λ a b. Opens (Err fault) a b × OpensGood a b) (ReplayRun (ended (stop_of_opening fault))) x y (λ a b p. unopened_run fault a b p.0 p.1)
+    told_map (λ a b. Opens (Err fault) a b × OpensGood a b) (ReplayRun (ends_with (stop_of_opening fault))) x y (λ a b p. unopened_run fault a b p.0 p.1)
     (told_both (Opens (Err fault)) OpensGood x y opens good)
 
 pub told_unopened_moments : (x y : Option World) → Told OpensGood x y → Told EveryMomentStands x y
@@ -207,7 +83,7 @@ refuses_not : (n : ℕ) (a b : World) → (n ≡ 6) ⊎ (n ≡ 7) → RefusesExa
 refuses_not n a b ends = record { only = λ e. absurd (not_this n 4 ends (omega arith) e); there = λ found. inr ends }
 
 pub told_refuses : (fault : OpenFault) (x y : Option World) → Told (Opens (Err fault)) x y → Told OpensGood x y → OnRefused {T = StoreNow} (Err fault) (Told ReadsAlone x y)
-    → Told (RefusesExactly (ended (stop_of_opening fault))) x y
+    → Told (RefusesExactly (ends_with (stop_of_opening fault))) x y
 told_refuses Disk x y opens good reads = told_map OpensGood (RefusesExactly 6) x y (λ a b g. refuses_not 6 a b (inl refl)) good
 told_refuses OutOfMemory x y opens good reads = told_map OpensGood (RefusesExactly 7) x y (λ a b g. refuses_not 7 a b (inr refl)) good
 told_refuses NotFormatted x y opens good reads =
@@ -257,7 +133,7 @@ stands_opened : (instance : ℕ) (rs : List Record) (s : StoreNow) (a b : World)
 stands_opened instance rs s a b opening stands = (opened_on instance rs s a.device opening.size stands opening.opens).stands
 
 -- what waits went out in part
-saying_ends : {T : Type 0} (fault : StoreFault) (before now : Faults) → SayingCause {T = T} before now (Err fault) → (ended (stop_of_store fault) ≡ 5) ⊎ (ended (stop_of_store fault) ≡ 7)
+saying_ends : {T : Type 0} (fault : StoreFault) (before now : Faults) → SayingCause {T = T} before now (Err fault) → (ends_with (stop_of_store fault) ≡ 5) ⊎ (ends_with (stop_of_store fault) ≡ 7)
 saying_ends store.Disk before now cause = absurd (cause.no_disk refl)
 saying_ends store.Output before now cause = inl refl
 saying_ends store.OutOfMemory before now cause = inr refl
@@ -313,7 +189,7 @@ module _ (status : ℕ) (s : StoreNow) (on_book : WaitsOnBook s) (a b d : World)
 module _ (s : StoreNow) (on_book : WaitsOnBook s) (x y z : Option World) (opened : Told (OpenedAs s) x y) where
   module _ {T : Type 0} (fault : StoreFault) (before now : Faults) (cause : SayingCause {T = T} before now (Err fault)) (says : Told (SaysSome (texts_pending s)) y z) where
     abbrev stops : ℕ
-    stops = ended (stop_of_store fault)
+    stops = ends_with (stop_of_store fault)
 
     pub told_waited_run : Told (ReplayRun stops) x z
     told_waited_run =

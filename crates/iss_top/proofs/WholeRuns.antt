@@ -1,7 +1,7 @@
 -- A run on a device from the device's side: what went out, what it stands for at the end, and what a stop leaves.
 use Rattle.std.proofs.Common.{◌≡◌, ℕ, ◌+◌, ◌≤◌, inl, inr, List, [], ◌∷◌, ◌++◌, length, map, take, filter, not, refl, sym, ap, subst, ◌∙◌, append-nil, append_assoc, arith, length-append}
 use Rattle.std.specs.Prelude.{◌⊎◌, ◌↔◌}
-use Rattle.std.proofs.lemmas.List.{map-append, append_cancel_left, take-append-le, take_all}
+use Rattle.std.proofs.lemmas.List.{append_cancel_left, take-append-le, take_all}
 use Rattle.iss_edge.specs.declared.outside.Action.{Action}
 use Rattle.iss_edge.specs.World.{World}
 use Rattle.iss_edge.specs.Disk.{Disk, after_actions, IsAtRest, IsImage}
@@ -19,7 +19,7 @@ use Rattle.iss_store.specs.Values.{StoreNow}
 use Rattle.iss_store.specs.Standing.{region_of, region_under, bodies_of, DeviceStandsFor, RestsAt, StandsAt}
 use Rattle.iss_store.specs.Opening.{OpensStore, OpensGood, OpensGoing}
 use Rattle.iss_store.proofs.Regions.{take_bodies}
-use Rattle.iss_texts.specs.Sending.{emits, FailsAt, GoOut}
+use Rattle.iss_texts.specs.Sending.{emits, GoOut}
 use Rattle.iss_top.specs.Lines.{is_blank, parts_of, lines_of, ended_lines, all_but_last}
 use Rattle.iss_top.specs.Dry.{each_bytes}
 use Rattle.iss_top.specs.Reader.{TakesIn}
@@ -28,31 +28,6 @@ use Rattle.iss_top.specs.Replays.{run_on_device, texts_for, records_for, Replaye
 use Rattle.iss_top.proofs.ToldLines.{readings_of, told_from_start, transcript_told, told_records}
 use Rattle.iss_top.proofs.Devices.{IsOpenedOn, opened_on, region_opened, run_opened, rests_stands}
 use Rattle.iss_top.proofs.Beginnings.{outputs_behind, levels_behind}
-
--- ---- some of the first texts are some of all
-
-fails_sooner : (xs ys : List (List ℕ)) (last : List Action) → FailsAt xs last → FailsAt (xs ++ ys) last
-fails_sooner xs ys last f =
-    record {
-      text = f.text;
-      others = f.others ++ ys;
-      first = ap (λ (t : List (List ℕ)). t ++ ys) f.first;
-      prefix = f.prefix;
-      back = f.back;
-      cut = f.cut;
-      action = f.action;
-    }
-
-out_sooner : (xs ys : List (List ℕ)) (actions : List Action) → GoOut xs actions → GoOut (xs ++ ys) actions
-out_sooner xs ys actions out =
-    record {
-      whole = out.whole;
-      rest = out.rest ++ ys;
-      cut = ap (λ (t : List (List ℕ)). t ++ ys) out.cut ∙ append_assoc out.whole out.rest ys;
-      last = out.last;
-      done = out.done;
-      ended = elim out.ended [ inl none ↦ inl none | inr failed ↦ inr (fails_sooner out.rest ys out.last failed) ];
-    }
 
 -- ---- a device that was opened
 
@@ -168,16 +143,15 @@ module _ (instance : ℕ) (rs : List Record) (s : StoreNow) (status : ℕ) (took
   sent : outputs_of done ≡ outputs_of (actions_of runs.goes.steps)
   sent = outputs_behind opening.good.added (actions_of runs.goes.steps) opening.good.on_device
 
+  -- what the input is to be told is the transcript
+  all_texts : (told_from_start (run_at s rs) (parts_of (b.left 0))).texts ≡ texts_for (run_on_device instance rs a.device) (lines_of (a.left 0))
+  all_texts =
+      ap (λ (l : List (List ℕ)). (told_from_start (run_at s rs) l).texts) input ∙ texts_are (parts_of (a.left 0))
+
   went_out : GoOut (each_bytes (texts_for (run_on_device instance rs a.device) (lines_of (a.left 0)))) (outputs_of done)
   went_out =
-      let told = told_from_start (run_at s rs) (parts_of (b.left 0)) in
-      let bytes : each_bytes told.texts ≡ each_bytes runs.texts ++ each_bytes runs.first.later =
-      ap each_bytes runs.first.cut ∙ map-append (λ (text : Text). text.bytes) runs.texts runs.first.later in
-      let all : each_bytes told.texts ≡ each_bytes (texts_for (run_on_device instance rs a.device) (lines_of (a.left 0))) =
-      ap each_bytes (ap (λ (l : List (List ℕ)). (told_from_start (run_at s rs) l).texts) input ∙ texts_are (parts_of (a.left 0))) in
       subst (λ (l : List Action). GoOut (each_bytes (texts_for (run_on_device instance rs a.device) (lines_of (a.left 0)))) l) (sym sent)
-      (subst (λ (l : List (List ℕ)). GoOut l (outputs_of (actions_of runs.goes.steps))) (sym bytes ∙ all)
-      (out_sooner (each_bytes runs.texts) (each_bytes runs.first.later) (outputs_of (actions_of runs.goes.steps)) runs.goes.out))
+      (subst (λ (t : List Text). GoOut (each_bytes t) (outputs_of (actions_of runs.goes.steps))) all_texts runs.goes.out)
 
   -- what was done for exactly these parts
   replayed : (parts : List (List ℕ)) → GoesWhole s rs (told_from_start (run_at s rs) parts) b d → Replayed instance rs (filter (λ (part : List ℕ). not (is_blank part)) parts) done a d
@@ -231,7 +205,7 @@ module _ (instance : ℕ) (rs : List Record) (s : StoreNow) (status : ℕ) (took
   made_first =
       let told : (told_from_start (run_at s rs) (parts_of (b.left 0))).run.history.records ≡ made_by instance rs a =
       ap (λ (l : List (List ℕ)). (told_from_start (run_at s rs) l).run.history.records) input ∙ records_are (parts_of (a.left 0)) in
-      subst (λ (l : List Record). AreFirstOf runs.rs' l) told runs.first.records
+      subst (λ (l : List Record). AreFirstOf runs.rs' l) told runs.records
 
   opening_goes_on : GoesOn (OpensFirst (region_of instance (length a.device)) (bodies_of all_made) a.device)
       (OpenedOrOneMore (region_of instance (length a.device)) (bodies_of all_made) a.device)
@@ -287,14 +261,6 @@ module _ (instance : ℕ) (rs : List Record) (s : StoreNow) (status : ℕ) (took
   pub every_moment : EveryMoment instance rs a d
   every_moment =
       let steps = with_levels 0 opening.good.added in
-      let told = told_from_start (run_at s rs) (parts_of (b.left 0)) in
-      let all : levels_of told.texts ≡ levels_of (texts_for (run_on_device instance rs a.device) (lines_of (a.left 0))) =
-      ap levels_of (ap (λ (l : List (List ℕ)). (told_from_start (run_at s rs) l).texts) input ∙ texts_are (parts_of (a.left 0))) in
-      let cut : levels_of told.texts ≡ output_levels runs.goes.steps ++ (runs.goes.levels.0 ++ levels_of runs.first.later) =
-      ap levels_of runs.first.cut
-      ∙ map-append (λ (text : Text). text.level) runs.texts runs.first.later
-      ∙ ap (λ (l : List ℕ). l ++ levels_of runs.first.later) runs.goes.levels.1
-      ∙ append_assoc (output_levels runs.goes.steps) runs.goes.levels.0 (levels_of runs.first.later) in
       record {
         opening = steps;
         later = runs.goes.steps;
@@ -303,8 +269,9 @@ module _ (instance : ℕ) (rs : List Record) (s : StoreNow) (status : ℕ) (took
             ∙ ap (λ (l : List Action). a.trace ++ l)
             (sym (actions_of-append steps runs.goes.steps ∙ ap (λ (l : List Action). l ++ actions_of runs.goes.steps) (actions_of-leveled 0 opening.good.added)));
         levels =
-            (runs.goes.levels.0 ++ levels_of runs.first.later,
-            sym all ∙ cut
-            ∙ ap (λ (l : List ℕ). l ++ (runs.goes.levels.0 ++ levels_of runs.first.later)) (sym (levels_behind opening.good.added runs.goes.steps opening.good.on_device)));
+            (runs.goes.levels.0,
+            ap levels_of (sym all_texts)
+            ∙ runs.goes.levels.1
+            ∙ ap (λ (l : List ℕ). l ++ runs.goes.levels.0) (sym (levels_behind opening.good.added runs.goes.steps opening.good.on_device)));
         each = moment;
       }

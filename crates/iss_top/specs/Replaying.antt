@@ -57,12 +57,6 @@ pub record AreFirstOf (rs all : List Record) : Type 0 where
   pub later : List Record
   pub cut : all ≡ rs ++ later
 
--- these texts and these records come first among those of a response
-pub record IsFirstOf (texts : List Text) (rs : List Record) (all : Response) : Type 0 where
-  pub later : List Text
-  pub cut : all.texts ≡ texts ++ later
-  pub records : AreFirstOf rs all.run.history.records
-
 -- From these records of a store up to those, each of these texts went out by an emit of its own at its level, and what was done is a
 -- stretch that is good from the one number of records to the other, after which the run goes on.
 pub record Goes (s : StoreNow) (rs rs' : List Record) (texts : List Text) (a b : World) : Type 0 where
@@ -137,13 +131,13 @@ pub record GoesWhole (s : StoreNow) (rs : List Record) (told : Response) (a b : 
   pub goes : Goes s rs told.run.history.records told.texts a b
   pub history : AreHistory told.run.history.records
 
--- What a run with this status did on a store that stood for these records, where parts of the input are told so: what was told is the
--- first of what its input is to be told, at 0 all of it, and at 3 and 8 that of the lines which ended within the bytes that were taken.
+-- What a run with this status did on a store that stood for these records, where parts of the input are told so. What went out is the
+-- first of what its input is to be told, and the records are the first of those that it makes; at 0 it is all of that, and at 3 and 8
+-- that of exactly the lines which ended within the bytes that were taken.
 pub record RunsAs (tell : List (List ℕ) → Response) (status : ℕ) (opened : StoreNow) (rs : List Record) (took : List ℕ) (a b : World) : Type 0 where
   pub rs' : List Record
-  pub texts : List Text
-  pub goes : GoesPart opened rs rs' texts a b
-  pub first : IsFirstOf texts rs' (tell (parts_of (a.left 0)))
+  pub records : AreFirstOf rs' (tell (parts_of (a.left 0))).run.history.records
+  pub goes : GoesPart opened rs rs' (tell (parts_of (a.left 0))).texts a b
   pub whole : status ≡ 0 → (b.left 0 ≡ []) × GoesWhole opened rs (tell (parts_of (a.left 0))) a b
   pub stopped : (status ≡ 3) ⊎ (status ≡ 8) → GoesWhole opened rs (tell (all_but_last (parts_of (take MOST_INPUT took)))) a b
 
