@@ -1,9 +1,10 @@
 -- An opening's moments: a sync, reads, and the end gate closed.
-use Rattle.std.proofs.Common.{◌≡◌, ℕ, Bool, true, List, [], ◌∷◌, ◌++◌, length, take, sym, ap, subst, ◌∙◌, append-nil, append_assoc, arith}
+use Rattle.std.proofs.Common.{◌≡◌, ℕ, Bool, true, List, [], ◌∷◌, ◌++◌, length, take, refl, sym, ap, subst, ◌∙◌, append-nil, append_assoc, arith}
 use Rattle.std.specs.Prelude.{slice_index}
 use Rattle.std.proofs.lemmas.List.{take_all, length-map}
 use Rattle.iss_edge.specs.declared.outside.Action.{Action}
-use Rattle.iss_edge.specs.declared.outside.Action.TheVariants.{Sync}
+use Rattle.iss_edge.specs.declared.outside.Action.TheVariants.{Write, Sync}
+use Rattle.iss_edge.specs.Puts.{Put, one_put, Ran}
 use Rattle.iss_edge.specs.World.{World}
 use Rattle.iss_edge.specs.Stretches.{Step, actions_of, IsGood, GoesOn}
 use Rattle.iss_edge.proofs.StretchLemmas.{join, join_on, parts, none_goes_on, sync_goes_on}
@@ -20,8 +21,23 @@ use Rattle.iss_model.specs.texts.Spelling.{spelling}
 use Rattle.iss_core.specs.Values.{CoreNow}
 use Rattle.iss_store.specs.Values.{StoreNow}
 use Rattle.iss_store.specs.Standing.{region_of, bodies_of, DeviceStandsFor}
-use Rattle.iss_store.specs.Opening.{OpensStore, OpensGood, OpensGoing, ReadsCore}
+use Rattle.iss_store.specs.Opening.{OpensStore, OpensGood, OpensGoing, ReadsCore, is_on_device, AreOnDevice}
 use Rattle.iss_store.proofs.Regions.{bodies_end}
+
+-- ---- what is done on the device
+
+action_on_device : (action other : Action) → action ≡ other → is_on_device other ≡ true → is_on_device action ≡ true
+action_on_device action other e on = ap is_on_device e ∙ on
+
+-- puts, or a prefix of them, are on the device
+ran_on_device : (puts : List Put) (actions : List Action) → Ran puts actions → AreOnDevice actions
+ran_on_device puts [] ran = tt
+ran_on_device [] (action ∷ more) ran = absurd ran
+ran_on_device (put ∷ puts) (write ∷ []) ran = (action_on_device write (Write put.at put.bytes ran.0) ran.1 refl, tt)
+ran_on_device (put ∷ puts) (write ∷ sync ∷ []) ran =
+    (action_on_device write (Write put.at put.bytes true) ran.1.0 refl, (action_on_device sync (Sync ran.0) ran.1.1 refl, tt))
+ran_on_device (put ∷ puts) (write ∷ sync ∷ action ∷ more) ran =
+    (action_on_device write (Write put.at put.bytes true) ran.0 refl, (action_on_device sync (Sync true) ran.1.0 refl, ran_on_device puts (action ∷ more) ran.1.1))
 
 -- ---- nothing but a sync was done
 
@@ -31,6 +47,7 @@ did_nothing a b left trace =
       left = left;
       added = [];
       grew = trace ∙ sym (append-nil a.trace);
+      on_device = tt;
       good =
           λ instance rs j steps has e.
           let region = region_of instance (length a.device) in
@@ -44,6 +61,7 @@ only_synced a b ok left trace =
       left = left;
       added = Sync ok ∷ [];
       grew = trace;
+      on_device = (refl, tt);
       good =
           λ instance rs j steps has e.
           let region = region_of instance (length a.device) in
@@ -95,6 +113,7 @@ synced_then_closing c place a b d synced whole reads closes =
           closes.part.trace
           ∙ ap (λ (t : List Action). t ++ closes.part.actions) synced.trace
           ∙ append_assoc a.trace (Sync true ∷ []) closes.part.actions;
+      on_device = (refl, ran_on_device (one_put place.gate (0 ∷ [])) closes.part.actions closes.part.ran);
       good =
           λ instance rs j steps has e.
           let starts = OpensFirst (region_of instance (length b.device)) (bodies_of rs) b.device in

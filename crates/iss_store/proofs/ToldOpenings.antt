@@ -18,9 +18,17 @@ use Rattle.iss_store.specs.declared.fault.OpenFault.{OpenFault}
 use Rattle.iss_store.specs.declared.fault.OpenFault.TheVariants.{Disk, NotFormatted, BadRecord, BadSpelling, BadHistory, OutOfMemory}
 use Rattle.iss_store.specs.Faults.{fault_of_reading}
 use Rattle.iss_store.specs.Values.{StoreNow}
-use Rattle.iss_store.specs.Opening.{BadRecordAt, BadSpellingAt, BadHistoryAt, Opens, OpensStore, OpensGood, OpensGoing, ReadsCore, ReadsAll}
+use Rattle.iss_store.specs.Opening.{BadRecordAt, BadSpellingAt, BadHistoryAt, Opens, OpensStore, OpensGood, OpensGoing, ReadsCore, ReadsAll, ReadsAlone, OnRefused}
 use Rattle.iss_store.proofs.ToldReadings.{told_both}
 use Rattle.iss_store.proofs.Openings.{SyncedAlone, did_nothing, only_synced, synced_then_closing, synced_then_closed, opens_store}
+
+on_refused : (fault : OpenFault) (P : Type 0) → P → OnRefused {T = StoreNow} (Err fault) P
+on_refused Disk P p = tt
+on_refused NotFormatted P p = p
+on_refused (BadRecord gate) P p = p
+on_refused (BadSpelling gate) P p = p
+on_refused (BadHistory gate) P p = p
+on_refused OutOfMemory P p = tt
 
 pub told_unopened : (x y : Option World) → Told Same x y → Told OpensGood x y
 told_unopened x y same = told_map Same OpensGood x y (λ a b s. did_nothing a b s.left s.trace) same
@@ -173,3 +181,14 @@ opens_disk S journal.OutOfMemory a b only = absurd only
 pub told_opens_disk : (S : Type 0) (fault : JournalFault) (x y : Option World) → DiskAlone {T = S} (Err fault) → Told OpensGood x y → Told (Opens (Err (fault_of_reading fault))) x y
 told_opens_disk S fault x y only good =
     told_map OpensGood (Opens (Err (fault_of_reading fault))) x y (λ a b g. opens_disk S fault a b only) good
+
+-- ---- a device that is none of a store reads as before
+
+pub told_refused_header : (fault : OpenFault) (x y : Option World) → Told Same x y → OnRefused {T = StoreNow} (Err fault) (Told ReadsAlone x y)
+told_refused_header fault x y same =
+    on_refused fault (Told ReadsAlone x y) (told_map Same ReadsAlone x y (λ a b s. record { device = s.device; left = s.left; trace = inl s.trace }) same)
+
+pub told_refused_records : (fault : OpenFault) (w x y z : Option World) → Told Same w x → Told Syncs x y → Told Same y z → OnRefused {T = StoreNow} (Err fault) (Told ReadsAlone w z)
+told_refused_records fault w x y z first syncs second =
+    on_refused fault (Told ReadsAlone w z)
+    (told_map SyncedAlone ReadsAlone w z (λ a b s. record { device = s.device; left = s.left; trace = inr s.trace }) (told_still_synced w x y z first syncs second))

@@ -1,6 +1,7 @@
 -- What opening a device finds, and what it leaves at each of its moments.
-use Rattle.std.specs.Prelude.{◌≡◌, ℕ, ◌+◌, List, [], ◌∷◌, ◌++◌, length, Result, Ok, Err, IsErrOf, slice_index}
+use Rattle.std.specs.Prelude.{◌≡◌, ◌⊎◌, ℕ, ◌+◌, Bool, true, false, List, [], ◌∷◌, ◌++◌, length, Result, Ok, Err, IsErrOf, slice_index}
 use Rattle.iss_edge.specs.declared.outside.Action.{Action}
+use Rattle.iss_edge.specs.declared.outside.Action.TheVariants.{Write, Sync, Emit, Dial, Close}
 use Rattle.iss_edge.specs.World.{World, Faults, Later, Rose}
 use Rattle.iss_edge.specs.Stretches.{Step, actions_of, IsGood, GoesOn}
 use Rattle.iss_journal.specs.Place.{Place}
@@ -86,12 +87,42 @@ GoodDevicesOpen =
     (instance : ℕ) (rs : List Record) (fault : OpenFault) (a b : World)
     → DeviceStandsFor instance rs a.device → Opens (Err fault) a b → IsOfDiskOrMemory fault
 
+-- writes to the device, or syncs it
+abbrev pub is_on_device : Action → Bool
+is_on_device (Write at bytes ok) = true
+is_on_device (Sync ok) = true
+is_on_device (Emit ch bytes ok) = false
+is_on_device (Dial ch) = false
+is_on_device (Close ch) = false
+
+-- each of these writes to the device or syncs it
+abbrev pub AreOnDevice : List Action → Type 0
+AreOnDevice [] = Unit {0}
+AreOnDevice (action ∷ actions) = (is_on_device action ≡ true) × AreOnDevice actions
+
+-- nothing was done but maybe a sync, and the device reads as before
+pub record ReadsAlone (a b : World) : Type 0 where
+  pub device : b.device ≡ a.device
+  pub left : b.left ≡ a.left
+  pub trace : (b.trace ≡ a.trace) ⊎ (b.trace ≡ a.trace ++ Sync true ∷ [])
+
+-- where a device was read and is none of a store
+abbrev pub OnRefused : {T : Type 0} → Result T OpenFault → Type 0 → Type 0
+OnRefused (Ok value) P = Unit {0}
+OnRefused (Err Disk) P = Unit {0}
+OnRefused (Err OutOfMemory) P = Unit {0}
+OnRefused (Err NotFormatted) P = P
+OnRefused (Err (BadRecord gate)) P = P
+OnRefused (Err (BadSpelling gate)) P = P
+OnRefused (Err (BadHistory gate)) P = P
+
 -- What an opening does is good, whichever records the device stands for at its start: each image of each moment stands for them, with nothing
 -- left behind or with what was, or also for the one that was left behind at the start.
 pub record OpensGood (a b : World) : Type 0 where
   pub left : b.left ≡ a.left
   pub added : List Action
   pub grew : b.trace ≡ a.trace ++ added
+  pub on_device : AreOnDevice added
   pub good : (instance : ℕ) (rs : List Record) (j : ℕ) (steps : List Step)
       → HasInstance a.device instance → actions_of steps ≡ added
       → IsGood (OpensFirst (region_of instance (length a.device)) (bodies_of rs) a.device)

@@ -2,7 +2,7 @@
 ghost use Rattle.std.specs.Prelude.{◌≡◌, ◌+◌, ◌*◌, ◌<◌, ◌≤◌, ◌^◌, IfOk};
 ghost use Rattle.iss_edge.specs.World.{Told};
 ghost use Rattle.iss_edge.specs.Calls.{Same, HearsNothing};
-ghost use Rattle.iss_store.specs.Opening.{Opens, OpensGood, OpensGoing, OnOpened, OpenCause, TakesIn, ReadsAll};
+ghost use Rattle.iss_store.specs.Opening.{Opens, OpensGood, OpensGoing, OnOpened, OnRefused, ReadsAlone, OpenCause, TakesIn, ReadsAll};
 
 use crate::OpenFault;
 use crate::store::{HEAD, Store};
@@ -24,10 +24,11 @@ impl Store {
     ///
     /// `NotFormatted` where the size or the header is wrong, `BadRecord`, `BadSpelling` and `BadHistory` with the place of
     /// the first gate behind which stands no record, no spelling, or a record that isn't new or goes back in time.
-    #[tactic(auto, using(crate::proofs::ToldOpenings::told_unopened, crate::proofs::ToldOpenings::told_unsynced, crate::proofs::ToldOpenings::told_unread, crate::proofs::ToldOpenings::told_unclosed, crate::proofs::ToldOpenings::told_closed, crate::proofs::ToldOpenings::told_opens, crate::proofs::ToldOpenings::told_opens_fault, crate::proofs::ToldOpenings::told_header_fault, crate::proofs::ToldOpenings::told_opens_disk, crate::proofs::Causes::caused_well, crate::proofs::Causes::caused_by_header, crate::proofs::Causes::caused_by_disk, crate::proofs::Causes::caused_after))]
+    #[tactic(auto, using(crate::proofs::ToldOpenings::told_unopened, crate::proofs::ToldOpenings::told_unsynced, crate::proofs::ToldOpenings::told_refused_header, crate::proofs::ToldOpenings::told_refused_records, crate::proofs::ToldOpenings::told_unread, crate::proofs::ToldOpenings::told_unclosed, crate::proofs::ToldOpenings::told_closed, crate::proofs::ToldOpenings::told_opens, crate::proofs::ToldOpenings::told_opens_fault, crate::proofs::ToldOpenings::told_header_fault, crate::proofs::ToldOpenings::told_opens_disk, crate::proofs::Causes::caused_well, crate::proofs::Causes::caused_by_header, crate::proofs::Causes::caused_by_disk, crate::proofs::Causes::caused_after))]
     pub fn open<E: Edge>(alloc: Global, edge: &mut E) -> Result<Store, OpenFault>
         ensures opens { Told (Opens result) (E.told edge.old) (E.told edge.new) }
         ensures moments { Told OpensGood (E.told edge.old) (E.told edge.new) }
+        ensures refused { OnRefused result (Told ReadsAlone (E.told edge.old) (E.told edge.new)) }
         ensures rests { OnOpened result (Told OpensGoing (E.told edge.old) (E.told edge.new)) }
         ensures size { IfOk result (λ store. store.place.to ≡ E.extent edge.new) }
         ensures cause { OpenCause (E.faults edge.old) (E.faults edge.new) result }
