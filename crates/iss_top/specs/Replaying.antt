@@ -1,6 +1,8 @@
 -- A run on a device on its way: what each line is told on what stands, what was done for it, and what the rest of the input will be told.
-use Rattle.std.specs.Prelude.{◌≡◌, ℕ, ◌+◌, ◌≤◌, ◌↔◌, ◌⊎◌, List, [], ◌∷◌, ◌++◌, length, map, filter, take, Option, Some, IfErr, Result, if◌then◌else◌}
+use Rattle.std.specs.Prelude.{◌≡◌, ℕ, ◌+◌, ◌≤◌, ◌==◌, ◌↔◌, ◌⊎◌, Bool, true, false, List, [], ◌∷◌, ◌++◌, length, map, filter, take, Option, Some, IsTrue, IfErr, Result, if◌then◌else◌}
+use Rattle.std.specs.List.{list_all}
 use Rattle.iss_edge.specs.declared.outside.Action.{Action}
+use Rattle.iss_edge.specs.declared.outside.Action.TheVariants.{Write, Sync, Emit, Dial, Close}
 use Rattle.iss_edge.specs.World.{World, Faults, Later, Rose}
 use Rattle.iss_edge.specs.Stretches.{Step, actions_of, IsGood, GoesOn}
 use Rattle.iss_model.specs.declared.input.Record.{Record}
@@ -44,6 +46,14 @@ told_lines s (line ∷ lines) = then_told (told_line s line).texts (told_lines (
 abbrev pub outputs_of : List Action → List Action
 outputs_of actions = filter is_output actions
 
+-- writes to the device, syncs it, or emits on channel 0
+abbrev pub is_of_run : Action → Bool
+is_of_run (Write at bytes ok) = true
+is_of_run (Sync ok) = true
+is_of_run (Emit ch bytes ok) = ch.0 == 0
+is_of_run (Dial ch) = false
+is_of_run (Close ch) = false
+
 -- the levels of what was sent on channel 0
 abbrev pub output_levels : List Step → List ℕ
 output_levels steps = map (λ step. step.level) (filter (λ step. is_output step.action) steps)
@@ -58,7 +68,8 @@ pub record AreFirstOf (rs all : List Record) : Type 0 where
   pub cut : all ≡ rs ++ later
 
 -- From these records of a store up to those, each of these texts went out by an emit of its own at its level, and what was done is a
--- stretch that is good from the one number of records to the other, after which the run goes on.
+-- stretch that is good from the one number of records to the other, after which the run goes on. Nothing was done but on the device and
+-- on channel 0.
 pub record Goes (s : StoreNow) (rs rs' : List Record) (texts : List Text) (a b : World) : Type 0 where
   pub more : AreFirstOf rs rs'
   pub steps : List Step
@@ -68,6 +79,7 @@ pub record Goes (s : StoreNow) (rs rs' : List Record) (texts : List Text) (a b :
   pub goes_on : (all : List Record) → AreFirstOf rs' all
       → GoesOn (RestsAt s all) (StandsAt s all) (RestsAt s all) (length rs) (length rs') steps
   pub rests : RestsAt s rs a.device (length rs) → RestsAt s rs' b.device (length rs')
+  pub kinds : IsTrue (list_all is_of_run (actions_of steps))
 
 -- The same in part: some of these texts went out, the last one maybe as a prefix of it, and the stretch is good; the run ends.
 pub record GoesPart (s : StoreNow) (rs rs' : List Record) (texts : List Text) (a b : World) : Type 0 where
@@ -77,6 +89,7 @@ pub record GoesPart (s : StoreNow) (rs rs' : List Record) (texts : List Text) (a
   pub out : GoOut (each_bytes texts) (outputs_of (actions_of steps))
   pub levels : (later : List ℕ) × (levels_of texts ≡ output_levels steps ++ later)
   pub good : (all : List Record) → AreFirstOf rs' all → IsGood (RestsAt s all) (StandsAt s all) (length rs) (length rs') steps
+  pub kinds : IsTrue (list_all is_of_run (actions_of steps))
 
 -- the same for what lines in a row are told
 abbrev pub GoesFor : StoreNow → List Record → List (List ℕ) → World → World → Type 0
