@@ -1,7 +1,7 @@
 -- How a run on a device begins: the device is opened, and what waits for the gateway is said.
-use Rattle.std.proofs.Common.{◌≡◌, ℕ, inl, inr, Bool, true, false, cond, List, [], ◌∷◌, ◌++◌, length, map, take, refl, sym, ap, subst, ◌∙◌}
+use Rattle.std.proofs.Common.{◌≡◌, ℕ, inl, inr, Bool, true, false, cond, ◌&&◌, List, [], ◌∷◌, ◌++◌, length, map, take, refl, sym, ap, subst, ◌∙◌}
 use Rattle.std.specs.Prelude.{◌⊎◌}
-use Rattle.std.specs.List.{filter}
+use Rattle.std.specs.List.{filter, list_all}
 use Rattle.iss_edge.specs.declared.outside.Action.{Action}
 use Rattle.iss_edge.specs.declared.outside.Action.TheVariants.{Write, Sync, Emit, Dial, Close}
 use Rattle.iss_edge.specs.World.{World}
@@ -17,7 +17,7 @@ use Rattle.iss_store.specs.Saying.{texts_pending, texts_pending_on_book}
 use Rattle.iss_texts.specs.Sending.{Says, SaysSome}
 use Rattle.iss_top.specs.Lines.{parts_of, all_but_last}
 use Rattle.iss_top.specs.Progress.{is_output}
-use Rattle.iss_top.specs.Replaying.{run_at, told_lines, outputs_of, output_levels, AreFirstOf, Goes, GoesPart, GoesWhole, RunsAs, RunsOnBook}
+use Rattle.iss_top.specs.Replaying.{run_at, told_lines, is_of_run, outputs_of, output_levels, AreFirstOf, Goes, GoesPart, GoesWhole, RunsAs, RunsOnBook}
 use Rattle.iss_top.proofs.Goings.{goes_then, goes_then_part, part_more, says_goes, says_goes_part}
 use Rattle.iss_top.proofs.ToldLines.{told_from_start, records_first}
 
@@ -34,6 +34,22 @@ pub outputs_behind : (actions others : List Action) → AreOnDevice actions → 
 outputs_behind [] others on = refl
 outputs_behind (x ∷ xs) others on =
     ap (λ (sends : Bool). cond sends (x ∷ outputs_of (xs ++ others)) (outputs_of (xs ++ others))) (on_device_silent x on.0) ∙ outputs_behind xs others on.1
+
+-- and is what a run may do
+of_run : (action : Action) → is_on_device action ≡ true → is_of_run action ≡ true
+of_run (Write at bytes ok) on = refl
+of_run (Sync ok) on = refl
+of_run (Emit ch bytes ok) on = absurd cc
+of_run (Dial ch) on = absurd cc
+of_run (Close ch) on = absurd cc
+
+both_true : (s t : Bool) → s ≡ true → t ≡ true → (s && t) ≡ true
+both_true s t p q = rw (p, q) refl
+
+pub kinds_behind : (actions others : List Action) → AreOnDevice actions → list_all is_of_run others ≡ true → list_all is_of_run (actions ++ others) ≡ true
+kinds_behind [] others on rest = rest
+kinds_behind (x ∷ xs) others on rest =
+    both_true (is_of_run x) (list_all is_of_run (xs ++ others)) (of_run x on.0) (kinds_behind xs others on.1 rest)
 
 -- so no text has a level there
 pub levels_behind : (actions : List Action) (later : List Step) → AreOnDevice actions → output_levels (with_levels 0 actions ++ later) ≡ output_levels later

@@ -1,7 +1,6 @@
 -- The same of what an edge tells: a run on a device at each of its ends.
 use Rattle.std.proofs.Common.{◌≡◌, ℕ, ◌+◌, ◌≤◌, inl, inr, List, [], ◌∷◌, ◌++◌, length, Option, Ok, Err, refl, sym, ap, ◌∙◌, append-nil, arith, length-append}
 use Rattle.std.specs.Prelude.{◌⊎◌, Result}
-use Rattle.iss_edge.specs.declared.outside.Action.TheVariants.{Sync}
 use Rattle.iss_edge.specs.World.{World, Told, Faults, Later}
 use Rattle.iss_edge.proofs.Tolds.{told_map, told_then, later_then, rose_later}
 use Rattle.iss_journal.proofs.Formats.{Sized, told_sized}
@@ -22,7 +21,7 @@ use Rattle.iss_top.specs.declared.stop.Stop.TheVariants as stop
 use Rattle.iss_top.specs.Statuses.{status_of, stop_of_opening, stop_of_store}
 use Rattle.iss_top.specs.Reader.{ReadingCause}
 use Rattle.iss_top.specs.Replaying.{run_at, RunsAs, RunsFrom, TakingCause, IsReplayCaused, ReplayCause}
-use Rattle.iss_top.specs.Replays.{ReplayRun, ReplayOn, EveryMoment, EveryMomentStands, IsNoStore, Refused, RefusesExactly, ReplayEndsWell}
+use Rattle.iss_top.specs.Replays.{ReplayRun, ReplayOn, EveryMoment, EveryMomentStands, IsNoStore, OnDeviceAlone, RefusesExactly, ReplayEndsWell}
 use Rattle.iss_top.proofs.OnTheWay.{ends_with}
 use Rattle.iss_top.proofs.ToldLines.{told_from_start}
 use Rattle.iss_top.proofs.Beginnings.{begins_goes, lines_from_start, stops_at_start}
@@ -68,32 +67,52 @@ told_unopened_moments x y good =
 
 -- ---- a device that stands for no records
 
-refused_alone : (a b : World) → ReadsAlone a b → Refused a b
-refused_alone a b reads =
-    elim reads.trace [
-      | inl same ↦ record { left = reads.left; device = reads.device; actions = []; grew = same ∙ sym (append-nil a.trace); silent = refl }
-      | inr synced ↦ record { left = reads.left; device = reads.device; actions = Sync true ∷ []; grew = synced; silent = refl }
-    ]
+alone : (a b : World) → OpensGood a b → OnDeviceAlone a b
+alone a b good = record { left = good.left; actions = good.added; grew = good.grew; on_device = good.on_device }
 
-refuses : (a b : World) → IsNoStore a.device → ReadsAlone a b → RefusesExactly 4 a b
-refuses a b none reads = record { only = λ e. (none, refused_alone a b reads); there = λ found. inl refl }
+refuses : (a b : World) → IsNoStore a.device → OpensGood a b → ReadsAlone a b → RefusesExactly 4 a b
+refuses a b none good reads =
+    record {
+      only = λ e. (none, reads);
+      there = λ found. inl refl;
+      untouched = λ found. alone a b good;
+      others = λ four six seven. absurd (four refl);
+    }
 
 -- a fault of the disk or of memory may come on any device
-refuses_not : (n : ℕ) (a b : World) → (n ≡ 6) ⊎ (n ≡ 7) → RefusesExactly n a b
-refuses_not n a b ends = record { only = λ e. absurd (not_this n 4 ends (omega arith) e); there = λ found. inr ends }
+disk_refuses : (a b : World) → OpensGood a b → RefusesExactly 6 a b
+disk_refuses a b good =
+    record {
+      only = λ e. cc;
+      there = λ found. inr (inl refl);
+      untouched = λ found. alone a b good;
+      others = λ four six seven. absurd (six refl);
+    }
+
+memory_refuses : (a b : World) → OpensGood a b → RefusesExactly 7 a b
+memory_refuses a b good =
+    record {
+      only = λ e. cc;
+      there = λ found. inr (inr refl);
+      untouched = λ found. alone a b good;
+      others = λ four six seven. absurd (seven refl);
+    }
+
+-- a fault that says that the device stands for no records
+told_none : (fault : OpenFault) (x y : Option World) → ((a : World) → Opens (Err fault) a a → IsNoStore a.device) → ((a b : World) → Opens (Err fault) a b → Opens (Err fault) a a) → Told (Opens (Err fault)) x y → Told OpensGood x y → Told ReadsAlone x y
+    → Told (RefusesExactly 4) x y
+told_none fault x y none same opens good reads =
+    told_map (λ a b. (Opens (Err fault) a b × OpensGood a b) × ReadsAlone a b) (RefusesExactly 4) x y (λ a b p. refuses a b (none a (same a b p.0.0)) p.0.1 p.1)
+    (told_both (λ a b. Opens (Err fault) a b × OpensGood a b) ReadsAlone x y (told_both (Opens (Err fault)) OpensGood x y opens good) reads)
 
 pub told_refuses : (fault : OpenFault) (x y : Option World) → Told (Opens (Err fault)) x y → Told OpensGood x y → OnRefused {T = StoreNow} (Err fault) (Told ReadsAlone x y)
     → Told (RefusesExactly (ends_with (stop_of_opening fault))) x y
-told_refuses Disk x y opens good reads = told_map OpensGood (RefusesExactly 6) x y (λ a b g. refuses_not 6 a b (inl refl)) good
-told_refuses OutOfMemory x y opens good reads = told_map OpensGood (RefusesExactly 7) x y (λ a b g. refuses_not 7 a b (inr refl)) good
-told_refuses NotFormatted x y opens good reads =
-    told_map (λ a b. Opens (Err NotFormatted) a b × ReadsAlone a b) (RefusesExactly 4) x y (λ a b p. refuses a b (inl p.0) p.1) (told_both (Opens (Err NotFormatted)) ReadsAlone x y opens reads)
-told_refuses (BadRecord gate) x y opens good reads =
-    told_map (λ a b. Opens (Err (BadRecord gate)) a b × ReadsAlone a b) (RefusesExactly 4) x y (λ a b p. refuses a b (inr (gate, inl p.0)) p.1) (told_both (Opens (Err (BadRecord gate))) ReadsAlone x y opens reads)
-told_refuses (BadSpelling gate) x y opens good reads =
-    told_map (λ a b. Opens (Err (BadSpelling gate)) a b × ReadsAlone a b) (RefusesExactly 4) x y (λ a b p. refuses a b (inr (gate, inr (inl p.0))) p.1) (told_both (Opens (Err (BadSpelling gate))) ReadsAlone x y opens reads)
-told_refuses (BadHistory gate) x y opens good reads =
-    told_map (λ a b. Opens (Err (BadHistory gate)) a b × ReadsAlone a b) (RefusesExactly 4) x y (λ a b p. refuses a b (inr (gate, inr (inr p.0))) p.1) (told_both (Opens (Err (BadHistory gate))) ReadsAlone x y opens reads)
+told_refuses Disk x y opens good reads = told_map OpensGood (RefusesExactly 6) x y disk_refuses good
+told_refuses OutOfMemory x y opens good reads = told_map OpensGood (RefusesExactly 7) x y memory_refuses good
+told_refuses NotFormatted x y opens good reads = told_none NotFormatted x y (λ a found. inl found) (λ a b found. found) opens good reads
+told_refuses (BadRecord gate) x y opens good reads = told_none (BadRecord gate) x y (λ a found. inr (gate, inl found)) (λ a b found. found) opens good reads
+told_refuses (BadSpelling gate) x y opens good reads = told_none (BadSpelling gate) x y (λ a found. inr (gate, inr (inl found))) (λ a b found. found) opens good reads
+told_refuses (BadHistory gate) x y opens good reads = told_none (BadHistory gate) x y (λ a found. inr (gate, inr (inr found))) (λ a b found. found) opens good reads
 
 -- on a device that opens there is no such fault
 not_none : (s : StoreNow) (a b : World) → OpensStore s a.device → IsNoStore a.device → ⊥
@@ -111,7 +130,12 @@ not_none s a b opens none =
 
 opened_refuses : (n : ℕ) (s : StoreNow) (a b : World) → (n ≡ 4 → ⊥) → OpensStore s a.device → RefusesExactly n a b
 opened_refuses n s a b not_device opens =
-    record { only = λ e. absurd (not_device e); there = λ found. absurd (not_none s a b opens found) }
+    record {
+      only = λ e. absurd (not_device e);
+      there = λ found. absurd (not_none s a b opens found);
+      untouched = λ found. absurd (not_none s a b opens found);
+      others = λ four six seven. record { instance = s.core.instance; rs = opens.rs; stands = opens.device_stands };
+    }
 
 -- ---- a run on the store that was opened
 

@@ -1,6 +1,7 @@
 -- A run on a device from the device's side: what went out, what it stands for at the end, and what a stop leaves.
-use Rattle.std.proofs.Common.{◌≡◌, ℕ, ◌+◌, ◌≤◌, inl, inr, List, [], ◌∷◌, ◌++◌, length, map, take, filter, not, refl, sym, ap, subst, ◌∙◌, append-nil, append_assoc, arith, length-append}
+use Rattle.std.proofs.Common.{◌≡◌, ℕ, ◌+◌, ◌≤◌, inl, inr, List, [], ◌∷◌, ◌++◌, length, map, take, filter, fold, not, true, refl, sym, ap, subst, ◌∙◌, append-nil, append_assoc, arith, length-append}
 use Rattle.std.specs.Prelude.{◌⊎◌, ◌↔◌}
+use Rattle.std.specs.List.{list_all}
 use Rattle.std.proofs.lemmas.List.{append_cancel_left, take-append-le, take_all}
 use Rattle.iss_edge.specs.declared.outside.Action.{Action}
 use Rattle.iss_edge.specs.World.{World}
@@ -12,9 +13,12 @@ use Rattle.iss_journal.specs.Region.{Region, ShowsFirmly, RestsFirst, StandsFirs
 use Rattle.iss_journal.specs.Opening.{OpensFirst, OpenedOrOneMore}
 use Rattle.iss_model.specs.declared.input.Record.{Record}
 use Rattle.iss_model.specs.declared.limits.TheConstants.{MOST_INPUT}
+use Rattle.iss_model.specs.rules.Stepping.{step}
+use Rattle.iss_model.specs.rules.Histories.{History, nothing_yet, history_keeper, IsLegalAfter, IsLegal}
 use Rattle.iss_model.specs.run.Transcripts.{Text}
 use Rattle.iss_model.specs.run.Runs.{Run, Response, accepted_records, transcript_of}
 use Rattle.iss_agreement.proofs.Records.{records_history}
+use Rattle.iss_agreement.proofs.RunLaws.{accepted_legal}
 use Rattle.iss_store.specs.Values.{StoreNow}
 use Rattle.iss_store.specs.Standing.{region_of, region_under, bodies_of, DeviceStandsFor, RestsAt, StandsAt}
 use Rattle.iss_store.specs.Opening.{OpensStore, OpensGood, OpensGoing}
@@ -23,11 +27,11 @@ use Rattle.iss_texts.specs.Sending.{emits, GoOut}
 use Rattle.iss_top.specs.Lines.{is_blank, parts_of, lines_of, ended_lines, all_but_last}
 use Rattle.iss_top.specs.Dry.{each_bytes}
 use Rattle.iss_top.specs.Reader.{TakesIn}
-use Rattle.iss_top.specs.Replaying.{run_at, outputs_of, output_levels, levels_of, AreFirstOf, GoesWhole, RunsAs}
+use Rattle.iss_top.specs.Replaying.{run_at, is_of_run, outputs_of, output_levels, levels_of, AreFirstOf, GoesWhole, RunsAs}
 use Rattle.iss_top.specs.Replays.{run_on_device, texts_for, records_for, Replayed, ReplayOn, MomentStands, EveryMoment}
 use Rattle.iss_top.proofs.ToldLines.{readings_of, told_from_start, transcript_told, told_records}
 use Rattle.iss_top.proofs.Devices.{IsOpenedOn, opened_on, region_opened, run_opened, rests_stands}
-use Rattle.iss_top.proofs.Beginnings.{outputs_behind, levels_behind}
+use Rattle.iss_top.proofs.Beginnings.{outputs_behind, levels_behind, kinds_behind}
 
 -- ---- a device that was opened
 
@@ -54,8 +58,19 @@ starts_first region rs all start image first starts =
       firm = subst (λ (l : List (List ℕ)). ShowsFirmly region l image) (own ∙ sym (first_bodies rs all first)) starts.firm;
     }
 
+-- the records that stood, and those that the lines make
 abbrev made_by : ℕ → List Record → World → List Record
 made_by instance rs a = records_for (run_on_device instance rs a.device) rs (lines_of (a.left 0))
+
+legal_append : (h : History) (xs ys : List Record) → IsLegalAfter h xs → IsLegalAfter (fold (λ (k : History) (r : Record). (step history_keeper k r).world) h xs) ys → IsLegalAfter h (xs ++ ys)
+legal_append h [] ys legal more = more
+legal_append h (x ∷ xs) ys legal more = (legal.0, legal_append (step history_keeper h x).world xs ys legal.1 more)
+
+made_legal : (instance : ℕ) (rs : List Record) (a : World) → DeviceStandsFor instance rs a.device → IsLegal (made_by instance rs a)
+made_legal instance rs a stands =
+    let run = run_on_device instance rs a.device in
+    let lines = readings_of (parts_of (a.left 0)) in
+    legal_append nothing_yet rs (accepted_records run lines) stands.history.legal (accepted_legal run lines)
 
 old_first : (instance : ℕ) (rs : List Record) (a : World) → AreFirstOf rs (made_by instance rs a)
 old_first instance rs a = record { later = accepted_records (run_on_device instance rs a.device) (readings_of (parts_of (a.left 0))); cut = refl }
@@ -75,6 +90,7 @@ not_opened_moments instance rs a b good stands =
       opening = opening;
       later = [];
       grew = trace_opened a b good;
+      legal = made_legal instance rs a stands;
       levels =
           (levels_of (texts_for (run_on_device instance rs a.device) (lines_of (a.left 0))),
           ap (λ (l : List ℕ). l ++ levels_of (texts_for (run_on_device instance rs a.device) (lines_of (a.left 0)))) (sym (levels_behind good.added [] good.on_device)));
@@ -96,6 +112,7 @@ not_opened_on status instance rs a b not_done not_input not_device not_long good
       takes = record { bytes = ap (λ (l : ℕ → List ℕ). l 0) (sym good.left); others = λ ch other. ap (λ (l : ℕ → List ℕ). l ch) good.left };
       actions = good.added;
       grew = good.grew;
+      kinds = subst (λ (l : List Action). list_all is_of_run l ≡ true) (append-nil good.added) (kinds_behind good.added [] good.on_device refl);
       out =
           subst (λ (l : List Action). GoOut texts l) (sym none)
           (record { whole = []; rest = texts; cut = refl; last = []; done = refl; ended = inl refl });
@@ -181,6 +198,7 @@ module _ (instance : ℕ) (rs : List Record) (s : StoreNow) (status : ℕ) (took
             };
         actions = done;
         grew = trace_grew;
+        kinds = kinds_behind opening.good.added (actions_of runs.goes.steps) opening.good.on_device runs.goes.kinds;
         out = went_out;
         whole =
             λ e.
@@ -268,6 +286,7 @@ module _ (instance : ℕ) (rs : List Record) (s : StoreNow) (status : ℕ) (took
             trace_grew
             ∙ ap (λ (l : List Action). a.trace ++ l)
             (sym (actions_of-append steps runs.goes.steps ∙ ap (λ (l : List Action). l ++ actions_of runs.goes.steps) (actions_of-leveled 0 opening.good.added)));
+        legal = made_legal instance rs a stands;
         levels =
             (runs.goes.levels.0,
             ap levels_of (sym all_texts)
