@@ -4,7 +4,7 @@ ghost use Rattle.std.specs.List.{list_any};
 ghost use Rattle.iss_edge.specs.World.{Told, Rose};
 ghost use Rattle.iss_top.specs.Words.{command_of_words, statuses, OnDry, OnFormat, OnReplay};
 ghost use Rattle.iss_top.specs.Runs.{DryRun, EmitsTexts, EndsWell, StopsAtLines};
-ghost use Rattle.iss_top.specs.Replays.{ReplayRun, EveryMomentStands, RefusesExactly, ReplayEndsWell};
+ghost use Rattle.iss_top.specs.Replays.{ReplayRun, EveryMomentStands, RefusesExactly, ReplayEndsWell, TranscriptsContinue};
 ghost use Rattle.iss_top.specs.FormatRuns.{FormatRun};
 
 use crate::dry::dry;
@@ -71,6 +71,10 @@ pub fn run<E: Edge>(alloc: Global, words: &[String], edge: &mut E) -> u8
     // of which a byte went out.
     ensures moments { OnReplay (command_of_words (map string_bytes words.now))
         (Told EveryMomentStands (E.told edge.old) (E.told edge.new)) }
+
+    // A second run on the device continues the first: what two inputs in a row are told is what the first is told, and then, on the
+    // records that it left, what the second is told, without the texts with which a run begins.
+    ensures continues { OnReplay (command_of_words (map string_bytes words.now)) TranscriptsContinue }
 
     // A device that stands for no records decides over 4. Where the outside isn't at fault, the input isn't too long and the device
     // stands for records, the run comes to its end, or an allocation fails.
