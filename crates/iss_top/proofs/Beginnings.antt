@@ -99,9 +99,10 @@ lines_from_start status s rs took b c d left begins lines =
           (goes_then_part s rs rs lines.rs' (first_texts run) told.texts b c d begins lines.goes);
       whole =
           λ e.
-          let all = lines.whole e in
-          (all.0,
-          subst (λ (l : List (List ℕ)). GoesWhole s rs (told_from_start run l) b d) input (whole_from_start s rs (parts_of (c.left 0)) b c d begins all.1));
+          let all = lines.whole e in (
+            all.0,
+            subst (λ (l : List (List ℕ)). GoesWhole s rs (told_from_start run l) b d) input (whole_from_start s rs (parts_of (c.left 0)) b c d begins all.1),
+          );
       stopped = λ e. whole_from_start s rs (all_but_last (parts_of (take MOST_INPUT took))) b c d begins (lines.stopped e);
     }
 

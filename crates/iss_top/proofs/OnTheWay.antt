@@ -112,9 +112,10 @@ way_begins s now a fresh =
       read = has_read_begins now a fresh;
       same = record { instance = refl; to = refl };
       on_book =
-          λ rs stands.
-          (subst (λ (l : List Record). StandsFor s l) (sym (records_history rs)) stands,
-          subst (λ (l : List Record). Goes s rs l [] a a) (sym (records_history rs)) (goes_nothing s rs a));
+          λ rs stands. (
+            subst (λ (l : List Record). StandsFor s l) (sym (records_history rs)) stands,
+            subst (λ (l : List Record). Goes s rs l [] a a) (sym (records_history rs)) (goes_nothing s rs a),
+          );
     }
 
 -- a part of the input was read, and then its line was taken on this store
@@ -271,9 +272,10 @@ ends_well opened s before now a b c le way over =
                 goes_first opened rs told (told_lines (run_at opened rs) (parts_of (a.left 0))) a c first
                 (goes_part opened rs told.run.history.records told.texts a c goes);
             whole =
-                λ e.
-                (all.1,
-                subst (λ (l : List (List ℕ)). GoesWhole opened rs (told_lines (run_at opened rs) l) a c) (sym all.0) (record { goes = goes; history = done.0.history }));
+                λ e. (
+                  all.1,
+                  subst (λ (l : List (List ℕ)). GoesWhole opened rs (told_lines (run_at opened rs) l) a c) (sym all.0) (record { goes = goes; history = done.0.history }),
+                );
             stopped = λ e. elim e [ inl at ↦ cc | inr at ↦ cc ];
           };
       long = (λ e. cc, λ e. absurd (omega (arith, read.count, le, e)));

@@ -91,15 +91,18 @@ not_opened_moments instance rs a b good stands =
       later = [];
       grew = trace_opened a b good;
       legal = made_legal instance rs a stands;
-      levels =
-          (levels_of (texts_for (run_on_device instance rs a.device) (lines_of (a.left 0))),
-          ap (λ (l : List ℕ). l ++ levels_of (texts_for (run_on_device instance rs a.device) (lines_of (a.left 0)))) (sym (levels_behind good.added [] good.on_device)));
+      levels = (
+        levels_of (texts_for (run_on_device instance rs a.device) (lines_of (a.left 0))),
+        ap (λ (l : List ℕ). l ++ levels_of (texts_for (run_on_device instance rs a.device) (lines_of (a.left 0)))) (sym (levels_behind good.added [] good.on_device)),
+      );
       each =
           λ d rest starts before after cut image is.
           let ends : opening ≡ before ++ after = sym (append-nil opening) ∙ cut in
-          inr ((after, ends),
-          (good.good instance all (length rs) opening stands.header (actions_of-leveled 0 good.added)).each d rest
-          (starts_first region rs all a.device d.bytes (old_first instance rs a) starts) before after ends image is);
+          inr (
+            (after, ends),
+            (good.good instance all (length rs) opening stands.header (actions_of-leveled 0 good.added)).each d rest
+                (starts_first region rs all a.device d.bytes (old_first instance rs a) starts) before after ends image is,
+          );
     }
 
 -- nothing went out
@@ -202,9 +205,10 @@ module _ (instance : ℕ) (rs : List Record) (s : StoreNow) (status : ℕ) (took
         out = went_out;
         whole =
             λ e.
-            let all = runs.whole e in
-            (all.0,
-            subst (λ (l : List (List ℕ)). Replayed instance rs (filter (λ (part : List ℕ). not (is_blank part)) l) done a d) input (replayed (parts_of (b.left 0)) all.1));
+            let all = runs.whole e in (
+              all.0,
+              subst (λ (l : List (List ℕ)). Replayed instance rs (filter (λ (part : List ℕ). not (is_blank part)) l) done a d) input (replayed (parts_of (b.left 0)) all.1),
+            );
         stopped = λ e. replayed (all_but_last (parts_of (take MOST_INPUT took))) (runs.stopped e);
         long = long;
         bound = bound;
@@ -287,10 +291,11 @@ module _ (instance : ℕ) (rs : List Record) (s : StoreNow) (status : ℕ) (took
             ∙ ap (λ (l : List Action). a.trace ++ l)
             (sym (actions_of-append steps runs.goes.steps ∙ ap (λ (l : List Action). l ++ actions_of runs.goes.steps) (actions_of-leveled 0 opening.good.added)));
         legal = made_legal instance rs a stands;
-        levels =
-            (runs.goes.levels.0,
-            ap levels_of (sym all_texts)
-            ∙ runs.goes.levels.1
-            ∙ ap (λ (l : List ℕ). l ++ runs.goes.levels.0) (sym (levels_behind opening.good.added runs.goes.steps opening.good.on_device)));
+        levels = (
+          runs.goes.levels.0,
+          ap levels_of (sym all_texts)
+              ∙ runs.goes.levels.1
+              ∙ ap (λ (l : List ℕ). l ++ runs.goes.levels.0) (sym (levels_behind opening.good.added runs.goes.steps opening.good.on_device)),
+        );
         each = moment;
       }
