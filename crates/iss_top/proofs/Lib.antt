@@ -3,6 +3,7 @@ pub mod Keeping
 pub mod Finding
 pub mod Takes
 pub mod ToldAs
+pub mod Hands
 pub mod Reading
 pub mod ToldReading
 pub mod Parts

@@ -33,13 +33,16 @@ all_but_one [] last = refl
 all_but_one (p ∷ []) last = refl
 all_but_one (p ∷ q ∷ ps) last = ap (λ (l : List (List ℕ)). p ∷ l) (all_but_one (q ∷ ps) last)
 
+never : true ≡ false → ⊥
+never e = cc
+
 -- ---- steps
 
 -- nothing was read
 pub has_read_begins : (now : ReaderNow) (a : World) → now ≡ fresh_reader → HasRead [] now a a
 has_read_begins now a fresh =
     subst (λ (n : ReaderNow). HasRead [] n a a) (sym fresh)
-    (record { took = []; takes = takes_none a a refl; count = refl; cut = λ going rest. refl; all = λ ended. cc })
+    (record { took = []; takes = takes_none a a refl; count = refl; cut = λ going rest. refl; all = λ ended. absurd (never (sym ended)) })
 
 -- what takes nothing in
 pub has_read_on : (parts : List (List ℕ)) (now : ReaderNow) (a b c : World) → HasRead parts now a b → c.left ≡ b.left → HasRead parts now a c
@@ -54,14 +57,10 @@ has_read_on parts now a b c h left =
 
 cut_of : (bytes part : List ℕ) (now : ReaderNow) (b : World) → Ends bytes part now b → now.ended ≡ false → bytes ≡ part ++ 10 ∷ now.unread
 cut_of bytes part now b (inl e) going = e.1
-cut_of bytes part now b (inr e) going = absurd (true_is_not (sym e.0 ∙ going)) where
-  true_is_not : true ≡ false → ⊥
-  true_is_not e = cc
+cut_of bytes part now b (inr e) going = absurd (never (sym e.0 ∙ going))
 
 all_of : (bytes part : List ℕ) (now : ReaderNow) (b : World) → Ends bytes part now b → now.ended ≡ true → (bytes ≡ part) × (b.left 0 ≡ [])
-all_of bytes part now b (inl e) ended = absurd (true_is_not (sym ended ∙ e.0)) where
-  true_is_not : true ≡ false → ⊥
-  true_is_not e = cc
+all_of bytes part now b (inl e) ended = absurd (never (sym ended ∙ e.0))
 all_of bytes part now b (inr e) ended = (e.1, e.2)
 
 -- where the next part ended, the rest begins behind its line feed
@@ -88,11 +87,10 @@ has_read_next parts before now a b c going h r =
           ∙ next_cut before.unread r.took r.part now.unread rest parts r.one_line (cut_of (before.unread ++ r.took) r.part now c r.ends more);
       all =
           λ ended.
-          let last = all_of (before.unread ++ r.took) r.part now c r.ends ended in
-          (
+          let last = all_of (before.unread ++ r.took) r.part now c r.ends ended in (
             h.cut going r.took
-            ∙ ap (λ (l : List ℕ). parts ++ parts_of l) last.0
-            ∙ ap (λ (l : List (List ℕ)). parts ++ l) (part_alone r.part r.one_line),
+                ∙ ap (λ (l : List ℕ). parts ++ parts_of l) last.0
+                ∙ ap (λ (l : List (List ℕ)). parts ++ l) (part_alone r.part r.one_line),
             last.1,
           );
     }
@@ -121,11 +119,10 @@ parts_first parts now a b h = first_where parts now a b now.ended refl h
 
 -- all of the input was read
 pub parts_all : (parts : List (List ℕ)) (now : ReaderNow) (a b : World) → now.ended ≡ true → HasRead parts now a b → (parts_of (a.left 0) ≡ parts) × (b.left 0 ≡ [])
-parts_all parts now a b ended h =
-    (
-      ap parts_of (h.takes.bytes ∙ ap (λ (l : List ℕ). h.took ++ l) (h.all ended).1 ∙ append-nil h.took) ∙ (h.all ended).0,
-      (h.all ended).1,
-    )
+parts_all parts now a b ended h = (
+  ap parts_of (h.takes.bytes ∙ ap (λ (l : List ℕ). h.took ++ l) (h.all ended).1 ∙ append-nil h.took) ∙ (h.all ended).0,
+  (h.all ended).1,
+)
 
 -- reading on gave nothing, so all of the input was read
 pub parts_over : (parts : List (List ℕ)) (before now : ReaderNow) (a b c : World) → HasRead parts before a b → ReadsOn false before now b c → (parts_of (a.left 0) ≡ parts) × (c.left 0 ≡ [])

@@ -75,9 +75,9 @@ part_ends before now u k t at a b found taken limit unread line going r =
           inl (
             going,
             r.cut
-            ∙ ap (λ (l : List ℕ). r.part ++ l) whole
-            ∙ sym (append_assoc r.part last (10 ∷ rest))
-            ∙ ap (λ (l : List ℕ). (r.part ++ last) ++ 10 ∷ l) (sym unread),
+                ∙ ap (λ (l : List ℕ). r.part ++ l) whole
+                ∙ sym (append_assoc r.part last (10 ∷ rest))
+                ∙ ap (λ (l : List ℕ). (r.part ++ last) ++ 10 ∷ l) (sym unread),
           );
     }
 

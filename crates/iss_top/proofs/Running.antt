@@ -100,23 +100,23 @@ way_reads s before now a b c w r =
     }
 
 told_part : (s : CoreState) (parts : List (List ℕ)) (part line : List ℕ) → IsToldAs line part → s ≡ lines_next no_core parts → lines_texts no_core parts ++ line_texts s line ≡ lines_texts no_core (parts ++ part ∷ [])
-told_part s parts part line as state =
-    ap (λ (t : List (List ℕ)). lines_texts no_core parts ++ t) (same_texts s line part as ∙ ap (λ (n : CoreState). line_texts n part) state)
+told_part s parts part line like state =
+    ap (λ (t : List (List ℕ)). lines_texts no_core parts ++ t) (same_texts s line part like ∙ ap (λ (n : CoreState). line_texts n part) state)
     ∙ sym (one_more no_core parts part)
 
 -- its line was told
 pub way_tells : (s s' : CoreState) (now : ReaderNow) (line : List ℕ) (a b c : World) → line ≡ now.line → s' ≡ line_next s line → AtLine s now a b → Says (line_texts s line) b c → IsOnItsWay s' now a c
 way_tells s s' now line a b c is next w said =
-    let as : IsToldAs line w.part = subst (λ (l : List ℕ). IsToldAs l w.part) (sym is) w.line in
+    let like : IsToldAs line w.part = subst (λ (l : List ℕ). IsToldAs l w.part) (sym is) w.line in
     record {
       parts = w.parts ++ w.part ∷ [];
       read = has_read_on (w.parts ++ w.part ∷ []) now a b c w.read said.left;
       sends =
-          subst (λ (t : List (List ℕ)). SendsEach t a c) (told_part s w.parts w.part line as w.state)
+          subst (λ (t : List (List ℕ)). SendsEach t a c) (told_part s w.parts w.part line like w.state)
           (sends_then (lines_texts no_core w.parts) (line_texts s line) a b c w.sends said.sends);
       state =
           next
-          ∙ same_next s line w.part as
+          ∙ same_next s line w.part like
           ∙ ap (λ (n : CoreState). line_next n w.part) w.state
           ∙ sym (next-append no_core w.parts (w.part ∷ []));
     }
@@ -165,11 +165,11 @@ ends_at_start a =
 -- a line was told in part
 pub ends_in_line : (status : ℕ) (s : CoreState) (now : ReaderNow) (line : List ℕ) (a b c : World) → IsOther status → line ≡ now.line → AtLine s now a b → SaysSome (line_texts s line) b c → Ran status a c
 ends_in_line status s now line a b c other is w said =
-    let as : IsToldAs line w.part = subst (λ (l : List ℕ). IsToldAs l w.part) (sym is) w.line in
+    let like : IsToldAs line w.part = subst (λ (l : List ℕ). IsToldAs l w.part) (sym is) w.line in
     let parts = w.parts ++ w.part ∷ [] in
     let read = has_read_on parts now a b c w.read said.left in
     ends_early status read.took (lines_texts no_core parts) a c other read.takes
-    (subst (λ (t : List (List ℕ)). SendsSome t a c) (told_part s w.parts w.part line as w.state)
+    (subst (λ (t : List (List ℕ)). SendsSome t a c) (told_part s w.parts w.part line like w.state)
     (then_some (lines_texts no_core w.parts) (line_texts s line) a b c w.sends said.sends))
     (omega (arith, read.count, w.bound))
     (texts_first parts (parts_of (a.left 0)) (parts_first parts now a c read))
@@ -198,6 +198,10 @@ ends_at_input status why s before a b c not_done not_memory long is_long w r =
       bound = all.bound;
     }
 
+neither_of_none : (◌≡◌ {A = ℕ} 0 3) ⊎ (◌≡◌ {A = ℕ} 0 8) → ⊥
+neither_of_none (inl e) = cc
+neither_of_none (inr e) = cc
+
 -- the input ended
 pub ends_well : (s : CoreState) (before now : ReaderNow) (a b c : World) → before.taken ≤ MOST_INPUT → IsOnItsWay s before a b → ReadsOn false before now b c → Ran 0 a c
 ends_well s before now a b c limit w over =
@@ -217,11 +221,8 @@ ends_well s before now a b c limit w over =
             out = subst (λ (xs : List (List ℕ)). GoOut xs (emits texts)) (sym all) (all_out texts);
             whole = λ e. ap emits (sym all);
           };
-      stopped = λ e. absurd (neither_way e);
+      stopped = λ e. absurd (neither_of_none e);
       over = λ e. last.1;
       long = (λ e. cc, λ e. absurd (omega (arith, e, read.count, limit)));
       bound = omega (arith, read.count, limit);
-    } where
-  neither_way : (0 ≡ 3) ⊎ (0 ≡ 8) → ⊥
-  neither_way (inl e) = cc
-  neither_way (inr e) = cc
+    }

@@ -67,6 +67,11 @@ unread_is bytes buffer next filled count same start whole =
     let all : count - 0 ≡ count = omega arith in
     rw (same, start, whole) (ap (λ (n : ℕ). take n buffer) all)
 
+-- so many bytes of a piece that was just taken aren't read
+pub count_is : (bytes : List ℕ) (next filled count : ℕ) → next ≡ 0 → filled ≡ count → count ≤ length bytes → length (slice_of bytes next filled) ≡ count
+count_is bytes next filled count start whole le =
+    ap (λ (l : List ℕ). length l) (unread_is bytes bytes next filled count refl start whole) ∙ length-take-le count bytes le
+
 only_piece : (buffer : List ℕ) (count : ℕ) (a b : World) → Takes (record { 0 = 0 }) count buffer a b → OnlyTakesIn (take count buffer) a b
 only_piece buffer count a b t = record { takes = record { bytes = t.bytes; others = t.others }; device = t.device; trace = t.trace }
 
@@ -117,7 +122,7 @@ too_long taken count asked buffer a b limit le over more one fits t =
     record {
       took = take count buffer;
       takes = only_piece buffer count a b t;
-      none = rw room refl;
+      none = ap (λ (n : ℕ). take n (take count buffer)) room;
       long = (λ e. whole, λ e. refl);
       bound = omega (arith, whole);
     }

@@ -22,24 +22,24 @@ use Rattle.iss_top.specs.AtHand.{line_with}
 
 pub same_texts : (s : CoreState) (line part : List ℕ) → IsToldAs line part → line_texts s line ≡ line_texts s part
 unfolding line_texts
-same_texts s line part as =
-    ap (λ (t : Bool). cond t [] (each_bytes (reply_of_line s line).texts)) as.blank
-    ∙ ap (λ r. cond (is_blank part) [] (each_bytes (after_line core_keeper s r).texts)) as.reading
+same_texts s line part like =
+    ap (λ (t : Bool). cond t [] (each_bytes (reply_of_line s line).texts)) like.blank
+    ∙ ap (λ r. cond (is_blank part) [] (each_bytes (after_line core_keeper s r).texts)) like.reading
 
 pub same_next : (s : CoreState) (line part : List ℕ) → IsToldAs line part → line_next s line ≡ line_next s part
 unfolding line_next
-same_next s line part as =
-    ap (λ (t : Bool). cond t s (reply_of_line s line).world) as.blank
-    ∙ ap (λ r. cond (is_blank part) s (after_line core_keeper s r).world) as.reading
+same_next s line part like =
+    ap (λ (t : Bool). cond t s (reply_of_line s line).world) like.blank
+    ∙ ap (λ r. cond (is_blank part) s (after_line core_keeper s r).world) like.reading
 
 abbrev nothing_told : Run → Response
 nothing_told s = record { run = s; texts = [] }
 
 pub same_told : (s : Run) (line part : List ℕ) → IsToldAs line part → told_line s line ≡ told_line s part
 unfolding told_line
-same_told s line part as =
-    ap (λ (t : Bool). cond t (nothing_told s) (response s (reading_of line))) as.blank
-    ∙ ap (λ r. cond (is_blank part) (nothing_told s) (response s r)) as.reading
+same_told s line part like =
+    ap (λ (t : Bool). cond t (nothing_told s) (response s (reading_of line))) like.blank
+    ∙ ap (λ r. cond (is_blank part) (nothing_told s) (response s r)) like.reading
 
 -- ---- lines of more than 16384 bytes
 

@@ -1,5 +1,5 @@
 -- The same of what an edge tells: taking pieces, and reading on to the next line.
-use Rattle.std.proofs.Common.{◌≡◌, ℕ, ◌+◌, ◌<◌, ◌≤◌, true, false, List, [], length, take, drop, fold, Option, Some, ap, subst, ◌∙◌, arith}
+use Rattle.std.proofs.Common.{◌≡◌, ℕ, ◌+◌, ◌<◌, ◌≤◌, Bool, true, false, List, [], length, take, drop, fold, Option, Some, refl, ap, subst, ◌∙◌, arith}
 use Rattle.memchr.specs.Find.{IsFirstByte, is_byte}
 use Rattle.iss_edge.specs.World.{World, Told}
 use Rattle.iss_edge.specs.Calls.{Same, Takes}
@@ -15,7 +15,6 @@ use Rattle.iss_top.specs.Pieces.{TakesMore, TakesNoMore, unread_of}
 use Rattle.iss_top.specs.AtHand.{EndsLine, now_of, line_with}
 use Rattle.iss_top.proofs.Takes.{takes_more, no_more, too_long}
 use Rattle.iss_top.proofs.Reading.{ReadSoFar, so_far_begins, so_far_more, part_ends, part_is_last, part_stops, part_unkept}
-use Rattle.iss_top.proofs.ToldAs.{length-line, length-kept_run}
 
 -- ---- a piece
 
@@ -61,12 +60,11 @@ pub told_part_is_last : (before now : ReaderNow) (p q : Pieces) (k k' : List ℕ
     → Told (ReadSoFar before.unread before.taken (unread_of p) k p.taken) x y → Told (TakesMore false p q) y z → Told (ReadsOn true before now) x z
 told_part_is_last before now p q k k' x y z going none is limit taken line ended r t =
     told_then (ReadSoFar before.unread before.taken (unread_of p) k p.taken) (TakesMore false p q) (ReadsOn true before now) x y z
-    (λ a b c u v.
-        (
-          going,
-          part_is_last before now (unread_of q) k' q.taken a c (v.over refl).0 (v.over refl).1 taken limit line ended
+    (λ a b c u v. (
+      going,
+      part_is_last before now (unread_of q) k' q.taken a c (v.over refl).0 (v.over refl).1 taken limit line ended
           (so_far_more before.unread before.taken (unread_of p) k p.taken (unread_of q) k' q.taken a b c none is v.count u v.takes),
-        )) r t
+    )) r t
 
 pub told_part_stops : (before : ReaderNow) (u k : List ℕ) (t : ℕ) (why : Stop) (x y z : Option World) → before.ended ≡ false → before.taken ≤ MOST_INPUT → t ≤ MOST_INPUT → has_line_feed u ≡ false
     → Told (ReadSoFar before.unread before.taken u k t) x y → Told (TakesNoMore t why) y z → Told (ReadsNoPart before why) x z
@@ -78,11 +76,3 @@ pub told_part_unkept : (before : ReaderNow) (u k : List ℕ) (t : ℕ) (x y : Op
     → Told (ReadSoFar before.unread before.taken u k t) x y → Told (ReadsNoPart before stop.Memory) x y
 told_part_unkept before u k t x y going start limit r =
     told_map (ReadSoFar before.unread before.taken u k t) (ReadsNoPart before stop.Memory) x y (λ a b. part_unkept before u k t a b going start limit) r
-
--- ---- how far the reader went
-
--- what was kept of the line and what isn't read yet is among what wasn't read before and what was taken
-pub room_so_far : (kept kept' u u' : List ℕ) (before taken taken' : ℕ) → kept' ≡ fold kept_with kept u → taken' ≡ taken + length u' → length kept + length u ≤ before + taken → length kept' + length u' ≤ before + taken'
-room_so_far kept kept' u u' before taken taken' is count room =
-    let more : length kept' ≤ length kept + length u = subst (λ (l : List ℕ). length l ≤ length kept + length u) (sym is) (length-kept_run kept u) in
-    omega (arith, more, count, room)

@@ -47,6 +47,10 @@ told_line_fails why f g s before now line x y z w cause is p q r =
     told_then (AtLine s now) (SaysSome (line_texts s line)) (Ran (status_of {A = Unit {0}} (Err why))) x z w
     (λ a b c u v. ends_in_line (status_of {A = Unit {0}} (Err why)) s now line a b c (replying_is_other f g why cause) is u v) (at_line s before now x y z p q) r
 
+neither_of_memory : (◌≡◌ {A = ℕ} 7 3) ⊎ (◌≡◌ {A = ℕ} 7 8) → ⊥
+neither_of_memory (inl e) = cc
+neither_of_memory (inr e) = cc
+
 reading_fails : (why : Stop) (f g : Faults) (s : CoreState) (before : ReaderNow) (a b c : World) → ReadingCause f g why → IsOnItsWay s before a b → ReadsNoPart before why b c → Ran (status_of {A = Unit {0}} (Err why)) a c
 reading_fails stop.Input f g s before a b c cause w r =
     ends_at_input 3 stop.Input s before a b c (λ e. cc) (λ e m. cc) (λ e. cc) (λ e. cc) w r
@@ -54,10 +58,7 @@ reading_fails stop.Device f g s before a b c cause w r = absurd cause
 reading_fails stop.Disk f g s before a b c cause w r = absurd cause
 reading_fails stop.Output f g s before a b c cause w r = absurd cause
 reading_fails stop.Memory f g s before a b c cause w r =
-    ends_at_input 7 stop.Memory s before a b c (λ e. cc) (λ e m. neither e) (λ e. cc) (λ e. cc) w r where
-  neither : (7 ≡ 3) ⊎ (7 ≡ 8) → ⊥
-  neither (inl e) = cc
-  neither (inr e) = cc
+    ends_at_input 7 stop.Memory s before a b c (λ e. cc) (λ e m. neither_of_memory e) (λ e. cc) (λ e. cc) w r
 reading_fails stop.InputLong f g s before a b c cause w r =
     ends_at_input 8 stop.InputLong s before a b c (λ e. cc) (λ e m. cc) (λ e. refl) (λ e. refl) w r
 

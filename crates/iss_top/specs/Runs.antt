@@ -36,12 +36,16 @@ pub record EmitsTexts (status : ℕ) (a b : World) : Type 0 where
   pub out : GoOut (each_bytes (dry_texts (a.left 0))) actions
   pub whole : status ≡ 0 → actions ≡ emits (each_bytes (dry_texts (a.left 0)))
 
+-- the emits of what the lines are told that ended within the first 4294967296 of these bytes
+abbrev pub emits_of_ended : List ℕ → List Action
+emits_of_ended took = emits (each_bytes (texts_of_lines (ended_lines (take MOST_INPUT took))))
+
 -- At 3 and 8 a dry run emitted exactly the texts of the lines that ended within the bytes that it took, of which a last one beyond
 -- 4294967296 doesn't count.
 pub record StopsAtLines (status : ℕ) (a b : World) : Type 0 where
   pub took : List ℕ
   pub takes : TakesIn took a b
-  pub exactly : (status ≡ 3) ⊎ (status ≡ 8) → b.trace ≡ a.trace ++ emits (each_bytes (texts_of_lines (ended_lines (take MOST_INPUT took))))
+  pub exactly : (status ≡ 3) ⊎ (status ≡ 8) → b.trace ≡ a.trace ++ emits_of_ended took
 
 -- all of what it took and what it emitted, with the device as it was
 pub record Ran (status : ℕ) (a b : World) : Type 0 where
@@ -49,7 +53,7 @@ pub record Ran (status : ℕ) (a b : World) : Type 0 where
   pub takes : TakesIn took a b
   pub device : b.device ≡ a.device
   pub emits : EmitsTexts status a b
-  pub stopped : (status ≡ 3) ⊎ (status ≡ 8) → b.trace ≡ a.trace ++ emits (each_bytes (texts_of_lines (ended_lines (take MOST_INPUT took))))
+  pub stopped : (status ≡ 3) ⊎ (status ≡ 8) → b.trace ≡ a.trace ++ emits_of_ended took
   pub over : status ≡ 0 → b.left 0 ≡ []
   pub long : (status ≡ 8) ↔ (length took ≡ MOST_INPUT + 1)
   pub bound : length took ≤ MOST_INPUT + 1

@@ -1,5 +1,5 @@
 //! The input, piece by piece.
-ghost use Rattle.std.specs.Prelude.{◌≡◌, ◌+◌, ◌<◌, ◌≤◌, true, length, IfOk, IfErr, OnErr};
+ghost use Rattle.std.specs.Prelude.{◌≡◌, ◌+◌, ◌<◌, ◌≤◌, true, length, IfOk, IfErr, OnOk, OnErr};
 ghost use Rattle.iss_edge.specs.World.{Told, HasCause};
 ghost use Rattle.iss_edge.specs.Calls.{Takes, Same};
 ghost use Rattle.iss_top.specs.Pieces.{ArePieces, AreFresh, TakesMore, TakesNoMore, unread_of};
@@ -49,6 +49,7 @@ impl Pieces {
     pub(crate) fn take_more<E: Edge>(&mut self, edge: &mut E) -> Result<bool, Stop>
         requires fit { ArePieces self.old }
         ensures fit { ArePieces self.new }
+        ensures count { OnOk result (self.new.taken ≡ self.old.taken + length (unread_of self.new)) }
         ensures further { IfOk result (λ more. more ≡ true → self.old.taken < self.new.taken) }
         ensures takes { IfOk result (λ more.
             Told (TakesMore more self.old self.new) (E.told edge.old) (E.told edge.new)) }
@@ -92,11 +93,7 @@ fn room_after(taken: u64) -> usize
 }
 
 /// Takes at most so many bytes into the start of the buffer.
-fn take_piece<E: Edge>(
-    edge: &mut E,
-    buffer: &mut [u8],
-    room: usize,
-) -> Result<usize, Stop>
+fn take_piece<E: Edge>(edge: &mut E, buffer: &mut [u8], room: usize) -> Result<usize, Stop>
     requires some { 0 < room }
     requires within { room ≤ length buffer.old }
     ensures bound { IfOk result (λ count. count ≤ room) }

@@ -130,14 +130,14 @@ impl AtHand {
         ensures fit { IsAtHand self.new }
         ensures ends { OnOk result (EndsLine at self.old self.new) }
     {
-        let end = self.pieces.next + at;
-        if self.kept.as_slice().is_empty() {
-            self.start = self.pieces.next;
-            self.end = end;
-        } else {
-            self.kept.extend(&self.pieces.bytes[self.pieces.next..end])?;
-        }
+        let start = self.pieces.next;
+        let end = start + at;
         self.pieces.next = end + 1;
-        Ok(())
+        if self.kept.as_slice().is_empty() {
+            self.start = start;
+            self.end = end;
+            return Ok(());
+        }
+        self.kept.extend(&self.pieces.bytes[start..end])
     }
 }
