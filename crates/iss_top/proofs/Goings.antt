@@ -1,8 +1,9 @@
 -- Parts of a run on a device, one after the other, and those that only say something.
-use Rattle.std.proofs.Common.{◌≡◌, ℕ, ◌+◌, ◌≤◌, ◌⊎◌, inl, inr, true, false, List, [], ◌∷◌, ◌++◌, length, map, refl, sym, ap, subst, ◌∙◌, append-nil, append_assoc, arith, length-append}
-use Rattle.std.specs.List.{filter}
+use Rattle.std.proofs.Common.{◌≡◌, ℕ, ◌+◌, ◌≤◌, ◌⊎◌, ◌&&◌, inl, inr, Bool, true, List, [], ◌∷◌, ◌++◌, length, map, refl, sym, ap, subst, ◌∙◌, append-nil, append_assoc, arith, length-append}
+use Rattle.std.specs.List.{filter, list_all}
 use Rattle.std.proofs.lemmas.List.{map-append}
 use Rattle.std.proofs.lemmas.List.Elements.{filter-append}
+use Rattle.std.proofs.lemmas.List.Folds.{list_all-append}
 use Rattle.iss_edge.specs.declared.outside.Action.{Action}
 use Rattle.iss_edge.specs.declared.outside.Action.TheVariants.{Emit}
 use Rattle.iss_edge.specs.World.{World}
@@ -16,7 +17,7 @@ use Rattle.iss_texts.specs.Sending.{emits, FailsAt, GoOut, Says, SaysSome}
 use Rattle.iss_texts.proofs.Saying.{all_out}
 use Rattle.iss_top.specs.Dry.{each_bytes}
 use Rattle.iss_top.specs.Progress.{is_output}
-use Rattle.iss_top.specs.Replaying.{outputs_of, output_levels, levels_of, AreFirstOf, Goes, GoesPart}
+use Rattle.iss_top.specs.Replaying.{outputs_of, is_of_run, output_levels, levels_of, AreFirstOf, Goes, GoesPart}
 
 -- ---- records that come first
 
@@ -51,6 +52,23 @@ trace_append a b c x y e f =
     ∙ append_assoc a.trace (actions_of x) (actions_of y)
     ∙ ap (λ (t : List Action). a.trace ++ t) (sym (actions_of-append x y))
 
+both_true : (s t : Bool) → s ≡ true → t ≡ true → (s && t) ≡ true
+both_true s t p q = rw (p, q) refl
+
+-- nothing is done but on the device and on channel 0
+abbrev pub AreOfRun : List Action → Type 0
+AreOfRun actions = list_all is_of_run actions ≡ true
+
+kinds_both : (x y : List Action) → AreOfRun x → AreOfRun y → AreOfRun (x ++ y)
+kinds_both x y first second = list_all-append is_of_run x y ∙ both_true (list_all is_of_run x) (list_all is_of_run y) first second
+
+kinds_append : (x y : List Step) → AreOfRun (actions_of x) → AreOfRun (actions_of y) → AreOfRun (actions_of (x ++ y))
+kinds_append x y first second = ap (list_all is_of_run) (actions_of-append x y) ∙ kinds_both (actions_of x) (actions_of y) first second
+
+emits_kinds : (texts : List (List ℕ)) → AreOfRun (emits texts)
+emits_kinds [] = refl
+emits_kinds (text ∷ texts) = emits_kinds texts
+
 pub goes_then : (s : StoreNow) (rs rs' rs'' : List Record) (t u : List Text) (a b c : World) → Goes s rs rs' t a b → Goes s rs' rs'' u b c → Goes s rs rs'' (t ++ u) a c
 goes_then s rs rs' rs'' t u a b c f g =
     record {
@@ -72,6 +90,7 @@ goes_then s rs rs' rs'' t u a b c f g =
           join_on (RestsAt s all) (StandsAt s all) (RestsAt s all) (RestsAt s all) (length rs) (length rs') (length rs'') f.steps g.steps
           (f.goes_on all (first_then rs' rs'' all g.more first)) (g.goes_on all first);
       rests = λ start. g.rests (f.rests start);
+      kinds = kinds_append f.steps g.steps f.kinds g.kinds;
     }
 
 -- some of the texts that come behind others went out, and those others did
@@ -113,6 +132,7 @@ goes_then_part s rs rs' rs'' t u a b c f g =
           λ all first.
           join (RestsAt s all) (StandsAt s all) (RestsAt s all) (length rs) (length rs') (length rs'') f.steps g.steps
           (f.goes_on all (first_then rs' rs'' all g.more first)) (g.good all first);
+      kinds = kinds_append f.steps g.steps f.kinds g.kinds;
     }
 
 -- ---- what goes on is good
@@ -126,6 +146,7 @@ goes_part s rs rs' t a b f =
       out = subst (λ (l : List Action). GoOut (each_bytes t) l) (sym f.out) (all_out (each_bytes t));
       levels = ([], sym f.levels ∙ sym (append-nil (output_levels f.steps)));
       good = λ all first. (f.goes_on all first).good;
+      kinds = f.kinds;
     }
 
 -- ---- texts that are said where so many records stand
@@ -161,6 +182,7 @@ says_goes s rs texts a b says =
           still_goes_on (RestsAt s all) (StandsAt s all) (length rs) steps (λ bytes rests. inl rests)
           (subst AreStill (sym same) (emits_still texts)) (sent_leveled (length rs) (emits texts));
       rests = λ start. subst (λ (device : List ℕ). RestsAt s rs device (length rs)) (sym says.sends.device) start;
+      kinds = ap (list_all is_of_run) same ∙ emits_kinds texts;
     }
 
 -- ---- texts of which some were said
@@ -191,6 +213,17 @@ still_last rest last ended =
 still_out : (texts : List (List ℕ)) (actions : List Action) → GoOut texts actions → AreStill actions
 still_out texts actions out =
     subst AreStill (sym out.done) (still_append (emits out.whole) out.last (emits_still out.whole) (still_last out.rest out.last out.ended))
+
+kinds_last : (rest : List (List ℕ)) (last : List Action) → (last ≡ []) ⊎ FailsAt rest last → AreOfRun last
+kinds_last rest last ended =
+    elim ended [
+      | inl none ↦ subst AreOfRun (sym none) refl
+      | inr fails ↦ subst AreOfRun (sym fails.action) refl
+    ]
+
+kinds_out : (texts : List (List ℕ)) (actions : List Action) → GoOut texts actions → AreOfRun actions
+kinds_out texts actions out =
+    subst AreOfRun (sym out.done) (kinds_both (emits out.whole) out.last (emits_kinds out.whole) (kinds_last out.rest out.last out.ended))
 
 -- the levels of the texts that went out come first among those of all
 abbrev LevelsFirst : ℕ → List (List ℕ) → List Action → Type 0
@@ -238,6 +271,7 @@ says_goes_part s rs texts a b says =
           λ all first.
           (still_goes_on (RestsAt s all) (StandsAt s all) n steps (λ bytes rests. inl rests)
           (subst AreStill (sym same) (still_out texts actions says.sends.out)) (sent_leveled n actions)).good;
+      kinds = ap (list_all is_of_run) same ∙ kinds_out texts actions says.sends.out;
     }
 
 -- ---- texts behind those of which some went out
@@ -280,6 +314,7 @@ part_more s rs rs' t u a b f =
           ∙ ap (λ (l : List ℕ). l ++ levels_of u) f.levels.1
           ∙ append_assoc (output_levels f.steps) f.levels.0 (levels_of u));
       good = f.good;
+      kinds = f.kinds;
     }
 
 -- ---- nothing at all
@@ -294,6 +329,7 @@ goes_nothing s rs a =
       levels = refl;
       goes_on = λ all first. none_goes_on (RestsAt s all) (StandsAt s all) (length rs) [] (λ bytes rests. inl rests) refl;
       rests = λ start. start;
+      kinds = refl;
     }
 
 first_length : (rs rs' : List Record) → AreFirstOf rs rs' → length rs ≤ length rs'
@@ -313,4 +349,5 @@ part_nothing s rs rs' t a more =
           λ all first.
           good_up (RestsAt s all) (StandsAt s all) (length rs) (length rs) (length rs') [] (first_length rs rs' more)
           (none_goes_on (RestsAt s all) (StandsAt s all) (length rs) [] (λ bytes rests. inl rests) refl).good;
+      kinds = refl;
     }

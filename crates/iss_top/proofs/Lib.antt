@@ -23,3 +23,7 @@ pub mod Beginnings
 pub mod WholeRuns
 pub mod ToldWay
 pub mod ToldReplays
+pub mod Lasting
+pub mod Taken
+pub mod TakenLines
+pub mod TakingCauses

@@ -84,9 +84,10 @@ fn take_input<E: Edge>(
         Ok(planned) => {
             let more = planned.more();
             let next = keep(alloc, store, planned, edge)?;
-            if more {
-                tell_answer_left(alloc, &next, &said.input, at, edge)?;
+            if !more {
+                return Ok(next);
             }
+            tell_answer_left(alloc, &next, &said.input, at, edge)?;
             Ok(next)
         }
         Err(PlanFault::Told(answer)) => {
