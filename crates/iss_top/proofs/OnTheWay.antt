@@ -54,6 +54,7 @@ goes_still s rs rs' t a b c f device trace =
       levels = f.levels;
       goes_on = f.goes_on;
       rests = λ start. subst (λ (image : List ℕ). RestsAt s rs' image (length rs')) (sym device) (f.rests start);
+      kinds = f.kinds;
     }
 
 same_region : (s s' : StoreNow) → IsSameDevice s s' → region_under s' ≡ region_under s
@@ -77,6 +78,7 @@ goes_same s s' rs rs' t a b same f =
           λ start.
           subst (λ (r : Region). RestsFirst r (bodies_of rs') b.device (length rs')) region
           (f.rests (subst (λ (r : Region). RestsFirst r (bodies_of rs) a.device (length rs)) (sym region) start));
+      kinds = f.kinds;
     }
 
 part_same : (s s' : StoreNow) (rs rs' : List Record) (t : List Text) (a b : World) → IsSameDevice s s' → GoesPart s' rs rs' t a b → GoesPart s rs rs' t a b
@@ -91,6 +93,7 @@ part_same s s' rs rs' t a b same f =
           λ all first.
           subst (λ (r : Region). IsGood (RestsFirst r (bodies_of all)) (StandsFirst r (bodies_of all)) (length rs) (length rs') f.steps) (same_region s s' same)
           (f.good all first);
+      kinds = f.kinds;
     }
 
 same_then : (s s' s'' : StoreNow) → IsSameDevice s s' → IsSameDevice s' s'' → IsSameDevice s s''
