@@ -1,5 +1,5 @@
 -- How a line ends in the piece at hand.
-use Rattle.std.proofs.Common.{◌≡◌, ℕ, ◌+◌, ◌-◌, ◌<◌, ◌≤◌, Bool, true, false, cond, nat_eq, List, [], ◌∷◌, ◌++◌, length, take, drop, fold, Some, refl, sym, ap, subst, ◌∙◌, arith}
+use Rattle.std.proofs.Common.{◌≡◌, ℕ, ◌+◌, ◌-◌, ◌<◌, ◌≤◌, Bool, true, false, cond, nat_eq, List, [], ◌∷◌, length, take, drop, fold, Some, refl, sym, ap, subst, ◌∙◌, arith}
 use Rattle.std.proofs.lemmas.List.{length-take-le, length-drop, drop-take, drop-drop, take-take}
 use Rattle.std.proofs.lemmas.Bool.{eqb-true}
 use Rattle.memchr.specs.Find.{IsFirstByte, is_byte}
@@ -7,8 +7,8 @@ use Rattle.iss_model.specs.declared.limits.TheConstants.{MOST_INPUT}
 use Rattle.iss_top.specs.declared.reader.AtHand.{AtHand}
 use Rattle.iss_top.specs.Lines.{kept_with}
 use Rattle.iss_top.specs.Reader.{ReaderNow, Advances, slice_of, line_at_hand, may_come, fresh_reader}
-use Rattle.iss_top.specs.Pieces.{ArePieces, AreFresh, unread_of}
-use Rattle.iss_top.specs.AtHand.{IsAtHand, EndsLine, line_of, line_with, now_of}
+use Rattle.iss_top.specs.Pieces.{AreFresh, unread_of}
+use Rattle.iss_top.specs.AtHand.{EndsLine, line_of, now_of}
 use Rattle.iss_top.proofs.ToldAs.{length-line, length-kept_run}
 
 -- ---- slices

@@ -1,16 +1,15 @@
 -- Reading on to the next line, piece by piece.
-use Rattle.std.proofs.Common.{◌≡◌, inl, inr, ℕ, ◌+◌, ◌-◌, ◌≤◌, Bool, true, false, List, [], ◌∷◌, ◌++◌, length, take, drop, fold, Some, refl, sym, ap, subst, ◌∙◌, append-nil, append_assoc, arith, length-append}
+use Rattle.std.proofs.Common.{◌≡◌, inl, inr, ℕ, ◌+◌, ◌-◌, ◌≤◌, true, false, List, [], ◌∷◌, ◌++◌, length, take, drop, fold, Some, refl, sym, ap, subst, ◌∙◌, append-nil, append_assoc, arith, length-append}
 use Rattle.std.proofs.Math.Seq.{take-append-add}
 use Rattle.std.proofs.lemmas.List.Sums.{fold-append}
 use Rattle.memchr.specs.Find.{IsFirstByte, is_byte}
 use Rattle.iss_edge.specs.World.{World}
-use Rattle.iss_edge.specs.Calls.{Same}
 use Rattle.iss_edge.proofs.Tolds.{same_self}
 use Rattle.iss_model.specs.declared.limits.TheConstants.{MOST_INPUT}
 use Rattle.iss_top.specs.declared.stop.Stop.{Stop}
 use Rattle.iss_top.specs.declared.stop.Stop.TheVariants as stop
 use Rattle.iss_top.specs.Lines.{has_line_feed, kept_with}
-use Rattle.iss_top.specs.Reader.{ReaderNow, TakesIn, OnlyTakesIn, IsToldAs, ReadsPart, ReadsNoPart}
+use Rattle.iss_top.specs.Reader.{ReaderNow, OnlyTakesIn, IsToldAs, ReadsPart, ReadsNoPart}
 use Rattle.iss_top.specs.Pieces.{TakesNoMore}
 use Rattle.iss_top.specs.AtHand.{line_with}
 use Rattle.iss_top.proofs.Finding.{found_before, found_around}

@@ -13,7 +13,7 @@ use Rattle.iss_top.specs.declared.stop.Stop.TheVariants as stop
 use Rattle.iss_top.specs.Lines.{is_blank, parts_of, all_but_last}
 use Rattle.iss_top.specs.Dry.{reading_of, each_bytes, reply_of_line, texts_of_lines, dry_texts}
 use Rattle.iss_top.specs.Progress.{line_texts, line_next, lines_texts, lines_next, HasRead, IsOnItsWay}
-use Rattle.iss_top.specs.Reader.{ReaderNow, TakesIn, IsToldAs, ReadsPart, ReadsNoPart, ReadsOn, fresh_reader}
+use Rattle.iss_top.specs.Reader.{ReaderNow, TakesIn, IsToldAs, ReadsNoPart, ReadsOn, fresh_reader}
 use Rattle.iss_top.specs.Runs.{EmitsTexts, Ran}
 use Rattle.iss_top.proofs.Parts.{AreFirstParts, has_read_begins, has_read_next, has_read_on, parts_first, parts_over, parts_stopped}
 use Rattle.iss_top.proofs.ToldAs.{same_texts, same_next}

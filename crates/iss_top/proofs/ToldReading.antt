@@ -1,5 +1,5 @@
 -- The same of what an edge tells: taking pieces, and reading on to the next line.
-use Rattle.std.proofs.Common.{◌≡◌, ℕ, ◌+◌, ◌<◌, ◌≤◌, Bool, true, false, List, [], length, take, drop, fold, Option, Some, refl, ap, subst, ◌∙◌, arith}
+use Rattle.std.proofs.Common.{◌≡◌, ℕ, ◌+◌, ◌<◌, ◌≤◌, Bool, true, false, List, [], length, fold, Option, Some, refl, ◌∙◌}
 use Rattle.memchr.specs.Find.{IsFirstByte, is_byte}
 use Rattle.iss_edge.specs.World.{World, Told}
 use Rattle.iss_edge.specs.Calls.{Same, Takes}
@@ -10,9 +10,9 @@ use Rattle.iss_top.specs.declared.stop.Stop.TheVariants as stop
 use Rattle.iss_top.specs.declared.piece.Pieces.{Pieces}
 use Rattle.iss_top.specs.declared.reader.AtHand.{AtHand}
 use Rattle.iss_top.specs.Lines.{has_line_feed, kept_with}
-use Rattle.iss_top.specs.Reader.{ReaderNow, ReadsPart, ReadsNoPart, ReadsOn, Advances}
+use Rattle.iss_top.specs.Reader.{ReaderNow, ReadsNoPart, ReadsOn}
 use Rattle.iss_top.specs.Pieces.{TakesMore, TakesNoMore, unread_of}
-use Rattle.iss_top.specs.AtHand.{EndsLine, now_of, line_with}
+use Rattle.iss_top.specs.AtHand.{EndsLine, now_of}
 use Rattle.iss_top.proofs.Takes.{takes_more, no_more, too_long}
 use Rattle.iss_top.proofs.Reading.{ReadSoFar, so_far_begins, so_far_more, part_ends, part_is_last, part_stops, part_unkept}
 

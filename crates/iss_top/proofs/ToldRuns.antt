@@ -1,7 +1,7 @@
 -- The same of what an edge tells: a dry run's way, and each of its ends.
-use Rattle.std.proofs.Common.{◌≡◌, ◌⊎◌, inl, inr, ℕ, ◌+◌, ◌*◌, ◌≤◌, ◌<◌, true, false, List, length, Option, Err, refl, sym, ap, subst, ◌∙◌, arith}
+use Rattle.std.proofs.Common.{◌≡◌, ◌⊎◌, inl, inr, ℕ, ◌+◌, ◌-◌, ◌*◌, ◌≤◌, ◌<◌, true, false, List, length, Option, Err, refl, ap, arith}
 use Rattle.iss_edge.specs.World.{World, Told, Faults}
-use Rattle.iss_edge.proofs.Tolds.{told_map, told_then, told_self}
+use Rattle.iss_edge.proofs.Tolds.{told_then, told_self}
 use Rattle.iss_model.specs.declared.limits.TheConstants.{MOST_INPUT}
 use Rattle.iss_model.specs.state.Cores.{CoreState, no_core}
 use Rattle.iss_texts.specs.Sending.{Says, SaysSome}
@@ -91,3 +91,15 @@ pub room_goes_on : (s s' : CoreState) (before now : ReaderNow) (line : List ℕ)
 room_goes_on s s' before now line is next room more =
     let size : length line ≡ length now.line = ap (λ (l : List ℕ). length l) is in
     rw next (omega (arith, room_for_line s before now room more, next_room s line, size))
+
+-- nothing was taken and nothing made
+pub room_begins : (s : CoreState) (now : ReaderNow) → now ≡ fresh_reader → s ≡ no_core → HasRoom s now
+room_begins s now fresh none = rw (fresh, none) (omega arith)
+
+pub limit_begins : (now : ReaderNow) → now ≡ fresh_reader → now.taken ≤ MOST_INPUT
+limit_begins now fresh = rw fresh (omega arith)
+
+-- each line leaves less to come
+pub less_to_come : (before now : ReaderNow) → before.taken ≤ MOST_INPUT → Advances before now
+    → MOST_INPUT - now.taken + length now.unread + may_come now < MOST_INPUT - before.taken + length before.unread + may_come before
+less_to_come before now limit more = omega (arith, limit, more.limit, more.room, going_on before more.going)

@@ -1,5 +1,5 @@
 -- What a reader of lines has at hand, and how a line ends in the piece.
-use Rattle.std.specs.Prelude.{◌≡◌, ℕ, ◌+◌, ◌≤◌, ◌==◌, Bool, List, [], length, take, drop, fold, if◌then◌else◌}
+use Rattle.std.specs.Prelude.{◌≡◌, ℕ, ◌+◌, ◌≤◌, ◌==◌, List, length, take, drop, fold, if◌then◌else◌}
 use Rattle.iss_top.specs.declared.piece.TheConstants.{PIECE}
 use Rattle.iss_top.specs.declared.reader.AtHand.{AtHand}
 use Rattle.iss_top.specs.Lines.{kept_with}

@@ -1,5 +1,5 @@
 //! The lines of the input, one after the other.
-ghost use Rattle.std.specs.Prelude.{◌≡◌, ◌+◌, ◌<◌, [], true, IfOk, IfErr, OnOk};
+ghost use Rattle.std.specs.Prelude.{◌≡◌, ◌+◌, ◌<◌, true, IfOk, IfErr, OnOk};
 ghost use Rattle.iss_edge.specs.World.{Told};
 ghost use Rattle.iss_top.specs.Reader.{ReadsOn, ReadsNoPart, IsReading, Advances, fresh_reader};
 ghost use Rattle.iss_top.specs.AtHand.{IsAtHand, EndsLine, now_of, line_of};

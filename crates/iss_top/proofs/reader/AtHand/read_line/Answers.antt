@@ -1,9 +1,9 @@
-use Rattle.std.proofs.Common.{◌≡◌, ℕ, List, false, Some, Err, length, fold, refl, ap, subst, ◌∙◌, arith, rules}
+use Rattle.std.proofs.Common.{◌≡◌, ℕ, List, true, false, Some, Err, length, fold, refl, ap, subst, ◌∙◌, arith, rules}
 use Rattle.memchr.specs.Find.{IsFirstByte, is_byte}
-use Rattle.iss_edge.specs.World.{Told}
 use Rattle.iss_edge.proofs.Tolds.{later_self, later_then}
+use Rattle.iss_top.specs.declared.reader.AtHand.{AtHand}
 use Rattle.iss_top.specs.Lines.{has_line_feed, kept_with}
-use Rattle.iss_top.specs.Pieces.{TakesMore, unread_of}
+use Rattle.iss_top.specs.Pieces.{unread_of}
 use Rattle.iss_top.specs.AtHand.{now_of}
 use Rattle.iss_top.proofs.Finding.{found_none}
 use Rattle.iss_top.proofs.Hands.{line_advances, last_advances, line_is_kept, room_so_far}
@@ -63,8 +63,9 @@ pub returns-then-not-branch-clause-advances : goal.returns-then-not-branch-claus
 returns-then-not-branch-clause-advances g c =
     let p = c.pieces.self.pieces in
     let q = c.take_more.new.self in
+    let n : AtHand = record { pieces = q; start = c.pieces.self.start; end = c.pieces.self.end; kept = c.extend.new.self; ended = true } in
     λ more.
-    last_advances (now_of c.args.self.now) _ c.if-self.false c.in_ok-take_more.ensures.fit.limit c.pieces.invariant.start c.pieces.invariant.end refl
+    last_advances (now_of c.args.self.now) n c.if-self.false c.in_ok-take_more.ensures.fit.limit c.pieces.invariant.start c.pieces.invariant.end refl
     (room_so_far c.pieces.self.kept c.extend.new.self (unread_of p) (unread_of q) (length (unread_of c.args.self.now.pieces)) c.args.self.now.pieces.taken p.taken q.taken
     (c.in_ok-extend.ensures ∙ ap (fold kept_with c.pieces.self.kept) c.unread-in-pieces.ensures) c.in_ok-take_more.ensures.count c.pieces.invariant.room)
 
