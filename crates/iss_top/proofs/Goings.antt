@@ -1,5 +1,5 @@
 -- Parts of a run on a device, one after the other, and those that only say something.
-use Rattle.std.proofs.Common.{◌≡◌, ℕ, ◌+◌, ◌≤◌, ◌⊎◌, ◌&&◌, inl, inr, Bool, true, List, [], ◌∷◌, ◌++◌, length, map, refl, sym, ap, subst, ◌∙◌, append-nil, append_assoc, arith, length-append}
+use Rattle.std.proofs.Common.{◌≡◌, ℕ, ◌≤◌, ◌⊎◌, ◌&&◌, inl, inr, Bool, true, List, [], ◌∷◌, ◌++◌, length, map, refl, sym, ap, subst, ◌∙◌, append-nil, append_assoc, arith, length-append}
 use Rattle.std.specs.List.{filter, list_all}
 use Rattle.std.proofs.lemmas.List.{map-append}
 use Rattle.std.proofs.lemmas.List.Elements.{filter-append}
@@ -121,13 +121,14 @@ goes_then_part s rs rs' rs'' t u a b c f g =
           subst (λ (l : List (List ℕ)). GoOut l (outputs_of (actions_of (f.steps ++ g.steps)))) (sym bytes)
           (subst (λ (l : List Action). GoOut (each_bytes t ++ each_bytes u) l) (sym done)
           (out_then (each_bytes t) (each_bytes u) (outputs_of (actions_of g.steps)) g.out));
-      levels =
-          (g.levels.0,
-          map-append (λ (text : Text). text.level) t u
-          ∙ ap (λ (l : List ℕ). levels_of t ++ l) g.levels.1
-          ∙ sym (append_assoc (levels_of t) (output_levels g.steps) g.levels.0)
-          ∙ ap (λ (l : List ℕ). l ++ g.levels.0)
-          (sym (levels_append f.steps g.steps ∙ ap (λ (l : List ℕ). l ++ output_levels g.steps) f.levels)));
+      levels = (
+        g.levels.0,
+        map-append (λ (text : Text). text.level) t u
+            ∙ ap (λ (l : List ℕ). levels_of t ++ l) g.levels.1
+            ∙ sym (append_assoc (levels_of t) (output_levels g.steps) g.levels.0)
+            ∙ ap (λ (l : List ℕ). l ++ g.levels.0)
+            (sym (levels_append f.steps g.steps ∙ ap (λ (l : List ℕ). l ++ output_levels g.steps) f.levels)),
+      );
       good =
           λ all first.
           join (RestsAt s all) (StandsAt s all) (RestsAt s all) (length rs) (length rs') (length rs'') f.steps g.steps
@@ -233,10 +234,11 @@ levels_last : (n : ℕ) (rest : List (List ℕ)) (last : List Action) → (last 
 levels_last n rest last ended =
     elim ended [
       | inl none ↦ (levels_of (at_level n rest), ap (λ (l : List Action). output_levels (with_levels n l) ++ levels_of (at_level n rest)) (sym none))
-      | inr fails ↦
-          (levels_of (at_level n fails.others),
-          ap (λ (l : List (List ℕ)). levels_of (at_level n l)) fails.first
-          ∙ ap (λ (l : List Action). output_levels (with_levels n l) ++ levels_of (at_level n fails.others)) (sym fails.action))
+      | inr fails ↦ (
+        levels_of (at_level n fails.others),
+        ap (λ (l : List (List ℕ)). levels_of (at_level n l)) fails.first
+            ∙ ap (λ (l : List Action). output_levels (with_levels n l) ++ levels_of (at_level n fails.others)) (sym fails.action),
+      )
     ]
 
 levels_whole : (n : ℕ) (whole rest : List (List ℕ)) (last : List Action) → LevelsFirst n rest last → LevelsFirst n (whole ++ rest) (emits whole ++ last)
@@ -247,11 +249,12 @@ levels_whole n (text ∷ whole) rest last h =
 
 levels_out : (n : ℕ) (texts : List (List ℕ)) (actions : List Action) → GoOut texts actions → LevelsFirst n texts actions
 levels_out n texts actions out =
-    let h = levels_whole n out.whole out.rest out.last (levels_last n out.rest out.last out.ended) in
-    (h.0,
-    ap (λ (l : List (List ℕ)). levels_of (at_level n l)) out.cut
-    ∙ h.1
-    ∙ ap (λ (l : List Action). output_levels (with_levels n l) ++ h.0) (sym out.done))
+    let h = levels_whole n out.whole out.rest out.last (levels_last n out.rest out.last out.ended) in (
+      h.0,
+      ap (λ (l : List (List ℕ)). levels_of (at_level n l)) out.cut
+          ∙ h.1
+          ∙ ap (λ (l : List Action). output_levels (with_levels n l) ++ h.0) (sym out.done),
+    )
 
 pub says_goes_part : (s : StoreNow) (rs : List Record) (texts : List (List ℕ)) (a b : World) → SaysSome texts a b → GoesPart s rs rs (at_level (length rs) texts) a b
 says_goes_part s rs texts a b says =
@@ -308,11 +311,12 @@ part_more s rs rs' t u a b f =
       out =
           subst (λ (l : List (List ℕ)). GoOut l (outputs_of (actions_of f.steps))) (sym (map-append (λ (text : Text). text.bytes) t u))
           (out_more (each_bytes t) (each_bytes u) (outputs_of (actions_of f.steps)) f.out);
-      levels =
-          (f.levels.0 ++ levels_of u,
-          map-append (λ (text : Text). text.level) t u
-          ∙ ap (λ (l : List ℕ). l ++ levels_of u) f.levels.1
-          ∙ append_assoc (output_levels f.steps) f.levels.0 (levels_of u));
+      levels = (
+        f.levels.0 ++ levels_of u,
+        map-append (λ (text : Text). text.level) t u
+            ∙ ap (λ (l : List ℕ). l ++ levels_of u) f.levels.1
+            ∙ append_assoc (output_levels f.steps) f.levels.0 (levels_of u),
+      );
       good = f.good;
       kinds = f.kinds;
     }

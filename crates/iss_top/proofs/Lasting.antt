@@ -1,10 +1,9 @@
 -- A record is made to last, and then what it says goes out.
-use Rattle.std.proofs.Common.{◌≡◌, ℕ, ◌+◌, Bool, true, false, cond, List, [], ◌∷◌, ◌++◌, length, map, take, Option, Ok, Err, inl, refl, sym, ap, subst, ◌∙◌, append_assoc, length-append}
+use Rattle.std.proofs.Common.{◌≡◌, ℕ, ◌+◌, List, [], ◌∷◌, ◌++◌, length, map, take, Option, Ok, Err, inl, refl, sym, ap, subst, ◌∙◌, append_assoc, length-append}
 use Rattle.std.specs.Prelude.{Result, OnErr}
 use Rattle.std.specs.List.{list_all}
 use Rattle.std.proofs.Math.Seq.{take-append_seam}
 use Rattle.iss_edge.specs.declared.outside.Action.{Action}
-use Rattle.iss_edge.specs.declared.outside.Action.TheVariants.{Write, Sync}
 use Rattle.iss_edge.specs.World.{World, Told}
 use Rattle.iss_edge.specs.Puts.{Put, actions_of_puts, Ran}
 use Rattle.iss_edge.specs.Stretches.{actions_of, GoesOn, IsGood, with_levels}
@@ -25,7 +24,7 @@ use Rattle.iss_store.specs.Committing.{ComesNext, Commits, CommitsOnBook, Commit
 use Rattle.iss_store.specs.Saying.{texts_of_record}
 use Rattle.iss_texts.specs.Sending.{GoOut, Says, SaysSome}
 use Rattle.iss_top.specs.Dry.{each_bytes}
-use Rattle.iss_top.specs.Replaying.{run_at, outputs_of, is_of_run, output_levels, levels_of, AreFirstOf, Goes, GoesPart, IsSameDevice, TakesAs, TakesPartAs, response_to_plan}
+use Rattle.iss_top.specs.Replaying.{run_at, outputs_of, is_of_run, output_levels, levels_of, AreFirstOf, Goes, GoesPart, TakesAs, TakesPartAs, response_to_plan}
 use Rattle.iss_top.proofs.Goings.{AreOfRun, first_self, goes_then, goes_then_part, says_goes, says_goes_part}
 
 -- ---- what a commit does sends nothing
@@ -195,11 +194,12 @@ kept s s' p d a b c done going says =
       same = record { instance = done.commits.stepped.kept; to = ap (λ (place : Place). place.to) done.commits.place };
       on_book = λ rs stands.
           let book = done.on_book rs stands in
-          let after = with_record rs p.accepted in
-          (subst (λ (l : List Record). StandsFor s' l) (sym (planned_records s p rs)) book.stands,
-          as_planned s s' p d rs (λ (l : List Record) (t : List Text). Goes s rs l t a c) done.commits.stepped.kept book.said
-          (goes_then s rs after after [] (at_level (length after) (texts_of_record s' d)) a b c
-          (commit_goes s rs p.accepted a b stands going) (says_goes s after (texts_of_record s' d) b c says)));
+          let after = with_record rs p.accepted in (
+            subst (λ (l : List Record). StandsFor s' l) (sym (planned_records s p rs)) book.stands,
+            as_planned s s' p d rs (λ (l : List Record) (t : List Text). Goes s rs l t a c) done.commits.stepped.kept book.said
+                (goes_then s rs after after [] (at_level (length after) (texts_of_record s' d)) a b c
+                (commit_goes s rs p.accepted a b stands going) (says_goes s after (texts_of_record s' d) b c says)),
+          );
     }
 
 kept_part : (s s' : StoreNow) (p : Plan) (d : DurableNow) (a b c : World) → Committed s p s' d → CommitsGoing s p.accepted a b → SaysSome (texts_of_record s' d) b c → TakesPartAs (response_to_plan p) s a c

@@ -26,4 +26,3 @@ pub mod ToldReplays
 pub mod Lasting
 pub mod Taken
 pub mod TakenLines
-pub mod TakingCauses

@@ -1,12 +1,11 @@
 -- An input is taken: what judging comes to on a store is what a run on its records makes of it.
-use Rattle.std.proofs.Common.{◌≡◌, ℕ, Bool, true, false, cond, ◌||◌, max, List, [], ◌∷◌, ◌++◌, length, map, fold, Option, Some, None, Ok, Err, refl, sym, ap, subst, ◌∙◌, append-nil}
+use Rattle.std.proofs.Common.{◌≡◌, ℕ, Bool, true, false, cond, ◌||◌, max, List, [], ◌∷◌, ◌++◌, length, map, Option, Some, None, Ok, Err, refl, sym, ap, subst, ◌∙◌, append-nil}
 use Rattle.std.specs.Prelude.{Result, unwrap_or}
 use Rattle.std.proofs.lemmas.List.{map-append}
 use Rattle.std.proofs.lemmas.List.Sums.{fold-append}
 use Rattle.iss_edge.specs.World.{World, Told}
 use Rattle.iss_edge.proofs.Tolds.{told_map, told_then, told_self}
 use Rattle.iss_model.specs.declared.decision.Answer.{Answer}
-use Rattle.iss_model.specs.declared.decision.Answer.TheVariants as answer
 use Rattle.iss_model.specs.declared.decision.Judged.{Judged}
 use Rattle.iss_model.specs.declared.decision.Judged.TheVariants as judged
 use Rattle.iss_model.specs.declared.input.Input.{Input}
@@ -20,7 +19,7 @@ use Rattle.iss_model.specs.rules.Judging.{refusal, is_ack, judgement_as, judge}
 use Rattle.iss_model.specs.rules.Histories.{History, nothing_yet, history_keeper, history_of}
 use Rattle.iss_model.specs.state.Cores.{core_keeper}
 use Rattle.iss_model.specs.run.Sayings.{Said, reaction_to_record, reaction_as, said_of_time, answer_left}
-use Rattle.iss_model.specs.run.Rooms.{Room, fits, where_it_fits, judgement_within, record_made, room_left}
+use Rattle.iss_model.specs.run.Rooms.{Room, fits, where_it_fits, judgement_within, room_left}
 use Rattle.iss_model.specs.run.Runs.{Run, Response, judgement_in, response_as, response}
 use Rattle.iss_model.specs.run.Transcripts.{Reading, sound, faulty, Text, at_level, said_text_at}
 use Rattle.iss_agreement.proofs.Records.{records_history, step_records}
@@ -33,7 +32,7 @@ use Rattle.iss_store.specs.Planning.{judged_as, Plans}
 use Rattle.iss_texts.specs.Sending.{Says, SaysSome}
 use Rattle.iss_top.specs.Replaying.{run_at, AreFirstOf, Goes, GoesPart, IsSameDevice, TakesAs, TakesPartAs, response_to_plan, texts_left}
 use Rattle.iss_top.proofs.Goings.{first_self, goes_then, goes_then_part, says_goes, says_goes_part, part_more, part_nothing}
-use Rattle.iss_top.proofs.Lasting.{with_record, planned_records}
+use Rattle.iss_top.proofs.Lasting.{planned_records}
 
 -- ---- what is judged new is the input itself
 
@@ -241,10 +240,11 @@ clock_takes s s' i at stamp p a b c is clock plans takes says =
           let after = told.run.history.records in
           let left = at_level (length after) (texts_left s' i stamp) in
           subst (λ (r : Response). StandsFor s' r.run.history.records × Goes s rs r.run.history.records r.texts a c)
-          (sym (planned_clock s i at stamp p rs is clock (plans rs stands)))
-          (first.0,
-          subst (λ (t : List Text). Goes s rs after t a c) (sym (clock_texts s s' p i stamp rs clock takes.same first.0))
-          (goes_then s rs after after told.texts left a b c first.1 (says_goes s after (texts_left s' i stamp) b c says)));
+          (sym (planned_clock s i at stamp p rs is clock (plans rs stands))) (
+            first.0,
+            subst (λ (t : List Text). Goes s rs after t a c) (sym (clock_texts s s' p i stamp rs clock takes.same first.0))
+                (goes_then s rs after after told.texts left a b c first.1 (says_goes s after (texts_left s' i stamp) b c says)),
+          );
     }
 
 clock_takes_part : (s s' : StoreNow) (i : Input) (at : Option ℕ) (stamp : ℕ) (p : Plan) (a b c : World) → stamp ≡ unwrap_or at 0 → p.is_clock ≡ true → PlansOn s i stamp (Ok p)

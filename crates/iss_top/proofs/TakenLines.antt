@@ -1,11 +1,10 @@
 -- A line is taken: nothing where it is blank, and else what it is read as.
-use Rattle.std.proofs.Common.{◌≡◌, ℕ, Bool, true, false, cond, List, [], ◌∷◌, length, Option, Ok, Err, refl, sym, ap, subst, ◌∙◌}
+use Rattle.std.proofs.Common.{◌≡◌, ℕ, Bool, true, false, cond, List, [], ◌∷◌, Option, Ok, Err, refl, sym, ap, subst, ◌∙◌}
 use Rattle.iss_edge.specs.World.{World, Told}
 use Rattle.iss_edge.proofs.Tolds.{told_map, told_self}
 use Rattle.iss_model.specs.declared.input.Record.{Record}
-use Rattle.iss_model.specs.rules.Histories.{history_of}
 use Rattle.iss_model.specs.run.Runs.{Run, Response, response}
-use Rattle.iss_model.specs.run.Transcripts.{Reading, sound, faulty, at_level}
+use Rattle.iss_model.specs.run.Transcripts.{Reading, sound, faulty}
 use Rattle.iss_agreement.proofs.Records.{records_history}
 use Rattle.iss_event.specs.declared.line.Line.{Line}
 use Rattle.iss_event.specs.declared.line.Mode.TheVariants.{Lines}

@@ -1,0 +1,46 @@
+use Rattle.std.proofs.Common.{sym, ◌∙◌}
+use Rattle.std.proofs.lemmas.Result.{IfOk-weaker, on_err_weaker}
+use Rattle.iss_edge.specs.World.{Told}
+use Rattle.iss_top.specs.Replaying.{TakesPartAs}
+use Rattle.iss_top.proofs.Lasting.{anyway}
+use Rattle.iss_top.proofs.TakenLines.{line_told, told_blank_line, told_fault_line, told_fault_part, told_read_line, told_read_part, told_no_line}
+use Rattle.iss_top.proofs.taking.take_line.Goals as goal
+
+pub returns-then-is_blank-clause-taken : goal.returns-then-is_blank-clause-taken
+returns-then-is_blank-clause-taken g c =
+    told_blank_line c.args.line.now c.args.store (g.E.Edge.told c.args.edge.now) (sym c.is_blank.ensures ∙ c.if-is_blank.true)
+
+pub returns-in_err-tell_fault-in-Err-Form-clause-part : goal.returns-in_err-tell_fault-in-Err-Form-clause-part
+returns-in_err-tell_fault-in-Err-Form-clause-part g c =
+    anyway c.from_residual.result
+    (Told (TakesPartAs (line_told c.args.line.now) c.args.store) (g.E.Edge.told c.args.edge.now) (g.E.Edge.told c.tell_fault.new.edge))
+    (told_fault_part c.args.line.now c.in-Err-Form.fault c.args.store (g.E.Edge.told c.args.edge.now) (g.E.Edge.told c.tell_fault.new.edge)
+    (sym c.is_blank.ensures ∙ c.if-is_blank.false)
+    (rw c.in-Err-Form.field-0-is at c.in-Err-Form.ensures.read)
+    (rw c.in-Err-Form.field-0-is at c.in_err-tell_fault-in-Err-Form.ensures.part))
+
+pub returns-in-Ok-clause-taken : goal.returns-in-Ok-clause-taken
+returns-in-Ok-clause-taken g c =
+    IfOk-weaker c.take_input.result _ _
+    (λ next takes.
+    told_read_line c.args.line.now c.in-Ok.said c.args.store next (g.E.Edge.told c.args.edge.now) (g.E.Edge.told c.take_input.new.edge)
+    (sym c.is_blank.ensures ∙ c.if-is_blank.false) c.in-Ok.ensures.read takes)
+    c.take_input.ensures.taken
+
+pub returns-in-Ok-clause-part : goal.returns-in-Ok-clause-part
+returns-in-Ok-clause-part g c =
+    on_err_weaker c.take_input.result
+    (told_read_part c.args.line.now c.in-Ok.said c.args.store (g.E.Edge.told c.args.edge.now) (g.E.Edge.told c.take_input.new.edge)
+    (sym c.is_blank.ensures ∙ c.if-is_blank.false) c.in-Ok.ensures.read)
+    c.take_input.ensures.part
+
+pub returns-in_ok-tell_fault-in-Err-Form-clause-taken : goal.returns-in_ok-tell_fault-in-Err-Form-clause-taken
+returns-in_ok-tell_fault-in-Err-Form-clause-taken g c =
+    told_fault_line c.args.line.now c.in-Err-Form.fault c.args.store (g.E.Edge.told c.args.edge.now) (g.E.Edge.told c.tell_fault.new.edge)
+    (sym c.is_blank.ensures ∙ c.if-is_blank.false)
+    (rw c.in-Err-Form.field-0-is at c.in-Err-Form.ensures.read)
+    (rw c.in-Err-Form.field-0-is at c.in_ok-tell_fault-in-Err-Form.ensures.told)
+
+pub returns-in-Err-OutOfMemory-clause-part : goal.returns-in-Err-OutOfMemory-clause-part
+returns-in-Err-OutOfMemory-clause-part g c =
+    told_no_line c.args.line.now c.args.store (g.E.Edge.told c.args.edge.now)
