@@ -35,9 +35,9 @@ ran_on_device puts [] ran = tt
 ran_on_device [] (action ∷ more) ran = absurd ran
 ran_on_device (put ∷ puts) (write ∷ []) ran = (action_on_device write (Write put.at put.bytes ran.0) ran.1 refl, tt)
 ran_on_device (put ∷ puts) (write ∷ sync ∷ []) ran =
-    (action_on_device write (Write put.at put.bytes true) ran.1.0 refl, (action_on_device sync (Sync ran.0) ran.1.1 refl, tt))
+    (action_on_device write (Write put.at put.bytes true) ran.1 refl, (action_on_device sync (Sync ran.0) ran.2 refl, tt))
 ran_on_device (put ∷ puts) (write ∷ sync ∷ action ∷ more) ran =
-    (action_on_device write (Write put.at put.bytes true) ran.0 refl, (action_on_device sync (Sync true) ran.1.0 refl, ran_on_device puts (action ∷ more) ran.1.1))
+    (action_on_device write (Write put.at put.bytes true) ran.0 refl, (action_on_device sync (Sync true) ran.1 refl, ran_on_device puts (action ∷ more) ran.2))
 
 -- ---- nothing but a sync was done
 
