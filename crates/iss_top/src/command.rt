@@ -28,7 +28,7 @@ const USAGE: u8 = 2;
 /// The statuses are 0 for a run that came to its end, 2 for words that are no command, 3 where the input failed, 4 where the
 /// device has another size or stands for no records, 5 where the output failed, 6 where a call on the device failed, 7 where an
 /// allocation failed, and 8 where the input has more than 4294967296 bytes.
-#[tactic(auto, using(crate::proofs::RunBytes::told_run))]
+#[tactic(auto, using(crate::proofs::RunBytes::told_run, crate::proofs::RunBytes::told_emits, crate::proofs::RunBytes::told_stops, crate::proofs::Commands::told_ends_well, crate::proofs::ToldReplays::told_replay_ends_well, crate::proofs::Continues::transcripts_continue))]
 pub fn run<E: Edge>(alloc: Global, words: &[String], edge: &mut E) -> u8
     // No other status, by the words.
     ensures known { IsTrue (list_any (λ status. result == status) (statuses (command_of_words (map string_bytes words.now)))) }
