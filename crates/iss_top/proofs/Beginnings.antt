@@ -1,11 +1,10 @@
 -- How a run on a device begins: the device is opened, and what waits for the gateway is said.
 use Rattle.std.proofs.Common.{◌≡◌, ℕ, inl, inr, Bool, true, false, cond, ◌&&◌, List, [], ◌∷◌, ◌++◌, length, map, take, refl, sym, ap, subst, ◌∙◌}
-use Rattle.std.specs.Prelude.{◌⊎◌}
 use Rattle.std.specs.List.{filter, list_all}
 use Rattle.iss_edge.specs.declared.outside.Action.{Action}
 use Rattle.iss_edge.specs.declared.outside.Action.TheVariants.{Write, Sync, Emit, Dial, Close}
 use Rattle.iss_edge.specs.World.{World}
-use Rattle.iss_edge.specs.Stretches.{Step, actions_of, with_levels}
+use Rattle.iss_edge.specs.Stretches.{Step, with_levels}
 use Rattle.iss_model.specs.declared.input.Record.{Record}
 use Rattle.iss_model.specs.declared.limits.TheConstants.{MOST_INPUT}
 use Rattle.iss_model.specs.run.Transcripts.{Text, at_level}

@@ -1,6 +1,6 @@
 -- A run on a device from its opening to each of its ends, line by line.
-use Rattle.std.proofs.Common.{◌≡◌, ℕ, ◌+◌, ◌≤◌, inl, inr, true, false, List, [], ◌∷◌, ◌++◌, length, take, Err, refl, sym, ap, subst, ◌∙◌, arith}
-use Rattle.std.specs.Prelude.{◌⊎◌, ◌↔◌}
+use Rattle.std.proofs.Common.{◌≡◌, ℕ, ◌≤◌, inl, inr, false, List, [], ◌∷◌, ◌++◌, length, take, Err, refl, sym, ap, subst, ◌∙◌, arith}
+use Rattle.std.specs.Prelude.{◌⊎◌}
 use Rattle.iss_edge.specs.World.{World}
 use Rattle.iss_edge.specs.Stretches.{IsGood, GoesOn}
 use Rattle.iss_journal.specs.Region.{Region, RestsFirst, StandsFirst}

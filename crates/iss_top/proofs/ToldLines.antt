@@ -1,14 +1,13 @@
 -- What parts of the input are told in a row: what the readings of those that aren't blank are told.
-use Rattle.std.proofs.Common.{◌≡◌, ℕ, Bool, true, false, cond, not, List, [], ◌∷◌, ◌++◌, map, filter, fold, Some, refl, sym, ap, ◌∙◌, append-nil, append_assoc}
+use Rattle.std.proofs.Common.{◌≡◌, ℕ, Bool, true, false, cond, not, List, [], ◌∷◌, ◌++◌, map, filter, Some, refl, sym, ap, ◌∙◌, append-nil, append_assoc}
 use Rattle.iss_model.specs.declared.input.Record.{Record}
-use Rattle.iss_model.specs.rules.Stepping.{step}
 use Rattle.iss_model.specs.rules.Histories.{history_of}
-use Rattle.iss_model.specs.run.Transcripts.{Reading, Text, at_level}
+use Rattle.iss_model.specs.run.Transcripts.{Reading, Text}
 use Rattle.iss_model.specs.run.Runs.{Run, Response, response, line_texts, run_after, accepted_records, first_texts, transcript_of}
 use Rattle.iss_agreement.proofs.Records.{records_history}
 use Rattle.iss_agreement.proofs.RunLaws.{records_after}
-use Rattle.iss_store.specs.Values.{StoreNow, room_of}
-use Rattle.iss_top.specs.Lines.{is_blank, parts_of}
+use Rattle.iss_store.specs.Values.{StoreNow}
+use Rattle.iss_top.specs.Lines.{is_blank}
 use Rattle.iss_top.specs.Dry.{reading_of}
 use Rattle.iss_top.specs.Replaying.{run_at, told_line, told_lines, then_told, AreFirstOf, IsSameDevice}
 use Rattle.iss_top.specs.Replays.{run_on}

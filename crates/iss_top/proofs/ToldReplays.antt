@@ -1,5 +1,5 @@
 -- The same of what an edge tells: a run on a device at each of its ends.
-use Rattle.std.proofs.Common.{◌≡◌, ℕ, ◌+◌, ◌≤◌, inl, inr, List, [], ◌∷◌, ◌++◌, length, Option, Ok, Err, refl, sym, ap, ◌∙◌, append-nil, arith, length-append}
+use Rattle.std.proofs.Common.{◌≡◌, ℕ, ◌≤◌, inl, inr, List, [], length, Option, Ok, Err, refl, sym, ap, ◌∙◌, arith, length-append}
 use Rattle.std.specs.Prelude.{◌⊎◌, Result}
 use Rattle.iss_edge.specs.World.{World, Told, Faults, Later}
 use Rattle.iss_edge.proofs.Tolds.{told_map, told_then, later_then, rose_later}

@@ -1,14 +1,13 @@
 -- A run on a device from the device's side: what went out, what it stands for at the end, and what a stop leaves.
-use Rattle.std.proofs.Common.{◌≡◌, ℕ, ◌+◌, ◌≤◌, inl, inr, List, [], ◌∷◌, ◌++◌, length, map, take, filter, fold, not, true, refl, sym, ap, subst, ◌∙◌, append-nil, append_assoc, arith, length-append}
-use Rattle.std.specs.Prelude.{◌⊎◌, ◌↔◌}
+use Rattle.std.proofs.Common.{◌≡◌, ℕ, ◌+◌, ◌≤◌, inl, inr, List, [], ◌∷◌, ◌++◌, length, take, filter, fold, not, true, refl, sym, ap, subst, ◌∙◌, append-nil, append_assoc, arith, length-append}
+use Rattle.std.specs.Prelude.{◌↔◌}
 use Rattle.std.specs.List.{list_all}
 use Rattle.std.proofs.lemmas.List.{append_cancel_left, take-append-le, take_all}
 use Rattle.iss_edge.specs.declared.outside.Action.{Action}
 use Rattle.iss_edge.specs.World.{World}
 use Rattle.iss_edge.specs.Disk.{Disk, after_actions, IsAtRest, IsImage}
 use Rattle.iss_edge.specs.Stretches.{Step, actions_of, SentUpTo, ShowsUpTo, IsGood, GoesOn, with_levels}
-use Rattle.iss_edge.proofs.StretchLemmas.{EndsInFirst, EndsInSecond, front_of_two, actions_of-append, actions_of-leveled, after_both, sent_append, sent_weaker, sent_leveled, good_up}
-use Rattle.iss_journal.specs.Header.{HasInstance}
+use Rattle.iss_edge.proofs.StretchLemmas.{EndsInSecond, front_of_two, actions_of-append, actions_of-leveled, after_both, sent_append, sent_weaker, sent_leveled, good_up}
 use Rattle.iss_journal.specs.Region.{Region, ShowsFirmly, RestsFirst, StandsFirst}
 use Rattle.iss_journal.specs.Opening.{OpensFirst, OpenedOrOneMore}
 use Rattle.iss_model.specs.declared.input.Record.{Record}
@@ -16,18 +15,18 @@ use Rattle.iss_model.specs.declared.limits.TheConstants.{MOST_INPUT}
 use Rattle.iss_model.specs.rules.Stepping.{step}
 use Rattle.iss_model.specs.rules.Histories.{History, nothing_yet, history_keeper, IsLegalAfter, IsLegal}
 use Rattle.iss_model.specs.run.Transcripts.{Text}
-use Rattle.iss_model.specs.run.Runs.{Run, Response, accepted_records, transcript_of}
+use Rattle.iss_model.specs.run.Runs.{Run, accepted_records, transcript_of}
 use Rattle.iss_agreement.proofs.Records.{records_history}
 use Rattle.iss_agreement.proofs.RunLaws.{accepted_legal}
 use Rattle.iss_store.specs.Values.{StoreNow}
-use Rattle.iss_store.specs.Standing.{region_of, region_under, bodies_of, DeviceStandsFor, RestsAt, StandsAt}
+use Rattle.iss_store.specs.Standing.{region_of, region_under, bodies_of, DeviceStandsFor, RestsAt}
 use Rattle.iss_store.specs.Opening.{OpensStore, OpensGood, OpensGoing}
 use Rattle.iss_store.proofs.Regions.{take_bodies}
 use Rattle.iss_texts.specs.Sending.{emits, GoOut}
-use Rattle.iss_top.specs.Lines.{is_blank, parts_of, lines_of, ended_lines, all_but_last}
+use Rattle.iss_top.specs.Lines.{is_blank, parts_of, lines_of, all_but_last}
 use Rattle.iss_top.specs.Dry.{each_bytes}
 use Rattle.iss_top.specs.Reader.{TakesIn}
-use Rattle.iss_top.specs.Replaying.{run_at, is_of_run, outputs_of, output_levels, levels_of, AreFirstOf, GoesWhole, RunsAs}
+use Rattle.iss_top.specs.Replaying.{run_at, is_of_run, outputs_of, levels_of, AreFirstOf, GoesWhole, RunsAs}
 use Rattle.iss_top.specs.Replays.{run_on_device, texts_for, records_for, Replayed, ReplayOn, MomentStands, EveryMoment}
 use Rattle.iss_top.proofs.ToldLines.{readings_of, told_from_start, transcript_told, told_records}
 use Rattle.iss_top.proofs.Devices.{IsOpenedOn, opened_on, region_opened, run_opened, rests_stands}
