@@ -26,7 +26,7 @@ same_record r s is_r is_s e =
     let both : Some r ≡ Some s = sym (spelled_again r is_r) ∙ ap record_spelled e ∙ spelled_again s is_s in
     cc
 
-same_records : (xs ys : List Record) → list_all is_record xs ≡ true → list_all is_record ys ≡ true → bodies_of xs ≡ bodies_of ys → xs ≡ ys
+pub same_records : (xs ys : List Record) → list_all is_record xs ≡ true → list_all is_record ys ≡ true → bodies_of xs ≡ bodies_of ys → xs ≡ ys
 same_records [] [] is_x is_y e = refl
 same_records [] (y ∷ ys) is_x is_y e = absurd cc
 same_records (x ∷ xs) [] is_x is_y e = absurd cc
@@ -88,7 +88,7 @@ follows_at h (x ∷ before) r after legal = follows_at (step history_keeper h x)
 -- ---- what was read of a device that stands for records
 
 -- with the same header it is the same journal
-same_journal : (i j size : ℕ) → header i ≡ header j → region_of i size ≡ region_of j size
+pub same_journal : (i j size : ℕ) → header i ≡ header j → region_of i size ≡ region_of j size
 same_journal i j size e = λ k. record { below = e k; to = size; size = size }
 
 module _ (instance : ℕ) (rs : List Record) (device : List ℕ) (stands : DeviceStandsFor instance rs device) where

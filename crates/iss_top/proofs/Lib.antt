@@ -16,6 +16,13 @@ pub mod Numbers
 pub mod Formatted
 pub mod Continues
 pub mod Goings
+pub mod ToldLines
+pub mod OnTheWay
+pub mod Devices
+pub mod Beginnings
+pub mod WholeRuns
+pub mod ToldWay
+pub mod ToldReplays
 pub mod Lasting
 pub mod Taken
 pub mod TakenLines

@@ -1,14 +1,13 @@
 -- What a run took and emitted, as the bytes that went out.
-use Rattle.std.proofs.Common.{◌≡◌, ℕ, inl, inr, Bool, true, ◌&&◌, List, [], ◌∷◌, ◌++◌, map, Option, refl, sym, ap, ◌∙◌, append-nil, append_assoc}
+use Rattle.std.proofs.Common.{◌≡◌, ℕ, inl, inr, Bool, true, ◌&&◌, List, [], ◌∷◌, ◌++◌, Option, refl, sym, ap, ◌∙◌, append-nil, append_assoc}
 use Rattle.std.specs.List.{concat, list_all}
 use Rattle.std.proofs.lemmas.List.Folds.{list_all-append}
 use Rattle.iss_edge.specs.declared.outside.Action.{Action}
-use Rattle.iss_edge.specs.declared.outside.Action.TheVariants.{Emit}
 use Rattle.iss_edge.specs.World.{World, Told, sent_on}
 use Rattle.iss_edge.proofs.Tolds.{told_map, sent_on-append}
 use Rattle.iss_model.specs.run.Transcripts.{Text, bytes_of}
-use Rattle.iss_top.specs.Dry.{each_bytes, dry_texts, dry_output}
-use Rattle.iss_top.specs.Progress.{is_output, Sends, Begins}
+use Rattle.iss_top.specs.Dry.{each_bytes, dry_texts}
+use Rattle.iss_top.specs.Progress.{is_output, Begins}
 use Rattle.iss_texts.specs.Sending.{emits, FailsAt, GoOut}
 use Rattle.iss_top.specs.Runs.{DryRun, EmitsTexts, StopsAtLines, Ran}
 use Rattle.iss_texts.proofs.Rows.{concat-append}

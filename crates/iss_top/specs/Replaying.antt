@@ -1,5 +1,5 @@
 -- A run on a device on its way: what each line is told on what stands, what was done for it, and what the rest of the input will be told.
-use Rattle.std.specs.Prelude.{◌≡◌, ℕ, ◌+◌, ◌≤◌, ◌==◌, ◌↔◌, ◌⊎◌, Bool, true, false, List, [], ◌∷◌, ◌++◌, length, map, filter, take, Option, Some, IsTrue, IfErr, Result, if◌then◌else◌}
+use Rattle.std.specs.Prelude.{◌≡◌, ℕ, ◌+◌, ◌≤◌, ◌==◌, ◌↔◌, ◌⊎◌, Bool, true, false, List, [], ◌∷◌, ◌++◌, length, map, filter, take, Some, IsTrue, IfErr, Result, if◌then◌else◌}
 use Rattle.std.specs.List.{list_all}
 use Rattle.iss_edge.specs.declared.outside.Action.{Action}
 use Rattle.iss_edge.specs.declared.outside.Action.TheVariants.{Write, Sync, Emit, Dial, Close}
@@ -14,7 +14,7 @@ use Rattle.iss_model.specs.state.Cores.{core_keeper}
 use Rattle.iss_model.specs.run.Rooms.{room_left}
 use Rattle.iss_model.specs.run.Runs.{Run, Response, response}
 use Rattle.iss_model.specs.run.Sayings.{reaction_to_record, said_of_time, answer_left}
-use Rattle.iss_model.specs.run.Transcripts.{Reading, Text, at_level, said_text_at}
+use Rattle.iss_model.specs.run.Transcripts.{Text, at_level, said_text_at}
 use Rattle.iss_store.specs.Values.{StoreNow, Plan, room_of}
 use Rattle.iss_store.specs.Standing.{StandsFor, RestsAt, StandsAt, AreHistory}
 use Rattle.iss_texts.specs.Sending.{emits, GoOut}

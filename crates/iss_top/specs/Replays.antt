@@ -1,5 +1,6 @@
 -- What a run on a device does, whatever status it ends with.
-use Rattle.std.specs.Prelude.{◌≡◌, ◌+◌, ℕ, ◌≤◌, ◌↔◌, ◌⊎◌, List, [], ◌∷◌, ◌++◌, length, map, take, Some}
+use Rattle.std.specs.Prelude.{◌≡◌, ◌+◌, ℕ, ◌≤◌, ◌↔◌, ◌⊎◌, List, [], ◌++◌, length, map, take, Some, IsTrue}
+use Rattle.std.specs.List.{list_all}
 use Rattle.iss_edge.specs.declared.outside.Action.{Action}
 use Rattle.iss_edge.specs.World.{World, Faults, Rose}
 use Rattle.iss_edge.specs.Stretches.{Step, actions_of, ShowsUpTo}
@@ -9,16 +10,16 @@ use Rattle.iss_journal.specs.Header.{IsUnformatted}
 use Rattle.iss_journal.specs.Opening.{OpensFirst, OpenedOrOneMore}
 use Rattle.iss_model.specs.declared.input.Record.{Record}
 use Rattle.iss_model.specs.declared.limits.TheConstants.{MOST_INPUT}
-use Rattle.iss_model.specs.rules.Histories.{history_of}
+use Rattle.iss_model.specs.rules.Histories.{history_of, IsLegal}
 use Rattle.iss_model.specs.run.Runs.{Run, transcript_of, line_texts, accepted_records}
 use Rattle.iss_model.specs.run.Transcripts.{Reading, Text}
 use Rattle.iss_store.specs.Standing.{region_of, bodies_of, DeviceStandsFor}
-use Rattle.iss_store.specs.Opening.{BadRecordAt, BadSpellingAt, BadHistoryAt}
+use Rattle.iss_store.specs.Opening.{BadRecordAt, BadSpellingAt, BadHistoryAt, AreOnDevice, ReadsAlone}
 use Rattle.iss_texts.specs.Sending.{emits, GoOut}
 use Rattle.iss_top.specs.Lines.{lines_of, ended_lines}
 use Rattle.iss_top.specs.Dry.{reading_of, each_bytes}
 use Rattle.iss_top.specs.Reader.{TakesIn}
-use Rattle.iss_top.specs.Replaying.{outputs_of, output_levels, levels_of}
+use Rattle.iss_top.specs.Replaying.{is_of_run, outputs_of, output_levels, levels_of}
 
 -- a run on a device of this instance and size that stands for these records
 abbrev pub run_on : ℕ → ℕ → List Record → Run
@@ -42,15 +43,16 @@ pub record Replayed (instance : ℕ) (rs : List Record) (lines : List (List ℕ)
   pub out : outputs_of actions ≡ emits (each_bytes (texts_for (run_on_device instance rs a.device) lines))
   pub stands : DeviceStandsFor instance (records_for (run_on_device instance rs a.device) rs lines) b.device
 
--- What a run with this status did on a device that stands for these records. What went out is the transcript of the input, text by text,
--- or a prefix of it. At 0 it is all of it, and the input was read to its end. At 3 and 8 it is that of exactly the lines that ended
--- within the bytes that were taken. Status 8 comes exactly where 4294967296 bytes were taken and another came. The device stands for
--- the records of the lines in each of these cases.
+-- What a run with this status did on a device that stands for these records. Nothing was done but on the device and on channel 0. What
+-- went out is the transcript of the input, text by text, or a prefix of it. At 0 it is all of it, and the input was read to its end. At 3
+-- and 8 it is that of exactly the lines that ended within the bytes that were taken. In each of these cases the device stands for the
+-- records of the lines. Status 8 comes exactly where 4294967296 bytes were taken and another came.
 pub record ReplayOn (status : ℕ) (instance : ℕ) (rs : List Record) (a b : World) : Type 0 where
   pub took : List ℕ
   pub takes : TakesIn took a b
   pub actions : List Action
   pub grew : b.trace ≡ a.trace ++ actions
+  pub kinds : IsTrue (list_all is_of_run actions)
   pub out : GoOut (each_bytes (texts_for (run_on_device instance rs a.device) (lines_of (a.left 0)))) (outputs_of actions)
   pub whole : status ≡ 0 → (b.left 0 ≡ []) × Replayed instance rs (lines_of (a.left 0)) actions a b
   pub stopped : (status ≡ 3) ⊎ (status ≡ 8) → Replayed instance rs (ended_lines (take MOST_INPUT took)) actions a b
@@ -67,19 +69,27 @@ abbrev pub IsNoStore : List ℕ → Type 0
 IsNoStore device =
     IsUnformatted device ⊎ ((gate : ℕ) × (BadRecordAt gate device ⊎ (BadSpellingAt gate device ⊎ BadHistoryAt gate device)))
 
--- no byte was taken, nothing was sent, and the device is as it was
-pub record Refused (a b : World) : Type 0 where
+-- no byte was taken, and nothing was done but on the device
+pub record OnDeviceAlone (a b : World) : Type 0 where
   pub left : b.left ≡ a.left
-  pub device : b.device ≡ a.device
   pub actions : List Action
   pub grew : b.trace ≡ a.trace ++ actions
-  pub silent : outputs_of actions ≡ []
+  pub on_device : AreOnDevice actions
 
--- Status 4 comes only where the device stands for no records by one of these faults, and nothing else comes then but a fault of the
--- disk or of memory. At 4 no byte was taken, nothing was sent, and the device is as it was.
+-- the device stands for some records
+pub record IsStore (device : List ℕ) : Type 0 where
+  pub instance : ℕ
+  pub rs : List Record
+  pub stands : DeviceStandsFor instance rs device
+
+-- Status 4 comes only where the device stands for no records by one of these faults; nothing was done then but maybe a sync, and the
+-- device reads as before. On such a device no other status comes but by a fault of the disk or of memory, and at any status no byte was
+-- taken, and nothing was sent. So any further status comes only on a device that stands for records.
 pub record RefusesExactly (status : ℕ) (a b : World) : Type 0 where
-  pub only : status ≡ 4 → IsNoStore a.device × Refused a b
+  pub only : status ≡ 4 → IsNoStore a.device × ReadsAlone a b
   pub there : IsNoStore a.device → (status ≡ 4) ⊎ ((status ≡ 6) ⊎ (status ≡ 7))
+  pub untouched : IsNoStore a.device → OnDeviceAlone a b
+  pub others : (status ≡ 4 → ⊥) → (status ≡ 6 → ⊥) → (status ≡ 7 → ⊥) → IsStore a.device
 
 -- What a stop leaves at a moment of a run, once these steps were done: the records that stood and so many of those that its lines make,
 -- at least as many as the level of each text of which a byte went out, with nothing or the next of them left behind; or, as long as
@@ -90,11 +100,13 @@ MomentStands instance rs all opening before start image =
     ⊎ (((later : List Step) × (opening ≡ before ++ later))
     × ShowsUpTo (OpenedOrOneMore (region_of instance (length start)) (bodies_of all) start) (length rs) (length rs) before image)
 
--- Every moment of a run that begins on a device at rest which stands firmly for these records.
+-- Every moment of a run that begins on a device at rest which stands firmly for these records. All of the records that may stand are
+-- legal, so each first part of them is.
 pub record EveryMoment (instance : ℕ) (rs : List Record) (a b : World) : Type 0 where
   pub opening : List Step
   pub later : List Step
   pub grew : b.trace ≡ a.trace ++ actions_of (opening ++ later)
+  pub legal : IsLegal (records_for (run_on_device instance rs a.device) rs (lines_of (a.left 0)))
   -- each text that was sent has its level, in the transcript's order
   pub levels : (unsent : List ℕ) × (levels_of (texts_for (run_on_device instance rs a.device) (lines_of (a.left 0))) ≡ output_levels (opening ++ later) ++ unsent)
   pub each : (d : Disk) → IsAtRest d

@@ -4,7 +4,7 @@ ghost use Rattle.std.specs.List.{list_any};
 ghost use Rattle.iss_edge.specs.World.{Told, Rose};
 ghost use Rattle.iss_top.specs.Words.{command_of_words, statuses, OnDry, OnFormat, OnReplay};
 ghost use Rattle.iss_top.specs.Runs.{DryRun, EmitsTexts, EndsWell, StopsAtLines};
-ghost use Rattle.iss_top.specs.Replays.{ReplayRun, EveryMomentStands, RefusesExactly, ReplayEndsWell};
+ghost use Rattle.iss_top.specs.Replays.{ReplayRun, EveryMomentStands, RefusesExactly, ReplayEndsWell, TranscriptsContinue};
 ghost use Rattle.iss_top.specs.FormatRuns.{FormatRun};
 
 use crate::dry::dry;
@@ -28,7 +28,7 @@ const USAGE: u8 = 2;
 /// The statuses are 0 for a run that came to its end, 2 for words that are no command, 3 where the input failed, 4 where the
 /// device has another size or stands for no records, 5 where the output failed, 6 where a call on the device failed, 7 where an
 /// allocation failed, and 8 where the input has more than 4294967296 bytes.
-#[tactic(auto, using(crate::proofs::RunBytes::told_run))]
+#[tactic(auto, using(crate::proofs::RunBytes::told_run, crate::proofs::RunBytes::told_emits, crate::proofs::RunBytes::told_stops, crate::proofs::Commands::told_ends_well, crate::proofs::ToldReplays::told_replay_ends_well, crate::proofs::Continues::transcripts_continue))]
 pub fn run<E: Edge>(alloc: Global, words: &[String], edge: &mut E) -> u8
     // No other status, by the words.
     ensures known { IsTrue (list_any (λ status. result == status) (statuses (command_of_words (map string_bytes words.now)))) }
@@ -71,6 +71,10 @@ pub fn run<E: Edge>(alloc: Global, words: &[String], edge: &mut E) -> u8
     // of which a byte went out.
     ensures moments { OnReplay (command_of_words (map string_bytes words.now))
         (Told EveryMomentStands (E.told edge.old) (E.told edge.new)) }
+
+    // A second run on the device continues the first: what two inputs in a row are told is what the first is told, and then, on the
+    // records that it left, what the second is told, without the texts with which a run begins.
+    ensures continues { OnReplay (command_of_words (map string_bytes words.now)) TranscriptsContinue }
 
     // A device that stands for no records decides over 4. Where the outside isn't at fault, the input isn't too long and the device
     // stands for records, the run comes to its end, or an allocation fails.

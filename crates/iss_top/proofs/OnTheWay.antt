@@ -1,0 +1,286 @@
+-- A run on a device from its opening to each of its ends, line by line.
+use Rattle.std.proofs.Common.{◌≡◌, ℕ, ◌≤◌, inl, inr, false, List, [], ◌∷◌, ◌++◌, length, take, Err, refl, sym, ap, subst, ◌∙◌, arith}
+use Rattle.std.specs.Prelude.{◌⊎◌}
+use Rattle.iss_edge.specs.World.{World}
+use Rattle.iss_edge.specs.Stretches.{IsGood, GoesOn}
+use Rattle.iss_journal.specs.Region.{Region, RestsFirst, StandsFirst}
+use Rattle.iss_model.specs.declared.input.Record.{Record}
+use Rattle.iss_model.specs.declared.limits.TheConstants.{MOST_INPUT}
+use Rattle.iss_model.specs.run.Transcripts.{Text}
+use Rattle.iss_model.specs.run.Runs.{Run, Response}
+use Rattle.iss_agreement.proofs.Records.{records_history}
+use Rattle.iss_store.specs.Values.{StoreNow}
+use Rattle.iss_store.specs.Standing.{region_of, region_under, bodies_of, StandsFor, RestsAt}
+use Rattle.iss_top.specs.declared.stop.Stop.{Stop}
+use Rattle.iss_top.specs.declared.stop.Stop.TheVariants as stop
+use Rattle.iss_top.specs.Statuses.{status_of}
+use Rattle.iss_top.specs.Lines.{parts_of, all_but_last}
+use Rattle.iss_top.specs.Progress.{HasRead}
+use Rattle.iss_top.specs.Reader.{ReaderNow, fresh_reader, IsToldAs, ReadsPart, ReadsNoPart, ReadsOn}
+use Rattle.iss_top.specs.Replaying.{run_at, told_line, told_lines, then_told, Goes, GoesPart, GoesFor, GoesWhole, IsSameDevice, TakesAs, TakesPartAs, IsReplaying, RunsOnBook, RunsFrom}
+use Rattle.iss_top.proofs.Goings.{goes_nothing, goes_then, goes_then_part, goes_part, part_more}
+use Rattle.iss_top.proofs.Parts.{has_read_begins, has_read_next, has_read_on, parts_first, parts_over, parts_stopped}
+use Rattle.iss_top.proofs.ToldAs.{same_told}
+use Rattle.iss_top.proofs.ToldLines.{ComesFirst, first_parts, told_one_more, run_then}
+
+-- ---- the same on what changes nothing, and on the same device
+
+-- the status of a run that ended so
+abbrev pub ends_with : Stop → ℕ
+ends_with why = status_of {A = Unit {0}} (Err why)
+
+abbrev GoesTo : StoreNow → List Record → Response → World → World → Type 0
+GoesTo s rs r a b = Goes s rs r.run.history.records r.texts a b
+
+-- some of what the first parts are told is some of what all are told
+goes_first : (s : StoreNow) (rs : List Record) (first all : Response) (a b : World) → ComesFirst first all → GoesPart s rs first.run.history.records first.texts a b → GoesPart s rs first.run.history.records all.texts a b
+goes_first s rs first all a b more f =
+    subst (λ (t : List Text). GoesPart s rs first.run.history.records t a b) more.cut (part_more s rs first.run.history.records first.texts more.later a b f)
+
+-- the parts that were read come first among those of the input
+first_of_input : (s : Run) (parts : List (List ℕ)) (now : ReaderNow) (a b : World) → HasRead parts now a b → ComesFirst (told_lines s parts) (told_lines s (parts_of (a.left 0)))
+first_of_input s parts now a b read =
+    let first = parts_first parts now a b read in
+    subst (λ (l : List (List ℕ)). ComesFirst (told_lines s parts) (told_lines s l)) (sym first.cut) (first_parts s parts first.later)
+
+-- what neither does anything nor changes the device
+goes_still : (s : StoreNow) (rs rs' : List Record) (t : List Text) (a b c : World) → Goes s rs rs' t a b → c.device ≡ b.device → c.trace ≡ b.trace → Goes s rs rs' t a c
+goes_still s rs rs' t a b c f device trace =
+    record {
+      more = f.more;
+      steps = f.steps;
+      grew = trace ∙ f.grew;
+      out = f.out;
+      levels = f.levels;
+      goes_on = f.goes_on;
+      rests = λ start. subst (λ (image : List ℕ). RestsAt s rs' image (length rs')) (sym device) (f.rests start);
+      kinds = f.kinds;
+    }
+
+same_region : (s s' : StoreNow) → IsSameDevice s s' → region_under s' ≡ region_under s
+same_region s s' same = λ i. region_of (same.instance i) (same.to i)
+
+-- what was done on a store is said of the one that was opened, which has the same device
+goes_same : (s s' : StoreNow) (rs rs' : List Record) (t : List Text) (a b : World) → IsSameDevice s s' → Goes s' rs rs' t a b → Goes s rs rs' t a b
+goes_same s s' rs rs' t a b same f =
+    let region = same_region s s' same in
+    record {
+      more = f.more;
+      steps = f.steps;
+      grew = f.grew;
+      out = f.out;
+      levels = f.levels;
+      goes_on =
+          λ all first.
+          subst (λ (r : Region). GoesOn (RestsFirst r (bodies_of all)) (StandsFirst r (bodies_of all)) (RestsFirst r (bodies_of all)) (length rs) (length rs') f.steps) region
+          (f.goes_on all first);
+      rests =
+          λ start.
+          subst (λ (r : Region). RestsFirst r (bodies_of rs') b.device (length rs')) region
+          (f.rests (subst (λ (r : Region). RestsFirst r (bodies_of rs) a.device (length rs)) (sym region) start));
+      kinds = f.kinds;
+    }
+
+part_same : (s s' : StoreNow) (rs rs' : List Record) (t : List Text) (a b : World) → IsSameDevice s s' → GoesPart s' rs rs' t a b → GoesPart s rs rs' t a b
+part_same s s' rs rs' t a b same f =
+    record {
+      more = f.more;
+      steps = f.steps;
+      grew = f.grew;
+      out = f.out;
+      levels = f.levels;
+      good =
+          λ all first.
+          subst (λ (r : Region). IsGood (RestsFirst r (bodies_of all)) (StandsFirst r (bodies_of all)) (length rs) (length rs') f.steps) (same_region s s' same)
+          (f.good all first);
+      kinds = f.kinds;
+    }
+
+same_then : (s s' s'' : StoreNow) → IsSameDevice s s' → IsSameDevice s' s'' → IsSameDevice s s''
+same_then s s' s'' p q = record { instance = q.instance ∙ p.instance; to = q.to ∙ p.to }
+
+-- ---- on the way
+
+-- what a line is told on a store is what its part of the input is told where the run is
+told_there : (opened s : StoreNow) (rs : List Record) (parts : List (List ℕ)) (line part : List ℕ) → IsSameDevice opened s → IsToldAs line part
+    → told_line (run_at s (told_lines (run_at opened rs) parts).run.history.records) line ≡ told_line (told_lines (run_at opened rs) parts).run part
+told_there opened s rs parts line part same alike =
+    ap (λ (k : Run). told_line k line) (run_then opened s rs parts same)
+    ∙ same_told (told_lines (run_at opened rs) parts).run line part alike
+
+pub way_begins : (s : StoreNow) (now : ReaderNow) (a : World) → now ≡ fresh_reader → IsReplaying s s now a a
+way_begins s now a fresh =
+    record {
+      parts = [];
+      read = has_read_begins now a fresh;
+      same = record { instance = refl; to = refl };
+      on_book =
+          λ rs stands. (
+            subst (λ (l : List Record). StandsFor s l) (sym (records_history rs)) stands,
+            subst (λ (l : List Record). Goes s rs l [] a a) (sym (records_history rs)) (goes_nothing s rs a),
+          );
+    }
+
+-- a part of the input was read, and then its line was taken on this store
+module _ (opened s : StoreNow) (before now : ReaderNow) (a b c : World) (way : IsReplaying opened s before a b) (going : before.ended ≡ false) (reads : ReadsPart before now b c) where
+  read_then : (d : World) → d.left ≡ c.left → HasRead (way.parts ++ reads.part ∷ []) now a d
+  read_then d left =
+      has_read_on (way.parts ++ reads.part ∷ []) now a c d (has_read_next way.parts before now a b c going way.read reads) left
+
+  -- what was done until the line was taken
+  goes_until : (rs : List Record) → StandsFor opened rs → GoesFor opened rs way.parts a c
+  goes_until rs stands =
+      let told = told_lines (run_at opened rs) way.parts in
+      goes_still opened rs told.run.history.records told.texts a b c (way.on_book rs stands).1 reads.takes.device reads.takes.trace
+
+  -- what the line is told, behind the others, is what the parts are told with its part
+  told_more : (rs : List Record) → then_told (told_lines (run_at opened rs) way.parts).texts (told_line (run_at s (told_lines (run_at opened rs) way.parts).run.history.records) now.line) ≡ told_lines (run_at opened rs) (way.parts ++ reads.part ∷ [])
+  told_more rs =
+      ap (then_told (told_lines (run_at opened rs) way.parts).texts) (told_there opened s rs way.parts now.line reads.part way.same reads.line)
+      ∙ sym (told_one_more (run_at opened rs) way.parts reads.part)
+
+  taken_goes : (s' : StoreNow) (d : World) → TakesAs (λ k. told_line k now.line) s s' c d → (rs : List Record) → StandsFor opened rs
+      → StandsFor s' (told_lines (run_at opened rs) (way.parts ++ reads.part ∷ [])).run.history.records × GoesFor opened rs (way.parts ++ reads.part ∷ []) a d
+  taken_goes s' d taken rs stands =
+      let told = told_lines (run_at opened rs) way.parts in
+      let line = told_line (run_at s told.run.history.records) now.line in
+      let done = taken.on_book told.run.history.records (way.on_book rs stands).0 in
+      let whole : GoesTo opened rs (then_told told.texts line) a d =
+      goes_then opened rs told.run.history.records line.run.history.records told.texts line.texts a c d (goes_until rs stands)
+      (goes_same opened s told.run.history.records line.run.history.records line.texts c d way.same done.1) in
+      subst (λ (r : Response). StandsFor s' r.run.history.records × GoesTo opened rs r a d) (told_more rs) (done.0, whole)
+
+  pub way_goes_on : (s' : StoreNow) (d : World) → TakesAs (λ k. told_line k now.line) s s' c d → IsReplaying opened s' now a d
+  way_goes_on s' d taken =
+      record {
+        parts = way.parts ++ reads.part ∷ [];
+        read = read_then d taken.left;
+        same = same_then opened s s' way.same taken.same;
+        on_book = taken_goes s' d taken;
+      }
+
+  -- some of what it is told went out
+  taken_part : (d : World) (status : ℕ) (took : List ℕ) → (status ≡ 0 → ⊥) → (status ≡ 3 → ⊥) → (status ≡ 8 → ⊥) → TakesPartAs (λ k. told_line k now.line) s c d → (rs : List Record) → StandsFor opened rs → RunsOnBook status opened rs took a d
+  taken_part d status took not_done not_input not_long taken rs stands =
+      let told = told_lines (run_at opened rs) way.parts in
+      let line = told_line (run_at s told.run.history.records) now.line in
+      let more = told_lines (run_at opened rs) (way.parts ++ reads.part ∷ []) in
+      let first : ComesFirst more (told_lines (run_at opened rs) (parts_of (a.left 0))) =
+      first_of_input (run_at opened rs) (way.parts ++ reads.part ∷ []) now a d (read_then d taken.left) in
+      let part : GoesPart opened rs line.run.history.records (told.texts ++ line.texts) a d =
+      goes_then_part opened rs told.run.history.records line.run.history.records told.texts line.texts a c d (goes_until rs stands)
+      (part_same opened s told.run.history.records line.run.history.records line.texts c d way.same (taken.on_book told.run.history.records (way.on_book rs stands).0)) in
+      record {
+        rs' = more.run.history.records;
+        records = first.records;
+        goes =
+            goes_first opened rs more (told_lines (run_at opened rs) (parts_of (a.left 0))) a d first
+            (subst (λ (r : Response). GoesPart opened rs r.run.history.records r.texts a d) (told_more rs) part);
+        whole = λ e. absurd (not_done e);
+        stopped = λ e. elim e [ inl at ↦ absurd (not_input at) | inr at ↦ absurd (not_long at) ];
+      }
+
+  pub ends_in_line : (d : World) (status : ℕ) → (status ≡ 0 → ⊥) → (status ≡ 3 → ⊥) → (status ≡ 8 → ⊥) → TakesPartAs (λ k. told_line k now.line) s c d → RunsFrom status opened a d
+  ends_in_line d status not_done not_input not_long taken =
+      let read = read_then d taken.left in
+      record {
+        took = read.took;
+        takes = read.takes;
+        on_book = taken_part d status read.took not_done not_input not_long taken;
+        long = (λ e. absurd (not_long e), λ e. absurd (omega (arith, read.count, reads.bound, e)));
+        bound = omega (arith, read.count, reads.bound);
+      }
+
+-- ---- the other ends
+
+-- no line was read
+ends_before : (opened s : StoreNow) (now : ReaderNow) (took : List ℕ) (a b c : World) (status : ℕ) (way : IsReplaying opened s now a b) → c.device ≡ b.device → c.trace ≡ b.trace
+    → (status ≡ 0 → ⊥) → ((status ≡ 3) ⊎ (status ≡ 8) → all_but_last (parts_of (take MOST_INPUT took)) ≡ way.parts) → (rs : List Record) → StandsFor opened rs → RunsOnBook status opened rs took a c
+ends_before opened s now took a b c status way device trace not_done stopped rs stands =
+    let told = told_lines (run_at opened rs) way.parts in
+    let done = way.on_book rs stands in
+    let first = first_of_input (run_at opened rs) way.parts now a b way.read in
+    let goes : GoesFor opened rs way.parts a c = goes_still opened rs told.run.history.records told.texts a b c done.1 device trace in
+    record {
+      rs' = told.run.history.records;
+      records = first.records;
+      goes =
+          goes_first opened rs told (told_lines (run_at opened rs) (parts_of (a.left 0))) a c first
+          (goes_part opened rs told.run.history.records told.texts a c goes);
+      whole = λ e. absurd (not_done e);
+      stopped =
+          λ e.
+          subst (λ (l : List (List ℕ)). GoesWhole opened rs (told_lines (run_at opened rs) l) a c) (sym (stopped e)) (record { goes = goes; history = done.0.history });
+    }
+
+not_for_memory : (why : Stop) → (ends_with why ≡ 3) ⊎ (ends_with why ≡ 8) → why ≡ stop.Memory → ⊥
+not_for_memory why e memory =
+    let seven : ends_with why ≡ 7 = ap ends_with memory in
+    elim e [ inl three ↦ absurd (omega (arith, seven, three)) | inr eight ↦ absurd (omega (arith, seven, eight)) ]
+
+long_is : (why : Stop) → ends_with why ≡ 8 → why ≡ stop.InputLong
+long_is stop.Input e = absurd cc
+long_is stop.Device e = absurd cc
+long_is stop.Output e = absurd cc
+long_is stop.Disk e = absurd cc
+long_is stop.Memory e = absurd cc
+long_is stop.InputLong e = refl
+
+-- reading failed
+pub ends_reading : (opened s : StoreNow) (now : ReaderNow) (why : Stop) (a b c : World) → (ends_with why ≡ 0 → ⊥) → IsReplaying opened s now a b → ReadsNoPart now why b c → RunsFrom (ends_with why) opened a c
+ends_reading opened s now why a b c not_done way reads =
+    let took = way.read.took ++ reads.took in
+    let stops = parts_stopped way.parts now why a b c way.read reads in
+    record {
+      took = took;
+      takes = stops.takes;
+      on_book =
+          ends_before opened s now took a b c (ends_with why) way reads.takes.device reads.takes.trace not_done
+          (λ e. stops.ended (not_for_memory why e));
+      long = (λ e. stops.long.0 (long_is why e), λ e. ap ends_with (stops.long.1 e));
+      bound = stops.bound;
+    }
+
+-- nothing was done, as memory was wanting
+pub ends_at_start : (opened : StoreNow) (a : World) → RunsFrom 7 opened a a
+ends_at_start opened a =
+    record {
+      took = [];
+      takes = record { bytes = refl; others = λ ch other. refl };
+      on_book =
+          ends_before opened opened fresh_reader [] a a a 7 (way_begins opened fresh_reader a refl) refl refl (λ e. cc)
+          (λ e. elim e [ inl at ↦ cc | inr at ↦ cc ]);
+      long = (λ e. cc, λ e. absurd (omega (arith, e)));
+      bound = omega arith;
+    }
+
+-- the input came to its end
+pub ends_well : (opened s : StoreNow) (before now : ReaderNow) (a b c : World) → before.taken ≤ MOST_INPUT → IsReplaying opened s before a b → ReadsOn false before now b c → RunsFrom 0 opened a c
+ends_well opened s before now a b c le way over =
+    let read = has_read_on way.parts before a b c way.read over.2.left in
+    let all = parts_over way.parts before now a b c way.read over in
+    record {
+      took = read.took;
+      takes = read.takes;
+      on_book =
+          λ rs stands.
+          let told = told_lines (run_at opened rs) way.parts in
+          let done = way.on_book rs stands in
+          let first = first_of_input (run_at opened rs) way.parts before a b way.read in
+          let goes : GoesFor opened rs way.parts a c = goes_still opened rs told.run.history.records told.texts a b c done.1 over.2.device over.2.trace in
+          record {
+            rs' = told.run.history.records;
+            records = first.records;
+            goes =
+                goes_first opened rs told (told_lines (run_at opened rs) (parts_of (a.left 0))) a c first
+                (goes_part opened rs told.run.history.records told.texts a c goes);
+            whole =
+                λ e. (
+                  all.1,
+                  subst (λ (l : List (List ℕ)). GoesWhole opened rs (told_lines (run_at opened rs) l) a c) (sym all.0) (record { goes = goes; history = done.0.history }),
+                );
+            stopped = λ e. elim e [ inl at ↦ cc | inr at ↦ cc ];
+          };
+      long = (λ e. cc, λ e. absurd (omega (arith, read.count, le, e)));
+      bound = omega (arith, read.count, le);
+    }

@@ -1,0 +1,316 @@
+-- The same of what an edge tells: a run on a device at each of its ends.
+use Rattle.std.proofs.Common.{◌≡◌, ℕ, ◌≤◌, inl, inr, List, [], length, Option, Ok, Err, refl, sym, ap, ◌∙◌, arith, length-append}
+use Rattle.std.specs.Prelude.{◌⊎◌, Result}
+use Rattle.iss_edge.specs.World.{World, Told, Faults, Later}
+use Rattle.iss_edge.proofs.Tolds.{told_map, told_then, later_then, rose_later}
+use Rattle.iss_journal.proofs.Formats.{Sized, told_sized}
+use Rattle.iss_model.specs.declared.input.Record.{Record}
+use Rattle.iss_store.specs.declared.fault.OpenFault.{OpenFault}
+use Rattle.iss_store.specs.declared.fault.OpenFault.TheVariants.{Disk, NotFormatted, BadRecord, BadSpelling, BadHistory, OutOfMemory}
+use Rattle.iss_store.specs.declared.fault.StoreFault.{StoreFault}
+use Rattle.iss_store.specs.declared.fault.StoreFault.TheVariants as store
+use Rattle.iss_store.specs.Values.{StoreNow}
+use Rattle.iss_store.specs.Standing.{StandsFor, DeviceStandsFor}
+use Rattle.iss_store.specs.Opening.{Opens, OpensStore, OpensGood, OpensGoing, ReadsAlone, OnRefused, OpenCause, IsOfDiskOrMemory}
+use Rattle.iss_store.specs.Saying.{texts_pending, texts_pending_on_book, SayingCause}
+use Rattle.iss_store.proofs.GoodDevices.{good_device}
+use Rattle.iss_store.proofs.ToldReadings.{told_both}
+use Rattle.iss_texts.specs.Sending.{Says, SaysSome}
+use Rattle.iss_top.specs.declared.stop.Stop.{Stop}
+use Rattle.iss_top.specs.declared.stop.Stop.TheVariants as stop
+use Rattle.iss_top.specs.Statuses.{status_of, stop_of_opening, stop_of_store}
+use Rattle.iss_top.specs.Reader.{ReadingCause}
+use Rattle.iss_top.specs.Replaying.{run_at, RunsAs, RunsFrom, TakingCause, IsReplayCaused, ReplayCause}
+use Rattle.iss_top.specs.Replays.{ReplayRun, ReplayOn, EveryMoment, EveryMomentStands, IsNoStore, OnDeviceAlone, RefusesExactly, ReplayEndsWell}
+use Rattle.iss_top.proofs.OnTheWay.{ends_with}
+use Rattle.iss_top.proofs.ToldLines.{told_from_start}
+use Rattle.iss_top.proofs.Beginnings.{begins_goes, lines_from_start, stops_at_start}
+use Rattle.iss_top.proofs.Devices.{opened_on}
+use Rattle.iss_top.proofs.WholeRuns.{OpenedAs, not_opened_moments, not_opened_on, replay_on, every_moment}
+
+-- ---- the opening
+
+pub told_opened : (s : StoreNow) (size : ℕ) (x y : Option World) → Sized size x → s.place.to ≡ size → Told (Opens (Ok s)) x y → Told OpensGood x y → Told OpensGoing x y → Told (OpenedAs s) x y
+told_opened s size x y sized to opens good going =
+    told_sized size (λ a b. (Opens (Ok s) a b × OpensGood a b) × OpensGoing a b) (OpenedAs s) x y sized
+    (λ a b here p. record { size = to ∙ sym here; opens = p.0.0; good = p.0.1; going = p.1 })
+    (told_both (λ a b. Opens (Ok s) a b × OpensGood a b) OpensGoing x y (told_both (Opens (Ok s)) OpensGood x y opens good) going)
+
+opening_ends : (fault : OpenFault) → IsOfDiskOrMemory fault → (ends_with (stop_of_opening fault) ≡ 6) ⊎ (ends_with (stop_of_opening fault) ≡ 7)
+opening_ends Disk is = inl refl
+opening_ends OutOfMemory is = inr refl
+opening_ends NotFormatted is = absurd is
+opening_ends (BadRecord gate) is = absurd is
+opening_ends (BadSpelling gate) is = absurd is
+opening_ends (BadHistory gate) is = absurd is
+
+not_this : (n m : ℕ) → (n ≡ 6) ⊎ (n ≡ 7) → m ≤ 5 → n ≡ m → ⊥
+not_this n m ends le e = elim ends [ inl six ↦ absurd (omega (arith, six, le, e)) | inr seven ↦ absurd (omega (arith, seven, le, e)) ]
+
+not_eight : (n : ℕ) → (n ≡ 6) ⊎ (n ≡ 7) → n ≡ 8 → ⊥
+not_eight n ends e = elim ends [ inl six ↦ absurd (omega (arith, six, e)) | inr seven ↦ absurd (omega (arith, seven, e)) ]
+
+unopened_run : (fault : OpenFault) (a b : World) → Opens (Err fault) a b → OpensGood a b → ReplayRun (ends_with (stop_of_opening fault)) a b
+unopened_run fault a b opens good instance rs stands =
+    let n = ends_with (stop_of_opening fault) in
+    let ends : (n ≡ 6) ⊎ (n ≡ 7) = opening_ends fault (good_device instance rs fault a b stands opens) in
+    not_opened_on n instance rs a b (not_this n 0 ends (omega arith)) (not_this n 3 ends (omega arith)) (not_this n 4 ends (omega arith)) (not_eight n ends) good
+
+pub told_unopened_run : (fault : OpenFault) (x y : Option World) → Told (Opens (Err fault)) x y → Told OpensGood x y → Told (ReplayRun (ends_with (stop_of_opening fault))) x y
+told_unopened_run fault x y opens good =
+    told_map (λ a b. Opens (Err fault) a b × OpensGood a b) (ReplayRun (ends_with (stop_of_opening fault))) x y (λ a b p. unopened_run fault a b p.0 p.1)
+    (told_both (Opens (Err fault)) OpensGood x y opens good)
+
+pub told_unopened_moments : (x y : Option World) → Told OpensGood x y → Told EveryMomentStands x y
+told_unopened_moments x y good =
+    told_map OpensGood EveryMomentStands x y (λ a b g instance rs stands. not_opened_moments instance rs a b g stands) good
+
+-- ---- a device that stands for no records
+
+alone : (a b : World) → OpensGood a b → OnDeviceAlone a b
+alone a b good = record { left = good.left; actions = good.added; grew = good.grew; on_device = good.on_device }
+
+refuses : (a b : World) → IsNoStore a.device → OpensGood a b → ReadsAlone a b → RefusesExactly 4 a b
+refuses a b none good reads =
+    record {
+      only = λ e. (none, reads);
+      there = λ found. inl refl;
+      untouched = λ found. alone a b good;
+      others = λ four six seven. absurd (four refl);
+    }
+
+-- a fault of the disk or of memory may come on any device
+disk_refuses : (a b : World) → OpensGood a b → RefusesExactly 6 a b
+disk_refuses a b good =
+    record {
+      only = λ e. cc;
+      there = λ found. inr (inl refl);
+      untouched = λ found. alone a b good;
+      others = λ four six seven. absurd (six refl);
+    }
+
+memory_refuses : (a b : World) → OpensGood a b → RefusesExactly 7 a b
+memory_refuses a b good =
+    record {
+      only = λ e. cc;
+      there = λ found. inr (inr refl);
+      untouched = λ found. alone a b good;
+      others = λ four six seven. absurd (seven refl);
+    }
+
+-- a fault that says that the device stands for no records
+told_none : (fault : OpenFault) (x y : Option World) → ((a : World) → Opens (Err fault) a a → IsNoStore a.device) → ((a b : World) → Opens (Err fault) a b → Opens (Err fault) a a) → Told (Opens (Err fault)) x y → Told OpensGood x y → Told ReadsAlone x y
+    → Told (RefusesExactly 4) x y
+told_none fault x y none same opens good reads =
+    told_map (λ a b. (Opens (Err fault) a b × OpensGood a b) × ReadsAlone a b) (RefusesExactly 4) x y (λ a b p. refuses a b (none a (same a b p.0.0)) p.0.1 p.1)
+    (told_both (λ a b. Opens (Err fault) a b × OpensGood a b) ReadsAlone x y (told_both (Opens (Err fault)) OpensGood x y opens good) reads)
+
+pub told_refuses : (fault : OpenFault) (x y : Option World) → Told (Opens (Err fault)) x y → Told OpensGood x y → OnRefused {T = StoreNow} (Err fault) (Told ReadsAlone x y)
+    → Told (RefusesExactly (ends_with (stop_of_opening fault))) x y
+told_refuses Disk x y opens good reads = told_map OpensGood (RefusesExactly 6) x y disk_refuses good
+told_refuses OutOfMemory x y opens good reads = told_map OpensGood (RefusesExactly 7) x y memory_refuses good
+told_refuses NotFormatted x y opens good reads = told_none NotFormatted x y (λ a found. inl found) (λ a b found. found) opens good reads
+told_refuses (BadRecord gate) x y opens good reads = told_none (BadRecord gate) x y (λ a found. inr (gate, inl found)) (λ a b found. found) opens good reads
+told_refuses (BadSpelling gate) x y opens good reads = told_none (BadSpelling gate) x y (λ a found. inr (gate, inr (inl found))) (λ a b found. found) opens good reads
+told_refuses (BadHistory gate) x y opens good reads = told_none (BadHistory gate) x y (λ a found. inr (gate, inr (inr found))) (λ a b found. found) opens good reads
+
+-- on a device that opens there is no such fault
+not_none : (s : StoreNow) (a b : World) → OpensStore s a.device → IsNoStore a.device → ⊥
+not_none s a b opens none =
+    let stands = opens.device_stands in
+    let good = λ (fault : OpenFault). good_device s.core.instance opens.rs fault a b stands in
+    elim none [
+      | inl unformatted ↦ good NotFormatted unformatted
+      | inr found ↦
+          elim found.1 [
+            | inl record_bad ↦ good (BadRecord found.0) record_bad
+            | inr others ↦ elim others [ inl spelling_bad ↦ good (BadSpelling found.0) spelling_bad | inr history_bad ↦ good (BadHistory found.0) history_bad ]
+          ]
+    ]
+
+opened_refuses : (n : ℕ) (s : StoreNow) (a b : World) → (n ≡ 4 → ⊥) → OpensStore s a.device → RefusesExactly n a b
+opened_refuses n s a b not_device opens =
+    record {
+      only = λ e. absurd (not_device e);
+      there = λ found. absurd (not_none s a b opens found);
+      untouched = λ found. absurd (not_none s a b opens found);
+      others = λ four six seven. record { instance = s.core.instance; rs = opens.rs; stands = opens.device_stands };
+    }
+
+-- ---- a run on the store that was opened
+
+-- what is told of the opening, and of what came behind it
+record Behind (s : StoreNow) (R : World → World → Type 0) (a d : World) : Type 0 where
+  between : World
+  opening : OpenedAs s a between
+  later : R between d
+
+told_behind : (s : StoreNow) (R : World → World → Type 0) (x y z : Option World) → Told (OpenedAs s) x y → Told R y z → Told (Behind s R) x z
+told_behind s R x y z opened later =
+    told_then (OpenedAs s) R (Behind s R) x y z (λ a b d o r. record { between = b; opening = o; later = r }) opened later
+
+-- what waits for the gateway is known by the book
+abbrev pub WaitsOnBook : StoreNow → Type 0
+WaitsOnBook s = (rs : List Record) → StandsFor s rs → texts_pending s ≡ texts_pending_on_book s.core.instance rs
+
+stands_opened : (instance : ℕ) (rs : List Record) (s : StoreNow) (a b : World) → OpenedAs s a b → DeviceStandsFor instance rs a.device → StandsFor s rs
+stands_opened instance rs s a b opening stands = (opened_on instance rs s a.device opening.size stands opening.opens).stands
+
+-- what waits went out in part
+saying_ends : {T : Type 0} (fault : StoreFault) (before now : Faults) → SayingCause {T = T} before now (Err fault) → (ends_with (stop_of_store fault) ≡ 5) ⊎ (ends_with (stop_of_store fault) ≡ 7)
+saying_ends store.Disk before now cause = absurd (cause.no_disk refl)
+saying_ends store.Output before now cause = inl refl
+saying_ends store.OutOfMemory before now cause = inr refl
+
+not_saying : (n m : ℕ) → (n ≡ 5) ⊎ (n ≡ 7) → m ≤ 4 → n ≡ m → ⊥
+not_saying n m ends le e = elim ends [ inl five ↦ absurd (omega (arith, five, le, e)) | inr seven ↦ absurd (omega (arith, seven, le, e)) ]
+
+not_saying_long : (n : ℕ) → (n ≡ 5) ⊎ (n ≡ 7) → n ≡ 8 → ⊥
+not_saying_long n ends e = elim ends [ inl five ↦ absurd (omega (arith, five, e)) | inr seven ↦ absurd (omega (arith, seven, e)) ]
+
+module _ (n : ℕ) (ends : (n ≡ 5) ⊎ (n ≡ 7)) (s : StoreNow) (on_book : WaitsOnBook s) (a b c : World) (opening : OpenedAs s a b) (says : SaysSome (texts_pending s) b c) (instance : ℕ) (rs : List Record)
+    (stands : DeviceStandsFor instance rs a.device) where
+  waited_part : RunsAs (told_from_start (run_at s rs)) n s rs [] b c
+  waited_part =
+      stops_at_start n s rs b c (not_saying n 0 ends (omega arith)) (not_saying n 3 ends (omega arith)) (not_saying_long n ends)
+      (on_book rs (stands_opened instance rs s a b opening stands)) says
+
+  waited_on : ReplayOn n instance rs a c
+  waited_on =
+      replay_on instance rs s n [] a b c opening stands waited_part (not_saying n 4 ends (omega arith))
+      (record { bytes = ap (λ (l : ℕ → List ℕ). l 0) (sym says.left); others = λ ch other. ap (λ (l : ℕ → List ℕ). l ch) says.left })
+      (λ e. absurd (not_saying_long n ends e), λ e. absurd (omega (arith, e))) (omega arith)
+
+  waited_moments : EveryMoment instance rs a c
+  waited_moments = every_moment instance rs s n [] a b c opening stands waited_part
+
+-- what waits went out, and then lines were taken
+record WaitsThenRuns (status : ℕ) (s : StoreNow) (b d : World) : Type 0 where
+  middle : World
+  says : Says (texts_pending s) b middle
+  runs : RunsFrom status s middle d
+
+module _ (status : ℕ) (s : StoreNow) (on_book : WaitsOnBook s) (a b d : World) (opening : OpenedAs s a b) (later : WaitsThenRuns status s b d) (instance : ℕ) (rs : List Record) (stands : DeviceStandsFor instance rs a.device) where
+  all_runs : RunsAs (told_from_start (run_at s rs)) status s rs later.runs.took b d
+  all_runs =
+      let here = stands_opened instance rs s a b opening stands in
+      lines_from_start status s rs later.runs.took b later.middle d later.says.left
+      (begins_goes s rs b later.middle (on_book rs here) later.says) (later.runs.on_book rs here)
+
+  all_on : (status ≡ 4 → ⊥) → ReplayOn status instance rs a d
+  all_on not_device =
+      replay_on instance rs s status later.runs.took a b d opening stands all_runs not_device
+      (record {
+        bytes = ap (λ (l : ℕ → List ℕ). l 0) (sym later.says.left) ∙ later.runs.takes.bytes;
+        others = λ ch other. later.runs.takes.others ch other ∙ ap (λ (l : ℕ → List ℕ). l ch) later.says.left;
+      }) later.runs.long later.runs.bound
+
+  all_moments : EveryMoment instance rs a d
+  all_moments = every_moment instance rs s status later.runs.took a b d opening stands all_runs
+
+-- ---- the same of what an edge tells
+
+module _ (s : StoreNow) (on_book : WaitsOnBook s) (x y z : Option World) (opened : Told (OpenedAs s) x y) where
+  module _ {T : Type 0} (fault : StoreFault) (before now : Faults) (cause : SayingCause {T = T} before now (Err fault)) (says : Told (SaysSome (texts_pending s)) y z) where
+    abbrev stops : ℕ
+    stops = ends_with (stop_of_store fault)
+
+    pub told_waited_run : Told (ReplayRun stops) x z
+    told_waited_run =
+        told_map (Behind s (SaysSome (texts_pending s))) (ReplayRun stops) x z
+        (λ a c p instance rs stands. waited_on stops (saying_ends {T = T} fault before now cause) s on_book a p.between c p.opening p.later instance rs stands)
+        (told_behind s (SaysSome (texts_pending s)) x y z opened says)
+
+    pub told_waited_moments : Told EveryMomentStands x z
+    told_waited_moments =
+        told_map (Behind s (SaysSome (texts_pending s))) EveryMomentStands x z
+        (λ a c p instance rs stands. waited_moments stops (saying_ends {T = T} fault before now cause) s on_book a p.between c p.opening p.later instance rs stands)
+        (told_behind s (SaysSome (texts_pending s)) x y z opened says)
+
+    pub told_waited_refuses : Told (RefusesExactly stops) x z
+    told_waited_refuses =
+        told_map (Behind s (SaysSome (texts_pending s))) (RefusesExactly stops) x z
+        (λ a c p. opened_refuses stops s a c (not_saying stops 4 (saying_ends {T = T} fault before now cause) (omega arith)) p.opening.opens)
+        (told_behind s (SaysSome (texts_pending s)) x y z opened says)
+
+  module _ (status : ℕ) (not_device : status ≡ 4 → ⊥) (w : Option World) (says : Told (Says (texts_pending s)) y z) (runs : Told (RunsFrom status s) z w) where
+    told_all : Told (Behind s (WaitsThenRuns status s)) x w
+    told_all =
+        told_behind s (WaitsThenRuns status s) x y w opened
+        (told_then (Says (texts_pending s)) (RunsFrom status s) (WaitsThenRuns status s) y z w (λ b c d p q. record { middle = c; says = p; runs = q }) says runs)
+
+    pub told_run : Told (ReplayRun status) x w
+    told_run =
+        told_map (Behind s (WaitsThenRuns status s)) (ReplayRun status) x w
+        (λ a d p instance rs stands. all_on status s on_book a p.between d p.opening p.later instance rs stands not_device) told_all
+
+    pub told_moments : Told EveryMomentStands x w
+    told_moments =
+        told_map (Behind s (WaitsThenRuns status s)) EveryMomentStands x w
+        (λ a d p instance rs stands. all_moments status s on_book a p.between d p.opening p.later instance rs stands) told_all
+
+    pub told_run_refuses : Told (RefusesExactly status) x w
+    told_run_refuses =
+        told_map (Behind s (WaitsThenRuns status s)) (RefusesExactly status) x w (λ a d p. opened_refuses status s a d not_device p.opening.opens) told_all
+
+-- ---- causes
+
+pub caused_by_opening : {T : Type 0} (fault : OpenFault) (before now : Faults) → OpenCause {T = T} before now (Err fault) → IsReplayCaused {A = Unit {0}} before now (Err (stop_of_opening fault))
+caused_by_opening Disk before now cause = record { later = cause.later; cause = cause.disk refl }
+caused_by_opening OutOfMemory before now cause = record { later = cause.later; cause = tt }
+caused_by_opening NotFormatted before now cause = record { later = cause.later; cause = tt }
+caused_by_opening (BadRecord gate) before now cause = record { later = cause.later; cause = tt }
+caused_by_opening (BadSpelling gate) before now cause = record { later = cause.later; cause = tt }
+caused_by_opening (BadHistory gate) before now cause = record { later = cause.later; cause = tt }
+
+-- behind calls that counted no fault down
+cause_behind : (before middle now : Faults) (s : Stop) → Later before middle → Later middle now → ReplayCause middle now s → ReplayCause before now s
+cause_behind before middle now stop.Input first second cause = rose_later before.input middle.input now.input now.input first.input second.input (omega arith) cause
+cause_behind before middle now stop.Device first second cause = tt
+cause_behind before middle now stop.Output first second cause = rose_later before.output middle.output now.output now.output first.output second.output (omega arith) cause
+cause_behind before middle now stop.Disk first second cause = rose_later before.disk middle.disk now.disk now.disk first.disk second.disk (omega arith) cause
+cause_behind before middle now stop.Memory first second cause = tt
+cause_behind before middle now stop.InputLong first second cause = tt
+
+pub caused_behind : (before middle now : Faults) (result : Result (Unit {0}) Stop) → Later before middle → IsReplayCaused middle now result → IsReplayCaused before now result
+caused_behind before middle now (Ok done) first second = record { later = later_then before middle now first second.later; cause = tt }
+caused_behind before middle now (Err s) first second =
+    record { later = later_then before middle now first second.later; cause = cause_behind before middle now s first second.later second.cause }
+
+pub caused_by_saying : {T : Type 0} (fault : StoreFault) (before now : Faults) → SayingCause {T = T} before now (Err fault) → IsReplayCaused {A = Unit {0}} before now (Err (stop_of_store fault))
+caused_by_saying store.Disk before now cause = absurd (cause.no_disk refl)
+caused_by_saying store.Output before now cause = record { later = cause.later; cause = cause.output refl }
+caused_by_saying store.OutOfMemory before now cause = record { later = cause.later; cause = tt }
+
+pub caused_by_taking : (s : Stop) (before now : Faults) → Later before now → TakingCause before now s → IsReplayCaused {A = Unit {0}} before now (Err s)
+caused_by_taking stop.Input before now later cause = absurd cause
+caused_by_taking stop.Device before now later cause = absurd cause
+caused_by_taking stop.Output before now later cause = record { later = later; cause = cause }
+caused_by_taking stop.Disk before now later cause = record { later = later; cause = cause }
+caused_by_taking stop.Memory before now later cause = record { later = later; cause = tt }
+caused_by_taking stop.InputLong before now later cause = absurd cause
+
+pub caused_by_reading : (s : Stop) (before now : Faults) → Later before now → ReadingCause before now s → IsReplayCaused {A = Unit {0}} before now (Err s)
+caused_by_reading stop.Input before now later cause = record { later = later; cause = cause }
+caused_by_reading stop.Device before now later cause = absurd cause
+caused_by_reading stop.Output before now later cause = absurd cause
+caused_by_reading stop.Disk before now later cause = absurd cause
+caused_by_reading stop.Memory before now later cause = record { later = later; cause = tt }
+caused_by_reading stop.InputLong before now later cause = record { later = later; cause = tt }
+
+-- ---- the end
+
+replay_ends_well : (result : Result (Unit {0}) Stop) (before now : Faults) (a b : World) → IsReplayCaused before now result → ReplayRun (status_of result) a b → ReplayEndsWell before now (status_of result) a b
+replay_ends_well (Ok done) before now a b caused run instance rs stands disk input output short = inl refl
+replay_ends_well (Err stop.Input) before now a b caused run instance rs stands disk input output short = absurd (input caused.cause)
+replay_ends_well (Err stop.Device) before now a b caused run instance rs stands disk input output short = absurd ((run instance rs stands).other_device refl)
+replay_ends_well (Err stop.Output) before now a b caused run instance rs stands disk input output short = absurd (output caused.cause)
+replay_ends_well (Err stop.Disk) before now a b caused run instance rs stands disk input output short = absurd (disk caused.cause)
+replay_ends_well (Err stop.Memory) before now a b caused run instance rs stands disk input output short = inr refl
+replay_ends_well (Err stop.InputLong) before now a b caused run instance rs stands disk input output short =
+    let on = run instance rs stands in
+    absurd (omega (arith, short, on.long.0 refl, ap (λ (l : List ℕ). length l) on.takes.bytes, length-append {A = ℕ} on.took (b.left 0)))
+
+pub told_replay_ends_well : (result : Result (Unit {0}) Stop) (before now : Faults) (x y : Option World) → IsReplayCaused before now result → Told (ReplayRun (status_of result)) x y → Told (ReplayEndsWell before now (status_of result)) x y
+told_replay_ends_well result before now x y caused run =
+    told_map (ReplayRun (status_of result)) (ReplayEndsWell before now (status_of result)) x y (λ a b. replay_ends_well result before now a b caused) run

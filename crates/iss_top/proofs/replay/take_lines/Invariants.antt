@@ -1,0 +1,17 @@
+use Rattle.std.proofs.Common.{◌≡◌, ◌≤◌, ◌+◌, ◌-◌, length}
+use Rattle.iss_edge.specs.World.{Told, Later}
+use Rattle.iss_model.specs.declared.limits.TheConstants.{MOST_INPUT}
+use Rattle.iss_top.specs.Reader.{may_come}
+use Rattle.iss_top.specs.Replaying.{IsReplaying}
+use Rattle.iss_top.proofs.replay.take_lines.Given as goal
+
+abbrev pub invariant-lines : goal.invariant-lines
+invariant-lines g l = record {
+  limit : l.reader.taken ≤ MOST_INPUT;
+  told : Told (IsReplaying l.initial.store l.store l.reader) (g.E.Edge.told l.initial.edge) (g.E.Edge.told l.edge);
+  size : g.E.Edge.extent l.edge ≡ l.store.place.to;
+  later : Later (g.E.Edge.faults l.initial.edge) (g.E.Edge.faults l.edge);
+}
+
+abbrev pub decreases-lines : goal.decreases-lines
+decreases-lines g l = MOST_INPUT - l.reader.taken + length l.reader.unread + may_come l.reader
