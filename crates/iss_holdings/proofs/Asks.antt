@@ -1,5 +1,5 @@
 -- Asks that are settled or put to the gateway find what they need.
-use Rattle.std.proofs.Common.{◌≡◌, ℕ, ◌+◌, Bool, true, false, not, cond, nat_eq, List, [], ◌∷◌, ◌++◌, map, fold, filter, pos, refl, sym, ap, subst, ◌∙◌}
+use Rattle.std.proofs.Common.{◌≡◌, ℕ, ◌+◌, Bool, true, false, not, cond, nat_eq, List, [], ◌∷◌, ◌++◌, fold, pos, refl, sym, ap, subst, ◌∙◌}
 use Rattle.std.specs.Prelude.{Option, Some, None}
 use Rattle.iss_model.specs.declared.account.Account.{Account}
 use Rattle.iss_model.specs.declared.account.Account.TheVariants as account
@@ -29,11 +29,10 @@ use Rattle.iss_model.specs.rules.Pieces.{declined_ask_entries, failure_reason, f
 use Rattle.iss_model.specs.rules.Reasons.{is_some_with}
 use Rattle.iss_model.specs.rules.Settings.{is_named_in, product_named}
 use Rattle.iss_model.specs.rules.StandIns.{Stand, allowed, over_limit, stand, uncovered}
-use Rattle.iss_model.specs.state.Cores.{CoreState, after_entry, call_after_close, core_facts}
+use Rattle.iss_model.specs.state.Cores.{CoreState, after_entry, core_facts}
 use Rattle.iss_model.specs.state.Kept.{Kept}
-use Rattle.iss_invariants.proofs.Passing.{one_passes, passing}
 use Rattle.iss_docket.specs.Dockets.{Docket, docket_after, docket_of}
-use Rattle.iss_docket.specs.Well.{IsAsked, IsWellAmong, Known, NonePendingOf, has_live}
+use Rattle.iss_docket.specs.Well.{IsAsked, IsWellAmong, Known, has_live}
 use Rattle.iss_docket.proofs.Closing.{asked_before, its_number}
 use Rattle.iss_docket.proofs.Docketed.{post_silent}
 use Rattle.iss_docket.proofs.Lists.{other_number}
@@ -86,10 +85,12 @@ declined_keeps s ask why settles =
 stand_keeps : (x : Stand) (s : CoreState) (number : ℕ) (ask : Ask) (why : Failure) (at : ℕ) → MaySettle (docket_of s) s.holdings.parts ask → is_account_funded ask.txn.funding ≡ false → AllKeepHeld s (stand_entries x number ask why at)
 stand_keeps (allowed x) s number ask why at settles gateway =
     let stood : Entry = entry.Stood x.name ask.txn.product ask.txn.user ask.amount at in
-    let t : Txn = ask.txn in
-    (tt, keep_append (after_entry s stood) (post_entries t (account.Programme t.currency) (user_account t) ask.amount ++ hold_entries t part.P ask.amount)
-    (notice_entry number method.StandIn t None ask.amount 0 ∷ entry.Decided ask.event verdict.Approved ∷ [])
-    (paid_keeps (after_entry s stood) t (account.Programme t.currency) part.P ask.amount settles.may (settles.its part.P ∙ ap not gateway)) (tt, (tt, tt)))
+    let t : Txn = ask.txn in (
+      tt,
+      keep_append (after_entry s stood) (post_entries t (account.Programme t.currency) (user_account t) ask.amount ++ hold_entries t part.P ask.amount)
+          (notice_entry number method.StandIn t None ask.amount 0 ∷ entry.Decided ask.event verdict.Approved ∷ [])
+          (paid_keeps (after_entry s stood) t (account.Programme t.currency) part.P ask.amount settles.may (settles.its part.P ∙ ap not gateway)) (tt, (tt, tt)),
+    )
 stand_keeps (over_limit x) s number ask why at settles gateway = declined_keeps s ask (reason.StandInLimit x.name) settles
 stand_keeps uncovered s number ask why at settles gateway = declined_keeps s ask (failure_reason why) settles
 

@@ -1,15 +1,13 @@
 -- An entry that finds what it needs leaves what transactions hold well.
-use Rattle.std.proofs.Common.{◌≡◌, ℕ, suc, ℤ, pos, negsuc, ◌+ℤ◌, ◌+◌, Bool, true, false, cond, nat_eq, List, [], ◌∷◌, ◌++◌, map, fold, refl, sym, ap, subst, ◌∙◌, arith, ◌⊎◌, inl, inr}
+use Rattle.std.proofs.Common.{◌≡◌, ℕ, suc, ℤ, pos, negsuc, ◌+ℤ◌, Bool, true, false, cond, nat_eq, List, [], ◌∷◌, ◌++◌, map, fold, refl, sym, ap, subst, ◌∙◌, arith, ◌⊎◌, inl, inr}
 use Rattle.std.proofs.lemmas.Int.{ints}
 use Rattle.std.specs.Prelude.{Option, Some, None, option_map, ◌≤ℤ◌}
 use Rattle.std.specs.Option.{option_or}
 use Rattle.std.specs.Str.{bytes_eq}
-use Rattle.std.proofs.lemmas.List.Sums.{fold-append}
 use Rattle.iss_model.specs.declared.account.Part.{Part}
 use Rattle.iss_model.specs.declared.account.Part.TheVariants as part
 use Rattle.iss_model.specs.declared.call.How.{How}
 use Rattle.iss_model.specs.declared.call.Opened.{Opened}
-use Rattle.iss_model.specs.declared.currency.Currency.{Currency}
 use Rattle.iss_model.specs.declared.entry.Entry.{Entry}
 use Rattle.iss_model.specs.declared.entry.Entry.TheVariants as entry
 use Rattle.iss_model.specs.declared.input.Input.{Input}
@@ -20,7 +18,7 @@ use Rattle.iss_model.specs.Sums.{Change, part_key, part_number}
 use Rattle.iss_model.specs.rules.Activity.{TxnNow, CallNow, call_numbered, txn_named}
 use Rattle.iss_model.specs.rules.Asks.{is_authorization}
 use Rattle.iss_model.specs.rules.Reasons.{is_some_with}
-use Rattle.iss_model.specs.state.Cores.{CoreState, Holdings, after_entry, after_setting, begun_part_changes, call_after_close, is_live, txn_after_end}
+use Rattle.iss_model.specs.state.Cores.{CoreState, after_entry, after_setting, begun_part_changes, call_after_close, is_live, txn_after_end}
 use Rattle.iss_model.specs.state.Kept.{Kept, after_changes, kept_at}
 use Rattle.iss_model.proofs.KeptSums.{kept_at-after_changes}
 use Rattle.iss_model.proofs.Names.{one_name}

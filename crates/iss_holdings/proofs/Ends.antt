@@ -8,7 +8,6 @@ use Rattle.iss_model.specs.declared.entry.Entry.TheVariants as entry
 use Rattle.iss_model.specs.declared.input.Input.{Input}
 use Rattle.iss_model.specs.declared.input.Input.TheVariants as input
 use Rattle.iss_model.specs.declared.setting.Moved.TheVariants as moved
-use Rattle.iss_model.specs.declared.txn.Txn.{Txn}
 use Rattle.iss_model.specs.rules.Activity.{TxnNow, ends_txn, txn_named}
 use Rattle.iss_model.specs.rules.Reasons.{is_some_with}
 use Rattle.iss_model.specs.state.Cores.{CoreState, after_entry, after_setting, is_live, txn_after_end}
@@ -17,9 +16,9 @@ use Rattle.iss_effects.proofs.Finds.{found_passes}
 use Rattle.iss_docket.specs.Allowed.{IsAllowed}
 use Rattle.iss_docket.specs.Dockets.{docket_of}
 use Rattle.iss_docket.specs.Well.{has_live}
-use Rattle.iss_docket.proofs.Entering.{same_txn, txn_more}
+use Rattle.iss_docket.proofs.Entering.{txn_more}
 use Rattle.iss_pending.specs.Pending.{AreAllowed}
-use Rattle.iss_holdings.specs.Holdings.{ended_times, ends_left, has_ended}
+use Rattle.iss_holdings.specs.Holdings.{ended_times, ends_left}
 use Rattle.iss_holdings.proofs.Changes.{other_ended, txn_ended}
 
 abbrev left_by : Option TxnNow → ℕ

@@ -1,10 +1,10 @@
 -- The entries of what is due and of each kind of input find what they need.
-use Rattle.std.proofs.Common.{◌≡◌, ℕ, ◌+◌, ◌-◌, ◌≤◌, min, Bool, true, false, not, cond, ◌&&◌, ◌||◌, nat_eq, List, [], ◌∷◌, ◌++◌, fold, pos, refl, sym, ap, subst, ◌∙◌, arith}
-use Rattle.std.specs.Prelude.{Option, Some, None, is_some, option_map, option_and_then}
+use Rattle.std.proofs.Common.{◌≡◌, ℕ, ◌-◌, ◌≤◌, min, Bool, true, false, not, cond, ◌&&◌, ◌||◌, nat_eq, List, [], ◌∷◌, ◌++◌, fold, refl, sym, ap, subst, ◌∙◌, arith}
+use Rattle.std.specs.Prelude.{Option, Some, None, option_map, option_and_then}
 use Rattle.std.specs.List.{list_any}
 use Rattle.std.specs.Option.{option_or}
 use Rattle.std.specs.Str.{bytes_eq}
-use Rattle.std.proofs.lemmas.Bool.{and_parts, not-false}
+use Rattle.std.proofs.lemmas.Bool.{not-false}
 use Rattle.iss_model.specs.declared.account.Account.TheVariants as account
 use Rattle.iss_model.specs.declared.call.Failure.TheVariants as failure
 use Rattle.iss_model.specs.declared.call.Method.TheVariants as method
@@ -21,31 +21,31 @@ use Rattle.iss_model.specs.declared.setting.Card.{Card}
 use Rattle.iss_model.specs.declared.setting.Product.{Product}
 use Rattle.iss_model.specs.declared.txn.Txn.{Txn}
 use Rattle.iss_model.specs.Inputs.{event_token}
-use Rattle.iss_model.specs.rules.Activity.{TxnNow, CallNow, call_numbered, is_asked, txn_named}
-use Rattle.iss_model.specs.rules.Asks.{Ask, ask_usage, is_authorization, txn_begun}
-use Rattle.iss_model.specs.rules.CardEntries.{authorization_entries, clearing_entries, clearing_money_entries, failed_call_entries, funding_entries, further_clearing_entries, increment_entries, last_clearing_entries, outcome_entries, owed_to_programme, refund_entries, reversal_entries}
+use Rattle.iss_model.specs.rules.Activity.{TxnNow, CallNow, is_asked, txn_named}
+use Rattle.iss_model.specs.rules.Asks.{Ask, is_authorization, txn_begun}
+use Rattle.iss_model.specs.rules.CardEntries.{authorization_entries, clearing_entries, clearing_money_entries, failed_call_entries, further_clearing_entries, increment_entries, last_clearing_entries, outcome_entries, owed_to_programme, refund_entries, reversal_entries}
 use Rattle.iss_model.specs.rules.CardReasons.{authorization_reason, clearing_reason, first_ask, further_ask, increment_reason, is_pending, refund_reason, reversal_reason}
 use Rattle.iss_model.specs.rules.Due.{DueThing, call_due, expiry_entries, live_expiry_entries, thing_entries, txn_due}
 use Rattle.iss_model.specs.rules.Facts.{Facts, asked_calls_of, is_notice, next_notice, txn_in}
-use Rattle.iss_model.specs.rules.Pieces.{Parts, abandonment_entries, end_entries, in_all, left_of, notice_after_abandonment, notice_entry, only_gateway, only_where, parts_held, post_entries, release_entries, taken_to_clear, taken_to_release, user_account}
+use Rattle.iss_model.specs.rules.Pieces.{Parts, abandonment_entries, end_entries, in_all, left_of, notice_after_abandonment, notice_entry, only_gateway, only_where, parts_held, release_entries, taken_to_clear, taken_to_release, user_account}
 use Rattle.iss_model.specs.rules.Reasons.{is_some_with, load_reason}
 use Rattle.iss_model.specs.rules.Settings.{card_named, product_named}
-use Rattle.iss_model.specs.rules.Stepping.{acknowledgement_entries, authorization_ask, entries_of, increment_ask, load_entries, setting_entries, unless_declined}
+use Rattle.iss_model.specs.rules.Stepping.{authorization_ask, entries_of, increment_ask, load_entries, setting_entries, unless_declined}
 use Rattle.iss_model.specs.state.Cores.{CoreState, after_entry, core_facts, is_live}
 use Rattle.iss_model.proofs.Names.{its_name, same_name}
 use Rattle.iss_effects.proofs.Finds.{number_is}
-use Rattle.iss_invariants.proofs.Passing.{EachPasses, both_pass, gateway_passes, one_passes, passing, where_passes}
+use Rattle.iss_invariants.proofs.Passing.{both_pass, gateway_passes, one_passes, passing, where_passes}
 use Rattle.iss_invariants.proofs.Walk.{EachKind, walk}
-use Rattle.iss_docket.specs.Dockets.{Docket, docket_of}
-use Rattle.iss_docket.specs.Well.{IsAsked, IsWellAmong, Known, has_live}
+use Rattle.iss_docket.specs.Dockets.{docket_of}
+use Rattle.iss_docket.specs.Well.{IsWellAmong, Known, has_live}
 use Rattle.iss_docket.proofs.Entering.{txn_more}
 use Rattle.iss_docket.proofs.Lists.{both_so, found_filtered, inside, never, not_both, not_some}
 use Rattle.iss_pending.specs.Pending.{HasTakenUp}
 use Rattle.iss_pending.proofs.Due.{found_live, its_token}
-use Rattle.iss_holdings.specs.Holdings.{AllKeepHeld, HoldsNothing, IsHeldWell, is_part_of}
-use Rattle.iss_holdings.proofs.Asks.{MaySettle, SettlesCall, asked_keeps, failed_keeps, funding_keeps, outcome_keeps}
+use Rattle.iss_holdings.specs.Holdings.{AllKeepHeld, IsHeldWell, is_part_of}
+use Rattle.iss_holdings.proofs.Asks.{asked_keeps, failed_keeps, funding_keeps, outcome_keeps}
 use Rattle.iss_holdings.proofs.Changes.{begun_sum, keep_append}
-use Rattle.iss_holdings.proofs.Pieces.{AreCalm, HoldsJust, Leaves, abandoned_calm, calm_keep, calm_leaves, clearing_leaves, end_keeps, ended_keep, its_parts, nothing_left, post_calm, release_leaves, then_leaves}
+use Rattle.iss_holdings.proofs.Pieces.{AreCalm, Leaves, abandoned_calm, calm_keep, calm_leaves, clearing_leaves, end_keeps, ended_keep, its_parts, nothing_left, post_calm, release_leaves, then_leaves}
 
 -- calm entries behind others
 with_calm : (s : CoreState) (xs ys : List Entry) → AllKeepHeld s xs → AreCalm ys → AllKeepHeld s (xs ++ ys)
@@ -116,15 +116,20 @@ not_live (Some t) e = cc
 begun_keeps : (known : Known) (s : CoreState) (ask : Ask) → ask.txn.at ≤ s.now → IsWellAmong known (docket_of s) → IsHeldWell s → txn_named ask.txn.token s.holdings.txns ≡ None
     → AllKeepHeld s (authorization_entries (core_facts s) (Some ask))
 begun_keeps known s ask early well held none =
-    let dead : has_live s.holdings.txns ask.txn.token ≡ false = not_live (txn_named ask.txn.token s.holdings.txns) none in
-    (early, (tt, funding_keeps _ (core_facts s) ask (record {
-      its = λ p. ap (is_some_with (λ (t : TxnNow). is_part_of p t.txn.funding)) (begun_stands s.holdings.txns ask.txn none);
-      may = record {
-        its_live = begun_live s.holdings.txns ask.txn none;
-        none_pending = λ n c now same first. not_both (has_live s.holdings.txns ask.txn.token) (ap (has_live s.holdings.txns) (sym same) ∙ well.live n c now) dead;
-      };
-      nothing = λ first p. begun_sum s.holdings.parts ask.txn _ ∙ held.ended ask.txn.token dead p;
-    })))
+    let dead : has_live s.holdings.txns ask.txn.token ≡ false = not_live (txn_named ask.txn.token s.holdings.txns) none in (
+      early,
+      (
+        tt,
+        funding_keeps _ (core_facts s) ask (record {
+          its = λ p. ap (is_some_with (λ (t : TxnNow). is_part_of p t.txn.funding)) (begun_stands s.holdings.txns ask.txn none);
+          may = record {
+            its_live = begun_live s.holdings.txns ask.txn none;
+            none_pending = λ n c now same first. not_both (has_live s.holdings.txns ask.txn.token) (ap (has_live s.holdings.txns) (sym same) ∙ well.live n c now) dead;
+          };
+          nothing = λ first p. begun_sum s.holdings.parts ask.txn _ ∙ held.ended ask.txn.token dead p;
+        }),
+      ),
+    )
 
 -- an ask of an authorisation is for a transaction of its own token and stamp
 token_of_begun : (f : Facts) (token : List ℕ) (currency : Currency) (amount mcc : ℕ) (mid : List ℕ) (at : ℕ) (c : Card) (product : Option Product) (x : Ask)
@@ -166,19 +171,21 @@ raised_keeps s event txn currency amount at None e none = tt
 raised_keeps s event txn currency amount at (Some now) e none =
     let f : Facts = core_facts s in
     let second = first_fails (not now.live) reason.TxnClosed _ none in
-    let third = first_fails (is_pending f now.txn) reason.TxnPending _ second.1 in
-    (tt, funding_keeps _ f (further_ask event amount at now.txn) (record {
-      its = λ p. ap (is_some_with (λ (t : TxnNow). is_part_of p t.txn.funding)) (ap (λ (k : List ℕ). txn_named k s.holdings.txns) (its_token s.holdings.txns txn now e) ∙ e);
-      may = record {
-        its_live = found_live s.holdings.txns txn now e (not-false now.live second.0);
-        none_pending = λ n c asked same first.
-            not_both (is_pending f now.txn)
-            (found_filtered (λ (x : CallNow). nat_eq x.opened.call.0 n) (λ (x : CallNow). is_asked x && bytes_eq x.opened.txn now.txn.token) (λ (x : CallNow). is_authorization x.opened.method)
-            s.calls c asked.stands (both_so (is_asked c) (bytes_eq c.opened.txn now.txn.token) asked.asked (same_name c.opened.txn now.txn.token same)) first)
-            third.0;
-      };
-      nothing = never;
-    }))
+    let third = first_fails (is_pending f now.txn) reason.TxnPending _ second.1 in (
+      tt,
+      funding_keeps _ f (further_ask event amount at now.txn) (record {
+        its = λ p. ap (is_some_with (λ (t : TxnNow). is_part_of p t.txn.funding)) (ap (λ (k : List ℕ). txn_named k s.holdings.txns) (its_token s.holdings.txns txn now e) ∙ e);
+        may = record {
+          its_live = found_live s.holdings.txns txn now e (not-false now.live second.0);
+          none_pending = λ n c asked same first.
+              not_both (is_pending f now.txn)
+              (found_filtered (λ (x : CallNow). nat_eq x.opened.call.0 n) (λ (x : CallNow). is_asked x && bytes_eq x.opened.txn now.txn.token) (λ (x : CallNow). is_authorization x.opened.method)
+              s.calls c asked.stands (both_so (is_asked c) (bytes_eq c.opened.txn now.txn.token) asked.asked (same_name c.opened.txn now.txn.token same)) first)
+              third.0;
+        };
+        nothing = never;
+      }),
+    )
 
 -- reversals, clearings and refunds ----
 

@@ -1,9 +1,8 @@
 -- What the pieces of a step do to the parts of one transaction: each finds what it needs.
-use Rattle.std.proofs.Common.{◌≡◌, ℕ, zero, suc, ℤ, pos, negsuc, neg_ℤ, ◌+ℤ◌, ◌+◌, ◌-◌, ◌≤◌, min, Bool, true, false, cond, ◌&&◌, nat_eq, List, [], ◌∷◌, ◌++◌, fold, filter, refl, sym, ap, subst, ◌∙◌, arith}
+use Rattle.std.proofs.Common.{◌≡◌, ℕ, zero, suc, ℤ, pos, negsuc, neg_ℤ, ◌+ℤ◌, ◌+◌, ◌-◌, ◌≤◌, min, Bool, true, false, cond, nat_eq, List, [], ◌∷◌, ◌++◌, fold, refl, sym, ap, subst, ◌∙◌, arith}
 use Rattle.std.proofs.lemmas.Int.{ints}
-use Rattle.std.specs.Prelude.{Some, None, ◌≤ℤ◌}
+use Rattle.std.specs.Prelude.{◌≤ℤ◌}
 use Rattle.std.specs.List.{list_all}
-use Rattle.std.specs.Str.{bytes_eq}
 use Rattle.std.proofs.lemmas.Bool.{and_parts}
 use Rattle.std.proofs.lemmas.List.Sums.{fold-append}
 use Rattle.iss_model.specs.declared.account.Account.{Account}
@@ -22,12 +21,12 @@ use Rattle.iss_model.specs.rules.Activity.{CallNow}
 use Rattle.iss_model.specs.rules.Asks.{usage_of}
 use Rattle.iss_model.specs.rules.CardEntries.{clearing_money_entries}
 use Rattle.iss_model.specs.rules.Facts.{Facts, asked_calls_of, not_below}
-use Rattle.iss_model.specs.rules.Pieces.{Parts, abandoned_calls_entries, end_entries, hold_entries, in_all, left_of, only_gateway, only_where, parts_held, post_entries, release_entries, taken_to_clear, taken_to_release, unhold_entries, use_return_entries, user_account}
+use Rattle.iss_model.specs.rules.Pieces.{Parts, abandoned_calls_entries, end_entries, in_all, left_of, only_gateway, only_where, parts_held, post_entries, release_entries, taken_to_clear, taken_to_release, unhold_entries, use_return_entries, user_account}
 use Rattle.iss_model.specs.state.Cores.{CoreState, after_entry, after_setting, core_facts}
-use Rattle.iss_model.specs.state.Kept.{Kept, after_changes, kept_at}
+use Rattle.iss_model.specs.state.Kept.{Kept, after_changes}
 use Rattle.iss_model.proofs.Names.{its_name}
 use Rattle.iss_effects.proofs.Finds.{number_is}
-use Rattle.iss_invariants.proofs.Passing.{EachPasses, both_pass, either_passes, gateway_passes, one_passes, passing, where_passes}
+use Rattle.iss_invariants.proofs.Passing.{EachPasses, gateway_passes, one_passes, passing, where_passes}
 use Rattle.iss_docket.specs.Dockets.{Docket, docket_of}
 use Rattle.iss_docket.proofs.Docketed.{AreSilent}
 use Rattle.iss_pending.proofs.Staying.{comes_to}

@@ -1,11 +1,10 @@
 -- A step keeps what transactions hold well, and ends no transaction that had ended.
-use Rattle.std.proofs.Common.{◌≡◌, ℕ, ◌+◌, ◌≤◌, List, [], ◌∷◌, ◌++◌, fold, refl, sym, ap, subst, ◌∙◌, arith}
-use Rattle.std.specs.Prelude.{ℤ, pos, ◌≤ℤ◌, Option, Some, None, unwrap_or}
+use Rattle.std.proofs.Common.{◌≡◌, ℕ, ◌+◌, ◌≤◌, List, [], ◌∷◌, ◌++◌, fold, ap, arith}
+use Rattle.std.specs.Prelude.{ℤ, pos, ◌≤ℤ◌, Option, Some, unwrap_or}
 use Rattle.std.specs.Cmp.Lexicographic.{slice_cmp}
 use Rattle.std.specs.FinMap as finite
 use Rattle.std.specs.Ordering.{nat_cmp}
 use Rattle.std.proofs.lemmas.Int.{ints}
-use Rattle.iss_model.specs.declared.account.Part.{Part}
 use Rattle.iss_model.specs.declared.entry.Entry.{Entry}
 use Rattle.iss_model.specs.declared.input.Input.{Input}
 use Rattle.iss_model.specs.declared.input.Record.{Record}
@@ -19,11 +18,10 @@ use Rattle.iss_model.specs.state.Cores.{CoreState, after_entry, core_facts, core
 use Rattle.iss_model.specs.state.Kept.{kept_at, nothing_kept}
 use Rattle.iss_invariants.specs.Sound.{IsNewEvent}
 use Rattle.iss_invariants.proofs.Legal.{legal_induction}
-use Rattle.iss_docket.specs.Well.{IsAsked}
 use Rattle.iss_pending.specs.Pending.{HasTakenUp, IsWell}
 use Rattle.iss_pending.proofs.Legal.{nothing_well}
 use Rattle.iss_pending.proofs.Steps.{due_allowed, own_allowed, ready_settled, ready_taken, step_well}
-use Rattle.iss_holdings.specs.Holdings.{HoldsNothing, IsHeldWell, ended_times, ends_left}
+use Rattle.iss_holdings.specs.Holdings.{IsHeldWell, ended_times, ends_left}
 use Rattle.iss_holdings.proofs.Changes.{entries_held}
 use Rattle.iss_holdings.proofs.Ends.{ended_append, entries_left}
 use Rattle.iss_holdings.proofs.Inputs.{own_keeps, thing_keeps}
