@@ -16,3 +16,4 @@ pub mod KeptAnswers
 pub mod Answering
 pub mod Hopeless
 pub mod Stays
+pub mod Endings

@@ -12,3 +12,8 @@ pub mod ToldOpenings
 pub mod Said
 pub mod Causes
 pub mod GoodDevices
+pub mod StaysServed
+pub mod ServedTexts
+pub mod Telling
+pub mod Waiters
+pub mod Resumed

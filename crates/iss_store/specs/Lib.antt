@@ -5,3 +5,5 @@ pub mod Planning
 pub mod Committing
 pub mod Saying
 pub mod Opening
+pub mod Waiting
+pub mod Serving

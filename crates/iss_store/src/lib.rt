@@ -9,12 +9,16 @@
 #![tactic(auto)]
 
 mod durable;
+mod entries;
 mod fault;
 mod laws;
 mod opening;
 mod planned;
 mod routes;
 mod saying;
+mod sending;
+mod served;
+mod serving;
 mod store;
 
 pub use durable::Durable;
@@ -22,4 +26,5 @@ pub use fault::{OpenFault, PlanFault, StoreFault};
 pub use laws::good_devices_open;
 pub use planned::Planned;
 pub use routes::Routes;
+pub use served::Served;
 pub use store::Store;

@@ -1,12 +1,14 @@
 //! What a store says: what a committed record makes, what is still asked, and answers.
-ghost use Rattle.std.specs.Prelude.{◌≡◌, ◌<◌, ◌^◌, [], ◌∷◌, List, IfOk, OnOk, OnErr};
+ghost use Rattle.std.specs.Prelude.{◌≡◌, ◌<◌, ◌^◌, [], ◌∷◌, List, IfOk, IsErrOf, OnOk, OnErr};
 ghost use Rattle.std.specs.List.{flat_map};
 ghost use Rattle.iss_edge.specs.World.{Told};
+ghost use Rattle.iss_edge.specs.Outer.{outer_of, Adds};
 ghost use Rattle.iss_model.specs.declared.input.Record.{Record};
 ghost use Rattle.iss_model.specs.texts.AnswerLines.{answer_text};
 ghost use Rattle.iss_texts.specs.TextRows.{Gains, HasAll, said_texts};
 ghost use Rattle.iss_store.specs.Values.{said_of};
-ghost use Rattle.iss_texts.specs.Sending.{Says, SaysSome};
+ghost use Rattle.iss_texts.specs.Sending.{Says, SaysSome, SentEach, StopsAt};
+ghost use Rattle.iss_store.specs.declared.fault.StoreFault.TheVariants.{Output, OutOfMemory};
 ghost use Rattle.iss_store.specs.Standing.{StandsFor};
 ghost use Rattle.iss_store.specs.Saying.{texts_of_record, texts_pending, texts_pending_on_book, request_texts, notice_texts, StaysGood, SayingCause, IsDurableOf};
 
@@ -22,7 +24,7 @@ use std::alloc::{AllocError, Global};
 impl Store {
     /// Sends what the record of this store's last commit says: the decisions, requests, notices and acknowledgements of its
     /// entries in their order, and then that a time was taken, each by one emit. Over lines nothing is watched for afterwards.
-    #[tactic(auto, using(crate::proofs::Stays::told_some_stay, crate::proofs::Stays::told_all_stay, crate::proofs::Stays::told_nothing_stays, iss_texts::proofs::Rows::gained_all, iss_texts::proofs::Rows::all_end))]
+    #[tactic(auto, using(crate::proofs::Stays::told_some_stay, crate::proofs::Stays::told_all_stay, crate::proofs::Stays::told_nothing_stays, crate::proofs::ServedTexts::told_unchanged, iss_texts::proofs::Rows::gained_all, iss_texts::proofs::Rows::all_end))]
     pub fn release<E: Edge>(
         &self,
         alloc: Global,
@@ -37,6 +39,13 @@ impl Store {
         ensures cause { SayingCause (E.faults edge.old) (E.faults edge.new) result }
         ensures gone { IfOk result (λ gone. gone.items ≡ []) }
         ensures kept { E.extent edge.new ≡ E.extent edge.old }
+        ensures sent { OnOk result (Told (SentEach (texts_of_record self.now durable))
+            (outer_of (E.told edge.old) (E.heard edge.old)) (outer_of (E.told edge.new) (E.heard edge.new))) }
+        ensures stopped { IsErrOf result Output → Told (StopsAt (texts_of_record self.now durable))
+            (outer_of (E.told edge.old) (E.heard edge.old)) (outer_of (E.told edge.new) (E.heard edge.new)) }
+        ensures unsent { IsErrOf result OutOfMemory → Told (Adds [] [])
+            (outer_of (E.told edge.old) (E.heard edge.old)) (outer_of (E.told edge.new) (E.heard edge.new)) }
+        ensures channels { E.channels edge.new ≡ E.channels edge.old }
     {
         let mut texts = Texts::new(alloc);
         put_record(&mut texts, &durable, self.core.instance())?;
@@ -48,7 +57,7 @@ impl Store {
 
     /// Sends what still waits for the gateway: the request of each call that is asked, by number, and then each notice that
     /// isn't acknowledged, by number. The bytes are those that went out before, since they follow from what stands.
-    #[tactic(auto, using(crate::proofs::Stays::told_some_stay, crate::proofs::Stays::told_all_stay, crate::proofs::Stays::told_nothing_stays, crate::proofs::Said::pending_on_book, iss_texts::proofs::Rows::all_end))]
+    #[tactic(auto, using(crate::proofs::Stays::told_some_stay, crate::proofs::Stays::told_all_stay, crate::proofs::Stays::told_nothing_stays, crate::proofs::ServedTexts::told_unchanged, crate::proofs::Said::pending_on_book, iss_texts::proofs::Rows::all_end))]
     pub fn resume<E: Edge>(
         &self,
         alloc: Global,
@@ -62,6 +71,13 @@ impl Store {
         ensures cause { SayingCause (E.faults edge.old) (E.faults edge.new) result }
         ensures gone { IfOk result (λ gone. gone.items ≡ []) }
         ensures kept { E.extent edge.new ≡ E.extent edge.old }
+        ensures sent { OnOk result (Told (SentEach (texts_pending self.now))
+            (outer_of (E.told edge.old) (E.heard edge.old)) (outer_of (E.told edge.new) (E.heard edge.new))) }
+        ensures stopped { IsErrOf result Output → Told (StopsAt (texts_pending self.now))
+            (outer_of (E.told edge.old) (E.heard edge.old)) (outer_of (E.told edge.new) (E.heard edge.new)) }
+        ensures unsent { IsErrOf result OutOfMemory → Told (Adds [] [])
+            (outer_of (E.told edge.old) (E.heard edge.old)) (outer_of (E.told edge.new) (E.heard edge.new)) }
+        ensures channels { E.channels edge.new ≡ E.channels edge.old }
     {
         let texts = self.pending_texts(alloc)?;
         match routes.kind {
@@ -81,7 +97,7 @@ impl Store {
     }
 
     /// Sends what an input is told that makes no record.
-    #[tactic(auto, using(crate::proofs::Stays::told_nothing_stays, crate::proofs::Stays::emitted_stays, crate::proofs::Stays::emitted_in_part, crate::proofs::Stays::prefix_stays))]
+    #[tactic(auto, using(crate::proofs::Stays::told_nothing_stays, crate::proofs::ServedTexts::told_unchanged, crate::proofs::Stays::emitted_stays, crate::proofs::Telling::tell_sent, crate::proofs::Telling::tell_stopped, crate::proofs::Stays::emitted_in_part, crate::proofs::Stays::prefix_stays))]
     pub fn tell<E: Edge>(
         &self,
         alloc: Global,
@@ -96,6 +112,13 @@ impl Store {
         ensures stays { Told StaysGood (E.told edge.old) (E.told edge.new) }
         ensures cause { SayingCause (E.faults edge.old) (E.faults edge.new) result }
         ensures kept { E.extent edge.new ≡ E.extent edge.old }
+        ensures sent { OnOk result (Told (SentEach (answer_text answer.now ∷ []))
+            (outer_of (E.told edge.old) (E.heard edge.old)) (outer_of (E.told edge.new) (E.heard edge.new))) }
+        ensures stopped { IsErrOf result Output → Told (StopsAt (answer_text answer.now ∷ []))
+            (outer_of (E.told edge.old) (E.heard edge.old)) (outer_of (E.told edge.new) (E.heard edge.new)) }
+        ensures unsent { IsErrOf result OutOfMemory → Told (Adds [] [])
+            (outer_of (E.told edge.old) (E.heard edge.old)) (outer_of (E.told edge.new) (E.heard edge.new)) }
+        ensures channels { E.channels edge.new ≡ E.channels edge.old }
     {
         let line = told_line(alloc, answer)?;
         match routes.kind {

@@ -1,0 +1,68 @@
+-- What each answer on a link comes by, in plain terms.
+use Rattle.std.specs.Prelude.{◌≡◌, ◌⊎◌, ◌↔◌, ℕ, Bool, true, false, List, [], ◌∷◌, ◌++◌, Option, Some, None}
+use Rattle.iss_model.specs.declared.call.Opened.{Opened}
+use Rattle.iss_model.specs.declared.call.CallId.{CallId}
+use Rattle.iss_model.specs.declared.input.Outcome.TheVariants.{Refused, Application, Connection}
+use Rattle.iss_http.specs.Answers.{Reading, more, ended, garbled, whole, answer_read}
+use Rattle.iss_jit.specs.Outcomes.{outcome_of}
+use Rattle.iss_serving.specs.Desks.{of_call, of_notice}
+use Rattle.iss_serving.specs.Links.{Link, Heard, unfinished, outcome, acknowledged, dropped, link_reading, heard_as}
+
+-- what is heard of a link once a take brought this
+abbrev pub heard_then : ℕ → Link → Option (List ℕ) → Bool → Heard
+heard_then instance link got early = heard_as (outcome_of instance) link.subject (link_reading link got early)
+
+-- at least one byte came, and with those before they are no answer yet
+abbrev pub AreMore : Link → Option (List ℕ) → Type 0
+AreMore link (Some (b ∷ piece)) = answer_read (link.bytes ++ b ∷ piece) false ≡ more
+AreMore link _ = ⊥
+
+-- nothing is heard only where bytes came and the answer isn't whole
+abbrev pub UnfinishedOnlyAt : Type 0
+UnfinishedOnlyAt =
+    (instance : ℕ) (link : Link) (got : Option (List ℕ)) (early : Bool) → heard_then instance link got early ≡ unfinished → AreMore link got
+
+-- the channel failed, or ended before an answer was whole
+abbrev pub IsCutOff : Link → Option (List ℕ) → Type 0
+IsCutOff link None = Unit {0}
+IsCutOff link (Some []) = answer_read (link.bytes ++ []) true ≡ ended
+IsCutOff link (Some (b ∷ piece)) = ⊥
+
+-- a call isn't connected only where its channel failed or ended early
+abbrev pub ConnectionOnlyAt : Type 0
+ConnectionOnlyAt =
+    (instance : ℕ) (link : Link) (call : CallId) (got : Option (List ℕ)) (early : Bool)
+    → heard_then instance link got early ≡ outcome call Connection → IsCutOff link got
+
+-- a whole answer comes to this for a call
+pub record IsWholeAs (P : ℕ → List ℕ → Type 0) (reading : Reading) : Type 0 where
+  pub status : ℕ
+  pub body : List ℕ
+  pub is : reading ≡ whole status body
+  pub so : P status body
+
+-- an answer decides nothing exactly where it can't be understood, or is whole and neither funds the call nor refuses it
+abbrev pub ApplicationExactly : Type 0
+ApplicationExactly =
+    (instance : ℕ) (o : Opened) (reading : Reading)
+    → (heard_as (outcome_of instance) (of_call o) reading ≡ outcome o.call Application)
+    ↔ ((reading ≡ garbled) ⊎ IsWholeAs (λ status body. outcome_of instance o status body ≡ Application) reading)
+
+-- a call is refused exactly by a whole answer of status 402
+abbrev pub RefusedExactly : Type 0
+RefusedExactly =
+    (instance : ℕ) (o : Opened) (reading : Reading)
+    → (heard_as (outcome_of instance) (of_call o) reading ≡ outcome o.call Refused) ↔ IsWholeAs (λ status body. status ≡ 402) reading
+
+-- a notice is acknowledged exactly by a whole answer of status 200
+abbrev pub AcknowledgedExactly : Type 0
+AcknowledgedExactly =
+    (instance n : ℕ) (reading : Reading)
+    → (heard_as (outcome_of instance) (of_notice n) reading ≡ acknowledged n) ↔ IsWholeAs (λ status body. status ≡ 200) reading
+
+-- A notice isn't acknowledged exactly where its channel failed, ended early, gave what can't be understood or a whole answer of another status.
+abbrev pub DroppedExactly : Type 0
+DroppedExactly =
+    (instance n : ℕ) (reading : Reading)
+    → (heard_as (outcome_of instance) (of_notice n) reading ≡ dropped n)
+    ↔ ((reading ≡ ended) ⊎ ((reading ≡ garbled) ⊎ IsWholeAs (λ status body. status ≡ 200 → ⊥) reading))

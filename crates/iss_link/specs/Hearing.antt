@@ -1,0 +1,65 @@
+-- What is heard on a watched channel, by one take.
+use Rattle.std.specs.Prelude.{◌≡◌, ℕ, Bool, true, List, [], ◌∷◌, Option, Some, None, option_map, take, IfNone, Result, IfOk, OnErr}
+use Rattle.iss_edge.specs.declared.outside.Channel.{Channel}
+use Rattle.iss_edge.specs.declared.outside.Action.{Action}
+use Rattle.iss_edge.specs.declared.outside.Action.TheVariants.{Close}
+use Rattle.iss_edge.specs.declared.outside.Answered.TheVariants.{Took}
+use Rattle.iss_edge.specs.World.{Told, Faults, Rose}
+use Rattle.iss_edge.specs.Channels.{Channels, count_of, take_fault, after_close}
+use Rattle.iss_edge.specs.Outer.{Outer, Adds}
+use Rattle.iss_http.specs.declared.answers.Answer.{Answer}
+use Rattle.iss_http.specs.Heard as came
+use Rattle.iss_jit.specs.Outcomes.{outcome_of}
+use Rattle.iss_serving.specs.Items.{is_piece}
+use Rattle.iss_serving.specs.Links.{Link, unfinished, link_reading, heard_as, piece_of, links_with, links_without, links_after, MayReadEarly}
+use Rattle.iss_serving.specs.Links as link
+use Rattle.iss_serving.specs.Hearings.{link_at}
+use Rattle.iss_link.specs.declared.heard.Heard.{Heard}
+use Rattle.iss_link.specs.Values.{LinksNow, heard_of}
+
+-- what a take brought, by the buffer that it was put into
+abbrev pub got_in : List ℕ → Option ℕ → Option (List ℕ)
+got_in buffer count = option_map (λ n. take n buffer) count
+
+-- A link had what a take brought: what its bytes are then, and the links. While no answer is whole the bytes are kept; then only the
+-- other links are.
+pub record Reads (ch : Channel) (got : Option (List ℕ)) (before after : List Link) (said : Option Answer) : Type 0 where
+  pub link : Link
+  pub found : link_at ch before ≡ Some link
+  pub early : Bool
+  pub may : MayReadEarly link got early
+  pub reading : came.heard said ≡ link_reading link got early
+  pub kept : IfNone said (after ≡ links_with ch (piece_of got) before)
+  pub still : link_at ch after ≡ None → ⊥
+  pub others : links_without ch after ≡ links_without ch before
+
+-- a channel is closed once its answer was heard
+abbrev pub closing : Channel → link.Heard → List Action
+closing ch unfinished = []
+closing ch _ = Close ch ∷ []
+
+-- and then it isn't open any more
+abbrev pub channels_after : Channel → link.Heard → Channels → Channels
+channels_after ch unfinished channels = channels
+channels_after ch _ channels = after_close ch channels
+
+-- A take brought this, what it was heard as by the link's subject and all of its bytes, and the links then: without the one whose
+-- answer was heard.
+pub record Answers (before after : LinksNow) (ch : Channel) (got : Option (List ℕ)) (said : link.Heard) : Type 0 where
+  pub link : Link
+  pub found : link_at ch before.links ≡ Some link
+  pub early : Bool
+  pub may : MayReadEarly link got early
+  pub answer : said ≡ heard_as (outcome_of before.instance) link.subject (link_reading link got early)
+  pub instance : after.instance ≡ before.instance
+  pub links : after.links ≡ links_after ch (piece_of got) before.links said
+
+-- One take was made on a watched channel; it failed only where the count of that channel's kind rose. This was heard of it, and done:
+-- the channel was closed once its answer was heard.
+pub record Listens {E : Type 0} (before after : LinksNow) (ch : Channel) (result : Result Heard E) (channels : Channels) (f g : Faults) (x y : Option Outer) : Type 0 where
+  pub got : Option (List ℕ)
+  pub piece : is_piece got ≡ true
+  pub failed : got ≡ None → Rose (count_of (take_fault channels ch) f) (count_of (take_fault channels ch) g)
+  pub answers : IfOk result (λ said. Answers before after ch got (heard_of said))
+  pub told : IfOk result (λ said. Told (Adds (closing ch (heard_of said)) (Took ch got ∷ [])) x y)
+  pub untold : OnErr result (Told (Adds [] (Took ch got ∷ [])) x y)

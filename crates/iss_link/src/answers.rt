@@ -1,0 +1,145 @@
+//! An answer on a watched channel: one take, and what its bytes come to.
+ghost use Rattle.std.specs.Prelude.{◌≡◌, ◌<◌, ◌≤◌, ◌^◌, ℕ, List, length, [], ◌∷◌, Some, None, IfOk, IfSome, IfErr, IsSome, OnErr};
+ghost use Rattle.iss_edge.specs.declared.outside.Answered.TheVariants.{Took};
+ghost use Rattle.iss_edge.specs.World.{Told, Later, Rose};
+ghost use Rattle.iss_edge.specs.Channels.{count_of, take_fault};
+ghost use Rattle.iss_edge.specs.Outer.{outer_of, Adds};
+ghost use Rattle.iss_http.specs.Heard.{reading_of};
+ghost use Rattle.iss_jit.specs.Outcomes.{outcome_of};
+ghost use Rattle.iss_model.specs.declared.call.Opened.{Opened};
+ghost use Rattle.iss_model.specs.declared.input.Outcome.{Outcome};
+ghost use Rattle.iss_serving.specs.Desks.{of_call, of_notice};
+ghost use Rattle.iss_serving.specs.Links.{heard_as, outcome};
+ghost use Rattle.iss_serving.specs.Hearings.{link_at};
+ghost use Rattle.iss_link.specs.Values.{subject_of, heard_of};
+ghost use Rattle.iss_link.specs.Kept.{IsTable, links_in};
+ghost use Rattle.iss_link.specs.Hearing.{Reads, Listens, got_in, channels_after};
+
+use crate::Heard;
+use crate::table::Table;
+use crate::watched::About;
+use iss_edge::{Channel, Edge};
+use iss_http::Answer;
+use iss_jit::answer as jit_answer;
+use iss_model::{Opened, Outcome};
+use std::alloc::{AllocError, Global};
+
+/// The status of a gateway that acknowledges a notice: OK of RFC 9110.
+const ACKNOWLEDGED: u16 = 200;
+
+/// Takes once from a watched channel that is ready, and gives what its bytes come to. Once that is an answer, the channel is closed and
+/// watched no longer.
+pub(crate) fn listen<E: Edge>(
+    table: &mut Table,
+    buffer: &mut [u8],
+    alloc: Global,
+    edge: &mut E,
+    ch: Channel,
+    instance: u64,
+) -> Result<Heard, AllocError>
+    requires table { IsTable table.old }
+    requires watched { IsSome (link_at ch (links_in table.old)) }
+    requires ready { (E.channels edge.old).ready ≡ Some ch.0 }
+    requires room { length buffer.old ≡ 4096 }
+    requires instance { instance < 2 ^ 48 }
+    ensures table { IsTable table.new }
+    ensures room { length buffer.new ≡ 4096 }
+    ensures listens { Listens (record { instance = instance; links = links_in table.old }) (record { instance = instance; links = links_in table.new })
+        ch result (E.channels edge.old) (E.faults edge.old) (E.faults edge.new)
+        (outer_of (E.told edge.old) (E.heard edge.old)) (outer_of (E.told edge.new) (E.heard edge.new)) }
+    ensures later { Later (E.faults edge.old) (E.faults edge.new) }
+    ensures kept { E.extent edge.new ≡ E.extent edge.old }
+    ensures channels { IfOk result (λ said. E.channels edge.new ≡ channels_after ch (heard_of said) (E.channels edge.old)) }
+    ensures still { OnErr result (E.channels edge.new ≡ E.channels edge.old) }
+{
+    let about = table.about(ch);
+    let got = take(edge, ch, buffer);
+    let Some(answer) = read(table, alloc, ch, buffer, got)? else {
+        return Ok(Heard::Nothing);
+    };
+    let said = hear(alloc, &about, &answer, instance)?;
+    table.remove(ch);
+    edge.close(ch);
+    Ok(said)
+}
+
+/// Takes the next bytes of a channel into a buffer, none at their end, and gives how many came. `None` where it failed.
+fn take<E: Edge>(edge: &mut E, ch: Channel, buffer: &mut [u8]) -> Option<usize>
+    requires ready { (E.channels edge.old).ready ≡ Some ch.0 }
+    requires room { length buffer.old ≡ 4096 }
+    ensures room { length buffer.new ≡ 4096 }
+    ensures bound { IfSome result (λ count. count ≤ length buffer.new) }
+    ensures told { Told (Adds [] (Took ch (got_in buffer.new result) ∷ []))
+        (outer_of (E.told edge.old) (E.heard edge.old)) (outer_of (E.told edge.new) (E.heard edge.new)) }
+    ensures failed { result ≡ None → Rose (count_of (take_fault (E.channels edge.old) ch) (E.faults edge.old))
+        (count_of (take_fault (E.channels edge.old) ch) (E.faults edge.new)) }
+    ensures later { Later (E.faults edge.old) (E.faults edge.new) }
+    ensures kept { E.extent edge.new ≡ E.extent edge.old }
+    ensures channels { E.channels edge.new ≡ E.channels edge.old }
+{
+    match edge.take(ch, buffer) {
+        Ok(count) => Some(count),
+        Err(_) => None,
+    }
+}
+
+/// What a channel's bytes are once a take brought these, or failed, which ends them.
+fn read(
+    table: &mut Table,
+    alloc: Global,
+    ch: Channel,
+    buffer: &[u8],
+    got: Option<usize>,
+) -> Result<Option<Answer>, AllocError>
+    requires table { IsTable table.old }
+    requires watched { IsSome (link_at ch (links_in table.old)) }
+    requires bound { IfSome got (λ count. count ≤ length buffer.now) }
+    ensures table { IsTable table.new }
+    ensures reads { IfOk result (Reads ch (got_in buffer.now got) (links_in table.old) (links_in table.new)) }
+{
+    match got {
+        None => Ok(Some(Answer::Ended)),
+        Some(count) => table.feed(alloc, ch, &buffer[..count]),
+    }
+}
+
+/// What an answer means for what it is about.
+fn hear(alloc: Global, about: &About, answer: &Answer, instance: u64) -> Result<Heard, AllocError>
+    requires { instance < 2 ^ 48 }
+    ensures { IfOk result (λ said. heard_of said ≡ heard_as (outcome_of instance) (subject_of about.now) (reading_of answer.now)) }
+{
+    match about {
+        About::Call(opened) => {
+            let said = outcome(alloc, opened, answer, instance)?;
+            Ok(Heard::Outcome(opened.call, said))
+        }
+        About::Notice(number) => Ok(acknowledged(*number, answer)),
+    }
+}
+
+/// What an answer comes to for a call.
+fn outcome(
+    alloc: Global,
+    opened: &Opened,
+    answer: &Answer,
+    instance: u64,
+) -> Result<Outcome, AllocError>
+    requires { instance < 2 ^ 48 }
+    ensures { IfOk result (λ said. heard_as (outcome_of instance) (of_call opened.now) (reading_of answer.now) ≡ outcome opened.now.call said) }
+{
+    match answer {
+        Answer::Whole(status, body) => jit_answer(alloc, *status, body, opened, instance),
+        Answer::Garbled => Ok(Outcome::Application),
+        Answer::Ended => Ok(Outcome::Connection),
+    }
+}
+
+/// Whether an answer acknowledges a notice.
+fn acknowledged(number: u32, answer: &Answer) -> Heard
+    ensures { (read : Opened → ℕ → List ℕ → Outcome) → heard_of result ≡ heard_as read (of_notice number) (reading_of answer.now) }
+{
+    match answer {
+        Answer::Whole(status, _) if *status == ACKNOWLEDGED => Heard::Acked(number),
+        _ => Heard::Dropped(number),
+    }
+}

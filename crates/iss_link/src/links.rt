@@ -1,0 +1,118 @@
+//! The channels on which the gateway's answers are awaited.
+ghost use Rattle.std.specs.Prelude.{◌≡◌, ◌<◌, ◌^◌, ◌++◌, [], map, length, Some, IfOk, OnOk, OnErr, IsSome};
+ghost use Rattle.iss_edge.specs.World.{Later};
+ghost use Rattle.iss_edge.specs.Outer.{outer_of};
+ghost use Rattle.iss_serving.specs.Hearings.{link_at, links_of};
+ghost use Rattle.iss_link.specs.Values.{gone_as, heard_of, state_on, MayBeWatched};
+ghost use Rattle.iss_link.specs.Hearing.{Listens, channels_after};
+
+use crate::answers::listen;
+use crate::table::Table;
+use crate::watched::{About, Watched};
+use crate::{Gone, Heard, LinkState};
+use iss_edge::{Channel, Edge};
+use std::alloc::{AllocError, Global};
+use std::marker::Model;
+
+/// How many bytes a take may bring.
+const PIECE: usize = 4096;
+
+/// The channels on which the gateway's answers are awaited, each with what it is about and the bytes that came on it. Contracts see
+/// the instance, and the links in the order in which they were watched.
+#[derive(Drop)]
+pub struct Links {
+    instance: u64,
+    table: Table,
+    buffer: Vec<u8>,
+}
+
+impl Model for Links {
+    ghost use Rattle.iss_link.specs.Values.{LinksNow};
+    ghost use Rattle.iss_link.specs.Kept.{AreLinks, links_in};
+
+    ghost Value = { LinksNow };
+
+    ghost view = { λ l. record { instance = l.instance; links = links_in l.table } };
+
+    ghost invariant = { λ l. AreLinks l.instance l.table l.buffer.items };
+}
+
+impl Links {
+    /// No channel is watched.
+    pub fn new(alloc: Global, instance: u64) -> Result<Links, AllocError>
+        requires { instance < 2 ^ 48 }
+        ensures { IfOk result (λ links. links ≡ record { instance = instance; links = [] }) }
+    {
+        Ok(Links {
+            instance,
+            table: Table::new(alloc),
+            buffer: zeros(alloc, PIECE)?,
+        })
+    }
+
+    /// Watches the channel on which a request or a notice went out. Where allocation fails all stays as it was.
+    pub fn watch(&mut self, gone: &Gone) -> Result<(), AllocError>
+        requires { MayBeWatched self.old.links gone.now }
+        ensures watched { OnOk result (self.new ≡ record self.old { links = self.old.links ++ links_of (gone_as gone.now) }) }
+        ensures unchanged { OnErr result (self.new ≡ self.old) }
+    {
+        match gone {
+            Gone::Asked(opened, ch) => self.table.add(Watched::new(*ch, About::Call(*opened))),
+            Gone::Noted(number, ch) => self.table.add(Watched::new(*ch, About::Notice(*number))),
+            Gone::Unreached(_) => Ok(()),
+        }
+    }
+
+    /// How far the answer on a channel has come, `None` exactly where the channel isn't watched.
+    pub fn state(&self, ch: Channel) -> Option<LinkState>
+        ensures { result ≡ state_on ch self.now.links }
+    {
+        let watched = self.table.find(ch)?;
+        Some(watched.state())
+    }
+
+    /// Takes once from a watched channel that is ready, and gives what was heard.
+    ///
+    /// `Nothing` only where bytes came and the answer isn't whole; `Connection` only where the take failed or the bytes ended before a
+    /// whole answer. After each answer but `Nothing` the channel is closed and watched no longer. Where an allocation fails, the
+    /// take was made, and what is watched is open.
+    pub fn ready<E: Edge>(
+        &mut self,
+        alloc: Global,
+        edge: &mut E,
+        ch: Channel,
+    ) -> Result<Heard, AllocError>
+        requires watched { IsSome (link_at ch self.old.links) }
+        requires ready { (E.channels edge.old).ready ≡ Some ch.0 }
+        ensures listens { Listens self.old self.new ch result (E.channels edge.old) (E.faults edge.old) (E.faults edge.new)
+            (outer_of (E.told edge.old) (E.heard edge.old)) (outer_of (E.told edge.new) (E.heard edge.new)) }
+        ensures later { Later (E.faults edge.old) (E.faults edge.new) }
+        ensures kept { E.extent edge.new ≡ E.extent edge.old }
+        ensures channels { IfOk result (λ said. E.channels edge.new ≡ channels_after ch (heard_of said) (E.channels edge.old)) }
+        ensures still { OnErr result (E.channels edge.new ≡ E.channels edge.old) }
+    {
+        listen(
+            &mut self.table,
+            &mut self.buffer,
+            alloc,
+            edge,
+            ch,
+            self.instance,
+        )
+    }
+
+    /// The watched channels, in the order in which they were watched.
+    pub fn channels(&self, alloc: Global) -> Result<Vec<Channel>, AllocError>
+        ensures { IfOk result (λ v. v.items ≡ map (λ link. link.ch) self.now.links) }
+    {
+        self.table.channels(alloc)
+    }
+}
+
+/// So many zeros.
+fn zeros(alloc: Global, size: usize) -> Result<Vec<u8>, AllocError>
+    ensures { IfOk result (λ bytes. length bytes.items ≡ size) }
+{
+    let bytes = vec![in alloc; 0; size]?;
+    Ok(bytes)
+}

@@ -1,0 +1,183 @@
+//! What the entries of a record send while clients are served.
+ghost use Rattle.std.specs.Prelude.{◌≡◌, ◌<◌, ◌^◌, List, [], ◌∷◌, ◌++◌, IfOk, OnOk, OnErr};
+ghost use Rattle.std.specs.List.{flat_map};
+ghost use Rattle.iss_edge.specs.World.{Told, Later};
+ghost use Rattle.iss_edge.specs.Outer.{outer_of, Adds};
+ghost use Rattle.iss_model.specs.declared.decision.Reply.TheVariants.{Decided};
+ghost use Rattle.iss_model.specs.texts.GatewayTexts.{request_text, notice_text};
+ghost use Rattle.iss_model.specs.texts.Wordings.{reply_line};
+ghost use Rattle.iss_http.specs.Messages.{respond};
+ghost use Rattle.iss_link.specs.declared.gone.Gone.{Gone};
+ghost use Rattle.iss_edge.specs.declared.outside.Channel.{Channel};
+ghost use Rattle.iss_serving.specs.Desks.{of_call, of_notice, to_dial, to_reply};
+ghost use Rattle.iss_store.specs.Saying.{StaysGood};
+ghost use Rattle.iss_store.specs.Serving.{NotesSent, SendsSomeOf, SendsOn, CausesGone, tasks_by, all_gone};
+
+use crate::Served;
+use crate::sending::{reply, send};
+use iss_edge::{Channel, Edge};
+use iss_event::reply_line;
+use iss_http::{ask, respond};
+use iss_jit::{notice_text, request_text};
+use iss_link::Gone;
+use iss_model::{Entry, Notice, Opened, Reply, Token, Verdict};
+use std::alloc::{AllocError, Global};
+
+/// The status of a response that tells a decision: OK of RFC 9110.
+const DECIDED: u16 = 200;
+
+/// Sends the texts of entries in their order, each decision to the client that waited for it before. Gives what became of those to
+/// the gateway, and the channels that were answered.
+#[tactic(auto, using(crate::proofs::ServedTexts::sent_to_begin, crate::proofs::Stays::told_nothing_stays, crate::proofs::StaysServed::told_stays_then))]
+pub(crate) fn send_entries<E: Edge>(
+    alloc: Global,
+    edge: &mut E,
+    entries: &[Entry],
+    served: &Served,
+    instance: u64,
+) -> Result<(Vec<Gone>, Vec<Channel>), AllocError>
+    requires { instance < 2 ^ 48 }
+    ensures sends { IfOk result (λ x. Told (SendsOn (flat_map (tasks_by instance served.now) entries.now) (all_gone x.0.items) x.1.items)
+        (outer_of (E.told edge.old) (E.heard edge.old)) (outer_of (E.told edge.new) (E.heard edge.new))) }
+    ensures part { OnErr result (Told (SendsSomeOf (flat_map (tasks_by instance served.now) entries.now))
+        (outer_of (E.told edge.old) (E.heard edge.old)) (outer_of (E.told edge.new) (E.heard edge.new))) }
+    ensures stays { Told StaysGood (E.told edge.old) (E.told edge.new) }
+    ensures later { Later (E.faults edge.old) (E.faults edge.new) }
+    ensures cause { IfOk result (λ x. CausesGone (E.faults edge.old) (E.faults edge.new) x.0.items) }
+    ensures kept { E.extent edge.new ≡ E.extent edge.old }
+{
+    let mut gone = Vec::new(alloc);
+    let mut answered = Vec::new(alloc);
+    for entry in entries {
+        send_entry(
+            alloc,
+            edge,
+            entry,
+            served,
+            instance,
+            &mut gone,
+            &mut answered,
+        )?;
+    }
+    Ok((gone, answered))
+}
+
+/// Sends the text of an entry, where it has one that goes out, and notes what became of it.
+#[tactic(auto, using(crate::proofs::ServedTexts::notes_nothing, crate::proofs::ServedTexts::told_nothing_sent, crate::proofs::ServedTexts::told_none_of, crate::proofs::Stays::told_nothing_stays))]
+fn send_entry<E: Edge>(
+    alloc: Global,
+    edge: &mut E,
+    entry: &Entry,
+    served: &Served,
+    instance: u64,
+    gone: &mut Vec<Gone>,
+    answered: &mut Vec<Channel>,
+) -> Result<(), AllocError>
+    requires { instance < 2 ^ 48 }
+    ensures notes { OnOk result (NotesSent (tasks_by instance served.now entry.now) gone.old.items gone.new.items answered.old.items answered.new.items
+        (E.faults edge.old) (E.faults edge.new)
+        (outer_of (E.told edge.old) (E.heard edge.old)) (outer_of (E.told edge.new) (E.heard edge.new))) }
+    ensures part { OnErr result (Told (SendsSomeOf (tasks_by instance served.now entry.now))
+        (outer_of (E.told edge.old) (E.heard edge.old)) (outer_of (E.told edge.new) (E.heard edge.new))) }
+    ensures stays { Told StaysGood (E.told edge.old) (E.told edge.new) }
+    ensures later { Later (E.faults edge.old) (E.faults edge.new) }
+    ensures kept { E.extent edge.new ≡ E.extent edge.old }
+{
+    match entry {
+        Entry::Decided(event, verdict) => match served.channel_for(event) {
+            Some(ch) => send_decision(alloc, edge, ch, event, verdict, answered),
+            None => Ok(()),
+        },
+        Entry::Opened(opened) => send_request(alloc, edge, opened, instance, gone),
+        Entry::Notice(notice) => send_notice(alloc, edge, notice, instance, gone),
+        _ => Ok(()),
+    }
+}
+
+/// Tells a client the decision that it waits for.
+#[tactic(auto, using(crate::proofs::ServedTexts::notes_reply, crate::proofs::ServedTexts::told_unchanged, crate::proofs::Stays::told_nothing_stays))]
+fn send_decision<E: Edge>(
+    alloc: Global,
+    edge: &mut E,
+    ch: Channel,
+    event: &Token,
+    verdict: &Verdict,
+    answered: &mut Vec<Channel>,
+) -> Result<(), AllocError>
+    ensures notes { (gone : List Gone) → OnOk result (NotesSent (to_reply ch (respond 200 (reply_line event.now (Decided verdict.now))) ∷ []) gone gone answered.old.items answered.new.items
+        (E.faults edge.old) (E.faults edge.new)
+        (outer_of (E.told edge.old) (E.heard edge.old)) (outer_of (E.told edge.new) (E.heard edge.new))) }
+    ensures part { OnErr result (Told (Adds [] [])
+        (outer_of (E.told edge.old) (E.heard edge.old)) (outer_of (E.told edge.new) (E.heard edge.new))) }
+    ensures stays { Told StaysGood (E.told edge.old) (E.told edge.new) }
+    ensures later { Later (E.faults edge.old) (E.faults edge.new) }
+    ensures kept { E.extent edge.new ≡ E.extent edge.old }
+{
+    let line = reply_line(alloc, event, &Reply::Decided(*verdict))?;
+    let text = respond(alloc, DECIDED, &line)?;
+    answered.push(ch)?;
+    reply(edge, ch, &text);
+    Ok(())
+}
+
+/// Sends the request of a call, and notes whether it was reached.
+#[tactic(auto, using(crate::proofs::ServedTexts::told_none_of, crate::proofs::Stays::told_nothing_stays))]
+fn send_request<E: Edge>(
+    alloc: Global,
+    edge: &mut E,
+    opened: &Opened,
+    instance: u64,
+    gone: &mut Vec<Gone>,
+) -> Result<(), AllocError>
+    requires { instance < 2 ^ 48 }
+    ensures notes { (ended : List Channel) → OnOk result (NotesSent (to_dial (of_call opened.now) (request_text instance opened.now) ∷ []) gone.old.items gone.new.items ended ended
+        (E.faults edge.old) (E.faults edge.new)
+        (outer_of (E.told edge.old) (E.heard edge.old)) (outer_of (E.told edge.new) (E.heard edge.new))) }
+    ensures part { OnErr result (Told (SendsSomeOf (to_dial (of_call opened.now) (request_text instance opened.now) ∷ []))
+        (outer_of (E.told edge.old) (E.heard edge.old)) (outer_of (E.told edge.new) (E.heard edge.new))) }
+    ensures stays { Told StaysGood (E.told edge.old) (E.told edge.new) }
+    ensures later { Later (E.faults edge.old) (E.faults edge.new) }
+    ensures kept { E.extent edge.new ≡ E.extent edge.old }
+{
+    let text = request_text(alloc, opened, instance)?;
+    let bytes = ask(alloc, &text)?;
+    match send(edge, &bytes) {
+        Some(ch) => note(gone, &Gone::Asked(*opened, ch)),
+        None => note(gone, &Gone::Unreached(opened.call)),
+    }
+}
+
+/// Sends a notice, and notes on which channel. One that doesn't go out waits for the next run.
+#[tactic(auto, using(crate::proofs::ServedTexts::told_none_of, crate::proofs::Stays::told_nothing_stays))]
+fn send_notice<E: Edge>(
+    alloc: Global,
+    edge: &mut E,
+    notice: &Notice,
+    instance: u64,
+    gone: &mut Vec<Gone>,
+) -> Result<(), AllocError>
+    requires { instance < 2 ^ 48 }
+    ensures notes { (ended : List Channel) → OnOk result (NotesSent (to_dial (of_notice notice.now.number) (notice_text instance notice.now) ∷ []) gone.old.items gone.new.items ended ended
+        (E.faults edge.old) (E.faults edge.new)
+        (outer_of (E.told edge.old) (E.heard edge.old)) (outer_of (E.told edge.new) (E.heard edge.new))) }
+    ensures part { OnErr result (Told (SendsSomeOf (to_dial (of_notice notice.now.number) (notice_text instance notice.now) ∷ []))
+        (outer_of (E.told edge.old) (E.heard edge.old)) (outer_of (E.told edge.new) (E.heard edge.new))) }
+    ensures stays { Told StaysGood (E.told edge.old) (E.told edge.new) }
+    ensures later { Later (E.faults edge.old) (E.faults edge.new) }
+    ensures kept { E.extent edge.new ≡ E.extent edge.old }
+{
+    let text = notice_text(alloc, notice, instance)?;
+    let bytes = ask(alloc, &text)?;
+    match send(edge, &bytes) {
+        Some(ch) => note(gone, &Gone::Noted(notice.number, ch)),
+        None => Ok(()),
+    }
+}
+
+/// Notes what became of a text.
+fn note(gone: &mut Vec<Gone>, one: &Gone) -> Result<(), AllocError>
+    ensures noted { OnOk result (gone.new.items ≡ gone.old.items ++ one.now ∷ []) }
+{
+    gone.push(*one)?;
+    Ok(())
+}

@@ -1,0 +1,150 @@
+//! What a store says while clients are served: each text on a channel of its own.
+ghost use Rattle.std.specs.Prelude.{◌≡◌, ◌<◌, ◌^◌, ℕ, List, [], ◌∷◌, ◌++◌, map, IfOk, OnOk, OnErr};
+ghost use Rattle.std.specs.List.{flat_map};
+ghost use Rattle.iss_edge.specs.World.{Told, Later};
+ghost use Rattle.iss_edge.specs.Outer.{outer_of, Adds};
+ghost use Rattle.iss_model.specs.declared.input.Record.{Record};
+ghost use Rattle.iss_model.specs.texts.AnswerLines.{answer_text};
+ghost use Rattle.iss_http.specs.Messages.{respond, IsStatus};
+ghost use Rattle.iss_model.specs.declared.entry.Entry.TheVariants as entry_of;
+ghost use Rattle.iss_serving.specs.Desks.{Waiter, to_reply, desk_with, waiters_without};
+ghost use Rattle.iss_serving.specs.Judgements.{status_of};
+ghost use Rattle.iss_serving.specs.Sendings.{Sends};
+ghost use Rattle.iss_store.specs.Saying.{StaysGood, IsDurableOf};
+ghost use Rattle.iss_store.specs.Standing.{StandsFor};
+ghost use Rattle.iss_store.specs.Serving.{SendsPart, SendsAll, CausesGone, tasks_by, tasks_of_record, tasks_pending, tasks_pending_on_book};
+
+use crate::entries::send_entries;
+use crate::sending::reply;
+use crate::{Durable, Served, Store};
+use iss_edge::{Channel, Edge};
+use iss_event::told_line;
+use iss_http::respond;
+use iss_link::Gone;
+use iss_model::{Answer, Entry, Notice, Opened};
+use std::alloc::{AllocError, Global};
+
+impl Store {
+    /// Sends what the record of this store's last commit says while clients are served: each decision to the client that waits for it,
+    /// whose channel is closed by it, and each request and notice to the gateway, in the order of the record's entries. Gives what
+    /// became of those: the channels on which they went out, and the calls that weren't reached.
+    #[tactic(auto, using(crate::proofs::ServedTexts::told_whole_desk, crate::proofs::ServedTexts::told_part_desk, crate::proofs::ServedTexts::record_tasks))]
+    pub fn release_served<E: Edge>(
+        &self,
+        alloc: Global,
+        edge: &mut E,
+        durable: Durable,
+        served: &mut Served,
+    ) -> Result<Vec<Gone>, AllocError>
+        requires last { IsDurableOf self.now durable }
+        ensures sends { IfOk result (λ gone. Told (SendsAll self.now.core.state.count (tasks_of_record self.now durable served.old) served.old served.new gone.items)
+            (outer_of (E.told edge.old) (E.heard edge.old)) (outer_of (E.told edge.new) (E.heard edge.new))) }
+        ensures part { OnErr result (Told (SendsPart self.now.core.state.count (desk_with (tasks_of_record self.now durable served.old) served.old))
+            (outer_of (E.told edge.old) (E.heard edge.old)) (outer_of (E.told edge.new) (E.heard edge.new))) }
+        ensures stays { Told StaysGood (E.told edge.old) (E.told edge.new) }
+        ensures later { Later (E.faults edge.old) (E.faults edge.new) }
+        ensures cause { IfOk result (λ gone. CausesGone (E.faults edge.old) (E.faults edge.new) gone.items) }
+        ensures kept { E.extent edge.new ≡ E.extent edge.old }
+    {
+        let (gone, answered) = send_entries(
+            alloc,
+            edge,
+            &durable.entries,
+            served,
+            self.core.instance(),
+        )?;
+        served.forget_all(&answered);
+        Ok(gone)
+    }
+
+    /// Sends what still waits for the gateway, as a run that serves begins: the request of each call that is asked, by number, and then
+    /// each notice that isn't acknowledged, by number, each on a channel of its own.
+    #[tactic(auto, using(crate::proofs::ServedTexts::told_whole_desk, crate::proofs::ServedTexts::told_part_desk, crate::proofs::ServedTexts::tasks_on_book, crate::proofs::Resumed::told_resumed, crate::proofs::ServedTexts::told_none_of, crate::proofs::Stays::told_nothing_stays))]
+    pub fn resume_served<E: Edge>(
+        &self,
+        alloc: Global,
+        edge: &mut E,
+    ) -> Result<Vec<Gone>, AllocError>
+        ensures sends { (waiting : List Waiter) → IfOk result (λ gone. Told (SendsAll self.now.core.state.count (tasks_pending self.now) waiting waiting gone.items)
+            (outer_of (E.told edge.old) (E.heard edge.old)) (outer_of (E.told edge.new) (E.heard edge.new))) }
+        ensures part { (waiting : List Waiter) → OnErr result (Told (SendsPart self.now.core.state.count (desk_with (tasks_pending self.now) waiting))
+            (outer_of (E.told edge.old) (E.heard edge.old)) (outer_of (E.told edge.new) (E.heard edge.new))) }
+        ensures on_book { (rs : List Record) → StandsFor self.now rs → tasks_pending self.now ≡ tasks_pending_on_book self.now.core.instance rs }
+        ensures stays { Told StaysGood (E.told edge.old) (E.told edge.new) }
+        ensures later { Later (E.faults edge.old) (E.faults edge.new) }
+        ensures cause { IfOk result (λ gone. CausesGone (E.faults edge.old) (E.faults edge.new) gone.items) }
+        ensures kept { E.extent edge.new ≡ E.extent edge.old }
+    {
+        let nobody = Served::new(alloc);
+        let entries = self.pending_entries(alloc)?;
+        let (gone, _) = send_entries(alloc, edge, &entries, &nobody, self.core.instance())?;
+        Ok(gone)
+    }
+
+    /// The entries of what still waits for the gateway.
+    #[tactic(auto, using(crate::proofs::ServedTexts::pending_tasks))]
+    fn pending_entries(&self, alloc: Global) -> Result<Vec<Entry>, AllocError>
+        ensures { IfOk result (λ entries. flat_map (tasks_by self.now.core.instance []) entries.items ≡ tasks_pending self.now) }
+    {
+        let mut entries = Vec::new(alloc);
+        put_calls(&mut entries, &self.core.asked(alloc)?)?;
+        put_notices(&mut entries, &self.core.pending(alloc)?)?;
+        Ok(entries)
+    }
+
+    /// Sends a client what its input is told that makes no record, and closes its channel.
+    #[tactic(auto, using(crate::proofs::ServedTexts::told_unchanged, crate::proofs::Stays::told_nothing_stays))]
+    pub fn tell_served<E: Edge>(
+        &self,
+        alloc: Global,
+        edge: &mut E,
+        ch: Channel,
+        answer: &Answer,
+    ) -> Result<(), AllocError>
+        ensures sends { (waiting : List Waiter) → OnOk result (Told (Sends self.now.core.state.count
+            (desk_with (to_reply ch (respond (status_of answer.now) (answer_text answer.now)) ∷ []) waiting)
+            (desk_with [] (waiters_without ch waiting)) [])
+            (outer_of (E.told edge.old) (E.heard edge.old)) (outer_of (E.told edge.new) (E.heard edge.new))) }
+        ensures unsent { OnErr result (Told (Adds [] []) (outer_of (E.told edge.old) (E.heard edge.old)) (outer_of (E.told edge.new) (E.heard edge.new))) }
+        ensures stays { Told StaysGood (E.told edge.old) (E.told edge.new) }
+        ensures later { Later (E.faults edge.old) (E.faults edge.new) }
+        ensures kept { E.extent edge.new ≡ E.extent edge.old }
+    {
+        let line = told_line(alloc, answer)?;
+        let text = respond(alloc, status_of(answer), &line)?;
+        reply(edge, ch, &text);
+        Ok(())
+    }
+}
+
+/// The status of a response that tells why an event isn't new: Conflict, Insufficient Storage or OK of RFC 9110.
+fn status_of(answer: &Answer) -> u16
+    ensures value { result ≡ status_of answer.now }
+    ensures known { IsStatus result }
+{
+    match answer {
+        Answer::Conflict(..) => 409,
+        Answer::Full { .. } => 507,
+        _ => 200,
+    }
+}
+
+/// Adds the entries of calls.
+fn put_calls(entries: &mut Vec<Entry>, calls: &[Opened]) -> Result<(), AllocError>
+    ensures { OnOk result (entries.new.items ≡ entries.old.items ++ map entry_of.Opened calls.now) }
+{
+    for call in calls {
+        entries.push(Entry::Opened(*call))?;
+    }
+    Ok(())
+}
+
+/// Adds the entries of notices.
+fn put_notices(entries: &mut Vec<Entry>, notices: &[Notice]) -> Result<(), AllocError>
+    ensures { OnOk result (entries.new.items ≡ entries.old.items ++ map entry_of.Notice notices.now) }
+{
+    for notice in notices {
+        entries.push(Entry::Notice(*notice))?;
+    }
+    Ok(())
+}
