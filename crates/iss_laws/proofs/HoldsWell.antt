@@ -133,7 +133,7 @@ law_held rs legal =
     let h = ended_once rs legal in
     subst (λ (f : Facts). list_all (is_held_on f rows) f.txns ≡ true) (facts_history rs)
     (all_named (is_held_on (core_facts s) rows) s.holdings.txns h.holds.well.docket.txns.tokens (λ token now e.
-        held_on s rows now h.holds.held (h.once now.txn.token) (ap (λ (k : List ℕ). txn_named k s.holdings.txns) (its_own s token now e) ∙ e)))
+    held_on s rows now h.holds.held (h.once now.txn.token) (ap (λ (k : List ℕ). txn_named k s.holdings.txns) (its_own s token now e) ∙ e)))
   where
     its_own : (s : CoreState) (token : List ℕ) (now : TxnNow) → txn_named token s.holdings.txns ≡ Some now → now.txn.token ≡ token
     its_own s token now e = its_token s.holdings.txns token now e

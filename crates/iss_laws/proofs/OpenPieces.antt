@@ -136,12 +136,12 @@ release_pays k counting s t x amount knows le just =
     let first = frees_part k counting s t part.P taken.p x knows (min_low amount x.p) just in
     let second = frees_then k s t a b one one _ _ first (frees_post k counting (fold after_entry s a) t (user_account t) (account.Programme t.currency) taken.p one first.leaves.just) in
     let third = frees_then k s t (a ++ b) c one two _ _ second
-        (frees_part k counting (fold after_entry s (a ++ b)) t part.G taken.g one (knows_after s (a ++ b) t (silent_txns s (a ++ b) second.quiet) knows) (min_low (amount - taken.p) x.g) second.leaves.just)
+    (frees_part k counting (fold after_entry s (a ++ b)) t part.G taken.g one (knows_after s (a ++ b) t (silent_txns s (a ++ b) second.quiet) knows) (min_low (amount - taken.p) x.g) second.leaves.just)
     in
     let fourth = frees_then k s t (a ++ b ++ c) d two two _ _ third (frees_post k counting (fold after_entry s (a ++ b ++ c)) t (user_account t) (account.Gateway t.currency) taken.g two third.leaves.just) in
     let fifth = frees_then k s t (a ++ b ++ c ++ d) e two three _ _ fourth
-        (frees_part k counting (fold after_entry s (a ++ b ++ c ++ d)) t part.S taken.s two (knows_after s (a ++ b ++ c ++ d) t (silent_txns s (a ++ b ++ c ++ d) fourth.quiet) knows)
-        (min_low (amount - taken.p - taken.g) x.s) fourth.leaves.just)
+    (frees_part k counting (fold after_entry s (a ++ b ++ c ++ d)) t part.S taken.s two (knows_after s (a ++ b ++ c ++ d) t (silent_txns s (a ++ b ++ c ++ d) fourth.quiet) knows)
+    (min_low (amount - taken.p - taken.g) x.s) fourth.leaves.just)
     in
     weaker k s (a ++ b ++ c ++ d ++ e ++ use_return_entries t amount) (neg_ℤ (pos (cond h amount 0)) +ℤ pos (cond h amount 0)) (pos 0) (nothing (cond h amount 0))
     (both_within k s (a ++ b ++ c ++ d ++ e) (use_return_entries t amount) (neg_ℤ (pos (cond h amount 0))) (pos (cond h amount 0))
@@ -170,10 +170,10 @@ clearing_pays k counting s t x amount at knows just =
     let u : List Entry = only_where excess (entry.Usage (usage_of t (pos excess) (pos 0) at) ∷ []) in
     let first = frees_part k counting s t part.G taken.g x knows (min_low amount x.g) just in
     let second = frees_then k s t a b one two _ _ first
-        (frees_part k counting (fold after_entry s a) t part.P taken.p one (knows_after s a t (silent_txns s a first.quiet) knows) (min_low (amount - taken.g) x.p) first.leaves.just)
+    (frees_part k counting (fold after_entry s a) t part.P taken.p one (knows_after s a t (silent_txns s a first.quiet) knows) (min_low (amount - taken.g) x.p) first.leaves.just)
     in
     let third = frees_then k s t (a ++ b) c two (without part.S taken.s two) _ _ second
-        (frees_part k counting (fold after_entry s (a ++ b)) t part.S taken.s two (knows_after s (a ++ b) t (silent_txns s (a ++ b) second.quiet) knows) (min_low (amount - taken.g - taken.p) x.s) second.leaves.just)
+    (frees_part k counting (fold after_entry s (a ++ b)) t part.S taken.s two (knows_after s (a ++ b) t (silent_txns s (a ++ b) second.quiet) knows) (min_low (amount - taken.g - taken.p) x.s) second.leaves.just)
     in
     both_pay k s (a ++ b ++ c ++ d ++ e) u
     (both_pay k s (a ++ b ++ c ++ d) e

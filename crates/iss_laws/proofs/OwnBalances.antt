@@ -65,9 +65,9 @@ module _ (own : List ℕ → Bool) (key : List ℕ) where
   step_same s r new well held agrees =
       let due : CoreState = (after_due core_keeper (with_record s r) r.at).world in
       let sweep : Swept r.input (after_due core_keeper (with_record s r) r.at) =
-          swept r.at (record { world = with_record s r; entries = [] }) (due_items (core_facts (with_record s r)) r.at) r.input
-          (record { ready = ready_taken s r well new; held = held; same = none_same })
-          (agrees_before own due (entries_of r.input r.at (core_facts due)) agrees)
+      swept r.at (record { world = with_record s r; entries = [] }) (due_items (core_facts (with_record s r)) r.at) r.input
+      (record { ready = ready_taken s r well new; held = held; same = none_same })
+      (agrees_before own due (entries_of r.input r.at (core_facts due)) agrees)
       in
       both_same sweep.same (input_same own key due r.input r.at sweep.ready sweep.held agrees)
 

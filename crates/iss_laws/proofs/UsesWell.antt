@@ -97,8 +97,8 @@ step_opened s r k last early new well held begun counting on by_last =
     let due : Growth CoreState = after_due core_keeper up r.at in
     let es : List Entry = entries_of r.input r.at (core_facts due.world) in
     let sweep : Swept r.input k (open_use k s) due =
-        swept k counting (open_use k s) r.at (record { world = up; entries = [] }) (due_items (core_facts up) r.at) r.input
-        (record { ready = ready_taken s r well new; held = held; begun = later_begun s.now (max s.now r.at) s (higher s.now r.at) begun; opened = itself (open_use k s) })
+    swept k counting (open_use k s) r.at (record { world = up; entries = [] }) (due_items (core_facts up) r.at) r.input
+    (record { ready = ready_taken s r well new; held = held; begun = later_begun s.now (max s.now r.at) s (higher s.now r.at) begun; opened = itself (open_use k s) })
     in
     let time : due.world.now ≤ r.at = subst (λ (n : ℕ). n ≤ r.at) (sym (due_now up r.at)) (no_higher s.now r.at early) in
     let pays : Pays k due.world es = input_uses k counting last on due.world r.input r.at time by_last sweep.ready sweep.held sweep.begun in
@@ -117,8 +117,8 @@ step_begun s r new well held begun =
     let up : CoreState = with_record s r in
     let due : Growth CoreState = after_due core_keeper up r.at in
     let sweep : Swept r.input no_counting (open_use no_counting s) due =
-        swept no_counting (record { use_ = λ t amount count at. refl; others = λ e h. refl }) (open_use no_counting s) r.at (record { world = up; entries = [] }) (due_items (core_facts up) r.at) r.input
-        (record { ready = ready_taken s r well new; held = held; begun = later_begun s.now (max s.now r.at) s (higher s.now r.at) begun; opened = itself (open_use no_counting s) })
+    swept no_counting (record { use_ = λ t amount count at. refl; others = λ e h. refl }) (open_use no_counting s) r.at (record { world = up; entries = [] }) (due_items (core_facts up) r.at) r.input
+    (record { ready = ready_taken s r well new; held = held; begun = later_begun s.now (max s.now r.at) s (higher s.now r.at) begun; opened = itself (open_use no_counting s) })
     in
     entries_begun due.world (entries_of r.input r.at (core_facts due.world)) (own_keeps due.world r.input r.at (stamp_by_now s r) sweep.ready sweep.held) sweep.begun
   where
@@ -261,11 +261,11 @@ window_stays : (w : Window) (one other : List ℕ) (a b last : ℕ) → a ≤ b 
     → bytes_eq (window_key w (pos 0) one b) (window_key w (pos 0) other last) ≡ true
 window_stays w one other a b last h k e =
     let keys : one ++ 0 ∷ 1 ∷ window_nat w a ∷ [] ≡ other ++ 0 ∷ 1 ∷ window_nat w last ∷ [] =
-        sym (key_is w one a) ∙ one_name (window_key w (pos 0) one a) (window_key w (pos 0) other last) e ∙ key_is w other last
+    sym (key_is w one a) ∙ one_name (window_key w (pos 0) one a) (window_key w (pos 0) other last) e ∙ key_is w other last
     in
     let first : window_nat w a ≡ window_nat w last = sym (last_behind one (window_nat w a)) ∙ ap last_of keys ∙ last_behind other (window_nat w last) in
     let same : window_key w (pos 0) one b ≡ window_key w (pos 0) one a =
-        key_is w one b ∙ ap (λ (n : ℕ). one ++ 0 ∷ 1 ∷ n ∷ []) (between w a b last h k first ∙ sym first) ∙ sym (key_is w one a)
+    key_is w one b ∙ ap (λ (n : ℕ). one ++ 0 ∷ 1 ∷ n ∷ []) (between w a b last h k first ∙ sym first) ∙ sym (key_is w one a)
     in
     ap (λ (x : List ℕ). bytes_eq x (window_key w (pos 0) other last)) same ∙ e
 
@@ -371,6 +371,6 @@ law_used rs legal =
     ∙ all_true (λ (put : ControlPut). has_counted_well f (counted_control h.rows put))
     (λ put. two _ _
     (all_true (counts_well f (counted_control h.rows put)) (λ user.
-        ap (λ (now : ℕ). is_use (used_by (counted_control h.rows put) put.control.window user.name now)) (sym time) ∙ use_now rs put put.control.window user.name legal refl) f.users)
+    ap (λ (now : ℕ). is_use (used_by (counted_control h.rows put) put.control.window user.name now)) (sym time) ∙ use_now rs put put.control.window user.name legal refl) f.users)
     (all_true (counts_txn_well (counted_control h.rows put)) (λ t. use_of rs put put.control.window t.txn legal refl) f.txns))
     (control_puts_of h.rows)
