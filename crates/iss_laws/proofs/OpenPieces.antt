@@ -1,5 +1,5 @@
 -- The pieces of a step open no more use than they count.
-use Rattle.std.proofs.Common.{◌≡◌, ℕ, ℤ, pos, neg_ℤ, ◌+ℤ◌, ◌+◌, ◌-◌, ◌≤◌, min, Bool, true, false, not, cond, ◌&&◌, ◌||◌, nat_eq, List, [], ◌∷◌, ◌++◌, map, filter, fold, refl, sym, ap, ap₂, subst, ◌∙◌, arith}
+use Rattle.std.proofs.Common.{◌≡◌, ℕ, ℤ, pos, neg_ℤ, ◌+ℤ◌, ◌+◌, ◌-◌, ◌≤◌, min, Bool, true, false, cond, ◌&&◌, ◌||◌, nat_eq, List, [], ◌∷◌, ◌++◌, map, fold, refl, sym, ap, subst, ◌∙◌, arith}
 use Rattle.std.proofs.lemmas.Int.{ints}
 use Rattle.std.proofs.lemmas.Bool.Decides.{nat_tests}
 use Rattle.std.specs.Prelude.{◌≤ℤ◌, Option, Some, None}
@@ -13,7 +13,6 @@ use Rattle.iss_model.specs.declared.call.Failure.TheVariants as failure
 use Rattle.iss_model.specs.declared.call.How.{How}
 use Rattle.iss_model.specs.declared.call.How.TheVariants as how
 use Rattle.iss_model.specs.declared.call.Method.TheVariants as method
-use Rattle.iss_model.specs.declared.call.Opened.{Opened}
 use Rattle.iss_model.specs.declared.decision.Reason.{Reason}
 use Rattle.iss_model.specs.declared.decision.Reason.TheVariants as reason
 use Rattle.iss_model.specs.declared.decision.Verdict.TheVariants as verdict
@@ -21,15 +20,15 @@ use Rattle.iss_model.specs.declared.entry.Entry.{Entry}
 use Rattle.iss_model.specs.declared.entry.Entry.TheVariants as entry
 use Rattle.iss_model.specs.declared.setting.Product.{Product}
 use Rattle.iss_model.specs.declared.txn.Txn.{Txn}
-use Rattle.iss_model.specs.rules.Activity.{TxnNow, CallNow, is_asked, txn_named}
+use Rattle.iss_model.specs.rules.Activity.{TxnNow, CallNow, is_asked}
 use Rattle.iss_model.specs.rules.Asks.{Ask, ask_given_back, ask_usage, call_ask, is_authorization, usage_of}
 use Rattle.iss_model.specs.rules.CardEntries.{call_for, clearing_money_entries, funding_entries, gateway_ask_entries}
 use Rattle.iss_model.specs.rules.CardReasons.{is_account_funded}
 use Rattle.iss_model.specs.rules.Facts.{Facts, asked_calls_of, next_notice, not_below}
-use Rattle.iss_model.specs.rules.Pieces.{Parts, abandoned_call_entries, abandoned_calls_entries, declined_ask_entries, end_entries, failure_reason, funded_ask_entries, hold_entries, in_all, left_of, notice_entry, only_gateway, only_where, post_entries, release_entries, stand_entries, stand_in_entries, taken_to_clear, taken_to_release, unhold_entries, use_return_entries, user_account, void_entry}
+use Rattle.iss_model.specs.rules.Pieces.{Parts, abandoned_call_entries, abandoned_calls_entries, declined_ask_entries, end_entries, failure_reason, funded_ask_entries, hold_entries, in_all, notice_entry, only_gateway, only_where, post_entries, release_entries, stand_entries, stand_in_entries, taken_to_clear, taken_to_release, unhold_entries, use_return_entries, user_account, void_entry}
 use Rattle.iss_model.specs.rules.Settings.{is_named_in, product_named}
 use Rattle.iss_model.specs.rules.StandIns.{Stand, allowed, over_limit, stand, uncovered}
-use Rattle.iss_model.specs.state.Cores.{CoreState, after_entry, call_after_close, core_facts}
+use Rattle.iss_model.specs.state.Cores.{CoreState, after_entry, call_after_close}
 use Rattle.iss_model.proofs.Names.{one_name}
 use Rattle.iss_effects.specs.Stakes.{part_held}
 use Rattle.iss_invariants.specs.Numbers.{CallsNumberedFrom}
@@ -38,11 +37,11 @@ use Rattle.iss_docket.specs.Dockets.{Docket, docket_of}
 use Rattle.iss_docket.specs.Well.{IsAsked}
 use Rattle.iss_docket.proofs.Abandoning.{asked_in, closings_txns}
 use Rattle.iss_docket.proofs.Closing.{NumbersGrowFrom, StandsItself, all_stand, asked_after, filtered_grow}
-use Rattle.iss_docket.proofs.Docketed.{AreSilent, abandoned_docketed, both_silent, clearing_silent, post_silent, release_silent, silent, where_silent, gateway_silent}
+use Rattle.iss_docket.proofs.Docketed.{AreSilent, abandoned_docketed, both_silent, post_silent, silent, where_silent}
 use Rattle.iss_docket.proofs.Lists.{Each}
 use Rattle.iss_pending.proofs.Staying.{comes_to}
-use Rattle.iss_holdings.proofs.Pieces.{AreCalm, HoldsJust, Leaves, abandoned_calm, amount_of, calm_leaves, its_amount, let_go, post_calm, release_leaves, clearing_leaves, then_calm, then_leaves, without}
-use Rattle.iss_laws.proofs.OpenUse.{Counting, IsCounting, Knows, Pays, Within, ask_weight, both_pay, both_within, close_within, free_pays, hold_within, holds_there, is_free, open_within, opens, reaches, unhold_within, usage_within, weaker}
+use Rattle.iss_holdings.proofs.Pieces.{HoldsJust, Leaves, abandoned_calm, amount_of, calm_leaves, its_amount, let_go, post_calm, then_leaves, without}
+use Rattle.iss_laws.proofs.OpenUse.{Counting, IsCounting, Knows, Pays, Within, both_pay, both_within, close_within, free_pays, hold_within, holds_there, is_free, open_within, opens, unhold_within, usage_within, weaker}
 
 -- entries without anything to count ----
 

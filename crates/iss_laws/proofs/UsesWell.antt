@@ -1,32 +1,26 @@
 -- At the time of every legal book what is open of counted use was counted, so no control has counted less than nothing.
-use Rattle.std.proofs.Common.{◌≡◌, ℕ, ℤ, pos, negsuc, neg_ℤ, ◌+ℤ◌, ◌+◌, ◌≤◌, max, Bool, true, false, cond, ◌&&◌, nat_le, List, [], ◌∷◌, ◌++◌, map, fold, append_assoc, refl, sym, ap, ap₂, subst, ◌∙◌, arith}
+use Rattle.std.proofs.Common.{◌≡◌, ℕ, ℤ, pos, ◌+ℤ◌, ◌+◌, ◌≤◌, max, Bool, true, false, cond, ◌&&◌, List, [], ◌∷◌, ◌++◌, fold, append_assoc, refl, sym, ap, subst, ◌∙◌, arith}
 use Rattle.std.proofs.lemmas.Int.{ints}
-use Rattle.std.proofs.lemmas.Bool.{and_parts}
-use Rattle.std.proofs.lemmas.Bool.Decides.{nat_tests}
 use Rattle.std.proofs.lemmas.List.{append-nil}
 use Rattle.std.proofs.lemmas.List.Folds.{list_all-map}
-use Rattle.std.proofs.lemmas.List.Sums.{fold-append}
-use Rattle.std.specs.Prelude.{◌≤ℤ◌, Option, Some, None}
+use Rattle.std.specs.Prelude.{◌≤ℤ◌, Some, None}
 use Rattle.std.specs.List.{list_all}
 use Rattle.std.specs.Str.{bytes_eq}
 use Rattle.iss_model.specs.declared.entry.Entry.{Entry}
 use Rattle.iss_model.specs.declared.entry.Entry.TheVariants as entry
-use Rattle.iss_model.specs.declared.entry.Row.{Row}
 use Rattle.iss_model.specs.declared.input.Input.{Input}
 use Rattle.iss_model.specs.declared.input.Record.{Record}
-use Rattle.iss_model.specs.declared.setting.User.{User}
 use Rattle.iss_model.specs.declared.setting.Window.{Window}
 use Rattle.iss_model.specs.declared.setting.Window.TheVariants as window
 use Rattle.iss_model.specs.declared.txn.Txn.{Txn}
 use Rattle.iss_model.specs.declared.txn.UsageRow.{UsageRow}
-use Rattle.iss_model.specs.Calendar.{window_at}
-use Rattle.iss_model.specs.Sums.{Change, changed_at, int_key, sum_at}
-use Rattle.iss_model.specs.rules.Activity.{TxnNow, txn_named}
+use Rattle.iss_model.specs.Sums.{changed_at, int_key, sum_at}
+use Rattle.iss_model.specs.rules.Activity.{TxnNow}
 use Rattle.iss_model.specs.rules.Asks.{usage_of, used_by}
-use Rattle.iss_model.specs.rules.Controls.{ControlNow, ControlPut, Group, control_puts_of, counted_changes, counted_control, counter_key, counts, groups_of, span_key, window_key}
+use Rattle.iss_model.specs.rules.Controls.{ControlPut, Group, control_puts_of, counted_changes, counted_control, counts, groups_of, span_key, window_key}
 use Rattle.iss_model.specs.rules.Due.{DueItem, due_items, thing_entries}
 use Rattle.iss_model.specs.rules.Facts.{Facts}
-use Rattle.iss_model.specs.rules.Histories.{History, IsLegal, IsLegalAfter, history_facts, history_keeper, history_of, nothing_yet, time_of}
+use Rattle.iss_model.specs.rules.Histories.{History, IsLegal, IsLegalAfter, history_facts, history_of}
 use Rattle.iss_model.specs.rules.Keeper.{Growth}
 use Rattle.iss_model.specs.rules.Stepping.{after_due, entries_of, settle, step}
 use Rattle.iss_model.specs.state.Cores.{CoreState, after_entry, core_facts, core_keeper, core_of, no_core, with_record}
@@ -41,7 +35,6 @@ use Rattle.iss_holdings.proofs.Inputs.{own_keeps, thing_keeps}
 use Rattle.iss_holdings.proofs.Steps.{HoldsWell, nothing_held, step_held, thing_held}
 use Rattle.iss_holdings.proofs.Times.{due_now, entries_begun, entries_now, stamp_by_now}
 use Rattle.iss_model.proofs.Names.{one_name}
-use Rattle.iss_laws.specs.Tests.{not_negative}
 use Rattle.iss_laws.specs.Uses.{counts_txn_well, counts_well, has_counted_well, is_use, use_is_not_negative, used_of}
 use Rattle.iss_laws.proofs.HoldsWell.{is_not_negative, longer}
 use Rattle.iss_laws.proofs.OpenInputs.{CountsOn, input_uses, thing_uses}
