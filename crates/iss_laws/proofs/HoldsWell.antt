@@ -1,5 +1,5 @@
 -- On the book of every legal list of records no part of a hold is negative, and a transaction ends once at most and then holds nothing.
-use Rattle.std.proofs.Common.{◌≡◌, ℕ, ◌+◌, ◌≤◌, Bool, true, false, not, cond, ◌&&◌, ◌||◌, nat_le, List, [], ◌∷◌, ◌++◌, refl, sym, ap, subst, ◌∙◌, arith}
+use Rattle.std.proofs.Common.{◌≡◌, ℕ, ◌+◌, ◌≤◌, Bool, true, false, cond, ◌&&◌, ◌||◌, nat_le, List, [], ◌∷◌, ◌++◌, refl, sym, ap, subst, ◌∙◌, arith}
 use Rattle.std.proofs.lemmas.Int.{ints}
 use Rattle.std.proofs.lemmas.Bool.Decides.{nat_tests, Decides-int_eq}
 use Rattle.std.proofs.lemmas.List.Sums.{fold-append}
@@ -12,13 +12,12 @@ use Rattle.iss_model.specs.declared.account.Part.TheVariants as part
 use Rattle.iss_model.specs.declared.entry.Entry.{Entry}
 use Rattle.iss_model.specs.declared.entry.Row.{Row}
 use Rattle.iss_model.specs.declared.input.Record.{Record}
-use Rattle.iss_model.specs.Sums.{part_key}
 use Rattle.iss_model.specs.rules.Activity.{TxnNow, ends_txn, txn_named}
 use Rattle.iss_model.specs.rules.Facts.{Facts}
-use Rattle.iss_model.specs.rules.Histories.{History, IsLegal, history_facts, history_keeper, history_of, nothing_yet}
+use Rattle.iss_model.specs.rules.Histories.{History, IsLegal, history_keeper, history_of, nothing_yet}
 use Rattle.iss_model.specs.rules.Reasons.{is_some_with}
 use Rattle.iss_model.specs.rules.Stepping.{step}
-use Rattle.iss_model.specs.state.Cores.{CoreState, core_facts, core_keeper, core_of, no_core}
+use Rattle.iss_model.specs.state.Cores.{CoreState, core_facts, core_keeper, core_of}
 use Rattle.iss_model.proofs.Names.{its_name, one_name}
 use Rattle.iss_agreement.proofs.CoreOfBook.{entries_history, facts_history}
 use Rattle.iss_invariants.specs.Sound.{IsNewEvent}
@@ -133,7 +132,7 @@ law_held rs legal =
     let h = ended_once rs legal in
     subst (λ (f : Facts). list_all (is_held_on f rows) f.txns ≡ true) (facts_history rs)
     (all_named (is_held_on (core_facts s) rows) s.holdings.txns h.holds.well.docket.txns.tokens (λ token now e.
-        held_on s rows now h.holds.held (h.once now.txn.token) (ap (λ (k : List ℕ). txn_named k s.holdings.txns) (its_own s token now e) ∙ e)))
+    held_on s rows now h.holds.held (h.once now.txn.token) (ap (λ (k : List ℕ). txn_named k s.holdings.txns) (its_own s token now e) ∙ e)))
   where
     its_own : (s : CoreState) (token : List ℕ) (now : TxnNow) → txn_named token s.holdings.txns ≡ Some now → now.txn.token ≡ token
     its_own s token now e = its_token s.holdings.txns token now e

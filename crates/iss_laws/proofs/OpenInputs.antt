@@ -1,5 +1,5 @@
 -- What is due and what each kind of input makes opens no more use than it counts.
-use Rattle.std.proofs.Common.{◌≡◌, ℕ, ℤ, pos, neg_ℤ, ◌+ℤ◌, ◌+◌, ◌-◌, ◌≤◌, min, Bool, true, false, not, cond, ◌&&◌, ◌||◌, nat_eq, List, [], ◌∷◌, ◌++◌, fold, refl, sym, ap, subst, ◌∙◌, arith}
+use Rattle.std.proofs.Common.{◌≡◌, ℕ, pos, neg_ℤ, ◌+ℤ◌, ◌+◌, ◌-◌, ◌≤◌, min, Bool, true, false, cond, ◌&&◌, ◌||◌, nat_eq, List, [], ◌∷◌, ◌++◌, fold, refl, sym, ap, subst, ◌∙◌, arith}
 use Rattle.std.proofs.lemmas.Int.{ints}
 use Rattle.std.specs.Prelude.{◌≤ℤ◌, Option, Some, None, is_some, option_map}
 use Rattle.std.specs.Option.{option_or}
@@ -28,7 +28,7 @@ use Rattle.iss_model.specs.rules.CardEntries.{authorization_entries, clearing_en
 use Rattle.iss_model.specs.rules.CardReasons.{authorization_reason, clearing_reason, first_ask, further_ask, increment_reason, refund_reason, reversal_reason, txn_asked}
 use Rattle.iss_model.specs.rules.Due.{DueThing, call_due, expiry_entries, live_expiry_entries, thing_entries, txn_due}
 use Rattle.iss_model.specs.rules.Facts.{Facts, asked_calls_of, is_notice, next_notice, txn_in}
-use Rattle.iss_model.specs.rules.Pieces.{Parts, abandonment_entries, declined_ask_entries, end_entries, funded_ask_entries, in_all, left_of, notice_after_abandonment, notice_entry, only_gateway, only_where, parts_held, post_entries, release_entries, taken_to_clear, user_account, void_entry}
+use Rattle.iss_model.specs.rules.Pieces.{Parts, abandonment_entries, end_entries, in_all, left_of, notice_after_abandonment, notice_entry, only_gateway, only_where, parts_held, release_entries, taken_to_clear, void_entry}
 use Rattle.iss_model.specs.rules.Reasons.{is_some_with, load_reason}
 use Rattle.iss_model.specs.rules.Stepping.{authorization_ask, entries_of, increment_ask, load_entries, setting_entries, unless_declined}
 use Rattle.iss_model.specs.state.Cores.{CoreState, after_entry, core_facts, is_live}
@@ -44,8 +44,8 @@ use Rattle.iss_pending.specs.Pending.{HasTakenUp}
 use Rattle.iss_pending.proofs.Due.{its_token}
 use Rattle.iss_holdings.specs.Holdings.{BegunBy, IsHeldWell}
 use Rattle.iss_holdings.proofs.Inputs.{authorization_stamp, authorization_token, begun_stands, unnamed}
-use Rattle.iss_holdings.proofs.Pieces.{HoldsJust, abandoned_calm, calm_leaves, clearing_leaves, its_parts}
-use Rattle.iss_laws.proofs.OpenPieces.{abandoned_txns, abandonment_pays, clearing_pays, declined_within, end_pays, funded_within, funding_within, knows_after, release_pays, silent_calls, silent_txns, sought_pays, stood_in_within}
+use Rattle.iss_holdings.proofs.Pieces.{abandoned_calm, calm_leaves, clearing_leaves, its_parts}
+use Rattle.iss_laws.proofs.OpenPieces.{abandoned_txns, abandonment_pays, clearing_pays, declined_within, end_pays, funded_within, knows_after, release_pays, silent_calls, silent_txns, sought_pays, stood_in_within}
 use Rattle.iss_laws.proofs.OpenUse.{Counting, IsCounting, IsOfThese, Knows, Pays, Within, begin_pays, both_pay, both_within, close_within, free_pays, is_free, opens, weaker}
 
 -- a transaction that is found is known

@@ -1,5 +1,5 @@
 -- The pieces of a step open no more use than they count.
-use Rattle.std.proofs.Common.{◌≡◌, ℕ, ℤ, pos, neg_ℤ, ◌+ℤ◌, ◌+◌, ◌-◌, ◌≤◌, min, Bool, true, false, not, cond, ◌&&◌, ◌||◌, nat_eq, List, [], ◌∷◌, ◌++◌, map, filter, fold, refl, sym, ap, ap₂, subst, ◌∙◌, arith}
+use Rattle.std.proofs.Common.{◌≡◌, ℕ, ℤ, pos, neg_ℤ, ◌+ℤ◌, ◌+◌, ◌-◌, ◌≤◌, min, Bool, true, false, cond, ◌&&◌, ◌||◌, nat_eq, List, [], ◌∷◌, ◌++◌, map, fold, refl, sym, ap, subst, ◌∙◌, arith}
 use Rattle.std.proofs.lemmas.Int.{ints}
 use Rattle.std.proofs.lemmas.Bool.Decides.{nat_tests}
 use Rattle.std.specs.Prelude.{◌≤ℤ◌, Option, Some, None}
@@ -13,7 +13,6 @@ use Rattle.iss_model.specs.declared.call.Failure.TheVariants as failure
 use Rattle.iss_model.specs.declared.call.How.{How}
 use Rattle.iss_model.specs.declared.call.How.TheVariants as how
 use Rattle.iss_model.specs.declared.call.Method.TheVariants as method
-use Rattle.iss_model.specs.declared.call.Opened.{Opened}
 use Rattle.iss_model.specs.declared.decision.Reason.{Reason}
 use Rattle.iss_model.specs.declared.decision.Reason.TheVariants as reason
 use Rattle.iss_model.specs.declared.decision.Verdict.TheVariants as verdict
@@ -21,15 +20,15 @@ use Rattle.iss_model.specs.declared.entry.Entry.{Entry}
 use Rattle.iss_model.specs.declared.entry.Entry.TheVariants as entry
 use Rattle.iss_model.specs.declared.setting.Product.{Product}
 use Rattle.iss_model.specs.declared.txn.Txn.{Txn}
-use Rattle.iss_model.specs.rules.Activity.{TxnNow, CallNow, is_asked, txn_named}
+use Rattle.iss_model.specs.rules.Activity.{TxnNow, CallNow, is_asked}
 use Rattle.iss_model.specs.rules.Asks.{Ask, ask_given_back, ask_usage, call_ask, is_authorization, usage_of}
 use Rattle.iss_model.specs.rules.CardEntries.{call_for, clearing_money_entries, funding_entries, gateway_ask_entries}
 use Rattle.iss_model.specs.rules.CardReasons.{is_account_funded}
 use Rattle.iss_model.specs.rules.Facts.{Facts, asked_calls_of, next_notice, not_below}
-use Rattle.iss_model.specs.rules.Pieces.{Parts, abandoned_call_entries, abandoned_calls_entries, declined_ask_entries, end_entries, failure_reason, funded_ask_entries, hold_entries, in_all, left_of, notice_entry, only_gateway, only_where, post_entries, release_entries, stand_entries, stand_in_entries, taken_to_clear, taken_to_release, unhold_entries, use_return_entries, user_account, void_entry}
+use Rattle.iss_model.specs.rules.Pieces.{Parts, abandoned_call_entries, abandoned_calls_entries, declined_ask_entries, end_entries, failure_reason, funded_ask_entries, hold_entries, in_all, notice_entry, only_gateway, only_where, post_entries, release_entries, stand_entries, stand_in_entries, taken_to_clear, taken_to_release, unhold_entries, use_return_entries, user_account, void_entry}
 use Rattle.iss_model.specs.rules.Settings.{is_named_in, product_named}
 use Rattle.iss_model.specs.rules.StandIns.{Stand, allowed, over_limit, stand, uncovered}
-use Rattle.iss_model.specs.state.Cores.{CoreState, after_entry, call_after_close, core_facts}
+use Rattle.iss_model.specs.state.Cores.{CoreState, after_entry, call_after_close}
 use Rattle.iss_model.proofs.Names.{one_name}
 use Rattle.iss_effects.specs.Stakes.{part_held}
 use Rattle.iss_invariants.specs.Numbers.{CallsNumberedFrom}
@@ -38,11 +37,11 @@ use Rattle.iss_docket.specs.Dockets.{Docket, docket_of}
 use Rattle.iss_docket.specs.Well.{IsAsked}
 use Rattle.iss_docket.proofs.Abandoning.{asked_in, closings_txns}
 use Rattle.iss_docket.proofs.Closing.{NumbersGrowFrom, StandsItself, all_stand, asked_after, filtered_grow}
-use Rattle.iss_docket.proofs.Docketed.{AreSilent, abandoned_docketed, both_silent, clearing_silent, post_silent, release_silent, silent, where_silent, gateway_silent}
+use Rattle.iss_docket.proofs.Docketed.{AreSilent, abandoned_docketed, both_silent, post_silent, silent, where_silent}
 use Rattle.iss_docket.proofs.Lists.{Each}
 use Rattle.iss_pending.proofs.Staying.{comes_to}
-use Rattle.iss_holdings.proofs.Pieces.{AreCalm, HoldsJust, Leaves, abandoned_calm, amount_of, calm_leaves, its_amount, let_go, post_calm, release_leaves, clearing_leaves, then_calm, then_leaves, without}
-use Rattle.iss_laws.proofs.OpenUse.{Counting, IsCounting, Knows, Pays, Within, ask_weight, both_pay, both_within, close_within, free_pays, hold_within, holds_there, is_free, open_within, opens, reaches, unhold_within, usage_within, weaker}
+use Rattle.iss_holdings.proofs.Pieces.{HoldsJust, Leaves, abandoned_calm, amount_of, calm_leaves, its_amount, let_go, post_calm, then_leaves, without}
+use Rattle.iss_laws.proofs.OpenUse.{Counting, IsCounting, Knows, Pays, Within, both_pay, both_within, close_within, free_pays, hold_within, holds_there, is_free, open_within, opens, unhold_within, usage_within, weaker}
 
 -- entries without anything to count ----
 
@@ -136,12 +135,12 @@ release_pays k counting s t x amount knows le just =
     let first = frees_part k counting s t part.P taken.p x knows (min_low amount x.p) just in
     let second = frees_then k s t a b one one _ _ first (frees_post k counting (fold after_entry s a) t (user_account t) (account.Programme t.currency) taken.p one first.leaves.just) in
     let third = frees_then k s t (a ++ b) c one two _ _ second
-        (frees_part k counting (fold after_entry s (a ++ b)) t part.G taken.g one (knows_after s (a ++ b) t (silent_txns s (a ++ b) second.quiet) knows) (min_low (amount - taken.p) x.g) second.leaves.just)
+    (frees_part k counting (fold after_entry s (a ++ b)) t part.G taken.g one (knows_after s (a ++ b) t (silent_txns s (a ++ b) second.quiet) knows) (min_low (amount - taken.p) x.g) second.leaves.just)
     in
     let fourth = frees_then k s t (a ++ b ++ c) d two two _ _ third (frees_post k counting (fold after_entry s (a ++ b ++ c)) t (user_account t) (account.Gateway t.currency) taken.g two third.leaves.just) in
     let fifth = frees_then k s t (a ++ b ++ c ++ d) e two three _ _ fourth
-        (frees_part k counting (fold after_entry s (a ++ b ++ c ++ d)) t part.S taken.s two (knows_after s (a ++ b ++ c ++ d) t (silent_txns s (a ++ b ++ c ++ d) fourth.quiet) knows)
-        (min_low (amount - taken.p - taken.g) x.s) fourth.leaves.just)
+    (frees_part k counting (fold after_entry s (a ++ b ++ c ++ d)) t part.S taken.s two (knows_after s (a ++ b ++ c ++ d) t (silent_txns s (a ++ b ++ c ++ d) fourth.quiet) knows)
+    (min_low (amount - taken.p - taken.g) x.s) fourth.leaves.just)
     in
     weaker k s (a ++ b ++ c ++ d ++ e ++ use_return_entries t amount) (neg_ℤ (pos (cond h amount 0)) +ℤ pos (cond h amount 0)) (pos 0) (nothing (cond h amount 0))
     (both_within k s (a ++ b ++ c ++ d ++ e) (use_return_entries t amount) (neg_ℤ (pos (cond h amount 0))) (pos (cond h amount 0))
@@ -170,10 +169,10 @@ clearing_pays k counting s t x amount at knows just =
     let u : List Entry = only_where excess (entry.Usage (usage_of t (pos excess) (pos 0) at) ∷ []) in
     let first = frees_part k counting s t part.G taken.g x knows (min_low amount x.g) just in
     let second = frees_then k s t a b one two _ _ first
-        (frees_part k counting (fold after_entry s a) t part.P taken.p one (knows_after s a t (silent_txns s a first.quiet) knows) (min_low (amount - taken.g) x.p) first.leaves.just)
+    (frees_part k counting (fold after_entry s a) t part.P taken.p one (knows_after s a t (silent_txns s a first.quiet) knows) (min_low (amount - taken.g) x.p) first.leaves.just)
     in
     let third = frees_then k s t (a ++ b) c two (without part.S taken.s two) _ _ second
-        (frees_part k counting (fold after_entry s (a ++ b)) t part.S taken.s two (knows_after s (a ++ b) t (silent_txns s (a ++ b) second.quiet) knows) (min_low (amount - taken.g - taken.p) x.s) second.leaves.just)
+    (frees_part k counting (fold after_entry s (a ++ b)) t part.S taken.s two (knows_after s (a ++ b) t (silent_txns s (a ++ b) second.quiet) knows) (min_low (amount - taken.g - taken.p) x.s) second.leaves.just)
     in
     both_pay k s (a ++ b ++ c ++ d ++ e) u
     (both_pay k s (a ++ b ++ c ++ d) e

@@ -1,5 +1,5 @@
 -- What is open of counted use: what counted transactions hold, and what is asked for them. No entry opens more than use counts with it.
-use Rattle.std.proofs.Common.{◌≡◌, ℕ, ℤ, pos, neg_ℤ, ◌+ℤ◌, ◌+◌, ◌-◌, ◌≤◌, min, Bool, true, false, not, cond, ◌&&◌, ◌||◌, nat_eq, List, [], ◌∷◌, ◌++◌, map, filter, fold, refl, sym, ap, ap₂, subst, ◌∙◌, arith}
+use Rattle.std.proofs.Common.{◌≡◌, ℕ, ℤ, pos, neg_ℤ, ◌+ℤ◌, ◌+◌, ◌≤◌, Bool, true, false, cond, ◌&&◌, ◌||◌, nat_eq, List, [], ◌∷◌, ◌++◌, map, fold, refl, sym, ap, ap₂, subst, ◌∙◌, arith}
 use Rattle.std.proofs.lemmas.Int.{ints}
 use Rattle.std.proofs.lemmas.Bool.{and_parts}
 use Rattle.std.proofs.lemmas.List.Sums.{fold-append}
@@ -27,7 +27,7 @@ use Rattle.iss_model.specs.state.Cores.{CoreState, after_entry, after_setting, b
 use Rattle.iss_model.specs.state.Kept.{Kept, after_changes}
 use Rattle.iss_model.proofs.Names.{name-sym, one_name}
 use Rattle.iss_effects.specs.Stakes.{part_held, whole_held}
-use Rattle.iss_effects.proofs.Finds.{found_passes, number-sym, number_is, same_number}
+use Rattle.iss_effects.proofs.Finds.{number-sym, number_is}
 use Rattle.iss_effects.proofs.Parts.{change_of, whole_less, whole_more, whole_same}
 use Rattle.iss_invariants.proofs.Passing.{EachPasses}
 use Rattle.iss_docket.specs.Well.{HaveOwnTokens, IsAsked}

@@ -1,13 +1,10 @@
 -- On the book of every legal list of records a user's balance is what the user owns.
-use Rattle.std.proofs.Common.{◌≡◌, ℕ, ℤ, pos, ◌+ℤ◌, Bool, true, false, ◌&&◌, List, [], ◌∷◌, ◌++◌, fold, refl, sym, ap, ap₂, subst, ◌∙◌}
+use Rattle.std.proofs.Common.{◌≡◌, ℕ, ℤ, ◌+ℤ◌, Bool, true, ◌&&◌, List, [], ◌∷◌, ◌++◌, fold, refl, sym, ap, ap₂, subst, ◌∙◌}
 use Rattle.std.proofs.lemmas.Bool.Decides.{Decides-int_eq}
-use Rattle.std.proofs.lemmas.List.Sums.{fold-append}
 use Rattle.std.specs.Prelude.{Option, Some, None, option_map}
 use Rattle.std.specs.List.{list_all}
-use Rattle.std.specs.Ordering.{int_eq}
 use Rattle.iss_model.specs.declared.account.Account.{Account}
 use Rattle.iss_model.specs.declared.account.Account.TheVariants as account
-use Rattle.iss_model.specs.declared.currency.Currency.{Currency}
 use Rattle.iss_model.specs.declared.entry.Entry.{Entry}
 use Rattle.iss_model.specs.declared.entry.Row.{Row}
 use Rattle.iss_model.specs.declared.input.Input.{Input}
@@ -18,11 +15,11 @@ use Rattle.iss_model.specs.rules.Activity.{TxnNow, txn_named}
 use Rattle.iss_model.specs.rules.CardReasons.{is_account_funded}
 use Rattle.iss_model.specs.rules.Due.{DueItem, due_items, thing_entries}
 use Rattle.iss_model.specs.rules.Facts.{Facts, balance_in}
-use Rattle.iss_model.specs.rules.Histories.{History, IsLegal, history_facts, history_keeper, history_of, nothing_yet}
+use Rattle.iss_model.specs.rules.Histories.{History, IsLegal, history_facts, history_of}
 use Rattle.iss_model.specs.rules.Keeper.{Growth}
 use Rattle.iss_model.specs.rules.Stepping.{after_due, entries_of, settle, step}
-use Rattle.iss_model.specs.state.Cores.{CoreState, after_entry, core_facts, core_keeper, core_of, no_core, with_record}
-use Rattle.iss_agreement.proofs.CoreOfBook.{core_step, entries_history, facts_history}
+use Rattle.iss_model.specs.state.Cores.{CoreState, core_facts, core_keeper, core_of, with_record}
+use Rattle.iss_agreement.proofs.CoreOfBook.{entries_history, facts_history}
 use Rattle.iss_invariants.specs.Sound.{IsNewEvent}
 use Rattle.iss_invariants.proofs.Legal.{legal_induction}
 use Rattle.iss_docket.proofs.Lists.{inside}
@@ -33,7 +30,7 @@ use Rattle.iss_holdings.specs.Holdings.{IsHeldWell}
 use Rattle.iss_holdings.proofs.Steps.{HoldsWell, nothing_held, step_held, thing_held}
 use Rattle.iss_laws.specs.UserBalances.{EachBalanceIsOwn, accounts_named, balances_are_own, has_own_balance, is_own, own_changes, owned_in, pays_itself}
 use Rattle.iss_laws.proofs.HoldsWell.{longer}
-use Rattle.iss_laws.proofs.OwnInputs.{Agrees, agrees_before, funding_of, input_same, thing_same}
+use Rattle.iss_laws.proofs.OwnInputs.{Agrees, agrees_before, input_same, thing_same}
 use Rattle.iss_laws.proofs.OwnPieces.{AddsSame, both_same, none_same}
 use Rattle.iss_laws.proofs.Rows.{step_summed, sum_among}
 
@@ -65,9 +62,9 @@ module _ (own : List ℕ → Bool) (key : List ℕ) where
   step_same s r new well held agrees =
       let due : CoreState = (after_due core_keeper (with_record s r) r.at).world in
       let sweep : Swept r.input (after_due core_keeper (with_record s r) r.at) =
-          swept r.at (record { world = with_record s r; entries = [] }) (due_items (core_facts (with_record s r)) r.at) r.input
-          (record { ready = ready_taken s r well new; held = held; same = none_same })
-          (agrees_before own due (entries_of r.input r.at (core_facts due)) agrees)
+      swept r.at (record { world = with_record s r; entries = [] }) (due_items (core_facts (with_record s r)) r.at) r.input
+      (record { ready = ready_taken s r well new; held = held; same = none_same })
+      (agrees_before own due (entries_of r.input r.at (core_facts due)) agrees)
       in
       both_same sweep.same (input_same own key due r.input r.at sweep.ready sweep.held agrees)
 

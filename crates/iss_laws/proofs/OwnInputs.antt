@@ -1,11 +1,10 @@
 -- What is due and what each kind of input makes adds to a user's balance what it adds to what the user owns.
-use Rattle.std.proofs.Common.{◌≡◌, ℕ, ℤ, pos, neg_ℤ, ◌+ℤ◌, ◌+◌, ◌-◌, min, Bool, true, false, not, cond, ◌&&◌, ◌||◌, nat_eq, List, [], ◌∷◌, ◌++◌, fold, refl, sym, ap, subst, ◌∙◌, arith}
+use Rattle.std.proofs.Common.{◌≡◌, ℕ, ℤ, pos, neg_ℤ, ◌+ℤ◌, ◌+◌, ◌-◌, min, Bool, true, false, not, cond, ◌&&◌, ◌||◌, nat_eq, List, [], ◌∷◌, ◌++◌, fold, refl, sym, ap, ◌∙◌, arith}
 use Rattle.std.proofs.lemmas.Int.{ints}
 use Rattle.std.specs.Prelude.{Option, Some, None, option_map}
 use Rattle.std.specs.List.{list_all}
 use Rattle.std.specs.Option.{option_or}
 use Rattle.std.specs.Str.{bytes_eq}
-use Rattle.iss_model.specs.declared.account.Account.{Account}
 use Rattle.iss_model.specs.declared.account.Account.TheVariants as account
 use Rattle.iss_model.specs.declared.account.Part.{Part}
 use Rattle.iss_model.specs.declared.account.Part.TheVariants as part
@@ -28,14 +27,14 @@ use Rattle.iss_model.specs.declared.setting.Funding.{Funding}
 use Rattle.iss_model.specs.declared.setting.Moved.TheVariants as moved
 use Rattle.iss_model.specs.declared.setting.Product.{Product}
 use Rattle.iss_model.specs.declared.txn.Txn.{Txn}
-use Rattle.iss_model.specs.Sums.{balance_changes, changed_at, user_key}
+use Rattle.iss_model.specs.Sums.{user_key}
 use Rattle.iss_model.specs.rules.Activity.{TxnNow, CallNow, call_numbered, is_asked, txn_named}
 use Rattle.iss_model.specs.rules.Asks.{Ask, ask_given_back, ask_usage, call_ask}
-use Rattle.iss_model.specs.rules.CardEntries.{authorization_entries, call_for, clearing_entries, clearing_money_entries, entries_of_asked, entries_of_txn, failed_call_entries, funding_entries, further_clearing_entries, gateway_ask_entries, increment_entries, last_clearing_entries, outcome_entries, owed_to_programme, refund_entries, reversal_entries}
+use Rattle.iss_model.specs.rules.CardEntries.{authorization_entries, call_for, clearing_entries, entries_of_asked, entries_of_txn, failed_call_entries, funding_entries, gateway_ask_entries, increment_entries, outcome_entries, owed_to_programme, refund_entries, reversal_entries}
 use Rattle.iss_model.specs.rules.CardReasons.{authorization_reason, clearing_reason, increment_reason, is_account_funded, refund_reason, reversal_reason, further_ask}
-use Rattle.iss_model.specs.rules.Due.{DueThing, call_due, expiry_entries, live_expiry_entries, thing_entries, txn_due}
+use Rattle.iss_model.specs.rules.Due.{DueThing, call_due, live_expiry_entries, thing_entries, txn_due}
 use Rattle.iss_model.specs.rules.Facts.{Facts, asked_calls_of, is_notice, next_notice, not_below, txn_in}
-use Rattle.iss_model.specs.rules.Pieces.{Parts, abandoned_calls_entries, abandonment_entries, declined_ask_entries, end_entries, failure_reason, funded_ask_entries, hold_entries, in_all, left_of, notice_after_abandonment, notice_entry, only_gateway, only_where, parts_held, post_entries, release_entries, stand_entries, stand_in_entries, taken_to_clear, user_account, void_entry}
+use Rattle.iss_model.specs.rules.Pieces.{Parts, abandoned_calls_entries, declined_ask_entries, end_entries, failure_reason, hold_entries, in_all, left_of, notice_after_abandonment, notice_entry, only_gateway, only_where, parts_held, post_entries, stand_entries, taken_to_clear, user_account, void_entry}
 use Rattle.iss_model.specs.rules.Reasons.{is_some_with, load_reason}
 use Rattle.iss_model.specs.rules.Settings.{is_named_in, product_named}
 use Rattle.iss_model.specs.rules.StandIns.{Stand, allowed, over_limit, stand, uncovered}
@@ -46,7 +45,7 @@ use Rattle.iss_docket.specs.Well.{IsAsked}
 use Rattle.iss_docket.proofs.Entering.{same_txn, txn_more}
 use Rattle.iss_pending.specs.Pending.{HasTakenUp}
 use Rattle.iss_pending.proofs.Due.{its_token}
-use Rattle.iss_holdings.specs.Holdings.{IsHeldWell, is_part_of, may_have, part_sum}
+use Rattle.iss_holdings.specs.Holdings.{IsHeldWell, is_part_of, part_sum}
 use Rattle.iss_holdings.proofs.Asks.{asked_gateway}
 use Rattle.iss_holdings.proofs.Changes.{txn_ended}
 use Rattle.iss_holdings.proofs.Inputs.{begun_stands, unnamed, authorization_token}

@@ -1,11 +1,10 @@
 -- What each piece of a step adds to a user's balance is what it adds to what the user owns.
-use Rattle.std.proofs.Common.{◌≡◌, ℕ, ℤ, pos, neg_ℤ, ◌+ℤ◌, ◌+◌, ◌-◌, min, Bool, true, false, not, cond, ◌&&◌, nat_eq, List, [], ◌∷◌, ◌++◌, fold, refl, sym, ap, ap₂, subst, ◌∙◌, arith}
+use Rattle.std.proofs.Common.{◌≡◌, ℕ, ℤ, pos, neg_ℤ, ◌+ℤ◌, ◌+◌, ◌-◌, min, Bool, true, false, not, cond, ◌&&◌, nat_eq, List, [], ◌∷◌, ◌++◌, refl, sym, ap, ap₂, ◌∙◌, arith}
 use Rattle.std.proofs.lemmas.Int.{ints}
-use Rattle.std.specs.Prelude.{Option, Some, None}
+use Rattle.std.specs.Prelude.{Some}
 use Rattle.std.specs.List.{list_all}
 use Rattle.std.specs.Str.{bytes_eq}
 use Rattle.std.proofs.lemmas.Bool.{and_parts}
-use Rattle.iss_model.specs.declared.account.Account.{Account}
 use Rattle.iss_model.specs.declared.account.Account.TheVariants as account
 use Rattle.iss_model.specs.declared.account.Part.{Part}
 use Rattle.iss_model.specs.declared.account.Part.TheVariants as part
@@ -16,7 +15,7 @@ use Rattle.iss_model.specs.Sums.{balance_changes, changed_at, user_key}
 use Rattle.iss_model.specs.rules.Asks.{usage_of}
 use Rattle.iss_model.specs.rules.CardEntries.{clearing_money_entries}
 use Rattle.iss_model.specs.rules.CardReasons.{is_account_funded}
-use Rattle.iss_model.specs.rules.Pieces.{Parts, hold_entries, in_all, left_of, only_gateway, only_where, post_entries, release_entries, taken_to_clear, taken_to_release, unhold_entries, use_return_entries, user_account}
+use Rattle.iss_model.specs.rules.Pieces.{Parts, hold_entries, in_all, left_of, only_where, post_entries, release_entries, taken_to_clear, taken_to_release, unhold_entries, user_account}
 use Rattle.iss_effects.proofs.Finds.{number_is}
 use Rattle.iss_laws.specs.UserBalances.{own_changes}
 use Rattle.iss_laws.proofs.Rows.{among_summed, sum_among}

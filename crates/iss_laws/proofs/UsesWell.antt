@@ -1,32 +1,26 @@
 -- At the time of every legal book what is open of counted use was counted, so no control has counted less than nothing.
-use Rattle.std.proofs.Common.{◌≡◌, ℕ, ℤ, pos, negsuc, neg_ℤ, ◌+ℤ◌, ◌+◌, ◌≤◌, max, Bool, true, false, cond, ◌&&◌, nat_le, List, [], ◌∷◌, ◌++◌, map, fold, append_assoc, refl, sym, ap, ap₂, subst, ◌∙◌, arith}
+use Rattle.std.proofs.Common.{◌≡◌, ℕ, ℤ, pos, ◌+ℤ◌, ◌+◌, ◌≤◌, max, Bool, true, false, cond, ◌&&◌, List, [], ◌∷◌, ◌++◌, fold, append_assoc, refl, sym, ap, subst, ◌∙◌, arith}
 use Rattle.std.proofs.lemmas.Int.{ints}
-use Rattle.std.proofs.lemmas.Bool.{and_parts}
-use Rattle.std.proofs.lemmas.Bool.Decides.{nat_tests}
 use Rattle.std.proofs.lemmas.List.{append-nil}
 use Rattle.std.proofs.lemmas.List.Folds.{list_all-map}
-use Rattle.std.proofs.lemmas.List.Sums.{fold-append}
-use Rattle.std.specs.Prelude.{◌≤ℤ◌, Option, Some, None}
+use Rattle.std.specs.Prelude.{◌≤ℤ◌, Some, None}
 use Rattle.std.specs.List.{list_all}
 use Rattle.std.specs.Str.{bytes_eq}
 use Rattle.iss_model.specs.declared.entry.Entry.{Entry}
 use Rattle.iss_model.specs.declared.entry.Entry.TheVariants as entry
-use Rattle.iss_model.specs.declared.entry.Row.{Row}
 use Rattle.iss_model.specs.declared.input.Input.{Input}
 use Rattle.iss_model.specs.declared.input.Record.{Record}
-use Rattle.iss_model.specs.declared.setting.User.{User}
 use Rattle.iss_model.specs.declared.setting.Window.{Window}
 use Rattle.iss_model.specs.declared.setting.Window.TheVariants as window
 use Rattle.iss_model.specs.declared.txn.Txn.{Txn}
 use Rattle.iss_model.specs.declared.txn.UsageRow.{UsageRow}
-use Rattle.iss_model.specs.Calendar.{window_at}
-use Rattle.iss_model.specs.Sums.{Change, changed_at, int_key, sum_at}
-use Rattle.iss_model.specs.rules.Activity.{TxnNow, txn_named}
+use Rattle.iss_model.specs.Sums.{changed_at, int_key, sum_at}
+use Rattle.iss_model.specs.rules.Activity.{TxnNow}
 use Rattle.iss_model.specs.rules.Asks.{usage_of, used_by}
-use Rattle.iss_model.specs.rules.Controls.{ControlNow, ControlPut, Group, control_puts_of, counted_changes, counted_control, counter_key, counts, groups_of, span_key, window_key}
+use Rattle.iss_model.specs.rules.Controls.{ControlPut, Group, control_puts_of, counted_changes, counted_control, counts, groups_of, span_key, window_key}
 use Rattle.iss_model.specs.rules.Due.{DueItem, due_items, thing_entries}
 use Rattle.iss_model.specs.rules.Facts.{Facts}
-use Rattle.iss_model.specs.rules.Histories.{History, IsLegal, IsLegalAfter, history_facts, history_keeper, history_of, nothing_yet, time_of}
+use Rattle.iss_model.specs.rules.Histories.{History, IsLegal, IsLegalAfter, history_facts, history_of}
 use Rattle.iss_model.specs.rules.Keeper.{Growth}
 use Rattle.iss_model.specs.rules.Stepping.{after_due, entries_of, settle, step}
 use Rattle.iss_model.specs.state.Cores.{CoreState, after_entry, core_facts, core_keeper, core_of, no_core, with_record}
@@ -41,7 +35,6 @@ use Rattle.iss_holdings.proofs.Inputs.{own_keeps, thing_keeps}
 use Rattle.iss_holdings.proofs.Steps.{HoldsWell, nothing_held, step_held, thing_held}
 use Rattle.iss_holdings.proofs.Times.{due_now, entries_begun, entries_now, stamp_by_now}
 use Rattle.iss_model.proofs.Names.{one_name}
-use Rattle.iss_laws.specs.Tests.{not_negative}
 use Rattle.iss_laws.specs.Uses.{counts_txn_well, counts_well, has_counted_well, is_use, use_is_not_negative, used_of}
 use Rattle.iss_laws.proofs.HoldsWell.{is_not_negative, longer}
 use Rattle.iss_laws.proofs.OpenInputs.{CountsOn, input_uses, thing_uses}
@@ -97,8 +90,8 @@ step_opened s r k last early new well held begun counting on by_last =
     let due : Growth CoreState = after_due core_keeper up r.at in
     let es : List Entry = entries_of r.input r.at (core_facts due.world) in
     let sweep : Swept r.input k (open_use k s) due =
-        swept k counting (open_use k s) r.at (record { world = up; entries = [] }) (due_items (core_facts up) r.at) r.input
-        (record { ready = ready_taken s r well new; held = held; begun = later_begun s.now (max s.now r.at) s (higher s.now r.at) begun; opened = itself (open_use k s) })
+    swept k counting (open_use k s) r.at (record { world = up; entries = [] }) (due_items (core_facts up) r.at) r.input
+    (record { ready = ready_taken s r well new; held = held; begun = later_begun s.now (max s.now r.at) s (higher s.now r.at) begun; opened = itself (open_use k s) })
     in
     let time : due.world.now ≤ r.at = subst (λ (n : ℕ). n ≤ r.at) (sym (due_now up r.at)) (no_higher s.now r.at early) in
     let pays : Pays k due.world es = input_uses k counting last on due.world r.input r.at time by_last sweep.ready sweep.held sweep.begun in
@@ -117,8 +110,8 @@ step_begun s r new well held begun =
     let up : CoreState = with_record s r in
     let due : Growth CoreState = after_due core_keeper up r.at in
     let sweep : Swept r.input no_counting (open_use no_counting s) due =
-        swept no_counting (record { use_ = λ t amount count at. refl; others = λ e h. refl }) (open_use no_counting s) r.at (record { world = up; entries = [] }) (due_items (core_facts up) r.at) r.input
-        (record { ready = ready_taken s r well new; held = held; begun = later_begun s.now (max s.now r.at) s (higher s.now r.at) begun; opened = itself (open_use no_counting s) })
+    swept no_counting (record { use_ = λ t amount count at. refl; others = λ e h. refl }) (open_use no_counting s) r.at (record { world = up; entries = [] }) (due_items (core_facts up) r.at) r.input
+    (record { ready = ready_taken s r well new; held = held; begun = later_begun s.now (max s.now r.at) s (higher s.now r.at) begun; opened = itself (open_use no_counting s) })
     in
     entries_begun due.world (entries_of r.input r.at (core_facts due.world)) (own_keeps due.world r.input r.at (stamp_by_now s r) sweep.ready sweep.held) sweep.begun
   where
@@ -261,11 +254,11 @@ window_stays : (w : Window) (one other : List ℕ) (a b last : ℕ) → a ≤ b 
     → bytes_eq (window_key w (pos 0) one b) (window_key w (pos 0) other last) ≡ true
 window_stays w one other a b last h k e =
     let keys : one ++ 0 ∷ 1 ∷ window_nat w a ∷ [] ≡ other ++ 0 ∷ 1 ∷ window_nat w last ∷ [] =
-        sym (key_is w one a) ∙ one_name (window_key w (pos 0) one a) (window_key w (pos 0) other last) e ∙ key_is w other last
+    sym (key_is w one a) ∙ one_name (window_key w (pos 0) one a) (window_key w (pos 0) other last) e ∙ key_is w other last
     in
     let first : window_nat w a ≡ window_nat w last = sym (last_behind one (window_nat w a)) ∙ ap last_of keys ∙ last_behind other (window_nat w last) in
     let same : window_key w (pos 0) one b ≡ window_key w (pos 0) one a =
-        key_is w one b ∙ ap (λ (n : ℕ). one ++ 0 ∷ 1 ∷ n ∷ []) (between w a b last h k first ∙ sym first) ∙ sym (key_is w one a)
+    key_is w one b ∙ ap (λ (n : ℕ). one ++ 0 ∷ 1 ∷ n ∷ []) (between w a b last h k first ∙ sym first) ∙ sym (key_is w one a)
     in
     ap (λ (x : List ℕ). bytes_eq x (window_key w (pos 0) other last)) same ∙ e
 
@@ -371,6 +364,6 @@ law_used rs legal =
     ∙ all_true (λ (put : ControlPut). has_counted_well f (counted_control h.rows put))
     (λ put. two _ _
     (all_true (counts_well f (counted_control h.rows put)) (λ user.
-        ap (λ (now : ℕ). is_use (used_by (counted_control h.rows put) put.control.window user.name now)) (sym time) ∙ use_now rs put put.control.window user.name legal refl) f.users)
+    ap (λ (now : ℕ). is_use (used_by (counted_control h.rows put) put.control.window user.name now)) (sym time) ∙ use_now rs put put.control.window user.name legal refl) f.users)
     (all_true (counts_txn_well (counted_control h.rows put)) (λ t. use_of rs put put.control.window t.txn legal refl) f.txns))
     (control_puts_of h.rows)

@@ -1,5 +1,5 @@
 -- At the time of a book no control has counted less than nothing: of no user, and a control by transaction of no transaction.
-use Rattle.std.specs.Prelude.{pos, Bool, true, ◌&&◌}
+use Rattle.std.specs.Prelude.{pos, Bool, ◌&&◌}
 use Rattle.std.specs.List.{list_all}
 use Rattle.iss_model.specs.declared.setting.User.{User}
 use Rattle.iss_model.specs.declared.setting.Window.{Window}
