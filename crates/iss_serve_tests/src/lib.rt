@@ -1,0 +1,12 @@
+//! Tests of a store that serves clients over an outside in memory.
+//!
+//! It may cite every crate below `iss_top`.
+//! Nothing may cite it.
+#![tactic(auto)]
+
+#[cfg(test)]
+mod clients;
+#[cfg(test)]
+mod sending;
+#[cfg(test)]
+mod support;
