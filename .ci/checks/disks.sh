@@ -150,7 +150,8 @@ if chattr +i "$held" 2>/dev/null; then
         sleep 0.1
     done
     chattr +i "$held"
-    tail -n +21 "$room/lines" >&"$pipe"
+    # The program may have ended before it has read them all.
+    tail -n +21 "$room/lines" >&"$pipe" || true
     exec {pipe}>&-
     status=0
     wait "$child" || status=$?
