@@ -21,7 +21,7 @@ use Rattle.iss_pending.specs.Pending.{IsWell}
 use Rattle.iss_pending.proofs.Legal.{core_well}
 use Rattle.iss_pending.proofs.Steps.{decided_once}
 
-none_first : (n : ℕ) → n ≡ 0 + n
+pub none_first : (n : ℕ) → n ≡ 0 + n
 none_first n = omega arith
 
 -- an entry counts among decisions as among rows
@@ -36,7 +36,7 @@ decides_alike token (entry.Decided event verdict) ds = by (bytes_eq event token)
 decides_alike token _ ds = none_first (decided_times ds token)
 
 -- a row first
-row_times : (test : Entry → Bool) (row : Row) (rows : List Row) → times test (row ∷ rows) ≡ length (cond (test row.entry) (row.entry ∷ []) []) + times test rows
+pub row_times : (test : Entry → Bool) (row : Row) (rows : List Row) → times test (row ∷ rows) ≡ length (cond (test row.entry) (row.entry ∷ []) []) + times test rows
 row_times test row rows = by (test row.entry)
   where
     by : (b : Bool)

@@ -30,7 +30,8 @@ use Rattle.iss_holdings.specs.Holdings.{HoldsNothing, IsHeldWell, ended_times, e
 use Rattle.iss_holdings.proofs.Steps.{HoldsWell, nothing_held, step_held, step_left}
 use Rattle.iss_laws.specs.Holds.{is_held_on, parts_and_ends, parts_of}
 use Rattle.iss_laws.specs.Tests.{not_negative, times}
-use Rattle.iss_laws.proofs.Rows.{step_counted, times_among}
+use Rattle.iss_payments.specs.Calls.{times_among}
+use Rattle.iss_laws.proofs.Rows.{step_counted}
 
 -- ends, over all records ----
 

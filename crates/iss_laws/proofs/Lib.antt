@@ -3,6 +3,9 @@ pub mod BalanceSums
 pub mod EventsDecided
 pub mod Rows
 pub mod HoldsWell
+pub mod NextRows
+pub mod CallsOnce
+pub mod CallsPaid
 pub mod OwnPieces
 pub mod OwnInputs
 pub mod OwnBalances
@@ -11,3 +14,5 @@ pub mod OpenUse
 pub mod OpenPieces
 pub mod OpenInputs
 pub mod UsesWell
+pub mod RuledRecords
+pub mod ApprovedRecords

@@ -13,12 +13,9 @@ use Rattle.iss_model.specs.rules.Facts.{Facts}
 use Rattle.iss_model.specs.rules.Histories.{History, history_facts, history_keeper, numbered_rows}
 use Rattle.iss_model.specs.rules.Keeper.{Growth, grow}
 use Rattle.iss_model.specs.rules.Stepping.{after_due, own_entries, settle, step}
+use Rattle.iss_payments.specs.Calls.{times_among}
+use Rattle.iss_payments.proofs.Counting.{among_append}
 use Rattle.iss_laws.specs.Tests.{times}
-
--- how many of these entries pass a test
-abbrev pub times_among : (Entry → Bool) → List Entry → ℕ
-times_among test [] = 0
-times_among test (e ∷ es) = cond (test e) 1 0 + times_among test es
 
 pub times_append : (test : Entry → Bool) (xs ys : List Row) → times test (xs ++ ys) ≡ times test xs + times test ys
 times_append test xs ys =
@@ -39,16 +36,6 @@ times_numbered test n (e ∷ es) = by (test e) (times_numbered test n es)
       where
         none : (a b : ℕ) → a ≡ b → a ≡ 0 + b
         none a b e = omega (arith, e)
-
-pub among_append : (test : Entry → Bool) (xs ys : List Entry) → times_among test (xs ++ ys) ≡ times_among test xs + times_among test ys
-among_append test [] ys = none (times_among test ys)
-  where
-    none : (n : ℕ) → n ≡ 0 + n
-    none n = omega arith
-among_append test (x ∷ xs) ys = ap (λ (n : ℕ). cond (test x) 1 0 + n) (among_append test xs ys) ∙ add (cond (test x) 1 0) (times_among test xs) (times_among test ys)
-  where
-    add : (a b c : ℕ) → a + (b + c) ≡ a + b + c
-    add a b c = omega arith
 
 -- What a growth adds to the rows is what it adds to the entries.
 abbrev IsCounted : (Entry → Bool) → Growth History → Growth History → Type 0

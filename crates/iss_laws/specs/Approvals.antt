@@ -1,150 +1,118 @@
--- A purchase that counted as use is approved exactly where the user's own balance pays, the gateway funded its call, or the programme stood in. One that didn't count was declined for a reason of its own.
-use Rattle.std.specs.Prelude.{ℕ, pos, Bool, true, false, not, ◌&&◌, ◌||◌, ◌==◌, int_lt, List, [], ◌∷◌, find, Option, Some, None}
-use Rattle.std.specs.List.{list_all, list_any}
+-- An authorisation or increment is approved exactly where the rules gave no reason, and the user's own balance pays, its call was funded,
+-- or a set stood in.
+use Rattle.std.specs.Prelude.{ℕ, ◌+◌, Bool, true, false, not, ◌&&◌, ◌||◌, List, [], ◌∷◌, ◌++◌, length, Option, Some, None, if◌then◌else◌}
 use Rattle.std.specs.Str.{bytes_eq}
+use Rattle.iss_model.specs.declared.call.Failure.TheVariants as failure
 use Rattle.iss_model.specs.declared.call.How.{How}
+use Rattle.iss_model.specs.declared.call.How.TheVariants as how
+use Rattle.iss_model.specs.declared.call.Opened.{Opened}
 use Rattle.iss_model.specs.declared.decision.Reason.{Reason}
-use Rattle.iss_model.specs.declared.decision.Reason.TheVariants as reason
-use Rattle.iss_model.specs.declared.decision.Verdict.TheVariants as verdict
 use Rattle.iss_model.specs.declared.decision.Reply.{Reply}
 use Rattle.iss_model.specs.declared.decision.Reply.TheVariants as reply
-use Rattle.iss_model.specs.declared.input.Input.{Input}
-use Rattle.iss_model.specs.declared.input.Input.TheVariants as input
-use Rattle.iss_model.specs.declared.entry.Row.{Row}
+use Rattle.iss_model.specs.declared.decision.Verdict.{Verdict}
+use Rattle.iss_model.specs.declared.decision.Verdict.TheVariants as verdict
 use Rattle.iss_model.specs.declared.entry.Entry.{Entry}
 use Rattle.iss_model.specs.declared.entry.Entry.TheVariants as entry
-use Rattle.iss_model.specs.rules.Facts.{Facts, Accepted, reply_in, txn_in}
-use Rattle.iss_model.specs.rules.Histories.{History, history_facts}
-use Rattle.iss_laws.specs.Calls.{is_funded}
-use Rattle.iss_laws.specs.Events.{decides}
-use Rattle.iss_laws.specs.UserBalances.{pays_itself}
+use Rattle.iss_model.specs.declared.entry.Row.{Row}
+use Rattle.iss_model.specs.declared.input.Input.{Input}
+use Rattle.iss_model.specs.declared.input.Input.TheVariants as input
+use Rattle.iss_model.specs.declared.input.Outcome.TheVariants as outcome
+use Rattle.iss_model.specs.declared.input.Record.{Record}
+use Rattle.iss_model.specs.declared.txn.Txn.{Txn}
+use Rattle.iss_model.specs.rules.Asks.{Ask, call_ask}
+use Rattle.iss_model.specs.rules.CardReasons.{is_account_funded, authorization_reason, increment_reason}
+use Rattle.iss_model.specs.rules.Facts.{Facts, reply_in, txn_in}
+use Rattle.iss_model.specs.rules.Histories.{History, history_facts, history_keeper}
+use Rattle.iss_model.specs.rules.Reasons.{is_some_with}
+use Rattle.iss_model.specs.rules.Settings.{is_named_in}
+use Rattle.iss_model.specs.rules.StandIns.{Stand, allowed, over_limit, uncovered, stand}
+use Rattle.iss_model.specs.rules.Stepping.{authorization_ask, increment_ask, after_due}
+use Rattle.iss_decisions.specs.Rulings.{begun_in, is_answer, may_fail, opened_in, with_entries}
+use Rattle.iss_laws.specs.Decisions.{book_after, entries_in}
 
--- an entry counts an amount as use
-abbrev pub counts_use : Entry → Bool
-counts_use (entry.Usage counted) = int_lt (pos 0) counted.amount
-counts_use _ = false
+-- a verdict approves
+abbrev pub is_approval : Verdict → Bool
+is_approval verdict.Approved = true
+is_approval (verdict.Declined why) = false
+is_approval verdict.Done = false
 
--- the record of this number counts as use
-abbrev pub counted_in : ℕ → List Row → Bool
-counted_in number rows = list_any (λ row. row.number == number && counts_use row.entry) rows
+-- a reply tells an approval
+abbrev pub is_approved : Reply → Bool
+is_approved (reply.Decided verdict) = is_approval verdict
+is_approved reply.Pending = false
 
--- it was closed as funded
-abbrev pub was_funded : Option How → Bool
-was_funded None = false
-was_funded (Some how) = is_funded how
+-- a set stands in
+abbrev pub stands_in : Stand → Bool
+stands_in (allowed s) = true
+stands_in (over_limit s) = false
+stands_in uncovered = false
 
--- the gateway funded a call of this event
-abbrev pub funded_by_call : Facts → List ℕ → Bool
-funded_by_call f token = list_any (λ c. bytes_eq c.opened.event token && was_funded c.how) f.calls
+-- an ask is paid at once: from the user's own balance, or by a set while the switch of its product is on
+abbrev pub is_paid_at_once : Facts → Ask → Bool
+is_paid_at_once f ask =
+    is_account_funded ask.txn.funding || is_named_in f.switched ask.txn.product && stands_in (stand f ask failure.Switch ask.at)
 
--- an entry decides an event
-abbrev pub is_decision : Entry → Bool
-is_decision (entry.Decided event verdict) = true
-is_decision _ = false
+-- a call that a record closes so is paid: the record is the answer that funds it, or it failed and a set stands in
+abbrev pub is_paid_closing : Record → Facts → Opened → Txn → How → Bool
+is_paid_closing r f o t how.Funded = is_answer o.call.0 outcome.Funded r.input
+is_paid_closing r f o t how.Refused = false
+is_paid_closing r f o t (how.Failed why) = may_fail r o why && stands_in (stand f (call_ask o t) why r.at)
+is_paid_closing r f o t how.Abandoned = false
 
--- a row decides this event
-abbrev pub decided_by : List ℕ → Option Row → Bool
-decided_by token None = false
-decided_by token (Some row) = decides token row.entry
+-- an entry of a record closes a call for this event, which is paid
+abbrev pub pays_for : List ℕ → Record → Facts → Entry → Bool
+pays_for event r f (entry.Closed call how) =
+    is_some_with (λ o. bytes_eq o.event event && is_some_with (λ t. is_paid_closing r f o t how) (begun_in f o.txn)) (opened_in f call.0)
+pays_for event r f _ = false
 
--- an entry says that the programme stood in
-abbrev pub stands_in : Entry → Bool
-stands_in (entry.Stood set product user amount at) = true
-stands_in _ = false
+-- one of a record's entries does, on the book as it stands before the entry
+abbrev pub entries_pay_for : List ℕ → Record → History → List Entry → Bool
+entries_pay_for event r h [] = false
+entries_pay_for event r h (e ∷ es) =
+    pays_for event r (history_facts h) e || entries_pay_for event r (with_entries h (e ∷ [])) es
 
--- the programme stood in for this event: the next decision after a row that says so is the event's
-abbrev pub stood_for : List ℕ → List Row → Bool
-stood_for token [] = false
-stood_for token (row ∷ rows) =
-    stands_in row.entry && decided_by token (find (λ next. is_decision next.entry) rows) || stood_for token rows
+-- a record after the first ones does, in the rows of the book
+abbrev pub records_pay_for : List ℕ → List Record → List Record → List Row → Bool
+records_pay_for event before [] rows = false
+records_pay_for event before (r ∷ rs) rows =
+    entries_pay_for event r (history_keeper.take_up (book_after before rows) r) (entries_in (length before + 1) rows)
+    || records_pay_for event (before ++ r ∷ []) rs rows
 
--- the reasons for which an authorisation or increment is declined at once
-abbrev pub is_own_reason : Reason → Bool
-is_own_reason reason.Exists = false
-is_own_reason reason.Limit = false
-is_own_reason reason.UserUnknown = false
-is_own_reason reason.ProductUnknown = false
-is_own_reason reason.CardUnknown = true
-is_own_reason reason.GroupUnknown = false
-is_own_reason reason.ControlFixed = false
-is_own_reason reason.SetFixed = false
-is_own_reason (reason.MoveCard from to) = false
-is_own_reason (reason.MoveUser from to) = false
-is_own_reason reason.CardState = true
-is_own_reason reason.UserState = true
-is_own_reason reason.Currency = true
-is_own_reason reason.TxnUnknown = true
-is_own_reason reason.TxnClosed = true
-is_own_reason reason.TxnPending = true
-is_own_reason (reason.Control name) = true
-is_own_reason reason.InsufficientFunds = true
-is_own_reason reason.GatewayDeclined = false
-is_own_reason reason.GatewayConnection = false
-is_own_reason reason.GatewayTimeout = false
-is_own_reason reason.GatewayApplication = false
-is_own_reason reason.GatewaySwitch = false
-is_own_reason (reason.StandInLimit name) = false
-is_own_reason reason.Reversed = false
-is_own_reason reason.Cleared = false
-is_own_reason reason.Expired = false
-is_own_reason reason.RefundOver = false
+-- what stands at the turn of the record after the first ones: all that is due at its stamp is settled
+abbrev pub facts_at_turn : List Record → Record → List Row → Facts
+facts_at_turn before r rows =
+    history_facts (after_due history_keeper (history_keeper.take_up (book_after before rows) r) r.at).world
 
--- the reasons that the gateway, the sets and the end of a transaction give
-abbrev pub is_later_reason : Reason → Bool
-is_later_reason reason.Exists = false
-is_later_reason reason.Limit = false
-is_later_reason reason.UserUnknown = false
-is_later_reason reason.ProductUnknown = false
-is_later_reason reason.CardUnknown = false
-is_later_reason reason.GroupUnknown = false
-is_later_reason reason.ControlFixed = false
-is_later_reason reason.SetFixed = false
-is_later_reason (reason.MoveCard from to) = false
-is_later_reason (reason.MoveUser from to) = false
-is_later_reason reason.CardState = false
-is_later_reason reason.UserState = false
-is_later_reason reason.Currency = false
-is_later_reason reason.TxnUnknown = false
-is_later_reason reason.TxnClosed = false
-is_later_reason reason.TxnPending = false
-is_later_reason (reason.Control name) = false
-is_later_reason reason.InsufficientFunds = false
-is_later_reason reason.GatewayDeclined = true
-is_later_reason reason.GatewayConnection = true
-is_later_reason reason.GatewayTimeout = true
-is_later_reason reason.GatewayApplication = true
-is_later_reason reason.GatewaySwitch = true
-is_later_reason (reason.StandInLimit name) = true
-is_later_reason reason.Reversed = true
-is_later_reason reason.Cleared = true
-is_later_reason reason.Expired = true
-is_later_reason reason.RefundOver = false
+-- An ask is to be approved where no reason held, and it is paid at once or its call is.
+abbrev pub is_to_be_approved : Facts → Option Reason → Option Ask → Bool → Bool
+is_to_be_approved f (Some why) ask call_is_paid = false
+is_to_be_approved f None ask call_is_paid = is_some_with (is_paid_at_once f) ask || call_is_paid
 
--- money came for an event of a transaction
-abbrev pub money_came : History → List ℕ → List ℕ → Bool
-money_came h token txn =
-    let f = history_facts h in pays_itself (txn_in f txn) || funded_by_call f token || stood_for token h.rows
+-- two tests agree
+abbrev pub agree : Bool → Bool → Bool
+agree a b = if a then b else not b
 
--- a reply is right: counted tells whether the event counted as use, came whether its money came
-abbrev pub is_right : Bool → Bool → Reply → Bool
-is_right counted came (reply.Decided verdict.Approved) = counted && came
-is_right counted came (reply.Decided (verdict.Declined why)) =
-    counted && not came && is_later_reason why || not counted && is_own_reason why
-is_right counted came (reply.Decided verdict.Done) = false
-is_right counted came reply.Pending = counted && not came
+-- the event of a record that comes after the first ones and before the rest, where it is an authorisation or increment, is approved
+-- exactly where it is to be
+abbrev pub is_approved_rightly : History → List Record → Record → List Record → Input → Bool
+is_approved_rightly h before r rs (input.Authorization token card currency amount mcc mid) =
+    let f = facts_at_turn before r h.rows in
+    let ask = authorization_ask f token card currency amount mcc mid r.at in
+    agree (is_approved (reply_in (history_facts h) token))
+    (is_to_be_approved f (authorization_reason f card currency ask) ask (records_pay_for token before (r ∷ rs) h.rows))
+is_approved_rightly h before r rs (input.Increment token txn currency amount) =
+    let f = facts_at_turn before r h.rows in
+    let ask = increment_ask f token txn amount r.at in
+    agree (is_approved (reply_in (history_facts h) token))
+    (is_to_be_approved f (increment_reason f (txn_in f txn) currency ask) ask (records_pay_for token before (r ∷ rs) h.rows))
+is_approved_rightly h before r rs _ = true
 
--- the authorisation or increment of a record has the right reply
-abbrev decided_well : History → ℕ → Input → Bool
-decided_well h number (input.Authorization token card currency amount mcc mid) =
-    is_right (counted_in number h.rows) (money_came h token token) (reply_in (history_facts h) token)
-decided_well h number (input.Increment token txn currency amount) =
-    is_right (counted_in number h.rows) (money_came h token txn) (reply_in (history_facts h) token)
-decided_well h number _ = true
+-- so is each of them
+abbrev pub are_approved_rightly : History → List Record → List Record → Bool
+are_approved_rightly h before [] = true
+are_approved_rightly h before (r ∷ rs) =
+    is_approved_rightly h before r rs r.input && are_approved_rightly h (before ++ r ∷ []) rs
 
--- the same of an accepted event
-abbrev pub is_decided_well : History → Accepted → Bool
-is_decided_well h a = decided_well h a.number a.input
-
--- each has
+-- each authorisation and increment of the book is approved exactly where it is to be
 abbrev pub approved_rightly : History → Bool
-approved_rightly h = list_all (is_decided_well h) (history_facts h).accepted
+approved_rightly h = are_approved_rightly h [] h.records

@@ -1,5 +1,5 @@
--- Books of worked scripts, on which each law is computed.
-use Rattle.std.specs.Prelude.{◌≡◌, Bool, true, List, [], ◌∷◌}
+-- Books of worked scripts, on which laws are computed.
+use Rattle.std.specs.Prelude.{◌≡◌, Bool, true, List, [], ◌∷◌, map}
 use Rattle.std.specs.List.{list_all}
 use Rattle.iss_model.specs.rules.Histories.{History, nothing_yet}
 use Rattle.iss_scripts.specs.Scripts.{Script, history_after}
@@ -10,6 +10,7 @@ use Rattle.iss_scripts.specs.WorkedStandIns.{stand_in, gateway_switched_off}
 use Rattle.iss_scripts.specs.WorkedDay.{a_day}
 use Rattle.iss_scripts.specs.WorkedDue.{clearing_of_a_pending_purchase, two_timeouts_and_an_expiry, expired_call, raised_by_the_gateway}
 use Rattle.iss_scripts.specs.WorkedSettings.{use_given_back}
+use Rattle.iss_laws.specs.Decisions.{made_in, wanted_in}
 use Rattle.iss_scripts.specs.WorkedRefunds.{refund_of_a_stand_in, partly_released_stand_in}
 
 -- scripts of every kind
@@ -46,3 +47,11 @@ scripts =
 -- a law holds of the book of each of these scripts
 abbrev pub HoldsOfBooks : (History → Bool) → Type 0
 HoldsOfBooks law = list_all (λ script. law (history_after nothing_yet script.steps)) scripts ≡ true
+
+-- the books of these scripts
+abbrev pub books : List History
+books = map (λ script. history_after nothing_yet script.steps) scripts
+
+-- each record of each of these books decides by the rules
+abbrev pub DecidesInBooks : Type 0
+DecidesInBooks = map made_in books ≡ map wanted_in books

@@ -4,6 +4,7 @@ pub mod Calls
 pub mod Events
 pub mod UserBalances
 pub mod Holds
+pub mod Decisions
 pub mod Approvals
 pub mod Uses
 pub mod Books

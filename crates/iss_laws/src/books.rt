@@ -1,11 +1,10 @@
 //! The laws on worked books: the checker computes each.
-ghost use Rattle.iss_laws.specs.Books.{HoldsOfBooks};
-ghost use Rattle.iss_laws.specs.Calls.{each_call_once};
+ghost use Rattle.iss_laws.specs.Books.{HoldsOfBooks, DecidesInBooks};
 ghost use Rattle.iss_laws.specs.Approvals.{approved_rightly};
 
 /// Each law holds of the books of the worked scripts.
 #[tactic(auto, unfolding(iss_model::specs::rules::Stepping::step, iss_model::specs::rules::Judging::judge, iss_model::specs::run::Sayings::reaction))]
 pub fn laws_of_worked_books()
-    ensures calls { HoldsOfBooks each_call_once }
+    ensures decisions { DecidesInBooks }
     ensures approvals { HoldsOfBooks approved_rightly }
 {}

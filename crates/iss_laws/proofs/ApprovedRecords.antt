@@ -1,0 +1,488 @@
+-- Each authorisation and increment of a legal list of records is approved exactly where it is to be: its rulings are those that the rules want, and it is decided once.
+use Rattle.std.proofs.Common.{◌≡◌, ℕ, suc, ◌+◌, ◌≤◌, Bool, true, false, not, cond, ◌&&◌, ◌||◌, List, [], ◌∷◌, ◌++◌, length, filter, refl, sym, ap, ap₂, ◌∙◌, arith}
+use Rattle.std.specs.Prelude.{Option, Some, None, find, option_map, option_and_then}
+use Rattle.std.specs.List.{list_any, filter_map, cons_option}
+use Rattle.std.specs.Str.{bytes_eq}
+use Rattle.std.proofs.lemmas.Bool.{false_from_ne_true}
+use Rattle.std.proofs.lemmas.List.{append-nil, append_assoc}
+use Rattle.std.proofs.lemmas.List.Folds.{list_any-append}
+use Rattle.iss_model.specs.declared.call.Failure.{Failure}
+use Rattle.iss_model.specs.declared.call.Failure.TheVariants as failure
+use Rattle.iss_model.specs.declared.call.How.{How}
+use Rattle.iss_model.specs.declared.call.How.TheVariants as how
+use Rattle.iss_model.specs.declared.call.Opened.{Opened}
+use Rattle.iss_model.specs.declared.decision.Reason.{Reason}
+use Rattle.iss_model.specs.declared.decision.Reason.TheVariants as reason
+use Rattle.iss_model.specs.declared.decision.Verdict.{Verdict}
+use Rattle.iss_model.specs.declared.decision.Verdict.TheVariants as verdict
+use Rattle.iss_model.specs.declared.entry.Entry.{Entry}
+use Rattle.iss_model.specs.declared.entry.Entry.TheVariants as entry
+use Rattle.iss_model.specs.declared.entry.Row.{Row}
+use Rattle.iss_model.specs.declared.input.Input.{Input}
+use Rattle.iss_model.specs.declared.input.Input.TheVariants as input
+use Rattle.iss_model.specs.declared.input.Outcome.TheVariants as outcome
+use Rattle.iss_model.specs.declared.input.Record.{Record}
+use Rattle.iss_model.specs.declared.txn.Txn.{Txn}
+use Rattle.iss_model.specs.Inputs.{event_token}
+use Rattle.iss_model.specs.rules.Asks.{Ask, call_ask}
+use Rattle.iss_model.specs.rules.CardReasons.{is_account_funded, authorization_reason, increment_reason, first_ask, further_ask, txn_asked}
+use Rattle.iss_model.specs.rules.Activity.{TxnNow}
+use Rattle.iss_model.specs.rules.Due.{due_items}
+use Rattle.iss_model.specs.rules.Facts.{Accepted, Decision, Facts, decision_of, reply_in, reply_of_decision, txn_in}
+use Rattle.iss_model.specs.rules.Histories.{Follows, History, IsLegal, IsLegalAfter, history_facts, history_keeper, history_of, numbered_rows}
+use Rattle.iss_model.specs.rules.Reasons.{is_some_with}
+use Rattle.iss_model.specs.rules.Settings.{is_named_in}
+use Rattle.iss_model.specs.rules.StandIns.{Stand, allowed, over_limit, uncovered, stand}
+use Rattle.iss_model.specs.rules.Stepping.{after_due, authorization_ask, entries_of, increment_ask, step}
+use Rattle.iss_model.specs.state.Cores.{CoreState, core_facts, core_keeper, core_of, with_record}
+use Rattle.iss_model.proofs.Lists.{neither}
+use Rattle.iss_model.proofs.Names.{its_name, one_name}
+use Rattle.iss_agreement.proofs.CoreOfBook.{core_history, core_step, judge_history}
+use Rattle.iss_agreement.proofs.Records.{records_history}
+use Rattle.iss_invariants.specs.Sound.{IsNewEvent, is_accepted}
+use Rattle.iss_invariants.proofs.Kept.{due_accepted, entries_accepted}
+use Rattle.iss_invariants.proofs.NewEvents.{accepted_with_record, judged_new, still_accepted}
+use Rattle.iss_docket.specs.Well.{asked_times, decided_times, is_decided}
+use Rattle.iss_docket.proofs.Lists.{not_both, or_true}
+use Rattle.iss_pending.proofs.Legal.{core_well}
+use Rattle.iss_pending.proofs.Steps.{decided_once}
+use Rattle.iss_decisions.specs.Rulings.{Ruling, decided_as, asked_about, ask_rulings, begun_in, call_ruling, closing_ruling, closing_rulings, closing_verdict, abandonment_reason, funding_ruling, is_answer, may_fail, only_if, opened_in, own_rulings, rulings_due, rulings_of, ruling_of, verdict_of_sets, with_entries}
+use Rattle.iss_decisions.proofs.StepRulings.{legal_rules}
+use Rattle.iss_laws.specs.Approvals.{agree, approved_rightly, are_approved_rightly, entries_pay_for, facts_at_turn, is_approval, is_approved, is_approved_rightly, is_paid_at_once, is_paid_closing, is_to_be_approved, pays_for, records_pay_for, stands_in}
+use Rattle.iss_laws.specs.Decisions.{book_after, entries_in}
+use Rattle.iss_laws.proofs.RuledRecords.{AreRowsOf, history_with, later_rows, legal_more, legal_rest, rows_of, rows_with, same_rest, step_history}
+
+-- rulings that approve ----
+
+-- a ruling and an entry give an event a verdict of which a test holds
+abbrev rules_so : (Verdict → Bool) → List ℕ → Ruling → Bool
+rules_so test event (decided_as other v) = bytes_eq other event && test v
+rules_so test event (asked_about other) = false
+
+abbrev decides_so : (Verdict → Bool) → List ℕ → Entry → Bool
+decides_so test event (entry.Decided other v) = bytes_eq other event && test v
+decides_so test event _ = false
+
+abbrev approves : List ℕ → Ruling → Bool
+approves event ruling = rules_so is_approval event ruling
+
+row_rules : (test : Verdict → Bool) (event : List ℕ) (n : ℕ) (es : List Entry)
+    → list_any (λ row. decides_so test event row.entry) (numbered_rows n es) ≡ list_any (rules_so test event) (rulings_of es)
+row_rules test event n [] = refl
+row_rules test event n (e ∷ es) = ap (λ (b : Bool). decides_so test event e || b) (row_rules test event n es) ∙ by e
+  where
+    by : (e : Entry) → (decides_so test event e || list_any (rules_so test event) (rulings_of es)) ≡ list_any (rules_so test event) (cons_option (ruling_of e) (rulings_of es))
+    by (entry.Decided other v) = refl
+    by (entry.Opened o) = refl
+    by _ = refl
+
+row_decisions : (test : Verdict → Bool) (event : List ℕ) (rows : List Row)
+    → list_any (λ d. bytes_eq d.event event && test d.verdict) (filter_map (λ row. decision_of row.entry) rows) ≡ list_any (λ row. decides_so test event row.entry) rows
+row_decisions test event [] = refl
+row_decisions test event (row ∷ rows) = by row.entry ∙ ap (λ (b : Bool). decides_so test event row.entry || b) (row_decisions test event rows)
+  where
+    more : List Decision
+    more = filter_map (λ (row : Row). decision_of row.entry) rows
+
+    by : (e : Entry) → list_any (λ d. bytes_eq d.event event && test d.verdict) (cons_option (decision_of e) more)
+        ≡ (decides_so test event e || list_any (λ d. bytes_eq d.event event && test d.verdict) more)
+    by (entry.Decided other v) = refl
+    by _ = refl
+
+-- a ruling, where there is one, approves
+abbrev option_approves : List ℕ → Option Ruling → Bool
+option_approves event o = is_some_with (approves event) o
+
+any_with : (event : List ℕ) (o : Option Ruling) (rest : List Ruling) → list_any (approves event) (cons_option o rest) ≡ (option_approves event o || list_any (approves event) rest)
+any_with event None rest = refl
+any_with event (Some x) rest = refl
+
+and_false : (b : Bool) → (b && false) ≡ false
+and_false true = refl
+and_false false = refl
+
+and_true : (b : Bool) → (b && true) ≡ b
+and_true true = refl
+and_true false = refl
+
+only_approves : (event its : List ℕ) (b : Bool) (v : Verdict) → option_approves event (option_map (decided_as its) (only_if b v)) ≡ (bytes_eq its event && (b && is_approval v))
+only_approves event its true v = refl
+only_approves event its false v = sym (and_false (bytes_eq its event))
+
+sets_approve : (s : Stand) (why : Failure) → is_approval (verdict_of_sets s why) ≡ stands_in s
+sets_approve (allowed s) why = refl
+sets_approve (over_limit s) why = refl
+sets_approve uncovered why = refl
+
+closing_approves : (event : List ℕ) (r : Record) (f : Facts) (o : Opened) (t : Txn) (how : How)
+    → option_approves event (option_map (decided_as o.event) (closing_verdict r f o t how)) ≡ (bytes_eq o.event event && is_paid_closing r f o t how)
+closing_approves event r f o t how.Funded =
+    only_approves event o.event (is_answer o.call.0 outcome.Funded r.input) verdict.Approved
+    ∙ ap (λ (b : Bool). bytes_eq o.event event && b) (and_true (is_answer o.call.0 outcome.Funded r.input))
+closing_approves event r f o t how.Refused =
+    only_approves event o.event (is_answer o.call.0 outcome.Refused r.input) (verdict.Declined reason.GatewayDeclined)
+    ∙ ap (λ (b : Bool). bytes_eq o.event event && b) (and_false (is_answer o.call.0 outcome.Refused r.input))
+closing_approves event r f o t (how.Failed why) =
+    only_approves event o.event (may_fail r o why) (verdict_of_sets (stand f (call_ask o t) why r.at) why)
+    ∙ ap (λ (b : Bool). bytes_eq o.event event && (may_fail r o why && b)) (sets_approve (stand f (call_ask o t) why r.at) why)
+closing_approves event r f o t how.Abandoned = by (abandonment_reason r t)
+  where
+    by : (why : Option Reason) → option_approves event (option_map (decided_as o.event) (option_map (λ why. verdict.Declined why) why)) ≡ (bytes_eq o.event event && false)
+    by None = sym (and_false (bytes_eq o.event event))
+    by (Some why) = refl
+
+entry_pays : (event : List ℕ) (r : Record) (f : Facts) (e : Entry) → option_approves event (closing_ruling r f e) ≡ pays_for event r f e
+entry_pays event r f (entry.Closed call how) = by_call (opened_in f call.0)
+  where
+    by_txn : (o : Opened) (t : Option Txn)
+        → option_approves event (option_and_then (λ t. option_map (decided_as o.event) (closing_verdict r f o t how)) t) ≡ (bytes_eq o.event event && is_some_with (λ t. is_paid_closing r f o t how) t)
+    by_txn o None = sym (and_false (bytes_eq o.event event))
+    by_txn o (Some t) = closing_approves event r f o t how
+
+    by_call : (o : Option Opened) → option_approves event (option_and_then (call_ruling r f how) o)
+        ≡ is_some_with (λ o. bytes_eq o.event event && is_some_with (λ t. is_paid_closing r f o t how) (begun_in f o.txn)) o
+    by_call None = refl
+    by_call (Some o) = by_txn o (begun_in f o.txn)
+entry_pays event r f _ = refl
+
+entries_pay : (event : List ℕ) (r : Record) (h : History) (es : List Entry) → list_any (approves event) (closing_rulings r h es) ≡ entries_pay_for event r h es
+entries_pay event r h [] = refl
+entries_pay event r h (e ∷ es) =
+    any_with event (closing_ruling r (history_facts h) e) (closing_rulings r (with_entries h (e ∷ [])) es)
+    ∙ ap₂ (λ (a b : Bool). a || b) (entry_pays event r (history_facts h) e) (entries_pay event r (with_entries h (e ∷ [])) es)
+
+-- a record's own rulings ----
+
+one_other : (event token : List ℕ) (v : Verdict) → bytes_eq token event ≡ false → list_any (approves event) (decided_as token v ∷ []) ≡ false
+one_other event token v h = ap (λ (b : Bool). (b && is_approval v) || false) h
+
+-- a funding rules on its ask's event
+funding_other : (event : List ℕ) (f : Facts) (ask : Ask) → bytes_eq ask.event event ≡ false → approves event (funding_ruling f ask) ≡ false
+funding_other event f ask h = by (is_account_funded ask.txn.funding) (is_named_in f.switched ask.txn.product)
+  where
+    by : (a b : Bool) → approves event (cond a (decided_as ask.event verdict.Approved) (cond b (decided_as ask.event (verdict_of_sets (stand f ask failure.Switch ask.at) failure.Switch)) (asked_about ask.event))) ≡ false
+    by true b = ap (λ (b : Bool). b && true) h
+    by false true = ap (λ (b : Bool). b && is_approval (verdict_of_sets (stand f ask failure.Switch ask.at) failure.Switch)) h
+    by false false = refl
+
+funding_own : (f : Facts) (ask : Ask) → approves ask.event (funding_ruling f ask) ≡ is_paid_at_once f ask
+funding_own f ask = by (is_account_funded ask.txn.funding) (is_named_in f.switched ask.txn.product)
+  where
+    same : bytes_eq ask.event ask.event ≡ true
+    same = its_name ask.event
+
+    by : (a b : Bool) → approves ask.event (cond a (decided_as ask.event verdict.Approved) (cond b (decided_as ask.event (verdict_of_sets (stand f ask failure.Switch ask.at) failure.Switch)) (asked_about ask.event)))
+        ≡ (a || (b && stands_in (stand f ask failure.Switch ask.at)))
+    by true b = ap (λ (b : Bool). b && true) same
+    by false true =
+        ap (λ (b : Bool). b && is_approval (verdict_of_sets (stand f ask failure.Switch ask.at) failure.Switch)) same ∙ sets_approve (stand f ask failure.Switch ask.at) failure.Switch
+    by false false = refl
+
+or_false : (b : Bool) → (b || false) ≡ b
+or_false true = refl
+or_false false = refl
+
+-- the ask of an event, where there is one
+abbrev IsOf : List ℕ → Option Ask → Type 0
+IsOf token ask = (x : Ask) → ask ≡ Some x → x.event ≡ token
+
+mapped_of : {A : Type 0} (make : A → Ask) (token : List ℕ) → ((x : A) → (make x).event ≡ token) → (o : Option A) → IsOf token (option_map make o)
+mapped_of make token its None x e = cc
+mapped_of make token its (Some y) x e = let one : make y ≡ x = cc in ap (λ (a : Ask). a.event) (sym one) ∙ its y
+
+ask_other : (event token : List ℕ) (f : Facts) (why : Option Reason) (ask : Option Ask) → IsOf token ask → bytes_eq token event ≡ false → list_any (approves event) (ask_rulings f token why ask) ≡ false
+ask_other event token f (Some why) ask its h = one_other event token (verdict.Declined why) h
+ask_other event token f None None its h = refl
+ask_other event token f None (Some x) its h =
+    ap (λ (b : Bool). b || false) (funding_other event f x (ap (λ (t : List ℕ). bytes_eq t event) (its x refl) ∙ h))
+
+-- an ask's rulings approve its event exactly where no reason held and it is paid at once
+ask_own : (token : List ℕ) (f : Facts) (ask : Option Ask) → IsOf token ask → list_any (approves token) (ask_rulings f token None ask) ≡ is_some_with (is_paid_at_once f) ask
+ask_own token f None its = refl
+ask_own token f (Some x) its =
+    or_false (approves token (funding_ruling f x))
+    ∙ ap (λ (t : List ℕ). approves t (funding_ruling f x)) (sym (its x refl)) ∙ funding_own f x
+
+-- a record doesn't approve an event of another name
+own_other : (event : List ℕ) (i : Input) (at : ℕ) (f : Facts) → ((token : List ℕ) → event_token i ≡ Some token → bytes_eq token event ≡ false) → list_any (approves event) (own_rulings i at f) ≡ false
+own_other event (input.User token user) at f h = one_other event token _ (h token refl)
+own_other event (input.Card token card user product active) at f h = one_other event token _ (h token refl)
+own_other event (input.Move token who) at f h = one_other event token _ (h token refl)
+own_other event (input.Product token product currency funding timeout_ms hold_ms) at f h = one_other event token _ (h token refl)
+own_other event (input.Group token group mccs) at f h = one_other event token _ (h token refl)
+own_other event (input.Control token control currency window amount_limit usage_limit association scope active) at f h = one_other event token _ (h token refl)
+own_other event (input.Set token set product currency connection timeout application max day_limit active) at f h = one_other event token _ (h token refl)
+own_other event (input.Switch token product on) at f h = one_other event token _ (h token refl)
+own_other event (input.Load token user currency amount) at f h = one_other event token _ (h token refl)
+own_other event (input.Authorization token card currency amount mcc mid) at f h =
+    let ask : Option Ask = authorization_ask f token card currency amount mcc mid at in
+    ask_other event token f (authorization_reason f card currency ask) ask (mapped_of (first_ask token amount at) token (λ t. refl) (txn_asked f token card currency mcc mid at)) (h token refl)
+own_other event (input.Increment token txn currency amount) at f h =
+    let ask : Option Ask = increment_ask f token txn amount at in
+    ask_other event token f (increment_reason f (txn_in f txn) currency ask) ask (mapped_of (λ (now : TxnNow). further_ask token amount at now.txn) token (λ t. refl) (txn_in f txn)) (h token refl)
+own_other event (input.Reversal token txn currency amount) at f h = one_other event token _ (h token refl)
+own_other event (input.Clearing token txn currency amount last) at f h = one_other event token _ (h token refl)
+own_other event (input.Refund token txn currency amount) at f h = one_other event token _ (h token refl)
+own_other event (input.Answer call what) at f h = refl
+own_other event (input.Ack notice) at f h = refl
+own_other event input.Time at f h = refl
+
+-- the reply of an event that is decided once ----
+
+-- a decision approves an event
+abbrev decision_approves : List ℕ → Decision → Bool
+decision_approves event d = bytes_eq d.event event && is_approval d.verdict
+
+none_approves : (event : List ℕ) (ds : List Decision) → decided_times ds event ≡ 0 → list_any (decision_approves event) ds ≡ false
+none_approves event [] h = refl
+none_approves event (d ∷ ds) h = by (bytes_eq d.event event) (none_approves event ds) h
+  where
+    by : (b : Bool) → (decided_times ds event ≡ 0 → list_any (decision_approves event) ds ≡ false)
+        → length (cond b (d ∷ filter (λ (d : Decision). bytes_eq d.event event) ds) (filter (λ (d : Decision). bytes_eq d.event event) ds)) ≡ 0
+        → ((b && is_approval d.verdict) || list_any (decision_approves event) ds) ≡ false
+    by true rest h = absurd (omega (arith, h))
+    by false rest h = rest h
+
+reply_approves : (event : List ℕ) (ds : List Decision) → decided_times ds event ≤ 1
+    → is_approved (reply_of_decision (find (λ d. bytes_eq d.event event) ds)) ≡ list_any (decision_approves event) ds
+reply_approves event [] h = refl
+reply_approves event (d ∷ ds) h = by (bytes_eq d.event event) (reply_approves event ds) h
+  where
+    none : (n : ℕ) → suc n ≤ 1 → n ≡ 0
+    none n h = omega (arith, h)
+
+    by : (b : Bool) → (decided_times ds event ≤ 1 → is_approved (reply_of_decision (find (λ d. bytes_eq d.event event) ds)) ≡ list_any (decision_approves event) ds)
+        → length (cond b (d ∷ filter (λ (d : Decision). bytes_eq d.event event) ds) (filter (λ (d : Decision). bytes_eq d.event event) ds)) ≤ 1
+        → is_approved (reply_of_decision (cond b (Some d) (find (λ d. bytes_eq d.event event) ds))) ≡ ((b && is_approval d.verdict) || list_any (decision_approves event) ds)
+    by true rest h =
+        sym (or_false (is_approval d.verdict))
+        ∙ ap (λ (b : Bool). is_approval d.verdict || b) (sym (none_approves event ds (none (decided_times ds event) h)))
+    by false rest h = rest h
+
+-- an event that is declined isn't approved
+declined_once : (event : List ℕ) (why : Reason) (ds : List Decision) → decided_times ds event ≤ 1 → list_any (λ d. bytes_eq d.event event && not (is_approval d.verdict)) ds ≡ true
+    → list_any (decision_approves event) ds ≡ false
+declined_once event why [] h k = refl
+declined_once event why (d ∷ ds) h k = by (bytes_eq d.event event) (is_approval d.verdict) (declined_once event why ds) h k
+  where
+    none : (n : ℕ) → suc n ≤ 1 → n ≡ 0
+    none n h = omega (arith, h)
+
+    none_declines : (ds : List Decision) → decided_times ds event ≡ 0 → list_any (λ d. bytes_eq d.event event && not (is_approval d.verdict)) ds ≡ false
+    none_declines [] h = refl
+    none_declines (x ∷ xs) h = other (bytes_eq x.event event) (none_declines xs) h
+      where
+        other : (b : Bool) → (decided_times xs event ≡ 0 → list_any (λ d. bytes_eq d.event event && not (is_approval d.verdict)) xs ≡ false)
+            → length (cond b (x ∷ filter (λ (d : Decision). bytes_eq d.event event) xs) (filter (λ (d : Decision). bytes_eq d.event event) xs)) ≡ 0
+            → ((b && not (is_approval x.verdict)) || list_any (λ d. bytes_eq d.event event && not (is_approval d.verdict)) xs) ≡ false
+        other true rest h = absurd (omega (arith, h))
+        other false rest h = rest h
+
+    by : (a b : Bool)
+        → (decided_times ds event ≤ 1 → list_any (λ d. bytes_eq d.event event && not (is_approval d.verdict)) ds ≡ true → list_any (decision_approves event) ds ≡ false)
+        → length (cond a (d ∷ filter (λ (d : Decision). bytes_eq d.event event) ds) (filter (λ (d : Decision). bytes_eq d.event event) ds)) ≤ 1
+        → ((a && not b) || list_any (λ d. bytes_eq d.event event && not (is_approval d.verdict)) ds) ≡ true
+        → ((a && b) || list_any (decision_approves event) ds) ≡ false
+    by true true rest h k =
+        not_both (list_any (λ (d : Decision). bytes_eq d.event event && not (is_approval d.verdict)) ds) k (none_declines ds (none (decided_times ds event) h))
+    by true false rest h k = none_approves event ds (none (decided_times ds event) h)
+    by false b rest h k = rest h k
+
+-- what was accepted ----
+
+step_accepted : (s : CoreState) (r : Record) → (step core_keeper s r).world.accepted ≡ (with_record s r).accepted
+unfolding step
+step_accepted s r =
+    let up : CoreState = with_record s r in
+    let due : CoreState = (after_due core_keeper up r.at).world in
+    entries_accepted due (entries_of r.input r.at (core_facts due)) ∙ due_accepted r.at (record { world = up; entries = [] }) (due_items (core_facts up) r.at)
+
+accepted_next : (before : List Record) (r : Record) (event : List ℕ) → is_accepted (with_record (core_of before) r).accepted event ≡ true → is_accepted (core_of (before ++ r ∷ [])).accepted event ≡ true
+accepted_next before r event h =
+    ap (λ (s : CoreState). is_accepted s.accepted event) (sym (core_step before r))
+    ∙ ap (λ (accepted : List Accepted). is_accepted accepted event) (step_accepted (core_of before) r) ∙ h
+
+accepted_rest : (before rs : List Record) (event : List ℕ) → is_accepted (core_of before).accepted event ≡ true → is_accepted (core_of (before ++ rs)).accepted event ≡ true
+accepted_rest before [] event h = ap (λ (rs : List Record). is_accepted (core_of rs).accepted event) (append-nil before) ∙ h
+accepted_rest before (r ∷ rs) event h =
+    ap (λ (all : List Record). is_accepted (core_of all).accepted event) (sym (append_assoc before (r ∷ []) rs))
+    ∙ accepted_rest (before ++ r ∷ []) rs event (accepted_next before r event (still_accepted (core_of before) r event h))
+
+new_event : (before : List Record) (r : Record) → Follows (history_of before) r → IsNewEvent (core_of before) r.input
+new_event before r follows = judged_new (core_of before) r (judge_history before r.input r.at ∙ follows.is_new)
+
+-- a record's event has another name than one that was accepted before
+other_event : (before : List Record) (r : Record) (event token : List ℕ) → Follows (history_of before) r → is_accepted (core_of before).accepted event ≡ true → event_token r.input ≡ Some token
+    → bytes_eq token event ≡ false
+other_event before r event token follows known its =
+    false_from_ne_true (bytes_eq token event) (λ same.
+    not_both (is_accepted (core_of before).accepted event) known (ap (λ (k : List ℕ). is_accepted (core_of before).accepted k) (sym (one_name token event same)) ∙ new_event before r follows token its))
+
+-- an event that wasn't accepted has no decision
+none_before : (before : List Record) (event : List ℕ) → IsLegal before → is_accepted (core_of before).accepted event ≡ false → list_any (λ row. decides_so is_approval event row.entry) (history_of before).rows ≡ false
+none_before before event legal new =
+    let s : CoreState = core_of before in
+    let undecided : is_decided s.decisions event ≡ false =
+    false_from_ne_true (is_decided s.decisions event) (λ h. not_both (is_accepted s.accepted event) ((core_well before legal).docket.decisions.events event h) new) in
+    sym (row_decisions is_approval event (history_of before).rows)
+    ∙ ap (λ (s : CoreState). list_any (decision_approves event) s.decisions) (sym (core_history before)) ∙ none s.decisions undecided
+  where
+    none : (ds : List Decision) → is_decided ds event ≡ false → list_any (decision_approves event) ds ≡ false
+    none [] h = refl
+    none (d ∷ ds) h = let parts = neither (bytes_eq d.event event) (is_decided ds event) h in
+        ap₂ (λ (a b : Bool). (a && is_approval d.verdict) || b) parts.0 (none ds parts.1)
+
+-- what later records approve ----
+
+-- the approvals among a record's entries: of calls that it closes, and then its own
+entries_approve : (event : List ℕ) (before : List Record) (r : Record) (rs : List Record) (rows : List Row) → IsLegal before → Follows (history_of before) r → AreRowsOf before r rs rows
+    → (n : ℕ) → list_any (λ row. decides_so is_approval event row.entry) (numbered_rows n (step history_keeper (history_of before) r).entries)
+    ≡ (entries_pay_for event r (history_keeper.take_up (book_after before rows) r) (entries_in (length before + 1) rows) || list_any (approves event) (own_rulings r.input r.at (facts_at_turn before r rows)))
+entries_approve event before r rs rows legal follows its n =
+    let h : History = history_of before in
+    let es : List Entry = (step history_keeper h r).entries in
+    row_rules is_approval event n es
+    ∙ ap (list_any (approves event)) (legal_rules before r legal follows)
+    ∙ ap₂ (λ (b : History) (es : List Entry). list_any (approves event) (rulings_due b r es)) (sym its.book) (sym its.entries)
+    ∙ list_any-append (approves event) (closing_rulings r (history_keeper.take_up (book_after before rows) r) (entries_in (length before + 1) rows)) (own_rulings r.input r.at (facts_at_turn before r rows))
+    ∙ ap (λ (b : Bool). b || list_any (approves event) (own_rulings r.input r.at (facts_at_turn before r rows)))
+    (entries_pay event r (history_keeper.take_up (book_after before rows) r) (entries_in (length before + 1) rows))
+
+later_approve : (event : List ℕ) (before rs : List Record) (rows : List Row) → IsLegal before → IsLegalAfter (history_of before) rs → rows ≡ (history_with (history_of before) rs).rows
+    → is_accepted (core_of before).accepted event ≡ true
+    → list_any (λ row. decides_so is_approval event row.entry) (later_rows (history_of before) rs) ≡ records_pay_for event before rs rows
+later_approve event before [] rows legal after same known = refl
+later_approve event before (r ∷ rs) rows legal after same known =
+    let h : History = history_of before in
+    let its : AreRowsOf before r rs rows = rows_of before r rs rows same in
+    let own : List Row = numbered_rows (length h.records + 1) (step history_keeper h r).entries in
+    let test : Row → Bool = λ row. decides_so is_approval event row.entry in
+    list_any-append test own (later_rows (step history_keeper h r).world rs)
+    ∙ ap₂ (λ (a b : Bool). a || b)
+    (entries_approve event before r rs rows legal after.0 its (length h.records + 1)
+    ∙ ap (λ (b : Bool). entries_pay_for event r (history_keeper.take_up (book_after before rows) r) (entries_in (length before + 1) rows) || b)
+    (own_other event r.input r.at (facts_at_turn before r rows) (λ token e. other_event before r event token after.0 known e))
+    ∙ or_false (entries_pay_for event r (history_keeper.take_up (book_after before rows) r) (entries_in (length before + 1) rows)))
+    (ap (λ (k : History). list_any test (later_rows k rs)) (step_history before r)
+    ∙ later_approve event (before ++ r ∷ []) rs rows (legal_more before r legal after.0) (legal_rest before r rs after.1) (same ∙ same_rest before r rs)
+    (accepted_next before r event (still_accepted (core_of before) r event known)))
+
+-- one authorisation or increment ----
+
+module _ (all before : List Record) (r : Record) (rs : List Record) (token : List ℕ) (legal_all : IsLegal all) (is : all ≡ before ++ r ∷ rs) (legal : IsLegal before)
+    (after : IsLegalAfter (history_of before) (r ∷ rs)) (same : (history_of all).rows ≡ (history_with (history_of before) (r ∷ rs)).rows) (its_token : event_token r.input ≡ Some token) where
+  abbrev rows_of_all : List Row
+  rows_of_all = (history_of all).rows
+
+  abbrev turn : Facts
+  turn = facts_at_turn before r rows_of_all
+
+  known_now : is_accepted (core_of (before ++ r ∷ [])).accepted token ≡ true
+  known_now = accepted_next before r token (accepted_with_record (core_of before) r token its_token)
+
+  decided_at_most_once : decided_times (history_facts (history_of all)).decisions token ≤ 1
+  decided_at_most_once =
+      let known : is_accepted (core_of all).accepted token ≡ true =
+      ap (λ (rs : List Record). is_accepted (core_of rs).accepted token) (is ∙ sym (append_assoc before (r ∷ []) rs)) ∙ accepted_rest (before ++ r ∷ []) rs token known_now in
+      less (decided_times (core_of all).decisions token) (asked_times (core_of all).calls token) (decided_times (history_facts (history_of all)).decisions token)
+      (decided_once (core_of all) token (core_well all legal_all) known) (ap (λ (s : CoreState). decided_times s.decisions token) (sym (core_history all)))
+    where
+      less : (n m k : ℕ) → n + m ≡ 1 → k ≡ n → k ≤ 1
+      less n m k e h = omega (arith, e, h)
+
+  any_row : (test : Verdict → Bool) → list_any (λ row. decides_so test token row.entry) rows_of_all
+      ≡ (list_any (λ row. decides_so test token row.entry) (history_of before).rows || list_any (λ row. decides_so test token row.entry) (later_rows (history_of before) (r ∷ rs)))
+  any_row test =
+      ap (list_any (λ (row : Row). decides_so test token row.entry)) (same ∙ rows_with (history_of before) (r ∷ rs))
+      ∙ list_any-append (λ (row : Row). decides_so test token row.entry) (history_of before).rows (later_rows (history_of before) (r ∷ rs))
+
+  abbrev own_paid : Bool
+  own_paid = entries_pay_for token r (history_keeper.take_up (book_after before rows_of_all) r) (entries_in (length before + 1) rows_of_all)
+
+  abbrev later_paid : Bool
+  later_paid = records_pay_for token (before ++ r ∷ []) rs rows_of_all
+
+  -- what the reply approves
+  approved_is : is_approved (reply_in (history_facts (history_of all)) token) ≡ ((own_paid || list_any (approves token) (own_rulings r.input r.at turn)) || later_paid)
+  approved_is =
+      let h : History = history_of before in
+      let test : Row → Bool = λ row. decides_so is_approval token row.entry in
+      reply_approves token (history_facts (history_of all)).decisions decided_at_most_once
+      ∙ row_decisions is_approval token rows_of_all
+      ∙ any_row is_approval
+      ∙ ap (λ (b : Bool). b || list_any test (later_rows h (r ∷ rs))) (none_before before token legal (new_event before r after.0 token its_token))
+      ∙ list_any-append test (numbered_rows (length h.records + 1) (step history_keeper h r).entries) (later_rows (step history_keeper h r).world rs)
+      ∙ ap₂ (λ (a b : Bool). a || b)
+      (entries_approve token before r rs rows_of_all legal after.0 (rows_of before r rs rows_of_all same) (length h.records + 1))
+      (ap (λ (k : History). list_any test (later_rows k rs)) (step_history before r)
+      ∙ later_approve token (before ++ r ∷ []) rs rows_of_all (legal_more before r legal after.0) (legal_rest before r rs after.1) (same ∙ same_rest before r rs) known_now)
+
+  -- an event that was declined at its turn isn't approved
+  declined_is : (why : Reason) → own_rulings r.input r.at turn ≡ decided_as token (verdict.Declined why) ∷ [] → is_approved (reply_in (history_facts (history_of all)) token) ≡ false
+  declined_is why own =
+      let h : History = history_of before in
+      let es : List Entry = (step history_keeper h r).entries in
+      let its : AreRowsOf before r rs rows_of_all = rows_of before r rs rows_of_all same in
+      let no_approval : Verdict → Bool = λ v. not (is_approval v) in
+      let test : Row → Bool = λ row. decides_so no_approval token row.entry in
+      let closed : List Ruling = closing_rulings r (history_keeper.take_up (book_after before rows_of_all) r) (entries_in (length before + 1) rows_of_all) in
+      let last : list_any (rules_so no_approval token) (decided_as token (verdict.Declined why) ∷ []) ≡ true = ap (λ (b : Bool). (b && true) || false) (its_name token) in
+      let made : list_any test (numbered_rows (length h.records + 1) es) ≡ true =
+      row_rules no_approval token (length h.records + 1) es
+      ∙ ap (list_any (rules_so no_approval token))
+      (legal_rules before r legal after.0 ∙ ap₂ (λ (b : History) (es : List Entry). rulings_due b r es) (sym its.book) (sym its.entries) ∙ ap (λ (rs : List Ruling). closed ++ rs) own)
+      ∙ list_any-append (rules_so no_approval token) closed (decided_as token (verdict.Declined why) ∷ [])
+      ∙ or_true (list_any (rules_so no_approval token) closed) _ last in
+      let there : list_any (λ d. bytes_eq d.event token && no_approval d.verdict) (history_facts (history_of all)).decisions ≡ true =
+      row_decisions no_approval token rows_of_all ∙ any_row no_approval
+      ∙ or_true (list_any test h.rows) _
+      (list_any-append test (numbered_rows (length h.records + 1) es) (later_rows (step history_keeper h r).world rs)
+      ∙ ap (λ (b : Bool). b || list_any test (later_rows (step history_keeper h r).world rs)) made) in
+      reply_approves token (history_facts (history_of all)).decisions decided_at_most_once
+      ∙ declined_once token why (history_facts (history_of all)).decisions decided_at_most_once there
+
+  ask_right : (why : Option Reason) (ask : Option Ask) → own_rulings r.input r.at turn ≡ ask_rulings turn token why ask → IsOf token ask
+      → is_approved (reply_in (history_facts (history_of all)) token) ≡ is_to_be_approved turn why ask (records_pay_for token before (r ∷ rs) rows_of_all)
+  ask_right (Some why) ask own of = declined_is why own
+  ask_right None ask own of =
+      approved_is
+      ∙ ap (λ (b : Bool). (own_paid || b) || later_paid) (ap (list_any (approves token)) own ∙ ask_own token turn ask of)
+      ∙ moved own_paid (is_some_with (is_paid_at_once turn) ask) later_paid
+    where
+      moved : (a b d : Bool) → ((a || b) || d) ≡ (b || (a || d))
+      moved true true d = refl
+      moved true false d = refl
+      moved false b d = refl
+
+agreed : (a b : Bool) → a ≡ b → agree a b ≡ true
+agreed true true h = refl
+agreed true false h = cc
+agreed false true h = cc
+agreed false false h = refl
+
+-- all of them ----
+
+one_right : (all before : List Record) (r : Record) (rs : List Record) → IsLegal all → all ≡ before ++ r ∷ rs → IsLegal before → IsLegalAfter (history_of before) (r ∷ rs)
+    → (history_of all).rows ≡ (history_with (history_of before) (r ∷ rs)).rows → (i : Input) → r.input ≡ i → is_approved_rightly (history_of all) before r rs i ≡ true
+one_right all before r rs legal_all is legal after same (input.Authorization token card currency amount mcc mid) e =
+    let f : Facts = facts_at_turn before r (history_of all).rows in
+    let ask : Option Ask = authorization_ask f token card currency amount mcc mid r.at in
+    agreed _ _ (ask_right all before r rs token legal_all is legal after same (ap event_token e) (authorization_reason f card currency ask) ask (ap (λ (i : Input). own_rulings i r.at f) e)
+    (mapped_of (first_ask token amount r.at) token (λ t. refl) (txn_asked f token card currency mcc mid r.at)))
+one_right all before r rs legal_all is legal after same (input.Increment token txn currency amount) e =
+    let f : Facts = facts_at_turn before r (history_of all).rows in
+    let ask : Option Ask = increment_ask f token txn amount r.at in
+    agreed _ _ (ask_right all before r rs token legal_all is legal after same (ap event_token e) (increment_reason f (txn_in f txn) currency ask) ask (ap (λ (i : Input). own_rulings i r.at f) e)
+    (mapped_of (λ (now : TxnNow). further_ask token amount r.at now.txn) token (λ t. refl) (txn_in f txn)))
+one_right all before r rs legal_all is legal after same _ e = refl
+
+all_right : (all before rs : List Record) → IsLegal all → all ≡ before ++ rs → IsLegal before → IsLegalAfter (history_of before) rs → (history_of all).rows ≡ (history_with (history_of before) rs).rows
+    → are_approved_rightly (history_of all) before rs ≡ true
+all_right all before [] legal_all is legal after same = refl
+all_right all before (r ∷ rs) legal_all is legal after same =
+    ap (λ (b : Bool). b && are_approved_rightly (history_of all) (before ++ r ∷ []) rs) (one_right all before r rs legal_all is legal after same r.input refl)
+    ∙ all_right all (before ++ r ∷ []) rs legal_all (is ∙ sym (append_assoc before (r ∷ []) rs)) (legal_more before r legal after.0) (legal_rest before r rs after.1) (same ∙ same_rest before r rs)
+
+pub law_approved : (rs : List Record) → IsLegal rs → approved_rightly (history_of rs) ≡ true
+law_approved rs legal =
+    ap (are_approved_rightly (history_of rs) []) (records_history rs) ∙ all_right rs [] rs legal refl tt legal refl
