@@ -1,4 +1,6 @@
 //! A record that lasts.
+ghost use Rattle.std.specs.Prelude.{◌≡◌};
+
 use iss_model::Entry;
 use std::marker::Model;
 
@@ -17,4 +19,13 @@ impl Model for Durable {
     ghost Value = { DurableNow };
 
     ghost view = { λ d. record { number = d.number; entries = d.entries.items; is_time = d.is_time } };
+}
+
+impl Durable {
+    /// The entries of the record, in their order.
+    pub fn entries(&self) -> &[Entry]
+        ensures { result.now ≡ self.now.entries }
+    {
+        &self.entries
+    }
 }

@@ -26,5 +26,6 @@ pub use fault::{OpenFault, PlanFault, StoreFault};
 pub use laws::good_devices_open;
 pub use planned::Planned;
 pub use routes::Routes;
+pub use sending::reply;
 pub use served::Served;
 pub use store::Store;

@@ -32,7 +32,7 @@ pub(crate) fn send<E: Edge>(edge: &mut E, bytes: &[u8]) -> Option<Channel>
 
 /// Sends a client its response, and closes its channel.
 #[tactic(auto, using(iss_serving::proofs::ToldSendings::replied_told, iss_serving::proofs::ToldSendings::torn_reply_told, crate::proofs::StaysServed::told_replied_stays, crate::proofs::StaysServed::told_torn_reply_stays))]
-pub(crate) fn reply<E: Edge>(edge: &mut E, ch: Channel, text: &[u8])
+pub fn reply<E: Edge>(edge: &mut E, ch: Channel, text: &[u8])
     ensures sends { (level : ℕ) → (tasks : List Task) → (waiting : List Waiter)
         → Told (Sends level (desk_with (to_reply ch text.now ∷ tasks) waiting) (desk_with tasks (waiters_without ch waiting)) [])
         (outer_of (E.told edge.old) (E.heard edge.old)) (outer_of (E.told edge.new) (E.heard edge.new)) }
