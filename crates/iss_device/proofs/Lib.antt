@@ -1,0 +1,4 @@
+pub mod NextRecords
+pub mod Devices
+pub mod Moments
+pub mod Refusals

@@ -1,0 +1,81 @@
+-- A device that stands for no records is refused, and no other is.
+use Rattle.std.proofs.Common.{◌≡◌, ℕ, inl, inr, Option, Err, refl}
+use Rattle.iss_edge.specs.World.{World, Told}
+use Rattle.iss_edge.proofs.Tolds.{told_map}
+use Rattle.iss_store.specs.declared.fault.OpenFault.{OpenFault}
+use Rattle.iss_store.specs.declared.fault.OpenFault.TheVariants.{Disk, NotFormatted, BadRecord, BadSpelling, BadHistory, OutOfMemory}
+use Rattle.iss_store.specs.Values.{StoreNow}
+use Rattle.iss_store.specs.Opening.{Opens, OpensStore, OpensGood, ReadsAlone, OnRefused}
+use Rattle.iss_store.proofs.GoodDevices.{good_device}
+use Rattle.iss_store.proofs.ToldReadings.{told_both}
+use Rattle.iss_device.specs.Refusals.{IsNoStore, OnDeviceAlone, RefusesExactly, opening_status}
+
+alone : (a b : World) → OpensGood a b → OnDeviceAlone a b
+alone a b good = record { left = good.left; actions = good.added; grew = good.grew; on_device = good.on_device }
+
+refuses : (a b : World) → IsNoStore a.device → OpensGood a b → ReadsAlone a b → RefusesExactly 4 a b
+refuses a b none good reads =
+    record {
+      only = λ e. (none, reads);
+      there = λ found. inl refl;
+      untouched = λ found. alone a b good;
+      others = λ four six seven. absurd (four refl);
+    }
+
+-- a fault of the disk or of memory may come on any device
+disk_refuses : (a b : World) → OpensGood a b → RefusesExactly 6 a b
+disk_refuses a b good =
+    record {
+      only = λ e. cc;
+      there = λ found. inr (inl refl);
+      untouched = λ found. alone a b good;
+      others = λ four six seven. absurd (six refl);
+    }
+
+memory_refuses : (a b : World) → OpensGood a b → RefusesExactly 7 a b
+memory_refuses a b good =
+    record {
+      only = λ e. cc;
+      there = λ found. inr (inr refl);
+      untouched = λ found. alone a b good;
+      others = λ four six seven. absurd (seven refl);
+    }
+
+-- a fault that says that the device stands for no records
+told_none : (fault : OpenFault) (x y : Option World) → ((a : World) → Opens (Err fault) a a → IsNoStore a.device) → ((a b : World) → Opens (Err fault) a b → Opens (Err fault) a a) → Told (Opens (Err fault)) x y → Told OpensGood x y → Told ReadsAlone x y
+    → Told (RefusesExactly 4) x y
+told_none fault x y none same opens good reads =
+    told_map (λ a b. (Opens (Err fault) a b × OpensGood a b) × ReadsAlone a b) (RefusesExactly 4) x y (λ a b p. refuses a b (none a (same a b p.0.0)) p.0.1 p.1)
+    (told_both (λ a b. Opens (Err fault) a b × OpensGood a b) ReadsAlone x y (told_both (Opens (Err fault)) OpensGood x y opens good) reads)
+
+pub told_refuses : (fault : OpenFault) (x y : Option World) → Told (Opens (Err fault)) x y → Told OpensGood x y → OnRefused {T = StoreNow} (Err fault) (Told ReadsAlone x y)
+    → Told (RefusesExactly (opening_status fault)) x y
+told_refuses Disk x y opens good reads = told_map OpensGood (RefusesExactly 6) x y disk_refuses good
+told_refuses OutOfMemory x y opens good reads = told_map OpensGood (RefusesExactly 7) x y memory_refuses good
+told_refuses NotFormatted x y opens good reads = told_none NotFormatted x y (λ a found. inl found) (λ a b found. found) opens good reads
+told_refuses (BadRecord gate) x y opens good reads = told_none (BadRecord gate) x y (λ a found. inr (gate, inl found)) (λ a b found. found) opens good reads
+told_refuses (BadSpelling gate) x y opens good reads = told_none (BadSpelling gate) x y (λ a found. inr (gate, inr (inl found))) (λ a b found. found) opens good reads
+told_refuses (BadHistory gate) x y opens good reads = told_none (BadHistory gate) x y (λ a found. inr (gate, inr (inr found))) (λ a b found. found) opens good reads
+
+-- on a device that opens there is no such fault
+not_none : (s : StoreNow) (a b : World) → OpensStore s a.device → IsNoStore a.device → ⊥
+not_none s a b opens none =
+    let stands = opens.device_stands in
+    let good = λ (fault : OpenFault). good_device s.core.instance opens.rs fault a b stands in
+    elim none [
+      | inl unformatted ↦ good NotFormatted unformatted
+      | inr found ↦
+          elim found.1 [
+            | inl record_bad ↦ good (BadRecord found.0) record_bad
+            | inr others ↦ elim others [ inl spelling_bad ↦ good (BadSpelling found.0) spelling_bad | inr history_bad ↦ good (BadHistory found.0) history_bad ]
+          ]
+    ]
+
+pub opened_refuses : (n : ℕ) (s : StoreNow) (a b : World) → (n ≡ 4 → ⊥) → OpensStore s a.device → RefusesExactly n a b
+opened_refuses n s a b not_device opens =
+    record {
+      only = λ e. absurd (not_device e);
+      there = λ found. absurd (not_none s a b opens found);
+      untouched = λ found. absurd (not_none s a b opens found);
+      others = λ four six seven. record { instance = s.core.instance; rs = opens.rs; stands = opens.device_stands };
+    }

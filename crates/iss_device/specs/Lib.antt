@@ -1,0 +1,4 @@
+pub mod Runs
+pub mod Opened
+pub mod Refusals
+pub mod Moments

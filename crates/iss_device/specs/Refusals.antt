@@ -1,0 +1,46 @@
+-- Which devices are refused, and what was done then.
+use Rattle.std.specs.Prelude.{◌≡◌, ◌⊎◌, ℕ, List, ◌++◌}
+use Rattle.iss_edge.specs.declared.outside.Action.{Action}
+use Rattle.iss_edge.specs.World.{World}
+use Rattle.iss_journal.specs.Header.{IsUnformatted}
+use Rattle.iss_model.specs.declared.input.Record.{Record}
+use Rattle.iss_store.specs.declared.fault.OpenFault.{OpenFault}
+use Rattle.iss_store.specs.declared.fault.OpenFault.TheVariants.{Disk, NotFormatted, BadRecord, BadSpelling, BadHistory, OutOfMemory}
+use Rattle.iss_store.specs.Standing.{DeviceStandsFor}
+use Rattle.iss_store.specs.Opening.{BadRecordAt, BadSpellingAt, BadHistoryAt, AreOnDevice, ReadsAlone}
+
+-- what is wrong with a device that stands for no records
+abbrev pub IsNoStore : List ℕ → Type 0
+IsNoStore device =
+    IsUnformatted device ⊎ ((gate : ℕ) × (BadRecordAt gate device ⊎ (BadSpellingAt gate device ⊎ BadHistoryAt gate device)))
+
+-- no byte was taken, and nothing was done but on the device
+pub record OnDeviceAlone (a b : World) : Type 0 where
+  pub left : b.left ≡ a.left
+  pub actions : List Action
+  pub grew : b.trace ≡ a.trace ++ actions
+  pub on_device : AreOnDevice actions
+
+-- the device stands for some records
+pub record IsStore (device : List ℕ) : Type 0 where
+  pub instance : ℕ
+  pub rs : List Record
+  pub stands : DeviceStandsFor instance rs device
+
+-- Status 4 comes only where the device stands for no records by one of these faults; nothing was done then but maybe a sync, and the
+-- device reads as before. On such a device no other status comes but by a fault of the disk or of memory, and at any status no byte was
+-- taken, and nothing was sent. So any further status comes only on a device that stands for records.
+pub record RefusesExactly (status : ℕ) (a b : World) : Type 0 where
+  pub only : status ≡ 4 → IsNoStore a.device × ReadsAlone a b
+  pub there : IsNoStore a.device → (status ≡ 4) ⊎ ((status ≡ 6) ⊎ (status ≡ 7))
+  pub untouched : IsNoStore a.device → OnDeviceAlone a b
+  pub others : (status ≡ 4 → ⊥) → (status ≡ 6 → ⊥) → (status ≡ 7 → ⊥) → IsStore a.device
+
+-- the exit status of a run whose device doesn't open so
+abbrev pub opening_status : OpenFault → ℕ
+opening_status NotFormatted = 4
+opening_status (BadRecord gate) = 4
+opening_status (BadSpelling gate) = 4
+opening_status (BadHistory gate) = 4
+opening_status Disk = 6
+opening_status OutOfMemory = 7
