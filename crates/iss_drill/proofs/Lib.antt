@@ -1,0 +1,9 @@
+pub mod Counting
+pub mod Named
+pub mod Lines
+pub mod Given
+pub mod Reports
+pub mod Fresh
+pub mod Courses
+pub mod Totals
+pub mod Sending

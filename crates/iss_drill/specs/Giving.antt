@@ -1,0 +1,61 @@
+-- What giving a line to a store comes to, in a run at which the store stands.
+use Rattle.std.specs.Prelude.{◌≡◌, ℕ, ◌+◌, Bool, List, length, Option, Some, if◌then◌else◌}
+use Rattle.iss_model.specs.declared.call.CallId.{CallId}
+use Rattle.iss_model.specs.declared.input.Input.{Input}
+use Rattle.iss_model.specs.declared.input.Record.{Record}
+use Rattle.iss_model.specs.declared.decision.Judged.{Judged}
+use Rattle.iss_model.specs.rules.Stepping.{step}
+use Rattle.iss_model.specs.rules.Histories.{history_keeper, history_of}
+use Rattle.iss_model.specs.run.Rooms.{room_left}
+use Rattle.iss_model.specs.run.Transcripts.{Reading}
+use Rattle.iss_model.specs.run.Runs.{Run, response_as, run_after}
+use Rattle.iss_store.specs.Values.{StoreNow, room_of}
+use Rattle.iss_store.specs.Standing.{StandsFor}
+use Rattle.iss_drill.specs.declared.tally.Tally.{Tally}
+use Rattle.iss_drill.specs.Drills.{call_opened, entries_as, tells_repeat_as, repeats_among, is_approval, is_decline, is_notice_made, rows_with}
+use Rattle.iss_drill.specs.Tallies.{Counts}
+
+-- a store stands at a run: for its records, whose history is the run's, on its device
+pub record StandsAtRun (s : StoreNow) (run : Run) : Type 0 where
+  pub stands : StandsFor s run.history.records
+  pub history : history_of run.history.records ≡ run.history
+  pub room : room_of s ≡ run.room
+
+-- what stands in a run after a record
+abbrev pub run_with : Run → Record → Run
+run_with run r = record run { room = room_left run.room run.history.records (Some r); history = (step history_keeper run.history r).world }
+
+-- a record was kept: its entries were counted, and the store stands behind it
+pub record Keeps (run : Run) (r : Record) (before after : Tally) (s : StoreNow) (opened : Option CallId) : Type 0 where
+  pub counts : Counts (step history_keeper run.history r).entries before after
+  pub stands : StandsAtRun s (run_with run r)
+  pub call : opened ≡ call_opened (step history_keeper run.history r).entries
+
+-- one more is counted where this holds
+abbrev pub one_if : Bool → ℕ
+one_if counts = if counts then 1 else 0
+
+-- an answer was told, and counted where it is a repeat
+pub record TellsAnswer (is_repeat : Bool) (before after : Tally) : Type 0 where
+  pub approved : after.approved ≡ before.approved
+  pub declined : after.declined ≡ before.declined
+  pub notices : after.notices ≡ before.notices
+  pub lines : after.lines ≡ before.lines
+  pub repeats : after.repeats ≡ before.repeats + one_if is_repeat
+
+-- an input was taken at a stamp that is judged so: its entries and its repeat were counted, and the store stands at what then stands
+pub record Takes (run : Run) (i : Input) (at : ℕ) (j : Judged) (before after : Tally) (s : StoreNow) (opened : Option CallId) : Type 0 where
+  pub middle : Tally
+  pub counts : Counts (entries_as run.history j) before middle
+  pub tells : TellsAnswer (tells_repeat_as run.history i at j) middle after
+  pub stands : StandsAtRun s (response_as run i at j).run
+  pub call : opened ≡ call_opened (entries_as run.history j)
+
+-- These lines were given since a run began: the store stands at what they leave, and what they come to was counted.
+pub record HasGiven (start : Run) (given : List Reading) (t : Tally) (s : StoreNow) : Type 0 where
+  pub stands : StandsAtRun s (run_after start given)
+  pub approved : t.approved ≡ rows_with is_approval (run_after start given).history.rows
+  pub declined : t.declined ≡ rows_with is_decline (run_after start given).history.rows
+  pub notices : t.notices ≡ rows_with is_notice_made (run_after start given).history.rows
+  pub lines : t.lines ≡ length given
+  pub repeats : t.repeats ≡ repeats_among start given

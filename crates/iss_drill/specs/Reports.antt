@@ -1,0 +1,45 @@
+-- What the program reports of a drill, as the definitions have it.
+use Rattle.std.specs.Prelude.{◌≡◌}
+use Rattle.iss_model.specs.declared.currency.Currency.TheVariants.{Usd}
+use Rattle.iss_model.specs.declared.account.Account.TheVariants as account
+use Rattle.iss_model.specs.rules.Facts.{Facts, balance_in}
+use Rattle.iss_model.specs.texts.DrillLines.{DrillTotals}
+use Rattle.iss_drill.specs.declared.tally.Tally.{Tally}
+use Rattle.iss_drill.specs.declared.report.Totals.{Totals}
+use Rattle.iss_drill.specs.Drills.{held_of_users}
+
+-- these totals
+abbrev pub totals_in : Totals → DrillTotals
+totals_in t =
+    record {
+      approved = t.approved;
+      declined = t.declined;
+      gateway = t.gateway;
+      held = t.held;
+      lines = t.lines;
+      network = t.network;
+      notices = t.notices;
+      programme = t.programme;
+      records = t.records;
+      repeats = t.repeats;
+    }
+
+-- what these facts and this tally come to
+abbrev pub totals_by : Facts → Tally → DrillTotals
+totals_by f t =
+    record {
+      approved = t.approved;
+      declined = t.declined;
+      gateway = balance_in f (account.Gateway Usd);
+      held = held_of_users f 10;
+      lines = t.lines;
+      network = balance_in f (account.Network Usd);
+      notices = t.notices;
+      programme = balance_in f (account.Programme Usd);
+      records = f.count;
+      repeats = t.repeats;
+    }
+
+-- these totals are what these facts and this tally come to
+abbrev pub IsTotals : Facts → Tally → Totals → Type 0
+IsTotals f t totals = totals_in totals ≡ totals_by f t

@@ -1,0 +1,160 @@
+//! A line of a drill: it is planned, committed and released as one that comes in.
+ghost use Rattle.std.specs.Prelude.{◌≡◌, ◌+◌, ◌*◌, ◌<◌, ◌≤◌, ◌^◌, ◌∷◌, ◌++◌, [], ℕ, Bool, List, Option, unwrap_or, IfOk, OnOk, IsTrue};
+ghost use Rattle.iss_model.specs.Forms.{is_in_form, is_stamp};
+ghost use Rattle.iss_model.specs.declared.decision.Judged.{Judged};
+ghost use Rattle.iss_model.specs.rules.Judging.{judge};
+ghost use Rattle.iss_model.specs.rules.Histories.{history_keeper};
+ghost use Rattle.iss_model.specs.run.Transcripts.{Reading, sound};
+ghost use Rattle.iss_model.specs.run.Runs.{Run, judgement_in, run_after};
+ghost use Rattle.iss_store.specs.Planning.{IsPlanOf};
+ghost use Rattle.iss_drill.specs.Drills.{call_opened_in, is_repeat, tells_repeat};
+ghost use Rattle.iss_drill.specs.Tallies.{IsFew};
+ghost use Rattle.iss_drill.specs.Giving.{StandsAtRun, Keeps, TellsAnswer, Takes, HasGiven};
+
+use crate::tally::{Tally, call_opened};
+use iss_edge::{Channel, Edge};
+use iss_model::{Answer, CallId, Input, Judged};
+use iss_store::{PlanFault, Planned, Routes, Store};
+use std::alloc::{AllocError, Global};
+
+/// Gives the store an input at a stamp, and counts what it comes to. Returns the store after it, and the call that it opened,
+/// where it opened one. A call on a device in memory fails for want of memory alone.
+#[tactic(auto, using(crate::proofs::Given::given_few))]
+pub(crate) fn give<E: Edge>(
+    alloc: Global,
+    store: Store,
+    device: &mut E,
+    input: &Input,
+    at: u64,
+    tally: &mut Tally,
+) -> Result<(Store, Option<CallId>), AllocError>
+    requires size { E.extent device.old ≡ store.place.to }
+    requires input_form { IsTrue (is_in_form input.now) }
+    requires stamp { IsTrue (is_stamp at) }
+    requires room { tally.old.lines < 2 ^ 20 }
+    requires few { IsFew tally.old.lines tally.old }
+    ensures given { (start : Run) (lines : List Reading) (o : Option ℕ) → unwrap_or o 0 ≡ at → HasGiven start lines tally.old store
+        → IfOk result (λ x. HasGiven start (lines ++ sound input.now o ∷ []) tally.new x.0) }
+    ensures opened { (start : Run) (lines : List Reading) → HasGiven start lines tally.old store
+        → IfOk result (λ x. x.1 ≡ call_opened_in (run_after start lines) input.now at) }
+    ensures lines { OnOk result (tally.new.lines ≡ tally.old.lines + 1) }
+    ensures few { OnOk result (IsFew (tally.old.lines + 1) tally.new) }
+    ensures kept { E.extent device.new ≡ E.extent device.old }
+    ensures size { IfOk result (λ x. x.0.place.to ≡ store.place.to) }
+{
+    let taken = take(alloc, store, device, input, at, tally)?;
+    tally.lines += 1;
+    Ok(taken)
+}
+
+/// Plans an input and keeps its record, or tells it why it makes none.
+fn take<E: Edge>(
+    alloc: Global,
+    store: Store,
+    device: &mut E,
+    input: &Input,
+    at: u64,
+    tally: &mut Tally,
+) -> Result<(Store, Option<CallId>), AllocError>
+    requires size { E.extent device.old ≡ store.place.to }
+    requires input_form { IsTrue (is_in_form input.now) }
+    requires stamp { IsTrue (is_stamp at) }
+    requires room { tally.old.lines < 2 ^ 20 }
+    requires few { IsFew tally.old.lines tally.old }
+    ensures takes { (run : Run) → StandsAtRun store run
+        → IfOk result (λ x. Takes run input.now at (judgement_in run input.now at) tally.old tally.new x.0 x.1) }
+    ensures lines { OnOk result (tally.new.lines ≡ tally.old.lines) }
+    ensures few { OnOk result (IsFew (tally.old.lines + 1) tally.new) }
+    ensures kept { E.extent device.new ≡ E.extent device.old }
+    ensures size { IfOk result (λ x. x.0.place.to ≡ store.place.to) }
+{
+    match store.plan(alloc, input, at) {
+        Ok(planned) => {
+            let more = planned.more();
+            let (next, opened) = keep(alloc, store, device, planned, tally)?;
+            if !more {
+                return Ok((next, opened));
+            }
+            tell_left(alloc, &next, device, input, at, tally)?;
+            Ok((next, opened))
+        }
+        Err(PlanFault::Told(answer)) => {
+            tell(alloc, &store, device, &answer, tally)?;
+            Ok((store, None))
+        }
+        Err(PlanFault::OutOfMemory) => Err(AllocError),
+    }
+}
+
+/// Makes the record of a plan last, and then sends what it says.
+fn keep<E: Edge>(
+    alloc: Global,
+    store: Store,
+    device: &mut E,
+    planned: Planned,
+    tally: &mut Tally,
+) -> Result<(Store, Option<CallId>), AllocError>
+    requires size { E.extent device.old ≡ store.place.to }
+    requires plan { IsPlanOf store planned }
+    requires room { tally.old.lines < 2 ^ 20 }
+    requires few { IsFew tally.old.lines tally.old }
+    ensures keeps { (run : Run) → StandsAtRun store run → IfOk result (λ x. Keeps run planned.accepted tally.old tally.new x.0 x.1) }
+    ensures lines { OnOk result (tally.new.lines ≡ tally.old.lines) }
+    ensures repeats { OnOk result (tally.new.repeats ≡ tally.old.repeats) }
+    ensures few { OnOk result (IsFew (tally.old.lines + 1) tally.new) }
+    ensures kept { E.extent device.new ≡ E.extent device.old }
+    ensures size { IfOk result (λ x. x.0.place.to ≡ store.place.to) }
+{
+    let Ok((next, durable)) = store.commit(alloc, device, planned) else {
+        return Err(AllocError);
+    };
+    tally.count(durable.entries());
+    let opened = call_opened(durable.entries());
+    match next.release(alloc, device, durable, &mut Routes::lines()) {
+        Ok(_) => Ok((next, opened)),
+        Err(_) => Err(AllocError),
+    }
+}
+
+/// Tells an input that isn't new its answer once the time is taken up.
+fn tell_left<E: Edge>(
+    alloc: Global,
+    store: &Store,
+    device: &mut E,
+    input: &Input,
+    at: u64,
+    tally: &mut Tally,
+) -> Result<(), AllocError>
+    requires input_form { IsTrue (is_in_form input.now) }
+    requires stamp { IsTrue (is_stamp at) }
+    requires room { tally.old.repeats < 2 ^ 20 }
+    ensures tells { (run : Run) → StandsAtRun store.now run
+        → OnOk result (TellsAnswer (tells_repeat (judge history_keeper run.history input.now at)) tally.old tally.new) }
+    ensures told { OnOk result ((yes : Bool) × TellsAnswer yes tally.old tally.new) }
+    ensures kept { E.extent device.new ≡ E.extent device.old }
+{
+    match store.core().judge(alloc, input, at)? {
+        Judged::Told(answer) => tell(alloc, store, device, &answer, tally),
+        Judged::New(_) => Ok(()),
+        Judged::Clock(_) => Ok(()),
+    }
+}
+
+/// Tells an input its answer, and counts it where it is a repeat.
+fn tell<E: Edge>(
+    alloc: Global,
+    store: &Store,
+    device: &mut E,
+    answer: &Answer,
+    tally: &mut Tally,
+) -> Result<(), AllocError>
+    requires room { tally.old.repeats < 2 ^ 20 }
+    ensures tells { OnOk result (TellsAnswer (is_repeat answer.now) tally.old tally.new) }
+    ensures kept { E.extent device.new ≡ E.extent device.old }
+{
+    tally.count_answer(answer);
+    match store.tell(alloc, device, &Routes::lines(), Channel(0), answer) {
+        Ok(()) => Ok(()),
+        Err(_) => Err(AllocError),
+    }
+}

@@ -1,0 +1,220 @@
+//! A drill, from an empty device to its line.
+ghost use Rattle.std.specs.Prelude.{◌≡◌, ◌+◌, ◌*◌, ◌<◌, ◌≤◌, ◌^◌, [], ◌∷◌, ◌++◌, ℕ, List, None, IfOk, OnOk, OnErr, IsTrue, IsSomeAnd, vec_len};
+ghost use Rattle.iss_edge.specs.World.{Told};
+ghost use Rattle.iss_model.specs.Forms.{is_in_form};
+ghost use Rattle.iss_model.specs.run.Transcripts.{Reading, sound};
+ghost use Rattle.iss_model.specs.run.Runs.{Run, run_after};
+ghost use Rattle.iss_texts.specs.Sending.{Says, SaysSome};
+ghost use Rattle.iss_store.specs.Standing.{StandsFor};
+ghost use Rattle.iss_drill.specs.Generated.{drawn};
+ghost use Rattle.iss_drill.specs.Setup.{setup_input};
+ghost use Rattle.iss_drill.specs.Events.{event_input};
+ghost use Rattle.iss_drill.specs.Drills.{drill_run, setup_lines, event_lines, drill_lines, drill_text, DrillCause};
+ghost use Rattle.iss_drill.specs.Tallies.{no_tally, IsFew};
+ghost use Rattle.iss_drill.specs.Giving.{HasGiven};
+
+use crate::DrillFault;
+use crate::device::Quiet;
+use crate::events::{next_event, outcome_of};
+use crate::generator::Generator;
+use crate::giving::give;
+use crate::report::{drill_line, taken_together};
+use crate::setup::{INPUTS, setup_input};
+use crate::tally::Tally;
+use iss_edge::{Channel, Edge, MemoryEdge};
+use iss_journal::Journal;
+use iss_model::Input;
+use iss_model::limits::FIRST_NUMBER;
+use iss_store::Store;
+use std::alloc::{AllocError, Global};
+
+/// What a device has for the set-up, in bytes, and for each event.
+const FOR_ALL: u32 = 1_048_576;
+
+const FOR_EACH: u32 = 512;
+
+/// The time from one event to the next, in milliseconds.
+const MINUTE: u64 = 60_000;
+
+/// Runs a drill of `n` events, 1 to 100000, and writes its line on channel 0, by one emit: a line of JSON (RFC 8259) of what was
+/// approved and declined, what then stands, and how many lines, notices, records and repeats there were.
+#[tactic(auto, using(crate::proofs::Sending::told_drilled, crate::proofs::Sending::told_undrilled, iss_texts::proofs::ToldSaying::told_none))]
+pub fn drill<E: Edge>(alloc: Global, n: u32, edge: &mut E) -> Result<(), DrillFault>
+    requires least { 1 ≤ n }
+    requires most { n ≤ 100000 }
+    ensures drilled { OnOk result (Told (Says (drill_text n ∷ [])) (E.told edge.old) (E.told edge.new)) }
+    ensures part { OnErr result (Told (SaysSome (drill_text n ∷ [])) (E.told edge.old) (E.told edge.new)) }
+    ensures cause { DrillCause (E.faults edge.old) (E.faults edge.new) result }
+    ensures kept { E.extent edge.new ≡ E.extent edge.old }
+    ensures channels { E.channels edge.new ≡ E.channels edge.old }
+{
+    let line = drilled(alloc, n)?;
+    edge.emit(Channel(0), &line)?;
+    Ok(())
+}
+
+/// The line of a drill.
+fn drilled(alloc: Global, n: u32) -> Result<Vec<u8>, AllocError>
+    requires most { n ≤ 100000 }
+    ensures { IfOk result (λ line. line.items ≡ drill_text n) }
+{
+    let mut tally = Tally::new();
+    let (fresh, mut device) = fresh_store(alloc, FOR_ALL + FOR_EACH * n)?;
+    let ready = set_up(alloc, fresh, &mut device, &mut tally)?;
+    let store = give_events(alloc, n, ready, &mut device, &mut tally)?;
+    let totals = taken_together(store.core(), &tally)?;
+    drill_line(alloc, &totals)
+}
+
+/// A store without a record, and its device, of so many bytes. A call on a device in memory fails for want of memory alone.
+fn fresh_store(alloc: Global, size: u32) -> Result<(Store, Quiet), AllocError>
+    requires { 17 ≤ size }
+    ensures stands { IfOk result (λ x. StandsFor x.0 []) }
+    ensures size { IfOk result (λ x. x.0.place.to ≡ size) }
+    ensures extent { IfOk result (λ x. ⟦<Quiet as Edge>⟧.extent x.1 ≡ size) }
+{
+    let bytes = vec![in alloc; 0; size as usize]?;
+    let mut formatted = device_in_memory(alloc, bytes)?;
+    let store = format_and_open(alloc, &mut formatted)?;
+    let device = Quiet::new(formatted.device().to_vec(alloc)?);
+    Ok((store, device))
+}
+
+/// Makes a device one of instance 0 that stands for no records, and opens it. It fails for want of memory alone, as the device does.
+fn format_and_open<E: Edge>(alloc: Global, edge: &mut E) -> Result<Store, AllocError>
+    requires least { 17 ≤ E.extent edge.old }
+    requires most { E.extent edge.old ≤ 2 ^ 32 }
+    ensures stands { IfOk result (λ store. (device : List ℕ)
+        → IsSomeAnd (E.told edge.new) (λ world. device ≡ world.device) → StandsFor store []) }
+    ensures size { IfOk result (λ store. store.place.to ≡ E.extent edge.old) }
+    ensures kept { E.extent edge.new ≡ E.extent edge.old }
+{
+    let Ok(()) = Journal::format(edge, 0) else {
+        return Err(AllocError);
+    };
+    match Store::open(alloc, edge) {
+        Ok(store) => Ok(store),
+        Err(_) => Err(AllocError),
+    }
+}
+
+/// A device in memory that tells what is done.
+fn device_in_memory(alloc: Global, bytes: Vec<u8>) -> Result<MemoryEdge, AllocError>
+    ensures device { IfOk result (λ m. IsSomeAnd (⟦<MemoryEdge as Edge>⟧.told m) (λ world. world.device ≡ bytes.items)) }
+    ensures extent { IfOk result (λ m. ⟦<MemoryEdge as Edge>⟧.extent m ≡ vec_len bytes) }
+{
+    let nothing = Vec::new(alloc);
+    MemoryEdge::new(alloc, bytes, nothing, Vec::new(alloc), Vec::new(alloc))
+}
+
+/// Gives the inputs that a drill begins with.
+fn set_up(
+    alloc: Global,
+    fresh: Store,
+    device: &mut Quiet,
+    tally: &mut Tally,
+) -> Result<Store, AllocError>
+    requires size { ⟦<Quiet as Edge>⟧.extent device.old ≡ fresh.place.to }
+    requires start { tally.old.lines ≡ 0 }
+    requires few { IsFew 0 tally.old }
+    ensures given { (start : Run) → HasGiven start [] tally.old fresh → IfOk result (λ s. HasGiven start (setup_lines 23) tally.new s) }
+    ensures lines { OnOk result (tally.new.lines ≡ 23) }
+    ensures few { OnOk result (IsFew 23 tally.new) }
+    ensures kept { ⟦<Quiet as Edge>⟧.extent device.new ≡ ⟦<Quiet as Edge>⟧.extent device.old }
+    ensures size { IfOk result (λ s. s.place.to ≡ fresh.place.to) }
+{
+    let mut store = fresh;
+    'inputs: for number in 0..INPUTS {
+        store = give_setup(alloc, store, device, number + 1, tally)?;
+    }
+    Ok(store)
+}
+
+/// Gives the input of this number, from 1 on, of those that a drill begins with.
+fn give_setup(
+    alloc: Global,
+    store: Store,
+    device: &mut Quiet,
+    number: u32,
+    tally: &mut Tally,
+) -> Result<Store, AllocError>
+    requires least { 1 ≤ number }
+    requires most { number ≤ 23 }
+    requires size { ⟦<Quiet as Edge>⟧.extent device.old ≡ store.place.to }
+    requires room { tally.old.lines < 2 ^ 20 }
+    requires few { IsFew tally.old.lines tally.old }
+    ensures given { (start : Run) (lines : List Reading) → HasGiven start lines tally.old store
+        → IfOk result (λ s. HasGiven start (lines ++ sound (setup_input number) None ∷ []) tally.new s) }
+    ensures lines { OnOk result (tally.new.lines ≡ tally.old.lines + 1) }
+    ensures few { OnOk result (IsFew (tally.old.lines + 1) tally.new) }
+    ensures kept { ⟦<Quiet as Edge>⟧.extent device.new ≡ ⟦<Quiet as Edge>⟧.extent device.old }
+    ensures size { IfOk result (λ s. s.place.to ≡ store.place.to) }
+{
+    let (next, _) = give(alloc, store, device, &setup_input(number), 0, tally)?;
+    Ok(next)
+}
+
+/// Gives the events, each with the answer of the call that it opens.
+fn give_events(
+    alloc: Global,
+    n: u32,
+    ready: Store,
+    device: &mut Quiet,
+    tally: &mut Tally,
+) -> Result<Store, AllocError>
+    requires most { n ≤ 100000 }
+    requires size { ⟦<Quiet as Edge>⟧.extent device.old ≡ ready.place.to }
+    requires start { tally.old.lines ≡ 23 }
+    requires few { IsFew 23 tally.old }
+    ensures given { HasGiven (drill_run n) (setup_lines 23) tally.old ready
+        → IfOk result (λ s. HasGiven (drill_run n) (drill_lines n) tally.new s) }
+{
+    let mut store = ready;
+    let mut generator = Generator::new();
+    let mut last = Input::Time;
+    'events: for before in 0..n {
+        let number = before + 1;
+        let drawn = generator.draw();
+        last = next_event(number, drawn, last);
+        store = give_event(alloc, store, device, &last, number, drawn, tally)?;
+    }
+    Ok(store)
+}
+
+/// Gives the event of this number, and then the answer of the call that it opens, where it opens one.
+fn give_event(
+    alloc: Global,
+    store: Store,
+    device: &mut Quiet,
+    event: &Input,
+    number: u32,
+    y: u32,
+    tally: &mut Tally,
+) -> Result<Store, AllocError>
+    requires most { number ≤ 100000 }
+    requires size { ⟦<Quiet as Edge>⟧.extent device.old ≡ store.place.to }
+    requires form { IsTrue (is_in_form event.now) }
+    requires room { tally.old.lines + 1 < 2 ^ 20 }
+    requires few { IsFew tally.old.lines tally.old }
+    ensures given { (start : Run) (lines : List Reading) → event.now ≡ event_input number → y ≡ drawn number
+        → HasGiven start lines tally.old store
+        → IfOk result (λ s. HasGiven start (lines ++ event_lines (run_after start lines) number) tally.new s) }
+    ensures lines { OnOk result (tally.new.lines ≤ tally.old.lines + 2) }
+    ensures few { OnOk result (IsFew tally.new.lines tally.new) }
+    ensures kept { ⟦<Quiet as Edge>⟧.extent device.new ≡ ⟦<Quiet as Edge>⟧.extent device.old }
+    ensures size { IfOk result (λ s. s.place.to ≡ store.place.to) }
+{
+    let at = MINUTE * u64::from(number);
+    let (next, opened) = give(alloc, store, device, event, at, tally)?;
+    let Some(call) = opened else {
+        return Ok(next);
+    };
+    // Calls are numbered from 1.
+    if call.0 < FIRST_NUMBER {
+        return Err(AllocError);
+    }
+    let outcome = outcome_of(y);
+    let answer = Input::Answer { call, outcome };
+    let (answered, _) = give(alloc, next, device, &answer, at, tally)?;
+    Ok(answered)
+}
