@@ -1,4 +1,4 @@
-//! Tests of a store that serves clients over an outside in memory.
+//! Tests of a store that serves clients, and of runs that serve, over an outside in memory.
 //!
 //! It may cite every crate below `iss_top`.
 //! Nothing may cite it.
@@ -6,6 +6,12 @@
 
 #[cfg(test)]
 mod clients;
+#[cfg(test)]
+mod gateways;
+#[cfg(test)]
+mod requests;
+#[cfg(test)]
+mod runs;
 #[cfg(test)]
 mod sending;
 #[cfg(test)]

@@ -56,7 +56,7 @@ fn letter(number: u32) -> u8 {
     }
 }
 
-fn done(alloc: Global, edge: &MemoryEdge) -> Result<Vec<u8>, AllocError> {
+pub(crate) fn done(alloc: Global, edge: &MemoryEdge) -> Result<Vec<u8>, AllocError> {
     let mut letters = Vec::new(alloc);
     for action in edge.trace() {
         let (what, ch) = match action {
@@ -64,7 +64,7 @@ fn done(alloc: Global, edge: &MemoryEdge) -> Result<Vec<u8>, AllocError> {
             Action::Close { ch } => (b'X', ch.0),
             Action::Emit { ch, ok: true, .. } => (b'E', ch.0),
             Action::Emit { ch, ok: false, .. } => (b'e', ch.0),
-            _ => (b'?', 0),
+            Action::Write { .. } | Action::Sync { .. } => continue,
         };
         letters.push(what)?;
         letters.push(letter(ch))?;
@@ -72,7 +72,7 @@ fn done(alloc: Global, edge: &MemoryEdge) -> Result<Vec<u8>, AllocError> {
     Ok(letters)
 }
 
-fn bytes(alloc: Global, edge: &MemoryEdge) -> Result<Vec<u8>, AllocError> {
+pub(crate) fn bytes(alloc: Global, edge: &MemoryEdge) -> Result<Vec<u8>, AllocError> {
     let mut bytes = Vec::new(alloc);
     for action in edge.trace() {
         if let Action::Emit { bytes: piece, .. } = action {

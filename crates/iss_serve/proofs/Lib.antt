@@ -1,0 +1,17 @@
+pub mod Quietly
+pub mod Going
+pub mod Stages
+pub mod Waiting
+pub mod Taking
+pub mod Judgements
+pub mod Closes
+pub mod Ending
+pub mod Reading
+pub mod Texts
+pub mod Hears
+pub mod Keeps
+pub mod Causings
+pub mod Loops
+pub mod Feeding
+pub mod ServeWhole
+pub mod ToldServes

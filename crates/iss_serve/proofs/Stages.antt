@@ -1,0 +1,221 @@
+-- Parts of a run that serves, from one stage to the next, whatever records the store stands for.
+use Rattle.std.proofs.Common.{◌≡◌, ℕ, ◌≤◌, inl, List, [], ◌∷◌, ◌++◌, length, Option, refl, sym, ap, subst, ◌∙◌, append-nil, arith}
+use Rattle.iss_edge.specs.declared.outside.Action.{Action}
+use Rattle.iss_edge.specs.Outer.{Outer, Adds}
+use Rattle.iss_edge.specs.Stretches.{actions_of, IsGood}
+use Rattle.iss_edge.specs.World.{Told}
+use Rattle.iss_edge.proofs.Tolds.{told_map, told_then, told_self}
+use Rattle.iss_journal.specs.Region.{Region, RestsFirst, StandsFirst}
+use Rattle.iss_model.specs.declared.call.CallId.{CallId}
+use Rattle.iss_model.specs.declared.input.Record.{Record}
+use Rattle.iss_agreement.proofs.Records.{records_history}
+use Rattle.iss_serving.specs.Items.{Item, hears}
+use Rattle.iss_serving.specs.Desks.{Desk, Gone, desk_with}
+use Rattle.iss_model.specs.run.Runs.{Run}
+use Rattle.iss_serving.specs.Sessions.{Readers, Session, Queued, count}
+use Rattle.iss_serving.specs.Happenings.{session_change, session_after, session_steps, IsNext}
+use Rattle.iss_serving.proofs.Runs.{run_item}
+use Rattle.iss_serving.proofs.StillSteps.{stretch_goes_on}
+use Rattle.iss_serving.specs.Sendings.{Sends}
+use Rattle.iss_serving.proofs.DesksInSessions.{with_desk}
+use Rattle.iss_sessions.specs.Program.{program_readers}
+use Rattle.iss_store.specs.Values.{StoreNow}
+use Rattle.iss_store.specs.Standing.{region_of, region_under, bodies_of, StandsFor}
+use Rattle.iss_store.proofs.Histories.{count_on_book}
+use Rattle.iss_serve.specs.Goings.{records_in, Goes, GoesPart}
+use Rattle.iss_serve.specs.Held.{HeldNow, Stage, idle, to_judge, answers_unreached, session_at}
+use Rattle.iss_serve.specs.Runs.{ServesOn, ServesSome}
+use Rattle.iss_serve.proofs.Going.{goes_self, goes_then, goes_then_part, goes_part, heard_goes, sends_goes}
+
+-- how many records stand in a session
+pub count_at : (x : Stage) (rs : List Record) → StandsFor x.store rs → count (session_at x rs) ≡ x.store.core.state.count
+count_at x rs stands = ap (λ (l : List Record). length l) (records_history rs) ∙ sym (count_on_book x.store.core rs stands.core)
+
+same_region : (x y : Stage) → y.store.core.instance ≡ x.store.core.instance → y.store.place.to ≡ x.store.place.to → region_under y.store ≡ region_under x.store
+same_region x y instance to = λ i. region_of (instance i) (to i)
+
+-- ---- nothing, and one after the other
+
+pub on_self : (x : Stage) (a : Outer) → ServesOn x x a a
+on_self x a =
+    record {
+      instance = refl;
+      to = refl;
+      on_book = λ rs stands. record { now = rs; stands = stands; goes = goes_self program_readers (region_under x.store) (session_at x rs) a };
+    }
+
+pub on_then : (x y z : Stage) (a b c : Outer) → ServesOn x y a b → ServesOn y z b c → ServesOn x z a c
+on_then x y z a b c p q =
+    record {
+      instance = q.instance ∙ p.instance;
+      to = q.to ∙ p.to;
+      on_book =
+          λ rs stands.
+          let first = p.on_book rs stands in
+          let second = q.on_book first.now first.stands in
+          record {
+            now = second.now;
+            stands = second.stands;
+            goes =
+                goes_then program_readers (region_under x.store) (session_at x rs) (session_at y first.now) a b c first.goes (session_at z second.now)
+                (subst (λ (r : Region). Goes program_readers r (session_at y first.now) (session_at z second.now) b c) (same_region x y p.instance p.to) second.goes);
+          };
+    }
+
+pub on_then_some : (x y : Stage) (a b c : Outer) → ServesOn x y a b → ServesSome y b c → ServesSome x a c
+on_then_some x y a b c p q =
+    record {
+      on_book =
+          λ rs stands.
+          let first = p.on_book rs stands in
+          goes_then_part program_readers (region_under x.store) (session_at x rs) (session_at y first.now) a b c first.goes
+          (subst (λ (r : Region). GoesPart program_readers r (session_at y first.now) b c) (same_region x y p.instance p.to) (q.on_book first.now first.stands));
+    }
+
+pub some_of_on : (x y : Stage) (a b : Outer) → ServesOn x y a b → ServesSome x a b
+some_of_on x y a b p =
+    record {
+      on_book =
+          λ rs stands.
+          let first = p.on_book rs stands in
+          goes_part program_readers (region_under x.store) (session_at x rs) (session_at y first.now) a b first.goes;
+    }
+
+-- two stages of one store that are the same session
+pub on_same : (x y : Stage) (a : Outer) → y.store ≡ x.store → ((rs : List Record) → session_at x rs ≡ session_at y rs) → ServesOn x y a a
+on_same x y a same is =
+    record {
+      instance = ap (λ (s : StoreNow). s.core.instance) same;
+      to = ap (λ (s : StoreNow). s.place.to) same;
+      on_book =
+          λ rs stands.
+          record {
+            now = rs;
+            stands = subst (λ (s : StoreNow). StandsFor s rs) (sym same) stands;
+            goes =
+                subst (λ (t : Session). Goes program_readers (region_under x.store) (session_at x rs) t a a) (is rs)
+                (goes_self program_readers (region_under x.store) (session_at x rs) a);
+          };
+    }
+
+-- the answers of calls that weren't reached are judged first
+pub calls_first : (store : StoreNow) (h : HeldNow) (calls : List CallId) (o : Option Outer) → calls ≡ h.unreached
+    → Told (ServesOn (idle store h) (to_judge store (record h { unreached = [] }) (answers_unreached calls))) o o
+calls_first store h calls o is =
+    told_self (ServesOn (idle store h) (to_judge store (record h { unreached = [] }) (answers_unreached calls))) o
+    (λ a.
+    on_same (idle store h) (to_judge store (record h { unreached = [] }) (answers_unreached calls)) a refl
+    (λ rs.
+    ap (λ (cs : List CallId). record (session_at (idle store h) rs) { queue = answers_unreached cs }) (sym is)
+    ∙ ap (λ (queue : List Queued). record (session_at (idle store h) rs) { queue = queue }) (sym (append-nil (answers_unreached calls)))))
+
+-- ---- the same of what is told
+
+pub told_on_self : (x : Stage) (o : Option Outer) → Told (ServesOn x x) o o
+told_on_self x o = told_self (ServesOn x x) o (on_self x)
+
+pub told_on_then : (x y z : Stage) (o p q : Option Outer) → Told (ServesOn x y) o p → Told (ServesOn y z) p q → Told (ServesOn x z) o q
+told_on_then x y z o p q f g = told_then (ServesOn x y) (ServesOn y z) (ServesOn x z) o p q (on_then x y z) f g
+
+pub told_on_then_some : (x y : Stage) (o p q : Option Outer) → Told (ServesOn x y) o p → Told (ServesSome y) p q → Told (ServesSome x) o q
+told_on_then_some x y o p q f g = told_then (ServesOn x y) (ServesSome y) (ServesSome x) o p q (on_then_some x y) f g
+
+pub told_some_of_on : (x y : Stage) (o p : Option Outer) → Told (ServesOn x y) o p → Told (ServesSome x) o p
+told_some_of_on x y o p f = told_map (ServesOn x y) (ServesSome x) o p (some_of_on x y) f
+
+-- nothing was done
+pub told_none_on : (x : Stage) (o : Option Outer) → Told (ServesSome x) o o
+told_none_on x o = told_some_of_on x x o o (told_on_self x o)
+
+-- a stage that is the same session
+pub told_on_as : (x x' y y' : Stage) (o p : Option Outer) → x ≡ x' → y ≡ y' → Told (ServesOn x y) o p → Told (ServesOn x' y') o p
+told_on_as x x' y y' o p e f t =
+    subst (λ (s : Stage). Told (ServesOn s y') o p) e (subst (λ (s : Stage). Told (ServesOn x s) o p) f t)
+
+pub told_some_as : (x x' : Stage) (o p : Option Outer) → x ≡ x' → Told (ServesSome x) o p → Told (ServesSome x') o p
+told_some_as x x' o p e t = subst (λ (s : Stage). Told (ServesSome s) o p) e t
+
+-- ---- each kind of part, on a store that stays as it is
+
+-- an answer that was called for, where a fault keeps what the session does then from being done
+heard_goes_part : (read : Readers) (region : Region) (s : Session) (item : Item) (a b : Outer) → IsNext s item → Adds [] (item.answer ∷ []) a b → GoesPart read region s a b
+heard_goes_part read region s item a b next adds =
+    let t = session_after read s (hears item ∷ []) in
+    let number : count t ≡ count s = ap (λ (run : Run). length run.history.records) (run_item read s item s.desk.tasks) in
+    record {
+      happenings = hears item ∷ [];
+      heard = adds.heard;
+      fits = (next, tt);
+      steps = [];
+      undone = session_steps read s (hears item ∷ []);
+      grew = adds.trace;
+      done = refl;
+      good =
+          λ later.
+          let all = records_in t ++ later in
+          let most : count s ≤ count s = omega arith in
+          subst (λ (n : ℕ). IsGood (RestsFirst region (bodies_of all)) (StandsFirst region (bodies_of all)) (count s) n []) (sym number)
+          (stretch_goes_on (RestsFirst region (bodies_of all)) (StandsFirst region (bodies_of all)) read s [] (count s) (λ bytes rests. inl rests) most).good;
+    }
+
+-- the session goes on to another stage of the same store
+abbrev pub Leads : Stage → Stage → (Session → Session) → Type 0
+Leads x y change = (rs : List Record) → change (session_at x rs) ≡ session_at y rs
+
+-- an answer that was called for, with what the session does then
+pub heard_on : (store : StoreNow) (x y : Stage) (item : Item) (actions : List Action) (a b : Outer) → x.store ≡ store → y.store ≡ store
+    → ((rs : List Record) → IsNext (session_at x rs) item)
+    → Leads x y (λ s. (session_change program_readers s (hears item)).session)
+    → ((rs : List Record) → actions_of (session_change program_readers (session_at x rs) (hears item)).steps ≡ actions)
+    → Adds actions (item.answer ∷ []) a b → ServesOn x y a b
+heard_on store x y item actions a b xs ys next leads does adds =
+    record {
+      instance = ap (λ (s : StoreNow). s.core.instance) (ys ∙ sym xs);
+      to = ap (λ (s : StoreNow). s.place.to) (ys ∙ sym xs);
+      on_book =
+          λ rs stands.
+          record {
+            now = rs;
+            stands = subst (λ (s : StoreNow). StandsFor s rs) (xs ∙ sym ys) stands;
+            goes =
+                subst (λ (t : Session). Goes program_readers (region_under x.store) (session_at x rs) t a b) (leads rs)
+                (heard_goes program_readers (region_under x.store) (session_at x rs) item a b (next rs)
+                (subst (λ (l : List Action). Adds l (item.answer ∷ []) a b) (sym (does rs)) adds));
+          };
+    }
+
+-- the same where a fault keeps the session's steps from being done
+pub heard_some : (x : Stage) (item : Item) (a b : Outer) → ((rs : List Record) → IsNext (session_at x rs) item) → Adds [] (item.answer ∷ []) a b → ServesSome x a b
+heard_some x item a b next adds =
+    record { on_book = λ rs stands. heard_goes_part program_readers (region_under x.store) (session_at x rs) item a b (next rs) adds }
+
+-- what a desk did for its texts
+pub sends_on : (store : StoreNow) (x y : Stage) (e : Desk) (gone : List Gone) (a b : Outer) → x.store ≡ store → y.store ≡ store
+    → Leads x y (λ s. with_desk s e gone)
+    → Sends x.store.core.state.count (desk_with x.tasks x.held.served) e gone a b → ServesOn x y a b
+sends_on store x y e gone a b xs ys leads sends =
+    record {
+      instance = ap (λ (s : StoreNow). s.core.instance) (ys ∙ sym xs);
+      to = ap (λ (s : StoreNow). s.place.to) (ys ∙ sym xs);
+      on_book =
+          λ rs stands.
+          record {
+            now = rs;
+            stands = subst (λ (s : StoreNow). StandsFor s rs) (xs ∙ sym ys) stands;
+            goes =
+                subst (λ (t : Session). Goes program_readers (region_under x.store) (session_at x rs) t a b) (leads rs)
+                (sends_goes program_readers (region_under x.store) (session_at x rs) e gone a b
+                (subst (λ (n : ℕ). Sends n (desk_with x.tasks x.held.served) e gone a b) (sym (count_at x rs stands)) sends));
+          };
+    }
+
+-- and what it did in part
+pub sends_some : (x : Stage) (e : Desk) (gone : List Gone) (a b : Outer) → Sends x.store.core.state.count (desk_with x.tasks x.held.served) e gone a b → ServesSome x a b
+sends_some x e gone a b sends =
+    record {
+      on_book =
+          λ rs stands.
+          goes_part program_readers (region_under x.store) (session_at x rs) (with_desk (session_at x rs) e gone) a b
+          (sends_goes program_readers (region_under x.store) (session_at x rs) e gone a b
+          (subst (λ (n : ℕ). Sends n (desk_with x.tasks x.held.served) e gone a b) (sym (count_at x rs stands)) sends));
+    }

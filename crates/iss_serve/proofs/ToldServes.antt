@@ -1,0 +1,152 @@
+-- The same of what an edge tells: a run that serves at each of its ends.
+use Rattle.std.proofs.Common.{◌≡◌, ℕ, inl, inr, List, Option, Ok, Err, refl, arith}
+use Rattle.std.specs.Prelude.{Result, OnOk, OnErr}
+use Rattle.iss_edge.specs.declared.outside.Answered.{Answered}
+use Rattle.iss_edge.specs.World.{World, Told, Faults, Later}
+use Rattle.iss_edge.specs.Calls.{HearsNothing}
+use Rattle.iss_edge.specs.Outer.{Outer, outer_of}
+use Rattle.iss_edge.proofs.Tolds.{told_map, told_then, later_then, rose_later}
+use Rattle.iss_store.specs.declared.fault.OpenFault.{OpenFault}
+use Rattle.iss_store.specs.declared.fault.OpenFault.TheVariants as open_fault
+use Rattle.iss_store.specs.Values.{StoreNow}
+use Rattle.iss_store.specs.Opening.{Opens, OpensGood, ReadsAlone, OnRefused, OpenCause, IsOfDiskOrMemory}
+use Rattle.iss_store.proofs.GoodDevices.{good_device}
+use Rattle.iss_store.proofs.ToldReadings.{told_both}
+use Rattle.iss_device.specs.Opened.{OpenedAs}
+use Rattle.iss_device.specs.Refusals.{RefusesExactly, opening_status}
+use Rattle.iss_device.proofs.Refusals.{told_refuses, opened_refuses}
+use Rattle.iss_serve.specs.declared.fault.ServeFault.{ServeFault}
+use Rattle.iss_serve.specs.declared.fault.ServeFault.TheVariants.{Device, Wait, Disk, OutOfMemory}
+use Rattle.iss_serve.specs.Causes.{fault_of_opening, ServeCause, IsServeCaused}
+use Rattle.iss_serve.specs.Runs.{ServesToEnd, ServesUpTo}
+use Rattle.iss_serve.specs.ServeRuns.{status_of, ServeRun, OfWorlds, EndingCause, EndsCaused, ServeEndsWell}
+use Rattle.iss_serve.proofs.Quietly.{Quietly, told_quietly}
+use Rattle.iss_serve.proofs.ServeWhole.{stands_there, serve_part, serve_whole, not_opened}
+
+-- ---- statuses
+
+abbrev pub ends_with : ServeFault → ℕ
+ends_with why = status_of {A = Unit {0}} (Err why)
+
+not_done : (why : ServeFault) → ends_with why ≡ 0 → ⊥
+not_done Device e = cc
+not_done Wait e = cc
+not_done Disk e = cc
+not_done OutOfMemory e = cc
+
+-- behind the opening the device isn't at fault
+not_device : {A : Type 0} (why : ServeFault) (before now : Faults) → IsServeCaused {A = A} before now (Err why) → ends_with why ≡ 4 → ⊥
+not_device Device before now caused e = caused.cause
+not_device Wait before now caused e = cc
+not_device Disk before now caused e = cc
+not_device OutOfMemory before now caused e = cc
+
+opening_ends : (fault : OpenFault) → IsOfDiskOrMemory fault → ends_with (fault_of_opening fault) ≡ 4 → ⊥
+opening_ends open_fault.Disk is e = cc
+opening_ends open_fault.OutOfMemory is e = cc
+opening_ends open_fault.NotFormatted is e = absurd is
+opening_ends (open_fault.BadRecord gate) is e = absurd is
+opening_ends (open_fault.BadSpelling gate) is e = absurd is
+opening_ends (open_fault.BadHistory gate) is e = absurd is
+
+-- ---- a device that doesn't open
+
+module _ (turns : ℕ) (fault : OpenFault) (x y : Option World) (h k : Option (List Answered)) (opens : Told (Opens (Err fault)) x y) (good : Told OpensGood x y) (quiet : Told HearsNothing h k) where
+  pub told_unopened_serve : Told (ServeRun turns (ends_with (fault_of_opening fault))) (outer_of x h) (outer_of y k)
+  told_unopened_serve =
+      told_map (Quietly (λ a b. Opens (Err fault) a b × OpensGood a b)) (ServeRun turns (ends_with (fault_of_opening fault))) (outer_of x h) (outer_of y k)
+      (λ a b p instance rs stands.
+      not_opened turns (ends_with (fault_of_opening fault)) instance rs a b (not_done (fault_of_opening fault))
+      (opening_ends fault (good_device instance rs fault a.world b.world stands p.world.0)) p.world.1 p.heard stands)
+      (told_quietly (λ a b. Opens (Err fault) a b × OpensGood a b) x y h k (told_both (Opens (Err fault)) OpensGood x y opens good) quiet)
+
+  pub told_unopened_refuses : OnRefused {T = StoreNow} (Err fault) (Told ReadsAlone x y) → Told (OfWorlds (RefusesExactly (ends_with (fault_of_opening fault)))) (outer_of x h) (outer_of y k)
+  told_unopened_refuses reads =
+      told_map (Quietly (RefusesExactly (ends_with (fault_of_opening fault)))) (OfWorlds (RefusesExactly (ends_with (fault_of_opening fault)))) (outer_of x h) (outer_of y k) (λ a b p. p.world)
+      (told_quietly (RefusesExactly (ends_with (fault_of_opening fault))) x y h k (same_status fault (told_refuses fault x y opens good reads)) quiet)
+    where
+      same_status : (fault : OpenFault) → Told (RefusesExactly (opening_status fault)) x y → Told (RefusesExactly (ends_with (fault_of_opening fault))) x y
+      same_status open_fault.Disk r = r
+      same_status open_fault.OutOfMemory r = r
+      same_status open_fault.NotFormatted r = r
+      same_status (open_fault.BadRecord gate) r = r
+      same_status (open_fault.BadSpelling gate) r = r
+      same_status (open_fault.BadHistory gate) r = r
+
+-- ---- a device that opens
+
+module _ (turns : ℕ) (s : StoreNow) (x y z : Option World) (h k l : Option (List Answered)) (opened : Told (OpenedAs s) x y) (quiet : Told HearsNothing h k) where
+  pub told_served_whole : Told (ServesToEnd s turns) (outer_of y k) (outer_of z l) → Told (ServeRun turns 0) (outer_of x h) (outer_of z l)
+  told_served_whole serves =
+      told_then (Quietly (OpenedAs s)) (ServesToEnd s turns) (ServeRun turns 0) (outer_of x h) (outer_of y k) (outer_of z l)
+      (λ a b d o p instance rs stands.
+      serve_whole turns instance rs s a b d o.world o.heard stands (p.on_book rs (stands_there turns instance rs s a b d o.world o.heard stands)))
+      (told_quietly (OpenedAs s) x y h k opened quiet) serves
+
+  pub told_served_part : (why : ServeFault) (before now : Faults) → IsServeCaused {A = Unit {0}} before now (Err why) → Told (ServesUpTo s turns) (outer_of y k) (outer_of z l)
+      → Told (ServeRun turns (ends_with why)) (outer_of x h) (outer_of z l)
+  told_served_part why before now caused serves =
+      told_then (Quietly (OpenedAs s)) (ServesUpTo s turns) (ServeRun turns (ends_with why)) (outer_of x h) (outer_of y k) (outer_of z l)
+      (λ a b d o p instance rs stands.
+      serve_part turns instance rs s a b d o.world o.heard stands (ends_with why) (not_done why) (not_device {A = Unit {0}} why before now caused)
+      (p.on_book rs (stands_there turns instance rs s a b d o.world o.heard stands)))
+      (told_quietly (OpenedAs s) x y h k opened quiet) serves
+
+  refuses_no_more : (R : Outer → Outer → Type 0) (status : ℕ) → (status ≡ 4 → ⊥) → Told R (outer_of y k) (outer_of z l) → Told (OfWorlds (RefusesExactly status)) (outer_of x h) (outer_of z l)
+  refuses_no_more R status other serves =
+      told_then (Quietly (OpenedAs s)) R (OfWorlds (RefusesExactly status)) (outer_of x h) (outer_of y k) (outer_of z l)
+      (λ a b d o p. opened_refuses status s a.world d.world other o.world.opens) (told_quietly (OpenedAs s) x y h k opened quiet) serves
+
+  pub told_whole_refuses : Told (ServesToEnd s turns) (outer_of y k) (outer_of z l) → Told (OfWorlds (RefusesExactly 0)) (outer_of x h) (outer_of z l)
+  told_whole_refuses serves = refuses_no_more (ServesToEnd s turns) 0 (λ e. cc) serves
+
+  pub told_part_refuses : (why : ServeFault) (before now : Faults) → IsServeCaused {A = Unit {0}} before now (Err why) → Told (ServesUpTo s turns) (outer_of y k) (outer_of z l)
+      → Told (OfWorlds (RefusesExactly (ends_with why))) (outer_of x h) (outer_of z l)
+  told_part_refuses why before now caused serves = refuses_no_more (ServesUpTo s turns) (ends_with why) (not_device {A = Unit {0}} why before now caused) serves
+
+  -- both, by how it ended
+  pub told_served : (result : Result (Unit {0}) ServeFault) (before now : Faults) → IsServeCaused before now result → OnOk result (Told (ServesToEnd s turns) (outer_of y k) (outer_of z l))
+      → OnErr result (Told (ServesUpTo s turns) (outer_of y k) (outer_of z l)) → Told (ServeRun turns (status_of result)) (outer_of x h) (outer_of z l)
+  told_served (Ok done) before now caused whole part = told_served_whole whole
+  told_served (Err why) before now caused whole part = told_served_part why before now caused part
+
+  pub told_served_refuses : (result : Result (Unit {0}) ServeFault) (before now : Faults) → IsServeCaused before now result → OnOk result (Told (ServesToEnd s turns) (outer_of y k) (outer_of z l))
+      → OnErr result (Told (ServesUpTo s turns) (outer_of y k) (outer_of z l)) → Told (OfWorlds (RefusesExactly (status_of result))) (outer_of x h) (outer_of z l)
+  told_served_refuses (Ok done) before now caused whole part = told_whole_refuses whole
+  told_served_refuses (Err why) before now caused whole part = told_part_refuses why before now caused part
+
+-- ---- causes
+
+pub caused_by_opening : {T : Type 0} (fault : OpenFault) (before now : Faults) → OpenCause {T = T} before now (Err fault) → EndsCaused {A = Unit {0}} before now (Err (fault_of_opening fault))
+caused_by_opening open_fault.Disk before now cause = record { later = cause.later; cause = cause.disk refl }
+caused_by_opening open_fault.OutOfMemory before now cause = record { later = cause.later; cause = tt }
+caused_by_opening open_fault.NotFormatted before now cause = record { later = cause.later; cause = tt }
+caused_by_opening (open_fault.BadRecord gate) before now cause = record { later = cause.later; cause = tt }
+caused_by_opening (open_fault.BadSpelling gate) before now cause = record { later = cause.later; cause = tt }
+caused_by_opening (open_fault.BadHistory gate) before now cause = record { later = cause.later; cause = tt }
+
+-- behind an opening, which counts no fault down
+cause_behind : (before middle now : Faults) (why : ServeFault) → Later before middle → Later middle now → ServeCause middle now why → EndingCause before now why
+cause_behind before middle now Device first second cause = absurd cause
+cause_behind before middle now Wait first second cause = rose_later before.input middle.input now.input now.input first.input second.input (omega arith) cause
+cause_behind before middle now Disk first second cause = rose_later before.disk middle.disk now.disk now.disk first.disk second.disk (omega arith) cause
+cause_behind before middle now OutOfMemory first second cause = tt
+
+pub caused_behind : {T : Type 0} (before middle now : Faults) (result : Result T ServeFault) → Later before middle → IsServeCaused middle now result → EndsCaused before now result
+caused_behind before middle now (Ok done) first second = record { later = later_then before middle now first second.later; cause = tt }
+caused_behind before middle now (Err why) first second =
+    record { later = later_then before middle now first second.later; cause = cause_behind before middle now why first second.later second.cause }
+
+-- ---- the end
+
+ends_well : (turns : ℕ) (result : Result (Unit {0}) ServeFault) (before now : Faults) (a b : Outer) → EndsCaused before now result → ServeRun turns (status_of result) a b → OfWorlds (ServeEndsWell before now (status_of result)) a b
+ends_well turns (Ok done) before now a b caused run instance rs stands disk input = inl refl
+ends_well turns (Err Device) before now a b caused run instance rs stands disk input = absurd ((run instance rs stands).other_device refl)
+ends_well turns (Err Wait) before now a b caused run instance rs stands disk input = absurd (input caused.cause)
+ends_well turns (Err Disk) before now a b caused run instance rs stands disk input = absurd (disk caused.cause)
+ends_well turns (Err OutOfMemory) before now a b caused run instance rs stands disk input = inr refl
+
+pub told_ends_well : (turns : ℕ) (result : Result (Unit {0}) ServeFault) (before now : Faults) (x y : Option Outer) → EndsCaused before now result → Told (ServeRun turns (status_of result)) x y
+    → Told (OfWorlds (ServeEndsWell before now (status_of result))) x y
+told_ends_well turns result before now x y caused run =
+    told_map (ServeRun turns (status_of result)) (OfWorlds (ServeEndsWell before now (status_of result))) x y (λ a b. ends_well turns result before now a b caused) run

@@ -1,0 +1,21 @@
+use Rattle.std.proofs.Common.{◌≡◌, List, ◌∷◌}
+use Rattle.iss_edge.specs.World.{Told, Later}
+use Rattle.iss_edge.specs.Outer.{outer_of}
+use Rattle.iss_serving.specs.Sessions.{Queued}
+use Rattle.iss_serve.specs.Held.{now_of, queued_as, to_judge, left_on}
+use Rattle.iss_serve.specs.Judged.{Judges}
+use Rattle.iss_serve.specs.Runs.{ServesOn}
+use Rattle.iss_serve.proofs.judging.judge.Given as goal
+
+abbrev pub invariant-again : goal.invariant-again
+invariant-again g l = record {
+  judged : (rest : List Queued) → Told (ServesOn (to_judge l.initial.next (now_of l.initial.held) (queued_as l.queued ∷ rest)) (to_judge l.next (now_of l.held) (queued_as l.queued ∷ rest)))
+      (outer_of (g.E.Edge.told l.initial.edge) (g.E.Edge.heard l.initial.edge)) (outer_of (g.E.Edge.told l.edge) (g.E.Edge.heard l.edge));
+  judges : Judges l.initial.next l.next l.initial.held l.held;
+  size : g.E.Edge.extent l.edge ≡ l.next.place.to;
+  later : Later (g.E.Edge.faults l.initial.edge) (g.E.Edge.faults l.edge);
+  kept : g.E.Edge.extent l.edge ≡ g.E.Edge.extent l.initial.edge;
+}
+
+abbrev pub decreases-again : goal.decreases-again
+decreases-again g l = left_on l.next

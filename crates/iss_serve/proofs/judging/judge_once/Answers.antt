@@ -1,0 +1,34 @@
+use Rattle.std.proofs.Common.{◌∷◌}
+use Rattle.iss_edge.specs.Outer.{outer_of}
+use Rattle.iss_edge.specs.World.{Told}
+use Rattle.iss_serving.specs.Judgements.{answer_tasks}
+use Rattle.iss_serve.specs.Held.{now_of, queued_as, sending, to_judge}
+use Rattle.iss_serve.specs.Runs.{ServesSome}
+use Rattle.iss_serve.proofs.Causings.{anyway}
+use Rattle.iss_serve.proofs.Keeps.{told_answer}
+use Rattle.iss_serve.proofs.Stages.{told_none_on, told_on_then, told_on_then_some}
+use Rattle.iss_serve.proofs.judging.judge_once.Goals as goal
+
+pub returns-in_err-tell-in-Err-Told-clause-part : goal.returns-in_err-tell-in-Err-Told-clause-part
+returns-in_err-tell-in-Err-Told-clause-part g c = λ rest.
+    let h = now_of c.args.held.now in
+    let q = queued_as c.args.queued.now in
+    let a = c.in-Err-Told.answer in
+    let x = (outer_of (g.E.Edge.told c.args.edge.now) (g.E.Edge.heard c.args.edge.now)) in
+    let z = (outer_of (g.E.Edge.told c.tell.new.edge) (g.E.Edge.heard c.tell.new.edge)) in
+    anyway c.from_residual-in_err-tell-in-Err-Told.result (Told (ServesSome (to_judge c.args.store h (q ∷ rest))) x z)
+    (told_on_then_some (to_judge c.args.store h (q ∷ rest)) (sending c.args.store h rest (answer_tasks q.client a)) x x z
+    (told_answer c.args.store h q rest a (rw c.in-Err-Told.field-0-is at c.in-Err-Told.ensures.on_book) x) (c.in_err-tell-in-Err-Told.ensures.part rest))
+
+pub returns-in_ok-tell-in-Err-Told-clause-judged : goal.returns-in_ok-tell-in-Err-Told-clause-judged
+returns-in_ok-tell-in-Err-Told-clause-judged g c = λ rest.
+    let h = now_of c.args.held.now in
+    let q = queued_as c.args.queued.now in
+    let a = c.in-Err-Told.answer in
+    let x = (outer_of (g.E.Edge.told c.args.edge.now) (g.E.Edge.heard c.args.edge.now)) in
+    let z = (outer_of (g.E.Edge.told c.tell.new.edge) (g.E.Edge.heard c.tell.new.edge)) in
+    told_on_then (to_judge c.args.store h (q ∷ rest)) (sending c.args.store h rest (answer_tasks q.client a)) (to_judge c.args.store (now_of c.tell.new.held) rest) x x z
+    (told_answer c.args.store h q rest a (rw c.in-Err-Told.field-0-is at c.in-Err-Told.ensures.on_book) x) (c.in_ok-tell-in-Err-Told.ensures.told rest)
+
+pub returns-in-Err-OutOfMemory-clause-part : goal.returns-in-Err-OutOfMemory-clause-part
+returns-in-Err-OutOfMemory-clause-part g c = λ rest. told_none_on (to_judge c.args.store (now_of c.args.held.now) (queued_as c.args.queued.now ∷ rest)) (outer_of (g.E.Edge.told c.args.edge.now) (g.E.Edge.heard c.args.edge.now))

@@ -1,0 +1,23 @@
+use Rattle.std.proofs.Common.{◌≡◌}
+use Rattle.iss_edge.specs.World.{Told, Later}
+use Rattle.iss_edge.specs.Outer.{outer_of}
+use Rattle.iss_serve.specs.Held.{now_of, idle, IsHeld, IsOf, left_on}
+use Rattle.iss_serve.specs.Runs.{ServesOn}
+use Rattle.iss_serve.proofs.Loops.{work_left}
+use Rattle.iss_serve.proofs.judging.judge_unreached.Given as goal
+
+abbrev pub invariant-calls : goal.invariant-calls
+invariant-calls g l = record {
+  judged : Told (ServesOn (idle l.initial.next (now_of l.initial.held)) (idle l.next (now_of l.held)))
+      (outer_of (g.E.Edge.told l.initial.edge) (g.E.Edge.heard l.initial.edge)) (outer_of (g.E.Edge.told l.edge) (g.E.Edge.heard l.edge));
+  held : IsHeld l.held;
+  instance : IsOf l.next l.held;
+  turns : l.held.turns ≡ l.initial.held.turns;
+  to : l.next.place.to ≡ l.initial.next.place.to;
+  size : g.E.Edge.extent l.edge ≡ l.next.place.to;
+  later : Later (g.E.Edge.faults l.initial.edge) (g.E.Edge.faults l.edge);
+  kept : g.E.Edge.extent l.edge ≡ g.E.Edge.extent l.initial.edge;
+}
+
+abbrev pub decreases-calls : goal.decreases-calls
+decreases-calls g l = work_left (left_on l.next) l.held.unreached.items

@@ -1,0 +1,20 @@
+use Rattle.std.proofs.Common.{◌≡◌, []}
+use Rattle.iss_edge.specs.World.{Told, Later}
+use Rattle.iss_edge.specs.Outer.{outer_of}
+use Rattle.iss_serve.specs.Held.{now_of, idle, IsHeld, IsOf}
+use Rattle.iss_serve.specs.Runs.{ServesOn}
+use Rattle.iss_serve.proofs.running.wait_on.Given as goal
+
+abbrev pub invariant-turns : goal.invariant-turns
+invariant-turns g l = record {
+  waited : Told (ServesOn (idle l.initial.next (now_of l.initial.held)) (idle l.next (now_of l.held)))
+      (outer_of (g.E.Edge.told l.initial.edge) (g.E.Edge.heard l.initial.edge)) (outer_of (g.E.Edge.told l.edge) (g.E.Edge.heard l.edge));
+  held : IsHeld l.held;
+  instance : IsOf l.next l.held;
+  settled : l.held.unreached.items ≡ [];
+  size : g.E.Edge.extent l.edge ≡ l.next.place.to;
+  later : Later (g.E.Edge.faults l.initial.edge) (g.E.Edge.faults l.edge);
+}
+
+abbrev pub decreases-turns : goal.decreases-turns
+decreases-turns g l = l.held.turns

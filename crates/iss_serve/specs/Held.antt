@@ -1,0 +1,134 @@
+-- What is held while a run serves, as a session of the definitions of serving.
+use Rattle.std.specs.Prelude.{◌≡◌, ◌-◌, ◌||◌, ℕ, Bool, List, [], ◌∷◌, ◌++◌, map, length, Option, Some, None, IsTrue, if◌then◌else◌}
+use Rattle.std.specs.List.{flat_map}
+use Rattle.iss_edge.specs.declared.outside.Channel.{Channel}
+use Rattle.iss_model.specs.declared.call.CallId.{CallId}
+use Rattle.iss_model.specs.declared.input.Input.TheVariants as input
+use Rattle.iss_model.specs.declared.input.Outcome.TheVariants.{Connection}
+use Rattle.iss_model.specs.declared.input.Record.{Record}
+use Rattle.iss_model.specs.Forms.{is_in_form, is_stamp}
+use Rattle.iss_model.specs.rules.Histories.{history_of}
+use Rattle.iss_serving.specs.Desks.{Task, Waiter, desk_with}
+use Rattle.iss_serving.specs.Sessions.{Session, Queued, Reader, unasked}
+use Rattle.iss_serving.specs.Hearings.{is_reading, is_waiting, is_linked, links_of}
+use Rattle.iss_link.specs.Values.{LinksNow}
+use Rattle.iss_link.specs.declared.gone.Gone as link
+use Rattle.iss_link.specs.declared.gone.Gone.TheVariants.{Asked, Noted, Unreached}
+use Rattle.iss_store.specs.Values.{StoreNow, room_of}
+use Rattle.iss_store.specs.Serving.{all_gone}
+use Rattle.iss_serve.specs.declared.held.Held.{Held}
+use Rattle.iss_serve.specs.declared.held.Queued as code
+
+-- what is held: clients whose requests aren't whole, clients that wait, links, calls that weren't reached, the time that came last, and how many
+-- waits are left
+pub record HeldNow : Type 0 where
+  pub clients : List Reader
+  pub served : List Waiter
+  pub links : LinksNow
+  pub unreached : List CallId
+  pub clock : ℕ
+  pub turns : ℕ
+
+abbrev pub now_of : Held → HeldNow
+now_of h =
+    record { clients = h.clients; served = h.served; links = h.links; unreached = h.unreached.items; clock = h.clock; turns = h.turns }
+
+-- an input with its client's channel, as the definitions have it
+abbrev pub queued_as : code.Queued → Queued
+queued_as q = record { input = q.input; client = q.client }
+
+-- the inputs that are to be judged first
+abbrev pub queued_maybe : Option code.Queued → List Queued
+queued_maybe None = []
+queued_maybe (Some q) = queued_as q ∷ []
+
+-- the input is in form
+abbrev pub IsQueuedInForm : code.Queued → Type 0
+IsQueuedInForm q = IsTrue (is_in_form q.input)
+
+-- a call that wasn't reached has its answer
+abbrev pub answer_unreached : CallId → Queued
+answer_unreached call = unasked (input.Answer call Connection)
+
+-- the answers of these calls
+abbrev pub answers_unreached : List CallId → List Queued
+answers_unreached calls = map answer_unreached calls
+
+-- what stands while a run serves: the store, what is held, the channel that is to be taken from, the inputs that are judged before the answers
+-- of calls that weren't reached, and the texts that are to go out
+pub record Stage : Type 0 where
+  pub store : StoreNow
+  pub held : HeldNow
+  pub ready : Option Channel
+  pub first : List Queued
+  pub tasks : List Task
+
+-- these inputs are to be judged first, and no text is to go out
+abbrev pub to_judge : StoreNow → HeldNow → List Queued → Stage
+to_judge s h first = record { store = s; held = h; ready = None; first = first; tasks = [] }
+
+-- nothing is to be judged first
+abbrev pub idle : StoreNow → HeldNow → Stage
+idle s h = to_judge s h []
+
+-- these texts are to go out, and then these inputs are to be judged first
+abbrev pub sending : StoreNow → HeldNow → List Queued → List Task → Stage
+sending s h first tasks = record { store = s; held = h; ready = None; first = first; tasks = tasks }
+
+-- a channel is to be taken from
+abbrev pub taking : StoreNow → HeldNow → Channel → Stage
+taking s h ch = record { store = s; held = h; ready = Some ch; first = []; tasks = [] }
+
+-- the channel is a client's that isn't answered yet, or a link
+abbrev pub listens_to : HeldNow → Channel → Bool
+listens_to h ch = is_reading ch h.clients || is_waiting ch h.served || is_linked ch h.links.links
+
+-- a wait brought that this channel is ready
+abbrev pub arrived : StoreNow → HeldNow → Channel → Stage
+arrived s h ch = record { store = s; held = h; ready = (if listens_to h ch then Some ch else None); first = []; tasks = [] }
+
+-- the session that stands, where the store stands for these records
+abbrev pub session_at : Stage → List Record → Session
+session_at x rs =
+    record {
+      run = record { instance = x.store.core.instance; room = room_of x.store; history = history_of rs };
+      clock = x.held.clock;
+      turns = x.held.turns;
+      ready = x.ready;
+      readers = x.held.clients;
+      links = x.held.links.links;
+      queue = x.first ++ answers_unreached x.held.unreached;
+      desk = desk_with x.tasks x.held.served;
+    }
+
+-- the calls that weren't reached
+abbrev pub call_unreached : link.Gone → List CallId
+call_unreached (Asked opened ch) = []
+call_unreached (Noted number ch) = []
+call_unreached (Unreached call) = call ∷ []
+
+-- what became of these messages to the gateway was noted: the links that are watched then, and the calls that weren't reached
+abbrev pub noted : List link.Gone → HeldNow → HeldNow
+noted gone h =
+    record h {
+      links = record h.links { links = h.links.links ++ flat_map links_of (all_gone gone) };
+      unreached = h.unreached ++ flat_map call_unreached gone;
+    }
+
+-- the time is a stamp, and there is room for what a take brings
+pub record IsHeld (h : Held) : Type 0 where
+  pub clock : IsTrue (is_stamp h.clock)
+  pub room : length h.buffer.items ≡ 4096
+
+-- the time and the room are as before
+pub record IsStillHeld (before after : Held) : Type 0 where
+  pub clock : after.clock ≡ before.clock
+  pub room : length after.buffer.items ≡ length before.buffer.items
+
+-- the links are those of the store's instance
+abbrev pub IsOf : StoreNow → Held → Type 0
+IsOf s h = h.links.instance ≡ s.core.instance
+
+-- how many bytes are left behind the end gate
+abbrev pub left_on : StoreNow → ℕ
+left_on s = s.place.to - s.place.gate

@@ -1,0 +1,46 @@
+-- What judging an input leaves, and what it is planned for.
+use Rattle.std.specs.Prelude.{◌≡◌, ◌⊎◌, ◌<◌, ℕ, Bool, true, false, List, [], ◌∷◌, ◌++◌, Ok}
+use Rattle.iss_model.specs.declared.input.Input.{Input}
+use Rattle.iss_model.specs.declared.input.Record.{Record}
+use Rattle.iss_model.specs.Inputs.{event_token}
+use Rattle.iss_model.specs.rules.Histories.{history_keeper, history_of}
+use Rattle.iss_model.specs.rules.Judging.{judge}
+use Rattle.iss_model.specs.run.Rooms.{judgement_within}
+use Rattle.iss_serving.specs.Judgements.{waiters_of}
+use Rattle.iss_serving.specs.Sessions.{Queued}
+use Rattle.iss_store.specs.Values.{StoreNow, Plan, room_of}
+use Rattle.iss_store.specs.Planning.{Plans}
+use Rattle.iss_store.specs.Standing.{StandsFor}
+use Rattle.iss_serve.specs.declared.held.Held.{Held}
+use Rattle.iss_serve.specs.Held.{HeldNow, IsHeld, IsOf, left_on}
+
+-- An input was judged: a record was made, so that less is left of the device, or no call more has an answer that is to be judged.
+pub record Judges (store next : StoreNow) (before after : Held) : Type 0 where
+  pub held : IsHeld after
+  pub instance : IsOf next after
+  pub turns : after.turns ≡ before.turns
+  pub to : next.place.to ≡ store.place.to
+  pub moves : (left_on next < left_on store) ⊎ ((left_on next ≡ left_on store) × (after.unreached.items ≡ before.unreached.items))
+
+-- All inputs were judged: no call has an answer that is to be judged.
+pub record Settles (store next : StoreNow) (before after : Held) : Type 0 where
+  pub held : IsHeld after
+  pub instance : IsOf next after
+  pub turns : after.turns ≡ before.turns
+  pub to : next.place.to ≡ store.place.to
+  pub settled : after.unreached.items ≡ []
+
+-- an input is to be judged again before these, or no more
+abbrev pub judged_again : Bool → Queued → List Queued → List Queued
+judged_again true q rest = q ∷ rest
+judged_again false q rest = rest
+
+-- the client of a new event waits; where a time record goes before an answer, nobody does
+abbrev pub waiting_for : Queued → Bool → HeldNow → HeldNow
+waiting_for q true h = h
+waiting_for q false h = record h { served = h.served ++ waiters_of q.client (event_token q.input) }
+
+-- whatever records the store stands for, this plan is what judging the input at this time comes to
+pub record IsPlannedFor (s : StoreNow) (at : ℕ) (i : Input) (p : Plan) : Type 0 where
+  pub on_book : (rs : List Record) → StandsFor s rs
+      → Plans (judgement_within (room_of s) rs (judge history_keeper (history_of rs) i at)) (Ok p)

@@ -1,0 +1,131 @@
+-- What a run that serves does, whatever status it ends with.
+use Rattle.std.specs.Prelude.{◌≡◌, ℕ, zero, suc, ◌≤◌, ◌⊎◌, false, true, List, [], ◌∷◌, ◌++◌, Some, Result, Ok, Err, IfErr}
+use Rattle.iss_edge.specs.declared.outside.Channel.{Channel}
+use Rattle.iss_edge.specs.declared.outside.Arrival.TheVariants.{Client}
+use Rattle.iss_edge.specs.declared.outside.Answered.TheVariants.{Waited}
+use Rattle.iss_edge.specs.Outer.{Outer}
+use Rattle.iss_edge.specs.World.{World, Faults, Later, Rose, sent_on}
+use Rattle.iss_edge.specs.Stretches.{Step, actions_of}
+use Rattle.iss_model.specs.declared.input.Record.{Record}
+use Rattle.iss_model.specs.rules.Histories.{IsLegal}
+use Rattle.iss_serving.specs.Items.{Item, Happening, hears, answers_of}
+use Rattle.iss_serving.specs.Sessions.{Session, session_of}
+use Rattle.iss_serving.specs.Happenings.{session_after, session_steps, last_steps, Fits, IsComplete}
+use Rattle.iss_serving.specs.Accepted.{session_records}
+use Rattle.iss_serving.specs.Openings.{left_open}
+use Rattle.iss_serving.specs.Turns.{waits_in}
+use Rattle.iss_sessions.specs.Program.{program_readers}
+use Rattle.iss_store.specs.Standing.{DeviceStandsFor}
+use Rattle.iss_store.specs.Opening.{AreOnDevice}
+use Rattle.iss_device.specs.Runs.{run_on_device}
+use Rattle.iss_device.specs.Moments.{EachMoment}
+use Rattle.iss_serve.specs.declared.fault.ServeFault.{ServeFault}
+use Rattle.iss_serve.specs.declared.fault.ServeFault.TheVariants.{Device, Wait, Disk, OutOfMemory}
+use Rattle.iss_serve.specs.Goings.{channel_steps}
+
+-- the exit status of a run that serves
+abbrev pub status_of : {A : Type 0} → Result A ServeFault → ℕ
+status_of (Ok done) = 0
+status_of (Err Wait) = 3
+status_of (Err Device) = 4
+status_of (Err Disk) = 6
+status_of (Err OutOfMemory) = 7
+
+-- the session with which a run begins on a device of this instance that stands for these records, with so many waits to come
+abbrev pub session_on_device : ℕ → ℕ → List Record → List ℕ → Session
+session_on_device turns instance rs device = session_of (run_on_device instance rs device) turns
+
+-- the session once this happened
+abbrev pub session_then : Session → List Happening → Session
+session_then s happenings = session_after program_readers s happenings
+
+-- what the session does in this, each text at its level: how many records stand when it is to go out
+abbrev pub steps_said : Session → List Happening → List Step
+steps_said s happenings = session_steps program_readers s happenings
+
+-- the same, and then the closes of all channels that are still open
+abbrev pub all_steps_said : Session → List Happening → List Step
+all_steps_said s happenings = steps_said s happenings ++ last_steps (session_then s happenings)
+
+-- the records that stood, and those that the session makes
+abbrev pub records_then : List Record → Session → List Happening → List Record
+records_then rs s happenings = rs ++ session_records program_readers s happenings
+
+-- some of what was said was done, in its order, and then no more
+pub record IsDoneInPart (said done : List Step) : Type 0 where
+  pub undone : List Step
+  pub cut : said ≡ done ++ undone
+
+-- What was done on channels by a run with this status: at 0 all that its session says, and then the last closes; else that, or a first part of it.
+abbrev pub DoneAt : ℕ → Session → List Happening → List Step → Type 0
+DoneAt zero s happenings done = done ≡ all_steps_said s happenings
+DoneAt (suc status) s happenings done = IsDoneInPart (steps_said s happenings) done
+
+-- the bytes that were to go out on a channel did, or a prefix of them
+pub record SentInPart (ch : ℕ) (said : List Step) (a b : World) : Type 0 where
+  pub unsent : List ℕ
+  pub sent : sent_on ch a.trace ++ sent_on ch (actions_of said) ≡ sent_on ch b.trace ++ unsent
+
+-- No channel is left open that was dialled or sent on, and none that a client came on: each was closed, and behind that nothing was sent on it.
+pub record AllClosed (s : Session) (happenings : List Happening) : Type 0 where
+  pub dialled : (n : ℕ) → left_open n false (actions_of (all_steps_said s happenings)) ≡ false
+  pub clients : (before after : List Happening) (item : Item) (ch : Channel) → item.answer ≡ Waited (Some (Client ch)) → happenings ≡ before ++ hears item ∷ after
+      → left_open ch.0 true (actions_of (all_steps_said (session_then s (before ++ hears item ∷ [])) after)) ≡ false
+
+-- What a run did that served to its end: nothing was left to hear, each channel has exactly the bytes that the session says, each was closed
+-- behind its last bytes, and the device stands for the records that stood and those that the session made.
+pub record ServedWhole (instance : ℕ) (rs : List Record) (s : Session) (happenings : List Happening) (a b : World) : Type 0 where
+  pub complete : IsComplete (session_then s happenings)
+  pub sent : (ch : ℕ) → sent_on ch b.trace ≡ sent_on ch a.trace ++ sent_on ch (actions_of (steps_said s happenings))
+  pub closed : AllClosed s happenings
+  pub stands : DeviceStandsFor instance (records_then rs s happenings) b.device
+
+-- What a run with this status and so many turns did that began with the session s, on a device that stands for these records. What it heard
+-- is what its session called for, in at most so many waits. The opening of the device writes to it and syncs it, and no more. What was done
+-- on channels behind it is what the session says, or a first part of it; and so are the bytes on each channel. At whatever moment it stops, the device stands for the records
+-- that stood and a first part of those that the session makes, all of them legal, at least as many as the level of each text of which a
+-- byte went out. At 0 all of it was done.
+pub record ServeOn (turns status instance : ℕ) (rs : List Record) (s : Session) (a b : Outer) : Type 0 where
+  pub happenings : List Happening
+  pub heard : b.heard ≡ a.heard ++ answers_of happenings
+  pub fits : Fits program_readers s happenings
+  pub waits : waits_in happenings ≤ turns
+  pub opening : List Step
+  pub later : List Step
+  pub opening_alone : AreOnDevice (actions_of opening)
+  pub grew : b.world.trace ≡ a.world.trace ++ actions_of (opening ++ later)
+  pub done : DoneAt status s happenings (channel_steps (opening ++ later))
+  pub sent : (ch : ℕ) → SentInPart ch (steps_said s happenings) a.world b.world
+  pub legal : IsLegal (records_then rs s happenings)
+  pub moments : EachMoment instance rs (records_then rs s happenings) opening later a.world.device
+  pub whole : status ≡ 0 → ServedWhole instance rs s happenings a.world b.world
+  pub other_device : status ≡ 4 → ⊥
+
+-- whichever records the device stands for, if any
+abbrev pub ServeRun : ℕ → ℕ → Outer → Outer → Type 0
+ServeRun turns status a b =
+    (instance : ℕ) (rs : List Record) → DeviceStandsFor instance rs a.world.device
+    → ServeOn turns status instance rs (session_on_device turns instance rs a.world.device) a b
+
+-- what holds of the worlds, where what was heard is told beside them
+abbrev pub OfWorlds : (World → World → Type 0) → Outer → Outer → Type 0
+OfWorlds R a b = R a.world b.world
+
+-- why a run that serves may end early: clients' channels and those to the gateway may fail without that
+abbrev pub EndingCause : Faults → Faults → ServeFault → Type 0
+EndingCause before now Device = Unit {0}
+EndingCause before now Wait = Rose before.input now.input
+EndingCause before now Disk = Rose before.disk now.disk
+EndingCause before now OutOfMemory = Unit {0}
+
+-- no count has fallen, and a run ended early for a cause
+pub record EndsCaused {A : Type 0} (before now : Faults) (result : Result A ServeFault) : Type 0 where
+  pub later : Later before now
+  pub cause : IfErr result (EndingCause before now)
+
+-- where no count on the device or on input rose, and the device stands for records, the status is 0 or 7; peers and links may fail
+abbrev pub ServeEndsWell : Faults → Faults → ℕ → World → World → Type 0
+ServeEndsWell before now status a b =
+    (instance : ℕ) (rs : List Record) → DeviceStandsFor instance rs a.device
+    → (Rose before.disk now.disk → ⊥) → (Rose before.input now.input → ⊥)
+    → (status ≡ 0) ⊎ (status ≡ 7)

@@ -1,0 +1,39 @@
+//! The end of a run that serves: every channel that is still open is closed.
+ghost use Rattle.std.specs.Prelude.{[], map, OnOk, OnErr};
+ghost use Rattle.iss_edge.specs.declared.outside.Action.TheVariants.{Close};
+ghost use Rattle.iss_edge.specs.World.{Told, Later};
+ghost use Rattle.iss_edge.specs.Outer.{outer_of, Adds};
+ghost use Rattle.iss_serve.specs.Closings.{open_channels};
+ghost use Rattle.iss_serve.specs.Held.{now_of};
+
+use crate::held::Held;
+use iss_edge::{Channel, Edge};
+use std::alloc::{AllocError, Global};
+
+/// Closes the clients whose requests aren't whole, the clients that wait, and the channels to the gateway.
+pub(crate) fn close_all<E: Edge>(alloc: Global, held: &Held, edge: &mut E) -> Result<(), AllocError>
+    ensures closed { OnOk result (Told (Adds (map Close (open_channels (now_of held.now))) [])
+        (outer_of (E.told edge.old) (E.heard edge.old)) (outer_of (E.told edge.new) (E.heard edge.new))) }
+    ensures unchanged { OnErr result (Told (Adds [] [])
+        (outer_of (E.told edge.old) (E.heard edge.old)) (outer_of (E.told edge.new) (E.heard edge.new))) }
+    ensures later { Later (E.faults edge.old) (E.faults edge.new) }
+{
+    let reading = held.clients.channels(alloc)?;
+    let waiting = held.served.channels(alloc)?;
+    let linked = held.links.channels(alloc)?;
+    close_each(edge, &reading);
+    close_each(edge, &waiting);
+    close_each(edge, &linked);
+    Ok(())
+}
+
+/// Closes these channels.
+fn close_each<E: Edge>(edge: &mut E, channels: &[Channel])
+    ensures closed { Told (Adds (map Close channels.now) [])
+        (outer_of (E.told edge.old) (E.heard edge.old)) (outer_of (E.told edge.new) (E.heard edge.new)) }
+    ensures later { Later (E.faults edge.old) (E.faults edge.new) }
+{
+    for ch in channels {
+        edge.close(*ch);
+    }
+}

@@ -1,0 +1,320 @@
+//! What a wait brings: a client, a channel that is ready, the time, or nothing.
+ghost use Rattle.std.specs.Prelude.{◌≡◌, ◌<◌, ◌≤◌, ℕ, List, [], ◌∷◌, Some, None, true, false, length, IfOk, OnErr, IfSome, IsSome};
+ghost use Rattle.iss_edge.specs.declared.outside.Action.TheVariants.{Close};
+ghost use Rattle.iss_edge.specs.declared.outside.Answered.TheVariants.{Took};
+ghost use Rattle.iss_edge.specs.World.{Told, Later};
+ghost use Rattle.iss_edge.specs.Outer.{outer_of, Adds};
+ghost use Rattle.iss_model.specs.declared.input.Input.TheVariants as input_of;
+ghost use Rattle.iss_serving.specs.Desks.{Task, Waiter, to_reply, desk_with, waiters_without};
+ghost use Rattle.iss_serving.specs.Hearings.{is_reading, is_waiting, link_at, inputs_of, readers_without};
+ghost use Rattle.iss_serving.specs.Sendings.{Sends};
+ghost use Rattle.iss_link.specs.Hearing.{got_in};
+ghost use Rattle.iss_serving.specs.Sessions.{unasked};
+ghost use Rattle.iss_link.specs.Values.{heard_of};
+ghost use Rattle.iss_store.specs.Values.{StoreNow};
+ghost use Rattle.iss_serve.specs.Causes.{IsServeCaused};
+ghost use Rattle.iss_serve.specs.Held.{now_of, queued_maybe, queued_as, IsQueuedInForm, idle, to_judge, taking, arrived, IsHeld, IsStillHeld, IsOf};
+ghost use Rattle.iss_serve.specs.Runs.{ServesOn, ServesSome};
+
+use crate::ServeFault;
+use crate::held::{Held, Queued};
+use crate::requests::Request;
+use iss_edge::{Arrival, Channel, Edge};
+use iss_link::Heard;
+use iss_model::limits::LAST_STAMP;
+use iss_model::{CallId, Input, Outcome};
+use iss_store::reply;
+use std::alloc::{AllocError, Global};
+
+impl Held {
+    /// Waits once, takes in what came, and gives the input that is to be judged for it.
+    pub(crate) fn hear<E: Edge>(
+        &mut self,
+        alloc: Global,
+        edge: &mut E,
+    ) -> Result<Option<Queued>, ServeFault>
+        requires held { IsHeld self.old }
+        requires settled { self.old.unreached.items ≡ [] }
+        requires turns { 0 < self.old.turns }
+        ensures held { IfOk result (λ heard. IsHeld self.new) }
+        ensures settled { IfOk result (λ heard. self.new.unreached.items ≡ []) }
+        ensures instance { IfOk result (λ heard. self.new.links.instance ≡ self.old.links.instance) }
+        ensures turns { IfOk result (λ heard. self.new.turns < self.old.turns) }
+        ensures forms { IfOk result (λ heard. IfSome heard IsQueuedInForm) }
+        ensures hears { (store : StoreNow) → IsOf store self.old
+            → IfOk result (λ heard. Told (ServesOn (idle store (now_of self.old)) (to_judge store (now_of self.new) (queued_maybe heard)))
+            (outer_of (E.told edge.old) (E.heard edge.old)) (outer_of (E.told edge.new) (E.heard edge.new))) }
+        ensures part { (store : StoreNow) → IsOf store self.old
+            → OnErr result (Told (ServesSome (idle store (now_of self.old)))
+            (outer_of (E.told edge.old) (E.heard edge.old)) (outer_of (E.told edge.new) (E.heard edge.new))) }
+        ensures caused { IsServeCaused (E.faults edge.old) (E.faults edge.new) result }
+        ensures kept { E.extent edge.new ≡ E.extent edge.old }
+    {
+        self.turns -= 1;
+        let Ok(arrival) = edge.wait() else {
+            return Err(ServeFault::Wait);
+        };
+        match arrival {
+            Arrival::Client(ch) => {
+                self.clients.add(alloc, ch)?;
+                Ok(None)
+            }
+            Arrival::Ready(ch) => Ok(self.take(alloc, edge, ch)?),
+            Arrival::Time(at) => {
+                self.clock = at.min(LAST_STAMP);
+                Ok(Some(unasked(Input::Time)))
+            }
+            Arrival::Idle => Ok(None),
+            Arrival::End => {
+                self.turns = 0;
+                Ok(None)
+            }
+        }
+    }
+
+    /// Takes from a channel that is ready. One that nobody listens to is passed over.
+    fn take<E: Edge>(
+        &mut self,
+        alloc: Global,
+        edge: &mut E,
+        ch: Channel,
+    ) -> Result<Option<Queued>, AllocError>
+        requires held { IsHeld self.old }
+        requires settled { self.old.unreached.items ≡ [] }
+        requires ready { (E.channels edge.old).ready ≡ Some ch.0 }
+        ensures still { IfOk result (λ heard. IsStillHeld self.old self.new) }
+        ensures settled { IfOk result (λ heard. self.new.unreached.items ≡ []) }
+        ensures instance { IfOk result (λ heard. self.new.links.instance ≡ self.old.links.instance) }
+        ensures turns { IfOk result (λ heard. self.new.turns ≡ self.old.turns) }
+        ensures forms { IfOk result (λ heard. IfSome heard IsQueuedInForm) }
+        ensures hears { (store : StoreNow) → IsOf store self.old
+            → IfOk result (λ heard. Told (ServesOn (arrived store (now_of self.old) ch) (to_judge store (now_of self.new) (queued_maybe heard)))
+            (outer_of (E.told edge.old) (E.heard edge.old)) (outer_of (E.told edge.new) (E.heard edge.new))) }
+        ensures part { (store : StoreNow) → IsOf store self.old
+            → OnErr result (Told (ServesSome (arrived store (now_of self.old) ch))
+            (outer_of (E.told edge.old) (E.heard edge.old)) (outer_of (E.told edge.new) (E.heard edge.new))) }
+        ensures later { Later (E.faults edge.old) (E.faults edge.new) }
+        ensures kept { E.extent edge.new ≡ E.extent edge.old }
+    {
+        let is_link = self.links.state(ch).is_some();
+        if self.clients.is_reading(ch) {
+            // A client comes on a channel that isn't open. One that is a link counts for want of memory here.
+            if is_link {
+                return Err(AllocError);
+            }
+            return self.take_request(alloc, edge, ch);
+        }
+        if self.served.waits(ch) {
+            self.pass_over(edge, ch);
+            return Ok(None);
+        }
+        if is_link {
+            return self.take_answer(alloc, edge, ch);
+        }
+        Ok(None)
+    }
+
+    /// Takes from a client whose request isn't whole. One that fails or ends early is closed.
+    fn take_request<E: Edge>(
+        &mut self,
+        alloc: Global,
+        edge: &mut E,
+        ch: Channel,
+    ) -> Result<Option<Queued>, AllocError>
+        requires reading { is_reading ch self.old.clients ≡ true }
+        requires unlinked { link_at ch self.old.links.links ≡ None }
+        requires held { IsHeld self.old }
+        requires settled { self.old.unreached.items ≡ [] }
+        requires ready { (E.channels edge.old).ready ≡ Some ch.0 }
+        ensures still { IfOk result (λ heard. IsStillHeld self.old self.new) }
+        ensures settled { IfOk result (λ heard. self.new.unreached.items ≡ []) }
+        ensures instance { IfOk result (λ heard. self.new.links.instance ≡ self.old.links.instance) }
+        ensures turns { IfOk result (λ heard. self.new.turns ≡ self.old.turns) }
+        ensures forms { IfOk result (λ heard. IfSome heard IsQueuedInForm) }
+        ensures hears { (store : StoreNow)
+            → IfOk result (λ heard. Told (ServesOn (taking store (now_of self.old) ch) (to_judge store (now_of self.new) (queued_maybe heard)))
+            (outer_of (E.told edge.old) (E.heard edge.old)) (outer_of (E.told edge.new) (E.heard edge.new))) }
+        ensures part { (store : StoreNow) → OnErr result (Told (ServesSome (taking store (now_of self.old) ch))
+            (outer_of (E.told edge.old) (E.heard edge.old)) (outer_of (E.told edge.new) (E.heard edge.new))) }
+        ensures later { Later (E.faults edge.old) (E.faults edge.new) }
+        ensures kept { E.extent edge.new ≡ E.extent edge.old }
+    {
+        let Some(count) = take_piece(edge, ch, &mut self.buffer) else {
+            self.lose_client(edge, ch);
+            return Ok(None);
+        };
+        if count == 0 {
+            self.lose_client(edge, ch);
+            return Ok(None);
+        }
+        match self.clients.read(alloc, ch, &self.buffer[..count])? {
+            Request::More => Ok(None),
+            Request::Says(input) => Ok(Some(Queued {
+                input,
+                client: Some(ch),
+            })),
+            Request::Bad(text) => {
+                self.answer_client(edge, ch, &text);
+                Ok(None)
+            }
+        }
+    }
+
+    /// A client whose request isn't whole is lost, and its channel is closed.
+    #[tactic(auto, using(iss_edge::proofs::Outers::told_closes))]
+    fn lose_client<E: Edge>(&mut self, edge: &mut E, ch: Channel)
+        ensures now { now_of self.new ≡ record (now_of self.old) { clients = readers_without ch self.old.clients } }
+        ensures still { IsStillHeld self.old self.new }
+        ensures told { Told (Adds (Close ch ∷ []) [])
+            (outer_of (E.told edge.old) (E.heard edge.old)) (outer_of (E.told edge.new) (E.heard edge.new)) }
+        ensures later { Later (E.faults edge.old) (E.faults edge.new) }
+        ensures kept { E.extent edge.new ≡ E.extent edge.old }
+    {
+        self.clients.remove(ch);
+        edge.close(ch);
+    }
+
+    /// A client gets its response, and its channel is closed.
+    pub(crate) fn answer_client<E: Edge>(&mut self, edge: &mut E, ch: Channel, text: &[u8])
+        ensures now { now_of self.new ≡ record (now_of self.old) { served = waiters_without ch self.old.served } }
+        ensures still { IsStillHeld self.old self.new }
+        ensures sends { (level : ℕ) → (tasks : List Task) → (waiting : List Waiter)
+            → Told (Sends level (desk_with (to_reply ch text.now ∷ tasks) waiting) (desk_with tasks (waiters_without ch waiting)) [])
+            (outer_of (E.told edge.old) (E.heard edge.old)) (outer_of (E.told edge.new) (E.heard edge.new)) }
+        ensures later { Later (E.faults edge.old) (E.faults edge.new) }
+        ensures kept { E.extent edge.new ≡ E.extent edge.old }
+    {
+        reply(edge, ch, text);
+        self.served.forget(ch);
+    }
+
+    /// Takes from a client that waits, and passes over what comes. One that fails is closed, and waits no longer.
+    fn pass_over<E: Edge>(&mut self, edge: &mut E, ch: Channel)
+        requires other { is_reading ch self.old.clients ≡ false }
+        requires waiting { is_waiting ch self.old.served ≡ true }
+        requires held { IsHeld self.old }
+        requires settled { self.old.unreached.items ≡ [] }
+        requires ready { (E.channels edge.old).ready ≡ Some ch.0 }
+        ensures still { IsStillHeld self.old self.new }
+        ensures settled { self.new.unreached.items ≡ [] }
+        ensures instance { self.new.links.instance ≡ self.old.links.instance }
+        ensures turns { self.new.turns ≡ self.old.turns }
+        ensures hears { (store : StoreNow) → Told (ServesOn (taking store (now_of self.old) ch) (idle store (now_of self.new)))
+            (outer_of (E.told edge.old) (E.heard edge.old)) (outer_of (E.told edge.new) (E.heard edge.new)) }
+        ensures later { Later (E.faults edge.old) (E.faults edge.new) }
+        ensures kept { E.extent edge.new ≡ E.extent edge.old }
+    {
+        match take_piece(edge, ch, &mut self.buffer) {
+            Some(_) => {}
+            None => self.lose_waiter(edge, ch),
+        }
+    }
+
+    /// A client that waits is lost, and its channel is closed.
+    #[tactic(auto, using(iss_edge::proofs::Outers::told_closes))]
+    fn lose_waiter<E: Edge>(&mut self, edge: &mut E, ch: Channel)
+        ensures now { now_of self.new ≡ record (now_of self.old) { served = waiters_without ch self.old.served } }
+        ensures still { IsStillHeld self.old self.new }
+        ensures told { Told (Adds (Close ch ∷ []) [])
+            (outer_of (E.told edge.old) (E.heard edge.old)) (outer_of (E.told edge.new) (E.heard edge.new)) }
+        ensures later { Later (E.faults edge.old) (E.faults edge.new) }
+        ensures kept { E.extent edge.new ≡ E.extent edge.old }
+    {
+        self.served.forget(ch);
+        edge.close(ch);
+    }
+
+    /// Takes from a channel on which the gateway's answer is awaited.
+    fn take_answer<E: Edge>(
+        &mut self,
+        alloc: Global,
+        edge: &mut E,
+        ch: Channel,
+    ) -> Result<Option<Queued>, AllocError>
+        requires no_client { is_reading ch self.old.clients ≡ false }
+        requires none_waits { is_waiting ch self.old.served ≡ false }
+        requires watched { IsSome (link_at ch self.old.links.links) }
+        requires settled { self.old.unreached.items ≡ [] }
+        requires ready { (E.channels edge.old).ready ≡ Some ch.0 }
+        ensures still { IfOk result (λ heard. IsStillHeld self.old self.new) }
+        ensures settled { IfOk result (λ heard. self.new.unreached.items ≡ []) }
+        ensures instance { IfOk result (λ heard. self.new.links.instance ≡ self.old.links.instance) }
+        ensures turns { IfOk result (λ heard. self.new.turns ≡ self.old.turns) }
+        ensures forms { IfOk result (λ heard. IfSome heard IsQueuedInForm) }
+        ensures hears { (store : StoreNow) → IsOf store self.old
+            → IfOk result (λ heard. Told (ServesOn (taking store (now_of self.old) ch) (to_judge store (now_of self.new) (queued_maybe heard)))
+            (outer_of (E.told edge.old) (E.heard edge.old)) (outer_of (E.told edge.new) (E.heard edge.new))) }
+        ensures part { (store : StoreNow) → IsOf store self.old
+            → OnErr result (Told (ServesSome (taking store (now_of self.old) ch))
+            (outer_of (E.told edge.old) (E.heard edge.old)) (outer_of (E.told edge.new) (E.heard edge.new))) }
+        ensures later { Later (E.faults edge.old) (E.faults edge.new) }
+        ensures kept { E.extent edge.new ≡ E.extent edge.old }
+    {
+        let heard = self.links.ready(alloc, edge, ch)?;
+        let said = queued_of(&heard)?;
+        Ok(said)
+    }
+}
+
+/// Takes the next bytes of a channel that is ready, none at their end, and gives how many came. `None` where it failed.
+#[tactic(auto, using(iss_edge::proofs::Outers::told_takes, iss_edge::proofs::Outers::told_untaken))]
+fn take_piece<E: Edge>(edge: &mut E, ch: Channel, buffer: &mut [u8]) -> Option<usize>
+    requires ready { (E.channels edge.old).ready ≡ Some ch.0 }
+    requires room { length buffer.old ≡ 4096 }
+    ensures room { length buffer.new ≡ 4096 }
+    ensures bound { IfSome result (λ count. count ≤ length buffer.new) }
+    ensures told { Told (Adds [] (Took ch (got_in buffer.new result) ∷ []))
+        (outer_of (E.told edge.old) (E.heard edge.old)) (outer_of (E.told edge.new) (E.heard edge.new)) }
+    ensures later { Later (E.faults edge.old) (E.faults edge.new) }
+    ensures kept { E.extent edge.new ≡ E.extent edge.old }
+{
+    match edge.take(ch, buffer) {
+        Ok(count) => Some(count),
+        Err(_) => None,
+    }
+}
+
+/// What is to be judged once a link heard this.
+fn queued_of(heard: &Heard) -> Result<Option<Queued>, AllocError>
+    ensures queued { IfOk result (λ said. queued_maybe said ≡ inputs_of (heard_of heard.now)) }
+    ensures forms { IfOk result (λ said. IfSome said IsQueuedInForm) }
+{
+    match heard {
+        Heard::Nothing => Ok(None),
+        Heard::Outcome(call, outcome) => Ok(Some(answer(*call, *outcome)?)),
+        Heard::Acked(notice) => Ok(Some(ack(*notice)?)),
+        Heard::Dropped(_) => Ok(None),
+    }
+}
+
+/// An input that no client sent.
+fn unasked(input: Input) -> Queued
+    ensures { queued_as result ≡ unasked input }
+{
+    Queued {
+        input,
+        client: None,
+    }
+}
+
+/// The answer of a call. Calls are numbered from 1: one without a number counts for want of memory here.
+pub(crate) fn answer(call: CallId, outcome: Outcome) -> Result<Queued, AllocError>
+    ensures said { IfOk result (λ q. queued_as q ≡ unasked (input_of.Answer call outcome)) }
+    ensures forms { IfOk result IsQueuedInForm }
+{
+    if call.0 == 0 {
+        return Err(AllocError);
+    }
+    Ok(unasked(Input::Answer { call, outcome }))
+}
+
+/// The acknowledgement of a notice, which has a number from 1 too.
+fn ack(notice: u32) -> Result<Queued, AllocError>
+    ensures said { IfOk result (λ q. queued_as q ≡ unasked (input_of.Ack notice)) }
+    ensures forms { IfOk result IsQueuedInForm }
+{
+    if notice == 0 {
+        return Err(AllocError);
+    }
+    Ok(unasked(Input::Ack { notice }))
+}

@@ -1,0 +1,113 @@
+//! What is held while a run serves.
+ghost use Rattle.std.specs.Prelude.{◌≡◌, ◌<◌, ◌^◌, ◌∷◌, ◌++◌, [], length, None, IfOk, OnOk};
+ghost use Rattle.iss_serving.specs.Hearings.{link_at, links_of};
+ghost use Rattle.iss_link.specs.Values.{gone_as, MayBeWatched};
+ghost use Rattle.iss_serve.specs.Held.{now_of, noted, IsHeld, IsStillHeld};
+
+use crate::clients::Clients;
+use iss_edge::Channel;
+use iss_link::{Gone, Links};
+use iss_model::{CallId, Input};
+use iss_store::Served;
+use std::alloc::{AllocError, Global};
+
+/// How many bytes a take may bring.
+const PIECE: usize = 4096;
+
+/// An input that is to be judged, and for a client's line the channel that it came on.
+#[derive(Drop)]
+pub(crate) struct Queued {
+    pub(crate) input: Input,
+    pub(crate) client: Option<Channel>,
+}
+
+/// What is held while a run serves.
+#[derive(Drop)]
+pub(crate) struct Held {
+    /// The clients whose requests aren't whole yet.
+    pub(crate) clients: Clients,
+    /// The clients that wait until their events are decided.
+    pub(crate) served: Served,
+    /// The channels on which the gateway's answers are awaited.
+    pub(crate) links: Links,
+    /// The calls that weren't reached: each has its answer, which is still to be judged.
+    pub(crate) unreached: Vec<CallId>,
+    /// The time that came last, in milliseconds since 1970.
+    pub(crate) clock: u64,
+    /// How many waits are left.
+    pub(crate) turns: u32,
+    /// What a take brings.
+    pub(crate) buffer: Vec<u8>,
+}
+
+impl Held {
+    /// Nothing is held, and so many waits are left.
+    pub(crate) fn new(alloc: Global, instance: u64, turns: u32) -> Result<Held, AllocError>
+        requires { instance < 2 ^ 48 }
+        ensures now { IfOk result (λ held. now_of held ≡ record {
+          clients = [];
+          served = [];
+          links = record { instance = instance; links = [] };
+          unreached = [];
+          clock = 0;
+          turns = turns;
+        }) }
+        ensures held { IfOk result IsHeld }
+    {
+        Ok(Held {
+            clients: Clients::new(alloc),
+            served: Served::new(alloc),
+            links: Links::new(alloc, instance)?,
+            unreached: Vec::new(alloc),
+            clock: 0,
+            turns,
+            buffer: zeros(alloc, PIECE)?,
+        })
+    }
+
+    /// Notes what became of messages to the gateway: the channels on which answers are awaited, and the calls that weren't reached.
+    pub(crate) fn note_all(&mut self, gone: &[Gone]) -> Result<(), AllocError>
+        ensures now { OnOk result (now_of self.new ≡ noted gone.now (now_of self.old)) }
+        ensures still { OnOk result (IsStillHeld self.old self.new) }
+    {
+        for one in gone {
+            self.note(one)?;
+        }
+        Ok(())
+    }
+
+    /// Notes what became of a message.
+    fn note(&mut self, gone: &Gone) -> Result<(), AllocError>
+        ensures now { OnOk result (now_of self.new ≡ noted (gone.now ∷ []) (now_of self.old)) }
+        ensures still { OnOk result (IsStillHeld self.old self.new) }
+    {
+        match gone {
+            Gone::Unreached(call) => {
+                self.unreached.push(*call)?;
+                Ok(())
+            }
+            Gone::Asked(_, ch) => watch(&mut self.links, gone, *ch),
+            Gone::Noted(_, ch) => watch(&mut self.links, gone, *ch),
+        }
+    }
+}
+
+/// Watches the channel on which a message went out.
+fn watch(links: &mut Links, gone: &Gone, ch: Channel) -> Result<(), AllocError>
+    requires { link_at ch links.old.links ≡ None → MayBeWatched links.old.links gone.now }
+    ensures { OnOk result (links.new ≡ record links.old { links = links.old.links ++ links_of (gone_as gone.now) }) }
+{
+    // A dial gives a channel that isn't open. One that is watched already counts for want of memory here.
+    if links.state(ch).is_some() {
+        return Err(AllocError);
+    }
+    links.watch(gone)
+}
+
+/// So many zeros.
+fn zeros(alloc: Global, size: usize) -> Result<Vec<u8>, AllocError>
+    ensures { IfOk result (λ bytes. length bytes.items ≡ size) }
+{
+    let bytes = vec![in alloc; 0; size]?;
+    Ok(bytes)
+}

@@ -1,0 +1,270 @@
+//! Inputs are judged one after the other. What a record makes lasts before anything of it goes out.
+ghost use Rattle.std.specs.Prelude.{◌≡◌, ◌<◌, ◌∷◌, List, [], true, IfOk, OnErr, OnOk};
+ghost use Rattle.iss_edge.specs.World.{Told, Later};
+ghost use Rattle.iss_edge.specs.Outer.{outer_of};
+ghost use Rattle.iss_serving.specs.Judgements.{answer_tasks};
+ghost use Rattle.iss_serving.specs.Sessions as session;
+ghost use Rattle.iss_store.specs.Planning.{IsPlanOf};
+ghost use Rattle.iss_store.specs.Saying.{IsDurableOf};
+ghost use Rattle.iss_store.specs.Serving.{tasks_of_record};
+ghost use Rattle.iss_serve.specs.Causes.{IsServeCaused};
+ghost use Rattle.iss_serve.specs.Held.{now_of, queued_as, answers_unreached, IsQueuedInForm, idle, to_judge, sending, IsHeld, IsStillHeld, IsOf, left_on};
+ghost use Rattle.iss_serve.specs.Judged.{Judges, Settles, judged_again, waiting_for, IsPlannedFor};
+ghost use Rattle.iss_serve.specs.Runs.{ServesOn, ServesSome};
+
+use crate::ServeFault;
+use crate::hearing::answer;
+use crate::held::{Held, Queued};
+use iss_edge::Edge;
+use iss_model::{Answer, CallId, Outcome};
+use iss_store::{Durable, PlanFault, Planned, Store};
+use std::alloc::{AllocError, Global};
+use std::mem;
+
+/// Judges an input, and then the answers of the calls that weren't reached, in their order.
+pub(crate) fn judge_all<E: Edge>(
+    alloc: Global,
+    store: Store,
+    held: &mut Held,
+    first: &Queued,
+    edge: &mut E,
+) -> Result<Store, ServeFault>
+    requires size { E.extent edge.old ≡ store.place.to }
+    requires held { IsHeld held.old }
+    requires instance { IsOf store held.old }
+    requires form { IsQueuedInForm first.now }
+    ensures judged { IfOk result (λ next. Told (ServesOn (to_judge store (now_of held.old) (queued_as first.now ∷ [])) (idle next (now_of held.new)))
+        (outer_of (E.told edge.old) (E.heard edge.old)) (outer_of (E.told edge.new) (E.heard edge.new))) }
+    ensures part { OnErr result (Told (ServesSome (to_judge store (now_of held.old) (queued_as first.now ∷ [])))
+        (outer_of (E.told edge.old) (E.heard edge.old)) (outer_of (E.told edge.new) (E.heard edge.new))) }
+    ensures settles { IfOk result (λ next. Settles store next held.old held.new) }
+    ensures caused { IsServeCaused (E.faults edge.old) (E.faults edge.new) result }
+    ensures kept { E.extent edge.new ≡ E.extent edge.old }
+{
+    let next = judge(alloc, store, held, first, edge)?;
+    judge_unreached(alloc, next, held, edge)
+}
+
+/// Judges the answers of the calls that weren't reached, in their order, and of those that weren't reached meanwhile.
+pub(crate) fn judge_unreached<E: Edge>(
+    alloc: Global,
+    store: Store,
+    held: &mut Held,
+    edge: &mut E,
+) -> Result<Store, ServeFault>
+    requires size { E.extent edge.old ≡ store.place.to }
+    requires held { IsHeld held.old }
+    requires instance { IsOf store held.old }
+    ensures judged { IfOk result (λ next. Told (ServesOn (idle store (now_of held.old)) (idle next (now_of held.new)))
+        (outer_of (E.told edge.old) (E.heard edge.old)) (outer_of (E.told edge.new) (E.heard edge.new))) }
+    ensures part { OnErr result (Told (ServesSome (idle store (now_of held.old)))
+        (outer_of (E.told edge.old) (E.heard edge.old)) (outer_of (E.told edge.new) (E.heard edge.new))) }
+    ensures settles { IfOk result (λ next. Settles store next held.old held.new) }
+    ensures caused { IsServeCaused (E.faults edge.old) (E.faults edge.new) result }
+    ensures kept { E.extent edge.new ≡ E.extent edge.old }
+{
+    let mut next = store;
+    'calls: while !held.unreached.is_empty() {
+        let calls = held.take_unreached(alloc);
+        next = judge_each(alloc, next, held, &calls, edge)?;
+    }
+    Ok(next)
+}
+
+/// Judges the answers of these calls, which weren't reached.
+fn judge_each<E: Edge>(
+    alloc: Global,
+    store: Store,
+    held: &mut Held,
+    calls: &[CallId],
+    edge: &mut E,
+) -> Result<Store, ServeFault>
+    requires size { E.extent edge.old ≡ store.place.to }
+    requires held { IsHeld held.old }
+    requires instance { IsOf store held.old }
+    ensures judged { IfOk result (λ next. Told (ServesOn (to_judge store (now_of held.old) (answers_unreached calls.now)) (idle next (now_of held.new)))
+        (outer_of (E.told edge.old) (E.heard edge.old)) (outer_of (E.told edge.new) (E.heard edge.new))) }
+    ensures part { OnErr result (Told (ServesSome (to_judge store (now_of held.old) (answers_unreached calls.now)))
+        (outer_of (E.told edge.old) (E.heard edge.old)) (outer_of (E.told edge.new) (E.heard edge.new))) }
+    ensures judges { IfOk result (λ next. Judges store next held.old held.new) }
+    ensures caused { IsServeCaused (E.faults edge.old) (E.faults edge.new) result }
+    ensures kept { E.extent edge.new ≡ E.extent edge.old }
+{
+    let mut next = store;
+    for call in calls {
+        let queued = answer(*call, Outcome::Connection)?;
+        next = judge(alloc, next, held, &queued, edge)?;
+    }
+    Ok(next)
+}
+
+/// Judges an input. Where a time record goes before its answer, that is made first, and the input is judged again.
+fn judge<E: Edge>(
+    alloc: Global,
+    store: Store,
+    held: &mut Held,
+    queued: &Queued,
+    edge: &mut E,
+) -> Result<Store, ServeFault>
+    requires size { E.extent edge.old ≡ store.place.to }
+    requires held { IsHeld held.old }
+    requires instance { IsOf store held.old }
+    requires form { IsQueuedInForm queued.now }
+    ensures judged { (rest : List session.Queued) → IfOk result (λ next. Told (ServesOn (to_judge store (now_of held.old) (queued_as queued.now ∷ rest)) (to_judge next (now_of held.new) rest))
+        (outer_of (E.told edge.old) (E.heard edge.old)) (outer_of (E.told edge.new) (E.heard edge.new))) }
+    ensures part { (rest : List session.Queued) → OnErr result (Told (ServesSome (to_judge store (now_of held.old) (queued_as queued.now ∷ rest)))
+        (outer_of (E.told edge.old) (E.heard edge.old)) (outer_of (E.told edge.new) (E.heard edge.new))) }
+    ensures judges { IfOk result (λ next. Judges store next held.old held.new) }
+    ensures caused { IsServeCaused (E.faults edge.old) (E.faults edge.new) result }
+    ensures kept { E.extent edge.new ≡ E.extent edge.old }
+{
+    let mut next = store;
+    'again: loop {
+        let (after, more) = judge_once(alloc, next, held, queued, edge)?;
+        next = after;
+        if !more {
+            return Ok(next);
+        }
+    }
+}
+
+/// Judges an input once, and tells whether it is to be judged again, behind a time record that was made first.
+fn judge_once<E: Edge>(
+    alloc: Global,
+    store: Store,
+    held: &mut Held,
+    queued: &Queued,
+    edge: &mut E,
+) -> Result<(Store, bool), ServeFault>
+    requires size { E.extent edge.old ≡ store.place.to }
+    requires held { IsHeld held.old }
+    requires instance { IsOf store held.old }
+    requires form { IsQueuedInForm queued.now }
+    ensures judged { (rest : List session.Queued) → IfOk result (λ x. Told (ServesOn (to_judge store (now_of held.old) (queued_as queued.now ∷ rest)) (to_judge x.0 (now_of held.new) (judged_again x.1 (queued_as queued.now) rest)))
+        (outer_of (E.told edge.old) (E.heard edge.old)) (outer_of (E.told edge.new) (E.heard edge.new))) }
+    ensures part { (rest : List session.Queued) → OnErr result (Told (ServesSome (to_judge store (now_of held.old) (queued_as queued.now ∷ rest)))
+        (outer_of (E.told edge.old) (E.heard edge.old)) (outer_of (E.told edge.new) (E.heard edge.new))) }
+    ensures judges { IfOk result (λ x. Judges store x.0 held.old held.new) }
+    ensures again { IfOk result (λ x. x.1 ≡ true → left_on x.0 < left_on store) }
+    ensures caused { IsServeCaused (E.faults edge.old) (E.faults edge.new) result }
+    ensures kept { E.extent edge.new ≡ E.extent edge.old }
+{
+    match store.plan(alloc, &queued.input, held.clock) {
+        Ok(planned) => {
+            let more = planned.more();
+            let next = keep(alloc, store, held, planned, queued, edge)?;
+            Ok((next, more))
+        }
+        Err(PlanFault::Told(answer)) => {
+            tell(alloc, &store, held, queued, &answer, edge)?;
+            Ok((store, false))
+        }
+        Err(PlanFault::OutOfMemory) => Err(ServeFault::OutOfMemory),
+    }
+}
+
+/// Makes the record of a plan last, lets the client of a new event wait for it, and then sends what the record says.
+fn keep<E: Edge>(
+    alloc: Global,
+    store: Store,
+    held: &mut Held,
+    planned: Planned,
+    queued: &Queued,
+    edge: &mut E,
+) -> Result<Store, ServeFault>
+    requires size { E.extent edge.old ≡ store.place.to }
+    requires held { IsHeld held.old }
+    requires instance { IsOf store held.old }
+    requires plan { IsPlanOf store planned }
+    requires planned_for { IsPlannedFor store held.old.clock queued.now.input planned }
+    ensures judged { (rest : List session.Queued) → IfOk result (λ next. Told (ServesOn (to_judge store (now_of held.old) (queued_as queued.now ∷ rest)) (to_judge next (now_of held.new) (judged_again planned.is_clock (queued_as queued.now) rest)))
+        (outer_of (E.told edge.old) (E.heard edge.old)) (outer_of (E.told edge.new) (E.heard edge.new))) }
+    ensures part { (rest : List session.Queued) → OnErr result (Told (ServesSome (to_judge store (now_of held.old) (queued_as queued.now ∷ rest)))
+        (outer_of (E.told edge.old) (E.heard edge.old)) (outer_of (E.told edge.new) (E.heard edge.new))) }
+    ensures judges { IfOk result (λ next. Judges store next held.old held.new) }
+    ensures less { IfOk result (λ next. left_on next < left_on store) }
+    ensures caused { IsServeCaused (E.faults edge.old) (E.faults edge.new) result }
+    ensures kept { E.extent edge.new ≡ E.extent edge.old }
+{
+    let more = planned.more();
+    let (next, durable) = store.commit(alloc, edge, planned)?;
+    held.wait_for(queued, more)?;
+    release(alloc, &next, held, durable, edge)?;
+    Ok(next)
+}
+
+/// Sends what a record says, and notes what became of it.
+fn release<E: Edge>(
+    alloc: Global,
+    store: &Store,
+    held: &mut Held,
+    durable: Durable,
+    edge: &mut E,
+) -> Result<(), AllocError>
+    requires last { IsDurableOf store.now durable }
+    ensures released { (first : List session.Queued) → OnOk result (Told (ServesOn (sending store.now (now_of held.old) first (tasks_of_record store.now durable held.old.served)) (to_judge store.now (now_of held.new) first))
+        (outer_of (E.told edge.old) (E.heard edge.old)) (outer_of (E.told edge.new) (E.heard edge.new))) }
+    ensures part { (first : List session.Queued) → OnErr result (Told (ServesSome (sending store.now (now_of held.old) first (tasks_of_record store.now durable held.old.served)))
+        (outer_of (E.told edge.old) (E.heard edge.old)) (outer_of (E.told edge.new) (E.heard edge.new))) }
+    ensures still { OnOk result (IsStillHeld held.old held.new) }
+    ensures instance { OnOk result (held.new.links.instance ≡ held.old.links.instance) }
+    ensures turns { OnOk result (held.new.turns ≡ held.old.turns) }
+    ensures later { Later (E.faults edge.old) (E.faults edge.new) }
+    ensures kept { E.extent edge.new ≡ E.extent edge.old }
+{
+    let gone = store.release_served(alloc, edge, durable, &mut held.served)?;
+    held.note_all(&gone)
+}
+
+/// Tells a client why its input makes no record. What the gateway or the clock gave is told to nobody.
+fn tell<E: Edge>(
+    alloc: Global,
+    store: &Store,
+    held: &mut Held,
+    queued: &Queued,
+    answer: &Answer,
+    edge: &mut E,
+) -> Result<(), AllocError>
+    ensures told { (first : List session.Queued) → OnOk result (Told (ServesOn (sending store.now (now_of held.old) first (answer_tasks queued.now.client answer.now)) (to_judge store.now (now_of held.new) first))
+        (outer_of (E.told edge.old) (E.heard edge.old)) (outer_of (E.told edge.new) (E.heard edge.new))) }
+    ensures part { (first : List session.Queued) → OnErr result (Told (ServesSome (sending store.now (now_of held.old) first (answer_tasks queued.now.client answer.now)))
+        (outer_of (E.told edge.old) (E.heard edge.old)) (outer_of (E.told edge.new) (E.heard edge.new))) }
+    ensures still { OnOk result (IsStillHeld held.old held.new) }
+    ensures unreached { OnOk result (held.new.unreached.items ≡ held.old.unreached.items) }
+    ensures instance { OnOk result (held.new.links.instance ≡ held.old.links.instance) }
+    ensures turns { OnOk result (held.new.turns ≡ held.old.turns) }
+    ensures later { Later (E.faults edge.old) (E.faults edge.new) }
+    ensures kept { E.extent edge.new ≡ E.extent edge.old }
+{
+    let Some(ch) = queued.client else {
+        return Ok(());
+    };
+    store.tell_served(alloc, edge, ch, answer)?;
+    held.served.forget(ch);
+    Ok(())
+}
+
+impl Held {
+    /// The client of a new event waits until it is decided. A time record that only goes before an answer lets nobody wait.
+    fn wait_for(&mut self, queued: &Queued, is_clock: bool) -> Result<(), AllocError>
+        ensures now { OnOk result (now_of self.new ≡ waiting_for (queued_as queued.now) is_clock (now_of self.old)) }
+        ensures still { OnOk result (IsStillHeld self.old self.new) }
+    {
+        if is_clock {
+            return Ok(());
+        }
+        match (queued.client, queued.input.event()) {
+            (Some(ch), Some(event)) => self.served.wait_for(&event, ch),
+            _ => Ok(()),
+        }
+    }
+
+    /// The calls that weren't reached, which are given away.
+    fn take_unreached(&mut self, alloc: Global) -> Vec<CallId>
+        ensures calls { result.items ≡ self.old.unreached.items }
+        ensures now { now_of self.new ≡ record (now_of self.old) { unreached = [] } }
+        ensures still { IsStillHeld self.old self.new }
+    {
+        mem::replace(&mut self.unreached, Vec::new(alloc))
+    }
+}

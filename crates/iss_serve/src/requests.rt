@@ -1,0 +1,65 @@
+//! What a client's bytes come to.
+ghost use Rattle.std.specs.Prelude.{◌≡◌, true, IfOk};
+ghost use Rattle.iss_event.specs.declared.line.Mode.TheVariants.{Client};
+ghost use Rattle.iss_event.specs.Readings.{line_read};
+ghost use Rattle.iss_serving.specs.Hearings.{is_reading};
+ghost use Rattle.iss_sessions.specs.Program.{line_as};
+ghost use Rattle.iss_serve.specs.Requests.{ReadsOn, SaysLine, IsRequestInForm};
+
+use crate::clients::Clients;
+use crate::telling::{fault_response, form_response};
+use iss_edge::Channel;
+use iss_event::{LineFault, Mode, read_line};
+use iss_http::FeedFault;
+use iss_model::Input;
+use std::alloc::{AllocError, Global};
+
+/// What a client's bytes come to.
+#[derive(Drop)]
+pub(crate) enum Request {
+    /// They aren't a whole request yet.
+    More,
+    /// The line of the request says this input.
+    Says(Input),
+    /// They have a fault, or their line has, which this response tells.
+    Bad(Vec<u8>),
+}
+
+impl Clients {
+    /// Reads a client's request on. Unless more of it is to come, nothing is read on its channel any longer.
+    pub(crate) fn read(
+        &mut self,
+        alloc: Global,
+        ch: Channel,
+        piece: &[u8],
+    ) -> Result<Request, AllocError>
+        requires reading { is_reading ch self.old ≡ true }
+        ensures reads { IfOk result (ReadsOn ch piece.now self.old self.new) }
+        ensures forms { IfOk result IsRequestInForm }
+    {
+        match self.feed(alloc, ch, piece) {
+            Ok(None) => Ok(Request::More),
+            Ok(Some(body)) => {
+                self.remove(ch);
+                read_body(alloc, &body)
+            }
+            Err(FeedFault::Http(fault)) => {
+                self.remove(ch);
+                Ok(Request::Bad(fault_response(alloc, fault)?))
+            }
+            Err(FeedFault::OutOfMemory) => Err(AllocError),
+        }
+    }
+}
+
+/// What the body of a request says.
+fn read_body(alloc: Global, body: &[u8]) -> Result<Request, AllocError>
+    ensures says { IfOk result (SaysLine (line_as (line_read Client body.now))) }
+    ensures forms { IfOk result IsRequestInForm }
+{
+    match read_line(alloc, body, Mode::Client) {
+        Ok(line) => Ok(Request::Says(line.input)),
+        Err(LineFault::Form(fault)) => Ok(Request::Bad(form_response(alloc, &fault)?)),
+        Err(LineFault::OutOfMemory) => Err(AllocError),
+    }
+}
