@@ -36,9 +36,10 @@ try: crate ## runs one crate's tests without proving them, as in make try CRATE=
 test: ## all that a change has to pass: each proof, wrong body, test and check
 	.ci/run
 
-bench: issuer ## lines per second, and memory; replies per second on a device, beside a loop in C
+bench: issuer ## lines per second, and memory; replies and served calls per second on a device, beside a loop in C
 	bash bench/dry.sh
 	bash bench/replay.sh
+	bash bench/serve.sh
 
 twins: ## lists what stands twice in code, definitions and proofs
 	@bash .ci/twins.sh

@@ -50,5 +50,7 @@ enough disk "$disk" 5000 'what proofs leave in crates/*/out'
 enough memory "$memory" 3000 'the proof of the largest crate'
 tell ok processors "$(nproc)" 'with four, two crates are proved side by side'
 useful valgrind "$(command -v valgrind || true)" 'counts instructions, which tell growth better than seconds'
-useful gcc "$(command -v gcc || true)" 'compiles the loop that make bench compares a replay with'
+useful gcc "$(command -v gcc || true)" 'compiles what make bench compares with, and the gateway and clients of the checks of serving'
+useful curl "$(command -v curl || true)" 'posts the lines of docs/SERVING.md, as the checks of serving do'
+useful python3 "$(command -v python3 || true)" 'runs the gateway of docs/SERVING.md'
 exit "$missing"

@@ -29,3 +29,14 @@ refused ''
 refused dry ''
 refused $'dr\xff'
 refused dry $'\xff'
+refused balances
+refused balances -a
+refused drill
+refused drill 100001
+refused drill 01
+refused drill +1
+refused serve d 80 81
+refused serve d 0 81 1
+refused serve d 80 65536 1
+refused serve d 80 81 4294967296
+refused balances "$(head -c 4097 /dev/zero | tr '\0' a)"

@@ -42,11 +42,23 @@ fn main(rt: HostRuntime) -> ExitCode {
     ExitCode::from(status)
 }
 
-/// Does what the words ask for, over the standard streams and the device that they name.
+/// Does what the words ask for, over the standard streams and the device and ports that they name.
 fn status_of(rt: &HostRuntime, words: &[String]) -> u8 {
-    let sockets = Sockets::none(*rt, rt.alloc());
-    let mut edge = RealEdge::new(rt.stdin(), rt.stdout(), device_of(rt, words), sockets);
+    let device = device_of(rt, words);
+    let sockets = sockets_of(rt, words);
+    let mut edge = RealEdge::new(rt.stdin(), rt.stdout(), device, sockets);
     run(rt.alloc(), words, &mut edge)
+}
+
+/// The sockets that the words ask for: clients on the one port, the gateway on the other. Where the one can't be listened on, each wait
+/// fails.
+fn sockets_of(rt: &HostRuntime, words: &[String]) -> Sockets<HostRuntime> {
+    let mut sockets = Sockets::none(*rt, rt.alloc());
+    if let Ok(Command::Serve { port, gateway, .. }) = command_of(words) {
+        let _ = sockets.listen(port);
+        sockets.set_gateway(gateway);
+    }
+    sockets
 }
 
 /// The device that the words name. Formatting makes its file where there is none.
@@ -55,7 +67,9 @@ fn device_of(files: &impl Files<File = File>, words: &[String]) -> Device {
         (Ok(Command::Format { size, .. }), Some(name)) => {
             Device::opened_or_made(files, name.as_str(), size)
         }
-        (Ok(Command::Replay), Some(name)) => Device::opened(files, name.as_str()),
+        (Ok(Command::Replay | Command::Balances | Command::Serve { .. }), Some(name)) => {
+            Device::opened(files, name.as_str())
+        }
         _ => Device::absent(),
     }
 }

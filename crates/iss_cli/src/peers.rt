@@ -73,6 +73,10 @@ impl Peer {
 #[derive(Drop)]
 pub struct Peers {
     peers: Vec<Peer>,
+    /// The number of the channel that was found last.
+    found: u32,
+    /// The greatest number that is looked at in this round.
+    until: u32,
 }
 
 impl Model for Peers {
@@ -90,6 +94,8 @@ impl Peers {
     {
         Peers {
             peers: Vec::new(alloc),
+            found: 0,
+            until: 0,
         }
     }
 
@@ -133,14 +139,71 @@ impl Peers {
         None
     }
 
-    /// The first channel with a number from the first to the last one that has bytes, its end or a fault.
-    pub fn ready_within(&self, first: u32, last: u32) -> Option<Channel> {
+    /// The next channel of this round that is ready.
+    fn next(&mut self) -> Option<Channel>
+        ensures { self.new ≡ self.old }
+    {
+        self.find_within(self.found, self.until)
+    }
+
+    /// The first channel of a new round that is ready.
+    fn first(&mut self) -> Option<Channel>
+        ensures { self.new ≡ self.old }
+    {
+        self.until = self.greatest();
+        self.find_within(0, self.until)
+    }
+
+    /// The first channel of a new round that is ready, but for those that the last round ended with, which were looked at just now.
+    fn first_but_last(&mut self) -> Option<Channel>
+        ensures { self.new ≡ self.old }
+    {
+        let (found, until) = (self.found, self.until);
+        self.until = self.greatest();
+        match self.find_within(0, found) {
+            Some(ch) => Some(ch),
+            None => self.find_within(until, self.until),
+        }
+    }
+
+    fn greatest(&self) -> u32 {
+        self.peers.last().map_or(0, |peer| peer.number)
+    }
+
+    fn find_within(&mut self, above: u32, last: u32) -> Option<Channel>
+        ensures { self.new ≡ self.old }
+    {
+        let ch = self.ready_within(above, last)?;
+        self.found = ch.0;
+        Some(ch)
+    }
+
+    /// The first channel with a number above the one, up to the other, that is ready.
+    fn ready_within(&self, above: u32, last: u32) -> Option<Channel> {
         for peer in &self.peers {
-            if first <= peer.number && peer.number <= last && peer.is_ready() {
+            if above < peer.number && peer.number <= last && peer.is_ready() {
                 return Some(Channel(peer.number));
             }
         }
         None
+    }
+}
+
+/// The next channel that has bytes, its end or a fault, and whether it is one of the others: of these as long as their round lasts, then
+/// of the others in a round of theirs, and then of these again. Each socket is looked at once at most.
+///
+/// A round is of the channels that were open when it began, in the order in which they were opened. So whatever comes meanwhile, each that
+/// is ready is found before the end of the next round of its kind, and a round looks at each socket once, however many are ready.
+pub fn next_of(these: &mut Peers, others: &mut Peers) -> Option<(Channel, bool)>
+    ensures these { these.new ≡ these.old }
+    ensures others { others.new ≡ others.old }
+{
+    if let Some(ch) = these.next() {
+        return Some((ch, false));
+    }
+    match others.first() {
+        Some(ch) => Some((ch, true)),
+        None => these.first_but_last().map(|ch| (ch, false)),
     }
 }
 

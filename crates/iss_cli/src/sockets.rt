@@ -5,7 +5,7 @@ ghost use Rattle.std.specs.Result.{result_ok};
 ghost use Rattle.std.specs.Io.{ReadsAtMost};
 ghost use Rattle.iss_edge.specs.Channels.{no_channels, is_among, IsUnused, ComesUnused, after_wait, after_dial, after_close};
 
-use crate::peers::{Peer, Peers};
+use crate::peers::{Peer, Peers, next_of};
 use iss_edge::{Arrival, Channel};
 use std::alloc::Global;
 use std::io::{ErrorKind, Write};
@@ -19,6 +19,10 @@ const PAUSE: u64 = 1;
 
 /// How many milliseconds a dial may take.
 const PATIENCE: u64 = 100;
+
+/// For how many milliseconds after a dial that took longer none is tried. Each holds everything else up, and a gateway that takes no
+/// connections lets every one of them take so long.
+const SHUNNED: u64 = 1000;
 
 /// How many milliseconds pass at least between two times that are told.
 const TICK: u64 = 20;
@@ -37,6 +41,8 @@ pub struct Sockets<N> {
     listener: Option<TcpListener>,
     /// The port that is dialled.
     gateway: Option<u16>,
+    /// When a dial was begun last that couldn't be had in time, in milliseconds since 1970.
+    late: u64,
     clients: Peers,
     dialled: Peers,
     /// The greatest number that a channel got.
@@ -44,6 +50,8 @@ pub struct Sockets<N> {
     ready: Option<u32>,
     /// Whether the last look for a client came before the channels.
     listened_first: bool,
+    /// Whether this is a round of the dialled channels.
+    at_dialled: bool,
     /// How many waits look at the channels alone before a client is looked for again, where none of them is ready.
     rest: u32,
     /// The time that was told last, in milliseconds since 1970.
@@ -73,11 +81,13 @@ impl<N> Sockets<N> {
             net,
             listener: None,
             gateway: None,
+            late: 0,
             clients: Peers::none(alloc),
             dialled: Peers::none(alloc),
             last: 0,
             ready: None,
             listened_first: false,
+            at_dialled: false,
             rest: 0,
             told: 0,
         }
@@ -196,14 +206,14 @@ impl<N: Net<Listener = TcpListener, Stream = TcpStream> + Clock + Drop> Sockets<
         }
     }
 
-    /// The next channel after the one that was last ready that is so now.
+    /// The next channel that is ready, in rounds of the clients and of the dialled channels by turns.
     fn find_ready(&mut self) -> Arrival
         ensures unused { ComesUnused self.old result }
         ensures channels { self.new ≡ after_wait (Some result) self.old }
     {
-        let last = self.ready.unwrap_or(0);
-        match self.ready_after(last).or(self.ready_within(0, last)) {
-            Some(ch) => {
+        match self.next_ready() {
+            Some((ch, is_other)) => {
+                self.at_dialled = self.at_dialled != is_other;
                 self.ready = Some(ch.0);
                 Arrival::Ready(ch)
             }
@@ -211,13 +221,14 @@ impl<N: Net<Listener = TcpListener, Stream = TcpStream> + Clock + Drop> Sockets<
         }
     }
 
-    fn ready_after(&self, last: u32) -> Option<Channel> {
-        self.ready_within(last.checked_add(1)?, u32::MAX)
-    }
-
-    fn ready_within(&self, first: u32, last: u32) -> Option<Channel> {
-        let client = self.clients.ready_within(first, last);
-        client.or(self.dialled.ready_within(first, last))
+    fn next_ready(&mut self) -> Option<(Channel, bool)>
+        ensures { self.new ≡ self.old }
+    {
+        if self.at_dialled {
+            next_of(&mut self.dialled, &mut self.clients)
+        } else {
+            next_of(&mut self.clients, &mut self.dialled)
+        }
     }
 
     /// Opens a channel to the port that is dialled.
@@ -226,7 +237,7 @@ impl<N: Net<Listener = TcpListener, Stream = TcpStream> + Clock + Drop> Sockets<
         ensures channels { self.new ≡ after_dial (result_ok result) self.old }
     {
         let number = next_number(self.last)?;
-        let stream = dialled(&self.net, self.gateway)?;
+        let stream = dialled(&self.net, self.gateway, &mut self.late)?;
         self.dialled.push(number, stream)?;
         self.last = number;
         Ok(Channel(number))
@@ -259,15 +270,32 @@ fn accepted(listener: &Option<TcpListener>) -> io::Result<Option<TcpStream>> {
     }
 }
 
-/// A socket to that port of this machine.
-fn dialled<N: Net<Stream = TcpStream>>(net: &N, port: Option<u16>) -> io::Result<TcpStream> {
+/// A socket to that port of this machine. For a while after one that couldn't be had in time, none is tried.
+fn dialled<N: Net<Stream = TcpStream> + Clock>(
+    net: &N,
+    port: Option<u16>,
+    late: &mut u64,
+) -> io::Result<TcpStream> {
     let Some(port) = port else {
         return Err(io::Error::from(ErrorKind::NotConnected));
     };
+    let now = millis(net)?;
+    if now.abs_diff(*late) < SHUNNED {
+        return Err(io::Error::from(ErrorKind::TimedOut));
+    }
     let address = SocketAddr::from((Ipv4Addr::LOCALHOST, port));
-    let stream = TcpStream::connect_timeout(net, &address, Duration::from_millis(PATIENCE))?;
-    stream.set_nonblocking(true)?;
-    Ok(stream)
+    match TcpStream::connect_timeout(net, &address, Duration::from_millis(PATIENCE)) {
+        Ok(stream) => {
+            stream.set_nonblocking(true)?;
+            Ok(stream)
+        }
+        Err(e) => {
+            if e.kind() == ErrorKind::TimedOut {
+                *late = now;
+            }
+            Err(e)
+        }
+    }
 }
 
 /// Writes all of the bytes, with a pause wherever the peer takes none, and gives up after so many writes.
