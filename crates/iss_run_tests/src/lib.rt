@@ -5,6 +5,8 @@
 #![tactic(auto)]
 
 #[cfg(test)]
+mod balances;
+#[cfg(test)]
 mod dry;
 #[cfg(test)]
 mod format;

@@ -14,9 +14,10 @@ use Rattle.iss_store.specs.Values.{StoreNow}
 use Rattle.iss_store.specs.Opening.{is_on_device, AreOnDevice}
 use Rattle.iss_store.specs.Saying.{texts_pending, texts_pending_on_book}
 use Rattle.iss_texts.specs.Sending.{Says, SaysSome}
+use Rattle.iss_device.specs.Runs.{run_at}
 use Rattle.iss_top.specs.Lines.{parts_of, all_but_last}
 use Rattle.iss_top.specs.Progress.{is_output}
-use Rattle.iss_top.specs.Replaying.{run_at, told_lines, is_of_run, outputs_of, output_levels, AreFirstOf, Goes, GoesPart, GoesWhole, RunsAs, RunsOnBook}
+use Rattle.iss_top.specs.Replaying.{told_lines, is_of_run, outputs_of, output_levels, AreFirstOf, Goes, GoesPart, GoesWhole, RunsAs, RunsOnBook}
 use Rattle.iss_top.proofs.Goings.{goes_then, goes_then_part, part_more, says_goes, says_goes_part}
 use Rattle.iss_top.proofs.ToldLines.{told_from_start, records_first}
 

@@ -9,7 +9,8 @@ use Rattle.iss_model.specs.run.Transcripts.{Reading, sound, faulty, Text}
 use Rattle.iss_model.specs.run.Rooms.{Room, record_made, room_left}
 use Rattle.iss_model.specs.run.Runs.{Run, response, judgement_in, line_texts, run_after, accepted_records, first_texts, transcript_of}
 use Rattle.iss_agreement.proofs.RunLaws.{history_after, texts_then}
-use Rattle.iss_top.specs.Replays.{run_on, TranscriptsContinue}
+use Rattle.iss_device.specs.Runs.{run_on}
+use Rattle.iss_top.specs.Replays.{TranscriptsContinue}
 
 same_room : (room : Option Room) (rs : List Record) (made : Option Record) → room_left room rs made ≡ room
 same_room room rs None = refl

@@ -1,15 +1,14 @@
 -- A record is made to last, and then what it says goes out.
-use Rattle.std.proofs.Common.{◌≡◌, ℕ, ◌+◌, List, [], ◌∷◌, ◌++◌, length, map, take, Option, Ok, Err, inl, refl, sym, ap, subst, ◌∙◌, append_assoc, length-append}
+use Rattle.std.proofs.Common.{◌≡◌, ℕ, List, [], ◌∷◌, ◌++◌, length, map, Option, Ok, Err, inl, refl, sym, ap, subst, ◌∙◌}
 use Rattle.std.specs.Prelude.{Result, OnErr}
 use Rattle.std.specs.List.{list_all}
-use Rattle.std.proofs.Math.Seq.{take-append_seam}
 use Rattle.iss_edge.specs.declared.outside.Action.{Action}
 use Rattle.iss_edge.specs.World.{World, Told}
 use Rattle.iss_edge.specs.Puts.{Put, actions_of_puts, Ran}
 use Rattle.iss_edge.specs.Stretches.{actions_of, GoesOn, IsGood, with_levels}
 use Rattle.iss_edge.proofs.StretchLemmas.{actions_of-leveled}
 use Rattle.iss_edge.proofs.Tolds.{told_map, told_then}
-use Rattle.iss_journal.specs.Region.{ShowsClosed, append_bytes}
+use Rattle.iss_journal.specs.Region.{append_bytes}
 use Rattle.iss_journal.specs.Append.{append_puts}
 use Rattle.iss_journal.specs.Place.{Place}
 use Rattle.iss_model.specs.declared.input.Record.{Record}
@@ -19,12 +18,14 @@ use Rattle.iss_model.specs.run.Sayings.{Said}
 use Rattle.iss_model.specs.run.Transcripts.{Text, at_level, said_text_at}
 use Rattle.iss_agreement.proofs.Records.{records_history, step_records}
 use Rattle.iss_store.specs.Values.{StoreNow, Plan, DurableNow, said_of}
-use Rattle.iss_store.specs.Standing.{StandsFor, RestsAt, StandsAt, region_under, bodies_of}
+use Rattle.iss_store.specs.Standing.{StandsFor, RestsAt, StandsAt}
 use Rattle.iss_store.specs.Committing.{ComesNext, Commits, CommitsOnBook, CommitsGood, CommitsGoing, said_on_book}
 use Rattle.iss_store.specs.Saying.{texts_of_record}
 use Rattle.iss_texts.specs.Sending.{GoOut, Says, SaysSome}
+use Rattle.iss_device.specs.Runs.{run_at}
+use Rattle.iss_device.proofs.NextRecords.{with_record, one_more, comes_next, rests_before}
 use Rattle.iss_top.specs.Dry.{each_bytes}
-use Rattle.iss_top.specs.Replaying.{run_at, outputs_of, is_of_run, output_levels, levels_of, AreFirstOf, Goes, GoesPart, TakesAs, TakesPartAs, response_to_plan}
+use Rattle.iss_top.specs.Replaying.{outputs_of, is_of_run, output_levels, levels_of, AreFirstOf, Goes, GoesPart, TakesAs, TakesPartAs, response_to_plan}
 use Rattle.iss_top.proofs.Goings.{AreOfRun, first_self, goes_then, goes_then_part, says_goes, says_goes_part}
 
 -- ---- what a commit does sends nothing
@@ -76,37 +77,12 @@ ran_kinds (put ∷ puts) (write ∷ sync ∷ action ∷ more) ran =
 
 -- ---- which record comes next
 
--- this record behind those
-abbrev pub with_record : List Record → Record → List Record
-with_record rs r = rs ++ r ∷ []
-
-one_more : (rs : List Record) (r : Record) → length (with_record rs r) ≡ length rs + 1
-one_more rs r = length-append {A = Record} rs (r ∷ [])
-
 pub more_records : (rs : List Record) (r : Record) → AreFirstOf rs (with_record rs r)
 more_records rs r = record { later = r ∷ []; cut = refl }
 
-comes_next : (s : StoreNow) (rs all : List Record) (r : Record) → StandsFor s rs → AreFirstOf (with_record rs r) all → ComesNext s all (length rs) r
-comes_next s rs all r stands first =
-    let front : take (length rs) all ≡ rs =
-    ap (λ (l : List Record). take (length rs) l) (first.cut ∙ append_assoc rs (r ∷ []) first.later) ∙ take-append_seam rs (r ∷ first.later) in
-    record {
-      stands = subst (λ (l : List Record). StandsFor s l) (sym front) stands;
-      next =
-          ap (λ (n : ℕ). take n all) (sym (one_more rs r))
-          ∙ ap (λ (l : List Record). take (length (with_record rs r)) l) first.cut
-          ∙ take-append_seam (with_record rs r) first.later
-          ∙ ap (λ (l : List Record). l ++ r ∷ []) (sym front);
-    }
-
--- the bodies of the first records don't rest on those behind them
-bodies_first : (rs more : List Record) → take (length rs) (bodies_of rs) ≡ take (length rs) (bodies_of (rs ++ more))
-bodies_first [] more = refl
-bodies_first (r ∷ rs) more = ap (λ (bodies : List (List ℕ)). spelling r ∷ bodies) (bodies_first rs more)
-
-rests_before : (s : StoreNow) (rs more : List Record) (image : List ℕ) → RestsAt s rs image (length rs) → RestsAt s (rs ++ more) image (length rs)
-rests_before s rs more image rests =
-    subst (λ (bodies : List (List ℕ)). ShowsClosed (region_under s) bodies image) (bodies_first rs more) rests
+comes_first : (s : StoreNow) (rs all : List Record) (r : Record) → StandsFor s rs → AreFirstOf (with_record rs r) all → ComesNext s all (length rs) r
+comes_first s rs all r stands first =
+    subst (λ (l : List Record). ComesNext s l (length rs) r) (sym first.cut) (comes_next s rs r first.later stands)
 
 -- ---- a commit as a part of a run
 
@@ -124,11 +100,11 @@ commit_goes s rs r a b stands going =
       goes_on =
           λ all first.
           subst (λ (n : ℕ). GoesOn (RestsAt s all) (StandsAt s all) (RestsAt s all) (length rs) n steps) (sym (one_more rs r))
-          (going.goes_on all (length rs) steps (comes_next s rs all r stands first) same);
+          (going.goes_on all (length rs) steps (comes_first s rs all r stands first) same);
       rests =
           λ start.
           subst (λ (n : ℕ). RestsAt s (with_record rs r) b.device n) (sym (one_more rs r))
-          (going.stands (with_record rs r) (length rs) (comes_next s rs (with_record rs r) r stands (first_self (with_record rs r)))
+          (going.stands (with_record rs r) (length rs) (comes_first s rs (with_record rs r) r stands (first_self (with_record rs r)))
           (rests_before s rs (r ∷ []) a.device start));
       kinds = ap (list_all is_of_run) same ∙ puts_kinds puts;
     }
@@ -151,7 +127,7 @@ commit_goes_part s rs r t a b stands good =
       good =
           λ all first.
           subst (λ (n : ℕ). IsGood (RestsAt s all) (StandsAt s all) (length rs) n steps) (sym (one_more rs r))
-          (good.good all (length rs) steps (comes_next s rs all r stands first) same);
+          (good.good all (length rs) steps (comes_first s rs all r stands first) same);
       kinds = ap (list_all is_of_run) same ∙ ran_kinds puts actions good.part.ran;
     }
 

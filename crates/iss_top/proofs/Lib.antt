@@ -18,11 +18,15 @@ pub mod Continues
 pub mod Goings
 pub mod ToldLines
 pub mod OnTheWay
-pub mod Devices
 pub mod Beginnings
+pub mod Moments
 pub mod WholeRuns
 pub mod ToldWay
 pub mod ToldReplays
 pub mod Lasting
 pub mod Taken
 pub mod TakenLines
+pub mod ReportRuns
+pub mod ToldReports
+pub mod ServedStatuses
+pub mod Drilled

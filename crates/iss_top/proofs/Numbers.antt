@@ -20,7 +20,7 @@ either false o h = refl
 pub stays_great : (least most n : ℕ) (ds : List ℕ) → most < n → number_after n least most ds ≡ None
 stays_great least most n ds h = either (list_all is_digit ds) _ (value_above least most n ds h)
 
--- words of another number than 1, 2 and 4 are no command
+-- words of another number than 1, 2, 4 and 5 are no command
 module _ {A : Type 0} (f : A → List ℕ) where
   pub three : (ws : List A) → 3 ≤ length ws → length ws < 4 → None ≡ command_of_words (map f ws)
   unfolding command_of_words
@@ -30,11 +30,12 @@ module _ {A : Type 0} (f : A → List ℕ) where
   three (a ∷ b ∷ c ∷ []) low high = refl
   three (a ∷ b ∷ c ∷ d ∷ ws) low high = absurd (omega (arith, high))
 
-  pub five_or_more : (ws : List A) → 5 ≤ length ws → None ≡ command_of_words (map f ws)
+  pub six_or_more : (ws : List A) → 6 ≤ length ws → None ≡ command_of_words (map f ws)
   unfolding command_of_words
-  five_or_more [] low = absurd (omega (arith, low))
-  five_or_more (a ∷ []) low = absurd (omega (arith, low))
-  five_or_more (a ∷ b ∷ []) low = absurd (omega (arith, low))
-  five_or_more (a ∷ b ∷ c ∷ []) low = absurd (omega (arith, low))
-  five_or_more (a ∷ b ∷ c ∷ d ∷ []) low = absurd (omega (arith, low))
-  five_or_more (a ∷ b ∷ c ∷ d ∷ e ∷ ws) low = refl
+  six_or_more [] low = absurd (omega (arith, low))
+  six_or_more (a ∷ []) low = absurd (omega (arith, low))
+  six_or_more (a ∷ b ∷ []) low = absurd (omega (arith, low))
+  six_or_more (a ∷ b ∷ c ∷ []) low = absurd (omega (arith, low))
+  six_or_more (a ∷ b ∷ c ∷ d ∷ []) low = absurd (omega (arith, low))
+  six_or_more (a ∷ b ∷ c ∷ d ∷ e ∷ []) low = absurd (omega (arith, low))
+  six_or_more (a ∷ b ∷ c ∷ d ∷ e ∷ f' ∷ ws) low = refl

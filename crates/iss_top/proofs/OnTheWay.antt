@@ -11,13 +11,14 @@ use Rattle.iss_model.specs.run.Runs.{Run, Response}
 use Rattle.iss_agreement.proofs.Records.{records_history}
 use Rattle.iss_store.specs.Values.{StoreNow}
 use Rattle.iss_store.specs.Standing.{region_of, region_under, bodies_of, StandsFor, RestsAt}
+use Rattle.iss_device.specs.Runs.{run_at}
 use Rattle.iss_top.specs.declared.stop.Stop.{Stop}
 use Rattle.iss_top.specs.declared.stop.Stop.TheVariants as stop
 use Rattle.iss_top.specs.Statuses.{status_of}
 use Rattle.iss_top.specs.Lines.{parts_of, all_but_last}
 use Rattle.iss_top.specs.Progress.{HasRead}
 use Rattle.iss_top.specs.Reader.{ReaderNow, fresh_reader, IsToldAs, ReadsPart, ReadsNoPart, ReadsOn}
-use Rattle.iss_top.specs.Replaying.{run_at, told_line, told_lines, then_told, Goes, GoesPart, GoesFor, GoesWhole, IsSameDevice, TakesAs, TakesPartAs, IsReplaying, RunsOnBook, RunsFrom}
+use Rattle.iss_top.specs.Replaying.{told_line, told_lines, then_told, Goes, GoesPart, GoesFor, GoesWhole, IsSameDevice, TakesAs, TakesPartAs, IsReplaying, RunsOnBook, RunsFrom}
 use Rattle.iss_top.proofs.Goings.{goes_nothing, goes_then, goes_then_part, goes_part, part_more}
 use Rattle.iss_top.proofs.Parts.{has_read_begins, has_read_next, has_read_on, parts_first, parts_over, parts_stopped}
 use Rattle.iss_top.proofs.ToldAs.{same_told}

@@ -30,7 +30,8 @@ use Rattle.iss_store.specs.Values.{StoreNow, Plan, room_of}
 use Rattle.iss_store.specs.Standing.{StandsFor}
 use Rattle.iss_store.specs.Planning.{judged_as, Plans}
 use Rattle.iss_texts.specs.Sending.{Says, SaysSome}
-use Rattle.iss_top.specs.Replaying.{run_at, AreFirstOf, Goes, GoesPart, IsSameDevice, TakesAs, TakesPartAs, response_to_plan, texts_left}
+use Rattle.iss_device.specs.Runs.{run_at}
+use Rattle.iss_top.specs.Replaying.{AreFirstOf, Goes, GoesPart, IsSameDevice, TakesAs, TakesPartAs, response_to_plan, texts_left}
 use Rattle.iss_top.proofs.Goings.{first_self, goes_then, goes_then_part, says_goes, says_goes_part, part_more, part_nothing}
 use Rattle.iss_top.proofs.Lasting.{planned_records}
 

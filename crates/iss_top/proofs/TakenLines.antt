@@ -14,9 +14,10 @@ use Rattle.iss_event.specs.FormLines.{form_text}
 use Rattle.iss_store.specs.Values.{StoreNow}
 use Rattle.iss_store.specs.Standing.{StandsFor}
 use Rattle.iss_texts.specs.Sending.{Says, SaysSome}
+use Rattle.iss_device.specs.Runs.{run_at}
 use Rattle.iss_top.specs.Dry.{as_reading, reading_of}
 use Rattle.iss_top.specs.Lines.{is_blank}
-use Rattle.iss_top.specs.Replaying.{run_at, told_line, AreFirstOf, Goes, GoesPart, TakesAs, TakesPartAs}
+use Rattle.iss_top.specs.Replaying.{told_line, AreFirstOf, Goes, GoesPart, TakesAs, TakesPartAs}
 use Rattle.iss_top.proofs.Goings.{first_self, goes_nothing}
 use Rattle.iss_top.proofs.Taken.{told_input, same_device, stays_and_says, says_in_part, response_first, KeepsRecords, nothing_taken}
 

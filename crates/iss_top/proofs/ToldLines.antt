@@ -7,10 +7,10 @@ use Rattle.iss_model.specs.run.Runs.{Run, Response, response, line_texts, run_af
 use Rattle.iss_agreement.proofs.Records.{records_history}
 use Rattle.iss_agreement.proofs.RunLaws.{records_after}
 use Rattle.iss_store.specs.Values.{StoreNow}
+use Rattle.iss_device.specs.Runs.{run_at, run_on}
 use Rattle.iss_top.specs.Lines.{is_blank}
 use Rattle.iss_top.specs.Dry.{reading_of}
-use Rattle.iss_top.specs.Replaying.{run_at, told_line, told_lines, then_told, AreFirstOf, IsSameDevice}
-use Rattle.iss_top.specs.Replays.{run_on}
+use Rattle.iss_top.specs.Replaying.{told_line, told_lines, then_told, AreFirstOf, IsSameDevice}
 use Rattle.iss_top.proofs.Continues.{run_left}
 
 -- ---- in a row

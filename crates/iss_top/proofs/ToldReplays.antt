@@ -1,9 +1,8 @@
 -- The same of what an edge tells: a run on a device at each of its ends.
-use Rattle.std.proofs.Common.{◌≡◌, ℕ, ◌≤◌, inl, inr, List, [], length, Option, Ok, Err, refl, sym, ap, ◌∙◌, arith, length-append}
+use Rattle.std.proofs.Common.{◌≡◌, ℕ, ◌≤◌, inl, inr, List, [], length, Option, Ok, Err, refl, sym, ap, subst, ◌∙◌, arith, length-append}
 use Rattle.std.specs.Prelude.{◌⊎◌, Result}
 use Rattle.iss_edge.specs.World.{World, Told, Faults, Later}
 use Rattle.iss_edge.proofs.Tolds.{told_map, told_then, later_then, rose_later}
-use Rattle.iss_journal.proofs.Formats.{Sized, told_sized}
 use Rattle.iss_model.specs.declared.input.Record.{Record}
 use Rattle.iss_store.specs.declared.fault.OpenFault.{OpenFault}
 use Rattle.iss_store.specs.declared.fault.OpenFault.TheVariants.{Disk, NotFormatted, BadRecord, BadSpelling, BadHistory, OutOfMemory}
@@ -11,32 +10,30 @@ use Rattle.iss_store.specs.declared.fault.StoreFault.{StoreFault}
 use Rattle.iss_store.specs.declared.fault.StoreFault.TheVariants as store
 use Rattle.iss_store.specs.Values.{StoreNow}
 use Rattle.iss_store.specs.Standing.{StandsFor, DeviceStandsFor}
-use Rattle.iss_store.specs.Opening.{Opens, OpensStore, OpensGood, OpensGoing, ReadsAlone, OnRefused, OpenCause, IsOfDiskOrMemory}
+use Rattle.iss_store.specs.Opening.{Opens, OpensGood, ReadsAlone, OnRefused, OpenCause, IsOfDiskOrMemory}
 use Rattle.iss_store.specs.Saying.{texts_pending, texts_pending_on_book, SayingCause}
 use Rattle.iss_store.proofs.GoodDevices.{good_device}
 use Rattle.iss_store.proofs.ToldReadings.{told_both}
 use Rattle.iss_texts.specs.Sending.{Says, SaysSome}
+use Rattle.iss_device.specs.Runs.{run_at}
+use Rattle.iss_device.specs.Opened.{OpenedAs}
+use Rattle.iss_device.specs.Refusals.{RefusesExactly, opening_status}
+use Rattle.iss_device.proofs.Devices.{Behind, stands_opened, told_behind}
+use Rattle.iss_device.proofs.Refusals.{opened_refuses, told_refuses}
 use Rattle.iss_top.specs.declared.stop.Stop.{Stop}
 use Rattle.iss_top.specs.declared.stop.Stop.TheVariants as stop
 use Rattle.iss_top.specs.Statuses.{status_of, stop_of_opening, stop_of_store}
 use Rattle.iss_top.specs.Reader.{ReadingCause}
-use Rattle.iss_top.specs.Replaying.{run_at, RunsAs, RunsFrom, TakingCause, IsReplayCaused, ReplayCause}
-use Rattle.iss_top.specs.Replays.{ReplayRun, ReplayOn, EveryMoment, EveryMomentStands, IsNoStore, OnDeviceAlone, RefusesExactly, ReplayEndsWell}
+use Rattle.iss_top.specs.Replaying.{RunsAs, RunsFrom, TakingCause, IsReplayCaused, ReplayCause}
+use Rattle.iss_top.specs.Replays.{ReplayRun, ReplayOn, EveryMoment, EveryMomentStands, ReplayEndsWell}
 use Rattle.iss_top.proofs.OnTheWay.{ends_with}
 use Rattle.iss_top.proofs.ToldLines.{told_from_start}
 use Rattle.iss_top.proofs.Beginnings.{begins_goes, lines_from_start, stops_at_start}
-use Rattle.iss_top.proofs.Devices.{opened_on}
-use Rattle.iss_top.proofs.WholeRuns.{OpenedAs, not_opened_moments, not_opened_on, replay_on, every_moment}
+use Rattle.iss_top.proofs.WholeRuns.{not_opened_moments, not_opened_on, replay_on, every_moment}
 
 -- ---- the opening
 
-pub told_opened : (s : StoreNow) (size : ℕ) (x y : Option World) → Sized size x → s.place.to ≡ size → Told (Opens (Ok s)) x y → Told OpensGood x y → Told OpensGoing x y → Told (OpenedAs s) x y
-told_opened s size x y sized to opens good going =
-    told_sized size (λ a b. (Opens (Ok s) a b × OpensGood a b) × OpensGoing a b) (OpenedAs s) x y sized
-    (λ a b here p. record { size = to ∙ sym here; opens = p.0.0; good = p.0.1; going = p.1 })
-    (told_both (λ a b. Opens (Ok s) a b × OpensGood a b) OpensGoing x y (told_both (Opens (Ok s)) OpensGood x y opens good) going)
-
-opening_ends : (fault : OpenFault) → IsOfDiskOrMemory fault → (ends_with (stop_of_opening fault) ≡ 6) ⊎ (ends_with (stop_of_opening fault) ≡ 7)
+pub opening_ends : (fault : OpenFault) → IsOfDiskOrMemory fault → (ends_with (stop_of_opening fault) ≡ 6) ⊎ (ends_with (stop_of_opening fault) ≡ 7)
 opening_ends Disk is = inl refl
 opening_ends OutOfMemory is = inr refl
 opening_ends NotFormatted is = absurd is
@@ -44,7 +41,7 @@ opening_ends (BadRecord gate) is = absurd is
 opening_ends (BadSpelling gate) is = absurd is
 opening_ends (BadHistory gate) is = absurd is
 
-not_this : (n m : ℕ) → (n ≡ 6) ⊎ (n ≡ 7) → m ≤ 5 → n ≡ m → ⊥
+pub not_this : (n m : ℕ) → (n ≡ 6) ⊎ (n ≡ 7) → m ≤ 5 → n ≡ m → ⊥
 not_this n m ends le e = elim ends [ inl six ↦ absurd (omega (arith, six, le, e)) | inr seven ↦ absurd (omega (arith, seven, le, e)) ]
 
 not_eight : (n : ℕ) → (n ≡ 6) ⊎ (n ≡ 7) → n ≡ 8 → ⊥
@@ -65,96 +62,25 @@ pub told_unopened_moments : (x y : Option World) → Told OpensGood x y → Told
 told_unopened_moments x y good =
     told_map OpensGood EveryMomentStands x y (λ a b g instance rs stands. not_opened_moments instance rs a b g stands) good
 
--- ---- a device that stands for no records
+-- the status is the one that the fault of opening has
+opening_status_is : (fault : OpenFault) → opening_status fault ≡ ends_with (stop_of_opening fault)
+opening_status_is Disk = refl
+opening_status_is OutOfMemory = refl
+opening_status_is NotFormatted = refl
+opening_status_is (BadRecord gate) = refl
+opening_status_is (BadSpelling gate) = refl
+opening_status_is (BadHistory gate) = refl
 
-alone : (a b : World) → OpensGood a b → OnDeviceAlone a b
-alone a b good = record { left = good.left; actions = good.added; grew = good.grew; on_device = good.on_device }
-
-refuses : (a b : World) → IsNoStore a.device → OpensGood a b → ReadsAlone a b → RefusesExactly 4 a b
-refuses a b none good reads =
-    record {
-      only = λ e. (none, reads);
-      there = λ found. inl refl;
-      untouched = λ found. alone a b good;
-      others = λ four six seven. absurd (four refl);
-    }
-
--- a fault of the disk or of memory may come on any device
-disk_refuses : (a b : World) → OpensGood a b → RefusesExactly 6 a b
-disk_refuses a b good =
-    record {
-      only = λ e. cc;
-      there = λ found. inr (inl refl);
-      untouched = λ found. alone a b good;
-      others = λ four six seven. absurd (six refl);
-    }
-
-memory_refuses : (a b : World) → OpensGood a b → RefusesExactly 7 a b
-memory_refuses a b good =
-    record {
-      only = λ e. cc;
-      there = λ found. inr (inr refl);
-      untouched = λ found. alone a b good;
-      others = λ four six seven. absurd (seven refl);
-    }
-
--- a fault that says that the device stands for no records
-told_none : (fault : OpenFault) (x y : Option World) → ((a : World) → Opens (Err fault) a a → IsNoStore a.device) → ((a b : World) → Opens (Err fault) a b → Opens (Err fault) a a) → Told (Opens (Err fault)) x y → Told OpensGood x y → Told ReadsAlone x y
-    → Told (RefusesExactly 4) x y
-told_none fault x y none same opens good reads =
-    told_map (λ a b. (Opens (Err fault) a b × OpensGood a b) × ReadsAlone a b) (RefusesExactly 4) x y (λ a b p. refuses a b (none a (same a b p.0.0)) p.0.1 p.1)
-    (told_both (λ a b. Opens (Err fault) a b × OpensGood a b) ReadsAlone x y (told_both (Opens (Err fault)) OpensGood x y opens good) reads)
-
-pub told_refuses : (fault : OpenFault) (x y : Option World) → Told (Opens (Err fault)) x y → Told OpensGood x y → OnRefused {T = StoreNow} (Err fault) (Told ReadsAlone x y)
+pub told_unopened_refuses : (fault : OpenFault) (x y : Option World) → Told (Opens (Err fault)) x y → Told OpensGood x y → OnRefused {T = StoreNow} (Err fault) (Told ReadsAlone x y)
     → Told (RefusesExactly (ends_with (stop_of_opening fault))) x y
-told_refuses Disk x y opens good reads = told_map OpensGood (RefusesExactly 6) x y disk_refuses good
-told_refuses OutOfMemory x y opens good reads = told_map OpensGood (RefusesExactly 7) x y memory_refuses good
-told_refuses NotFormatted x y opens good reads = told_none NotFormatted x y (λ a found. inl found) (λ a b found. found) opens good reads
-told_refuses (BadRecord gate) x y opens good reads = told_none (BadRecord gate) x y (λ a found. inr (gate, inl found)) (λ a b found. found) opens good reads
-told_refuses (BadSpelling gate) x y opens good reads = told_none (BadSpelling gate) x y (λ a found. inr (gate, inr (inl found))) (λ a b found. found) opens good reads
-told_refuses (BadHistory gate) x y opens good reads = told_none (BadHistory gate) x y (λ a found. inr (gate, inr (inr found))) (λ a b found. found) opens good reads
-
--- on a device that opens there is no such fault
-not_none : (s : StoreNow) (a b : World) → OpensStore s a.device → IsNoStore a.device → ⊥
-not_none s a b opens none =
-    let stands = opens.device_stands in
-    let good = λ (fault : OpenFault). good_device s.core.instance opens.rs fault a b stands in
-    elim none [
-      | inl unformatted ↦ good NotFormatted unformatted
-      | inr found ↦
-          elim found.1 [
-            | inl record_bad ↦ good (BadRecord found.0) record_bad
-            | inr others ↦ elim others [ inl spelling_bad ↦ good (BadSpelling found.0) spelling_bad | inr history_bad ↦ good (BadHistory found.0) history_bad ]
-          ]
-    ]
-
-opened_refuses : (n : ℕ) (s : StoreNow) (a b : World) → (n ≡ 4 → ⊥) → OpensStore s a.device → RefusesExactly n a b
-opened_refuses n s a b not_device opens =
-    record {
-      only = λ e. absurd (not_device e);
-      there = λ found. absurd (not_none s a b opens found);
-      untouched = λ found. absurd (not_none s a b opens found);
-      others = λ four six seven. record { instance = s.core.instance; rs = opens.rs; stands = opens.device_stands };
-    }
+told_unopened_refuses fault x y opens good reads =
+    subst (λ (status : ℕ). Told (RefusesExactly status) x y) (opening_status_is fault) (told_refuses fault x y opens good reads)
 
 -- ---- a run on the store that was opened
-
--- what is told of the opening, and of what came behind it
-record Behind (s : StoreNow) (R : World → World → Type 0) (a d : World) : Type 0 where
-  between : World
-  opening : OpenedAs s a between
-  later : R between d
-
-told_behind : (s : StoreNow) (R : World → World → Type 0) (x y z : Option World) → Told (OpenedAs s) x y → Told R y z → Told (Behind s R) x z
-told_behind s R x y z opened later =
-    told_then (OpenedAs s) R (Behind s R) x y z (λ a b d o r. record { between = b; opening = o; later = r }) opened later
 
 -- what waits for the gateway is known by the book
 abbrev pub WaitsOnBook : StoreNow → Type 0
 WaitsOnBook s = (rs : List Record) → StandsFor s rs → texts_pending s ≡ texts_pending_on_book s.core.instance rs
-
-stands_opened : (instance : ℕ) (rs : List Record) (s : StoreNow) (a b : World) → OpenedAs s a b → DeviceStandsFor instance rs a.device → StandsFor s rs
-stands_opened instance rs s a b opening stands = (opened_on instance rs s a.device opening.size stands opening.opens).stands
 
 -- what waits went out in part
 saying_ends : {T : Type 0} (fault : StoreFault) (before now : Faults) → SayingCause {T = T} before now (Err fault) → (ends_with (stop_of_store fault) ≡ 5) ⊎ (ends_with (stop_of_store fault) ≡ 7)
@@ -173,7 +99,7 @@ module _ (n : ℕ) (ends : (n ≡ 5) ⊎ (n ≡ 7)) (s : StoreNow) (on_book : Wa
   waited_part : RunsAs (told_from_start (run_at s rs)) n s rs [] b c
   waited_part =
       stops_at_start n s rs b c (not_saying n 0 ends (omega arith)) (not_saying n 3 ends (omega arith)) (not_saying_long n ends)
-      (on_book rs (stands_opened instance rs s a b opening stands)) says
+      (on_book rs (stands_opened instance rs s a b opening stands).stands) says
 
   waited_on : ReplayOn n instance rs a c
   waited_on =
@@ -193,7 +119,7 @@ record WaitsThenRuns (status : ℕ) (s : StoreNow) (b d : World) : Type 0 where
 module _ (status : ℕ) (s : StoreNow) (on_book : WaitsOnBook s) (a b d : World) (opening : OpenedAs s a b) (later : WaitsThenRuns status s b d) (instance : ℕ) (rs : List Record) (stands : DeviceStandsFor instance rs a.device) where
   all_runs : RunsAs (told_from_start (run_at s rs)) status s rs later.runs.took b d
   all_runs =
-      let here = stands_opened instance rs s a b opening stands in
+      let here = (stands_opened instance rs s a b opening stands).stands in
       lines_from_start status s rs later.runs.took b later.middle d later.says.left
       (begins_goes s rs b later.middle (on_book rs here) later.says) (later.runs.on_book rs here)
 

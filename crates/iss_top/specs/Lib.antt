@@ -11,3 +11,5 @@ pub mod FormatRuns
 pub mod Tells
 pub mod Replaying
 pub mod Replays
+pub mod Reports
+pub mod DrillRuns

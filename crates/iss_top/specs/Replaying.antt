@@ -8,26 +8,23 @@ use Rattle.iss_edge.specs.Stretches.{Step, actions_of, IsGood, GoesOn}
 use Rattle.iss_model.specs.declared.input.Record.{Record}
 use Rattle.iss_model.specs.declared.limits.TheConstants.{MOST_INPUT}
 use Rattle.iss_model.specs.declared.input.Input.{Input}
-use Rattle.iss_model.specs.rules.Histories.{history_of, history_keeper}
+use Rattle.iss_model.specs.rules.Histories.{history_keeper}
 use Rattle.iss_model.specs.rules.Judging.{judge}
 use Rattle.iss_model.specs.state.Cores.{core_keeper}
 use Rattle.iss_model.specs.run.Rooms.{room_left}
 use Rattle.iss_model.specs.run.Runs.{Run, Response, response}
 use Rattle.iss_model.specs.run.Sayings.{reaction_to_record, said_of_time, answer_left}
 use Rattle.iss_model.specs.run.Transcripts.{Text, at_level, said_text_at}
-use Rattle.iss_store.specs.Values.{StoreNow, Plan, room_of}
+use Rattle.iss_store.specs.Values.{StoreNow, Plan}
 use Rattle.iss_store.specs.Standing.{StandsFor, RestsAt, StandsAt, AreHistory}
 use Rattle.iss_texts.specs.Sending.{emits, GoOut}
+use Rattle.iss_device.specs.Runs.{run_at}
 use Rattle.iss_top.specs.declared.stop.Stop.{Stop}
 use Rattle.iss_top.specs.declared.stop.Stop.TheVariants as stop
 use Rattle.iss_top.specs.Lines.{is_blank, parts_of, all_but_last}
 use Rattle.iss_top.specs.Dry.{reading_of, each_bytes}
 use Rattle.iss_top.specs.Progress.{is_output, HasRead}
 use Rattle.iss_top.specs.Reader.{ReaderNow, TakesIn}
-
--- what stands in a run whose store stands for these records
-abbrev pub run_at : StoreNow → List Record → Run
-run_at s rs = record { instance = s.core.instance; room = room_of s; history = history_of rs }
 
 -- what a line, blank or not, is told, and what then stands
 unfoldable pub told_line : Run → List ℕ → Response

@@ -1,33 +1,23 @@
 -- What a run on a device does, whatever status it ends with.
-use Rattle.std.specs.Prelude.{◌≡◌, ◌+◌, ℕ, ◌≤◌, ◌↔◌, ◌⊎◌, List, [], ◌++◌, length, map, take, Some, IsTrue}
+use Rattle.std.specs.Prelude.{◌≡◌, ◌+◌, ℕ, ◌≤◌, ◌↔◌, ◌⊎◌, List, [], ◌++◌, length, map, take, IsTrue}
 use Rattle.std.specs.List.{list_all}
 use Rattle.iss_edge.specs.declared.outside.Action.{Action}
 use Rattle.iss_edge.specs.World.{World, Faults, Rose}
-use Rattle.iss_edge.specs.Stretches.{Step, actions_of, ShowsUpTo}
-use Rattle.iss_edge.specs.Disk.{Disk, after_actions, IsAtRest, IsImage}
-use Rattle.iss_journal.specs.Region.{StandsFirst}
-use Rattle.iss_journal.specs.Header.{IsUnformatted}
-use Rattle.iss_journal.specs.Opening.{OpensFirst, OpenedOrOneMore}
+use Rattle.iss_edge.specs.Stretches.{Step, actions_of}
 use Rattle.iss_model.specs.declared.input.Record.{Record}
 use Rattle.iss_model.specs.declared.limits.TheConstants.{MOST_INPUT}
-use Rattle.iss_model.specs.rules.Histories.{history_of, IsLegal}
+use Rattle.iss_model.specs.rules.Histories.{IsLegal}
 use Rattle.iss_model.specs.run.Runs.{Run, transcript_of, line_texts, accepted_records}
 use Rattle.iss_model.specs.run.Transcripts.{Reading, Text}
-use Rattle.iss_store.specs.Standing.{region_of, bodies_of, DeviceStandsFor}
-use Rattle.iss_store.specs.Opening.{BadRecordAt, BadSpellingAt, BadHistoryAt, AreOnDevice, ReadsAlone}
+use Rattle.iss_store.specs.Standing.{DeviceStandsFor}
+use Rattle.iss_store.specs.Opening.{AreOnDevice}
 use Rattle.iss_texts.specs.Sending.{emits, GoOut}
+use Rattle.iss_device.specs.Runs.{run_on, run_on_device}
+use Rattle.iss_device.specs.Moments.{EachMoment}
 use Rattle.iss_top.specs.Lines.{lines_of, ended_lines}
 use Rattle.iss_top.specs.Dry.{reading_of, each_bytes}
 use Rattle.iss_top.specs.Reader.{TakesIn}
 use Rattle.iss_top.specs.Replaying.{is_of_run, outputs_of, output_levels, levels_of}
-
--- a run on a device of this instance and size that stands for these records
-abbrev pub run_on : ℕ → ℕ → List Record → Run
-run_on instance size rs = record { instance = instance; room = Some (record { size = size }); history = history_of rs }
-
--- the same on this device
-abbrev pub run_on_device : ℕ → List Record → List ℕ → Run
-run_on_device instance rs device = run_on instance (length device) rs
 
 -- all that a run is told to write for these lines
 abbrev pub texts_for : Run → List (List ℕ) → List Text
@@ -64,56 +54,24 @@ pub record ReplayOn (status : ℕ) (instance : ℕ) (rs : List Record) (a b : Wo
 abbrev pub ReplayRun : ℕ → World → World → Type 0
 ReplayRun status a b = (instance : ℕ) (rs : List Record) → DeviceStandsFor instance rs a.device → ReplayOn status instance rs a b
 
--- what is wrong with a device that stands for no records
-abbrev pub IsNoStore : List ℕ → Type 0
-IsNoStore device =
-    IsUnformatted device ⊎ ((gate : ℕ) × (BadRecordAt gate device ⊎ (BadSpellingAt gate device ⊎ BadHistoryAt gate device)))
-
--- no byte was taken, and nothing was done but on the device
-pub record OnDeviceAlone (a b : World) : Type 0 where
-  pub left : b.left ≡ a.left
-  pub actions : List Action
-  pub grew : b.trace ≡ a.trace ++ actions
-  pub on_device : AreOnDevice actions
-
--- the device stands for some records
-pub record IsStore (device : List ℕ) : Type 0 where
-  pub instance : ℕ
-  pub rs : List Record
-  pub stands : DeviceStandsFor instance rs device
-
--- Status 4 comes only where the device stands for no records by one of these faults; nothing was done then but maybe a sync, and the
--- device reads as before. On such a device no other status comes but by a fault of the disk or of memory, and at any status no byte was
--- taken, and nothing was sent. So any further status comes only on a device that stands for records.
-pub record RefusesExactly (status : ℕ) (a b : World) : Type 0 where
-  pub only : status ≡ 4 → IsNoStore a.device × ReadsAlone a b
-  pub there : IsNoStore a.device → (status ≡ 4) ⊎ ((status ≡ 6) ⊎ (status ≡ 7))
-  pub untouched : IsNoStore a.device → OnDeviceAlone a b
-  pub others : (status ≡ 4 → ⊥) → (status ≡ 6 → ⊥) → (status ≡ 7 → ⊥) → IsStore a.device
-
--- What a stop leaves at a moment of a run, once these steps were done: the records that stood and so many of those that its lines make,
--- at least as many as the level of each text of which a byte went out, with nothing or the next of them left behind; or, as long as
--- the steps are those of the opening, the records that stood, with what was left behind them at the start, or with that one too.
-abbrev pub MomentStands : ℕ → List Record → List Record → List Step → List Step → List ℕ → List ℕ → Type 0
-MomentStands instance rs all opening before start image =
-    ShowsUpTo (StandsFirst (region_of instance (length start)) (bodies_of all)) (length rs) (length all) before image
-    ⊎ (((later : List Step) × (opening ≡ before ++ later))
-    × ShowsUpTo (OpenedOrOneMore (region_of instance (length start)) (bodies_of all) start) (length rs) (length rs) before image)
-
--- Every moment of a run that begins on a device at rest which stands firmly for these records. All of the records that may stand are
--- legal, so each first part of them is.
-pub record EveryMoment (instance : ℕ) (rs : List Record) (a b : World) : Type 0 where
+-- Every moment of a run that begins on a device at rest which stands firmly for these records, where all of those may stand in the end,
+-- and these texts are to go out. The opening writes to the device and syncs it, and no more. All of the records that may stand are legal, so
+-- each first part of them is.
+pub record MomentsOf (instance : ℕ) (rs all : List Record) (texts : List Text) (a b : World) : Type 0 where
   pub opening : List Step
   pub later : List Step
+  pub opening_alone : AreOnDevice (actions_of opening)
   pub grew : b.trace ≡ a.trace ++ actions_of (opening ++ later)
-  pub legal : IsLegal (records_for (run_on_device instance rs a.device) rs (lines_of (a.left 0)))
-  -- each text that was sent has its level, in the transcript's order
-  pub levels : (unsent : List ℕ) × (levels_of (texts_for (run_on_device instance rs a.device) (lines_of (a.left 0))) ≡ output_levels (opening ++ later) ++ unsent)
-  pub each : (d : Disk) → IsAtRest d
-      → OpensFirst (region_of instance (length a.device)) (bodies_of rs) a.device d.bytes (length rs)
-      → (before rest : List Step) → opening ++ later ≡ before ++ rest
-      → (image : List ℕ) → IsImage (after_actions d (actions_of before)) image
-      → MomentStands instance rs (records_for (run_on_device instance rs a.device) rs (lines_of (a.left 0))) opening before a.device image
+  pub legal : IsLegal all
+  -- each text that was sent has its level, in the order of the texts
+  pub levels : (unsent : List ℕ) × (levels_of texts ≡ output_levels (opening ++ later) ++ unsent)
+  pub each : EachMoment instance rs all opening later a.device
+
+-- the same of a run that takes lines
+abbrev pub EveryMoment : ℕ → List Record → World → World → Type 0
+EveryMoment instance rs a b =
+    MomentsOf instance rs (records_for (run_on_device instance rs a.device) rs (lines_of (a.left 0)))
+    (texts_for (run_on_device instance rs a.device) (lines_of (a.left 0))) a b
 
 -- whichever records the device stands for at the start
 abbrev pub EveryMomentStands : World → World → Type 0

@@ -4,7 +4,7 @@ use Rattle.std.specs.List.{list_all}
 use Rattle.std.specs.Str.{bytes_eq}
 use Rattle.iss_model.specs.Amounts.{is_digit, digits_value, is_whole_text, value_after}
 use Rattle.iss_top.specs.declared.words.Command.{Command}
-use Rattle.iss_top.specs.declared.words.Command.TheVariants.{Dry, Format, Replay}
+use Rattle.iss_top.specs.declared.words.Command.TheVariants.{Dry, Format, Replay, Balances, Serve, Drill}
 
 -- this number, where it is from the least to the most
 abbrev pub within : ℕ → ℕ → ℕ → Option ℕ
@@ -18,11 +18,27 @@ number_in least most word = if is_whole_text word then within least most (digits
 abbrev pub is_device : List ℕ → Bool
 is_device word = nat_lt 0 (length word) && not (slice_index word 0 == 45) && nat_le (length word) 4096
 
+-- a run on a device of this name
+abbrev pub on_device : Command → List ℕ → Option Command
+on_device command device = if is_device device then Some command else None
+
+-- making so many events, where the number is there
+abbrev pub drill_of : Option ℕ → Option Command
+drill_of (Some n) = Some (Drill n)
+drill_of None = None
+
 -- formatting, where both numbers are there
 abbrev pub format_of : Option ℕ → Option ℕ → Option Command
 format_of (Some size) (Some instance) = Some (Format size instance)
 format_of (Some size) None = None
 format_of None instance = None
+
+-- serving, where all three numbers are there
+abbrev pub serve_of : Option ℕ → Option ℕ → Option ℕ → Option Command
+serve_of (Some port) (Some gateway) (Some turns) = Some (Serve port gateway turns)
+serve_of (Some port) (Some gateway) None = None
+serve_of (Some port) None turns = None
+serve_of None gateway turns = None
 
 -- `dry`
 abbrev pub dry_command : List ℕ → Option Command
@@ -35,15 +51,27 @@ format_command name device size instance =
     then format_of (number_in 17 4294967296 size) (number_in 0 281474976710655 instance)
     else None
 
--- `replay DEVICE`
-abbrev pub replay_command : List ℕ → List ℕ → Option Command
-replay_command name device = if bytes_eq name (codes "replay") && is_device device then Some Replay else None
+-- `replay DEVICE`, `balances DEVICE`, and `drill N` with an N of 1 to 100000
+abbrev pub two_word_command : List ℕ → List ℕ → Option Command
+two_word_command name word =
+    if bytes_eq name (codes "replay") then on_device Replay word
+    else if bytes_eq name (codes "balances") then on_device Balances word
+    else if bytes_eq name (codes "drill") then drill_of (number_in 1 100000 word)
+    else None
+
+-- `serve DEVICE PORT GATEWAYPORT TURNS`, with ports of 1 to 65535 and turns of 1 to 4294967295
+abbrev pub serve_command : List ℕ → List ℕ → List ℕ → List ℕ → List ℕ → Option Command
+serve_command name device port gateway turns =
+    if bytes_eq name (codes "serve") && is_device device
+    then serve_of (number_in 1 65535 port) (number_in 1 65535 gateway) (number_in 1 4294967295 turns)
+    else None
 
 -- what the words ask for
 unfoldable pub command_of_words : List (List ℕ) → Option Command
 command_of_words (name ∷ []) = dry_command name
-command_of_words (name ∷ device ∷ []) = replay_command name device
+command_of_words (name ∷ word ∷ []) = two_word_command name word
 command_of_words (name ∷ device ∷ size ∷ instance ∷ []) = format_command name device size instance
+command_of_words (name ∷ device ∷ port ∷ gateway ∷ turns ∷ []) = serve_command name device port gateway turns
 command_of_words words = None
 
 -- that number, where these are digits and it is from the least to the most
@@ -54,14 +82,20 @@ number_after start least most digits = if list_all is_digit digits then within l
 abbrev pub IsInRange : Command → Type 0
 IsInRange Dry = Unit {0}
 IsInRange Replay = Unit {0}
-IsInRange (Format size instance) =
-    (17 ≤ size) × (size ≤ 2 ^ 32) × (instance < 2 ^ 48)
+IsInRange Balances = Unit {0}
+IsInRange (Format size instance) = (17 ≤ size) × (size ≤ 2 ^ 32) × (instance < 2 ^ 48)
+IsInRange (Serve port gateway turns) =
+    ((1 ≤ port) × (port < 2 ^ 16)) × ((1 ≤ gateway) × (gateway < 2 ^ 16)) × ((1 ≤ turns) × (turns < 2 ^ 32))
+IsInRange (Drill n) = (1 ≤ n) × (n ≤ 100000)
 
 -- the statuses that a run by these words may end with
 abbrev pub statuses : Option Command → List ℕ
 statuses (Some Dry) = 0 ∷ 3 ∷ 5 ∷ 7 ∷ 8 ∷ []
 statuses (Some (Format size instance)) = 0 ∷ 4 ∷ 6 ∷ []
 statuses (Some Replay) = 0 ∷ 3 ∷ 4 ∷ 5 ∷ 6 ∷ 7 ∷ 8 ∷ []
+statuses (Some Balances) = 0 ∷ 4 ∷ 5 ∷ 6 ∷ 7 ∷ []
+statuses (Some (Serve port gateway turns)) = 0 ∷ 3 ∷ 4 ∷ 6 ∷ 7 ∷ []
+statuses (Some (Drill n)) = 0 ∷ 5 ∷ 7 ∷ []
 statuses None = 2 ∷ []
 
 -- where the words ask for a dry run, this holds
@@ -69,6 +103,9 @@ abbrev pub OnDry : Option Command → Type 0 → Type 0
 OnDry (Some Dry) P = P
 OnDry (Some (Format size instance)) P = Unit {0}
 OnDry (Some Replay) P = Unit {0}
+OnDry (Some Balances) P = Unit {0}
+OnDry (Some (Serve port gateway turns)) P = Unit {0}
+OnDry (Some (Drill n)) P = Unit {0}
 OnDry None P = Unit {0}
 
 -- where the words ask for formatting, this holds of the size and the instance
@@ -76,6 +113,9 @@ abbrev pub OnFormat : Option Command → (ℕ → ℕ → Type 0) → Type 0
 OnFormat (Some (Format size instance)) P = P size instance
 OnFormat (Some Dry) P = Unit {0}
 OnFormat (Some Replay) P = Unit {0}
+OnFormat (Some Balances) P = Unit {0}
+OnFormat (Some (Serve port gateway turns)) P = Unit {0}
+OnFormat (Some (Drill n)) P = Unit {0}
 OnFormat None P = Unit {0}
 
 -- where the words ask for a run on a device, this holds
@@ -83,4 +123,37 @@ abbrev pub OnReplay : Option Command → Type 0 → Type 0
 OnReplay (Some Replay) P = P
 OnReplay (Some Dry) P = Unit {0}
 OnReplay (Some (Format size instance)) P = Unit {0}
+OnReplay (Some Balances) P = Unit {0}
+OnReplay (Some (Serve port gateway turns)) P = Unit {0}
+OnReplay (Some (Drill n)) P = Unit {0}
 OnReplay None P = Unit {0}
+
+-- where the words ask for a report, this holds
+abbrev pub OnBalances : Option Command → Type 0 → Type 0
+OnBalances (Some Balances) P = P
+OnBalances (Some Dry) P = Unit {0}
+OnBalances (Some (Format size instance)) P = Unit {0}
+OnBalances (Some Replay) P = Unit {0}
+OnBalances (Some (Serve port gateway turns)) P = Unit {0}
+OnBalances (Some (Drill n)) P = Unit {0}
+OnBalances None P = Unit {0}
+
+-- where the words ask for serving, this holds of the turns
+abbrev pub OnServe : Option Command → (ℕ → Type 0) → Type 0
+OnServe (Some (Serve port gateway turns)) P = P turns
+OnServe (Some Dry) P = Unit {0}
+OnServe (Some (Format size instance)) P = Unit {0}
+OnServe (Some Replay) P = Unit {0}
+OnServe (Some Balances) P = Unit {0}
+OnServe (Some (Drill n)) P = Unit {0}
+OnServe None P = Unit {0}
+
+-- where the words ask for a drill, this holds of its number
+abbrev pub OnDrill : Option Command → (ℕ → Type 0) → Type 0
+OnDrill (Some (Drill n)) P = P n
+OnDrill (Some Dry) P = Unit {0}
+OnDrill (Some (Format size instance)) P = Unit {0}
+OnDrill (Some Replay) P = Unit {0}
+OnDrill (Some Balances) P = Unit {0}
+OnDrill (Some (Serve port gateway turns)) P = Unit {0}
+OnDrill None P = Unit {0}

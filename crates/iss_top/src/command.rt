@@ -2,14 +2,22 @@
 ghost use Rattle.std.specs.Prelude.{◌≡◌, ◌↔◌, ◌==◌, None, map, string_bytes, IsTrue};
 ghost use Rattle.std.specs.List.{list_any};
 ghost use Rattle.iss_edge.specs.World.{Told, Rose};
-ghost use Rattle.iss_top.specs.Words.{command_of_words, statuses, OnDry, OnFormat, OnReplay};
+ghost use Rattle.iss_edge.specs.Outer.{outer_of};
+ghost use Rattle.iss_top.specs.Words.{command_of_words, statuses, OnDry, OnFormat, OnReplay, OnBalances, OnServe, OnDrill};
 ghost use Rattle.iss_top.specs.Runs.{DryRun, EmitsTexts, EndsWell, StopsAtLines};
-ghost use Rattle.iss_top.specs.Replays.{ReplayRun, EveryMomentStands, RefusesExactly, ReplayEndsWell, TranscriptsContinue};
+ghost use Rattle.iss_device.specs.Refusals.{RefusesExactly};
+ghost use Rattle.iss_serve.specs.ServeRuns.{ServeRun, OfWorlds, ServeEndsWell};
+ghost use Rattle.iss_top.specs.Replays.{ReplayRun, EveryMomentStands, ReplayEndsWell, TranscriptsContinue};
+ghost use Rattle.iss_top.specs.Reports.{ReportRun, ReportMomentStands, ReportEndsWell};
+ghost use Rattle.iss_top.specs.DrillRuns.{DrillRun, DrillEndsWell};
 ghost use Rattle.iss_top.specs.FormatRuns.{FormatRun};
 
+use crate::balances::balances;
+use crate::drilling::drilled;
 use crate::dry::dry;
 use crate::format::format;
 use crate::replay::replay;
+use crate::serving::serve_on_device;
 use crate::stop::status_of;
 use crate::words::{Command, Usage, command_of};
 use iss_edge::Edge;
@@ -23,12 +31,16 @@ const USAGE: u8 = 2;
 /// The one word `dry` reads event lines from channel 0 to its end and writes what they are told: lines of JSON (RFC 8259),
 /// each by one emit. `format DEVICE SIZE INSTANCE` makes the device, of SIZE bytes, one of this instance that stands for
 /// no records. `replay DEVICE` opens the device, writes the requests and notices that still wait for the gateway, and then takes
-/// event lines as `dry` does; what a line makes lasts on the device before any of its texts goes out.
+/// event lines as `dry` does; what a line makes lasts on the device before any of its texts goes out. `balances DEVICE` opens
+/// the device and writes what stands on it: for each account that money was moved to or from its balance, and for a user's what is
+/// held of it, and then a line of counts. `serve DEVICE PORT GATEWAYPORT TURNS` opens the device, sends again what still waits
+/// for the gateway, and takes event lines from clients over HTTP (RFC 9112), in at most TURNS waits; the ports are the outside's.
+/// `drill N` makes so many events, takes them on a device in memory, and writes a line of what they came to.
 ///
-/// The statuses are 0 for a run that came to its end, 2 for words that are no command, 3 where the input failed, 4 where the
-/// device has another size or stands for no records, 5 where the output failed, 6 where a call on the device failed, 7 where an
+/// The statuses are 0 for a run that came to its end, 2 for words that are no command, 3 where the input or a wait failed, 4 where
+/// the device has another size or stands for no records, 5 where the output failed, 6 where a call on the device failed, 7 where an
 /// allocation failed, and 8 where the input has more than 4294967296 bytes.
-#[tactic(auto, using(crate::proofs::RunBytes::told_run, crate::proofs::RunBytes::told_emits, crate::proofs::RunBytes::told_stops, crate::proofs::Commands::told_ends_well, crate::proofs::ToldReplays::told_replay_ends_well, crate::proofs::Continues::transcripts_continue))]
+#[tactic(auto, using(crate::proofs::RunBytes::told_run, crate::proofs::RunBytes::told_emits, crate::proofs::RunBytes::told_stops, crate::proofs::Commands::told_ends_well, crate::proofs::ToldReplays::told_replay_ends_well, crate::proofs::ToldReports::told_report_ends_well, crate::proofs::Continues::transcripts_continue))]
 pub fn run<E: Edge>(alloc: Global, words: &[String], edge: &mut E) -> u8
     // No other status, by the words.
     ensures known { IsTrue (list_any (λ status. result == status) (statuses (command_of_words (map string_bytes words.now)))) }
@@ -83,6 +95,34 @@ pub fn run<E: Edge>(alloc: Global, words: &[String], edge: &mut E) -> u8
     ensures replay_complete { OnReplay (command_of_words (map string_bytes words.now))
         (Told (ReplayEndsWell (E.faults edge.old) (E.faults edge.new) result) (E.told edge.old) (E.told edge.new)) }
 
+    // A report of a device that stands for records: what went out are its lines, each by an emit of its own, or some first ones of them,
+    // and the device stands for the records, as it does at every moment. Nothing is taken.
+    ensures reporting { OnBalances (command_of_words (map string_bytes words.now))
+        (Told (ReportRun result) (E.told edge.old) (E.told edge.new)) }
+    ensures report_moments { OnBalances (command_of_words (map string_bytes words.now))
+        (Told ReportMomentStands (E.told edge.old) (E.told edge.new)) }
+    ensures report_refused { OnBalances (command_of_words (map string_bytes words.now))
+        (Told (RefusesExactly result) (E.told edge.old) (E.told edge.new)) }
+    ensures report_complete { OnBalances (command_of_words (map string_bytes words.now))
+        (Told (ReportEndsWell (E.faults edge.old) (E.faults edge.new) result) (E.told edge.old) (E.told edge.new)) }
+
+    // A run that serves: what was heard and done is what the session of the device's records says, and at whatever moment it stops, the
+    // device stands for the old records and a prefix of the accepted inputs that holds every one of which a byte went out. A device that
+    // stands for no records decides over 4. Where device and input aren't at fault, it comes to its end, or an allocation fails.
+    ensures serving { OnServe (command_of_words (map string_bytes words.now)) (λ turns.
+        Told (ServeRun turns result) (outer_of (E.told edge.old) (E.heard edge.old)) (outer_of (E.told edge.new) (E.heard edge.new))) }
+    ensures serve_refused { OnServe (command_of_words (map string_bytes words.now)) (λ turns.
+        Told (OfWorlds (RefusesExactly result)) (outer_of (E.told edge.old) (E.heard edge.old)) (outer_of (E.told edge.new) (E.heard edge.new))) }
+    ensures serve_complete { OnServe (command_of_words (map string_bytes words.now)) (λ turns.
+        Told (OfWorlds (ServeEndsWell (E.faults edge.old) (E.faults edge.new) result))
+        (outer_of (E.told edge.old) (E.heard edge.old)) (outer_of (E.told edge.new) (E.heard edge.new))) }
+
+    // A drill writes its line by one emit, or a prefix of it, and does nothing else.
+    ensures drilling { OnDrill (command_of_words (map string_bytes words.now)) (λ n.
+        Told (DrillRun n result) (E.told edge.old) (E.told edge.new)) }
+    ensures drill_complete { OnDrill (command_of_words (map string_bytes words.now)) (λ n.
+        DrillEndsWell (E.faults edge.old) (E.faults edge.new) result) }
+
     // What formatting does.
     ensures formatting { OnFormat (command_of_words (map string_bytes words.now)) (λ size instance.
         FormatRun size instance (E.extent edge.old) result (E.faults edge.old) (E.faults edge.new) (E.told edge.old) (E.told edge.new)) }
@@ -91,6 +131,9 @@ pub fn run<E: Edge>(alloc: Global, words: &[String], edge: &mut E) -> u8
         Ok(Command::Dry) => status_of(dry(alloc, edge)),
         Ok(Command::Format { size, instance }) => format(edge, size, instance),
         Ok(Command::Replay) => status_of(replay(alloc, edge)),
+        Ok(Command::Balances) => status_of(balances(alloc, edge)),
+        Ok(Command::Serve { turns, .. }) => serve_on_device(alloc, turns, edge),
+        Ok(Command::Drill { n }) => drilled(alloc, n, edge),
         Err(Usage) => USAGE,
     }
 }

@@ -5,8 +5,10 @@
 #![tactic(auto)]
 
 mod answer;
+mod balances;
 mod buffer;
 mod command;
+mod drilling;
 mod dry;
 mod format;
 mod laws;
@@ -14,6 +16,7 @@ mod piece;
 mod reader;
 mod replay;
 mod replying;
+mod serving;
 mod stop;
 mod taking;
 mod words;

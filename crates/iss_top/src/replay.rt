@@ -3,7 +3,8 @@ ghost use Rattle.std.specs.Prelude.{◌≡◌};
 ghost use Rattle.iss_edge.specs.World.{Told};
 ghost use Rattle.iss_top.specs.Statuses.{status_of};
 ghost use Rattle.iss_top.specs.Replaying.{RunsFrom, IsReplayCaused};
-ghost use Rattle.iss_top.specs.Replays.{ReplayRun, EveryMomentStands, RefusesExactly};
+ghost use Rattle.iss_device.specs.Refusals.{RefusesExactly};
+ghost use Rattle.iss_top.specs.Replays.{ReplayRun, EveryMomentStands};
 
 use crate::reader::LineReader;
 use crate::stop::Stop;

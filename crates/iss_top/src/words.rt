@@ -2,7 +2,7 @@
 ghost use Rattle.std.specs.Prelude.{◌≡◌, ◌≤◌, map, string_bytes, IfOk, IfSome};
 ghost use Rattle.std.specs.Result.{result_ok};
 ghost use Rattle.iss_model.specs.Amounts.{is_unpadded};
-ghost use Rattle.iss_top.specs.Words.{is_device, number_after, number_in, dry_command, replay_command, format_command, command_of_words, IsInRange};
+ghost use Rattle.iss_top.specs.Words.{is_device, number_after, number_in, dry_command, two_word_command, drill_of, format_command, serve_command, command_of_words, IsInRange};
 
 /// The most bytes that the name of a device has.
 const LONGEST_NAME: usize = 4096;
@@ -16,6 +16,15 @@ const GREATEST_SIZE: u64 = 4_294_967_296;
 /// The greatest instance, which takes 48 bits.
 const GREATEST_INSTANCE: u64 = 281_474_976_710_655;
 
+/// The greatest port.
+const GREATEST_PORT: u64 = 65_535;
+
+/// The most times that a server waits.
+const MOST_TURNS: u64 = 4_294_967_295;
+
+/// The most events that a drill makes.
+const MOST_EVENTS: u64 = 100_000;
+
 /// What a run is to do.
 #[derive(Debug, Clone, Copy)]
 pub enum Command {
@@ -25,6 +34,13 @@ pub enum Command {
     Format { size: u64, instance: u64 },
     /// `replay DEVICE`: lines get their replies, and what they make lasts on the device.
     Replay,
+    /// `balances DEVICE`: what the accounts on the device have is written.
+    Balances,
+    /// `serve DEVICE PORT GATEWAYPORT TURNS`: clients on a port are served, the gateway is dialled on another, and so many waits are
+    /// made at most.
+    Serve { port: u16, gateway: u16, turns: u32 },
+    /// `drill N`: so many events are made and taken on a device in memory.
+    Drill { n: u32 },
 }
 
 /// The words are no command.
@@ -34,7 +50,8 @@ pub struct Usage;
 /// What the words after the program's name ask for.
 ///
 /// A number is decimal digits without a sign, and without a leading zero but in `0` itself. DEVICE has 1 to 4096 bytes
-/// and doesn't begin with `-`, SIZE is 17 to 4294967296, and INSTANCE is 0 to 281474976710655.
+/// and doesn't begin with `-`, SIZE is 17 to 4294967296, INSTANCE is 0 to 281474976710655, PORT and GATEWAYPORT are 1 to
+/// 65535, TURNS is 1 to 4294967295, and N is 1 to 100000.
 pub fn command_of(words: &[String]) -> Result<Command, Usage>
     ensures said { result_ok result ≡ command_of_words (map string_bytes words.now) }
     ensures ranges { IfOk result IsInRange }
@@ -46,19 +63,26 @@ pub fn command_of(words: &[String]) -> Result<Command, Usage>
 }
 
 /// The command that the words say, where they say one.
-#[tactic(auto, using(crate::proofs::Numbers::three, crate::proofs::Numbers::five_or_more), unfolding(crate::specs::Words::command_of_words))]
+#[tactic(auto, using(crate::proofs::Numbers::three, crate::proofs::Numbers::six_or_more), unfolding(crate::specs::Words::command_of_words))]
 fn said(words: &[String]) -> Option<Command>
     ensures said { result ≡ command_of_words (map string_bytes words.now) }
     ensures ranges { IfSome result IsInRange }
 {
     match words {
         [name] => dry_said(name.as_str()),
-        [name, device] => replay_said(name.as_str(), device.as_bytes()),
+        [name, word] => two_words_said(name.as_str(), word.as_bytes()),
         [name, device, size, instance] => format_said(
             name.as_str(),
             device.as_bytes(),
             size.as_bytes(),
             instance.as_bytes(),
+        ),
+        [name, device, port, gateway, turns] => serve_said(
+            name.as_str(),
+            device.as_bytes(),
+            port.as_bytes(),
+            gateway.as_bytes(),
+            turns.as_bytes(),
         ),
         _ => None,
     }
@@ -73,11 +97,25 @@ fn dry_said(name: &str) -> Option<Command>
 }
 
 /// What two words ask for.
-fn replay_said(name: &str, device: &[u8]) -> Option<Command>
-    ensures said { result ≡ replay_command name.now device.now }
+fn two_words_said(name: &str, word: &[u8]) -> Option<Command>
+    ensures said { result ≡ two_word_command name.now word.now }
     ensures ranges { IfSome result IsInRange }
 {
-    (name == "replay" && is_device(device)).then_some(Command::Replay)
+    match name {
+        "replay" => is_device(word).then_some(Command::Replay),
+        "balances" => is_device(word).then_some(Command::Balances),
+        "drill" => drill_said(word),
+        _ => None,
+    }
+}
+
+/// What the word behind `drill` asks for.
+fn drill_said(number: &[u8]) -> Option<Command>
+    ensures said { result ≡ drill_of (number_in 1 100000 number.now) }
+    ensures ranges { IfSome result IsInRange }
+{
+    let n = number_in(1, MOST_EVENTS, number)? as u32;
+    Some(Command::Drill { n })
 }
 
 /// What four words ask for.
@@ -91,6 +129,30 @@ fn format_said(name: &str, device: &[u8], size: &[u8], instance: &[u8]) -> Optio
     let size = number_in(LEAST_SIZE, GREATEST_SIZE, size)?;
     let instance = number_in(0, GREATEST_INSTANCE, instance)?;
     Some(Command::Format { size, instance })
+}
+
+/// What five words ask for.
+fn serve_said(
+    name: &str,
+    device: &[u8],
+    port: &[u8],
+    gateway: &[u8],
+    turns: &[u8],
+) -> Option<Command>
+    ensures said { result ≡ serve_command name.now device.now port.now gateway.now turns.now }
+    ensures ranges { IfSome result IsInRange }
+{
+    if name != "serve" || !is_device(device) {
+        return None;
+    }
+    let port = number_in(1, GREATEST_PORT, port)? as u16;
+    let gateway = number_in(1, GREATEST_PORT, gateway)? as u16;
+    let turns = number_in(1, MOST_TURNS, turns)? as u32;
+    Some(Command::Serve {
+        port,
+        gateway,
+        turns,
+    })
 }
 
 /// Whether this can be the name of a device.

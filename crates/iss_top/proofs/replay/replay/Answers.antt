@@ -1,7 +1,8 @@
 use Rattle.std.proofs.Common.{◌≡◌, Err, ◌∙◌, rules}
 use Rattle.iss_journal.proofs.Formats.{Sized}
 use Rattle.iss_top.specs.Statuses.{status_of, stop_of_opening, stop_of_store}
-use Rattle.iss_top.proofs.ToldReplays.{told_opened, told_unopened_run, told_unopened_moments, told_waited_run, told_waited_moments, told_waited_refuses, told_run, told_moments, told_run_refuses}
+use Rattle.iss_device.proofs.Devices.{told_opened}
+use Rattle.iss_top.proofs.ToldReplays.{told_unopened_run, told_unopened_moments, told_waited_run, told_waited_moments, told_waited_refuses, told_run, told_moments, told_run_refuses}
 use Rattle.iss_top.proofs.replay.replay.Goals as goal
 
 pub returns-in_err-store-clause-ran : goal.returns-in_err-store-clause-ran

@@ -1,0 +1,95 @@
+-- A report of what stands on a device: what went out, and each moment.
+use Rattle.std.proofs.Common.{◌≡◌, ℕ, inl, inr, List, [], ◌++◌, length, refl, sym, ap, subst, ◌∙◌, append-nil, append_assoc}
+use Rattle.iss_edge.specs.declared.outside.Action.{Action}
+use Rattle.iss_edge.specs.World.{World}
+use Rattle.iss_model.specs.declared.input.Record.{Record}
+use Rattle.iss_model.specs.rules.Histories.{IsLegal}
+use Rattle.iss_store.specs.Values.{StoreNow}
+use Rattle.iss_store.specs.Standing.{DeviceStandsFor}
+use Rattle.iss_store.specs.Opening.{OpensGood}
+use Rattle.iss_texts.specs.Sending.{emits, Says, SaysSome}
+use Rattle.iss_texts.proofs.Saying.{all_out, says_all}
+use Rattle.iss_device.specs.Opened.{OpenedAs}
+use Rattle.iss_device.proofs.Devices.{rests_stands}
+use Rattle.iss_top.specs.Replays.{MomentsOf}
+use Rattle.iss_top.specs.Reports.{report_lines, report_texts, ReportOn}
+use Rattle.iss_top.proofs.Goings.{says_goes_part}
+use Rattle.iss_top.proofs.Moments.{moments_unopened, moments_opened}
+
+-- no more records than those that stood
+no_more : (instance : ℕ) (rs : List Record) (a d : World) → MomentsOf instance rs (rs ++ []) (report_texts rs) a d → MomentsOf instance rs rs (report_texts rs) a d
+no_more instance rs a d moments =
+    subst (λ (l : List Record). MomentsOf instance rs l (report_texts rs) a d) (append-nil rs) moments
+
+legal_still : (instance : ℕ) (rs : List Record) (device : List ℕ) → DeviceStandsFor instance rs device → IsLegal (rs ++ [])
+legal_still instance rs device stands = subst IsLegal (sym (append-nil rs)) stands.history.legal
+
+-- ---- the device didn't open
+
+pub unopened_report_on : (status instance : ℕ) (rs : List Record) (a b : World) → (status ≡ 0 → ⊥) → (status ≡ 4 → ⊥) → (status ≡ 5 → ⊥) → OpensGood a b → ReportOn status instance rs a b
+unopened_report_on status instance rs a b not_done not_device not_output good =
+    record {
+      left = good.left;
+      opening = good.added;
+      sent = [];
+      grew = good.grew ∙ ap (λ (l : List Action). a.trace ++ l) (sym (append-nil good.added));
+      on_device = good.on_device;
+      out = record { whole = []; rest = report_lines rs; cut = refl; last = []; done = refl; ended = inl refl };
+      whole = λ e. absurd (not_done e);
+      stands = λ e. elim e [ inl done ↦ absurd (not_done done) | inr failed ↦ absurd (not_output failed) ];
+      other_device = not_device;
+    }
+
+pub unopened_report_moments : (instance : ℕ) (rs : List Record) (a b : World) → OpensGood a b → DeviceStandsFor instance rs a.device → MomentsOf instance rs rs (report_texts rs) a b
+unopened_report_moments instance rs a b good stands =
+    no_more instance rs a b (moments_unopened instance rs [] (report_texts rs) a b good stands (legal_still instance rs a.device stands))
+
+-- ---- the device opened
+
+module _ (instance : ℕ) (rs : List Record) (s : StoreNow) (a b d : World) (opening : OpenedAs s a b) (stands : DeviceStandsFor instance rs a.device) where
+  still_stands : DeviceStandsFor instance rs b.device
+  still_stands =
+      rests_stands instance (length a.device) rs b.device stands.header.size stands.header.small stands.history (opening.going.rests rs instance stands)
+
+  behind_opening : (sent : List Action) → d.trace ≡ b.trace ++ sent → d.trace ≡ a.trace ++ (opening.good.added ++ sent)
+  behind_opening sent grew =
+      grew ∙ ap (λ (l : List Action). l ++ sent) opening.good.grew ∙ append_assoc a.trace opening.good.added sent
+
+  -- some of the lines went out
+  pub part_on : (status : ℕ) → (status ≡ 0 → ⊥) → (status ≡ 4 → ⊥) → SaysSome (report_lines rs) b d → ReportOn status instance rs a d
+  part_on status not_done not_device says =
+      record {
+        left = says.left ∙ opening.good.left;
+        opening = opening.good.added;
+        sent = says.sends.actions;
+        grew = behind_opening says.sends.actions says.sends.grew;
+        on_device = opening.good.on_device;
+        out = says.sends.out;
+        whole = λ e. absurd (not_done e);
+        stands = λ e. subst (λ (device : List ℕ). DeviceStandsFor instance rs device) (sym says.sends.device) still_stands;
+        other_device = not_device;
+      }
+
+  -- all of them did
+  pub whole_on : (status : ℕ) → (status ≡ 4 → ⊥) → Says (report_lines rs) b d → ReportOn status instance rs a d
+  whole_on status not_device says =
+      record {
+        left = says.left ∙ opening.good.left;
+        opening = opening.good.added;
+        sent = emits (report_lines rs);
+        grew = behind_opening (emits (report_lines rs)) says.sends.grew;
+        on_device = opening.good.on_device;
+        out = all_out (report_lines rs);
+        whole = λ e. refl;
+        stands = λ e. subst (λ (device : List ℕ). DeviceStandsFor instance rs device) (sym says.sends.device) still_stands;
+        other_device = not_device;
+      }
+
+  pub part_moments : SaysSome (report_lines rs) b d → MomentsOf instance rs rs (report_texts rs) a d
+  part_moments says =
+      no_more instance rs a d
+      (moments_opened instance rs [] rs (report_texts rs) s a b d opening stands (legal_still instance rs a.device stands)
+      (record { later = []; cut = refl }) (says_goes_part s rs (report_lines rs) b d says))
+
+  pub whole_moments : Says (report_lines rs) b d → MomentsOf instance rs rs (report_texts rs) a d
+  whole_moments says = part_moments (says_all (report_lines rs) b d says)

@@ -1,0 +1,23 @@
+-- What a drill does, whatever status it ends with.
+use Rattle.std.specs.Prelude.{◌≡◌, ◌⊎◌, ℕ, [], ◌∷◌, Result, Ok, Err}
+use Rattle.iss_edge.specs.World.{World, Faults, Rose}
+use Rattle.iss_texts.specs.Sending.{Says, SaysSome}
+use Rattle.iss_drill.specs.Drills.{drill_text}
+use Rattle.iss_drill.specs.declared.fault.DrillFault.{DrillFault}
+use Rattle.iss_drill.specs.declared.fault.DrillFault.TheVariants as drill_fault
+
+-- the exit status of a drill that ended so
+abbrev pub drill_status : {A : Type 0} → Result A DrillFault → ℕ
+drill_status (Ok done) = 0
+drill_status (Err drill_fault.Output) = 5
+drill_status (Err drill_fault.OutOfMemory) = 7
+
+-- Of a drill of n events with this status, nothing was done but that its line went out by one emit, and at 0 all of it; else nothing, or
+-- by a failed emit a prefix of it.
+pub record DrillRun (n status : ℕ) (a b : World) : Type 0 where
+  pub part : SaysSome (drill_text n ∷ []) a b
+  pub whole : status ≡ 0 → Says (drill_text n ∷ []) a b
+
+-- where the count of output didn't rise, the status is 0 or 7
+abbrev pub DrillEndsWell : Faults → Faults → ℕ → Type 0
+DrillEndsWell before now status = (Rose before.output now.output → ⊥) → (status ≡ 0) ⊎ (status ≡ 7)
