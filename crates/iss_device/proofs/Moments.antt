@@ -1,5 +1,5 @@
 -- What a stop leaves at each moment: within the opening, and behind it.
-use Rattle.std.proofs.Common.{◌≡◌, ℕ, ◌≤◌, inl, inr, List, [], ◌++◌, length, take, sym, ap, subst, ◌∙◌, append-nil, append_assoc, arith, length-append}
+use Rattle.std.proofs.Common.{◌≡◌, ℕ, ◌≤◌, inl, inr, List, [], ◌++◌, length, take, sym, ap, subst, ◌∙◌, append-nil, append_assoc, arith}
 use Rattle.std.proofs.lemmas.List.{append_cancel_left, take-append-le, take_all}
 use Rattle.iss_edge.specs.declared.outside.Action.{Action}
 use Rattle.iss_edge.specs.World.{World}
@@ -11,10 +11,10 @@ use Rattle.iss_journal.specs.Opening.{OpensFirst, OpenedOrOneMore}
 use Rattle.iss_model.specs.declared.input.Record.{Record}
 use Rattle.iss_store.specs.Values.{StoreNow}
 use Rattle.iss_store.specs.Standing.{region_of, region_under, bodies_of, DeviceStandsFor, RestsAt, StandsAt}
-use Rattle.iss_store.specs.Opening.{AreOnDevice, OpensGood, OpensGoing}
+use Rattle.iss_store.specs.Opening.{AreOnDevice, OpensGood}
 use Rattle.iss_store.proofs.Regions.{take_bodies}
-use Rattle.iss_device.specs.Opened.{OpenedAs, IsOpenedOn}
-use Rattle.iss_device.specs.Moments.{MomentStands, EachMoment}
+use Rattle.iss_device.specs.Opened.{OpenedAs}
+use Rattle.iss_device.specs.Moments.{EachMoment}
 use Rattle.iss_device.proofs.Devices.{stands_opened, region_opened}
 
 -- ---- the records that stood come first

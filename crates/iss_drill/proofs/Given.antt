@@ -1,9 +1,12 @@
 -- A line that is given: its record is kept, its answer told, and what it comes to counted.
 use Rattle.std.proofs.Common.{◌≡◌, ℕ, ◌+◌, ◌*◌, ◌<◌, ◌≤◌, Bool, true, false, List, [], ◌∷◌, ◌++◌, length, refl, sym, ap, subst, ◌∙◌, arith, length-append}
-use Rattle.std.specs.Prelude.{◌^◌, Option, Some, None, unwrap_or, Result, Ok, Err}
+use Rattle.std.specs.Prelude.{◌^◌, Option, Some, None, unwrap_or, IfSome, Result, Ok, Err}
+use Rattle.std.specs.List.{list_all}
+use Rattle.std.proofs.lemmas.Bool.{and_parts}
 use Rattle.std.proofs.lemmas.List.Sums.{fold_push}
 use Rattle.iss_model.specs.declared.call.CallId.{CallId}
 use Rattle.iss_model.specs.declared.entry.Entry.{Entry}
+use Rattle.iss_model.specs.declared.entry.Entry.TheVariants as entry
 use Rattle.iss_model.specs.declared.input.Input.{Input}
 use Rattle.iss_model.specs.declared.input.Record.{Record}
 use Rattle.iss_model.specs.declared.decision.Answer.{Answer}
@@ -18,6 +21,7 @@ use Rattle.iss_model.specs.run.Runs.{Run, judgement_in, response, response_as, r
 use Rattle.iss_agreement.proofs.Records.{step_records}
 use Rattle.iss_store.specs.declared.fault.PlanFault.{PlanFault}
 use Rattle.iss_store.specs.declared.fault.PlanFault.TheVariants as plan_fault
+use Rattle.iss_store.specs.Numbers.{AreNumbered, is_from_one, is_numbered}
 use Rattle.iss_store.specs.Values.{StoreNow, Plan, DurableNow, room_of}
 use Rattle.iss_store.specs.Standing.{StandsFor}
 use Rattle.iss_store.specs.Planning.{Plans}
@@ -25,7 +29,7 @@ use Rattle.iss_store.specs.Committing.{Commits, CommitsOnBook}
 use Rattle.iss_drill.specs.declared.tally.Tally.{Tally}
 use Rattle.iss_drill.specs.Drills.{call_opened, call_opened_in, entries_as, is_repeat, is_told_repeat, tells_repeat, repeats_among, is_approval, is_decline, is_notice_made, rows_with}
 use Rattle.iss_drill.specs.Tallies.{among, Counts, IsFew}
-use Rattle.iss_drill.specs.Giving.{StandsAtRun, run_with, Keeps, one_if, TellsAnswer, Takes, HasGiven}
+use Rattle.iss_drill.specs.Giving.{StandsAtRun, run_with, Keeps, one_if, IsCallNumbered, TellsAnswer, Takes, HasGiven}
 use Rattle.iss_drill.proofs.Counting.{step_counts, counts_none, tells_other, among_few}
 use Rattle.iss_drill.proofs.Lines.{run_then, repeats_then}
 
@@ -57,6 +61,16 @@ kept s s' p d run before after opened on_book commits counts call at =
           };
       call = call ∙ ap (λ (es : List Entry). call_opened es) entries;
     }
+
+-- the call that entries open is numbered from 1
+pub opened_numbered : (entries : List Entry) (opened : Option CallId) → opened ≡ call_opened entries → AreNumbered entries → IfSome opened IsCallNumbered
+opened_numbered entries opened is h = subst (λ (o : Option CallId). IfSome o IsCallNumbered) (sym is) (first entries h)
+  where
+    first : (es : List Entry) → AreNumbered es → IfSome (call_opened es) IsCallNumbered
+    first [] h = tt
+    first (entry.Opened o ∷ es) h = (and_parts (is_from_one o.call.0) (list_all is_numbered es) h).0
+    first (entry.Notice n ∷ es) h = first es (and_parts (is_from_one n.number) (list_all is_numbered es) h).1
+    first (_ ∷ es) h = first es h
 
 -- ---- an input that is taken
 

@@ -7,3 +7,4 @@ pub mod Fresh
 pub mod Courses
 pub mod Totals
 pub mod Sending
+pub mod Holdings

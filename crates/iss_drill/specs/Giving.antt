@@ -1,5 +1,5 @@
 -- What giving a line to a store comes to, in a run at which the store stands.
-use Rattle.std.specs.Prelude.{◌≡◌, ℕ, ◌+◌, Bool, List, length, Option, Some, if◌then◌else◌}
+use Rattle.std.specs.Prelude.{◌≡◌, ℕ, ◌+◌, Bool, true, List, length, Option, Some, if◌then◌else◌}
 use Rattle.iss_model.specs.declared.call.CallId.{CallId}
 use Rattle.iss_model.specs.declared.input.Input.{Input}
 use Rattle.iss_model.specs.declared.input.Record.{Record}
@@ -9,6 +9,7 @@ use Rattle.iss_model.specs.rules.Histories.{history_keeper, history_of}
 use Rattle.iss_model.specs.run.Rooms.{room_left}
 use Rattle.iss_model.specs.run.Transcripts.{Reading}
 use Rattle.iss_model.specs.run.Runs.{Run, response_as, run_after}
+use Rattle.iss_store.specs.Numbers.{is_from_one}
 use Rattle.iss_store.specs.Values.{StoreNow, room_of}
 use Rattle.iss_store.specs.Standing.{StandsFor}
 use Rattle.iss_drill.specs.declared.tally.Tally.{Tally}
@@ -24,6 +25,10 @@ pub record StandsAtRun (s : StoreNow) (run : Run) : Type 0 where
 -- what stands in a run after a record
 abbrev pub run_with : Run → Record → Run
 run_with run r = record run { room = room_left run.room run.history.records (Some r); history = (step history_keeper run.history r).world }
+
+-- the call is numbered from 1
+abbrev pub IsCallNumbered : CallId → Type 0
+IsCallNumbered call = is_from_one call.0 ≡ true
 
 -- a record was kept: its entries were counted, and the store stands behind it
 pub record Keeps (run : Run) (r : Record) (before after : Tally) (s : StoreNow) (opened : Option CallId) : Type 0 where

@@ -1,9 +1,11 @@
 -- What the program reports of a drill, as the definitions have it.
-use Rattle.std.specs.Prelude.{◌≡◌}
+use Rattle.std.specs.Prelude.{◌≡◌, ◌^◌}
 use Rattle.iss_model.specs.declared.currency.Currency.TheVariants.{Usd}
 use Rattle.iss_model.specs.declared.account.Account.TheVariants as account
 use Rattle.iss_model.specs.rules.Facts.{Facts, balance_in}
+use Rattle.iss_model.specs.state.Cores.{CoreState}
 use Rattle.iss_model.specs.texts.DrillLines.{DrillTotals}
+use Rattle.iss_effects.specs.Bounds.{AreWithin}
 use Rattle.iss_drill.specs.declared.tally.Tally.{Tally}
 use Rattle.iss_drill.specs.declared.report.Totals.{Totals}
 use Rattle.iss_drill.specs.Drills.{held_of_users}
@@ -39,6 +41,10 @@ totals_by f t =
       records = f.count;
       repeats = t.repeats;
     }
+
+-- what each user holds in a currency is within 2 ^ 58 on either side of 0, so that what ten users hold fits
+abbrev pub HoldsAreFew : CoreState → Type 0
+HoldsAreFew s = AreWithin (2 ^ 58) s.holdings.held
 
 -- these totals are what these facts and this tally come to
 abbrev pub IsTotals : Facts → Tally → Totals → Type 0

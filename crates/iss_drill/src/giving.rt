@@ -1,5 +1,5 @@
 //! A line of a drill: it is planned, committed and released as one that comes in.
-ghost use Rattle.std.specs.Prelude.{◌≡◌, ◌+◌, ◌*◌, ◌<◌, ◌≤◌, ◌^◌, ◌∷◌, ◌++◌, [], ℕ, Bool, List, Option, unwrap_or, IfOk, OnOk, IsTrue};
+ghost use Rattle.std.specs.Prelude.{◌≡◌, ◌+◌, ◌*◌, ◌<◌, ◌≤◌, ◌^◌, ◌∷◌, ◌++◌, [], ℕ, Bool, List, Option, unwrap_or, IfOk, IfSome, OnOk, IsTrue};
 ghost use Rattle.iss_model.specs.Forms.{is_in_form, is_stamp};
 ghost use Rattle.iss_model.specs.declared.decision.Judged.{Judged};
 ghost use Rattle.iss_model.specs.rules.Judging.{judge};
@@ -9,7 +9,7 @@ ghost use Rattle.iss_model.specs.run.Runs.{Run, judgement_in, run_after};
 ghost use Rattle.iss_store.specs.Planning.{IsPlanOf};
 ghost use Rattle.iss_drill.specs.Drills.{call_opened_in, is_repeat, tells_repeat};
 ghost use Rattle.iss_drill.specs.Tallies.{IsFew};
-ghost use Rattle.iss_drill.specs.Giving.{StandsAtRun, Keeps, TellsAnswer, Takes, HasGiven};
+ghost use Rattle.iss_drill.specs.Giving.{StandsAtRun, Keeps, TellsAnswer, IsCallNumbered, Takes, HasGiven};
 
 use crate::tally::{Tally, call_opened};
 use iss_edge::{Channel, Edge};
@@ -38,6 +38,7 @@ pub(crate) fn give<E: Edge>(
     ensures opened { (start : Run) (lines : List Reading) → HasGiven start lines tally.old store
         → IfOk result (λ x. x.1 ≡ call_opened_in (run_after start lines) input.now at) }
     ensures lines { OnOk result (tally.new.lines ≡ tally.old.lines + 1) }
+    ensures numbered { IfOk result (λ x. IfSome x.1 IsCallNumbered) }
     ensures few { OnOk result (IsFew (tally.old.lines + 1) tally.new) }
     ensures kept { E.extent device.new ≡ E.extent device.old }
     ensures size { IfOk result (λ x. x.0.place.to ≡ store.place.to) }
@@ -64,6 +65,7 @@ fn take<E: Edge>(
     ensures takes { (run : Run) → StandsAtRun store run
         → IfOk result (λ x. Takes run input.now at (judgement_in run input.now at) tally.old tally.new x.0 x.1) }
     ensures lines { OnOk result (tally.new.lines ≡ tally.old.lines) }
+    ensures numbered { IfOk result (λ x. IfSome x.1 IsCallNumbered) }
     ensures few { OnOk result (IsFew (tally.old.lines + 1) tally.new) }
     ensures kept { E.extent device.new ≡ E.extent device.old }
     ensures size { IfOk result (λ x. x.0.place.to ≡ store.place.to) }
@@ -101,6 +103,7 @@ fn keep<E: Edge>(
     ensures keeps { (run : Run) → StandsAtRun store run → IfOk result (λ x. Keeps run planned.accepted tally.old tally.new x.0 x.1) }
     ensures lines { OnOk result (tally.new.lines ≡ tally.old.lines) }
     ensures repeats { OnOk result (tally.new.repeats ≡ tally.old.repeats) }
+    ensures numbered { IfOk result (λ x. IfSome x.1 IsCallNumbered) }
     ensures few { OnOk result (IsFew (tally.old.lines + 1) tally.new) }
     ensures kept { E.extent device.new ≡ E.extent device.old }
     ensures size { IfOk result (λ x. x.0.place.to ≡ store.place.to) }

@@ -4,11 +4,12 @@ ghost use Rattle.iss_model.specs.declared.currency.Currency.TheVariants.{Usd};
 ghost use Rattle.iss_model.specs.Amounts.{amount_text};
 ghost use Rattle.iss_model.specs.rules.Facts.{held_in};
 ghost use Rattle.iss_model.specs.state.Cores.{core_facts};
+ghost use Rattle.iss_model.specs.state.Kept.{IsSmall};
 ghost use Rattle.iss_model.specs.texts.Wordings.{in_quotes, member_text, with_text, with_number};
 ghost use Rattle.iss_model.specs.texts.DrillLines.{drill_line};
 ghost use Rattle.iss_drill.specs.Names.{named};
 ghost use Rattle.iss_drill.specs.Drills.{held_of_users};
-ghost use Rattle.iss_drill.specs.Reports.{totals_in, IsTotals};
+ghost use Rattle.iss_drill.specs.Reports.{totals_in, IsTotals, HoldsAreFew};
 
 use crate::names::named;
 use crate::tally::Tally;
@@ -37,43 +38,43 @@ pub(crate) struct Totals {
 }
 
 /// What was counted, and what stands.
-pub(crate) fn taken_together(core: &Core, tally: &Tally) -> Result<Totals, AllocError>
-    ensures { IfOk result (IsTotals (core_facts core.now.state) tally.now) }
+pub(crate) fn taken_together(core: &Core, tally: &Tally) -> Totals
+    requires { HoldsAreFew core.now.state }
+    ensures { IsTotals (core_facts core.now.state) tally.now result }
 {
-    Ok(Totals {
+    Totals {
         approved: tally.approved,
         declined: tally.declined,
         gateway: core.balance(&Account::Gateway(Currency::Usd)),
-        held: held_of_all(core)?,
+        held: held_of_all(core),
         lines: tally.lines,
         network: core.balance(&Account::Network(Currency::Usd)),
         notices: tally.notices,
         programme: core.balance(&Account::Programme(Currency::Usd)),
         records: core.count(),
         repeats: tally.repeats,
-    })
+    }
 }
 
 /// What is held of all users together.
-#[tactic(auto, using(crate::proofs::Reports::held_of_none, crate::proofs::Reports::held_of_more))]
-fn held_of_all(core: &Core) -> Result<i64, AllocError>
-    ensures { IfOk result (λ held. held ≡ held_of_users (core_facts core.now.state) 10) }
+#[tactic(auto, using(crate::proofs::Reports::held_of_none, crate::proofs::Reports::held_of_more, crate::proofs::Holdings::next_held_fits))]
+fn held_of_all(core: &Core) -> i64
+    requires { HoldsAreFew core.now.state }
+    ensures { result ≡ held_of_users (core_facts core.now.state) 10 }
 {
     let mut held = 0;
     for digit in 0..USERS {
-        held = with_held(core, held, digit)?;
+        held = with_held(core, held, digit);
     }
-    Ok(held)
+    held
 }
 
-/// The sum with what is held of the user of this digit. Each hold is far below the tenth part of what fits.
-fn with_held(core: &Core, held: i64, digit: u32) -> Result<i64, AllocError>
-    ensures { IfOk result (λ sum. sum ≡ held +ℤ held_in (core_facts core.now.state) (named (codes "u") digit) Usd) }
+/// The sum with what is held of the user of this digit.
+fn with_held(core: &Core, held: i64, digit: u32) -> i64
+    requires { IsSmall (held +ℤ held_in (core_facts core.now.state) (named (codes "u") digit) Usd) }
+    ensures { result ≡ held +ℤ held_in (core_facts core.now.state) (named (codes "u") digit) Usd }
 {
-    match held.checked_add(core.held(&named(b'u', digit), Currency::Usd)) {
-        Some(sum) => Ok(sum),
-        None => Err(AllocError),
-    }
+    held + core.held(&named(b'u', digit), Currency::Usd)
 }
 
 /// The line of a drill, with its line feed.

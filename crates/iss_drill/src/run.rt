@@ -24,7 +24,6 @@ use crate::tally::Tally;
 use iss_edge::{Channel, Edge, MemoryEdge};
 use iss_journal::Journal;
 use iss_model::Input;
-use iss_model::limits::FIRST_NUMBER;
 use iss_store::Store;
 use std::alloc::{AllocError, Global};
 
@@ -62,7 +61,7 @@ fn drilled(alloc: Global, n: u32) -> Result<Vec<u8>, AllocError>
     let (fresh, mut device) = fresh_store(alloc, FOR_ALL + FOR_EACH * n)?;
     let ready = set_up(alloc, fresh, &mut device, &mut tally)?;
     let store = give_events(alloc, n, ready, &mut device, &mut tally)?;
-    let totals = taken_together(store.core(), &tally)?;
+    let totals = taken_together(store.core(), &tally);
     drill_line(alloc, &totals)
 }
 
@@ -168,6 +167,7 @@ fn give_events(
     requires few { IsFew 23 tally.old }
     ensures given { HasGiven (drill_run n) (setup_lines 23) tally.old ready
         → IfOk result (λ s. HasGiven (drill_run n) (drill_lines n) tally.new s) }
+    ensures lines { OnOk result (tally.new.lines ≤ 23 + 2 * n) }
 {
     let mut store = ready;
     let mut generator = Generator::new();
@@ -209,10 +209,6 @@ fn give_event(
     let Some(call) = opened else {
         return Ok(next);
     };
-    // Calls are numbered from 1.
-    if call.0 < FIRST_NUMBER {
-        return Err(AllocError);
-    }
     let outcome = outcome_of(y);
     let answer = Input::Answer { call, outcome };
     let (answered, _) = give(alloc, next, device, &answer, at, tally)?;

@@ -1,9 +1,9 @@
 -- What is heard on a link, exit by exit.
-use Rattle.std.proofs.Common.{◌≡◌, ℕ, ◌≤◌, nat_le, ◌==◌, Bool, true, false, cond, List, [], ◌∷◌, ◌++◌, length, take, Option, Some, None, refl, sym, ap, subst, ◌∙◌, arith, inl, inr}
-use Rattle.std.specs.Prelude.{IfSome, IfNone, IfOk, IsSome, Result, Ok, Err}
+use Rattle.std.proofs.Common.{◌≡◌, ℕ, ◌≤◌, nat_le, ◌==◌, Bool, true, false, cond, List, [], ◌∷◌, ◌++◌, length, take, Option, Some, None, refl, sym, ap, subst, ◌∙◌, arith, inl, inr, true≢false}
+use Rattle.std.specs.Prelude.{IfSome, IfNone, IfOk, IsSome, is_some, Result, Ok, Err}
 use Rattle.std.proofs.lemmas.Bool.Decides.{nat_tests}
 use Rattle.std.proofs.lemmas.List.{length-take}
-use Rattle.std.specs.BTreeMap.{BTreeMap, values}
+use Rattle.std.specs.List.{AllByRecursion}
 use Rattle.iss_edge.specs.declared.outside.Channel.{Channel}
 use Rattle.iss_edge.specs.declared.outside.Action.{Action}
 use Rattle.iss_edge.specs.declared.outside.Action.TheVariants.{Close}
@@ -19,6 +19,9 @@ use Rattle.iss_edge.specs.Stretches.{GoesOn, with_levels}
 use Rattle.iss_edge.proofs.StretchLemmas.{still_goes_on}
 use Rattle.iss_edge.proofs.Outers.{adds_then, told_closes}
 use Rattle.iss_edge.proofs.Tolds.{told_then, rose_later}
+use Rattle.iss_channels.specs.Placed.{ChangesFirst}
+use Rattle.iss_channels.proofs.Lookups.{none_found}
+use Rattle.iss_channels.proofs.Changes.{was_found, others_same}
 use Rattle.iss_http.specs.declared.answers.Answer.{Answer}
 use Rattle.iss_http.specs.declared.answers.Answer.TheVariants as answer
 use Rattle.iss_http.specs.Heard as came
@@ -33,10 +36,7 @@ use Rattle.iss_model.specs.declared.call.Opened.{Opened}
 use Rattle.iss_model.specs.declared.input.Outcome.{Outcome}
 use Rattle.iss_link.specs.declared.heard.Heard as rust
 use Rattle.iss_link.specs.declared.heard.Heard.TheVariants as variant
-use Rattle.iss_link.specs.Values.{LinksNow, heard_of, joined}
-use Rattle.iss_link.specs.declared.table.Table.{Table}
-use Rattle.iss_link.specs.Kept.{IsTable, links_in}
-use Rattle.iss_link.proofs.Tables.{Fed, some_linked}
+use Rattle.iss_link.specs.Values.{LinksNow, heard_of, joined, HasRead}
 use Rattle.iss_link.specs.Hearing.{Reads, Answers, Listens, closing, channels_after, got_in}
 
 -- ---- how soon a bad head is told
@@ -235,38 +235,50 @@ listens_ok instance before between after ch said a subject channels f g h x y z 
 
 -- ---- a link that had bytes
 
-pub fed_reads : (t : Table) (after : BTreeMap ℕ Link) (ch : Channel) (link w : Link) (piece : List ℕ) (said : Option Answer) → Fed t after ch link w
-    → IsReadAs (link.bytes ++ piece) (is_empty piece) (came.heard said) → IfNone said (w ≡ joined link piece) → Reads ch (Some piece) (links_in t) (values after) said
-fed_reads t after ch link w piece said had read kept =
-    let reading = read_early link piece (came.heard said) read in
-    record {
-      link = link;
-      found = had.found;
-      early = reading.early;
-      may = reading.may;
-      reading = reading.is;
-      kept = if_none said kept;
-      still = λ none. no_link w (sym none ∙ had.there);
-      others = had.others;
-    }
-  where
-    if_none : (o : Option Answer) → IfNone o (w ≡ joined link piece) → IfNone o (values after ≡ links_with ch piece (links_in t))
-    if_none None e = had.more piece e
-    if_none (Some a) e = tt
+module _ (ch : Channel) (piece : List ℕ) where
+  with_by : (front rest : List Link) (link : Link) → AllByRecursion (λ l. (l.ch.0 == ch.0) ≡ false) front → (link.ch.0 == ch.0) ≡ true
+      → front ++ joined link piece ∷ rest ≡ links_with ch piece (front ++ link ∷ rest)
+  with_by [] rest link others own = sym (ap (λ (b : Bool). cond b (joined link piece ∷ rest) (link ∷ links_with ch piece rest)) own)
+  with_by (l ∷ front) rest link others own =
+      ap (λ (ls : List Link). l ∷ ls) (with_by front rest link others.1 own)
+      ∙ sym (ap (λ (b : Bool). cond b (joined l piece ∷ front ++ link ∷ rest) (l ∷ links_with ch piece (front ++ link ∷ rest))) others.0)
 
-    no_link : (l : Link) → None ≡ Some l → ⊥
-    no_link l e = cc
+  module _ {E : Type 0} (before after : List Link) where
+    fed_reads : (said : Option Answer) → ChangesFirst (λ l. l.ch.0 == ch.0) (λ x y. HasRead {E = E} x piece (Ok said) y) before after → Reads ch (Some piece) before after said
+    fed_reads said changes =
+        let reading = read_early changes.was piece (came.heard said) changes.changed.read in
+        record {
+          link = changes.was;
+          found = was_found (λ l. l.ch.0 == ch.0) before after changes;
+          early = reading.early;
+          may = reading.may;
+          reading = reading.is;
+          kept = if_none said changes.changed.kept;
+          others = others_same (λ l. l.ch.0 == ch.0) before after changes;
+        }
+      where
+        more : changes.is ≡ joined changes.was piece → after ≡ links_with ch piece before
+        more e =
+            changes.then ∙ ap (λ (l : Link). changes.front ++ l ∷ changes.rest) e ∙ with_by changes.front changes.rest changes.was changes.others changes.own
+            ∙ ap (links_with ch piece) (sym changes.found)
+
+        if_none : (o : Option Answer) → IfNone o (changes.is ≡ joined changes.was piece) → IfNone o (after ≡ links_with ch piece before)
+        if_none None e = more e
+        if_none (Some a) e = tt
+
+    -- what a link's bytes told
+    pub fed_reads_if : (told : Result (Option Answer) E) → ChangesFirst (λ l. l.ch.0 == ch.0) (λ x y. HasRead x piece told y) before after → IfOk told (Reads ch (Some piece) before after)
+    fed_reads_if (Ok said) changes = fed_reads said changes
+    fed_reads_if (Err e) changes = tt
 
 -- a take that failed ends a link's bytes
-pub failed_reads : (t : Table) (ch : Channel) → IsTable t → IsSome (link_at ch (links_in t)) → Reads ch None (links_in t) (links_in t) (Some answer.Ended)
-failed_reads t ch is some =
-    let found = some_linked t ch is some in
-    record { link = found.0; found = found.1; early = false; may = tt; reading = refl; kept = tt; still = λ none. no_link found.0 (sym none ∙ found.1); others = refl }
+pub failed_reads : (ch : Channel) (links : List Link) → IsSome (link_at ch links) → Reads ch None links links (Some answer.Ended)
+failed_reads ch links some = by (link_at ch links) refl some
   where
-    no_link : (l : Link) → None ≡ Some l → ⊥
-    no_link l e = cc
+    by : (o : Option Link) → link_at ch links ≡ o → IsSome o → Reads ch None links links (Some answer.Ended)
+    by None e some = absurd (true≢false (sym some))
+    by (Some link) e some = record { link = link; found = e; early = false; may = tt; reading = refl; kept = tt; others = refl }
 
-pub fed_reads_if : {E : Type 0} (t : Table) (after : BTreeMap ℕ Link) (ch : Channel) (link w : Link) (piece : List ℕ) (r : Result (Option Answer) E) → Fed t after ch link w
-    → IfOk r (λ said. IsReadAs (link.bytes ++ piece) (is_empty piece) (came.heard said)) → IfOk r (λ said. IfNone said (w ≡ joined link piece)) → IfOk r (Reads ch (Some piece) (links_in t) (values after))
-fed_reads_if t after ch link w piece (Ok said) had read kept = fed_reads t after ch link w piece said had read kept
-fed_reads_if t after ch link w piece (Err e) had read kept = tt
+-- a channel that is watched has a link
+pub not_none : (ch : Channel) (links : List Link) → AllByRecursion (λ l. (l.ch.0 == ch.0) ≡ false) links → IsSome (link_at ch links) → ⊥
+not_none ch links none some = true≢false (sym some ∙ ap is_some (none_found (λ l. l.ch.0 == ch.0) links none))

@@ -30,7 +30,6 @@ pub record Reads (ch : Channel) (got : Option (List ℕ)) (before after : List L
   pub may : MayReadEarly link got early
   pub reading : came.heard said ≡ link_reading link got early
   pub kept : IfNone said (after ≡ links_with ch (piece_of got) before)
-  pub still : link_at ch after ≡ None → ⊥
   pub others : links_without ch after ≡ links_without ch before
 
 -- a channel is closed once its answer was heard

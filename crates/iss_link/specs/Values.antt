@@ -1,7 +1,10 @@
 -- What links, and what went out or was heard, are seen as by the definitions of serving.
-use Rattle.std.specs.Prelude.{◌≡◌, ℕ, false, List, ◌++◌, Option, Some, None, option_map, if◌then◌else◌, []}
+use Rattle.std.specs.Prelude.{◌≡◌, ℕ, false, List, ◌++◌, Option, Some, None, option_map, if◌then◌else◌, [], Result, IfOk, IfNone}
 use Rattle.iss_edge.specs.declared.outside.Channel.{Channel}
+use Rattle.iss_http.specs.declared.answers.Answer.{Answer}
+use Rattle.iss_http.specs.Answers.{IsReadAs}
 use Rattle.iss_http.specs.Heads.{is_empty}
+use Rattle.iss_http.specs.Heard as came
 use Rattle.iss_serving.specs.Desks as desk
 use Rattle.iss_serving.specs.Desks.{Subject, of_call, of_notice}
 use Rattle.iss_serving.specs.Links as link
@@ -40,6 +43,11 @@ HasBegun (Some bytes) = is_empty bytes ≡ false
 abbrev pub joined : Link → List ℕ → Link
 joined l piece = record l { bytes = l.bytes ++ piece }
 
+-- a link had some bytes, and told the answer once it is whole; while none is the bytes are kept
+pub record HasRead {E : Type 0} (before : Link) (piece : List ℕ) (told : Result (Option Answer) E) (after : Link) : Type 0 where
+  pub read : IfOk told (λ said. IsReadAs (before.bytes ++ piece) (is_empty piece) (came.heard said))
+  pub kept : IfOk told (λ said. IfNone said (after ≡ joined before piece))
+
 -- how far a link's answer has come
 abbrev pub state_of : Link → LinkState
 state_of l = if is_empty l.bytes then Waiting else Reading
@@ -60,9 +68,3 @@ heard_of heard.Nothing = link.unfinished
 heard_of (heard.Outcome call outcome) = link.outcome call outcome
 heard_of (heard.Acked number) = link.acknowledged number
 heard_of (heard.Dropped number) = link.dropped number
-
--- it went out on a channel that isn't watched
-abbrev pub MayBeWatched : List Link → Gone → Type 0
-MayBeWatched links (gone.Asked opened ch) = link_at ch links ≡ None
-MayBeWatched links (gone.Noted number ch) = link_at ch links ≡ None
-MayBeWatched links (gone.Unreached call) = ⊥

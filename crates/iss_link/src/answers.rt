@@ -4,6 +4,7 @@ ghost use Rattle.iss_edge.specs.declared.outside.Answered.TheVariants.{Took};
 ghost use Rattle.iss_edge.specs.World.{Told, Later, Rose};
 ghost use Rattle.iss_edge.specs.Channels.{count_of, take_fault};
 ghost use Rattle.iss_edge.specs.Outer.{outer_of, Adds};
+ghost use Rattle.iss_channels.specs.Placed.{things_of};
 ghost use Rattle.iss_http.specs.Heard.{reading_of};
 ghost use Rattle.iss_jit.specs.Outcomes.{outcome_of};
 ghost use Rattle.iss_model.specs.declared.call.Opened.{Opened};
@@ -12,12 +13,11 @@ ghost use Rattle.iss_serving.specs.Desks.{of_call, of_notice};
 ghost use Rattle.iss_serving.specs.Links.{heard_as, outcome};
 ghost use Rattle.iss_serving.specs.Hearings.{link_at};
 ghost use Rattle.iss_link.specs.Values.{subject_of, heard_of};
-ghost use Rattle.iss_link.specs.Kept.{IsTable, links_in};
 ghost use Rattle.iss_link.specs.Hearing.{Reads, Listens, got_in, channels_after};
 
 use crate::Heard;
-use crate::table::Table;
-use crate::watched::About;
+use crate::watched::{About, Watched};
+use iss_channels::ByChannel;
 use iss_edge::{Channel, Edge};
 use iss_http::Answer;
 use iss_jit::answer as jit_answer;
@@ -30,21 +30,19 @@ const ACKNOWLEDGED: u16 = 200;
 /// Takes once from a watched channel that is ready, and gives what its bytes come to. Once that is an answer, the channel is closed and
 /// watched no longer.
 pub(crate) fn listen<E: Edge>(
-    table: &mut Table,
+    links: &mut ByChannel<Watched>,
     buffer: &mut [u8],
     alloc: Global,
     edge: &mut E,
     ch: Channel,
     instance: u64,
 ) -> Result<Heard, AllocError>
-    requires table { IsTable table.old }
-    requires watched { IsSome (link_at ch (links_in table.old)) }
+    requires watched { IsSome (link_at ch (things_of links.old)) }
     requires ready { (E.channels edge.old).ready ≡ Some ch.0 }
     requires room { length buffer.old ≡ 4096 }
     requires instance { instance < 2 ^ 48 }
-    ensures table { IsTable table.new }
     ensures room { length buffer.new ≡ 4096 }
-    ensures listens { Listens (record { instance = instance; links = links_in table.old }) (record { instance = instance; links = links_in table.new })
+    ensures listens { Listens (record { instance = instance; links = things_of links.old }) (record { instance = instance; links = things_of links.new })
         ch result (E.channels edge.old) (E.faults edge.old) (E.faults edge.new)
         (outer_of (E.told edge.old) (E.heard edge.old)) (outer_of (E.told edge.new) (E.heard edge.new)) }
     ensures later { Later (E.faults edge.old) (E.faults edge.new) }
@@ -52,15 +50,26 @@ pub(crate) fn listen<E: Edge>(
     ensures channels { IfOk result (λ said. E.channels edge.new ≡ channels_after ch (heard_of said) (E.channels edge.old)) }
     ensures still { OnErr result (E.channels edge.new ≡ E.channels edge.old) }
 {
-    let about = table.about(ch);
+    let about = about(links, ch);
     let got = take(edge, ch, buffer);
-    let Some(answer) = read(table, alloc, ch, buffer, got)? else {
+    let Some(answer) = read(links, alloc, ch, buffer, got)? else {
         return Ok(Heard::Nothing);
     };
     let said = hear(alloc, &about, &answer, instance)?;
-    table.remove(ch);
+    links.remove(ch);
     edge.close(ch);
     Ok(said)
+}
+
+/// What the answer on a channel is about.
+fn about(links: &ByChannel<Watched>, ch: Channel) -> About
+    requires watched { IsSome (link_at ch (things_of links.now)) }
+    ensures { IfSome (link_at ch (things_of links.now)) (λ link. subject_of result ≡ link.subject) }
+{
+    let Some(watched) = links.find(ch) else {
+        unreachable!()
+    };
+    watched.about
 }
 
 /// Takes the next bytes of a channel into a buffer, none at their end, and gives how many came. `None` where it failed.
@@ -85,22 +94,36 @@ fn take<E: Edge>(edge: &mut E, ch: Channel, buffer: &mut [u8]) -> Option<usize>
 
 /// What a channel's bytes are once a take brought these, or failed, which ends them.
 fn read(
-    table: &mut Table,
+    links: &mut ByChannel<Watched>,
     alloc: Global,
     ch: Channel,
     buffer: &[u8],
     got: Option<usize>,
 ) -> Result<Option<Answer>, AllocError>
-    requires table { IsTable table.old }
-    requires watched { IsSome (link_at ch (links_in table.old)) }
+    requires watched { IsSome (link_at ch (things_of links.old)) }
     requires bound { IfSome got (λ count. count ≤ length buffer.now) }
-    ensures table { IsTable table.new }
-    ensures reads { IfOk result (Reads ch (got_in buffer.now got) (links_in table.old) (links_in table.new)) }
+    ensures reads { IfOk result (Reads ch (got_in buffer.now got) (things_of links.old) (things_of links.new)) }
 {
     match got {
         None => Ok(Some(Answer::Ended)),
-        Some(count) => table.feed(alloc, ch, &buffer[..count]),
+        Some(count) => feed(links, alloc, ch, &buffer[..count]),
     }
+}
+
+/// Gives a channel its next bytes, none at their end.
+fn feed(
+    links: &mut ByChannel<Watched>,
+    alloc: Global,
+    ch: Channel,
+    piece: &[u8],
+) -> Result<Option<Answer>, AllocError>
+    requires watched { IsSome (link_at ch (things_of links.old)) }
+    ensures { IfOk result (Reads ch (Some piece.now) (things_of links.old) (things_of links.new)) }
+{
+    let Some(said) = links.receive(alloc, ch, piece) else {
+        unreachable!()
+    };
+    said
 }
 
 /// What an answer means for what it is about.

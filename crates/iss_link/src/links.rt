@@ -3,13 +3,13 @@ ghost use Rattle.std.specs.Prelude.{◌≡◌, ◌<◌, ◌^◌, ◌++◌, [], m
 ghost use Rattle.iss_edge.specs.World.{Later};
 ghost use Rattle.iss_edge.specs.Outer.{outer_of};
 ghost use Rattle.iss_serving.specs.Hearings.{link_at, links_of};
-ghost use Rattle.iss_link.specs.Values.{gone_as, heard_of, state_on, MayBeWatched};
+ghost use Rattle.iss_link.specs.Values.{gone_as, heard_of, state_on};
 ghost use Rattle.iss_link.specs.Hearing.{Listens, channels_after};
 
 use crate::answers::listen;
-use crate::table::Table;
 use crate::watched::{About, Watched};
 use crate::{Gone, Heard, LinkState};
+use iss_channels::ByChannel;
 use iss_edge::{Channel, Edge};
 use std::alloc::{AllocError, Global};
 use std::marker::Model;
@@ -22,19 +22,20 @@ const PIECE: usize = 4096;
 #[derive(Drop)]
 pub struct Links {
     instance: u64,
-    table: Table,
+    watched: ByChannel<Watched>,
     buffer: Vec<u8>,
 }
 
 impl Model for Links {
     ghost use Rattle.iss_link.specs.Values.{LinksNow};
-    ghost use Rattle.iss_link.specs.Kept.{AreLinks, links_in};
+    ghost use Rattle.iss_link.specs.Kept.{AreLinks};
+    ghost use Rattle.iss_channels.specs.Placed.{things_of};
 
     ghost Value = { LinksNow };
 
-    ghost view = { λ l. record { instance = l.instance; links = links_in l.table } };
+    ghost view = { λ l. record { instance = l.instance; links = things_of l.watched } };
 
-    ghost invariant = { λ l. AreLinks l.instance l.table l.buffer.items };
+    ghost invariant = { λ l. AreLinks l.instance l.buffer.items };
 }
 
 impl Links {
@@ -45,20 +46,19 @@ impl Links {
     {
         Ok(Links {
             instance,
-            table: Table::new(alloc),
+            watched: ByChannel::new(alloc),
             buffer: zeros(alloc, PIECE)?,
         })
     }
 
     /// Watches the channel on which a request or a notice went out. Where allocation fails all stays as it was.
     pub fn watch(&mut self, gone: &Gone) -> Result<(), AllocError>
-        requires { MayBeWatched self.old.links gone.now }
         ensures watched { OnOk result (self.new ≡ record self.old { links = self.old.links ++ links_of (gone_as gone.now) }) }
         ensures unchanged { OnErr result (self.new ≡ self.old) }
     {
         match gone {
-            Gone::Asked(opened, ch) => self.table.add(Watched::new(*ch, About::Call(*opened))),
-            Gone::Noted(number, ch) => self.table.add(Watched::new(*ch, About::Notice(*number))),
+            Gone::Asked(opened, ch) => self.watched.push(Watched::new(*ch, About::Call(*opened))),
+            Gone::Noted(number, ch) => self.watched.push(Watched::new(*ch, About::Notice(*number))),
             Gone::Unreached(_) => Ok(()),
         }
     }
@@ -67,7 +67,7 @@ impl Links {
     pub fn state(&self, ch: Channel) -> Option<LinkState>
         ensures { result ≡ state_on ch self.now.links }
     {
-        let watched = self.table.find(ch)?;
+        let watched = self.watched.find(ch)?;
         Some(watched.state())
     }
 
@@ -92,7 +92,7 @@ impl Links {
         ensures still { OnErr result (E.channels edge.new ≡ E.channels edge.old) }
     {
         listen(
-            &mut self.table,
+            &mut self.watched,
             &mut self.buffer,
             alloc,
             edge,
@@ -105,7 +105,7 @@ impl Links {
     pub fn channels(&self, alloc: Global) -> Result<Vec<Channel>, AllocError>
         ensures { IfOk result (λ v. v.items ≡ map (λ link. link.ch) self.now.links) }
     {
-        self.table.channels(alloc)
+        self.watched.channels(alloc)
     }
 }
 

@@ -1,7 +1,6 @@
 //! Answers on links, in every cut and of hostile peers, and many links at once.
 
-ghost use Rattle.std.specs.Prelude.{◌≤◌, [], length};
-ghost use Rattle.iss_link.specs.Values.{MayBeWatched};
+ghost use Rattle.std.specs.Prelude.{◌≤◌, length};
 
 use crate::{Gone, Heard, LinkState, Links};
 use iss_edge::Channel;
@@ -41,9 +40,7 @@ fn call(number: u32) -> Result<Opened, Fail> {
 type Came = [Option<Heard>; 2];
 
 /// What is heard of these pieces and then of the end, each by a take. `None` where nothing is ever heard.
-fn hear(alloc: Global, gone: &Gone, pieces: [&[u8]; 2]) -> Result<Option<Heard>, AllocError>
-    requires { MayBeWatched [] gone.now }
-{
+fn hear(alloc: Global, gone: &Gone, pieces: [&[u8]; 2]) -> Result<Option<Heard>, AllocError> {
     let mut links = Links::new(alloc, INSTANCE)?;
     let mut wire = Wire::new(pieces);
     links.watch(gone)?;
@@ -240,9 +237,7 @@ fn many(alloc: Global, first: &Opened, count: u32) -> Result<(u32, bool), AllocE
     let mut wire = Wire::new([b"HTTP/1.1 402 No\r\nContent-Length: 0\r\n\r\n", b""]);
     for number in 0..count {
         let ch = Channel(count.saturating_sub(number));
-        if links.state(ch).is_none() {
-            links.watch(&Gone::Asked(*first, ch))?;
-        }
+        links.watch(&Gone::Asked(*first, ch))?;
     }
     if links.state(READY).is_some() {
         links.ready(alloc, &mut wire, READY)?;

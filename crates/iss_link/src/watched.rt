@@ -6,6 +6,7 @@ ghost use Rattle.iss_http.specs.Heard.{heard};
 ghost use Rattle.iss_link.specs.Values.{subject_of, state_of, bytes_of, joined};
 
 use crate::LinkState;
+use iss_channels::{OnChannel, Receives};
 use iss_edge::Channel;
 use iss_http::{Answer, AnswerReader};
 use iss_model::Opened;
@@ -36,6 +37,26 @@ impl Model for Watched {
     ghost view = { λ w. record { ch = w.ch; subject = subject_of w.about; bytes = bytes_of w.reader } };
 
     ghost invariant = { λ w. HasBegun w.reader };
+}
+
+impl OnChannel for Watched {
+    ghost channel_of = { λ link. link.ch };
+
+    fn channel(&self) -> Channel {
+        self.ch
+    }
+}
+
+impl Receives for Watched {
+    ghost use Rattle.iss_link.specs.Values.{HasRead};
+
+    type Told = Result<Option<Answer>, AllocError>;
+
+    ghost receives = { λ before piece told after. HasRead before piece told after };
+
+    fn receive(&mut self, alloc: Global, piece: &[u8]) -> Result<Option<Answer>, AllocError> {
+        self.feed(alloc, piece)
+    }
 }
 
 impl Watched {

@@ -67,13 +67,13 @@ module _ (store : StoreNow) (h : HeldNow) (ch : Channel) (settled : h.unreached 
       (λ a b adds. client_ended store h ch settled reading now a b is adds)
       (closed_then ch (Took ch (Some [])) x y z (subst (λ (n : ℕ). Told (Adds [] (Took ch (Some (take n buffer)) ∷ [])) x y) none p) q)
 
-  pub told_request : (now : HeldNow) (buffer : List ℕ) (count : ℕ) (piece : List ℕ) (said : Request) → is_reading ch h.clients ≡ true → link_at ch h.links.links ≡ None → length buffer ≡ 4096 → count ≤ length buffer → (count ≡ 0 → ⊥)
+  pub told_request : (now : HeldNow) (buffer : List ℕ) (count : ℕ) (piece : List ℕ) (said : Request) → is_reading ch h.clients ≡ true → length buffer ≡ 4096 → count ≤ length buffer → (count ≡ 0 → ⊥)
       → piece ≡ take count buffer → ReadsOn ch piece h.clients now.clients said → now ≡ record h { clients = now.clients }
       → Told (Adds [] (Took ch (Some (take count buffer)) ∷ [])) x y → Told (ServesOn (taking store h ch) (came_to store now ch said)) x y
-  told_request now buffer count piece said reading unlinked room bound more same read is p =
+  told_request now buffer count piece said reading room bound more same read is p =
       told_map (Adds [] (Took ch (Some (take count buffer)) ∷ [])) (ServesOn (taking store h ch) (came_to store now ch said)) x y
       (λ a b adds.
-      request_on store h ch settled reading unlinked (take count buffer) (some_came buffer count more bound) (piece_fits buffer count room bound) now said
+      request_on store h ch settled reading (take count buffer) (some_came buffer count more bound) (piece_fits buffer count room bound) now said
       (subst (λ (t : List ℕ). ReadsOn ch t h.clients now.clients said) same read) is a b adds) p
 
   -- ---- a client that waits

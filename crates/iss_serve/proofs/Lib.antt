@@ -15,3 +15,4 @@ pub mod Loops
 pub mod Feeding
 pub mod ServeWhole
 pub mod ToldServes
+pub mod Numbering

@@ -63,13 +63,19 @@ next_call calls i d within = drop_more calls i d within
 -- ---- what became of messages
 
 pub still_self : (h : Held) → IsStillHeld h h
-still_self h = record { clock = refl; room = refl }
+still_self h = record { clock = refl; room = refl; calls = λ k. k; links = λ k. k }
 
 pub still_then : (f g h : Held) → IsStillHeld f g → IsStillHeld g h → IsStillHeld f h
-still_then f g h p q = record { clock = q.clock ∙ p.clock; room = q.room ∙ p.room }
+still_then f g h p q = record { clock = q.clock ∙ p.clock; room = q.room ∙ p.room; calls = λ k. q.calls (p.calls k); links = λ k. q.links (p.links k) }
 
 pub still_is : (f g : Held) → IsHeld f → IsStillHeld f g → IsHeld g
-still_is f g p q = record { clock = subst (λ (n : ℕ). IsTrue (is_stamp n)) (sym q.clock) p.clock; room = q.room ∙ p.room }
+still_is f g p q =
+    record {
+      clock = subst (λ (n : ℕ). IsTrue (is_stamp n)) (sym q.clock) p.clock;
+      room = q.room ∙ p.room;
+      calls = q.calls p.calls;
+      links = q.links p.links;
+    }
 
 abbrev with_noted : HeldNow → List Link → List CallId → HeldNow
 with_noted h links calls = record h { links = record h.links { links = links }; unreached = calls }

@@ -102,7 +102,7 @@ module _ (store : StoreNow) (h : HeldNow) (ch : Channel) (settled : h.unreached 
   one_queued q = some_queued (q ∷ [])
 
   late : (got : Option (List ℕ)) (rs : List Record) → MayBeEarly (session_at (taking store h ch) rs) (took ch got false) (Took ch got)
-  late got rs = (late_request (session_at (taking store h ch) rs) ch got, late_answer (link_at ch h.links.links) got)
+  late got rs = (late_request (session_at (taking store h ch) rs) ch got, λ other none_waits. late_answer (link_at ch h.links.links) got)
 
   -- the take was made, and what it brought isn't read
   pub took_some : (got : Option (List ℕ)) (a b : Outer) → is_piece got ≡ true → Adds [] (Took ch got ∷ []) a b → ServesSome (taking store h ch) a b
@@ -145,7 +145,7 @@ module _ (store : StoreNow) (h : HeldNow) (ch : Channel) (settled : h.unreached 
         (λ rs. ap (λ (c : Change). actions_of c.steps) (reads (Some []) false rs)) adds
 
     -- some bytes came, and this is what they come to
-    module _ (unlinked : link_at ch h.links.links ≡ None) (piece : List ℕ) (more : 0 < length piece) (fits : nat_le (length piece) 4096 ≡ true)
+    module _ (piece : List ℕ) (more : 0 < length piece) (fits : nat_le (length piece) 4096 ≡ true)
         (now : HeldNow) (said : Request) (read : ReadsOn ch piece h.clients now.clients said) (is : now ≡ record h { clients = now.clients }) (a b : Outer)
         (adds : Adds [] (Took ch (Some piece) ∷ []) a b) where
       bytes : IsSome_of piece
@@ -163,7 +163,7 @@ module _ (store : StoreNow) (h : HeldNow) (ch : Channel) (settled : h.unreached 
       may_be rs =
           let s = session_at (taking store h ch) rs in (
             subst (λ (p : List ℕ). MayAnswerEarly s ch (Some p) read.early) (sym bytes.is) (early_request s read.early bytes.first bytes.rest refl bytes.is read.may),
-            subst (λ (o : Option Link). MayEndEarly o (Some piece) read.early) (sym unlinked) tt,
+            λ other none_waits. absurd (true≢false (sym reading ∙ other)),
           )
 
       abbrev read_as : Session → List ℕ → Session
@@ -256,7 +256,7 @@ module _ (store : StoreNow) (h : HeldNow) (ch : Channel) (settled : h.unreached 
         took_on got answers.early (to_judge store now (inputs_of said)) (closing ch said) a b fits
         (λ rs. (
           early_client (session_at (taking store h ch) rs) got answers.early no_client,
-          subst (λ (o : Option Link). MayEndEarly o got answers.early) (sym answers.found) answers.may,
+          λ other nobody. subst (λ (o : Option Link). MayEndEarly o got answers.early) (sym answers.found) answers.may,
         ))
         refl
         (λ rs. ap (λ (c : Change). c.session) (heard_as_said rs) ∙ leads rs)

@@ -1,6 +1,6 @@
 -- What is held while a run serves, as a session of the definitions of serving.
-use Rattle.std.specs.Prelude.{◌≡◌, ◌-◌, ◌||◌, ℕ, Bool, List, [], ◌∷◌, ◌++◌, map, length, Option, Some, None, IsTrue, if◌then◌else◌}
-use Rattle.std.specs.List.{flat_map}
+use Rattle.std.specs.Prelude.{◌≡◌, ◌-◌, ◌||◌, ℕ, Bool, true, List, [], ◌∷◌, ◌++◌, map, length, Option, Some, None, IsTrue, if◌then◌else◌}
+use Rattle.std.specs.List.{flat_map, list_all}
 use Rattle.iss_edge.specs.declared.outside.Channel.{Channel}
 use Rattle.iss_model.specs.declared.call.CallId.{CallId}
 use Rattle.iss_model.specs.declared.input.Input.TheVariants as input
@@ -8,12 +8,14 @@ use Rattle.iss_model.specs.declared.input.Outcome.TheVariants.{Connection}
 use Rattle.iss_model.specs.declared.input.Record.{Record}
 use Rattle.iss_model.specs.Forms.{is_in_form, is_stamp}
 use Rattle.iss_model.specs.rules.Histories.{history_of}
-use Rattle.iss_serving.specs.Desks.{Task, Waiter, desk_with}
+use Rattle.iss_serving.specs.Desks.{Subject, of_call, of_notice, Task, Waiter, desk_with}
+use Rattle.iss_serving.specs.Links.{Link, Heard, outcome, acknowledged}
 use Rattle.iss_serving.specs.Sessions.{Session, Queued, Reader, unasked}
 use Rattle.iss_serving.specs.Hearings.{is_reading, is_waiting, is_linked, links_of}
 use Rattle.iss_link.specs.Values.{LinksNow}
 use Rattle.iss_link.specs.declared.gone.Gone as link
 use Rattle.iss_link.specs.declared.gone.Gone.TheVariants.{Asked, Noted, Unreached}
+use Rattle.iss_store.specs.Numbers.{is_from_one}
 use Rattle.iss_store.specs.Values.{StoreNow, room_of}
 use Rattle.iss_store.specs.Serving.{all_gone}
 use Rattle.iss_serve.specs.declared.held.Held.{Held}
@@ -115,15 +117,39 @@ noted gone h =
       unreached = h.unreached ++ flat_map call_unreached gone;
     }
 
--- the time is a stamp, and there is room for what a take brings
+-- these calls are numbered from 1
+abbrev pub CallsNumbered : List CallId → Type 0
+CallsNumbered calls = list_all (λ call. is_from_one call.0) calls ≡ true
+
+-- the call or the notice that a text to the gateway is about is numbered from 1
+abbrev pub is_about_number : Subject → Bool
+is_about_number (of_call opened) = is_from_one opened.call.0
+is_about_number (of_notice number) = is_from_one number
+
+-- the calls and notices whose answers are awaited are numbered from 1
+abbrev pub LinksNumbered : List Link → Type 0
+LinksNumbered links = list_all (λ link. is_about_number link.subject) links ≡ true
+
+-- the call that has its answer, or the notice that is acknowledged, is numbered from 1
+abbrev pub is_heard_numbered : Heard → Bool
+is_heard_numbered (outcome call said) = is_from_one call.0
+is_heard_numbered (acknowledged number) = is_from_one number
+is_heard_numbered _ = true
+
+-- The time is a stamp, and there is room for what a take brings. The calls that weren't reached, and the calls and notices whose answers
+-- are awaited, are numbered from 1.
 pub record IsHeld (h : Held) : Type 0 where
   pub clock : IsTrue (is_stamp h.clock)
   pub room : length h.buffer.items ≡ 4096
+  pub calls : CallsNumbered h.unreached.items
+  pub links : LinksNumbered h.links.links
 
--- the time and the room are as before
+-- The time and the room are as before. Calls and notices are numbered from 1 where they were.
 pub record IsStillHeld (before after : Held) : Type 0 where
   pub clock : after.clock ≡ before.clock
   pub room : length after.buffer.items ≡ length before.buffer.items
+  pub calls : CallsNumbered before.unreached.items → CallsNumbered after.unreached.items
+  pub links : LinksNumbered before.links.links → LinksNumbered after.links.links
 
 -- the links are those of the store's instance
 abbrev pub IsOf : StoreNow → Held → Type 0

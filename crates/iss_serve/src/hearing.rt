@@ -11,9 +11,10 @@ ghost use Rattle.iss_serving.specs.Sendings.{Sends};
 ghost use Rattle.iss_link.specs.Hearing.{got_in};
 ghost use Rattle.iss_serving.specs.Sessions.{unasked};
 ghost use Rattle.iss_link.specs.Values.{heard_of};
+ghost use Rattle.iss_store.specs.Numbers.{is_from_one};
 ghost use Rattle.iss_store.specs.Values.{StoreNow};
 ghost use Rattle.iss_serve.specs.Causes.{IsServeCaused};
-ghost use Rattle.iss_serve.specs.Held.{now_of, queued_maybe, queued_as, IsQueuedInForm, idle, to_judge, taking, arrived, IsHeld, IsStillHeld, IsOf};
+ghost use Rattle.iss_serve.specs.Held.{now_of, queued_maybe, queued_as, IsQueuedInForm, idle, to_judge, taking, arrived, is_heard_numbered, IsHeld, IsStillHeld, IsOf};
 ghost use Rattle.iss_serve.specs.Runs.{ServesOn, ServesSome};
 
 use crate::ServeFault;
@@ -96,19 +97,14 @@ impl Held {
         ensures later { Later (E.faults edge.old) (E.faults edge.new) }
         ensures kept { E.extent edge.new ≡ E.extent edge.old }
     {
-        let is_link = self.links.state(ch).is_some();
         if self.clients.is_reading(ch) {
-            // A client comes on a channel that isn't open. One that is a link counts for want of memory here.
-            if is_link {
-                return Err(AllocError);
-            }
             return self.take_request(alloc, edge, ch);
         }
         if self.served.waits(ch) {
             self.pass_over(edge, ch);
             return Ok(None);
         }
-        if is_link {
+        if self.links.state(ch).is_some() {
             return self.take_answer(alloc, edge, ch);
         }
         Ok(None)
@@ -122,7 +118,6 @@ impl Held {
         ch: Channel,
     ) -> Result<Option<Queued>, AllocError>
         requires reading { is_reading ch self.old.clients ≡ true }
-        requires unlinked { link_at ch self.old.links.links ≡ None }
         requires held { IsHeld self.old }
         requires settled { self.old.unreached.items ≡ [] }
         requires ready { (E.channels edge.old).ready ≡ Some ch.0 }
@@ -234,6 +229,7 @@ impl Held {
         requires no_client { is_reading ch self.old.clients ≡ false }
         requires none_waits { is_waiting ch self.old.served ≡ false }
         requires watched { IsSome (link_at ch self.old.links.links) }
+        requires held { IsHeld self.old }
         requires settled { self.old.unreached.items ≡ [] }
         requires ready { (E.channels edge.old).ready ≡ Some ch.0 }
         ensures still { IfOk result (λ heard. IsStillHeld self.old self.new) }
@@ -251,8 +247,7 @@ impl Held {
         ensures kept { E.extent edge.new ≡ E.extent edge.old }
     {
         let heard = self.links.ready(alloc, edge, ch)?;
-        let said = queued_of(&heard)?;
-        Ok(said)
+        Ok(queued_of(&heard))
     }
 }
 
@@ -275,15 +270,16 @@ fn take_piece<E: Edge>(edge: &mut E, ch: Channel, buffer: &mut [u8]) -> Option<u
 }
 
 /// What is to be judged once a link heard this.
-fn queued_of(heard: &Heard) -> Result<Option<Queued>, AllocError>
-    ensures queued { IfOk result (λ said. queued_maybe said ≡ inputs_of (heard_of heard.now)) }
-    ensures forms { IfOk result (λ said. IfSome said IsQueuedInForm) }
+fn queued_of(heard: &Heard) -> Option<Queued>
+    requires numbered { is_heard_numbered (heard_of heard.now) ≡ true }
+    ensures queued { queued_maybe result ≡ inputs_of (heard_of heard.now) }
+    ensures forms { IfSome result IsQueuedInForm }
 {
     match heard {
-        Heard::Nothing => Ok(None),
-        Heard::Outcome(call, outcome) => Ok(Some(answer(*call, *outcome)?)),
-        Heard::Acked(notice) => Ok(Some(ack(*notice)?)),
-        Heard::Dropped(_) => Ok(None),
+        Heard::Nothing => None,
+        Heard::Outcome(call, outcome) => Some(answer(*call, *outcome)),
+        Heard::Acked(notice) => Some(ack(*notice)),
+        Heard::Dropped(_) => None,
     }
 }
 
@@ -297,24 +293,20 @@ fn unasked(input: Input) -> Queued
     }
 }
 
-/// The answer of a call. Calls are numbered from 1: one without a number counts for want of memory here.
-pub(crate) fn answer(call: CallId, outcome: Outcome) -> Result<Queued, AllocError>
-    ensures said { IfOk result (λ q. queued_as q ≡ unasked (input_of.Answer call outcome)) }
-    ensures forms { IfOk result IsQueuedInForm }
+/// The answer of a call. Calls are numbered from 1.
+pub(crate) fn answer(call: CallId, outcome: Outcome) -> Queued
+    requires { is_from_one call.0 ≡ true }
+    ensures said { queued_as result ≡ unasked (input_of.Answer call outcome) }
+    ensures forms { IsQueuedInForm result }
 {
-    if call.0 == 0 {
-        return Err(AllocError);
-    }
-    Ok(unasked(Input::Answer { call, outcome }))
+    unasked(Input::Answer { call, outcome })
 }
 
 /// The acknowledgement of a notice, which has a number from 1 too.
-fn ack(notice: u32) -> Result<Queued, AllocError>
-    ensures said { IfOk result (λ q. queued_as q ≡ unasked (input_of.Ack notice)) }
-    ensures forms { IfOk result IsQueuedInForm }
+fn ack(notice: u32) -> Queued
+    requires { is_from_one notice ≡ true }
+    ensures said { queued_as result ≡ unasked (input_of.Ack notice) }
+    ensures forms { IsQueuedInForm result }
 {
-    if notice == 0 {
-        return Err(AllocError);
-    }
-    Ok(unasked(Input::Ack { notice }))
+    unasked(Input::Ack { notice })
 }

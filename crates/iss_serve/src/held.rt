@@ -1,7 +1,6 @@
 //! What is held while a run serves.
-ghost use Rattle.std.specs.Prelude.{◌≡◌, ◌<◌, ◌^◌, ◌∷◌, ◌++◌, [], length, None, IfOk, OnOk};
-ghost use Rattle.iss_serving.specs.Hearings.{link_at, links_of};
-ghost use Rattle.iss_link.specs.Values.{gone_as, MayBeWatched};
+ghost use Rattle.std.specs.Prelude.{◌≡◌, ◌<◌, ◌^◌, ◌∷◌, [], true, length, IfOk, OnOk};
+ghost use Rattle.iss_store.specs.Serving.{has_number, HaveNumbers};
 ghost use Rattle.iss_serve.specs.Held.{now_of, noted, IsHeld, IsStillHeld};
 
 use crate::clients::Clients;
@@ -67,6 +66,7 @@ impl Held {
 
     /// Notes what became of messages to the gateway: the channels on which answers are awaited, and the calls that weren't reached.
     pub(crate) fn note_all(&mut self, gone: &[Gone]) -> Result<(), AllocError>
+        requires numbered { HaveNumbers gone.now }
         ensures now { OnOk result (now_of self.new ≡ noted gone.now (now_of self.old)) }
         ensures still { OnOk result (IsStillHeld self.old self.new) }
     {
@@ -78,6 +78,7 @@ impl Held {
 
     /// Notes what became of a message.
     fn note(&mut self, gone: &Gone) -> Result<(), AllocError>
+        requires numbered { has_number gone.now ≡ true }
         ensures now { OnOk result (now_of self.new ≡ noted (gone.now ∷ []) (now_of self.old)) }
         ensures still { OnOk result (IsStillHeld self.old self.new) }
     {
@@ -86,22 +87,10 @@ impl Held {
                 self.unreached.push(*call)?;
                 Ok(())
             }
-            Gone::Asked(_, ch) => watch(&mut self.links, gone, *ch),
-            Gone::Noted(_, ch) => watch(&mut self.links, gone, *ch),
+            Gone::Asked(..) => self.links.watch(gone),
+            Gone::Noted(..) => self.links.watch(gone),
         }
     }
-}
-
-/// Watches the channel on which a message went out.
-fn watch(links: &mut Links, gone: &Gone, ch: Channel) -> Result<(), AllocError>
-    requires { link_at ch links.old.links ≡ None → MayBeWatched links.old.links gone.now }
-    ensures { OnOk result (links.new ≡ record links.old { links = links.old.links ++ links_of (gone_as gone.now) }) }
-{
-    // A dial gives a channel that isn't open. One that is watched already counts for want of memory here.
-    if links.state(ch).is_some() {
-        return Err(AllocError);
-    }
-    links.watch(gone)
 }
 
 /// So many zeros.

@@ -8,7 +8,7 @@ ghost use Rattle.iss_store.specs.Planning.{IsPlanOf};
 ghost use Rattle.iss_store.specs.Saying.{IsDurableOf};
 ghost use Rattle.iss_store.specs.Serving.{tasks_of_record};
 ghost use Rattle.iss_serve.specs.Causes.{IsServeCaused};
-ghost use Rattle.iss_serve.specs.Held.{now_of, queued_as, answers_unreached, IsQueuedInForm, idle, to_judge, sending, IsHeld, IsStillHeld, IsOf, left_on};
+ghost use Rattle.iss_serve.specs.Held.{now_of, queued_as, answers_unreached, IsQueuedInForm, idle, to_judge, sending, CallsNumbered, IsHeld, IsStillHeld, IsOf, left_on};
 ghost use Rattle.iss_serve.specs.Judged.{Judges, Settles, judged_again, waiting_for, IsPlannedFor};
 ghost use Rattle.iss_serve.specs.Runs.{ServesOn, ServesSome};
 
@@ -81,6 +81,7 @@ fn judge_each<E: Edge>(
 ) -> Result<Store, ServeFault>
     requires size { E.extent edge.old ≡ store.place.to }
     requires held { IsHeld held.old }
+    requires numbered { CallsNumbered calls.now }
     requires instance { IsOf store held.old }
     ensures judged { IfOk result (λ next. Told (ServesOn (to_judge store (now_of held.old) (answers_unreached calls.now)) (idle next (now_of held.new)))
         (outer_of (E.told edge.old) (E.heard edge.old)) (outer_of (E.told edge.new) (E.heard edge.new))) }
@@ -92,7 +93,7 @@ fn judge_each<E: Edge>(
 {
     let mut next = store;
     for call in calls {
-        let queued = answer(*call, Outcome::Connection)?;
+        let queued = answer(*call, Outcome::Connection);
         next = judge(alloc, next, held, &queued, edge)?;
     }
     Ok(next)

@@ -1,5 +1,5 @@
 -- What a session goes through: each happening makes a session of a session, with what is done meanwhile.
-use Rattle.std.specs.Prelude.{◌≡◌, ℕ, Bool, true, List, [], ◌∷◌, ◌++◌, map, Option, Some, None}
+use Rattle.std.specs.Prelude.{◌≡◌, ℕ, Bool, true, false, List, [], ◌∷◌, ◌++◌, map, Option, Some, None}
 use Rattle.iss_edge.specs.declared.outside.Channel.{Channel}
 use Rattle.iss_edge.specs.declared.outside.Action.TheVariants.{Close}
 use Rattle.iss_edge.specs.declared.outside.Answered.{Answered}
@@ -10,7 +10,7 @@ use Rattle.iss_serving.specs.Items.{Item, Happening, hears, judges, judging, not
 use Rattle.iss_serving.specs.Links.{Link, MayReadEarly}
 use Rattle.iss_serving.specs.Sessions.{Readers, Session, count, next_of}
 use Rattle.iss_serving.specs.Judgements.{judged_first}
-use Rattle.iss_serving.specs.Hearings.{Change, change_to, is_reading, bytes_on, link_at, after_item}
+use Rattle.iss_serving.specs.Hearings.{Change, change_to, is_reading, is_waiting, bytes_on, link_at, after_item}
 
 -- a session by one happening
 abbrev pub session_change : Readers → Session → Happening → Change
@@ -27,9 +27,14 @@ abbrev pub MayEndEarly : Option Link → Option (List ℕ) → Bool → Type 0
 MayEndEarly None got early = Unit {0}
 MayEndEarly (Some link) got early = MayReadEarly link got early
 
+-- on a channel on which no client reads or waits
+abbrev pub MayEndEarlyOn : Session → Channel → Option (List ℕ) → Bool → Type 0
+MayEndEarlyOn s ch got early =
+    is_reading ch s.readers ≡ false → is_waiting ch s.desk.waiting ≡ false → MayEndEarly (link_at ch s.links) got early
+
 -- what an item says of being early is allowed
 abbrev pub MayBeEarly : Session → Item → Answered → Type 0
-MayBeEarly s item (Took ch got) = MayAnswerEarly s ch got item.early × MayEndEarly (link_at ch s.links) got item.early
+MayBeEarly s item (Took ch got) = MayAnswerEarly s ch got item.early × MayEndEarlyOn s ch got item.early
 MayBeEarly s item _ = Unit {0}
 
 -- the item answers the call that comes next

@@ -1,5 +1,5 @@
 -- What the program reads of a client's line is an event.
-use Rattle.std.proofs.Common.{◌≡◌, ℕ, true, List, Result, Ok, Err, IfOk}
+use Rattle.std.proofs.Common.{◌≡◌, true, Result, Ok, Err, IfOk}
 use Rattle.std.specs.Prelude.{is_some}
 use Rattle.iss_model.specs.Inputs.{event_token}
 use Rattle.iss_event.specs.declared.line.Line.{Line}

@@ -13,16 +13,18 @@ use Rattle.iss_journal.specs.Answers.{DiskCause, FullByNeed}
 use Rattle.iss_journal.proofs.Records.{length-behind}
 use Rattle.iss_model.specs.declared.input.Record.{Record}
 use Rattle.iss_model.specs.declared.entry.Entry.{Entry}
-use Rattle.iss_model.specs.state.Cores.{CoreState}
+use Rattle.iss_model.specs.state.Cores.{CoreState, core_keeper}
 use Rattle.iss_model.specs.run.Rooms.{need_of}
 use Rattle.iss_model.specs.texts.Spelling.{spelling, is_record}
 use Rattle.iss_core.specs.Values.{CoreNow, Steps}
 use Rattle.iss_store.specs.declared.fault.StoreFault.TheVariants as store
-use Rattle.iss_store.specs.Values.{StoreNow, Plan, IsFramed, IsOnDevice, is_told_time}
+use Rattle.iss_store.specs.Values.{StoreNow, Plan, IsFramed, IsStore, is_told_time}
+use Rattle.iss_store.specs.Numbers.{AreNumbered, IsNumbered}
 use Rattle.iss_store.specs.Standing.{region_under, bodies_of}
 use Rattle.iss_store.specs.Committing.{ComesNext, Commits, CommitsGood, CommitsGoing, CommitCause}
 use Rattle.iss_store.proofs.Counts.{step_count}
 use Rattle.iss_store.proofs.Lengths.{record_body}
+use Rattle.iss_store.proofs.Numbered.{entries_numbered, step_numbered}
 use Rattle.iss_store.proofs.Regions.{bodies_end, take_bodies, bodies_more}
 
 comes_next : (s : StoreNow) (rs : List Record) (j : ℕ) (r : Record) → is_record r ≡ true → ComesNext s rs j r → journal.ComesNext (region_under s) (bodies_of rs) j (spelling r) s.place
@@ -127,11 +129,15 @@ committed s core next place now p r frame made number is_time stood here same fr
       is_time = told;
     }
 
+-- what a step made is numbered from 1
+pub made_numbered : (core next : CoreNow) (r : Record) (made : List Entry) → Steps core next r made → AreNumbered made
+made_numbered core next r made steps = subst AreNumbered (sym steps.entries) (entries_numbered core_keeper core.state r)
+
 -- what holds of every store holds of the one after a commit
-pub stays_on_device : (core next : CoreNow) (place now : Place) (r : Record) (frame : List ℕ) (made : List Entry)
-    → IsOnDevice (record { core = core; place = place }) → IsFramed r frame → Steps core next r made → length frame ≤ free_at place → now ≡ record { gate = place.gate + length frame; to = place.to }
-    → IsOnDevice (record { core = next; place = now })
-stays_on_device core next place now r frame made stood framed steps short moved =
+pub stays_store : (core next : CoreNow) (place now : Place) (r : Record) (frame : List ℕ) (made : List Entry)
+    → IsStore (record { core = core; place = place }) → IsFramed r frame → Steps core next r made → length frame ≤ free_at place → now ≡ record { gate = place.gate + length frame; to = place.to }
+    → IsStore (record { core = next; place = now })
+stays_store core next place now r frame made stood framed steps short moved =
     let gate : now.gate ≡ place.gate + length frame = ap (λ (q : Place). q.gate) moved in
     let to : now.to ≡ place.to = ap (λ (q : Place). q.to) moved in
     let body = record_body r framed.spelled in
@@ -142,4 +148,5 @@ stays_on_device core next place now r frame made stood framed steps short moved 
       size = omega (arith, stood.size, to);
       behind = omega (arith, stood.behind, gate, long, count, body.some);
       instance = omega (arith, stood.instance, steps.kept);
+      numbered = subst IsNumbered (sym steps.state) (step_numbered core.state r stood.numbered);
     }

@@ -1,3 +1,4 @@
+pub mod Numbered
 pub mod Lengths
 pub mod Regions
 pub mod Histories

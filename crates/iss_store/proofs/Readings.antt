@@ -28,11 +28,13 @@ use Rattle.iss_codec.specs.Meanings.{IsSpellingOf}
 use Rattle.iss_core.specs.Values.{CoreNow, IsNext, Steps}
 use Rattle.iss_core.specs.Values as cores
 use Rattle.iss_core.proofs.OnBook.{judged_on_book, steps_on_book}
+use Rattle.iss_store.specs.Numbers.{IsNumbered}
 use Rattle.iss_store.specs.Standing.{region_of, bodies_of, AreHistory}
 use Rattle.iss_store.specs.Opening.{ReadsHistory, BodyAfterHistory, BadRecordAt, BadSpellingAt, BadHistoryAt, TakesUp, FollowsNot, ReadsCore}
 use Rattle.iss_store.proofs.Regions.{length-header, bodies_more}
 use Rattle.iss_store.proofs.Counts.{step_count}
 use Rattle.iss_store.proofs.Histories.{next_follows, history_more}
+use Rattle.iss_store.proofs.Numbered.{step_numbered}
 
 -- ---- one record
 
@@ -86,6 +88,7 @@ takes_up before after r body made spelled next steps count =
       next = next;
       kept = steps.kept;
       count = count;
+      numbered = λ before_it. subst IsNumbered (sym steps.state) (step_numbered before.state r before_it);
       on_book =
           λ rs stands history. (
             (steps_on_book before after rs r made stands steps).stands,

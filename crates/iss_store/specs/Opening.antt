@@ -16,6 +16,7 @@ use Rattle.iss_core.specs.Values.{CoreNow, IsNext}
 use Rattle.iss_core.specs.Values as cores
 use Rattle.iss_store.specs.declared.fault.OpenFault.{OpenFault}
 use Rattle.iss_store.specs.declared.fault.OpenFault.TheVariants.{Disk, NotFormatted, BadRecord, BadSpelling, BadHistory, OutOfMemory}
+use Rattle.iss_store.specs.Numbers.{IsNumbered}
 use Rattle.iss_store.specs.Values.{StoreNow}
 use Rattle.iss_store.specs.Standing.{region_of, bodies_of, AreHistory, StandsFor, DeviceStandsFor}
 
@@ -151,13 +152,14 @@ pub record OpenCause {T : Type 0} (before now : Faults) (result : Result T OpenF
   pub later : Later before now
   pub disk : IsErrOf result Disk → Rose before.disk now.disk
 
--- the core took up the record that this body spells
+-- the core took up the record that this body spells, and its calls and notices are still numbered from 1
 pub record TakesUp (before : CoreNow) (body : List ℕ) (after : CoreNow) : Type 0 where
   pub r : Record
   pub spelled : IsSpellingOf r body
   pub next : IsNext before r
   pub kept : after.instance ≡ before.instance
   pub count : after.state.count ≡ before.state.count + 1
+  pub numbered : IsNumbered before.state → IsNumbered after.state
   pub on_book : (rs : List Record) → cores.StandsFor before rs → AreHistory rs
       → cores.StandsFor after (rs ++ r ∷ []) × AreHistory (rs ++ r ∷ [])
 

@@ -1,6 +1,6 @@
 -- What a store says while clients are served, by the definitions of serving.
 use Rattle.std.specs.Prelude.{◌≡◌, ℕ, Bool, true, false, List, [], ◌∷◌, ◌++◌, map, Option}
-use Rattle.std.specs.List.{flat_map, list_any}
+use Rattle.std.specs.List.{flat_map, list_all, list_any}
 use Rattle.iss_edge.specs.declared.outside.Channel.{Channel}
 use Rattle.iss_edge.specs.World.{Told, Faults, Later, Rose}
 use Rattle.iss_edge.specs.Outer.{Outer}
@@ -16,6 +16,7 @@ use Rattle.iss_serving.specs.Sessions.{tasks_of}
 use Rattle.iss_link.specs.declared.gone.Gone as link
 use Rattle.iss_link.specs.declared.gone.Gone.TheVariants.{Asked, Noted, Unreached}
 use Rattle.iss_link.specs.Values.{gone_as}
+use Rattle.iss_store.specs.Numbers.{is_from_one}
 use Rattle.iss_store.specs.Values.{StoreNow, DurableNow, said_of}
 
 -- the texts that go out for an entry
@@ -58,6 +59,16 @@ pub record SendsPart (level : ℕ) (d : Desk) (a b : Outer) : Type 0 where
 -- of these texts some went out, at any level, whatever comes behind them and whoever waits
 pub record SendsSomeOf (tasks : List Task) (a b : Outer) : Type 0 where
   pub part : (level : ℕ) (rest : List Task) (waiting : List Waiter) → SendsPart level (desk_with (tasks ++ rest) waiting) a b
+
+-- the call or the notice of a text to the gateway is numbered from 1
+abbrev pub has_number : link.Gone → Bool
+has_number (Asked opened ch) = is_from_one opened.call.0
+has_number (Noted number ch) = is_from_one number
+has_number (Unreached call) = is_from_one call.0
+
+-- the calls and notices of these texts are numbered from 1
+abbrev pub HaveNumbers : List link.Gone → Type 0
+HaveNumbers gone = list_all has_number gone ≡ true
 
 -- all of a desk's texts went out
 abbrev pub SendsAll : ℕ → List Task → List Waiter → List Waiter → List link.Gone → Outer → Outer → Type 0

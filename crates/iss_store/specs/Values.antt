@@ -11,6 +11,7 @@ use Rattle.iss_model.specs.texts.Spelling.{spelling, is_record}
 use Rattle.iss_model.specs.run.Sayings.{Said, said_by, timed}
 use Rattle.iss_model.specs.run.Rooms.{Room}
 use Rattle.iss_core.specs.Values.{CoreNow}
+use Rattle.iss_store.specs.Numbers.{IsNumbered}
 
 -- a store: its core, and the end gate's place with the place where the device ends
 pub record StoreNow : Type 0 where
@@ -32,12 +33,14 @@ pub record DurableNow : Type 0 where
 abbrev pub room_of : StoreNow → Option Room
 room_of s = Some (record { size = s.place.to })
 
--- What holds of every store: its gate is within a device, behind at least six bytes for each of its records, and its instance is one.
-pub record IsOnDevice (s : StoreNow) : Type 0 where
+-- What holds of every store: its gate is within a device, behind at least six bytes for each of its records, its instance is one, and its
+-- calls and notices are numbered from 1.
+pub record IsStore (s : StoreNow) : Type 0 where
   pub within : s.place.gate < s.place.to
   pub size : s.place.to ≤ 2 ^ 32
   pub behind : 16 + 6 * s.core.state.count ≤ s.place.gate
   pub instance : s.core.instance < 2 ^ 48
+  pub numbered : IsNumbered s.core.state
 
 -- a record that has a spelling, and the bytes that an append writes for it
 pub record IsFramed (r : Record) (frame : List ℕ) : Type 0 where

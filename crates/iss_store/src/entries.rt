@@ -1,5 +1,5 @@
 //! What the entries of a record send while clients are served.
-ghost use Rattle.std.specs.Prelude.{◌≡◌, ◌<◌, ◌^◌, List, [], ◌∷◌, ◌++◌, IfOk, OnOk, OnErr};
+ghost use Rattle.std.specs.Prelude.{◌≡◌, ◌<◌, ◌^◌, true, List, [], ◌∷◌, ◌++◌, IfOk, OnOk, OnErr};
 ghost use Rattle.std.specs.List.{flat_map};
 ghost use Rattle.iss_edge.specs.World.{Told, Later};
 ghost use Rattle.iss_edge.specs.Outer.{outer_of, Adds};
@@ -11,7 +11,8 @@ ghost use Rattle.iss_link.specs.declared.gone.Gone.{Gone};
 ghost use Rattle.iss_edge.specs.declared.outside.Channel.{Channel};
 ghost use Rattle.iss_serving.specs.Desks.{of_call, of_notice, to_dial, to_reply};
 ghost use Rattle.iss_store.specs.Saying.{StaysGood};
-ghost use Rattle.iss_store.specs.Serving.{NotesSent, SendsSomeOf, SendsOn, CausesGone, tasks_by, all_gone};
+ghost use Rattle.iss_store.specs.Numbers.{is_from_one, is_numbered, AreNumbered};
+ghost use Rattle.iss_store.specs.Serving.{NotesSent, SendsSomeOf, SendsOn, CausesGone, tasks_by, all_gone, has_number, HaveNumbers};
 
 use crate::Served;
 use crate::sending::{reply, send};
@@ -36,7 +37,8 @@ pub(crate) fn send_entries<E: Edge>(
     served: &Served,
     instance: u64,
 ) -> Result<(Vec<Gone>, Vec<Channel>), AllocError>
-    requires { instance < 2 ^ 48 }
+    requires instance { instance < 2 ^ 48 }
+    requires numbered { AreNumbered entries.now }
     ensures sends { IfOk result (λ x. Told (SendsOn (flat_map (tasks_by instance served.now) entries.now) (all_gone x.0.items) x.1.items)
         (outer_of (E.told edge.old) (E.heard edge.old)) (outer_of (E.told edge.new) (E.heard edge.new))) }
     ensures part { OnErr result (Told (SendsSomeOf (flat_map (tasks_by instance served.now) entries.now))
@@ -44,6 +46,7 @@ pub(crate) fn send_entries<E: Edge>(
     ensures stays { Told StaysGood (E.told edge.old) (E.told edge.new) }
     ensures later { Later (E.faults edge.old) (E.faults edge.new) }
     ensures cause { IfOk result (λ x. CausesGone (E.faults edge.old) (E.faults edge.new) x.0.items) }
+    ensures numbered { IfOk result (λ x. HaveNumbers x.0.items) }
     ensures kept { E.extent edge.new ≡ E.extent edge.old }
 {
     let mut gone = Vec::new(alloc);
@@ -73,7 +76,10 @@ fn send_entry<E: Edge>(
     gone: &mut Vec<Gone>,
     answered: &mut Vec<Channel>,
 ) -> Result<(), AllocError>
-    requires { instance < 2 ^ 48 }
+    requires instance { instance < 2 ^ 48 }
+    requires numbered { is_numbered entry.now ≡ true }
+    requires before { HaveNumbers gone.old.items }
+    ensures numbered { OnOk result (HaveNumbers gone.new.items) }
     ensures notes { OnOk result (NotesSent (tasks_by instance served.now entry.now) gone.old.items gone.new.items answered.old.items answered.new.items
         (E.faults edge.old) (E.faults edge.new)
         (outer_of (E.told edge.old) (E.heard edge.old)) (outer_of (E.told edge.new) (E.heard edge.new))) }
@@ -129,7 +135,10 @@ fn send_request<E: Edge>(
     instance: u64,
     gone: &mut Vec<Gone>,
 ) -> Result<(), AllocError>
-    requires { instance < 2 ^ 48 }
+    requires instance { instance < 2 ^ 48 }
+    requires numbered { is_from_one opened.now.call.0 ≡ true }
+    requires before { HaveNumbers gone.old.items }
+    ensures numbered { OnOk result (HaveNumbers gone.new.items) }
     ensures notes { (ended : List Channel) → OnOk result (NotesSent (to_dial (of_call opened.now) (request_text instance opened.now) ∷ []) gone.old.items gone.new.items ended ended
         (E.faults edge.old) (E.faults edge.new)
         (outer_of (E.told edge.old) (E.heard edge.old)) (outer_of (E.told edge.new) (E.heard edge.new))) }
@@ -156,7 +165,10 @@ fn send_notice<E: Edge>(
     instance: u64,
     gone: &mut Vec<Gone>,
 ) -> Result<(), AllocError>
-    requires { instance < 2 ^ 48 }
+    requires instance { instance < 2 ^ 48 }
+    requires numbered { is_from_one notice.now.number ≡ true }
+    requires before { HaveNumbers gone.old.items }
+    ensures numbered { OnOk result (HaveNumbers gone.new.items) }
     ensures notes { (ended : List Channel) → OnOk result (NotesSent (to_dial (of_notice notice.now.number) (notice_text instance notice.now) ∷ []) gone.old.items gone.new.items ended ended
         (E.faults edge.old) (E.faults edge.new)
         (outer_of (E.told edge.old) (E.heard edge.old)) (outer_of (E.told edge.new) (E.heard edge.new))) }
@@ -176,7 +188,10 @@ fn send_notice<E: Edge>(
 
 /// Notes what became of a text.
 fn note(gone: &mut Vec<Gone>, one: &Gone) -> Result<(), AllocError>
+    requires numbered { has_number one.now ≡ true }
+    requires before { HaveNumbers gone.old.items }
     ensures noted { OnOk result (gone.new.items ≡ gone.old.items ++ one.now ∷ []) }
+    ensures numbered { OnOk result (HaveNumbers gone.new.items) }
 {
     gone.push(*one)?;
     Ok(())

@@ -4,7 +4,7 @@
 //! fits, and can't be sent; a `Durable` is one that lasts, and is made by a commit alone. Between a plan and its open gate
 //! nothing but the device can refuse.
 //!
-//! It may cite `iss_edge`, `iss_journal`, `iss_codec`, `iss_core`, `iss_link`, `iss_event`, `iss_texts`, `iss_model` and its laws.
+//! It may cite `iss_edge`, `iss_channels`, `iss_journal`, `iss_codec`, `iss_core`, `iss_link`, `iss_event`, `iss_texts`, `iss_model` and its laws.
 //! It must not cite lines that come in, nor what a run is for.
 #![tactic(auto)]
 
@@ -23,7 +23,7 @@ mod store;
 
 pub use durable::Durable;
 pub use fault::{OpenFault, PlanFault, StoreFault};
-pub use laws::good_devices_open;
+pub use laws::{calls_and_notices_are_numbered, good_devices_open};
 pub use planned::Planned;
 pub use routes::Routes;
 pub use sending::reply;

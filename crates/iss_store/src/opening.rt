@@ -2,6 +2,7 @@
 ghost use Rattle.std.specs.Prelude.{◌≡◌, ◌+◌, ◌*◌, ◌<◌, ◌≤◌, ◌^◌, IfOk};
 ghost use Rattle.iss_edge.specs.World.{Told};
 ghost use Rattle.iss_edge.specs.Calls.{Same, HearsNothing};
+ghost use Rattle.iss_store.specs.Numbers.{IsNumbered};
 ghost use Rattle.iss_store.specs.Opening.{Opens, OpensGood, OpensGoing, OnOpened, OnRefused, ReadsAlone, OpenCause, TakesIn, ReadsAll};
 
 use crate::OpenFault;
@@ -63,6 +64,7 @@ fn read_all<E: Edge>(
     ensures to { scan.new.to ≡ scan.old.to }
     ensures few { IfOk result (λ core. 16 + 6 * core.state.count ≤ scan.new.gate) }
     ensures instance { IfOk result (λ core. core.instance ≡ instance) }
+    ensures numbered { IfOk result (λ core. IsNumbered core.state) }
     ensures cause { OpenCause (E.faults edge.old) (E.faults edge.new) result }
     ensures heard { Told HearsNothing (E.heard edge.old) (E.heard edge.new) }
     ensures kept { E.extent edge.new ≡ E.extent edge.old }

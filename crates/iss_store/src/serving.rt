@@ -12,7 +12,8 @@ ghost use Rattle.iss_serving.specs.Judgements.{status_of};
 ghost use Rattle.iss_serving.specs.Sendings.{Sends};
 ghost use Rattle.iss_store.specs.Saying.{StaysGood, IsDurableOf};
 ghost use Rattle.iss_store.specs.Standing.{StandsFor};
-ghost use Rattle.iss_store.specs.Serving.{SendsPart, SendsAll, CausesGone, tasks_by, tasks_of_record, tasks_pending, tasks_pending_on_book};
+ghost use Rattle.iss_store.specs.Numbers.{AreNumbered};
+ghost use Rattle.iss_store.specs.Serving.{SendsPart, SendsAll, CausesGone, HaveNumbers, tasks_by, tasks_of_record, tasks_pending, tasks_pending_on_book};
 
 use crate::entries::send_entries;
 use crate::sending::reply;
@@ -44,6 +45,7 @@ impl Store {
         ensures stays { Told StaysGood (E.told edge.old) (E.told edge.new) }
         ensures later { Later (E.faults edge.old) (E.faults edge.new) }
         ensures cause { IfOk result (λ gone. CausesGone (E.faults edge.old) (E.faults edge.new) gone.items) }
+        ensures numbered { IfOk result (λ gone. HaveNumbers gone.items) }
         ensures kept { E.extent edge.new ≡ E.extent edge.old }
     {
         let (gone, answered) = send_entries(
@@ -73,6 +75,7 @@ impl Store {
         ensures stays { Told StaysGood (E.told edge.old) (E.told edge.new) }
         ensures later { Later (E.faults edge.old) (E.faults edge.new) }
         ensures cause { IfOk result (λ gone. CausesGone (E.faults edge.old) (E.faults edge.new) gone.items) }
+        ensures numbered { IfOk result (λ gone. HaveNumbers gone.items) }
         ensures kept { E.extent edge.new ≡ E.extent edge.old }
     {
         let nobody = Served::new(alloc);
@@ -82,9 +85,10 @@ impl Store {
     }
 
     /// The entries of what still waits for the gateway.
-    #[tactic(auto, using(crate::proofs::ServedTexts::pending_tasks))]
+    #[tactic(auto, using(crate::proofs::ServedTexts::pending_tasks, crate::proofs::Numbered::pending_numbered))]
     fn pending_entries(&self, alloc: Global) -> Result<Vec<Entry>, AllocError>
-        ensures { IfOk result (λ entries. flat_map (tasks_by self.now.core.instance []) entries.items ≡ tasks_pending self.now) }
+        ensures tasks { IfOk result (λ entries. flat_map (tasks_by self.now.core.instance []) entries.items ≡ tasks_pending self.now) }
+        ensures numbered { IfOk result (λ entries. AreNumbered entries.items) }
     {
         let mut entries = Vec::new(alloc);
         put_calls(&mut entries, &self.core.asked(alloc)?)?;

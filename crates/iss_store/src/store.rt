@@ -45,11 +45,11 @@ impl Model for Store {
 
     ghost coded = { Prim.hlevel (codes, kept_code) };
 
-    ghost use Rattle.iss_store.specs.Values.{IsOnDevice};
+    ghost use Rattle.iss_store.specs.Values.{IsStore};
 
     ghost view = { λ s. record { core = s.core; place = s.journal } };
 
-    ghost invariant = { λ s. IsOnDevice (record { core = s.core; place = s.journal }) };
+    ghost invariant = { λ s. IsStore (record { core = s.core; place = s.journal }) };
 }
 
 impl Store {

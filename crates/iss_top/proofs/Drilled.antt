@@ -1,5 +1,5 @@
 -- A drill, as an edge tells it.
-use Rattle.std.proofs.Common.{◌≡◌, ℕ, List, [], ◌∷◌, Option}
+use Rattle.std.proofs.Common.{◌≡◌, ℕ, [], ◌∷◌, Option}
 use Rattle.iss_edge.specs.World.{World, Told}
 use Rattle.iss_edge.proofs.Tolds.{told_map}
 use Rattle.iss_texts.specs.Sending.{Says, SaysSome}

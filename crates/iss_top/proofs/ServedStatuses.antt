@@ -1,5 +1,5 @@
 -- Which statuses of a run that serves say that the outside is at fault.
-use Rattle.std.proofs.Common.{◌≡◌, ℕ, Ok, Err, subst, ◌∙◌, sym}
+use Rattle.std.proofs.Common.{◌≡◌, ℕ, Ok, Err, ◌∙◌, sym}
 use Rattle.std.specs.Prelude.{Result}
 use Rattle.iss_edge.specs.World.{Faults, Rose}
 use Rattle.iss_serve.specs.declared.fault.ServeFault.{ServeFault}

@@ -98,8 +98,3 @@ room_begins s now fresh none = rw (fresh, none) (omega arith)
 
 pub limit_begins : (now : ReaderNow) → now ≡ fresh_reader → now.taken ≤ MOST_INPUT
 limit_begins now fresh = rw fresh (omega arith)
-
--- each line leaves less to come
-pub less_to_come : (before now : ReaderNow) → before.taken ≤ MOST_INPUT → Advances before now
-    → MOST_INPUT - now.taken + length now.unread + may_come now < MOST_INPUT - before.taken + length before.unread + may_come before
-less_to_come before now limit more = omega (arith, limit, more.limit, more.room, going_on before more.going)

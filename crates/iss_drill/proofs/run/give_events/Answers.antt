@@ -1,4 +1,4 @@
-use Rattle.std.proofs.Common.{◌≡◌, ℕ, subst, arith}
+use Rattle.std.proofs.Common.{◌≡◌, ℕ, ◌+◌, ◌*◌, ◌≤◌, subst, arith}
 use Rattle.std.specs.Prelude.{vec_len}
 use Rattle.iss_drill.specs.Drills.{drill_run, lines_up_to}
 use Rattle.iss_drill.specs.Giving.{HasGiven}
@@ -25,4 +25,5 @@ returns c =
       given =
           λ begun.
           subst (λ (k : ℕ). HasGiven (drill_run c.args.n) (lines_up_to c.args.n k) c.events.tally c.events.store) end (c.events.invariant.given begun);
+      lines = subst (λ (k : ℕ). c.events.tally.lines ≤ 23 + 2 * k) end c.events.invariant.lines;
     }

@@ -1,7 +1,7 @@
 use Rattle.std.proofs.Common.{rules, ◌≡◌, Option, Err, subst}
+use Rattle.iss_channels.specs.Placed.{things_of}
 use Rattle.iss_http.specs.declared.answers.Answer.{Answer}
 use Rattle.iss_link.specs.Values.{subject_of}
-use Rattle.iss_link.specs.Kept.{links_in}
 use Rattle.iss_link.specs.Hearing.{Reads, got_in}
 use Rattle.iss_link.proofs.Listening.{listens_err, listens_ok}
 use Rattle.iss_link.proofs.answers.listen.Goals as goal
@@ -20,10 +20,10 @@ returns-in_err-said-clause-listens g c =
 
 pub returns-clause-listens : goal.returns-clause-listens
 returns-clause-listens g c =
-    let reads = subst (λ (said : Option Answer). Reads c.args.ch (got_in c.take-got.new.buffer c.take-got.result) (links_in c.args.table.now) (links_in c.read.new.table) said) c.in-Some.is c.in_ok-answer.ensures.reads in
-    listens_ok c.args.instance (links_in c.args.table.now) (links_in c.read.new.table) (links_in c.remove.new.self) c.args.ch c.in_ok-said.said c.in-Some.answer (subject_of c.about-about.result)
+    let reads = subst (λ (said : Option Answer). Reads c.args.ch (got_in c.take-got.new.buffer c.take-got.result) (things_of c.args.links.now) (things_of c.read.new.links) said) c.in-Some.is c.in_ok-answer.ensures.reads in
+    listens_ok c.args.instance (things_of c.args.links.now) (things_of c.read.new.links) (things_of c.remove.new.self) c.args.ch c.in_ok-said.said c.in-Some.answer (subject_of c.about-about.result)
     (g.E.Edge.channels c.args.edge.now) (g.E.Edge.faults c.args.edge.now) (g.E.Edge.faults c.take-got.new.edge) (g.E.Edge.faults c.close.new.self)
     (g.E.Edge.told c.args.edge.now) (g.E.Edge.told c.take-got.new.edge) (g.E.Edge.told c.close.new.self)
     (g.E.Edge.heard c.args.edge.now) (g.E.Edge.heard c.take-got.new.edge) (g.E.Edge.heard c.close.new.self)
     c.take-got.new.buffer c.take-got.result c.take-got.ensures.room c.take-got.ensures.bound c.take-got.ensures.failed c.take-got.ensures.later c.close.ensures.later
-    c.take-got.ensures.told c.close.ensures.noted c.close.ensures.heard reads c.about-about.ensures c.in_ok-said.ensures c.remove.ensures.removed
+    c.take-got.ensures.told c.close.ensures.noted c.close.ensures.heard reads c.about-about.ensures c.in_ok-said.ensures c.remove.ensures

@@ -49,6 +49,7 @@ loop-entry-preserved g c =
           sent_to_next (flat_map tasks entries) (tasks c.entry-item.result) (flat_map tasks (drop (i + 1) entries)) c.loop-entry.gone.items c.send_entry.new.gone.items c.loop-entry.answered.items
           c.send_entry.new.answered.items f h (g.E.Edge.faults c.send_entry.new.edge) x y z sent c.in_ok-send_entry.ensures.notes;
       stays = told_stays_then (g.E.Edge.told c.args.edge.now) (g.E.Edge.told c.loop-entry.edge) (g.E.Edge.told c.send_entry.new.edge) c.loop-entry.invariant.stays c.send_entry.ensures.stays;
+      numbered = c.in_ok-send_entry.ensures.numbered;
       later = later_then _ _ _ c.loop-entry.invariant.later c.send_entry.ensures.later;
       kept = c.send_entry.ensures.kept ∙ c.loop-entry.invariant.kept;
     }

@@ -1,6 +1,8 @@
-use Rattle.std.proofs.Common.{rules, ◌≡◌, refl, ap}
+use Rattle.std.proofs.Common.{rules, ◌≡◌, refl, sym, ap, subst}
 use Rattle.std.specs.Prelude.{Err}
 use Rattle.iss_core.specs.Values.{CoreNow}
+use Rattle.iss_store.specs.Numbers.{IsNumbered}
+use Rattle.iss_store.proofs.Numbered.{none_numbered}
 use Rattle.iss_store.proofs.ToldReadings.{told_nothing_read, told_take_fault, none_counted}
 use Rattle.iss_store.proofs.opening.read_all.Goals as goal
 
@@ -13,6 +15,7 @@ reading-init g c =
       to = refl;
       few = none_counted c.in_ok-core.core none;
       instance = search rules;
+      numbered = subst IsNumbered (sym none) none_numbered;
       later = search rules;
       heard = search rules;
       kept = refl;

@@ -1,6 +1,7 @@
 use Rattle.std.proofs.Common.{◌≡◌, ◌+◌, ◌-◌, ◌*◌, ◌≤◌}
 use Rattle.iss_edge.specs.World.{Told, Later}
 use Rattle.iss_edge.specs.Calls.{HearsNothing}
+use Rattle.iss_store.specs.Numbers.{IsNumbered}
 use Rattle.iss_store.proofs.Readings.{ReadSoFar}
 use Rattle.iss_store.proofs.opening.read_all.Given as goal
 
@@ -11,6 +12,7 @@ invariant-reading g l = record {
   to : l.scan.to ≡ l.initial.scan.to;
   few : 16 + 6 * l.core.state.count ≤ l.gate;
   instance : l.core.instance ≡ l.instance;
+  numbered : IsNumbered l.core.state;
   later : Later (g.E.Edge.faults l.initial.edge) (g.E.Edge.faults l.edge);
   heard : Told HearsNothing (g.E.Edge.heard l.initial.edge) (g.E.Edge.heard l.edge);
   kept : g.E.Edge.extent l.edge ≡ g.E.Edge.extent l.initial.edge;

@@ -5,11 +5,8 @@ use Rattle.iss_edge.specs.Outer.{outer_of}
 use Rattle.iss_serving.specs.Hearings.{is_reading, is_waiting, link_at}
 use Rattle.iss_serve.specs.Held.{now_of, queued_maybe, idle, to_judge, taking, arrived}
 use Rattle.iss_serve.proofs.Hears.{is_taken, is_passed, listened_reading, listened_waiting, listened_link, listened_none}
-use Rattle.iss_serve.proofs.Stages.{told_on_self, told_none_on, told_on_as, told_some_as}
+use Rattle.iss_serve.proofs.Stages.{told_on_self, told_on_as, told_some_as}
 use Rattle.iss_serve.proofs.held.Held.take.Goals as goal
-
-pub returns-then-is_link-clause-part : goal.returns-then-is_link-clause-part
-returns-then-is_link-clause-part g c = λ store own. told_none_on (arrived store (now_of c.args.self.now) c.args.ch) (outer_of (g.E.Edge.told c.args.edge.now) (g.E.Edge.heard c.args.edge.now))
 
 pub returns-then-is_reading-clause-hears : goal.returns-then-is_reading-clause-hears
 returns-then-is_reading-clause-hears g c = λ store own.
@@ -38,8 +35,8 @@ returns-then-waits-clause-hears g c = λ store own.
     told_on_as (taking store h ch) (arrived store h ch) (idle store (now_of c.pass_over.new.self)) (idle store (now_of c.pass_over.new.self)) (outer_of (g.E.Edge.told c.args.edge.now) (g.E.Edge.heard c.args.edge.now)) (outer_of (g.E.Edge.told c.pass_over.new.edge) (g.E.Edge.heard c.pass_over.new.edge))
     (sym (is_taken store h ch (listened_waiting h ch other waiting))) refl (c.pass_over.ensures.hears store)
 
-pub returns-then-is_link-2-clause-hears : goal.returns-then-is_link-2-clause-hears
-returns-then-is_link-2-clause-hears g c = λ store own.
+pub returns-then-is_some-clause-hears : goal.returns-then-is_some-clause-hears
+returns-then-is_some-clause-hears g c = λ store own.
     let h = now_of c.args.self.now in
     let ch = c.args.ch in
     let other : is_reading ch h.clients ≡ false = search rules in
@@ -51,8 +48,8 @@ returns-then-is_link-2-clause-hears g c = λ store own.
     (sym (is_taken store h ch (listened_link h ch other none_waits linked))) refl p)
     (c.take_answer.ensures.hears store own)
 
-pub returns-then-is_link-2-clause-part : goal.returns-then-is_link-2-clause-part
-returns-then-is_link-2-clause-part g c = λ store own.
+pub returns-then-is_some-clause-part : goal.returns-then-is_some-clause-part
+returns-then-is_some-clause-part g c = λ store own.
     let h = now_of c.args.self.now in
     let ch = c.args.ch in
     let other : is_reading ch h.clients ≡ false = search rules in

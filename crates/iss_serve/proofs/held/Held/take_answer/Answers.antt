@@ -1,12 +1,11 @@
 use Rattle.std.proofs.Common.{refl}
 use Rattle.iss_edge.specs.Outer.{outer_of}
 use Rattle.iss_edge.specs.World.{Told}
-use Rattle.iss_serving.specs.Hearings.{inputs_of}
 use Rattle.iss_link.specs.Values.{heard_of}
-use Rattle.iss_serve.specs.Held.{HeldNow, now_of, queued_maybe, taking, to_judge}
+use Rattle.iss_serve.specs.Held.{HeldNow, now_of, queued_maybe, taking}
 use Rattle.iss_serve.specs.Runs.{ServesSome}
 use Rattle.iss_serve.proofs.Causings.{anyway}
-use Rattle.iss_serve.proofs.Stages.{told_some_of_on}
+use Rattle.iss_serve.proofs.Numbering.{answer_numbered, left_numbered}
 use Rattle.iss_serve.proofs.Hears.{told_link_heard, told_link_some}
 use Rattle.iss_serve.proofs.held.Held.take_answer.Goals as goal
 
@@ -17,16 +16,21 @@ returns-in_err-heard-clause-part g c = λ store own.
     anyway c.from_residual.result (Told (ServesSome (taking store (now_of c.args.self.now) c.args.ch)) x y)
     (told_link_some store (now_of c.args.self.now) c.args.ch c.requires.settled x y c.ready.new.self _ _ _ _ c.in_err-heard.ensures.listens)
 
-pub returns-in_err-said-clause-part : goal.returns-in_err-said-clause-part
-returns-in_err-said-clause-part g c = λ store own.
-    let x = (outer_of (g.E.Edge.told c.args.edge.now) (g.E.Edge.heard c.args.edge.now)) in
-    let y = (outer_of (g.E.Edge.told c.ready.new.edge) (g.E.Edge.heard c.ready.new.edge)) in
-    let h = now_of c.args.self.now in
-    let now : HeldNow = record h { links = c.ready.new.self } in
-    let heard = inputs_of (heard_of c.in_ok-heard.heard) in
-    anyway c.from_residual-in_err-said.result (Told (ServesSome (taking store h c.args.ch)) x y)
-    (told_some_of_on (taking store h c.args.ch) (to_judge store now heard) x y
-    (told_link_heard store h c.args.ch c.requires.settled x y now c.in_ok-heard.heard heard _ _ _ c.requires.no_client c.requires.none_waits own refl refl c.in_ok-heard.ensures.listens))
+pub queued_of-requires : goal.queued_of-requires
+queued_of-requires g c = record {
+  numbered =
+      answer_numbered c.args.self.now.links c.ready.new.self c.args.ch c.in_ok-heard.ensures.listens.got (heard_of c.in_ok-heard.heard) c.in_ok-heard.ensures.listens.answers
+      c.requires.held.links;
+}
+
+pub returns-clause-still : goal.returns-clause-still
+returns-clause-still g c = record {
+  clock = refl;
+  room = refl;
+  calls = λ k. k;
+  links = λ k.
+      left_numbered c.args.self.now.links c.ready.new.self c.args.ch c.in_ok-heard.ensures.listens.got (heard_of c.in_ok-heard.heard) c.in_ok-heard.ensures.listens.answers k;
+}
 
 pub returns-clause-hears : goal.returns-clause-hears
 returns-clause-hears g c = λ store own.
@@ -34,5 +38,5 @@ returns-clause-hears g c = λ store own.
     let y = (outer_of (g.E.Edge.told c.ready.new.edge) (g.E.Edge.heard c.ready.new.edge)) in
     let h = now_of c.args.self.now in
     let now : HeldNow = record h { links = c.ready.new.self } in
-    told_link_heard store h c.args.ch c.requires.settled x y now c.in_ok-heard.heard (queued_maybe c.in_ok-said.said) _ _ _ c.requires.no_client c.requires.none_waits own c.in_ok-said.ensures.queued refl
+    told_link_heard store h c.args.ch c.requires.settled x y now c.in_ok-heard.heard (queued_maybe c.queued_of.result) _ _ _ c.requires.no_client c.requires.none_waits own c.queued_of.ensures.queued refl
     c.in_ok-heard.ensures.listens

@@ -45,7 +45,7 @@ returns-in-More-clause-hears g c = λ store.
     let piece : List ℕ = take c.in-Some.count c.deref.result.now in
     let read = subst (λ (r : Request). ReadsOn ch piece h.clients c.read.new.self r) c.in-More.is c.in_ok-read.ensures.reads in
     let led =
-    told_request store h ch c.requires.settled x y now c.take_piece.new.buffer c.in-Some.count piece More c.requires.reading c.requires.unlinked c.take_piece.ensures.room c.in-Some.ensures.bound some (ap (λ (l : List ℕ). take c.in-Some.count l) there) read refl c.in-Some.ensures.told in
+    told_request store h ch c.requires.settled x y now c.take_piece.new.buffer c.in-Some.count piece More c.requires.reading c.take_piece.ensures.room c.in-Some.ensures.bound some (ap (λ (l : List ℕ). take c.in-Some.count l) there) read refl c.in-Some.ensures.told in
     led
 
 pub returns-in-Says-clause-hears : goal.returns-in-Says-clause-hears
@@ -62,7 +62,7 @@ returns-in-Says-clause-hears g c = λ store.
     let piece : List ℕ = take c.in-Some.count c.deref.result.now in
     let read = subst (λ (r : Request). ReadsOn ch piece h.clients c.read.new.self r) c.in-Says.is c.in_ok-read.ensures.reads in
     let led =
-    told_request store h ch c.requires.settled x y now c.take_piece.new.buffer c.in-Some.count piece (Says c.in-Says.input) c.requires.reading c.requires.unlinked c.take_piece.ensures.room c.in-Some.ensures.bound some (ap (λ (l : List ℕ). take c.in-Some.count l) there) read refl c.in-Some.ensures.told in
+    told_request store h ch c.requires.settled x y now c.take_piece.new.buffer c.in-Some.count piece (Says c.in-Says.input) c.requires.reading c.take_piece.ensures.room c.in-Some.ensures.bound some (ap (λ (l : List ℕ). take c.in-Some.count l) there) read refl c.in-Some.ensures.told in
     led
 
 pub returns-in-Bad-clause-hears : goal.returns-in-Bad-clause-hears
@@ -79,7 +79,7 @@ returns-in-Bad-clause-hears g c = λ store.
     let piece : List ℕ = take c.in-Some.count c.deref.result.now in
     let read = subst (λ (r : Request). ReadsOn ch piece h.clients c.read.new.self r) c.in-Bad.is c.in_ok-read.ensures.reads in
     let led =
-    told_request store h ch c.requires.settled x y now c.take_piece.new.buffer c.in-Some.count piece (Bad c.in-Bad.text) c.requires.reading c.requires.unlinked c.take_piece.ensures.room c.in-Some.ensures.bound some (ap (λ (l : List ℕ). take c.in-Some.count l) there) read refl c.in-Some.ensures.told in
+    told_request store h ch c.requires.settled x y now c.take_piece.new.buffer c.in-Some.count piece (Bad c.in-Bad.text) c.requires.reading c.take_piece.ensures.room c.in-Some.ensures.bound some (ap (λ (l : List ℕ). take c.in-Some.count l) there) read refl c.in-Some.ensures.told in
     let last = now_of c.answer_client.new.self in
     let z = (outer_of (g.E.Edge.told c.answer_client.new.edge) (g.E.Edge.heard c.answer_client.new.edge)) in
     told_on_then (taking store h ch) (sending store now [] (to_reply ch c.in-Bad.text.items ∷ [])) (idle store last) x y z led

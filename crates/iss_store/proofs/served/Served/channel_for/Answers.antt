@@ -1,7 +1,12 @@
-use Rattle.std.proofs.Common.{◌∙◌}
-use Rattle.iss_store.proofs.Waiters.{channel_as}
+use Rattle.std.proofs.Common.{ap, sym, ◌∙◌}
+use Rattle.std.specs.Option.{option_copied}
+use Rattle.iss_store.proofs.Waiters.{channel_at, one_there, no_channel}
 use Rattle.iss_store.proofs.served.Served.channel_for.Goals as goal
+
+pub returns-in_err-place : goal.returns-in_err-place
+returns-in_err-place c =
+    rw (← c.self.view_is) (c.from_residual.ensures ∙ no_channel c.self.inside.events c.self.inside.waiting c.self.invariant c.args.event.now c.in_err-place.ensures.none)
 
 pub returns : goal.returns
 returns c =
-    rw (← c.self.view_is) (c.channel_in.ensures ∙ channel_as c.args.event.now c.as_slice.result.now c.self.inside.waiting.items c.as_slice.ensures.value)
+    rw (← c.self.view_is) (channel_at c.self.inside.events c.self.inside.waiting c.self.invariant c.args.event.now c.in_ok-place.place c.in_ok-waiting.waiting.now c.in_ok-place.ensures.first c.in_ok-waiting.ensures)

@@ -1,11 +1,16 @@
-use Rattle.std.proofs.Common.{ap, map, ◌∙◌, ◌==◌, not, rules}
-use Rattle.std.proofs.lemmas.Fn.{filter_same}
-use Rattle.iss_store.specs.declared.served.Waiting.{Waiting}
-use Rattle.iss_store.specs.Waiting.{waiter_of}
-use Rattle.iss_store.proofs.Waiters.{waiters_left}
+use Rattle.std.proofs.Common.{◌==◌, ◌∙◌}
+use Rattle.iss_channels.specs.Placed.{things_of}
+use Rattle.iss_store.proofs.Waiters.{less_kept, others_wait, all_wait}
 use Rattle.iss_store.proofs.served.Served.forget.Goals as goal
+
+pub loop-place-preserved : goal.loop-place-preserved
+loop-place-preserved c = record {
+  left = others_wait c.args.ch c.in-Some.place c.in-Some.waiting c.loop-place.self-inside.waiting c.take.new.self c.in-Some.ensures.taken ∙ c.loop-place.invariant.left;
+  kept = less_kept c.loop-place.self-inside.events c.loop-place.self-inside.waiting c.loop-place.invariant.kept (λ w. w.ch.0 == c.args.ch.0) c.remove.new.self c.in-Some.place c.in-Some.waiting c.take.new.self
+      c.in-Some.ensures.taken c.remove.ensures c.take.ensures.placed;
+}
 
 pub returns : goal.returns
 returns c =
-    let kept = filter_same _ (λ (w : Waiting). not (w.ch.0 == c.args.ch.0)) _ (λ x b f' k. search rules) _ _ c.retain.ensures.filtered in
-    rw (← c.self.view_is) (ap (map waiter_of) kept ∙ waiters_left c.args.ch c.self.inside.waiting.items)
+    rw (← c.self.view_is)
+    (all_wait c.args.ch c.loop-place.self-inside.waiting c.take.new.self (things_of c.self.inside.waiting) c.in_default.ensures.none c.in_default.ensures.unchanged c.loop-place.invariant.left)

@@ -3,7 +3,7 @@ use Rattle.iss_model.specs.declared.input.Record.{Record}
 use Rattle.iss_model.specs.texts.Spelling.{is_record}
 use Rattle.iss_store.specs.declared.fault.StoreFault.TheVariants.{OutOfMemory}
 use Rattle.iss_store.specs.Values.{StoreNow, Plan}
-use Rattle.iss_store.proofs.Commits.{kept_good, kept_going, refused_by_disk, committed, stays_on_device}
+use Rattle.iss_store.proofs.Commits.{kept_good, kept_going, refused_by_disk, committed, made_numbered, stays_store}
 use Rattle.iss_store.proofs.Histories.{stands_more}
 use Rattle.iss_store.proofs.store.Store.commit.Goals as goal
 
@@ -34,8 +34,11 @@ returns-in_err-core-clause-lasts g c =
 
 pub invariant_of-result : goal.invariant_of-result
 invariant_of-result g c =
-    stays_on_device c.self.inside.core c.in_ok-core.core c.self.inside.journal c.append.new.self c.planned.inside.accepted c.planned.inside.frame c.in_ok-core.entries.items
+    stays_store c.self.inside.core c.in_ok-core.core c.self.inside.journal c.append.new.self c.planned.inside.accepted c.planned.inside.frame c.in_ok-core.entries.items
     c.self.invariant c.planned.invariant c.in_ok-core.ensures.stepped c.in-Ok.ensures.full c.in-Ok.ensures.next
+
+pub invariant_of-durable : goal.invariant_of-durable
+invariant_of-durable g c = made_numbered c.self.inside.core c.in_ok-core.core c.planned.inside.accepted c.in_ok-core.entries.items c.in_ok-core.ensures.stepped
 
 pub returns-clause-committed : goal.returns-clause-committed
 returns-clause-committed g c =

@@ -15,7 +15,7 @@ returns-clause-sends g c =
     let tasks : flat_map (tasks_by c.instance.result c.new-nobody.result) entries ≡ tasks_pending s =
     ap (λ (n : ℕ). flat_map (tasks_by n c.new-nobody.result) entries) instance
     ∙ ap (λ (ws : List Waiter). flat_map (tasks_by s.core.instance ws) entries) c.new-nobody.ensures
-    ∙ ap (flat_map (tasks_by s.core.instance [])) c.deref.ensures.value ∙ c.in_ok-entries.ensures in
+    ∙ ap (flat_map (tasks_by s.core.instance [])) c.deref.ensures.value ∙ c.in_ok-entries.ensures.tasks in
     λ waiting.
     told_resumed s (flat_map (tasks_by c.instance.result c.new-nobody.result) entries) s.core.state.count (all_gone c.in_ok-gone.gone.items) c.in_ok-gone.field-0-1.items waiting
     (outer_of (g.E.Edge.told c.args.edge.now) (g.E.Edge.heard c.args.edge.now)) (outer_of (g.E.Edge.told c.send_entries.new.edge) (g.E.Edge.heard c.send_entries.new.edge)) tasks c.in_ok-gone.ensures.sends
