@@ -5,9 +5,11 @@ use crate::scripts::{
     REPEAT_AT_THE_DEADLINE_TOLD, TWO_TIMEOUTS_AND_AN_EXPIRY, TWO_TIMEOUTS_AND_AN_EXPIRY_TOLD,
 };
 use crate::support::sent;
-use iss_edge::{Action, MemoryEdge};
+use iss_edge::Action;
 use iss_store::Store;
-use iss_tests::devices::{Left, USER_RECORD, device_of, edge_on, image_of};
+use iss_tests::devices::{
+    Left, USER_RECORD, WAYS, actions_until, device_of, edge_on, image_of, opened_on,
+};
 use std::alloc::{AllocError, Global};
 use std::test::Fail;
 
@@ -88,32 +90,13 @@ fn level_at(run: &Worked, count: usize) -> u32 {
     run.levels.get(line).copied().unwrap_or(0)
 }
 
-/// The place of the gate behind the first so many records of a device.
-fn gate_behind(device: &[u8], count: u32) -> Option<usize> {
-    let mut gate = 16usize;
-    for _ in 0..count {
-        let [_, a, b, c, d, ..] = device.get(gate..)? else {
-            return None;
-        };
-        let length = u32::from_be_bytes([*a, *b, *c, *d]);
-        gate = gate.saturating_add(5).saturating_add(length as usize);
-    }
-    Some(gate)
-}
-
-/// How many records an image opens with, where they are the first ones of this device and the end gate behind them is 0.
+/// How many records an image opens with, where they are the first ones of this device and the end gate after them is 0.
 fn records_on(alloc: Global, image: &[u8], whole: &[u8]) -> Result<Option<u32>, AllocError> {
-    let mut edge = edge_on(alloc, image, &[])?;
-    let Ok(store) = Store::open(alloc, &mut edge) else {
-        return Ok(None);
-    };
-    let count = store.core().count();
-    let Some(gate) = gate_behind(edge.device(), count) else {
-        return Ok(None);
-    };
-    let are_first = edge.device().get(..gate) == whole.get(..gate);
-    let is_shut = edge.device().get(gate) == Some(&0);
-    Ok((are_first && is_shut).then_some(count))
+    match opened_on(alloc, image, whole) {
+        Ok(Some(store)) => Ok(Some(store.core().count())),
+        Ok(None) => Ok(None),
+        Err(fault) => Err(fault),
+    }
 }
 
 /// Whether each of three images after these actions stands for a prefix of this device's records that has the record of each
@@ -126,7 +109,7 @@ fn stands_after(
     whole: &[u8],
 ) -> Result<bool, AllocError> {
     let least = level_at(run, count_sent(actions));
-    for left in [Left::Nothing, Left::All, Left::OpenGates] {
+    for left in WAYS {
         let image = image_of(alloc, start, actions, left)?;
         match records_on(alloc, &image, whole)? {
             Some(count) if least <= count => {}
@@ -134,11 +117,6 @@ fn stands_after(
         }
     }
     Ok(true)
-}
-
-/// The actions of an edge up to this moment.
-fn actions_until(edge: &MemoryEdge, count: usize) -> &[Action] {
-    edge.trace().get(..count).unwrap_or(&[])
 }
 
 /// Whether a run is told its texts, and stands so after each of its actions.
@@ -166,7 +144,7 @@ fn each_stop_leaves_what_was_told(rt: HostRuntime) -> Result<(), Fail> {
 fn leaves(alloc: Global, count: usize, least: u32, most: u32) -> Result<bool, AllocError> {
     let start = device_of(alloc, 100, &[])?;
     let (_, edge) = replayed(alloc, &start, USER, &[])?;
-    for left in [Left::Nothing, Left::All, Left::OpenGates] {
+    for left in WAYS {
         let image = image_of(alloc, &start, actions_until(&edge, count), left)?;
         match records_on(alloc, &image, edge.device())? {
             Some(number) if least <= number && number <= most => {}

@@ -13,6 +13,10 @@ mod requests;
 #[cfg(test)]
 mod runs;
 #[cfg(test)]
+mod scenes;
+#[cfg(test)]
 mod sending;
+#[cfg(test)]
+mod stops;
 #[cfg(test)]
 mod support;

@@ -2,13 +2,12 @@
 ghost use Rattle.std.specs.Prelude.{◌≡◌, true, IfOk};
 ghost use Rattle.iss_edge.specs.Memory.{are_clients_apart};
 
-use crate::runs::{asks, did, ran, text};
+use crate::runs::{did, ran, text};
+use crate::scenes::Scene;
 use iss_edge::{Channel, Script};
 use iss_tests::devices::device_of;
 use std::alloc::{AllocError, Global};
 use std::test::Fail;
-
-const USER: &str = r#"{"type":"user","token":"t1","user":"u1"}"#;
 
 const DONE: &str =
     "HTTP/1.1 200 OK\r\nContent-Type: application/json\r\nContent-Length: 30\r\nConnection: close\r\n\r\n{\"event\":\"t1\",\"reply\":\"done\"}\n";
@@ -16,24 +15,11 @@ const DONE: &str =
 const BAD_TYPE: &str =
     "HTTP/1.1 400 Bad Request\r\nContent-Type: application/json\r\nContent-Length: 48\r\nConnection: close\r\n\r\n{\"fault\":\"FIELD\",\"field\":\"type\",\"reply\":\"form\"}\n";
 
-/// One request in three pieces, cut inside the last header line and inside the body.
-#[rattlefmt::skip]
-fn pieces(alloc: Global) -> Result<Vec<Script>, AllocError>
-    ensures { IfOk result (λ script. are_clients_apart script.items ≡ true) }
-{
-    Ok(vec![in alloc;
-        Script::Client(Channel(1)),
-        Script::More(Channel(1), text(alloc, "POST /events HTTP/1.1\r\nContent-Len")?),
-        Script::More(Channel(1), text(alloc, "gth: 40\r\n\r\n{\"type\":\"user\",\"tok")?),
-        Script::More(Channel(1), text(alloc, "en\":\"t1\",\"user\":\"u1\"}")?),
-    ]?)
-}
-
 fn come_in_pieces(alloc: Global) -> Result<bool, AllocError> {
     let report = ran(
         alloc,
         &device_of(alloc, 1000, &[])?,
-        pieces(alloc)?,
+        Scene::Pieces.script(alloc)?,
         1000,
         &[],
     )?;
@@ -99,23 +85,11 @@ fn a_fault_of_http_is_told(rt: HostRuntime) -> Result<(), Fail> {
     Ok(())
 }
 
-/// An event, the same again, and a time, which no client may send.
-#[rattlefmt::skip]
-fn three(alloc: Global) -> Result<Vec<Script>, AllocError>
-    ensures { IfOk result (λ script. are_clients_apart script.items ≡ true) }
-{
-    Ok(vec![in alloc;
-        Script::Client(Channel(1)), Script::More(Channel(1), asks(alloc, USER)?),
-        Script::Client(Channel(2)), Script::More(Channel(2), asks(alloc, USER)?),
-        Script::Client(Channel(3)), Script::More(Channel(3), asks(alloc, r#"{"type":"time","at":1}"#)?),
-    ]?)
-}
-
 fn three_are_answered(alloc: Global) -> Result<bool, AllocError> {
     let report = ran(
         alloc,
         &device_of(alloc, 1000, &[])?,
-        three(alloc)?,
+        Scene::InTurn.script(alloc)?,
         1000,
         &[],
     )?;
@@ -137,23 +111,11 @@ fn clients_are_answered_in_turn(rt: HostRuntime) -> Result<(), Fail> {
     Ok(())
 }
 
-/// A client that ends early, one that goes silent, and one that is answered all the same.
-#[rattlefmt::skip]
-fn early(alloc: Global) -> Result<Vec<Script>, AllocError>
-    ensures { IfOk result (λ script. are_clients_apart script.items ≡ true) }
-{
-    Ok(vec![in alloc;
-        Script::Client(Channel(2)), Script::More(Channel(2), text(alloc, "POST /ev")?),
-        Script::Client(Channel(3)), Script::Ended(Channel(2)),
-        Script::Client(Channel(1)), Script::More(Channel(1), asks(alloc, USER)?),
-    ]?)
-}
-
 fn costs_itself(alloc: Global) -> Result<bool, AllocError> {
     let report = ran(
         alloc,
         &device_of(alloc, 1000, &[])?,
-        early(alloc)?,
+        Scene::EndsEarly.script(alloc)?,
         1000,
         &[],
     )?;

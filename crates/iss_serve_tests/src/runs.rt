@@ -47,7 +47,31 @@ fn syncs(edge: &MemoryEdge) -> usize {
     count
 }
 
+/// A run that was played, and the outside after it.
+#[derive(Drop)]
+pub(crate) struct Played {
+    pub(crate) result: Result<(), ServeFault>,
+    pub(crate) edge: MemoryEdge,
+}
+
 /// Serves on a device what is to come, in so many turns, where the calls of these numbers fail.
+pub(crate) fn play(
+    alloc: Global,
+    device: &[u8],
+    script: Vec<Script>,
+    turns: u32,
+    fails: &[u64],
+) -> Result<Played, AllocError>
+    requires { are_clients_apart script.items ≡ true }
+{
+    let device = device.to_vec(alloc)?;
+    let fails = fails.to_vec(alloc)?;
+    let mut edge = MemoryEdge::new(alloc, device, Vec::new(alloc), script, fails)?;
+    let result = serve(alloc, turns, &mut edge);
+    Ok(Played { result, edge })
+}
+
+/// What such a run did.
 pub(crate) fn ran(
     alloc: Global,
     device: &[u8],
@@ -57,16 +81,13 @@ pub(crate) fn ran(
 ) -> Result<Report, AllocError>
     requires { are_clients_apart script.items ≡ true }
 {
-    let device = device.to_vec(alloc)?;
-    let fails = fails.to_vec(alloc)?;
-    let mut edge = MemoryEdge::new(alloc, device, Vec::new(alloc), script, fails)?;
-    let result = serve(alloc, turns, &mut edge);
+    let played = play(alloc, device, script, turns, fails)?;
     Ok(Report {
-        result,
-        done: done(alloc, &edge)?,
-        bytes: bytes(alloc, &edge)?,
-        device: edge.device().to_vec(alloc)?,
-        records: syncs(&edge) / 2,
+        result: played.result,
+        done: done(alloc, &played.edge)?,
+        bytes: bytes(alloc, &played.edge)?,
+        device: played.edge.device().to_vec(alloc)?,
+        records: syncs(&played.edge) / 2,
     })
 }
 

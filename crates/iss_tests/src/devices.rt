@@ -2,6 +2,7 @@
 ghost use Rattle.std.specs.Prelude.{◌≡◌, length, IfOk};
 
 use iss_edge::{Action, Edge, MemoryEdge};
+use iss_store::Store;
 use std::alloc::{AllocError, Global};
 
 /// The header of instance 0.
@@ -67,6 +68,9 @@ pub enum Left {
     OpenGates,
 }
 
+/// Each way in which unfinished writes may stand here.
+pub const WAYS: [Left; 3] = [Left::Nothing, Left::All, Left::OpenGates];
+
 fn overwrite(image: &mut [u8], at: u64, bytes: &[u8]) {
     for (i, byte) in bytes.iter().enumerate() {
         if let Some(place) = image.get_mut((at as usize).saturating_add(i)) {
@@ -105,4 +109,40 @@ pub fn image_of(
         }
     }
     Ok(image)
+}
+
+/// The actions of an edge up to this moment.
+pub fn actions_until(edge: &MemoryEdge, count: usize) -> &[Action] {
+    edge.trace().get(..count).unwrap_or(&[])
+}
+
+/// The place of the gate after the first so many records of a device.
+fn gate_after(device: &[u8], count: u32) -> Option<usize> {
+    let mut gate = 16usize;
+    for _ in 0..count {
+        let [_, a, b, c, d, ..] = device.get(gate..)? else {
+            return None;
+        };
+        let length = u32::from_be_bytes([*a, *b, *c, *d]);
+        gate = gate.saturating_add(5).saturating_add(length as usize);
+    }
+    Some(gate)
+}
+
+/// The store that an image opens to, where its records are the first ones of this device and the end gate after them is 0.
+pub fn opened_on(alloc: Global, image: &[u8], whole: &[u8]) -> Result<Option<Store>, AllocError> {
+    let mut edge = edge_on(alloc, image, &[])?;
+    let Ok(store) = Store::open(alloc, &mut edge) else {
+        return Ok(None);
+    };
+    let Some(gate) = gate_after(edge.device(), store.core().count()) else {
+        return Ok(None);
+    };
+    let are_first = edge.device().get(..gate) == whole.get(..gate);
+    let is_shut = edge.device().get(gate) == Some(&0);
+    if are_first && is_shut {
+        Ok(Some(store))
+    } else {
+        Ok(None)
+    }
 }
