@@ -1,13 +1,15 @@
 //! Open sockets by the numbers of their channels.
 
-ghost use Rattle.std.specs.Prelude.{◌≡◌, ◌==◌, ◌++◌, ◌∷◌, [], OnOk, OnErr};
+ghost use Rattle.std.specs.Prelude.{◌≡◌, ◌++◌, ◌∷◌, [], true, OnOk, OnErr};
 ghost use Rattle.std.specs.Io.{ReadsAtMost};
-ghost use Rattle.std.specs.List.{list_any};
+ghost use Rattle.std.specs.List.{list_all};
 ghost use Rattle.iss_edge.specs.Channels.{is_among, without};
+ghost use Rattle.iss_cli.specs.Numbers.{is_below};
 
 use iss_edge::Channel;
 use std::alloc::{AllocError, Global};
 use std::cell::Cell;
+use std::collections::BTreeMap;
 use std::io;
 use std::io::{ErrorKind, Read};
 use std::marker::Model;
@@ -16,10 +18,9 @@ use std::net::{Shutdown, TcpStream};
 /// How often what came and wasn't taken is read at a close.
 const LAST_READS: u32 = 16;
 
-/// A channel and its socket, which doesn't block.
+/// A channel's socket, which doesn't block.
 #[derive(Drop)]
 pub struct Peer {
-    number: u32,
     stream: TcpStream,
     /// Whether its end was read, which a peek would find again and again.
     has_ended: Cell<bool>,
@@ -69,10 +70,10 @@ impl Peer {
     }
 }
 
-/// Open channels in the order in which they were opened, seen as their numbers.
+/// Open channels by their numbers, seen as the list of these. Each has a greater one than those that were opened before.
 #[derive(Drop)]
 pub struct Peers {
-    peers: Vec<Peer>,
+    peers: BTreeMap<u32, Peer>,
     /// The number of the channel that was found last.
     found: u32,
     /// The greatest number that is looked at in this round.
@@ -80,11 +81,12 @@ pub struct Peers {
 }
 
 impl Model for Peers {
-    ghost use Rattle.std.specs.Prelude.{ℕ, List, map};
+    ghost use Rattle.std.specs.Prelude.{ℕ, List};
+    ghost use Rattle.std.specs.BTreeMap.{keys};
 
     ghost Value = { List ℕ };
 
-    ghost view = { λ p. map (λ peer. peer.number) p.peers.items };
+    ghost view = { λ p. keys p.peers };
 }
 
 impl Peers {
@@ -93,7 +95,7 @@ impl Peers {
         ensures { result ≡ [] }
     {
         Peers {
-            peers: Vec::new(alloc),
+            peers: BTreeMap::new(alloc),
             found: 0,
             until: 0,
         }
@@ -101,14 +103,15 @@ impl Peers {
 
     /// One channel more.
     pub fn push(&mut self, number: u32, stream: TcpStream) -> Result<(), AllocError>
+        requires greatest { list_all (is_below number) self.old ≡ true }
         ensures pushed { OnOk result (self.new ≡ self.old ++ number ∷ []) }
         ensures refused { OnErr result (self.new ≡ self.old) }
     {
-        self.peers.push(Peer {
-            number,
+        let peer = Peer {
             stream,
             has_ended: Cell::new(false),
-        })?;
+        };
+        self.peers.insert(number, peer)?;
         Ok(())
     }
 
@@ -116,27 +119,21 @@ impl Peers {
     pub fn close(&mut self, ch: Channel)
         ensures { self.new ≡ without ch.0 self.old }
     {
-        if let Some(peer) = self.find(ch) {
+        if let Some(peer) = self.peers.remove(&ch.0) {
             peer.finish();
         }
-        self.peers.retain(|peer| peer.number != ch.0);
     }
 
     /// Whether the channel is one of these.
     pub fn has(&self, ch: Channel) -> bool
         ensures { result ≡ is_among self.now ch.0 }
     {
-        has_number(self.peers.as_slice(), ch.0)
+        self.peers.contains_key(&ch.0)
     }
 
     /// The channel of this number.
     pub fn find(&self, ch: Channel) -> Option<&Peer> {
-        for peer in &self.peers {
-            if peer.number == ch.0 {
-                return Some(peer);
-            }
-        }
-        None
+        self.peers.get(&ch.0)
     }
 
     /// The next channel of this round that is ready.
@@ -167,7 +164,7 @@ impl Peers {
     }
 
     fn greatest(&self) -> u32 {
-        self.peers.last().map_or(0, |peer| peer.number)
+        self.peers.last_key_value().map_or(0, |(number, _)| *number)
     }
 
     fn find_within(&mut self, above: u32, last: u32) -> Option<Channel>
@@ -180,9 +177,12 @@ impl Peers {
 
     /// The first channel with a number above the one, up to the other, that is ready.
     fn ready_within(&self, above: u32, last: u32) -> Option<Channel> {
-        for peer in &self.peers {
-            if above < peer.number && peer.number <= last && peer.is_ready() {
-                return Some(Channel(peer.number));
+        if above >= last {
+            return None;
+        }
+        for (number, peer) in self.peers.range(above + 1..=last) {
+            if peer.is_ready() {
+                return Some(Channel(*number));
             }
         }
         None
@@ -205,10 +205,4 @@ pub fn next_of(these: &mut Peers, others: &mut Peers) -> Option<(Channel, bool)>
         Some(ch) => Some((ch, true)),
         None => these.first_but_last().map(|ch| (ch, false)),
     }
-}
-
-fn has_number(peers: &[Peer], number: u32) -> bool
-    ensures { result ≡ list_any (λ peer. peer.number == number) peers.now }
-{
-    peers.iter().any(|peer| peer.number == number)
 }

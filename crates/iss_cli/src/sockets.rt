@@ -14,8 +14,11 @@ use std::net::{Ipv4Addr, Net, SocketAddr, TcpListener, TcpStream};
 use std::time::{Clock, Duration};
 use std::{io, thread};
 
-/// How many milliseconds a wait sleeps where nothing is ready, and an emit where nothing can be written.
+/// How many milliseconds an emit sleeps where nothing can be written.
 const PAUSE: u64 = 1;
+
+/// After how many looks in a row that found nothing a wait sleeps for twice as long.
+const LOOKS: u32 = 64;
 
 /// How many milliseconds a dial may take.
 const PATIENCE: u64 = 100;
@@ -27,9 +30,9 @@ const SHUNNED: u64 = 1000;
 /// How many milliseconds pass at least between two times that are told.
 const TICK: u64 = 20;
 
-/// How many waits pass without a look for a client after one that found nothing, as long as nothing comes. That look costs about as
-/// much as the rest of a wait. So a client waits for four pauses at most.
-const REST: u32 = 3;
+/// How many clients are let in, or channels found, before it is the others' turn. The listener keeps few that aren't let in yet, and one
+/// beyond those tries again only after a second.
+const IN_A_ROW: u32 = 32;
 
 /// How many writes an emit makes at most, with a pause after each that could write nothing.
 const WRITES: u32 = 100;
@@ -48,12 +51,14 @@ pub struct Sockets<N> {
     /// The greatest number that a channel got.
     last: u32,
     ready: Option<u32>,
-    /// Whether the last look for a client came before the channels.
-    listened_first: bool,
     /// Whether this is a round of the dialled channels.
     at_dialled: bool,
-    /// How many waits look at the channels alone before a client is looked for again, where none of them is ready.
-    rest: u32,
+    /// Whether a look is for clients first.
+    admits: bool,
+    /// How many clients were let in, or channels found, one after the other.
+    in_a_row: u32,
+    /// How many looks in a row found nothing.
+    found_nothing: u32,
     /// The time that was told last, in milliseconds since 1970.
     told: u64,
 }
@@ -86,9 +91,10 @@ impl<N> Sockets<N> {
             dialled: Peers::none(alloc),
             last: 0,
             ready: None,
-            listened_first: false,
             at_dialled: false,
-            rest: 0,
+            admits: true,
+            in_a_row: 0,
+            found_nothing: 0,
             told: 0,
         }
     }
@@ -141,7 +147,7 @@ impl<N: Net<Listener = TcpListener, Stream = TcpStream> + Clock + Drop> Sockets<
         self.gateway = Some(port);
     }
 
-    /// The time where none was told lately, and else a channel that is ready or a client, each socket looked at once at most. Where
+    /// The time where none was told lately, and else a client or a channel that is ready, each socket looked at once at most. Where
     /// there is none, it sleeps for a moment.
     pub fn wait(&mut self) -> io::Result<Arrival>
         ensures unused { IfOk result (ComesUnused self.old) }
@@ -154,28 +160,26 @@ impl<N: Net<Listener = TcpListener, Stream = TcpStream> + Clock + Drop> Sockets<
         }
         match self.look()? {
             Arrival::Idle => {
-                pause(&self.net);
+                self.found_nothing = self.found_nothing.saturating_add(1);
+                pause(&self.net, nap(self.found_nothing));
                 Ok(Arrival::Idle)
             }
             arrives => {
-                self.rest = 0;
+                self.found_nothing = 0;
                 Ok(arrives)
             }
         }
     }
 
-    /// A client or a channel that is ready, by turns the one or the other first. After a look that found nothing, the next few are for
-    /// the channels alone.
+    /// A client or a channel that is ready, the one or the other first.
+    ///
+    /// Clients are let in as long as one came, and again once a round of channels is over: one that is let in is found ready in the next
+    /// one. So a round, which looks at each socket, is made for all that came meanwhile.
     fn look(&mut self) -> io::Result<Arrival>
         ensures unused { IfOk result (ComesUnused self.old) }
         ensures channels { self.new ≡ after_wait (result_ok result) self.old }
     {
-        if let Some(rest) = self.rest.checked_sub(1) {
-            self.rest = rest;
-            return Ok(self.find_ready());
-        }
-        self.listened_first = !self.listened_first;
-        if self.listened_first {
+        if self.admits {
             return match self.accept()? {
                 Arrival::Idle => Ok(self.find_ready()),
                 arrives => Ok(arrives),
@@ -197,10 +201,12 @@ impl<N: Net<Listener = TcpListener, Stream = TcpStream> + Clock + Drop> Sockets<
             Some(stream) => {
                 self.clients.push(number, stream)?;
                 self.last = number;
+                self.admits = self.goes_on();
                 Ok(Arrival::Client(Channel(number)))
             }
             None => {
-                self.rest = REST;
+                self.admits = false;
+                self.in_a_row = 0;
                 Ok(Arrival::Idle)
             }
         }
@@ -215,10 +221,23 @@ impl<N: Net<Listener = TcpListener, Stream = TcpStream> + Clock + Drop> Sockets<
             Some((ch, is_other)) => {
                 self.at_dialled = self.at_dialled != is_other;
                 self.ready = Some(ch.0);
+                self.admits = is_other || !self.goes_on();
                 Arrival::Ready(ch)
             }
-            None => Arrival::Idle,
+            None => {
+                self.admits = true;
+                self.in_a_row = 0;
+                Arrival::Idle
+            }
         }
+    }
+
+    /// Whether one more of the same kind may follow this one.
+    fn goes_on(&mut self) -> bool
+        ensures { self.new ≡ self.old }
+    {
+        self.in_a_row = self.in_a_row.wrapping_add(1) % IN_A_ROW;
+        self.in_a_row > 0
     }
 
     fn next_ready(&mut self) -> Option<(Channel, bool)>
@@ -308,7 +327,7 @@ fn write_in_time(clock: &impl Clock, mut stream: &TcpStream, bytes: &[u8]) -> io
         match stream.write(rest) {
             Ok(0) => return Err(io::Error::from(ErrorKind::WriteZero)),
             Ok(count) => rest = &rest[count..],
-            Err(e) if is_passing(&e) => pause(clock),
+            Err(e) if is_passing(&e) => pause(clock, PAUSE),
             Err(e) => return Err(e),
         }
     }
@@ -324,8 +343,18 @@ fn is_passing(e: &io::Error) -> bool {
     matches!(e.kind(), ErrorKind::WouldBlock | ErrorKind::Interrupted)
 }
 
-fn pause(clock: &impl Clock) {
-    thread::sleep(clock, Duration::from_millis(PAUSE));
+/// How many milliseconds a wait sleeps after so many looks in a row that found nothing.
+fn nap(looks: u32) -> u64 {
+    match looks / LOOKS {
+        0 => 1,
+        1 => 2,
+        2 => 4,
+        _ => 8,
+    }
+}
+
+fn pause(clock: &impl Clock, millis: u64) {
+    thread::sleep(clock, Duration::from_millis(millis));
 }
 
 /// The time, in milliseconds since 1970.
