@@ -20,15 +20,15 @@
 #include <time.h>
 #include <unistd.h>
 
-// Connections are begun GAP microseconds apart, and BURST of them at once at most, where some are late: the listener keeps 128 that it
-// hasn't accepted yet, and those beyond are tried again after a second.
+// Connections are begun GAP microseconds apart, and BURST of them at once at most, where some are late. None is waited for: the listener
+// keeps 128 that it hasn't accepted yet, and TCP tries those beyond again after a second.
 enum { TEXT = 1024, EVENTS = 256, MOST = 1 << 16, GAP = 200, BURST = 8, CONNECTS = 5000 };
 
 struct post {
-    int event;
+    int event, length, is_sent;
     long long since;
     size_t got;
-    char response[TEXT + 1];
+    char request[2 * TEXT], response[TEXT + 1];
 };
 
 static struct post *posts[MOST];
@@ -51,15 +51,15 @@ static long long microseconds(void)
     return time.tv_sec * 1000000LL + time.tv_nsec / 1000;
 }
 
-// A connection to the program. The first one is tried until it listens.
+// A connection to the program, which may still be under way. The first one is tried until the program listens.
 static int connected(void)
 {
     static int is_first = 1;
     for (int tries = 0; tries < CONNECTS; tries++) {
-        int peer = socket(AF_INET, SOCK_STREAM, 0);
+        int peer = socket(AF_INET, SOCK_STREAM | (is_first ? 0 : SOCK_NONBLOCK), 0);
         if (peer < 0)
             fail("socket");
-        if (connect(peer, (struct sockaddr *)&place, sizeof place) == 0) {
+        if (connect(peer, (struct sockaddr *)&place, sizeof place) == 0 || errno == EINPROGRESS) {
             is_first = 0;
             return peer;
         }
@@ -71,22 +71,28 @@ static int connected(void)
     return -1;
 }
 
+static void write_request(struct post *post)
+{
+    char body[TEXT];
+    int length = snprintf(body, sizeof body,
+        "{\"type\":\"authorization\",\"token\":\"e%d\",\"card\":\"%s\","
+        "\"currency\":\"USD\",\"amount\":\"1.00\",\"mcc\":\"5411\",\"mid\":\"%s\"}",
+        post->event, card, names[post->event % kinds]);
+    post->length = snprintf(post->request, sizeof post->request,
+        "POST /events HTTP/1.1\r\nHost: localhost\r\nContent-Length: %d\r\n\r\n%s", length, body);
+}
+
 static void begin(int event)
 {
-    char body[TEXT], text[TEXT];
-    struct epoll_event wanted = {.events = EPOLLIN};
+    struct epoll_event wanted = {.events = EPOLLOUT};
     struct post *post = calloc(1, sizeof *post);
     if (post == NULL)
         fail("memory");
     post->event = event;
     post->since = microseconds();
+    write_request(post);
     int peer = connected();
-    int length = snprintf(body, sizeof body,
-        "{\"type\":\"authorization\",\"token\":\"e%d\",\"card\":\"%s\","
-        "\"currency\":\"USD\",\"amount\":\"1.00\",\"mcc\":\"5411\",\"mid\":\"%s\"}",
-        event, card, names[event % kinds]);
-    length = snprintf(text, sizeof text, "POST /events HTTP/1.1\r\nHost: localhost\r\nContent-Length: %d\r\n\r\n%s", length, body);
-    if (peer < 0 || peer >= MOST || send(peer, text, length, MSG_NOSIGNAL) != length) {
+    if (peer < 0 || peer >= MOST) {
         has_failed = 1;
         close(peer);
         free(post);
@@ -145,6 +151,20 @@ static void take(int peer)
     post->response[post->got] = 0;
 }
 
+// Sends the request on a connection that stands now.
+static void ask(int peer)
+{
+    struct post *post = posts[peer];
+    struct epoll_event wanted = {.events = EPOLLIN, .data.fd = peer};
+    if (send(peer, post->request, post->length, MSG_NOSIGNAL) != post->length) {
+        end(peer);
+        return;
+    }
+    post->is_sent = 1;
+    if (epoll_ctl(poll_set, EPOLL_CTL_MOD, peer, &wanted) != 0)
+        fail("epoll");
+}
+
 static int by_size(const void *left, const void *right)
 {
     long long a = *(const long long *)left, b = *(const long long *)right;
@@ -183,8 +203,12 @@ static int run(int first, int count, int flight)
         if (!may_begin && open_posts == 0)
             return next - first;
         int came = epoll_wait(poll_set, events, EVENTS, may_begin ? 1 : -1);
-        for (int i = 0; i < came; i++)
-            take(events[i].data.fd);
+        for (int i = 0; i < came; i++) {
+            if (posts[events[i].data.fd]->is_sent)
+                take(events[i].data.fd);
+            else
+                ask(events[i].data.fd);
+        }
     }
 }
 
