@@ -1,9 +1,10 @@
 // Posts purchases to `issuer serve` on PORT of this machine, FLIGHT of them at a time, each on a connection of its own, and tells how
 // many were decided a second and how long they took.
 //
-//     load PORT FIRST COUNT FLIGHT CARD NAMES
+//     load PORT FIRST COUNT FLIGHT CARD NAMES [GAP]
 //
 // The purchases are the events eFIRST and the COUNT - 1 after it, by CARD, in turn at merchants with these NAMES (divided by commas).
+// Connections are begun GAP microseconds apart, 200 where it isn't said, and a few of them at once where some are late.
 // Each response that came whole is written to standard output, by one write: its event, its status and its body. At the first
 // connection that fails, as they do where the program is killed, no more are begun, and it ends with status 1 once all have ended. One
 // line on standard error has how many were begun and how many were answered, the seconds, answers a second, and the milliseconds under
@@ -20,9 +21,7 @@
 #include <time.h>
 #include <unistd.h>
 
-// Connections are begun GAP microseconds apart, and BURST of them at once at most, where some are late. None is waited for: the listener
-// keeps 128 that it hasn't accepted yet, and TCP tries those beyond again after a second.
-enum { TEXT = 1024, EVENTS = 256, MOST = 1 << 16, GAP = 200, BURST = 8, CONNECTS = 5000 };
+enum { TEXT = 1024, EVENTS = 256, MOST = 1 << 16, BURST = 8, CONNECTS = 5000 };
 
 struct post {
     int event, length, is_sent;
@@ -34,7 +33,7 @@ struct post {
 static struct post *posts[MOST];
 static struct sockaddr_in place;
 static char *card, *names[64];
-static int kinds, poll_set, open_posts, has_failed;
+static int kinds, poll_set, open_posts, has_failed, gap = 200;
 static long long *taken;
 static int ended;
 
@@ -193,11 +192,11 @@ static int run(int first, int count, int flight)
     long long due = microseconds();
     for (;;) {
         long long time = microseconds();
-        due = due < time - BURST * GAP ? time - BURST * GAP : due;
+        due = due < time - BURST * gap ? time - BURST * gap : due;
         int may_begin = open_posts < flight && next < first + count && !has_failed;
         if (may_begin && due <= time) {
             begin(next++);
-            due += GAP;
+            due += gap;
             continue;
         }
         if (!may_begin && open_posts == 0)
@@ -214,8 +213,10 @@ static int run(int first, int count, int flight)
 
 int main(int count, char **words)
 {
-    if (count != 7)
+    if (count != 7 && count != 8)
         return 2;
+    if (count == 8)
+        gap = atoi(words[7]);
     int first = atoi(words[2]), number = atoi(words[3]), flight = atoi(words[4]);
     place = (struct sockaddr_in){.sin_family = AF_INET, .sin_port = htons(atoi(words[1])), .sin_addr.s_addr = htonl(INADDR_LOOPBACK)};
     card = words[5];

@@ -2,7 +2,8 @@
 # Decisions a second of `build/issuer serve` and how long they take, on the loopback of this machine, with a gateway (bench/gateway.c)
 # that funds each purchase, at once or after 200 milliseconds; with 1, 100 and 1000 purchases in flight (bench/load.c), and with one
 # purchase beside them that is never answered. Each purchase is a connection to the program and one to the gateway, and makes two records
-# of two synced writes each. Beside each row: what a loop (bench/replay.c) takes that writes and syncs the same bytes and nothing else.
+# of two synced writes each. Connections begin 200 microseconds apart, and at the last two rows as fast as they can. Beside each row: what
+# a loop (bench/replay.c) takes that writes and syncs the same bytes and nothing else.
 # At last how much of a processor the program takes where nothing comes.
 #
 # With a word the device is in that folder, and else in one in build/; with a second one so many purchases are made at a row.
@@ -70,7 +71,8 @@ looped() {
     awk -v start="$start" -v end="$end" 'BEGIN { print end - start }'
 }
 
-# measure GATEWAY MILLIS FLIGHT COUNT NAMES: a line of the table, where so many purchases are at merchants of these names.
+# measure GATEWAY MILLIS FLIGHT COUNT BESIDE [GAP]: a line of the table, alone or beside a call that is stalled, and with this gap between
+# two connections.
 measure() {
     local answered stalled=
     started "$2"
@@ -79,7 +81,7 @@ measure() {
         stalled=$!
         sleep 1
     fi
-    "$room/load" "$port" 0 "$4" "$3" c1 m1 >"$room/replies" 2>"$room/figures"
+    "$room/load" "$port" 0 "$4" "$3" c1 m1 "${6:-200}" >"$room/replies" 2>"$room/figures"
     read -r _ answered _ <"$room/figures"
     [ "$(grep -c '"reply":"approved"' "$room/replies")" = "$4" ] || { echo "$0: not all were approved" >&2; exit 1; }
     stopped
@@ -110,5 +112,8 @@ for flight in 1 100 1000; do
     measure 'at once' 0 "$flight" "$count" all
     measure 'after 200 ms' 200 "$flight" $((flight == 1 ? 30 : count)) all
     measure 'at once, one silent' 0 "$flight" "$count" stalled
+done
+for flight in 100 1000; do
+    measure 'at once, no gap' 0 "$flight" "$((4 * most))" all 0
 done
 idle

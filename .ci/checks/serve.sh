@@ -146,6 +146,28 @@ requests() {
     told "$line" '200 {"event":"a1","reply":"approved"}'
 }
 
+# crowd: clients that come while the program looks at nobody queue until it does, more than a common listener keeps.
+crowd() {
+    [ "$(cat /proc/sys/net/core/somaxconn)" -ge 200 ] || return 0
+    local peer crowd=() line waker
+    line=$(request /events "$(purchase a1 c1 m1)")
+    kill -STOP "$server"
+    (sleep 5 && kill -CONT "$server") &
+    waker=$!
+    for _ in {1..200}; do
+        exec {peer}<>"/dev/tcp/127.0.0.1/$port"
+        printf '%b' "$line" >&"$peer"
+        crowd+=("$peer")
+    done
+    kill "$waker" 2>/dev/null || fail 'a crowd: some clients came only once others were let in'
+    wait "$waker" || true
+    kill -CONT "$server"
+    for peer in "${crowd[@]}"; do
+        timeout 20 cat <&"$peer" | grep -q '"reply":"approved"' || fail 'a crowd: a client has no response'
+        exec {peer}>&-
+    done
+}
+
 # gateways: each kind of answer, and none.
 gateways() {
     told "$(purchase g1 c2 m1)" '200 {"event":"g1","reply":"approved"}'
@@ -263,11 +285,11 @@ ends() {
     serve 1
     served 'one wait' 0 ''
     # A client whose request isn't whole is let go at the end.
-    serve 1000
+    serve 300
     listening "$port" 'what serves'
     exec {peer}<>"/dev/tcp/127.0.0.1/$port"
     printf 'POST ' >&"$peer"
-    served 'a thousand waits' 0 ''
+    served 'three hundred waits' 0 ''
     [ -z "$(timeout 5 cat <&"$peer")" ] || fail 'a client at the end: it was told something'
     exec {peer}>&-
 }
@@ -281,6 +303,7 @@ serve
 listening "$port" 'what serves'
 settings
 requests
+crowd
 if built gateway; then
     answers
     gateways

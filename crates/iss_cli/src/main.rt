@@ -6,6 +6,7 @@
 
 mod device;
 mod failure;
+mod listener;
 mod peers;
 mod real_edge;
 mod sockets;
@@ -55,7 +56,7 @@ fn status_of(rt: &HostRuntime, words: &[String]) -> u8 {
 fn sockets_of(rt: &HostRuntime, words: &[String]) -> Sockets<HostRuntime> {
     let mut sockets = Sockets::none(*rt, rt.alloc());
     if let Ok(Command::Serve { port, gateway, .. }) = command_of(words) {
-        let _ = sockets.listen(port);
+        let _ = sockets.listen(rt.alloc(), port);
         sockets.set_gateway(gateway);
     }
     sockets

@@ -11,7 +11,7 @@ use crate::sockets::Sockets;
 use iss_edge::{Arrival, Channel, Edge, Failed, Fault, FaultCounts};
 use std::io;
 use std::io::{ErrorKind, Read, Write};
-use std::net::{Net, TcpListener, TcpStream};
+use std::net::{Net, TcpStream};
 use std::time::Clock;
 
 /// How often a read is made again that was interrupted.
@@ -47,11 +47,8 @@ impl<R, W, N> RealEdge<R, W, N> {
 }
 
 // Where the streams tell their bytes, a call ensures which of them it took or sent.
-impl<
-    R: Read + Drop,
-    W: Write + Drop,
-    N: Net<Listener = TcpListener, Stream = TcpStream> + Clock + Drop,
-> Edge for RealEdge<R, W, N> {
+impl<R: Read + Drop, W: Write + Drop, N: Net<Stream = TcpStream> + Clock + Drop> Edge
+    for RealEdge<R, W, N> {
     ghost told = { λ _. None };
 
     ghost heard = { λ _. None };

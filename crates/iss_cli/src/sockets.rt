@@ -5,20 +5,18 @@ ghost use Rattle.std.specs.Result.{result_ok};
 ghost use Rattle.std.specs.Io.{ReadsAtMost};
 ghost use Rattle.iss_edge.specs.Channels.{no_channels, is_among, IsUnused, ComesUnused, after_wait, after_dial, after_close};
 
+use crate::listener::Listener;
 use crate::peers::{Peer, Peers, next_of};
 use iss_edge::{Arrival, Channel};
 use std::alloc::Global;
 use std::io::{ErrorKind, Write};
 use std::marker::Model;
-use std::net::{Ipv4Addr, Net, SocketAddr, TcpListener, TcpStream};
+use std::net::{Ipv4Addr, Net, SocketAddr, TcpStream};
 use std::time::{Clock, Duration};
 use std::{io, thread};
 
 /// How many milliseconds an emit sleeps where nothing can be written.
 const PAUSE: u64 = 1;
-
-/// After how many looks in a row that found nothing a wait sleeps for twice as long.
-const LOOKS: u32 = 64;
 
 /// How many milliseconds a dial may take.
 const PATIENCE: u64 = 100;
@@ -30,8 +28,7 @@ const SHUNNED: u64 = 1000;
 /// How many milliseconds pass at least between two times that are told.
 const TICK: u64 = 20;
 
-/// How many clients are let in, or channels found, before it is the others' turn. The listener keeps few that aren't let in yet, and one
-/// beyond those tries again only after a second.
+/// How many clients are let in, or channels found, before it is the others' turn.
 const IN_A_ROW: u32 = 32;
 
 /// How many writes an emit makes at most, with a pause after each that could write nothing.
@@ -41,7 +38,7 @@ const WRITES: u32 = 100;
 #[derive(Drop)]
 pub struct Sockets<N> {
     net: N,
-    listener: Option<TcpListener>,
+    listener: Option<Listener>,
     /// The port that is dialled.
     gateway: Option<u16>,
     /// When a dial was begun last that couldn't be had in time, in milliseconds since 1970.
@@ -57,8 +54,6 @@ pub struct Sockets<N> {
     admits: bool,
     /// How many clients were let in, or channels found, one after the other.
     in_a_row: u32,
-    /// How many looks in a row found nothing.
-    found_nothing: u32,
     /// The time that was told last, in milliseconds since 1970.
     told: u64,
 }
@@ -94,7 +89,6 @@ impl<N> Sockets<N> {
             at_dialled: false,
             admits: true,
             in_a_row: 0,
-            found_nothing: 0,
             told: 0,
         }
     }
@@ -124,19 +118,17 @@ impl<N> Sockets<N> {
     fn peer(&self, ch: Channel) -> io::Result<&Peer> {
         match self.clients.find(ch).or(self.dialled.find(ch)) {
             Some(peer) => Ok(peer),
-            None => Err(io::Error::from(ErrorKind::NotConnected)),
+            None => Err(not_connected()),
         }
     }
 }
 
-impl<N: Net<Listener = TcpListener, Stream = TcpStream> + Clock + Drop> Sockets<N> {
+impl<N: Net<Stream = TcpStream> + Clock + Drop> Sockets<N> {
     /// Listens for clients on a port of this machine, 0 for any that is free.
-    pub fn listen(&mut self, port: u16) -> io::Result<()>
+    pub fn listen(&mut self, alloc: Global, port: u16) -> io::Result<()>
         ensures { self.new ≡ self.old }
     {
-        let listener = TcpListener::bind(&self.net, (Ipv4Addr::LOCALHOST, port))?;
-        listener.set_nonblocking(true)?;
-        self.listener = Some(listener);
+        self.listener = Some(Listener::bound(&self.net, alloc, port)?);
         Ok(())
     }
 
@@ -148,26 +140,31 @@ impl<N: Net<Listener = TcpListener, Stream = TcpStream> + Clock + Drop> Sockets<
     }
 
     /// The time where none was told lately, and else a client or a channel that is ready, each socket looked at once at most. Where
-    /// there is none, it sleeps for a moment.
+    /// there is none, it sleeps until something comes or the time is to be told.
     pub fn wait(&mut self) -> io::Result<Arrival>
         ensures unused { IfOk result (ComesUnused self.old) }
         ensures channels { self.new ≡ after_wait (result_ok result) self.old }
     {
         let now = millis(&self.net)?;
-        if now.abs_diff(self.told) >= TICK {
+        let since = now.abs_diff(self.told);
+        if since >= TICK {
             self.told = now;
             return Ok(Arrival::Time(now));
         }
-        match self.look()? {
-            Arrival::Idle => {
-                self.found_nothing = self.found_nothing.saturating_add(1);
-                pause(&self.net, nap(self.found_nothing));
-                Ok(Arrival::Idle)
-            }
-            arrives => {
-                self.found_nothing = 0;
-                Ok(arrives)
-            }
+        let arrives = self.look()?;
+        if let Arrival::Idle = arrives {
+            self.sleep(TICK - since)?;
+        }
+        Ok(arrives)
+    }
+
+    /// Sleeps until something comes, for so many milliseconds at most.
+    fn sleep(&mut self, most: u64) -> io::Result<()>
+        ensures { self.new ≡ self.old }
+    {
+        match &mut self.listener {
+            Some(listener) => listener.sleep(Duration::from_millis(most)),
+            None => Err(not_connected()),
         }
     }
 
@@ -257,6 +254,7 @@ impl<N: Net<Listener = TcpListener, Stream = TcpStream> + Clock + Drop> Sockets<
     {
         let number = next_number(self.last)?;
         let stream = dialled(&self.net, self.gateway, &mut self.late)?;
+        watch(&self.listener, &stream);
         self.dialled.push(number, stream)?;
         self.last = number;
         Ok(Channel(number))
@@ -279,14 +277,23 @@ fn next_number(last: u32) -> io::Result<u32>
 }
 
 /// A client's socket, where one came and can be had.
-fn accepted(listener: &Option<TcpListener>) -> io::Result<Option<TcpStream>> {
-    let Some(listener) = listener else {
-        return Err(io::Error::from(ErrorKind::NotConnected));
-    };
-    match listener.accept() {
-        Ok((stream, _)) => Ok(stream.set_nonblocking(true).is_ok().then_some(stream)),
-        Err(_) => Ok(None),
+fn accepted(listener: &Option<Listener>) -> io::Result<Option<TcpStream>> {
+    match listener {
+        Some(listener) => Ok(listener.accept()),
+        None => Err(not_connected()),
     }
+}
+
+/// Has what comes on this socket end a sleep.
+fn watch(listener: &Option<Listener>, socket: &TcpStream) {
+    if let Some(listener) = listener {
+        listener.watch(socket);
+    }
+}
+
+/// What fails without a listener, a gateway or a channel.
+fn not_connected() -> io::Error {
+    io::Error::from(ErrorKind::NotConnected)
 }
 
 /// A socket to that port of this machine. For a while after one that couldn't be had in time, none is tried.
@@ -296,7 +303,7 @@ fn dialled<N: Net<Stream = TcpStream> + Clock>(
     late: &mut u64,
 ) -> io::Result<TcpStream> {
     let Some(port) = port else {
-        return Err(io::Error::from(ErrorKind::NotConnected));
+        return Err(not_connected());
     };
     let now = millis(net)?;
     if now.abs_diff(*late) < SHUNNED {
@@ -341,16 +348,6 @@ fn write_in_time(clock: &impl Clock, mut stream: &TcpStream, bytes: &[u8]) -> io
 /// Whether the same call may succeed a moment later.
 fn is_passing(e: &io::Error) -> bool {
     matches!(e.kind(), ErrorKind::WouldBlock | ErrorKind::Interrupted)
-}
-
-/// How many milliseconds a wait sleeps after so many looks in a row that found nothing.
-fn nap(looks: u32) -> u64 {
-    match looks / LOOKS {
-        0 => 1,
-        1 => 2,
-        2 => 4,
-        _ => 8,
-    }
 }
 
 fn pause(clock: &impl Clock, millis: u64) {

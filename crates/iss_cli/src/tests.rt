@@ -13,7 +13,7 @@ use std::net::{Ipv4Addr, TcpStream};
 use std::test::Fail;
 
 /// How many waits may bring nothing.
-const WAITS: u32 = 300;
+const WAITS: u32 = 60;
 
 /// Ports that no other program here is likely to have, one for each test.
 const PORTS: [u16; 3] = [39217, 39218, 39219];
@@ -37,7 +37,7 @@ fn edge_on(
     device: Device,
 ) -> io::Result<RealEdge<Empty, Sink, HostRuntime>> {
     let mut sockets = Sockets::none(rt, rt.alloc());
-    sockets.listen(port)?;
+    sockets.listen(rt.alloc(), port)?;
     sockets.set_gateway(port);
     Ok(RealEdge::new(io::empty(), io::sink(), device, sockets))
 }
