@@ -1,5 +1,5 @@
 -- An input is judged, by what is told of each call.
-use Rattle.std.proofs.Common.{◌≡◌, ℕ, ◌+◌, ◌-◌, ◌<◌, ◌≤◌, Bool, true, false, List, [], ◌∷◌, Option, Some, None, refl, sym, ap, subst, arith}
+use Rattle.std.proofs.Common.{◌≡◌, ℕ, ◌+◌, ◌-◌, ◌<◌, ◌≤◌, List, [], ◌∷◌, Option, Some, None, refl, sym, ap, subst, arith}
 use Rattle.std.specs.Prelude.{Err}
 use Rattle.iss_edge.specs.declared.outside.Answered.{Answered}
 use Rattle.iss_edge.specs.Calls.{HearsNothing}
@@ -76,14 +76,6 @@ module _ (store : StoreNow) (h : HeldNow) (q : Queued) (rest : List Queued) (p :
       told_kept now released =
           told_on_then (to_judge store h (q ∷ rest)) after (to_judge next now (judged_again p.is_clock q rest)) (outer_of v k) (outer_of w l) z committed
           (subst (λ (n : HeldNow). Told (ServesOn (sending next n (judged_again p.is_clock q rest) (tasks_of_record next d n.served)) (to_judge next now (judged_again p.is_clock q rest))) (outer_of w l) z) is released)
-
-pub same_instance : (q : Queued) (h : HeldNow) (is_clock : Bool) → (waiting_for q is_clock h).links.instance ≡ h.links.instance
-same_instance q h true = refl
-same_instance q h false = refl
-
-pub same_turns : (q : Queued) (h : HeldNow) (is_clock : Bool) → (waiting_for q is_clock h).turns ≡ h.turns
-same_turns q h true = refl
-same_turns q h false = refl
 
 -- ---- what a record says goes out
 

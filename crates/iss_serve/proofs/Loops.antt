@@ -63,10 +63,18 @@ next_call calls i d within = drop_more calls i d within
 -- ---- what became of messages
 
 pub still_self : (h : Held) → IsStillHeld h h
-still_self h = record { clock = refl; room = refl; calls = λ k. k; links = λ k. k }
+still_self h = record { clock = refl; room = refl; instance = refl; turns = refl; calls = λ k. k; links = λ k. k }
 
 pub still_then : (f g h : Held) → IsStillHeld f g → IsStillHeld g h → IsStillHeld f h
-still_then f g h p q = record { clock = q.clock ∙ p.clock; room = q.room ∙ p.room; calls = λ k. q.calls (p.calls k); links = λ k. q.links (p.links k) }
+still_then f g h p q =
+    record {
+      clock = q.clock ∙ p.clock;
+      room = q.room ∙ p.room;
+      instance = q.instance ∙ p.instance;
+      turns = q.turns ∙ p.turns;
+      calls = λ k. q.calls (p.calls k);
+      links = λ k. q.links (p.links k);
+    }
 
 pub still_is : (f g : Held) → IsHeld f → IsStillHeld f g → IsHeld g
 still_is f g p q =

@@ -144,10 +144,12 @@ pub record IsHeld (h : Held) : Type 0 where
   pub calls : CallsNumbered h.unreached.items
   pub links : LinksNumbered h.links.links
 
--- The time and the room are as before. Calls and notices are numbered from 1 where they were.
+-- The time, the room, the links' instance and the waits that are left are as before. Calls and notices are numbered from 1 where they were.
 pub record IsStillHeld (before after : Held) : Type 0 where
   pub clock : after.clock ≡ before.clock
   pub room : length after.buffer.items ≡ length before.buffer.items
+  pub instance : after.links.instance ≡ before.links.instance
+  pub turns : after.turns ≡ before.turns
   pub calls : CallsNumbered before.unreached.items → CallsNumbered after.unreached.items
   pub links : LinksNumbered before.links.links → LinksNumbered after.links.links
 

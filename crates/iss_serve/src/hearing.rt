@@ -85,8 +85,6 @@ impl Held {
         requires ready { (E.channels edge.old).ready ≡ Some ch.0 }
         ensures still { IfOk result (λ heard. IsStillHeld self.old self.new) }
         ensures settled { IfOk result (λ heard. self.new.unreached.items ≡ []) }
-        ensures instance { IfOk result (λ heard. self.new.links.instance ≡ self.old.links.instance) }
-        ensures turns { IfOk result (λ heard. self.new.turns ≡ self.old.turns) }
         ensures forms { IfOk result (λ heard. IfSome heard IsQueuedInForm) }
         ensures hears { (store : StoreNow) → IsOf store self.old
             → IfOk result (λ heard. Told (ServesOn (arrived store (now_of self.old) ch) (to_judge store (now_of self.new) (queued_maybe heard)))
@@ -123,8 +121,6 @@ impl Held {
         requires ready { (E.channels edge.old).ready ≡ Some ch.0 }
         ensures still { IfOk result (λ heard. IsStillHeld self.old self.new) }
         ensures settled { IfOk result (λ heard. self.new.unreached.items ≡ []) }
-        ensures instance { IfOk result (λ heard. self.new.links.instance ≡ self.old.links.instance) }
-        ensures turns { IfOk result (λ heard. self.new.turns ≡ self.old.turns) }
         ensures forms { IfOk result (λ heard. IfSome heard IsQueuedInForm) }
         ensures hears { (store : StoreNow)
             → IfOk result (λ heard. Told (ServesOn (taking store (now_of self.old) ch) (to_judge store (now_of self.new) (queued_maybe heard)))
@@ -192,8 +188,6 @@ impl Held {
         requires ready { (E.channels edge.old).ready ≡ Some ch.0 }
         ensures still { IsStillHeld self.old self.new }
         ensures settled { self.new.unreached.items ≡ [] }
-        ensures instance { self.new.links.instance ≡ self.old.links.instance }
-        ensures turns { self.new.turns ≡ self.old.turns }
         ensures hears { (store : StoreNow) → Told (ServesOn (taking store (now_of self.old) ch) (idle store (now_of self.new)))
             (outer_of (E.told edge.old) (E.heard edge.old)) (outer_of (E.told edge.new) (E.heard edge.new)) }
         ensures later { Later (E.faults edge.old) (E.faults edge.new) }
@@ -234,8 +228,6 @@ impl Held {
         requires ready { (E.channels edge.old).ready ≡ Some ch.0 }
         ensures still { IfOk result (λ heard. IsStillHeld self.old self.new) }
         ensures settled { IfOk result (λ heard. self.new.unreached.items ≡ []) }
-        ensures instance { IfOk result (λ heard. self.new.links.instance ≡ self.old.links.instance) }
-        ensures turns { IfOk result (λ heard. self.new.turns ≡ self.old.turns) }
         ensures forms { IfOk result (λ heard. IfSome heard IsQueuedInForm) }
         ensures hears { (store : StoreNow) → IsOf store self.old
             → IfOk result (λ heard. Told (ServesOn (taking store (now_of self.old) ch) (to_judge store (now_of self.new) (queued_maybe heard)))

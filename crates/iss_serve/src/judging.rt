@@ -208,8 +208,6 @@ fn release<E: Edge>(
     ensures part { (first : List session.Queued) → OnErr result (Told (ServesSome (sending store.now (now_of held.old) first (tasks_of_record store.now durable held.old.served)))
         (outer_of (E.told edge.old) (E.heard edge.old)) (outer_of (E.told edge.new) (E.heard edge.new))) }
     ensures still { OnOk result (IsStillHeld held.old held.new) }
-    ensures instance { OnOk result (held.new.links.instance ≡ held.old.links.instance) }
-    ensures turns { OnOk result (held.new.turns ≡ held.old.turns) }
     ensures later { Later (E.faults edge.old) (E.faults edge.new) }
     ensures kept { E.extent edge.new ≡ E.extent edge.old }
 {
@@ -232,8 +230,6 @@ fn tell<E: Edge>(
         (outer_of (E.told edge.old) (E.heard edge.old)) (outer_of (E.told edge.new) (E.heard edge.new))) }
     ensures still { OnOk result (IsStillHeld held.old held.new) }
     ensures unreached { OnOk result (held.new.unreached.items ≡ held.old.unreached.items) }
-    ensures instance { OnOk result (held.new.links.instance ≡ held.old.links.instance) }
-    ensures turns { OnOk result (held.new.turns ≡ held.old.turns) }
     ensures later { Later (E.faults edge.old) (E.faults edge.new) }
     ensures kept { E.extent edge.new ≡ E.extent edge.old }
 {

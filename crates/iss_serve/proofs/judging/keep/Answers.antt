@@ -2,11 +2,11 @@ use Rattle.std.proofs.Common.{◌≡◌, ◌∷◌, Bool, Err, inl, sym, ap, sub
 use Rattle.iss_edge.specs.Outer.{outer_of}
 use Rattle.iss_edge.specs.World.{Told}
 use Rattle.iss_serve.specs.Causes.{fault_of_store}
-use Rattle.iss_serve.specs.Held.{HeldNow, now_of, queued_as, to_judge}
+use Rattle.iss_serve.specs.Held.{now_of, queued_as, to_judge}
 use Rattle.iss_serve.specs.Judged.{judged_again, waiting_for}
 use Rattle.iss_serve.specs.Runs.{ServesSome}
 use Rattle.iss_serve.proofs.Causings.{anyway, caused_commit}
-use Rattle.iss_serve.proofs.Keeps.{same_instance, same_turns, told_commit_some, told_unwaited, told_kept_some, told_kept, less_there}
+use Rattle.iss_serve.proofs.Keeps.{told_commit_some, told_unwaited, told_kept_some, told_kept, less_there}
 use Rattle.iss_serve.proofs.Loops.{still_then, still_is}
 use Rattle.iss_serve.proofs.judging.keep.Goals as goal
 
@@ -61,11 +61,11 @@ returns-clause-judged g c = λ rest.
 
 pub returns-clause-judges : goal.returns-clause-judges
 returns-clause-judges g c =
-    let q = queued_as c.args.queued.now in
+    let still = still_then c.args.held.now c.wait_for.new.self c.release.new.held c.in_ok-wait_for.ensures.still c.in_ok-release.ensures.still in
     record {
-      held = still_is c.args.held.now c.release.new.held c.requires.held (still_then c.args.held.now c.wait_for.new.self c.release.new.held c.in_ok-wait_for.ensures.still c.in_ok-release.ensures.still);
-      instance = c.in_ok-release.ensures.instance ∙ ap (λ (h : HeldNow). h.links.instance) c.in_ok-wait_for.ensures.now ∙ same_instance q (now_of c.args.held.now) c.more-more.result ∙ c.requires.instance ∙ sym c.in_ok-next.ensures.committed.stepped.kept;
-      turns = c.in_ok-release.ensures.turns ∙ ap (λ (h : HeldNow). h.turns) c.in_ok-wait_for.ensures.now ∙ same_turns q (now_of c.args.held.now) c.more-more.result;
+      held = still_is c.args.held.now c.release.new.held c.requires.held still;
+      instance = still.instance ∙ c.requires.instance ∙ sym c.in_ok-next.ensures.committed.stepped.kept;
+      turns = still.turns;
       to = ap (λ place. place.to) c.in_ok-next.ensures.committed.place;
       moves = inl (less_there c.args.store c.in_ok-next.next c.args.planned c.in_ok-next.durable c.in_ok-next.ensures.committed c.requires.plan);
     }

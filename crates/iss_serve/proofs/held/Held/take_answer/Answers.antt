@@ -27,6 +27,8 @@ pub returns-clause-still : goal.returns-clause-still
 returns-clause-still g c = record {
   clock = refl;
   room = refl;
+  instance = c.in_ok-heard.ensures.listens.answers.instance;
+  turns = refl;
   calls = λ k. k;
   links = λ k.
       left_numbered c.args.self.now.links c.ready.new.self c.args.ch c.in_ok-heard.ensures.listens.got (heard_of c.in_ok-heard.heard) c.in_ok-heard.ensures.listens.answers k;
