@@ -34,7 +34,8 @@ use Rattle.iss_model.specs.rules.Stepping.{authorization_ask, entries_of, increm
 use Rattle.iss_invariants.proofs.Passing.{EachPasses, both_pass, gateway_passes, passing, where_passes}
 use Rattle.iss_invariants.proofs.Walk.{EachKind, walk}
 use Rattle.iss_docket.proofs.Lists.{not_both}
-use Rattle.iss_payments.proofs.Pieces.{Still, Voids, abandonment_still, both_still, both_void, calm, calm_still, clearing_money_calm, declined_calm, either_still, end_still, failed_still, hold_calm, is_calm, is_plain, opens_none, post_calm, release_calm, stand_in_calm}
+use Rattle.iss_payments.specs.Calls.{may_open, opens_none}
+use Rattle.iss_payments.proofs.Pieces.{Still, Voids, abandonment_still, both_still, both_void, calm, calm_still, clearing_money_calm, declined_calm, either_still, end_still, failed_still, hold_calm, is_calm, is_plain, post_calm, release_calm, stand_in_calm}
 
 -- asked calls ----
 
@@ -213,12 +214,6 @@ refund_still {n} f token amount (Some now) =
 abbrev pub is_funding : Input → Bool
 is_funding (input.Answer call what) = funds what
 is_funding _ = false
-
--- an event that may open a call
-abbrev pub may_open : Input → Bool
-may_open (input.Authorization token card currency amount mcc mid) = true
-may_open (input.Increment token txn currency amount) = true
-may_open _ = false
 
 -- What holds of the entries that an input makes.
 pub record Own (n : ℕ) (i : Input) (es : List Entry) : Type 0 where

@@ -28,7 +28,8 @@ use Rattle.iss_model.specs.state.Cores.{CoreState, after_entry, core_facts, is_l
 use Rattle.iss_pending.specs.Pending.{HasTakenUp}
 use Rattle.iss_pending.proofs.Due.{its_token}
 use Rattle.iss_holdings.proofs.Inputs.{authorization_token, begun_stands, unnamed}
-use Rattle.iss_payments.proofs.Inputs.{may_open, own_well}
+use Rattle.iss_payments.specs.Calls.{may_open}
+use Rattle.iss_payments.proofs.Inputs.{own_well}
 use Rattle.iss_payments.proofs.Payable.{AllPayable, none_needed, payable_append}
 use Rattle.iss_payments.proofs.Pieces.{calm_still, hold_calm, stand_in_calm}
 

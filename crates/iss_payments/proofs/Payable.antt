@@ -18,7 +18,7 @@ use Rattle.iss_docket.proofs.Entering.{call_more, same_txn, txn_more}
 use Rattle.iss_docket.proofs.Lists.{by_either, either_found}
 use Rattle.iss_holdings.proofs.Changes.{txn_ended}
 use Rattle.iss_payments.specs.Payable.{ArePayable, CallsStand, IsPayable}
-use Rattle.iss_payments.proofs.Pieces.{opens_none}
+use Rattle.iss_payments.specs.Calls.{opens_none}
 
 -- calls stand ----
 

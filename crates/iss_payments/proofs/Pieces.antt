@@ -27,7 +27,7 @@ use Rattle.iss_model.specs.rules.Pieces.{Parts, abandoned_call_entries, abandone
 use Rattle.iss_model.specs.rules.StandIns.{Stand, allowed, over_limit, stand, uncovered}
 use Rattle.iss_invariants.proofs.Passing.{EachPasses, both_pass, either_passes, gateway_passes, one_passes, passing, where_passes}
 use Rattle.iss_docket.proofs.Lists.{both_so}
-use Rattle.iss_payments.specs.Calls.{closes_void, is_call, is_void_method, names_what_it_voids, times_among, voids}
+use Rattle.iss_payments.specs.Calls.{closes_void, is_call, is_void_method, names_what_it_voids, opens_none, times_among, voids}
 use Rattle.iss_payments.specs.Pairs.{is_gateway}
 use Rattle.iss_payments.proofs.Counting.{among_append}
 
@@ -41,11 +41,6 @@ is_plain (entry.Closed call (how.Failed why)) = true
 is_plain (entry.Closed call how.Abandoned) = true
 is_plain (entry.Post from to amount txn) = not (is_gateway from)
 is_plain _ = true
-
--- an entry opens no call
-abbrev pub opens_none : Entry → Bool
-opens_none (entry.Opened o) = false
-opens_none _ = true
 
 -- as many void notices of a call as closings that want one, and a notice names a call exactly where it is void
 pub record Voids (n : ℕ) (es : List Entry) : Type 0 where

@@ -1,6 +1,8 @@
 -- What a step leaves of calls: each is closed as often as it was asked and is asked no more, each that failed or was abandoned has its
 -- notice, and each that is funded its post.
-use Rattle.std.proofs.Common.{◌≡◌, ℕ, ◌+◌, true, List, [], ◌∷◌, ◌++◌, fold, refl, ap, ◌∙◌, arith}
+use Rattle.std.proofs.Common.{◌≡◌, ℕ, ◌+◌, Bool, true, false, ◌&&◌, List, [], ◌∷◌, ◌++◌, fold, refl, ap, ap₂, ◌∙◌, arith}
+use Rattle.std.specs.List.{list_all}
+use Rattle.std.proofs.lemmas.List.Folds.{list_all-append}
 use Rattle.std.proofs.lemmas.List.Sums.{fold-append}
 use Rattle.iss_model.specs.declared.entry.Entry.{Entry}
 use Rattle.iss_model.specs.declared.input.Input.{Input}
@@ -14,7 +16,7 @@ use Rattle.iss_model.specs.state.Cores.{CoreState, after_entry, core_facts, core
 use Rattle.iss_invariants.specs.Sound.{IsNewEvent}
 use Rattle.iss_pending.specs.Pending.{AreAllowed, HasTakenUp, IsWell}
 use Rattle.iss_pending.proofs.Steps.{due_allowed, own_allowed, ready_settled, ready_taken}
-use Rattle.iss_payments.specs.Calls.{closes, opens, times_among, voids}
+use Rattle.iss_payments.specs.Calls.{closes, may_open, opens, opens_none, times_among, voids}
 use Rattle.iss_payments.specs.Pairs.{Pairing, paired, pairing_after}
 use Rattle.iss_payments.specs.Payable.{ArePayable, CallsStand, asked_at}
 use Rattle.iss_payments.proofs.Counting.{among_append, entries_count}
@@ -100,6 +102,24 @@ counts_through i at =
 
 pub step_counts : (s : CoreState) (r : Record) → IsNewEvent s r.input → IsWell s → Counts (with_record s r) (step core_keeper s r).entries (step core_keeper s r).world
 step_counts s r new well = step_leads Counts s r (counts_through r.input r.at) new well
+
+-- calls opened ----
+
+-- an input that opens no call makes no entry that opens one
+pub record OpensNone (i : Input) (s : CoreState) (es : List Entry) (later : CoreState) : Type 0 where
+  pub opened : may_open i ≡ false → list_all opens_none es ≡ true
+
+opens_none_through : (i : Input) (at : ℕ) → GoesThrough (OpensNone i) i at
+opens_none_through i at =
+    record {
+      none = λ s. record { opened = λ other. refl };
+      then = λ s t u xs ys h k. record { opened = λ other. list_all-append opens_none xs ys ∙ ap₂ (λ (a b : Bool). a && b) (h.opened other) (k.opened other) };
+      due = λ s thing ready. record { opened = λ other. (thing_still {n = 0} (core_facts s) thing at).opened };
+      own = λ s ready. record { opened = (own_well 0 i at (core_facts s)).opened };
+    }
+
+pub step_opens_none : (s : CoreState) (r : Record) → IsNewEvent s r.input → IsWell s → OpensNone r.input (with_record s r) (step core_keeper s r).entries (step core_keeper s r).world
+step_opens_none s r new well = step_leads (OpensNone r.input) s r (opens_none_through r.input r.at) new well
 
 -- payments ----
 

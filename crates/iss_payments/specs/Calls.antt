@@ -7,6 +7,8 @@ use Rattle.iss_model.specs.declared.call.Method.{Method}
 use Rattle.iss_model.specs.declared.call.Method.TheVariants as method
 use Rattle.iss_model.specs.declared.entry.Entry.{Entry}
 use Rattle.iss_model.specs.declared.entry.Entry.TheVariants as entry
+use Rattle.iss_model.specs.declared.input.Input.{Input}
+use Rattle.iss_model.specs.declared.input.Input.TheVariants as input
 
 -- how many of these entries pass a test
 abbrev pub times_among : (Entry → Bool) → List Entry → ℕ
@@ -25,6 +27,17 @@ is_void (Some how.Abandoned) = true
 abbrev pub opens : ℕ → Entry → Bool
 opens number (entry.Opened o) = o.call.0 == number
 opens number _ = false
+
+-- an entry opens no call
+abbrev pub opens_none : Entry → Bool
+opens_none (entry.Opened o) = false
+opens_none _ = true
+
+-- an event that may open a call
+abbrev pub may_open : Input → Bool
+may_open (input.Authorization token card currency amount mcc mid) = true
+may_open (input.Increment token txn currency amount) = true
+may_open _ = false
 
 -- an entry closes the call of this number
 abbrev pub closes : ℕ → Entry → Bool

@@ -7,4 +7,6 @@
 
 mod payments;
 
-pub use payments::{calls_are_closed_once, calls_stay_payable, funded_calls_are_paid};
+pub use payments::{
+    calls_are_closed_once, calls_stay_payable, funded_calls_are_paid, only_purchases_open_calls,
+};

@@ -1,5 +1,5 @@
 //! What a step leaves of calls.
-ghost use Rattle.std.specs.Prelude.{◌≡◌, ℕ, ◌+◌, true, fold};
+ghost use Rattle.std.specs.Prelude.{◌≡◌, ℕ, ◌+◌, true, false, fold};
 ghost use Rattle.std.specs.List.{list_all};
 ghost use Rattle.iss_model.specs.declared.input.Record.{Record};
 ghost use Rattle.iss_model.specs.Forms.{is_in_form};
@@ -8,7 +8,7 @@ ghost use Rattle.iss_model.specs.rules.Stepping.{step};
 ghost use Rattle.iss_model.specs.state.Cores.{CoreState, core_keeper, no_core};
 ghost use Rattle.iss_invariants.specs.Sound.{IsNewEvent};
 ghost use Rattle.iss_pending.specs.Pending.{IsWell};
-ghost use Rattle.iss_payments.specs.Calls.{closes, closes_void, names_what_it_voids, opens, times_among, voids};
+ghost use Rattle.iss_payments.specs.Calls.{closes, closes_void, may_open, names_what_it_voids, opens, opens_none, times_among, voids};
 ghost use Rattle.iss_payments.specs.Pairs.{paired, pairing_after};
 ghost use Rattle.iss_payments.specs.Payable.{asked_at, ArePayable, CallsStand};
 
@@ -22,6 +22,12 @@ pub fn calls_are_closed_once()
         → times_among (voids n) (step core_keeper s r).entries ≡ times_among (closes_void n) (step core_keeper s r).entries }
     ensures named { (s : CoreState) → (r : Record) → IsNewEvent s r.input → IsWell s
         → list_all names_what_it_voids (step core_keeper s r).entries ≡ true }
+{}
+
+/// Only an authorisation or an increment opens a call: no other input does, nor anything that falls due before one.
+pub fn only_purchases_open_calls()
+    ensures { (s : CoreState) → (r : Record) → may_open r.input ≡ false → IsNewEvent s r.input → IsWell s
+        → list_all opens_none (step core_keeper s r).entries ≡ true }
 {}
 
 /// A step with an input in form leaves each call as it was opened, asking for an amount, with a transaction that stands and is of its

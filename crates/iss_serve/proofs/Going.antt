@@ -1,8 +1,12 @@
 -- Parts of a run that serves, one after the other, and each kind of them.
-use Rattle.std.proofs.Common.{◌≡◌, ℕ, ◌+◌, inl, Bool, cond, List, [], ◌∷◌, ◌++◌, length, refl, sym, ap, subst, ◌∙◌, append-nil, append_assoc, arith}
+use Rattle.std.proofs.Common.{◌≡◌, ℕ, ◌+◌, inl, Bool, true, cond, List, Some, None, [], ◌∷◌, ◌++◌, length, refl, sym, ap, subst, ◌∙◌, append-nil, append_assoc, arith}
+use Rattle.std.specs.List.{list_all}
+use Rattle.std.proofs.lemmas.Bool.{false≢true, and_from}
 use Rattle.std.proofs.lemmas.List.Elements.{filter-append}
+use Rattle.std.proofs.lemmas.List.Folds.{list_all-append}
 use Rattle.iss_edge.specs.declared.outside.Action.{Action}
 use Rattle.iss_edge.specs.declared.outside.Answered.{Answered}
+use Rattle.iss_edge.specs.declared.outside.Answered.TheVariants.{Waited, Took, Dialled, Emitted}
 use Rattle.iss_edge.specs.Outer.{Outer, Adds}
 use Rattle.iss_edge.specs.Puts.{Put, actions_of_puts, Ran}
 use Rattle.iss_edge.specs.Stretches.{Step, actions_of, is_still, AreStill, IsGood, GoesOn, with_levels}
@@ -12,22 +16,22 @@ use Rattle.iss_journal.specs.Append.{append_puts}
 use Rattle.iss_model.specs.declared.input.Record.{Record}
 use Rattle.iss_model.specs.texts.Spelling.{spelling}
 use Rattle.iss_model.specs.run.Runs.{Run}
-use Rattle.iss_serving.specs.Items.{Item, Happening, hears, judges, judging, answers_of}
-use Rattle.iss_serving.specs.Desks.{Desk, Gone}
+use Rattle.iss_serving.specs.Items.{Item, Happening, hears, judges, judging, is_answer_to, answers_of}
+use Rattle.iss_serving.specs.Desks.{Task, to_dial, to_send, to_reply, Desk, Gone, next_for, next_of_tasks, desk_change, FitsDesk}
 use Rattle.iss_serving.specs.Sessions.{Readers, Session, count, next_of}
 use Rattle.iss_serving.specs.Judgements.{judged_first}
 use Rattle.iss_serving.specs.Levels.{AreStillAt}
 use Rattle.iss_serving.specs.Happenings.{session_change, session_after, session_steps, last_steps, Fits, IsNext, IsComplete}
 use Rattle.iss_serving.specs.Sendings.{Sends}
 use Rattle.iss_serving.proofs.Compositions.{after_append, steps_append, fits_append, answers_append}
-use Rattle.iss_serving.proofs.DesksInSessions.{all_heard, answers_all_heard, with_desk, desk_in_session, desk_steps_in_session, desk_fits_session}
+use Rattle.iss_serving.proofs.DesksInSessions.{unanswerable, all_heard, answers_all_heard, with_desk, desk_in_session, desk_steps_in_session, desk_fits_session}
 use Rattle.iss_serving.proofs.Runs.{IsLonger, after_longer, run_item}
 use Rattle.iss_serving.proofs.StillSteps.{steps_still, stretch_goes_on, last_goes_on, last_still}
 use Rattle.iss_store.specs.Values.{StoreNow}
 use Rattle.iss_store.specs.Standing.{region_under, bodies_of, StandsFor}
 use Rattle.iss_store.specs.Committing.{ComesNext, CommitsGood, CommitsGoing}
 use Rattle.iss_device.proofs.NextRecords.{with_record, one_more, comes_next, rests_before}
-use Rattle.iss_serve.specs.Goings.{channel_steps, records_in, GoesOnFrom, IsGoodFrom, Goes, GoesPart, GoesToEnd}
+use Rattle.iss_serve.specs.Goings.{channel_steps, has_come, NoWaitFailed, records_in, GoesOnFrom, IsGoodFrom, Goes, GoesPart, GoesToEnd}
 
 -- ---- steps that are on channels, and those that aren't
 
@@ -125,6 +129,12 @@ did_then read s t xs ys ends = steps_append read s xs ys ∙ ap (λ (m : Session
 fits_then : (read : Readers) (s t : Session) (xs ys : List Happening) → session_after read s xs ≡ t → Fits read s xs → Fits read t ys → Fits read s (xs ++ ys)
 fits_then read s t xs ys ends p q = fits_append read s xs ys p (subst (λ (m : Session). Fits read m ys) (sym ends) q)
 
+came_then : (xs ys : List Happening) → NoWaitFailed xs → NoWaitFailed ys → NoWaitFailed (xs ++ ys)
+came_then xs ys p q =
+    ap (λ (answers : List Answered). list_all has_come answers) (answers_append xs ys)
+    ∙ list_all-append has_come (answers_of xs) (answers_of ys)
+    ∙ and_from (list_all has_come (answers_of xs)) (list_all has_come (answers_of ys)) p q
+
 module _ (read : Readers) (region : Region) (s t : Session) (a b c : Outer) (p : Goes read region s t a b) where
   pub goes_then : (u : Session) → Goes read region t u b c → Goes read region s u a c
   goes_then u q =
@@ -132,6 +142,7 @@ module _ (read : Readers) (region : Region) (s t : Session) (a b c : Outer) (p :
         happenings = p.happenings ++ q.happenings;
         heard = heard_then a.heard b.heard c.heard p.happenings q.happenings p.heard q.heard;
         fits = fits_then read s t p.happenings q.happenings p.ends p.fits q.fits;
+        came = came_then p.happenings q.happenings p.came q.came;
         ends = after_then read s t p.happenings q.happenings p.ends ∙ q.ends;
         steps = p.steps ++ q.steps;
         grew = grew_then a b c p.steps q.steps p.grew q.grew;
@@ -176,6 +187,7 @@ module _ (read : Readers) (region : Region) (s t : Session) (a b c : Outer) (p :
         happenings = p.happenings;
         heard = closed.heard ∙ append-nil b.heard ∙ p.heard;
         fits = p.fits;
+        came = p.came;
         ends = p.ends;
         complete = over;
         steps = p.steps ++ last;
@@ -205,9 +217,9 @@ goes_part read region s t a b p =
 -- ---- what makes no record
 
 -- what neither writes nor makes a record
-pub still_goes : (read : Readers) (region : Region) (s t : Session) (happenings : List Happening) (a b : Outer) → Fits read s happenings → session_after read s happenings ≡ t → records_in t ≡ records_in s
+pub still_goes : (read : Readers) (region : Region) (s t : Session) (happenings : List Happening) (a b : Outer) → Fits read s happenings → NoWaitFailed happenings → session_after read s happenings ≡ t → records_in t ≡ records_in s
     → b.world.device ≡ a.world.device → b.heard ≡ a.heard ++ answers_of happenings → b.world.trace ≡ a.world.trace ++ actions_of (session_steps read s happenings) → Goes read region s t a b
-still_goes read region s t happenings a b fits ends same device heard trace =
+still_goes read region s t happenings a b fits came ends same device heard trace =
     let steps = session_steps read s happenings in
     let number : count t ≡ count s = ap (λ (l : List Record). length l) same in
     let whole : count (session_after read s happenings) ≡ count s = ap count ends ∙ number in
@@ -215,6 +227,7 @@ still_goes read region s t happenings a b fits ends same device heard trace =
       happenings = happenings;
       heard = heard;
       fits = fits;
+      came = came;
       ends = ends;
       steps = steps;
       grew = trace;
@@ -231,20 +244,40 @@ still_goes read region s t happenings a b fits ends same device heard trace =
 
 pub goes_self : (read : Readers) (region : Region) (s : Session) (a : Outer) → Goes read region s s a a
 goes_self read region s a =
-    still_goes read region s s [] a a tt refl refl refl (sym (append-nil a.heard)) (sym (append-nil a.world.trace))
+    still_goes read region s s [] a a tt refl refl refl refl (sym (append-nil a.heard)) (sym (append-nil a.world.trace))
 
 -- an answer that was called for, with what the session does then
-pub heard_goes : (read : Readers) (region : Region) (s : Session) (item : Item) (a b : Outer) → IsNext s item
+pub heard_goes : (read : Readers) (region : Region) (s : Session) (item : Item) (a b : Outer) → IsNext s item → has_come item.answer ≡ true
     → Adds (actions_of (session_change read s (hears item)).steps) (item.answer ∷ []) a b → Goes read region s (session_change read s (hears item)).session a b
-heard_goes read region s item a b next adds =
+heard_goes read region s item a b next came adds =
     let c = session_change read s (hears item) in
-    still_goes read region s c.session (hears item ∷ []) a b (next, tt) refl (ap (λ (run : Run). run.history.records) (run_item read s item s.desk.tasks))
+    still_goes read region s c.session (hears item ∷ []) a b (next, tt) (and_from (has_come item.answer) true came refl) refl (ap (λ (run : Run). run.history.records) (run_item read s item s.desk.tasks))
     adds.device adds.heard (adds.trace ∙ ap (λ (l : List Step). a.world.trace ++ actions_of l) (sym (append-nil c.steps)))
+
+-- no wait answers a text's call
+task_waits : {A : Type 0} (task : Task) → is_answer_to (next_for task) (Waited None) ≡ true → A
+task_waits (to_dial subject text) e = absurd (false≢true e)
+task_waits (to_send to subject text) e = absurd (false≢true e)
+task_waits (to_reply to text) e = absurd (false≢true e)
+
+text_came : (tasks : List Task) (answer : Answered) → is_answer_to (next_of_tasks tasks) answer ≡ true → has_come answer ≡ true
+text_came [] answer e = unanswerable answer e
+text_came (task ∷ tasks) (Waited None) e = task_waits task e
+text_came (task ∷ tasks) (Waited (Some arrival)) e = refl
+text_came (task ∷ tasks) (Took ch got) e = refl
+text_came (task ∷ tasks) (Dialled ch) e = refl
+text_came (task ∷ tasks) (Emitted ch ok) e = refl
+
+desk_came : (level : ℕ) (d : Desk) (items : List Item) → FitsDesk level d items → NoWaitFailed (all_heard items)
+desk_came level d [] fits = refl
+desk_came level d (item ∷ items) fits =
+    and_from (has_come item.answer) (list_all has_come (answers_of (all_heard items))) (text_came d.tasks item.answer fits.0.answers)
+    (desk_came level (desk_change level d item).desk items fits.1)
 
 -- what a desk did for its texts
 pub sends_goes : (read : Readers) (region : Region) (s : Session) (e : Desk) (gone : List Gone) (a b : Outer) → Sends (count s) s.desk e gone a b → Goes read region s (with_desk s e gone) a b
 sends_goes read region s e gone a b p =
-    still_goes read region s (with_desk s e gone) (all_heard p.items) a b (desk_fits_session read s p.items p.fits)
+    still_goes read region s (with_desk s e gone) (all_heard p.items) a b (desk_fits_session read s p.items p.fits) (desk_came (count s) s.desk p.items p.fits)
     (desk_in_session read s p.items p.fits ∙ λ i. with_desk s (p.ends i) (p.became i)) refl p.device
     (p.heard ∙ ap (λ (t : List Answered). a.heard ++ t) (sym (answers_all_heard p.items)))
     (p.trace ∙ ap (λ (l : List Step). a.world.trace ++ actions_of l) (sym (desk_steps_in_session read s p.items p.fits)))
@@ -253,7 +286,7 @@ sends_goes read region s e gone a b p =
 pub told_goes : (read : Readers) (region : Region) (s : Session) (a b : Outer) → next_of s ≡ judging → records_in (judged_first s s.queue) ≡ records_in s → Adds [] [] a b
     → Goes read region s (judged_first s s.queue) a b
 told_goes read region s a b next same adds =
-    still_goes read region s (judged_first s s.queue) (judges ∷ []) a b (next, tt) refl same adds.device adds.heard adds.trace
+    still_goes read region s (judged_first s s.queue) (judges ∷ []) a b (next, tt) refl refl same adds.device adds.heard adds.trace
 
 -- ---- a record that is made to last
 
@@ -281,6 +314,7 @@ module _ (read : Readers) (store : StoreNow) (s : Session) (r : Record) (a b : O
         happenings = judges ∷ [];
         heard = quiet ∙ sym (append-nil a.heard);
         fits = (next, tt);
+        came = refl;
         ends = refl;
         steps = steps;
         grew = going.made.trace ∙ ap (λ (l : List Action). a.world.trace ++ l) (sym same);

@@ -262,7 +262,7 @@ module _ (turns instance : ℕ) (rs : List Record) (s : StoreNow) (a b d : Outer
         moments =
             moments p.happenings p.steps
             (subst (λ (m : Session). IsGoodFrom (region_under s) start m p.steps) (sym p.ends) (good_of (region_under s) start ends.last p.steps p.goes_on));
-        whole = λ e. record { complete = over; sent = sent; closed = closed_at_end (run_at s rs) turns p.happenings p.fits over; stands = device_stands ends };
+        whole = λ e. record { came = p.came; complete = over; sent = sent; closed = closed_at_end (run_at s rs) turns p.happenings p.fits over; stands = device_stands ends };
         other_device = λ e. cc;
       })
 

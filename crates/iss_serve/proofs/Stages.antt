@@ -1,5 +1,5 @@
 -- Parts of a run that serves, from one stage to the next, whatever records the store stands for.
-use Rattle.std.proofs.Common.{◌≡◌, ℕ, ◌≤◌, inl, List, [], ◌∷◌, ◌++◌, length, Option, refl, sym, ap, subst, ◌∙◌, append-nil, arith}
+use Rattle.std.proofs.Common.{◌≡◌, ℕ, ◌≤◌, inl, true, List, [], ◌∷◌, ◌++◌, length, Option, refl, sym, ap, subst, ◌∙◌, append-nil, arith}
 use Rattle.iss_edge.specs.declared.outside.Action.{Action}
 use Rattle.iss_edge.specs.Outer.{Outer, Adds}
 use Rattle.iss_edge.specs.Stretches.{actions_of, IsGood}
@@ -22,7 +22,7 @@ use Rattle.iss_sessions.specs.Program.{program_readers}
 use Rattle.iss_store.specs.Values.{StoreNow}
 use Rattle.iss_store.specs.Standing.{region_of, region_under, bodies_of, StandsFor}
 use Rattle.iss_store.proofs.Histories.{count_on_book}
-use Rattle.iss_serve.specs.Goings.{records_in, Goes, GoesPart}
+use Rattle.iss_serve.specs.Goings.{has_come, records_in, Goes, GoesPart}
 use Rattle.iss_serve.specs.Held.{HeldNow, Stage, idle, to_judge, answers_unreached, session_at}
 use Rattle.iss_serve.specs.Runs.{ServesOn, ServesSome}
 use Rattle.iss_serve.proofs.Going.{goes_self, goes_then, goes_then_part, goes_part, heard_goes, sends_goes}
@@ -164,11 +164,11 @@ Leads x y change = (rs : List Record) → change (session_at x rs) ≡ session_a
 
 -- an answer that was called for, with what the session does then
 pub heard_on : (store : StoreNow) (x y : Stage) (item : Item) (actions : List Action) (a b : Outer) → x.store ≡ store → y.store ≡ store
-    → ((rs : List Record) → IsNext (session_at x rs) item)
+    → ((rs : List Record) → IsNext (session_at x rs) item) → has_come item.answer ≡ true
     → Leads x y (λ s. (session_change program_readers s (hears item)).session)
     → ((rs : List Record) → actions_of (session_change program_readers (session_at x rs) (hears item)).steps ≡ actions)
     → Adds actions (item.answer ∷ []) a b → ServesOn x y a b
-heard_on store x y item actions a b xs ys next leads does adds =
+heard_on store x y item actions a b xs ys next came leads does adds =
     record {
       instance = ap (λ (s : StoreNow). s.core.instance) (ys ∙ sym xs);
       to = ap (λ (s : StoreNow). s.place.to) (ys ∙ sym xs);
@@ -179,7 +179,7 @@ heard_on store x y item actions a b xs ys next leads does adds =
             stands = subst (λ (s : StoreNow). StandsFor s rs) (xs ∙ sym ys) stands;
             goes =
                 subst (λ (t : Session). Goes program_readers (region_under x.store) (session_at x rs) t a b) (leads rs)
-                (heard_goes program_readers (region_under x.store) (session_at x rs) item a b (next rs)
+                (heard_goes program_readers (region_under x.store) (session_at x rs) item a b (next rs) came
                 (subst (λ (l : List Action). Adds l (item.answer ∷ []) a b) (sym (does rs)) adds));
           };
     }

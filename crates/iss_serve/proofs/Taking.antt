@@ -117,7 +117,7 @@ module _ (store : StoreNow) (h : HeldNow) (ch : Channel) (settled : h.unreached 
       → y.store ≡ store → ((rs : List Record) → (after got early rs).session ≡ session_at y rs) → ((rs : List Record) → actions_of (after got early rs).steps ≡ actions)
       → Adds actions (Took ch got ∷ []) a b → ServesOn (taking store h ch) y a b
   took_on got early y actions a b fits may same leads does adds =
-      heard_on store (taking store h ch) y (took ch got early) actions a b refl same (is_next got early fits may) leads does adds
+      heard_on store (taking store h ch) y (took ch got early) actions a b refl same (is_next got early fits may) refl leads does adds
 
   -- ---- a client whose request isn't whole
 

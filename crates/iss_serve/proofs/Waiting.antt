@@ -60,7 +60,7 @@ module _ (store : StoreNow) (h : HeldNow) (settled : h.unreached ≡ []) (turns 
       → Told (Waits arrival) x z → Told (Hears (Waited (Some arrival))) g k → Told (ServesOn (idle store h) y) (outer_of x g) (outer_of z k)
   waited_on arrival y x z g k same leads brought heard =
       told_map (Adds [] (Waited (Some arrival) ∷ [])) (ServesOn (idle store h) y) (outer_of x g) (outer_of z k)
-      (λ a b adds. heard_on store (idle store h) y (waited (Some arrival)) [] a b refl same (is_next (Some arrival)) leads (λ rs. refl) adds)
+      (λ a b adds. heard_on store (idle store h) y (waited (Some arrival)) [] a b refl same (is_next (Some arrival)) refl leads (λ rs. refl) adds)
       (told_waits arrival x z g k brought heard)
 
   -- the wait was made, and what it brought isn't taken in

@@ -1,5 +1,8 @@
 -- A run that serves, on its way: what was heard, what was said and done for it, and what a stop leaves at each moment.
-use Rattle.std.specs.Prelude.{◌≡◌, List, ◌++◌, filter}
+use Rattle.std.specs.Prelude.{◌≡◌, Bool, true, false, List, ◌++◌, filter, None}
+use Rattle.std.specs.List.{list_all}
+use Rattle.iss_edge.specs.declared.outside.Answered.{Answered}
+use Rattle.iss_edge.specs.declared.outside.Answered.TheVariants.{Waited}
 use Rattle.iss_edge.specs.Outer.{Outer}
 use Rattle.iss_edge.specs.Stretches.{Step, actions_of, IsGood, GoesOn, is_still}
 use Rattle.iss_journal.specs.Region.{Region, RestsFirst, StandsFirst}
@@ -12,6 +15,15 @@ use Rattle.iss_store.specs.Standing.{bodies_of}
 -- what was done on channels: all steps but the work on the device, in their order
 abbrev pub channel_steps : List Step → List Step
 channel_steps steps = filter (λ step. is_still step.action) steps
+
+-- it isn't a wait that failed
+abbrev pub has_come : Answered → Bool
+has_come (Waited None) = false
+has_come _ = true
+
+-- no wait of these failed
+abbrev pub NoWaitFailed : List Happening → Type 0
+NoWaitFailed happenings = list_all has_come (answers_of happenings) ≡ true
 
 -- the records that stand in a session
 abbrev pub records_in : Session → List Record
@@ -36,12 +48,13 @@ abbrev pub RestsThen : Region → Session → Session → Outer → Outer → Ty
 RestsThen region s t a b =
     RestsFirst region (bodies_of (records_in s)) a.world.device (count s) → RestsFirst region (bodies_of (records_in t)) b.world.device (count t)
 
--- On the journal of a device a session went from s to t. What was heard fits. What was done on channels is just what the session says, each
+-- On the journal of a device a session went from s to t. What was heard fits, and no wait failed. What was done on channels is just what the session says, each
 -- text at its level, and all that was done is a stretch from the records of s to those of t.
 pub record Goes (read : Readers) (region : Region) (s t : Session) (a b : Outer) : Type 0 where
   pub happenings : List Happening
   pub heard : b.heard ≡ a.heard ++ answers_of happenings
   pub fits : Fits read s happenings
+  pub came : NoWaitFailed happenings
   pub ends : session_after read s happenings ≡ t
   pub steps : List Step
   pub grew : b.world.trace ≡ a.world.trace ++ actions_of steps
@@ -65,6 +78,7 @@ pub record GoesToEnd (read : Readers) (region : Region) (s t : Session) (a b : O
   pub happenings : List Happening
   pub heard : b.heard ≡ a.heard ++ answers_of happenings
   pub fits : Fits read s happenings
+  pub came : NoWaitFailed happenings
   pub ends : session_after read s happenings ≡ t
   pub complete : IsComplete t
   pub steps : List Step

@@ -21,7 +21,7 @@ use Rattle.iss_device.specs.Runs.{run_on_device}
 use Rattle.iss_device.specs.Moments.{EachMoment}
 use Rattle.iss_serve.specs.declared.fault.ServeFault.{ServeFault}
 use Rattle.iss_serve.specs.declared.fault.ServeFault.TheVariants.{Device, Wait, Disk, OutOfMemory}
-use Rattle.iss_serve.specs.Goings.{channel_steps}
+use Rattle.iss_serve.specs.Goings.{channel_steps, NoWaitFailed}
 
 -- the exit status of a run that serves
 abbrev pub status_of : {A : Type 0} → Result A ServeFault → ℕ
@@ -72,9 +72,10 @@ pub record AllClosed (s : Session) (happenings : List Happening) : Type 0 where
   pub clients : (before after : List Happening) (item : Item) (ch : Channel) → item.answer ≡ Waited (Some (Client ch)) → happenings ≡ before ++ hears item ∷ after
       → left_open ch.0 true (actions_of (all_steps_said (session_then s (before ++ hears item ∷ [])) after)) ≡ false
 
--- What a run did that served to its end: nothing was left to hear, each channel has exactly the bytes that the session says, each was closed
+-- What a run did that served to its end: no wait failed, nothing was left to hear, each channel has exactly the bytes that the session says, each was closed
 -- behind its last bytes, and the device stands for the records that stood and those that the session made.
 pub record ServedWhole (instance : ℕ) (rs : List Record) (s : Session) (happenings : List Happening) (a b : World) : Type 0 where
+  pub came : NoWaitFailed happenings
   pub complete : IsComplete (session_then s happenings)
   pub sent : (ch : ℕ) → sent_on ch b.trace ≡ sent_on ch a.trace ++ sent_on ch (actions_of (steps_said s happenings))
   pub closed : AllClosed s happenings
@@ -82,9 +83,10 @@ pub record ServedWhole (instance : ℕ) (rs : List Record) (s : Session) (happen
 
 -- What a run with this status and so many turns did that began with the session s, on a device that stands for these records. What it heard
 -- is what its session called for, in at most so many waits. The opening of the device writes to it and syncs it, and no more. What was done
--- on channels behind it is what the session says, or a first part of it; and so are the bytes on each channel. At whatever moment it stops, the device stands for the records
--- that stood and a first part of those that the session makes, all of them legal, at least as many as the level of each text of which a
--- byte went out. At 0 all of it was done.
+-- on channels behind it is what the session says, or a first part of it; and so are the bytes on each channel. At whatever moment it stops,
+-- where the device stood firmly for them it stands for the records that stood and a first part of those that the session makes, all of them
+-- legal, at least as many as the level of each text of which a byte went out; within the opening one more may stand, which is left behind.
+-- At 0 all of it was done.
 pub record ServeOn (turns status instance : ℕ) (rs : List Record) (s : Session) (a b : Outer) : Type 0 where
   pub happenings : List Happening
   pub heard : b.heard ≡ a.heard ++ answers_of happenings

@@ -80,7 +80,7 @@ pub fn run<E: Edge>(alloc: Global, words: &[String], edge: &mut E) -> u8
         (Told (ReplayRun result) (E.told edge.old) (E.told edge.new)) }
 
     // At whatever moment it stops, the device stands for the old records and a prefix of the accepted inputs that holds every one
-    // of which a byte went out.
+    // of which a byte went out, where it stood firmly for the old ones. Within the opening one record more may stand, which is left behind.
     ensures moments { OnReplay (command_of_words (map string_bytes words.now))
         (Told EveryMomentStands (E.told edge.old) (E.told edge.new)) }
 
@@ -107,8 +107,9 @@ pub fn run<E: Edge>(alloc: Global, words: &[String], edge: &mut E) -> u8
         (Told (ReportEndsWell (E.faults edge.old) (E.faults edge.new) result) (E.told edge.old) (E.told edge.new)) }
 
     // A run that serves: what was heard and done is what the session of the device's records says, and at whatever moment it stops, the
-    // device stands for the old records and a prefix of the accepted inputs that holds every one of which a byte went out. A device that
-    // stands for no records decides over 4. Where device and input aren't at fault, it comes to its end, or an allocation fails.
+    // device stands for the old records and a prefix of the accepted inputs that holds every one of which a byte went out, as above. At 0 no
+    // wait failed. A device that stands for no records decides over 4. Where device and input aren't at fault, it comes to its end, or an
+    // allocation fails.
     ensures serving { OnServe (command_of_words (map string_bytes words.now)) (λ turns.
         Told (ServeRun turns result) (outer_of (E.told edge.old) (E.heard edge.old)) (outer_of (E.told edge.new) (E.heard edge.new))) }
     ensures serve_refused { OnServe (command_of_words (map string_bytes words.now)) (λ turns.
