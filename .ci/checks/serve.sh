@@ -148,8 +148,11 @@ requests() {
 
 # crowd: clients that come while the program looks at nobody queue until it does, more than a common listener keeps.
 crowd() {
-    [ "$(cat /proc/sys/net/core/somaxconn)" -ge 200 ] || return 0
     local peer crowd=() line waker
+    if [ "$(cat /proc/sys/net/core/somaxconn)" -lt 200 ]; then
+        echo "$0: this system lets fewer than 200 clients queue: that many are left out"
+        return
+    fi
     line=$(request /events "$(purchase a1 c1 m1)")
     kill -STOP "$server"
     (sleep 5 && kill -CONT "$server") &
