@@ -1,6 +1,8 @@
 pub mod Changes
 pub mod Pieces
 pub mod Asks
+pub mod Begun
+pub mod Acts
 pub mod Inputs
 pub mod Ends
 pub mod Times

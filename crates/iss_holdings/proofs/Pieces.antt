@@ -20,8 +20,8 @@ use Rattle.iss_model.specs.Sums.{part_key}
 use Rattle.iss_model.specs.rules.Activity.{CallNow}
 use Rattle.iss_model.specs.rules.Asks.{usage_of}
 use Rattle.iss_model.specs.rules.CardEntries.{clearing_money_entries}
-use Rattle.iss_model.specs.rules.Facts.{Facts, asked_calls_of, not_below}
-use Rattle.iss_model.specs.rules.Pieces.{Parts, abandoned_calls_entries, end_entries, in_all, left_of, only_gateway, only_where, parts_held, post_entries, release_entries, taken_to_clear, taken_to_release, unhold_entries, use_return_entries, user_account}
+use Rattle.iss_model.specs.rules.Facts.{not_below}
+use Rattle.iss_model.specs.rules.Pieces.{Parts, abandoned_calls_entries, in_all, left_of, only_gateway, only_where, parts_held, post_entries, release_entries, taken_to_clear, taken_to_release, unhold_entries, use_return_entries, user_account}
 use Rattle.iss_model.specs.state.Cores.{CoreState, after_entry, after_setting, core_facts}
 use Rattle.iss_model.specs.state.Kept.{Kept, after_changes}
 use Rattle.iss_model.proofs.Names.{its_name}
@@ -251,30 +251,17 @@ clearing_leaves s t x amount at just =
 
 -- a transaction ends ----
 
--- what is left where all is taken
-pub nothing_left : (parts : Kept) (token : List ℕ) (x : Parts) (amount : ℕ) → in_all x ≤ amount → HoldsJust parts token (left_of x (taken_to_release x amount)) → HoldsNothing parts token
-nothing_left parts token x amount le just part.G = just.of_gateway ∙ ap pos (none x.g x.p x.s amount le)
+-- where these parts are nothing in all, nothing is held
+pub nothing_left : (parts : Kept) (token : List ℕ) (x : Parts) → in_all x ≡ 0 → HoldsJust parts token x → HoldsNothing parts token
+nothing_left parts token x e just part.G = just.of_gateway ∙ ap pos (first x.g x.p x.s e)
   where
-    none : (g p s n : ℕ) → g + p + s ≤ n → g - min (n - min n p) g ≡ 0
-    none g p s n le = omega (arith, le)
-nothing_left parts token x amount le just part.P = just.of_programme ∙ ap pos (none x.g x.p x.s amount le)
+    first : (g p s : ℕ) → g + p + s ≡ 0 → g ≡ 0
+    first g p s e = omega (arith, e)
+nothing_left parts token x e just part.P = just.of_programme ∙ ap pos (second x.g x.p x.s e)
   where
-    none : (g p s n : ℕ) → g + p + s ≤ n → p - min n p ≡ 0
-    none g p s n le = omega (arith, le)
-nothing_left parts token x amount le just part.S = just.of_user ∙ ap pos (none x.g x.p x.s amount le)
+    second : (g p s : ℕ) → g + p + s ≡ 0 → p ≡ 0
+    second g p s e = omega (arith, e)
+nothing_left parts token x e just part.S = just.of_user ∙ ap pos (third x.g x.p x.s e)
   where
-    none : (g p s n : ℕ) → g + p + s ≤ n → s - min (n - min n p - min (n - min n p) g) s ≡ 0
-    none g p s n le = omega (arith, le)
-
-pub ended_keep : (s : CoreState) (xs : List Entry) (token : List ℕ) → AllKeepHeld s xs → HoldsNothing (fold after_entry s xs).holdings.parts token → AllKeepHeld s (xs ++ entry.Ended token ∷ [])
-ended_keep s xs token keeps nothing = keep_append s xs (entry.Ended token ∷ []) keeps (nothing, tt)
-
--- calls are abandoned, and all is let go: who held just these parts ends
-pub end_keeps : (s : CoreState) (number : ℕ) (f : Facts) (t : Txn) (x : Parts) (why : Reason) → HoldsJust s.holdings.parts t.token x → AllKeepHeld s (end_entries number f t x why)
-end_keeps s number f t x why just =
-    let a : List Entry = abandoned_calls_entries number t why (asked_calls_of f t.token) in
-    let b : List Entry = release_entries t x (in_all x) in
-    let left : Parts = left_of x (taken_to_release x (in_all x)) in
-    let first = calm_leaves s a t.token x (abandoned_calm number t why (asked_calls_of f t.token)) just in
-    let both = then_leaves s a b t.token x left first (release_leaves (fold after_entry s a) t x (in_all x) first.just) in
-    ended_keep s (a ++ b) t.token both.keeps (nothing_left (fold after_entry s (a ++ b)).holdings.parts t.token x (in_all x) (omega arith) both.just)
+    third : (g p s : ℕ) → g + p + s ≡ 0 → s ≡ 0
+    third g p s e = omega (arith, e)

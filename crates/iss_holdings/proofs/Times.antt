@@ -9,10 +9,7 @@ use Rattle.iss_model.specs.declared.input.Record.{Record}
 use Rattle.iss_model.specs.declared.setting.Moved.TheVariants as moved
 use Rattle.iss_model.specs.declared.txn.Txn.{Txn}
 use Rattle.iss_model.specs.rules.Activity.{TxnNow, txn_named}
-use Rattle.iss_model.specs.rules.Due.{DueItem, due_items, thing_entries}
-use Rattle.iss_model.specs.rules.Keeper.{Growth}
-use Rattle.iss_model.specs.rules.Stepping.{after_due, settle}
-use Rattle.iss_model.specs.state.Cores.{CoreState, after_entry, after_setting, core_facts, core_keeper, is_live, txn_after_end, with_record}
+use Rattle.iss_model.specs.state.Cores.{CoreState, after_entry, after_setting, is_live, txn_after_end, with_record}
 use Rattle.iss_docket.proofs.Entering.{same_txn, txn_more}
 use Rattle.iss_docket.proofs.Lists.{by_either, either_found, mapped_is}
 use Rattle.iss_holdings.specs.Holdings.{AllKeepHeld, BegunBy, KeepsHeld}
@@ -33,15 +30,8 @@ pub entries_now : (s : CoreState) (es : List Entry) → (fold after_entry s es).
 entries_now s [] = refl
 entries_now s (e ∷ es) = entries_now (after_entry s e) es ∙ entry_now s e
 
-items_now : (at : ℕ) (g : Growth CoreState) (items : List DueItem) → (fold (settle core_keeper at) g items).world.now ≡ g.world.now
-items_now at g [] = refl
-items_now at g (item ∷ items) = items_now at (settle core_keeper at g item) items ∙ entries_now g.world (thing_entries item.thing at (core_facts g.world))
-
-pub due_now : (s : CoreState) (at : ℕ) → (after_due core_keeper s at).world.now ≡ s.now
-due_now s at = items_now at (record { world = s; entries = [] }) (due_items (core_facts s) at)
-
-pub stamp_by_now : (s : CoreState) (r : Record) → r.at ≤ (after_due core_keeper (with_record s r) r.at).world.now
-stamp_by_now s r = subst (λ (n : ℕ). r.at ≤ n) (sym (due_now (with_record s r) r.at)) (high s.now r.at)
+pub stamp_by_now : (s : CoreState) (r : Record) → r.at ≤ (with_record s r).now
+stamp_by_now s r = high s.now r.at
   where
     high : (a b : ℕ) → b ≤ max a b
     high a b = omega arith

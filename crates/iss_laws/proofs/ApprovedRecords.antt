@@ -46,8 +46,8 @@ use Rattle.iss_docket.specs.Well.{asked_times, decided_times, is_decided}
 use Rattle.iss_docket.proofs.Lists.{not_both, or_true}
 use Rattle.iss_pending.proofs.Legal.{core_well}
 use Rattle.iss_pending.proofs.Steps.{decided_once}
-use Rattle.iss_decisions.specs.Rulings.{Ruling, decided_as, asked_about, ask_rulings, begun_in, call_ruling, closing_ruling, closing_rulings, closing_verdict, abandonment_reason, funding_ruling, is_answer, may_fail, only_if, opened_in, own_rulings, rulings_due, rulings_of, ruling_of, verdict_of_sets, with_entries}
-use Rattle.iss_decisions.proofs.StepRulings.{legal_rules}
+use Rattle.iss_laws.specs.Rulings.{Ruling, decided_as, asked_about, ask_rulings, begun_in, call_ruling, closing_ruling, closing_rulings, closing_verdict, abandonment_reason, funding_ruling, is_answer, may_fail, only_if, opened_in, own_rulings, rulings_due, rulings_of, ruling_of, verdict_of_sets, with_entries}
+use Rattle.iss_laws.proofs.StepRulings.{legal_rules}
 use Rattle.iss_laws.specs.Approvals.{agree, approved_rightly, are_approved_rightly, entries_pay_for, facts_at_turn, is_approval, is_approved, is_approved_rightly, is_paid_at_once, is_paid_closing, is_to_be_approved, pays_for, records_pay_for, stands_in}
 use Rattle.iss_laws.specs.Decisions.{book_after, entries_in}
 use Rattle.iss_laws.proofs.RuledRecords.{AreRowsOf, history_with, later_rows, legal_more, legal_rest, rows_of, rows_with, same_rest, step_history}
@@ -233,13 +233,14 @@ own_other event input.Time at f h = refl
 abbrev decision_approves : List ℕ → Decision → Bool
 decision_approves event d = bytes_eq d.event event && is_approval d.verdict
 
-none_approves : (event : List ℕ) (ds : List Decision) → decided_times ds event ≡ 0 → list_any (decision_approves event) ds ≡ false
-none_approves event [] h = refl
-none_approves event (d ∷ ds) h = by (bytes_eq d.event event) (none_approves event ds) h
+-- an event that isn't decided gets no verdict, whatever its test
+none_decided : (test : Verdict → Bool) (event : List ℕ) (ds : List Decision) → decided_times ds event ≡ 0 → list_any (λ d. bytes_eq d.event event && test d.verdict) ds ≡ false
+none_decided test event [] h = refl
+none_decided test event (d ∷ ds) h = by (bytes_eq d.event event) (none_decided test event ds) h
   where
-    by : (b : Bool) → (decided_times ds event ≡ 0 → list_any (decision_approves event) ds ≡ false)
+    by : (b : Bool) → (decided_times ds event ≡ 0 → list_any (λ d. bytes_eq d.event event && test d.verdict) ds ≡ false)
         → length (cond b (d ∷ filter (λ (d : Decision). bytes_eq d.event event) ds) (filter (λ (d : Decision). bytes_eq d.event event) ds)) ≡ 0
-        → ((b && is_approval d.verdict) || list_any (decision_approves event) ds) ≡ false
+        → ((b && test d.verdict) || list_any (λ d. bytes_eq d.event event && test d.verdict) ds) ≡ false
     by true rest h = absurd (omega (arith, h))
     by false rest h = rest h
 
@@ -256,7 +257,7 @@ reply_approves event (d ∷ ds) h = by (bytes_eq d.event event) (reply_approves 
         → is_approved (reply_of_decision (cond b (Some d) (find (λ d. bytes_eq d.event event) ds))) ≡ ((b && is_approval d.verdict) || list_any (decision_approves event) ds)
     by true rest h =
         sym (or_false (is_approval d.verdict))
-        ∙ ap (λ (b : Bool). is_approval d.verdict || b) (sym (none_approves event ds (none (decided_times ds event) h)))
+        ∙ ap (λ (b : Bool). is_approval d.verdict || b) (sym (none_decided is_approval event ds (none (decided_times ds event) h)))
     by false rest h = rest h
 
 -- an event that is declined isn't approved
@@ -268,24 +269,14 @@ declined_once event why (d ∷ ds) h k = by (bytes_eq d.event event) (is_approva
     none : (n : ℕ) → suc n ≤ 1 → n ≡ 0
     none n h = omega (arith, h)
 
-    none_declines : (ds : List Decision) → decided_times ds event ≡ 0 → list_any (λ d. bytes_eq d.event event && not (is_approval d.verdict)) ds ≡ false
-    none_declines [] h = refl
-    none_declines (x ∷ xs) h = other (bytes_eq x.event event) (none_declines xs) h
-      where
-        other : (b : Bool) → (decided_times xs event ≡ 0 → list_any (λ d. bytes_eq d.event event && not (is_approval d.verdict)) xs ≡ false)
-            → length (cond b (x ∷ filter (λ (d : Decision). bytes_eq d.event event) xs) (filter (λ (d : Decision). bytes_eq d.event event) xs)) ≡ 0
-            → ((b && not (is_approval x.verdict)) || list_any (λ d. bytes_eq d.event event && not (is_approval d.verdict)) xs) ≡ false
-        other true rest h = absurd (omega (arith, h))
-        other false rest h = rest h
-
     by : (a b : Bool)
         → (decided_times ds event ≤ 1 → list_any (λ d. bytes_eq d.event event && not (is_approval d.verdict)) ds ≡ true → list_any (decision_approves event) ds ≡ false)
         → length (cond a (d ∷ filter (λ (d : Decision). bytes_eq d.event event) ds) (filter (λ (d : Decision). bytes_eq d.event event) ds)) ≤ 1
         → ((a && not b) || list_any (λ d. bytes_eq d.event event && not (is_approval d.verdict)) ds) ≡ true
         → ((a && b) || list_any (decision_approves event) ds) ≡ false
     by true true rest h k =
-        not_both (list_any (λ (d : Decision). bytes_eq d.event event && not (is_approval d.verdict)) ds) k (none_declines ds (none (decided_times ds event) h))
-    by true false rest h k = none_approves event ds (none (decided_times ds event) h)
+        not_both (list_any (λ (d : Decision). bytes_eq d.event event && not (is_approval d.verdict)) ds) k (none_decided (λ v. not (is_approval v)) event ds (none (decided_times ds event) h))
+    by true false rest h k = none_decided is_approval event ds (none (decided_times ds event) h)
     by false b rest h k = rest h k
 
 -- what was accepted ----

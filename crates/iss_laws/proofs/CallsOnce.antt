@@ -28,13 +28,13 @@ use Rattle.iss_docket.proofs.Lists.{Each, both_so, each_weaker, found_any, lone_
 use Rattle.iss_pending.specs.Pending.{IsWell}
 use Rattle.iss_pending.proofs.Legal.{nothing_well}
 use Rattle.iss_pending.proofs.Steps.{step_well}
-use Rattle.iss_payments.specs.Calls.{closes, closes_void, is_call, is_void, is_void_method, names_call, names_what_it_voids, opens, times_among, voids}
-use Rattle.iss_payments.specs.Payable.{asked_at}
-use Rattle.iss_payments.proofs.Steps.{Counts, step_counts}
+use Rattle.iss_laws.specs.CallEntries.{closes, closes_void, is_call, is_void, is_void_method, names_call, names_what_it_voids, opens, times_among, voids}
+use Rattle.iss_laws.specs.Payable.{asked_at}
+use Rattle.iss_laws.proofs.CallSteps.{Counts, step_counts, step_voids}
 use Rattle.iss_laws.specs.Calls.{each_stands_once, is_of_calls, is_opened, stands_once}
 use Rattle.iss_laws.specs.Tests.{times}
 use Rattle.iss_laws.proofs.EventsDecided.{none_first, row_times}
-use Rattle.iss_laws.proofs.NextRows.{entries_of_next, next_number, next_rows, next_times, numbered_pass}
+use Rattle.iss_laws.proofs.Rows.{entries_of_next, next_number, next_rows, next_times, numbered_pass}
 
 -- over all records ----
 
@@ -69,10 +69,10 @@ counted_more rs r new h =
             (times_among (closes n) es) (times_among (opens n) es) (asked_at s.calls n) (asked_at (step core_keeper s r).world.calls n)
             (next_times (closes n) rs r) (next_times (opens n) rs r) (h.all.counted n) (counts.counted n);
         voided = λ n.
-            next_times (voids n) rs r ∙ ap₂ (λ (a b : ℕ). a + b) (h.all.voided n) (counts.voids n).voided ∙ sym (next_times (closes_void n) rs r);
+            next_times (voids n) rs r ∙ ap₂ (λ (a b : ℕ). a + b) (h.all.voided n) (step_voids n s r).voided ∙ sym (next_times (closes_void n) rs r);
         told = ap are_told (next_rows rs r)
             ∙ list_all-append (λ (row : Row). names_what_it_voids row.entry) rows (numbered_rows (next_number rs r) es)
-            ∙ ap₂ (λ (a b : Bool). a && b) h.all.told (numbered_pass names_what_it_voids (next_number rs r) es ∙ (counts.voids 0).told);
+            ∙ ap₂ (λ (a b : Bool). a && b) h.all.told (numbered_pass names_what_it_voids (next_number rs r) es ∙ (step_voids 0 s r).told);
       };
     }
   where

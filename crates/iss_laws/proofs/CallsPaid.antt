@@ -19,13 +19,13 @@ use Rattle.iss_docket.proofs.Lists.{both_so}
 use Rattle.iss_pending.specs.Pending.{IsWell}
 use Rattle.iss_pending.proofs.Legal.{nothing_well}
 use Rattle.iss_pending.proofs.Steps.{step_well}
-use Rattle.iss_payments.specs.Pairs.{Pairing, is_paired, paired, pairing_after}
-use Rattle.iss_payments.specs.Payable.{ArePayable, CallsStand}
-use Rattle.iss_payments.proofs.Payable.{calls_stand, stand_then}
-use Rattle.iss_payments.proofs.Steps.{Pays, nothing_payable, step_pays}
+use Rattle.iss_laws.specs.Pairs.{Pairing, is_paired, paired, pairing_after}
+use Rattle.iss_laws.specs.Payable.{ArePayable, CallsStand}
+use Rattle.iss_laws.proofs.Payable.{calls_stand, stand_then}
+use Rattle.iss_laws.proofs.CallSteps.{Pays, nothing_payable, step_pays}
 use Rattle.iss_laws.specs.Calls.{are_paired, each_call_once, each_stands_once, pairing_of}
 use Rattle.iss_laws.proofs.CallsOnce.{law_once}
-use Rattle.iss_laws.proofs.NextRows.{entries_of_next, next_number, next_rows}
+use Rattle.iss_laws.proofs.Rows.{entries_of_next, next_number, next_rows}
 
 -- a record's rows come in pairs as its entries do
 numbered_pairing : (f : Facts) (n : ℕ) (first : Pairing) (es : List Entry)

@@ -2,7 +2,6 @@
 use Rattle.std.proofs.Common.{◌≡◌, ℕ, ◌+◌, ◌≤◌, Bool, true, false, cond, ◌&&◌, ◌||◌, nat_le, List, [], ◌∷◌, ◌++◌, refl, sym, ap, subst, ◌∙◌, arith}
 use Rattle.std.proofs.lemmas.Int.{ints}
 use Rattle.std.proofs.lemmas.Bool.Decides.{nat_tests, Decides-int_eq}
-use Rattle.std.proofs.lemmas.List.Sums.{fold-append}
 use Rattle.std.specs.Prelude.{ℤ, pos, negsuc, ◌≤ℤ◌, Option, Some, None}
 use Rattle.std.specs.List.{list_all}
 use Rattle.std.specs.Ordering.{int_eq}
@@ -14,12 +13,12 @@ use Rattle.iss_model.specs.declared.entry.Row.{Row}
 use Rattle.iss_model.specs.declared.input.Record.{Record}
 use Rattle.iss_model.specs.rules.Activity.{TxnNow, ends_txn, txn_named}
 use Rattle.iss_model.specs.rules.Facts.{Facts}
-use Rattle.iss_model.specs.rules.Histories.{History, IsLegal, history_keeper, history_of, nothing_yet}
+use Rattle.iss_model.specs.rules.Histories.{IsLegal, history_of}
 use Rattle.iss_model.specs.rules.Reasons.{is_some_with}
 use Rattle.iss_model.specs.rules.Stepping.{step}
 use Rattle.iss_model.specs.state.Cores.{CoreState, core_facts, core_keeper, core_of}
 use Rattle.iss_model.proofs.Names.{its_name, one_name}
-use Rattle.iss_agreement.proofs.CoreOfBook.{entries_history, facts_history}
+use Rattle.iss_agreement.proofs.CoreOfBook.{facts_history}
 use Rattle.iss_invariants.specs.Sound.{IsNewEvent}
 use Rattle.iss_invariants.proofs.Legal.{legal_induction}
 use Rattle.iss_docket.specs.Well.{HaveOwnTokens}
@@ -30,8 +29,8 @@ use Rattle.iss_holdings.specs.Holdings.{HoldsNothing, IsHeldWell, ended_times, e
 use Rattle.iss_holdings.proofs.Steps.{HoldsWell, nothing_held, step_held, step_left}
 use Rattle.iss_laws.specs.Holds.{is_held_on, parts_and_ends, parts_of}
 use Rattle.iss_laws.specs.Tests.{not_negative, times}
-use Rattle.iss_payments.specs.Calls.{times_among}
-use Rattle.iss_laws.proofs.Rows.{step_counted}
+use Rattle.iss_laws.specs.CallEntries.{times_among}
+use Rattle.iss_laws.proofs.Rows.{next_times}
 
 -- ends, over all records ----
 
@@ -44,17 +43,12 @@ record IsEndedOnce (rs : List Record) (s : CoreState) : Type 0 where
   holds : HoldsWell s
   once : (token : List ℕ) → ends_left s.holdings.txns token + times (ends_txn token) (history_of rs).rows ≤ 1
 
-pub longer : (rs : List Record) (r : Record) → history_of (rs ++ r ∷ []) ≡ (step history_keeper (history_of rs) r).world
-longer rs r = fold-append (λ (h : History) (x : Record). (step history_keeper h x).world) nothing_yet rs (r ∷ [])
-
 once_more : (rs : List Record) (r : Record) (token : List ℕ) → IsNewEvent (core_of rs) r.input → IsEndedOnce rs (core_of rs)
     → ends_left (step core_keeper (core_of rs) r).world.holdings.txns token + times (ends_txn token) (history_of (rs ++ r ∷ [])).rows ≤ 1
 once_more rs r token new h =
     sum (ends_left (step core_keeper (core_of rs) r).world.holdings.txns token) (times (ends_txn token) (history_of (rs ++ r ∷ [])).rows)
     (ends_left (core_of rs).holdings.txns token) (times (ends_txn token) (history_of rs).rows) (ended_times token (step core_keeper (core_of rs) r).entries)
-    (ap (λ (h : History). times (ends_txn token) h.rows) (longer rs r)
-    ∙ step_counted (ends_txn token) (history_of rs) r
-    ∙ ap (λ (n : ℕ). times (ends_txn token) (history_of rs).rows + n) (same_ends token (step history_keeper (history_of rs) r).entries ∙ ap (ended_times token) (sym (entries_history rs r))))
+    (next_times (ends_txn token) rs r ∙ ap (λ (n : ℕ). times (ends_txn token) (history_of rs).rows + n) (same_ends token (step core_keeper (core_of rs) r).entries))
     (step_left (core_of rs) r token new h.holds.well h.holds.held)
     (h.once token)
   where

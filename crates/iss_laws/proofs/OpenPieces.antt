@@ -2,19 +2,16 @@
 use Rattle.std.proofs.Common.{◌≡◌, ℕ, ℤ, pos, neg_ℤ, ◌+ℤ◌, ◌+◌, ◌-◌, ◌≤◌, min, Bool, true, false, cond, ◌&&◌, ◌||◌, nat_eq, List, [], ◌∷◌, ◌++◌, map, fold, refl, sym, ap, subst, ◌∙◌, arith}
 use Rattle.std.proofs.lemmas.Int.{ints}
 use Rattle.std.proofs.lemmas.Bool.Decides.{nat_tests}
-use Rattle.std.specs.Prelude.{◌≤ℤ◌, Option, Some, None}
+use Rattle.std.specs.Prelude.{◌≤ℤ◌}
 use Rattle.std.specs.Str.{bytes_eq}
 use Rattle.iss_model.specs.declared.account.Account.{Account}
 use Rattle.iss_model.specs.declared.account.Account.TheVariants as account
 use Rattle.iss_model.specs.declared.account.Part.{Part}
 use Rattle.iss_model.specs.declared.account.Part.TheVariants as part
-use Rattle.iss_model.specs.declared.call.Failure.{Failure}
-use Rattle.iss_model.specs.declared.call.Failure.TheVariants as failure
 use Rattle.iss_model.specs.declared.call.How.{How}
 use Rattle.iss_model.specs.declared.call.How.TheVariants as how
 use Rattle.iss_model.specs.declared.call.Method.TheVariants as method
 use Rattle.iss_model.specs.declared.decision.Reason.{Reason}
-use Rattle.iss_model.specs.declared.decision.Reason.TheVariants as reason
 use Rattle.iss_model.specs.declared.decision.Verdict.TheVariants as verdict
 use Rattle.iss_model.specs.declared.entry.Entry.{Entry}
 use Rattle.iss_model.specs.declared.entry.Entry.TheVariants as entry
@@ -22,12 +19,9 @@ use Rattle.iss_model.specs.declared.setting.Product.{Product}
 use Rattle.iss_model.specs.declared.txn.Txn.{Txn}
 use Rattle.iss_model.specs.rules.Activity.{TxnNow, CallNow, is_asked}
 use Rattle.iss_model.specs.rules.Asks.{Ask, ask_given_back, ask_usage, call_ask, is_authorization, usage_of}
-use Rattle.iss_model.specs.rules.CardEntries.{call_for, clearing_money_entries, funding_entries, gateway_ask_entries}
-use Rattle.iss_model.specs.rules.CardReasons.{is_account_funded}
-use Rattle.iss_model.specs.rules.Facts.{Facts, asked_calls_of, next_notice, not_below}
-use Rattle.iss_model.specs.rules.Pieces.{Parts, abandoned_call_entries, abandoned_calls_entries, declined_ask_entries, end_entries, failure_reason, funded_ask_entries, hold_entries, in_all, notice_entry, only_gateway, only_where, post_entries, release_entries, stand_entries, stand_in_entries, taken_to_clear, taken_to_release, unhold_entries, use_return_entries, user_account, void_entry}
-use Rattle.iss_model.specs.rules.Settings.{is_named_in, product_named}
-use Rattle.iss_model.specs.rules.StandIns.{Stand, allowed, over_limit, stand, uncovered}
+use Rattle.iss_model.specs.rules.CardEntries.{call_for, clearing_money_entries}
+use Rattle.iss_model.specs.rules.Facts.{Facts, not_below}
+use Rattle.iss_model.specs.rules.Pieces.{Parts, abandoned_call_entries, abandoned_calls_entries, declined_ask_entries, funded_ask_entries, hold_entries, in_all, only_gateway, only_where, post_entries, release_entries, taken_to_clear, taken_to_release, unhold_entries, use_return_entries, user_account, void_entry}
 use Rattle.iss_model.specs.state.Cores.{CoreState, after_entry, call_after_close}
 use Rattle.iss_model.proofs.Names.{one_name}
 use Rattle.iss_effects.specs.Stakes.{part_held}
@@ -40,12 +34,12 @@ use Rattle.iss_docket.proofs.Closing.{NumbersGrowFrom, StandsItself, all_stand, 
 use Rattle.iss_docket.proofs.Docketed.{AreSilent, abandoned_docketed, both_silent, post_silent, silent, where_silent}
 use Rattle.iss_docket.proofs.Lists.{Each}
 use Rattle.iss_pending.proofs.Staying.{comes_to}
-use Rattle.iss_holdings.proofs.Pieces.{HoldsJust, Leaves, abandoned_calm, amount_of, calm_leaves, its_amount, let_go, post_calm, then_leaves, without}
-use Rattle.iss_laws.proofs.OpenUse.{Counting, IsCounting, Knows, Pays, Within, both_pay, both_within, close_within, free_pays, hold_within, holds_there, is_free, open_within, opens, unhold_within, usage_within, weaker}
+use Rattle.iss_holdings.proofs.Pieces.{HoldsJust, Leaves, amount_of, calm_leaves, its_amount, let_go, post_calm, then_leaves, without}
+use Rattle.iss_laws.proofs.OpenUse.{Counting, IsCounting, Knows, Pays, Within, both_pay, both_within, close_within, free_pays, hold_within, holds_there, is_free, opens, unhold_within, usage_within, weaker}
 
 -- entries without anything to count ----
 
-post_free : (t : Txn) (from to : Account) (n : ℕ) → EachPasses is_free (post_entries t from to n)
+pub post_free : (t : Txn) (from to : Account) (n : ℕ) → EachPasses is_free (post_entries t from to n)
 post_free t from to n = where_passes n (one_passes refl)
 
 -- a transaction is known where the docket is the same
@@ -289,20 +283,6 @@ abandonment_pays k counting s number t why calls same numbers knows =
     (subst (λ (xs : List CallNow). Each (AsksItself xs) (asked_in calls t.token)) (sym same) (filtered_asked calls t.token calls (all_stand calls numbers)))
     (filtered_its t.token calls) knows
 
-pub end_pays : (k : Counting) → IsCounting k → (s : CoreState) (number : ℕ) (f : Facts) (t : Txn) (x : Parts) (why : Reason) → s.calls ≡ f.calls → CallsNumberedFrom 1 f.calls → Knows s.holdings.txns t
-    → HoldsJust s.holdings.parts t.token x → Pays k s (end_entries number f t x why)
-end_pays k counting s number f t x why same numbers knows just =
-    let a : List Entry = abandoned_calls_entries number t why (asked_calls_of f t.token) in
-    let b : List Entry = release_entries t x (in_all x) in
-    let left = calm_leaves s a t.token x (abandoned_calm number t why (asked_calls_of f t.token)) just in
-    both_pay k s (a ++ b) (entry.Ended t.token ∷ [])
-    (both_pay k s a b (abandonment_pays k counting s number t why f.calls same numbers knows)
-    (release_pays k counting (fold after_entry s a) t x (in_all x) (knows_after s a t (abandoned_txns s number t why (asked_calls_of f t.token)) knows) (itself (in_all x)) left.just))
-    (free_pays k counting (fold after_entry s (a ++ b)) (entry.Ended t.token ∷ []) (one_passes refl))
-  where
-    itself : (n : ℕ) → n ≤ n
-    itself n = omega arith
-
 -- asks ----
 
 -- money that is held is within what the ask may open
@@ -321,7 +301,7 @@ held_for k ask = by k.by_amount (k.counts_at ask.txn ask.txn.at) (k.counts_at as
         low : (n : ℕ) → pos 0 ≤ℤ pos n
         low n = omega (arith, ints)
 
-hold_for : (k : Counting) → IsCounting k → (s : CoreState) (ask : Ask) (p : Part) → Knows s.holdings.txns ask.txn → Within k s (hold_entries ask.txn p ask.amount) (pos (opens k ask))
+pub hold_for : (k : Counting) → IsCounting k → (s : CoreState) (ask : Ask) (p : Part) → Knows s.holdings.txns ask.txn → Within k s (hold_entries ask.txn p ask.amount) (pos (opens k ask))
 hold_for k counting s ask p knows =
     weaker k s (hold_entries ask.txn p ask.amount) (pos (cond (holds_there k ask.txn) ask.amount 0)) (pos (opens k ask)) (held_for k ask) (hold_within k counting s ask.txn p ask.amount knows)
 
@@ -332,13 +312,13 @@ none_last : (n : ℕ) → (pos n +ℤ pos 0) ≤ℤ pos n
 none_last n = omega (arith, ints)
 
 -- free entries before, and behind
-free_first : (k : Counting) → IsCounting k → (s : CoreState) (xs ys : List Entry) (n : ℕ) → EachPasses is_free xs → Within k (fold after_entry s xs) ys (pos n) → Within k s (xs ++ ys) (pos n)
+pub free_first : (k : Counting) → IsCounting k → (s : CoreState) (xs ys : List Entry) (n : ℕ) → EachPasses is_free xs → Within k (fold after_entry s xs) ys (pos n) → Within k s (xs ++ ys) (pos n)
 free_first k counting s xs ys n free h = weaker k s (xs ++ ys) (pos 0 +ℤ pos n) (pos n) (none_first n) (both_within k s xs ys (pos 0) (pos n) (free_pays k counting s xs free) h)
 
-free_last : (k : Counting) → IsCounting k → (s : CoreState) (xs ys : List Entry) (n : ℕ) → Within k s xs (pos n) → EachPasses is_free ys → Within k s (xs ++ ys) (pos n)
+pub free_last : (k : Counting) → IsCounting k → (s : CoreState) (xs ys : List Entry) (n : ℕ) → Within k s xs (pos n) → EachPasses is_free ys → Within k s (xs ++ ys) (pos n)
 free_last k counting s xs ys n h free = weaker k s (xs ++ ys) (pos n +ℤ pos 0) (pos n) (none_last n) (both_within k s xs ys (pos n) (pos 0) h (free_pays k counting (fold after_entry s xs) ys free))
 
-paid_within : (k : Counting) → IsCounting k → (s : CoreState) (ask : Ask) (from : Account) (p : Part) → Knows s.holdings.txns ask.txn
+pub paid_within : (k : Counting) → IsCounting k → (s : CoreState) (ask : Ask) (from : Account) (p : Part) → Knows s.holdings.txns ask.txn
     → Within k s (post_entries ask.txn from (user_account ask.txn) ask.amount ++ hold_entries ask.txn p ask.amount) (pos (opens k ask))
 paid_within k counting s ask from p knows =
     let post : List Entry = post_entries ask.txn from (user_account ask.txn) ask.amount in
@@ -355,48 +335,14 @@ declined_within k counting s ask why =
     free_last k counting s (entry.Usage (ask_given_back ask) ∷ []) (cond ask.is_first (entry.Ended ask.txn.token ∷ []) [] ++ entry.Decided ask.event (verdict.Declined why) ∷ []) (opens k ask)
     (given_back_within k counting s ask) (both_pass (either_passes ask.is_first (one_passes refl) (passing refl)) (one_passes refl))
 
-stand_within : (k : Counting) → IsCounting k → (x : Stand) (s : CoreState) (number : ℕ) (ask : Ask) (why : Failure) (at : ℕ) → Knows s.holdings.txns ask.txn
-    → Within k s (stand_entries x number ask why at) (pos (opens k ask))
-stand_within k counting (allowed x) s number ask why at knows =
-    let stood : List Entry = entry.Stood x.name ask.txn.product ask.txn.user ask.amount at ∷ [] in
-    let paid : List Entry = post_entries ask.txn (account.Programme ask.txn.currency) (user_account ask.txn) ask.amount ++ hold_entries ask.txn part.P ask.amount in
-    let told : List Entry = notice_entry number method.StandIn ask.txn None ask.amount 0 ∷ entry.Decided ask.event verdict.Approved ∷ [] in
-    free_first k counting s stood (paid ++ told) (opens k ask) (one_passes refl)
-    (free_last k counting (fold after_entry s stood) paid told (opens k ask) (paid_within k counting (fold after_entry s stood) ask (account.Programme ask.txn.currency) part.P knows) (passing refl))
-stand_within k counting (over_limit x) s number ask why at knows = declined_within k counting s ask (reason.StandInLimit x.name)
-stand_within k counting uncovered s number ask why at knows = declined_within k counting s ask (failure_reason why)
-
-pub stood_in_within : (k : Counting) → IsCounting k → (s : CoreState) (number : ℕ) (f : Facts) (ask : Ask) (why : Failure) (at : ℕ) → Knows s.holdings.txns ask.txn
-    → Within k s (stand_in_entries number f ask why at) (pos (opens k ask))
-stood_in_within k counting s number f ask why at knows = stand_within k counting (stand f ask why at) s number ask why at knows
-
 -- funding is sought ----
 
-asked_again : (product : Product) (f : Facts) (ask : Ask) → call_ask (call_for f product ask) ask.txn ≡ ask
+pub asked_again : (product : Product) (f : Facts) (ask : Ask) → call_ask (call_for f product ask) ask.txn ≡ ask
 asked_again product f ask = ap (λ (b : Bool). record { event = ask.event; txn = ask.txn; amount = ask.amount; is_first = b; at = ask.at }) (by ask.is_first)
   where
     by : (b : Bool) → is_authorization (cond b method.Authorization method.Incremental) ≡ b
     by true = refl
     by false = refl
-
-gateway_within : (k : Counting) → IsCounting k → (s : CoreState) (product : Option Product) (f : Facts) (ask : Ask) → Knows s.holdings.txns ask.txn → Within k s (gateway_ask_entries product f ask) (pos (opens k ask))
-gateway_within k counting s None f ask knows = weaker k s [] (pos 0) (pos (opens k ask)) (low (opens k ask)) (free_pays k counting s [] (passing refl))
-  where
-    low : (n : ℕ) → pos 0 ≤ℤ pos n
-    low n = omega (arith, ints)
-gateway_within k counting s (Some product) f ask knows = by (is_named_in f.switched product.name)
-  where
-    by : (b : Bool) → Within k s (cond b (stand_in_entries (next_notice f) f ask failure.Switch ask.at) (entry.Opened (call_for f product ask) ∷ [])) (pos (opens k ask))
-    by true = stood_in_within k counting s (next_notice f) f ask failure.Switch ask.at knows
-    by false = open_within k counting s (call_for f product ask) ask.txn ask knows refl (asked_again product f ask)
-
-pub funding_within : (k : Counting) → IsCounting k → (s : CoreState) (f : Facts) (ask : Ask) → Knows s.holdings.txns ask.txn → Within k s (funding_entries f ask) (pos (opens k ask))
-funding_within k counting s f ask knows = by (is_account_funded ask.txn.funding)
-  where
-    by : (b : Bool)
-        → Within k s (cond b (hold_entries ask.txn part.S ask.amount ++ entry.Decided ask.event verdict.Approved ∷ []) (gateway_ask_entries (product_named ask.txn.product f.products) f ask)) (pos (opens k ask))
-    by true = free_last k counting s (hold_entries ask.txn part.S ask.amount) (entry.Decided ask.event verdict.Approved ∷ []) (opens k ask) (hold_for k counting s ask part.S knows) (one_passes refl)
-    by false = gateway_within k counting s (product_named ask.txn.product f.products) f ask knows
 
 -- use is counted with an ask, where its stamp counts if its transaction's does
 asked_enough : (x y m f : Bool) (n : ℕ) → (y ≡ true → x ≡ true) → (neg_ℤ (cond x (cond m (pos n) (cond f (pos 1) (pos 0))) (pos 0)) +ℤ pos (cond (x || y) (cond m n (cond f 1 0)) 0)) ≤ℤ pos 0
@@ -406,12 +352,14 @@ asked_enough true y false false n h = omega (arith, ints)
 asked_enough false true m f n h = let bad : false ≡ true = h refl in cc
 asked_enough false false m f n h = omega (arith, ints)
 
-pub sought_pays : (k : Counting) → IsCounting k → (s : CoreState) (f : Facts) (ask : Ask) → Knows s.holdings.txns ask.txn → (k.counts_at ask.txn ask.txn.at ≡ true → k.counts_at ask.txn ask.at ≡ true)
-    → Pays k s (entry.Usage (ask_usage ask) ∷ funding_entries f ask)
-sought_pays k counting s f ask knows later =
-    let counts_first : List Entry = entry.Usage (ask_usage ask) ∷ [] in
+-- an ask is counted with what it may open
+pub ask_within : (k : Counting) → IsCounting k → (s : CoreState) (ask : Ask) → (k.counts_at ask.txn ask.txn.at ≡ true → k.counts_at ask.txn ask.at ≡ true)
+    → Within k s (entry.Usage (ask_usage ask) ∷ []) (neg_ℤ (pos (opens k ask)))
+ask_within k counting s ask later =
     let counted : ℤ = cond (k.counts_at ask.txn ask.at) (cond k.by_amount (pos ask.amount) (cond ask.is_first (pos 1) (pos 0))) (pos 0) in
-    weaker k s (counts_first ++ funding_entries f ask) (neg_ℤ counted +ℤ pos (opens k ask)) (pos 0)
-    (asked_enough (k.counts_at ask.txn ask.at) (k.counts_at ask.txn ask.txn.at) k.by_amount ask.is_first ask.amount later)
-    (both_within k s counts_first (funding_entries f ask) (neg_ℤ counted) (pos (opens k ask))
-    (usage_within k counting s ask.txn (pos ask.amount) (cond ask.is_first (pos 1) (pos 0)) ask.at) (funding_within k counting (fold after_entry s counts_first) f ask knows))
+    weaker k s (entry.Usage (ask_usage ask) ∷ []) (neg_ℤ counted) (neg_ℤ (pos (opens k ask)))
+    (moved (neg_ℤ counted) (opens k ask) (asked_enough (k.counts_at ask.txn ask.at) (k.counts_at ask.txn ask.txn.at) k.by_amount ask.is_first ask.amount later))
+    (usage_within k counting s ask.txn (pos ask.amount) (cond ask.is_first (pos 1) (pos 0)) ask.at)
+  where
+    moved : (z : ℤ) (n : ℕ) → (z +ℤ pos n) ≤ℤ pos 0 → z ≤ℤ neg_ℤ (pos n)
+    moved z n h = omega (arith, ints, h)

@@ -112,7 +112,7 @@ same_or_zero : (b : Bool) (n m : ℕ) → n ≡ m → cond b n 0 ≡ cond b m 0
 same_or_zero true n m e = e
 same_or_zero false n m e = refl
 
-head_none : (b : Bool) (t : TxnNow) (o : Option TxnNow) → cond b (Some t) o ≡ None → (b ≡ false) × (o ≡ None)
+pub head_none : (b : Bool) (t : TxnNow) (o : Option TxnNow) → cond b (Some t) o ≡ None → (b ≡ false) × (o ≡ None)
 head_none true t o h = cc
 head_none false t o h = (refl, h)
 

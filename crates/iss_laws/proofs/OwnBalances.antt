@@ -1,5 +1,5 @@
 -- On the book of every legal list of records a user's balance is what the user owns.
-use Rattle.std.proofs.Common.{◌≡◌, ℕ, ℤ, ◌+ℤ◌, Bool, true, ◌&&◌, List, [], ◌∷◌, ◌++◌, fold, refl, sym, ap, ap₂, subst, ◌∙◌}
+use Rattle.std.proofs.Common.{◌≡◌, ℕ, ℤ, ◌+ℤ◌, Bool, true, ◌&&◌, List, [], ◌∷◌, ◌++◌, refl, sym, ap, ap₂, subst, ◌∙◌}
 use Rattle.std.proofs.lemmas.Bool.Decides.{Decides-int_eq}
 use Rattle.std.specs.Prelude.{Option, Some, None, option_map}
 use Rattle.std.specs.List.{list_all}
@@ -13,13 +13,12 @@ use Rattle.iss_model.specs.declared.setting.Funding.{Funding}
 use Rattle.iss_model.specs.Sums.{balance_changes, sum_at, user_key}
 use Rattle.iss_model.specs.rules.Activity.{TxnNow, txn_named}
 use Rattle.iss_model.specs.rules.CardReasons.{is_account_funded}
-use Rattle.iss_model.specs.rules.Due.{DueItem, due_items, thing_entries}
+use Rattle.iss_model.specs.rules.Due.{thing_entries}
 use Rattle.iss_model.specs.rules.Facts.{Facts, balance_in}
 use Rattle.iss_model.specs.rules.Histories.{History, IsLegal, history_facts, history_of}
-use Rattle.iss_model.specs.rules.Keeper.{Growth}
-use Rattle.iss_model.specs.rules.Stepping.{after_due, entries_of, settle, step}
+use Rattle.iss_model.specs.rules.Stepping.{entries_of, step}
 use Rattle.iss_model.specs.state.Cores.{CoreState, core_facts, core_keeper, core_of, with_record}
-use Rattle.iss_agreement.proofs.CoreOfBook.{entries_history, facts_history}
+use Rattle.iss_agreement.proofs.CoreOfBook.{facts_history}
 use Rattle.iss_invariants.specs.Sound.{IsNewEvent}
 use Rattle.iss_invariants.proofs.Legal.{legal_induction}
 use Rattle.iss_docket.proofs.Lists.{inside}
@@ -29,51 +28,34 @@ use Rattle.iss_pending.proofs.Steps.{ready_settled, ready_taken, step_well}
 use Rattle.iss_holdings.specs.Holdings.{IsHeldWell}
 use Rattle.iss_holdings.proofs.Steps.{HoldsWell, nothing_held, step_held, thing_held}
 use Rattle.iss_laws.specs.UserBalances.{EachBalanceIsOwn, accounts_named, balances_are_own, has_own_balance, is_own, own_changes, owned_in, pays_itself}
-use Rattle.iss_laws.proofs.HoldsWell.{longer}
+use Rattle.iss_acts.proofs.Stepping.{GoesThrough, step_leads}
 use Rattle.iss_laws.proofs.OwnInputs.{Agrees, agrees_before, input_same, thing_same}
 use Rattle.iss_laws.proofs.OwnPieces.{AddsSame, both_same, none_same}
-use Rattle.iss_laws.proofs.Rows.{step_summed, sum_among}
+use Rattle.iss_laws.proofs.Rows.{next_summed}
 
-module _ (own : List ℕ → Bool) (key : List ℕ) where
-  agrees_swept : (at : ℕ) (g : Growth CoreState) (items : List DueItem) → Agrees own (fold (settle core_keeper at) g items).world.holdings.txns → Agrees own g.world.holdings.txns
-  agrees_swept at g [] agrees = agrees
-  agrees_swept at g (item ∷ items) agrees = agrees_before own g.world (thing_entries item.thing at (core_facts g.world)) (agrees_swept at (settle core_keeper at g item) items agrees)
+-- what agrees with the later state agrees with the earlier one, and the entries between them add the same
+record AddsAsAgreed (own : List ℕ → Bool) (key : List ℕ) (s : CoreState) (es : List Entry) (later : CoreState) : Type 0 where
+  back : Agrees own later.holdings.txns → Agrees own s.holdings.txns
+  same : Agrees own later.holdings.txns → AddsSame own key es
 
-  -- what stands after due items: a record that was taken up still is, all is held well, and the entries so far add the same
-  record Swept (i : Input) (g : Growth CoreState) : Type 0 where
-    ready : HasTakenUp g.world i
-    held : IsHeldWell g.world
-    same : AddsSame own key g.entries
+-- a record was taken up, and all is held well
+record IsHeldReady (i : Input) (s : CoreState) : Type 0 where
+  taken : HasTakenUp s i
+  held : IsHeldWell s
 
-  swept : (at : ℕ) (g : Growth CoreState) (items : List DueItem) (i : Input) → Swept i g → Agrees own (fold (settle core_keeper at) g items).world.holdings.txns
-      → Swept i (fold (settle core_keeper at) g items)
-  swept at g [] i now agrees = now
-  swept at g (item ∷ items) i now agrees =
-      let s : CoreState = g.world in
-      swept at (settle core_keeper at g item) items i
-      (record {
-        ready = ready_settled s i item.thing at now.ready;
-        held = thing_held s i item at now.ready now.held;
-        same = both_same now.same (thing_same own key s item.thing at now.held (agrees_swept at g (item ∷ items) agrees));
-      }) agrees
+adds_through : (own : List ℕ → Bool) (key : List ℕ) (i : Input) (at : ℕ) → GoesThrough (IsHeldReady i) (AddsAsAgreed own key) i at
+adds_through own key i at =
+    record {
+      none = λ s. record { back = λ agrees. agrees; same = λ agrees. none_same };
+      then = λ s t u xs ys h k. record { back = λ agrees. h.back (k.back agrees); same = λ agrees. both_same (h.same (k.back agrees)) (k.same agrees) };
+      due = λ s thing ready. record { back = agrees_before own s (thing_entries thing at (core_facts s)); same = thing_same own key s thing at ready.taken.well ready.held };
+      own = λ s ready. record { back = agrees_before own s (entries_of i at (core_facts s)); same = input_same own key s i at ready.taken ready.held };
+      stays = λ s thing ready. record { taken = ready_settled s i thing at ready.taken; held = thing_held s i thing at ready.taken ready.held };
+    }
 
-  step_same : (s : CoreState) (r : Record) → IsNewEvent s r.input → IsWell s → IsHeldWell s → Agrees own (step core_keeper s r).world.holdings.txns → AddsSame own key (step core_keeper s r).entries
-  unfolding step
-  step_same s r new well held agrees =
-      let due : CoreState = (after_due core_keeper (with_record s r) r.at).world in
-      let sweep : Swept r.input (after_due core_keeper (with_record s r) r.at) =
-      swept r.at (record { world = with_record s r; entries = [] }) (due_items (core_facts (with_record s r)) r.at) r.input
-      (record { ready = ready_taken s r well new; held = held; same = none_same })
-      (agrees_before own due (entries_of r.input r.at (core_facts due)) agrees)
-      in
-      both_same sweep.same (input_same own key due r.input r.at sweep.ready sweep.held agrees)
-
-  step_agrees : (s : CoreState) (r : Record) → Agrees own (step core_keeper s r).world.holdings.txns → Agrees own s.holdings.txns
-  unfolding step
-  step_agrees s r agrees =
-      let due : CoreState = (after_due core_keeper (with_record s r) r.at).world in
-      agrees_swept r.at (record { world = with_record s r; entries = [] }) (due_items (core_facts (with_record s r)) r.at)
-      (agrees_before own due (entries_of r.input r.at (core_facts due)) agrees)
+step_adds : (own : List ℕ → Bool) (key : List ℕ) (s : CoreState) (r : Record) → IsNewEvent s r.input → IsWell s → IsHeldWell s
+    → AddsAsAgreed own key (with_record s r) (step core_keeper s r).entries (step core_keeper s r).world
+step_adds own key s r new well held = step_leads s r (adds_through own key r.input r.at) (record { taken = ready_taken s r well new; held = held })
 
 -- over all records ----
 
@@ -84,17 +66,9 @@ record IsOwned (rs : List Record) (s : CoreState) : Type 0 where
 same_more : (rs : List Record) (r : Record) (own : List ℕ → Bool) (key : List ℕ) → IsNewEvent (core_of rs) r.input → IsOwned rs (core_of rs) → Agrees own (step core_keeper (core_of rs) r).world.holdings.txns
     → sum_at balance_changes (4 ∷ key) (history_of (rs ++ r ∷ [])).rows ≡ sum_at (own_changes own) key (history_of (rs ++ r ∷ [])).rows
 same_more rs r own key new h agrees =
-    let book : History = history_of rs in
-    let es : List Entry = (step core_keeper (core_of rs) r).entries in
-    let before = h.same own key (step_agrees own key (core_of rs) r agrees) in
-    let added : AddsSame own key es = step_same own key (core_of rs) r new h.holds.well h.holds.held agrees in
-    ap (λ (h : History). sum_at balance_changes (4 ∷ key) h.rows) (longer rs r)
-    ∙ step_summed balance_changes (4 ∷ key) book r
-    ∙ ap (λ (es : List Entry). sum_at balance_changes (4 ∷ key) book.rows +ℤ sum_among balance_changes (4 ∷ key) es) (sym (entries_history rs r))
-    ∙ ap₂ (λ (x y : ℤ). x +ℤ y) before added.same
-    ∙ ap (λ (es : List Entry). sum_at (own_changes own) key book.rows +ℤ sum_among (own_changes own) key es) (entries_history rs r)
-    ∙ sym (step_summed (own_changes own) key book r)
-    ∙ ap (λ (h : History). sum_at (own_changes own) key h.rows) (sym (longer rs r))
+    let adds = step_adds own key (core_of rs) r new h.holds.well h.holds.held in
+    let before = h.same own key (adds.back agrees) in
+    next_summed balance_changes (4 ∷ key) rs r ∙ ap₂ (λ (x y : ℤ). x +ℤ y) before (adds.same agrees).same ∙ sym (next_summed (own_changes own) key rs r)
 
 all_owned : (rs : List Record) → IsLegal rs → IsOwned rs (core_of rs)
 all_owned rs legal =

@@ -1,5 +1,5 @@
 -- What is due and what each kind of input makes adds to a user's balance what it adds to what the user owns.
-use Rattle.std.proofs.Common.{◌≡◌, ℕ, ℤ, pos, neg_ℤ, ◌+ℤ◌, ◌+◌, ◌-◌, min, Bool, true, false, not, cond, ◌&&◌, ◌||◌, nat_eq, List, [], ◌∷◌, ◌++◌, fold, refl, sym, ap, ◌∙◌, arith}
+use Rattle.std.proofs.Common.{subst, ◌≡◌, ℕ, ℤ, pos, neg_ℤ, ◌+ℤ◌, ◌+◌, ◌-◌, min, Bool, true, false, not, cond, List, [], ◌∷◌, ◌++◌, fold, refl, sym, ap, ◌∙◌, arith}
 use Rattle.std.proofs.lemmas.Int.{ints}
 use Rattle.std.specs.Prelude.{Option, Some, None, option_map}
 use Rattle.std.specs.List.{list_all}
@@ -8,11 +8,8 @@ use Rattle.std.specs.Str.{bytes_eq}
 use Rattle.iss_model.specs.declared.account.Account.TheVariants as account
 use Rattle.iss_model.specs.declared.account.Part.{Part}
 use Rattle.iss_model.specs.declared.account.Part.TheVariants as part
-use Rattle.iss_model.specs.declared.call.Failure.{Failure}
-use Rattle.iss_model.specs.declared.call.Failure.TheVariants as failure
 use Rattle.iss_model.specs.declared.call.How.TheVariants as how
 use Rattle.iss_model.specs.declared.call.Method.TheVariants as method
-use Rattle.iss_model.specs.declared.call.Opened.{Opened}
 use Rattle.iss_model.specs.declared.currency.Currency.{Currency}
 use Rattle.iss_model.specs.declared.decision.Reason.{Reason}
 use Rattle.iss_model.specs.declared.decision.Reason.TheVariants as reason
@@ -21,35 +18,39 @@ use Rattle.iss_model.specs.declared.entry.Entry.{Entry}
 use Rattle.iss_model.specs.declared.entry.Entry.TheVariants as entry
 use Rattle.iss_model.specs.declared.input.Input.{Input}
 use Rattle.iss_model.specs.declared.input.Input.TheVariants as input
-use Rattle.iss_model.specs.declared.input.Outcome.{Outcome}
-use Rattle.iss_model.specs.declared.input.Outcome.TheVariants as outcome
 use Rattle.iss_model.specs.declared.setting.Funding.{Funding}
 use Rattle.iss_model.specs.declared.setting.Moved.TheVariants as moved
-use Rattle.iss_model.specs.declared.setting.Product.{Product}
 use Rattle.iss_model.specs.declared.txn.Txn.{Txn}
 use Rattle.iss_model.specs.Sums.{user_key}
-use Rattle.iss_model.specs.rules.Activity.{TxnNow, CallNow, call_numbered, is_asked, txn_named}
-use Rattle.iss_model.specs.rules.Asks.{Ask, ask_given_back, ask_usage, call_ask}
-use Rattle.iss_model.specs.rules.CardEntries.{authorization_entries, call_for, clearing_entries, entries_of_asked, entries_of_txn, failed_call_entries, funding_entries, gateway_ask_entries, increment_entries, outcome_entries, owed_to_programme, refund_entries, reversal_entries}
-use Rattle.iss_model.specs.rules.CardReasons.{authorization_reason, clearing_reason, increment_reason, is_account_funded, refund_reason, reversal_reason, further_ask}
-use Rattle.iss_model.specs.rules.Due.{DueThing, call_due, live_expiry_entries, thing_entries, txn_due}
-use Rattle.iss_model.specs.rules.Facts.{Facts, asked_calls_of, is_notice, next_notice, not_below, txn_in}
-use Rattle.iss_model.specs.rules.Pieces.{Parts, abandoned_calls_entries, declined_ask_entries, end_entries, failure_reason, hold_entries, in_all, left_of, notice_after_abandonment, notice_entry, only_gateway, only_where, parts_held, post_entries, stand_entries, taken_to_clear, user_account, void_entry}
-use Rattle.iss_model.specs.rules.Reasons.{is_some_with, load_reason}
-use Rattle.iss_model.specs.rules.Settings.{is_named_in, product_named}
-use Rattle.iss_model.specs.rules.StandIns.{Stand, allowed, over_limit, stand, uncovered}
-use Rattle.iss_model.specs.rules.Stepping.{authorization_ask, entries_of, increment_ask, load_entries, setting_entries, unless_declined}
+use Rattle.iss_model.specs.rules.Activity.{TxnNow, CallNow, txn_named}
+use Rattle.iss_model.specs.rules.Asks.{Ask, ask_given_back, call_ask}
+use Rattle.iss_model.specs.rules.CardEntries.{owed_to_programme}
+use Rattle.iss_model.specs.rules.CardReasons.{is_account_funded}
+use Rattle.iss_model.specs.rules.Due.{DueThing, thing_entries}
+use Rattle.iss_model.specs.rules.Facts.{not_below}
+use Rattle.iss_model.specs.rules.Pieces.{abandoned_calls_entries, declined_ask_entries, hold_entries, notice_entry, parts_held, post_entries, user_account}
+use Rattle.iss_model.specs.rules.Reasons.{is_some_with}
+use Rattle.iss_model.specs.rules.Stepping.{entries_of, load_entries}
 use Rattle.iss_model.specs.state.Cores.{CoreState, after_entry, after_setting, core_facts, is_live, txn_after_end}
-use Rattle.iss_invariants.proofs.Walk.{EachKind, walk}
-use Rattle.iss_docket.specs.Well.{IsAsked}
 use Rattle.iss_docket.proofs.Entering.{same_txn, txn_more}
 use Rattle.iss_pending.specs.Pending.{HasTakenUp}
 use Rattle.iss_pending.proofs.Due.{its_token}
 use Rattle.iss_holdings.specs.Holdings.{IsHeldWell, is_part_of, part_sum}
-use Rattle.iss_holdings.proofs.Asks.{asked_gateway}
+use Rattle.std.proofs.lemmas.List.Sums.{fold-append}
+use Rattle.iss_model.specs.declared.account.Account.{Account}
+use Rattle.iss_acts.specs.Acts.{Abandons, Act, Begins, Clears, Fails, Funds, GivesBack, HoldsOwn, LetsGo, Loads, Refuses, StandsIn, TurnsDown, Uses, act_entries}
+use Rattle.iss_acts.specs.Causes.{Cause, ComesOf, FallsDue}
+use Rattle.iss_acts.specs.Sources.{IsMade, IsStart, IsTxnOf}
+use Rattle.iss_acts.specs.Stages.{Fresh, Seeks, Stage, stage_after}
+use Rattle.iss_acts.proofs.Walk.{Goes, due_goes, from_start, own_goes, txn_of_ask, txn_of_call}
+use Rattle.iss_docket.proofs.Lists.{inside}
+use Rattle.iss_docket.specs.Dockets.{docket_of}
+use Rattle.iss_docket.specs.Well.{IsWellAmong, Known}
+use Rattle.iss_holdings.proofs.Acts.{IsReadyFor, ask_of_gateway, call_of_gateway}
+use Rattle.iss_holdings.proofs.Begun.{begun_stands, first_unnamed}
 use Rattle.iss_holdings.proofs.Changes.{txn_ended}
-use Rattle.iss_holdings.proofs.Inputs.{begun_stands, unnamed, authorization_token}
-use Rattle.iss_laws.proofs.OwnPieces.{Adds, AddsSame, AreOfFunding, amount_where, both_add, both_same, calm_adds, calm_same, clearing_same, comes_same, either_same, from_gateway, from_network, from_programme, back_to_gateway, back_to_programme, left_of_funding, more_held, moves_nothing, none_same, release_same}
+use Rattle.iss_holdings.proofs.Inputs.{due_ready, input_ready}
+use Rattle.iss_laws.proofs.OwnPieces.{Adds, AddsSame, AreOfFunding, amount_where, back_to_gateway, back_to_programme, both_add, both_same, calm_adds, calm_same, clearing_same, comes_same, either_same, from_gateway, from_network, from_programme, more_held, moves_nothing, none_same, release_same, within_funding}
 
 -- the funding of transactions ----
 
@@ -90,44 +91,30 @@ entries_funding s (e ∷ es) token f h = entries_funding (after_entry s e) es to
 pub agrees_before : (own : List ℕ → Bool) (s : CoreState) (es : List Entry) → Agrees own (fold after_entry s es).holdings.txns → Agrees own s.holdings.txns
 agrees_before own s es h = record { at = λ token f e. h.at token f (entries_funding s es token f e) }
 
--- of a transaction that is found
-its_own : (own : List ℕ → Bool) (txns : List TxnNow) (token : List ℕ) (t : TxnNow) → Agrees own txns → txn_named token txns ≡ Some t → own t.txn.token ≡ is_account_funded t.txn.funding
-its_own own txns token t agrees e = ap own (its_token txns token t e) ∙ agrees.at token t.txn.funding (ap (option_map (λ (t : TxnNow). t.txn.funding)) e)
+-- a transaction of the facts stands with its funding
+its_funding : (s : CoreState) (t : Txn) → IsTxnOf (core_facts s) t → funding_of s.holdings.txns t.token ≡ Some t.funding
+its_funding s t its =
+    subst (λ (t : Txn). funding_of s.holdings.txns t.token ≡ Some t.funding) its.same
+    (ap (funding_of s.holdings.txns) (its_token s.holdings.txns its.token its.now its.stands) ∙ ap (option_map (λ (t : TxnNow). t.txn.funding)) its.stands)
 
 module _ (own : List ℕ → Bool) (key : List ℕ) where
-  -- the parts of a transaction that is found are such as its funding gives
-  parts_of_funding : (s : CoreState) (token : List ℕ) (t : TxnNow) → IsHeldWell s → own t.txn.token ≡ is_account_funded t.txn.funding → txn_named token s.holdings.txns ≡ Some t
-      → AreOfFunding own key t.txn (parts_held (core_facts s) t.txn)
-  parts_of_funding s token t held its stands =
+  -- and what it holds is such as its funding gives
+  parts_of_funding : (s : CoreState) (t : Txn) → IsHeldWell s → IsTxnOf (core_facts s) t → own t.token ≡ is_account_funded t.funding → AreOfFunding own key t (parts_held (core_facts s) t)
+  parts_of_funding s t held of_facts its =
       record {
-        own_alone = λ e. sum (parts_held (core_facts s) t.txn).g (parts_held (core_facts s) t.txn).p (none part.G (ap not (sym its ∙ e))) (none part.P (ap not (sym its ∙ e)));
+        own_alone = λ e. sum (parts_held (core_facts s) t).g (parts_held (core_facts s) t).p (none part.G (ap not (sym its ∙ e))) (none part.P (ap not (sym its ∙ e)));
         others = λ e. none part.S (sym its ∙ e);
       }
     where
       sum : (g p : ℕ) → g ≡ 0 → p ≡ 0 → g + p ≡ 0
       sum g p e h = omega (arith, e, h)
 
-      stands_itself : txn_named t.txn.token s.holdings.txns ≡ Some t
-      stands_itself = ap (λ (k : List ℕ). txn_named k s.holdings.txns) (its_token s.holdings.txns token t stands) ∙ stands
+      found : (p : Part) (now : Option TxnNow) → option_map (λ t. t.txn.funding) now ≡ Some t.funding → is_some_with (λ (t : TxnNow). is_part_of p t.txn.funding) now ≡ is_part_of p t.funding
+      found p None e = cc
+      found p (Some now) e = ap (is_part_of p) (inside e)
 
-      none : (p : Part) → is_part_of p t.txn.funding ≡ false → not_below (part_sum s.holdings.parts t.txn.token p) ≡ 0
-      none p e = ap not_below (held.funded t.txn.token p (ap (is_some_with (λ (t : TxnNow). is_part_of p t.txn.funding)) stands_itself ∙ e))
-
-  -- ends ----
-
-  abandoned_nothing : (number : ℕ) (t : Txn) (why : Reason) (cs : List CallNow) → list_all moves_nothing (abandoned_calls_entries number t why cs) ≡ true
-  abandoned_nothing number t why [] = refl
-  abandoned_nothing number t why (c ∷ cs) = abandoned_nothing (number + 1) t why cs
-
-  gateway_calm : (t : Txn) (es : List Entry) → list_all moves_nothing es ≡ true → AddsSame own key (only_gateway t es)
-  gateway_calm t es h = either_same (is_account_funded t.funding) none_same (calm_same h)
-
-  where_calm_same : (n : ℕ) (es : List Entry) → list_all moves_nothing es ≡ true → AddsSame own key (only_where n es)
-  where_calm_same n es h = either_same (nat_eq n 0) none_same (calm_same h)
-
-  end_same : (number : ℕ) (f : Facts) (t : Txn) (x : Parts) (why : Reason) → AreOfFunding own key t x → AddsSame own key (end_entries number f t x why)
-  end_same number f t x why of_funding =
-      both_same (both_same (calm_same (abandoned_nothing number t why (asked_calls_of f t.token))) (release_same own key t x (in_all x) of_funding)) (calm_same {es = entry.Ended t.token ∷ []} refl)
+      none : (p : Part) → is_part_of p t.funding ≡ false → not_below (part_sum s.holdings.parts t.token p) ≡ 0
+      none p e = ap not_below (held.funded t.token p (found p (txn_named t.token s.holdings.txns) (its_funding s t of_facts) ∙ e))
 
   -- asks ----
 
@@ -141,175 +128,41 @@ module _ (own : List ℕ → Bool) (key : List ℕ) where
   paid_sum false true n e = omega (arith, ints)
   paid_sum false false n e = refl
 
-  gateway_pays : (t : Txn) (p : Part) (n : ℕ) → own t.token ≡ false → AddsSame own key (post_entries t (account.Gateway t.currency) (user_account t) n ++ hold_entries t p n)
-  gateway_pays t p n e = comes_same (both_add (from_gateway own key t n) (more_held own key t p n)) (paid_sum (own t.token) (bytes_eq (user_key t.user t.currency) key) n e)
-
-  programme_pays : (t : Txn) (p : Part) (n : ℕ) → own t.token ≡ false → AddsSame own key (post_entries t (account.Programme t.currency) (user_account t) n ++ hold_entries t p n)
-  programme_pays t p n e = comes_same (both_add (from_programme own key t n) (more_held own key t p n)) (paid_sum (own t.token) (bytes_eq (user_key t.user t.currency) key) n e)
+  paid_same : (t : Txn) (from : Account) (p : Part) (n : ℕ) → Adds own key (post_entries t from (user_account t) n) (amount_where (bytes_eq (user_key t.user t.currency) key) (pos n)) (pos 0) → own t.token ≡ false
+      → AddsSame own key (post_entries t from (user_account t) n ++ hold_entries t p n)
+  paid_same t from p n pays e = comes_same (both_add pays (more_held own key t p n)) (paid_sum (own t.token) (bytes_eq (user_key t.user t.currency) key) n e)
 
   own_held_sum : (a : Bool) (z : ℤ) → a ≡ true → pos 0 ≡ amount_where (not a) z
   own_held_sum true z e = refl
   own_held_sum false z e = cc
 
-  stand_same : (x : Stand) (number : ℕ) (ask : Ask) (why : Failure) (at : ℕ) → own ask.txn.token ≡ false → AddsSame own key (stand_entries x number ask why at)
-  stand_same (allowed x) number ask why at e =
-      both_same {xs = entry.Stood x.name ask.txn.product ask.txn.user ask.amount at ∷ []} (calm_same refl)
-      (both_same (programme_pays ask.txn part.P ask.amount e)
-      (calm_same {es = notice_entry number method.StandIn ask.txn None ask.amount 0 ∷ entry.Decided ask.event verdict.Approved ∷ []} refl))
-  stand_same (over_limit x) number ask why at e = declined_same ask (reason.StandInLimit x.name)
-  stand_same uncovered number ask why at e = declined_same ask (failure_reason why)
+  -- refunds and loads ----
 
-  sought_of_gateway : (product : Option Product) (f : Facts) (ask : Ask) → own ask.txn.token ≡ false → AddsSame own key (gateway_ask_entries product f ask)
-  sought_of_gateway None f ask e = none_same
-  sought_of_gateway (Some product) f ask e =
-      either_same (is_named_in f.switched product.name) (stand_same (stand f ask failure.Switch ask.at) (next_notice f) ask failure.Switch ask.at e) (calm_same {es = entry.Opened (call_for f product ask) ∷ []} refl)
-
-  funding_same : (f : Facts) (ask : Ask) → own ask.txn.token ≡ is_account_funded ask.txn.funding → AddsSame own key (funding_entries f ask)
-  funding_same f ask its = by (is_account_funded ask.txn.funding) its
-    where
-      by : (b : Bool) → own ask.txn.token ≡ b
-          → AddsSame own key (cond b (hold_entries ask.txn part.S ask.amount ++ entry.Decided ask.event verdict.Approved ∷ []) (gateway_ask_entries (product_named ask.txn.product f.products) f ask))
-      by true e =
-          both_same (comes_same (more_held own key ask.txn part.S ask.amount) (own_held_sum (own ask.txn.token) (amount_where (bytes_eq (user_key ask.txn.user ask.txn.currency) key) (pos ask.amount)) e))
-          (calm_same {es = entry.Decided ask.event verdict.Approved ∷ []} refl)
-      by false e = sought_of_gateway (product_named ask.txn.product f.products) f ask e
-
-  -- calls ----
-
-  -- a way to settle a call of a transaction that the gateway pays
-  abbrev pub SettlesSame : (Opened → Txn → List Entry) → Type 0
-  SettlesSame make = (o : Opened) (t : Txn) → own t.token ≡ false → AddsSame own key (make o t)
-
-  failed_same : (f : Facts) (why : Failure) (at : ℕ) → SettlesSame (λ o t. failed_call_entries f o t why at)
-  failed_same f why at o t e =
-      both_same {xs = entry.Closed o.call (how.Failed why) ∷ void_entry (next_notice f) t o ∷ []} (calm_same refl) (stand_same (stand f (call_ask o t) why at) (next_notice f + 1) (call_ask o t) why at e)
-
-  outcome_same : (what : Outcome) (f : Facts) (at : ℕ) → SettlesSame (λ o t. outcome_entries what f o t at)
-  outcome_same outcome.Funded f at o t e =
-      both_same {xs = entry.Closed o.call how.Funded ∷ []} (calm_same refl)
-      (both_same (gateway_pays t part.G o.amount e) (calm_same {es = entry.Decided o.event verdict.Approved ∷ []} refl))
-  outcome_same outcome.Refused f at o t e = both_same {xs = entry.Closed o.call how.Refused ∷ []} (calm_same refl) (declined_same (call_ask o t) reason.GatewayDeclined)
-  outcome_same outcome.Connection f at o t e = failed_same f failure.Connection at o t e
-  outcome_same outcome.Application f at o t e = failed_same f failure.Application at o t e
-
-  asked_same : (s : CoreState) (make : Opened → Txn → List Entry) (n : ℕ) → SettlesSame make → IsHeldWell s → Agrees own s.holdings.txns
-      → AddsSame own key (entries_of_asked make (call_numbered n s.calls) (core_facts s))
-  asked_same s make n settles held agrees = found (call_numbered n s.calls) refl
-    where
-      of_txn : (c : CallNow) → IsAsked s.calls n c → (now : Option TxnNow) → txn_named c.opened.txn s.holdings.txns ≡ now → AddsSame own key (entries_of_txn (make c.opened) now)
-      of_txn c now None e = none_same
-      of_txn c now (Some t) e = settles c.opened t.txn (its_own own s.holdings.txns c.opened.txn t agrees e ∙ asked_gateway s n c t held now e)
-
-      of_call : (c : CallNow) → call_numbered n s.calls ≡ Some c → (b : Bool) → is_asked c ≡ b
-          → AddsSame own key (cond b (entries_of_txn (make c.opened) (txn_named c.opened.txn s.holdings.txns)) [])
-      of_call c e true h = of_txn c (record { stands = e; asked = h }) (txn_named c.opened.txn s.holdings.txns) refl
-      of_call c e false h = none_same
-
-      found : (o : Option CallNow) → call_numbered n s.calls ≡ o → AddsSame own key (entries_of_asked make o (core_facts s))
-      found None e = none_same
-      found (Some c) e = of_call c e (is_asked c) refl
-
-  -- what is due ----
-
-  expired_same : (s : CoreState) (token : List ℕ) (now : Option TxnNow) → IsHeldWell s → Agrees own s.holdings.txns → txn_named token s.holdings.txns ≡ now
-      → AddsSame own key (live_expiry_entries (core_facts s) now)
-  expired_same s token None held agrees e = none_same
-  expired_same s token (Some now) held agrees e =
-      let f : Facts = core_facts s in
-      let t : Txn = now.txn in
-      let x : Parts = parts_held f t in
-      let notice : List Entry = notice_entry (notice_after_abandonment (next_notice f) f t) method.Expiry t None (in_all x) x.g ∷ [] in
-      either_same now.live
-      (both_same (end_same (next_notice f) f t x reason.Expired (parts_of_funding s token now held (its_own own s.holdings.txns token now agrees e) e))
-      (either_same (is_account_funded t.funding) none_same (where_calm_same (in_all x) notice refl)))
-      none_same
-
-  pub thing_same : (s : CoreState) (thing : DueThing) (at : ℕ) → IsHeldWell s → Agrees own s.holdings.txns → AddsSame own key (thing_entries thing at (core_facts s))
-  thing_same s (call_due number) at held agrees = asked_same s (λ (o : Opened) (t : Txn). failed_call_entries (core_facts s) o t failure.Timeout at) number (failed_same (core_facts s) failure.Timeout at) held agrees
-  thing_same s (txn_due token) at held agrees = expired_same s token (txn_named token s.holdings.txns) held agrees refl
-
-  -- reversals, clearings, refunds and loads ----
-
-  reversed_same : (s : CoreState) (event token : List ℕ) (amount : ℕ) (now : Option TxnNow) → IsHeldWell s → Agrees own s.holdings.txns → txn_named token s.holdings.txns ≡ now
-      → AddsSame own key (reversal_entries (core_facts s) event amount now)
-  reversed_same s event token amount None held agrees e = none_same
-  reversed_same s event token amount (Some now) held agrees e =
-      let f : Facts = core_facts s in
-      let t : Txn = now.txn in
-      let x : Parts = parts_held f t in
-      let freed : ℕ = min amount (in_all x) in
-      let notice : List Entry = notice_entry (notice_after_abandonment (next_notice f) f t) method.Reversal t None freed (min (freed - x.p) x.g) ∷ [] in
-      both_same (both_same (both_same (both_same (calm_same (abandoned_nothing (next_notice f) t reason.Reversed (asked_calls_of f t.token)))
-      (release_same own key t x freed (parts_of_funding s token now held (its_own own s.holdings.txns token now agrees e) e)))
-      (either_same (nat_eq freed (in_all x)) {xs = entry.Ended t.token ∷ []} (calm_same refl) none_same))
-      (either_same (is_account_funded t.funding) none_same (where_calm_same freed notice refl)))
-      (calm_same {es = entry.Decided event verdict.Done ∷ []} refl)
-
-  cleared_same : (s : CoreState) (event token : List ℕ) (amount : ℕ) (last : Bool) (at : ℕ) (now : Option TxnNow) → IsHeldWell s → Agrees own s.holdings.txns
-      → txn_named token s.holdings.txns ≡ now
-      → AddsSame own key (clearing_entries (core_facts s) event amount last at now)
-  cleared_same s event token amount last at None held agrees e = none_same
-  cleared_same s event token amount last at (Some now) held agrees e =
-      let f : Facts = core_facts s in
-      let t : Txn = now.txn in
-      let x : Parts = parts_held f t in
-      let taken : Parts = taken_to_clear x amount in
-      let rest : Parts = left_of x taken in
-      let its : own t.token ≡ is_account_funded t.funding = its_own own s.holdings.txns token now agrees e in
-      let of_funding : AreOfFunding own key t x = parts_of_funding s token now held its e in
-      let last_notice : List Entry = notice_entry (notice_after_abandonment (next_notice f) f t) method.Capture t None amount rest.g ∷ [] in
-      let notice : List Entry = notice_entry (next_notice f) method.Capture t None amount 0 ∷ [] in
-      both_same (both_same (clearing_same own key t x amount at its of_funding)
-      (either_same (now.live && (last || nat_eq (in_all rest) 0))
-      (both_same (end_same (next_notice f) f t rest reason.Cleared (left_of_funding own key t x taken of_funding)) (gateway_calm t last_notice refl))
-      (gateway_calm t notice refl)))
-      (calm_same {es = entry.Decided event verdict.Done ∷ []} refl)
-
-  refund_sum : (a b : Bool) (programme amount : ℕ)
-      → (amount_where b (pos amount) +ℤ amount_where (not a) ((amount_where b (neg_ℤ (pos (min amount programme))) +ℤ amount_where b (neg_ℤ (pos (amount - min amount programme)))) +ℤ pos 0))
+  refund_sum : (a c b : Bool) (owed amount : ℕ) → a ≡ c
+      → (amount_where b (pos amount) +ℤ amount_where (not c) (amount_where b (neg_ℤ (pos (min amount owed))) +ℤ amount_where b (neg_ℤ (pos (amount - min amount owed)))))
       ≡ (amount_where a (amount_where b (pos amount)) +ℤ pos 0)
-  refund_sum true b programme amount = refl
-  refund_sum false true programme amount = whole amount (min amount programme) (low amount programme)
+  refund_sum true true b owed amount e = refl
+  refund_sum false false true owed amount e = whole amount (min amount owed) (low amount owed)
     where
       low : (a b : ℕ) → min a b + (a - min a b) ≡ a
       low a b = omega arith
 
-      whole : (n m : ℕ) → m + (n - m) ≡ n → pos n +ℤ ((neg_ℤ (pos m) +ℤ neg_ℤ (pos (n - m))) +ℤ pos 0) ≡ pos 0 +ℤ pos 0
+      whole : (n m : ℕ) → m + (n - m) ≡ n → pos n +ℤ (neg_ℤ (pos m) +ℤ neg_ℤ (pos (n - m))) ≡ pos 0 +ℤ pos 0
       whole n m e = omega (arith, ints, e)
-  refund_sum false false programme amount = refl
+  refund_sum false false false owed amount e = refl
+  refund_sum true false b owed amount e = cc
+  refund_sum false true b owed amount e = cc
 
-  refunded_same : (s : CoreState) (event token : List ℕ) (amount : ℕ) (now : Option TxnNow) → Agrees own s.holdings.txns → txn_named token s.holdings.txns ≡ now
-      → AddsSame own key (refund_entries (core_facts s) event amount now)
-  refunded_same s event token amount None agrees e = none_same
-  refunded_same s event token amount (Some now) agrees e =
-      both_same (comes_same (both_add (from_network own key now.txn amount) (back (is_account_funded now.txn.funding)))
-      (by (own now.txn.token) (is_account_funded now.txn.funding) (its_own own s.holdings.txns token now agrees e)))
-      (calm_same {es = entry.Decided event verdict.Done ∷ []} refl)
-    where
-      owed : ℕ
-      owed = owed_to_programme (core_facts s) now.txn
+  back_paid : (t : Txn) (amount programme : ℕ) (a : Bool)
+      → Adds own key (cond a [] (post_entries t (user_account t) (account.Programme t.currency) programme ++ post_entries t (user_account t) (account.Gateway t.currency) (amount - programme)))
+      (amount_where (not a) (amount_where (bytes_eq (user_key t.user t.currency) key) (neg_ℤ (pos programme)) +ℤ amount_where (bytes_eq (user_key t.user t.currency) key) (neg_ℤ (pos (amount - programme))))) (pos 0)
+  back_paid t amount programme true = calm_adds {es = []} refl
+  back_paid t amount programme false = both_add (back_to_programme own key t programme) (back_to_gateway own key t (amount - programme))
 
-      programme : ℕ
-      programme = min amount (owed_to_programme (core_facts s) now.txn)
-
-      its : Bool
-      its = bytes_eq (user_key now.txn.user now.txn.currency) key
-
-      back : (a : Bool)
-          → Adds own key (cond a [] (post_entries now.txn (user_account now.txn) (account.Programme now.txn.currency) programme
-          ++ post_entries now.txn (user_account now.txn) (account.Gateway now.txn.currency) (amount - programme)
-          ++ notice_entry (next_notice (core_facts s)) method.Refund now.txn None amount (amount - programme) ∷ []))
-          (amount_where (not a) ((amount_where its (neg_ℤ (pos programme)) +ℤ amount_where its (neg_ℤ (pos (amount - programme)))) +ℤ pos 0)) (pos 0)
-      back true = calm_adds {es = []} refl
-      back false = both_add (both_add (back_to_programme own key now.txn programme) (back_to_gateway own key now.txn (amount - programme))) (calm_adds {es = notice_entry (next_notice (core_facts s)) method.Refund now.txn None amount (amount - programme) ∷ []} refl)
-
-      by : (a c : Bool) → a ≡ c
-          → (amount_where its (pos amount) +ℤ amount_where (not c) ((amount_where its (neg_ℤ (pos programme)) +ℤ amount_where its (neg_ℤ (pos (amount - programme)))) +ℤ pos 0))
-          ≡ (amount_where a (amount_where its (pos amount)) +ℤ pos 0)
-      by true true e = refund_sum true its owed amount
-      by true false e = cc
-      by false true e = cc
-      by false false e = refund_sum false its owed amount
+  refunded_same : (t : Txn) (amount owed : ℕ) → own t.token ≡ is_account_funded t.funding → AddsSame own key (act_entries (GivesBack t amount (min amount owed)))
+  refunded_same t amount owed e =
+      comes_same (both_add (from_network own key t amount) (back_paid t amount (min amount owed) (is_account_funded t.funding)))
+      (refund_sum (own t.token) (is_account_funded t.funding) (bytes_eq (user_key t.user t.currency) key) owed amount e)
 
   loaded_same : (token user : List ℕ) (c : Currency) (n : ℕ) → AddsSame own key (load_entries token user c n)
   loaded_same token user c n = by (bytes_eq (user_key user c) key) refl
@@ -320,65 +173,103 @@ module _ (own : List ℕ → Bool) (key : List ℕ) where
       by : (b : Bool) → bytes_eq (user_key user c) key ≡ b → AddsSame own key (load_entries token user c n)
       by b e = record { same = alike (cond (bytes_eq (user_key user c) key) (pos n) (pos 0)) }
 
-  -- all inputs ----
+  abandoned_same : (number : ℕ) (t : Txn) (why : Reason) (calls : List CallNow) → AddsSame own key (abandoned_calls_entries number t why calls)
+  abandoned_same number t why calls = calm_same (nothing number calls)
+    where
+      nothing : (number : ℕ) (calls : List CallNow) → list_all moves_nothing (abandoned_calls_entries number t why calls) ≡ true
+      nothing number [] = refl
+      nothing number (c ∷ calls) = nothing (number + 1) calls
 
-  unless_same : (s : CoreState) (why : Option Reason) (token : List ℕ) (es : List Entry) → Agrees own (fold after_entry s (unless_declined why token es)).holdings.txns
-      → (Agrees own (fold after_entry s es).holdings.txns → AddsSame own key es) → AddsSame own key (unless_declined why token es)
-  unless_same s None token es agrees same = same agrees
-  unless_same s (Some why) token es agrees same = calm_same refl
+-- What stands at each stage: an ask that is to be settled is of a transaction with its funding.
+abbrev StandsAt : CoreState → Stage → CoreState → Type 0
+StandsAt s Fresh q = q ≡ s
+StandsAt s (Seeks ask) q = funding_of q.holdings.txns ask.txn.token ≡ Some ask.txn.funding
+StandsAt s _ q = Unit {0}
 
-  authorized_same : (s : CoreState) (token : List ℕ) (ask : Option Ask) → txn_named token s.holdings.txns ≡ None → ((x : Ask) → ask ≡ Some x → x.txn.token ≡ token)
-      → Agrees own (fold after_entry s (authorization_entries (core_facts s) ask)).holdings.txns → AddsSame own key (authorization_entries (core_facts s) ask)
-  authorized_same s token None none its agrees = none_same
-  authorized_same s token (Some x) none its agrees =
-      let begun : CoreState = after_entry (after_entry s (entry.Began x.txn)) (entry.Usage (ask_usage x)) in
-      let before : Agrees own begun.holdings.txns = agrees_before own begun (funding_entries (core_facts s) x) agrees in
-      let unnamed_it : txn_named x.txn.token s.holdings.txns ≡ None = ap (λ (k : List ℕ). txn_named k s.holdings.txns) (its x refl) ∙ none in
-      both_same {xs = entry.Began x.txn ∷ entry.Usage (ask_usage x) ∷ []} (calm_same refl)
-      (funding_same (core_facts s) x (before.at x.txn.token x.txn.funding (ap (option_map (λ (t : TxnNow). t.txn.funding)) (begun_stands s.holdings.txns x.txn unnamed_it))))
+-- what agrees there agrees with the first state too
+record IsKnown (own : List ℕ → Bool) (s : CoreState) (g : Stage) (q : CoreState) : Type 0 where
+  back : Agrees own q.holdings.txns → Agrees own s.holdings.txns
+  stands : StandsAt s g q
 
-  raised_same : (s : CoreState) (event txn : List ℕ) (amount at : ℕ) (now : Option TxnNow) → txn_named txn s.holdings.txns ≡ now → Agrees own s.holdings.txns
-      → AddsSame own key (increment_entries (core_facts s) (option_map (λ now. further_ask event amount at now.txn) now))
-  raised_same s event txn amount at None e agrees = none_same
-  raised_same s event txn amount at (Some now) e agrees =
-      both_same {xs = entry.Usage (ask_usage (further_ask event amount at now.txn)) ∷ []} (calm_same refl)
-      (funding_same (core_facts s) (further_ask event amount at now.txn) (its_own own s.holdings.txns txn now agrees e))
+module _ (own : List ℕ → Bool) (key : List ℕ) (by : Cause) (at : ℕ) (s : CoreState) (ready : IsReadyFor by s) where
+  -- what stands at the stage that this is
+  here : {g : Stage} (q : CoreState) (h : Stage) → g ≡ h → IsKnown own s g q → StandsAt s h q
+  here q h e k = subst (λ (g : Stage). StandsAt s g q) e k.stands
 
-  -- what an input's entries add where its record was taken up
-  abbrev SameWhereReady : CoreState → Input → List Entry → Type 0
-  SameWhereReady s i es = HasTakenUp s i → IsHeldWell s → Agrees own (fold after_entry s es).holdings.txns → AddsSame own key es
+  stands_next : (g : Stage) (q : CoreState) (a : Act) → IsMade (core_facts s) by at g a → IsKnown own s g q → StandsAt s (stage_after g a) (fold after_entry q (act_entries a))
+  stands_next g q (Begins ask) made k =
+      subst (λ (q : CoreState). funding_of (fold after_entry q (act_entries (Begins ask))).holdings.txns ask.txn.token ≡ Some ask.txn.funding) (sym (here q Fresh made.from.0 k))
+      (ap (option_map (λ (t : TxnNow). t.txn.funding)) (begun_stands s.holdings.txns ask.txn (first_unnamed s ask ready.taken made.from.1)))
+  stands_next g q (Uses ask) made k =
+      subst (λ (q : CoreState). funding_of q.holdings.txns ask.txn.token ≡ Some ask.txn.funding) (sym (here q Fresh made.from.0 k)) (its_funding s ask.txn (txn_of_ask made.from.1))
+  stands_next g q (Fails number o t why) made k =
+      subst (λ (q : CoreState). funding_of q.holdings.txns t.token ≡ Some t.funding) (sym (here q Fresh made.from.0 k)) (its_funding s t (txn_of_call made.from.1))
+  stands_next g q _ made k = tt
 
-  each_kind : (s : CoreState) (at : ℕ) → EachKind (SameWhereReady s) (core_facts s) at
-  each_kind s at =
-      let f : Facts = core_facts s in
+  known_next : (g : Stage) (q : CoreState) (a : Act) → IsMade (core_facts s) by at g a → IsKnown own s g q → IsKnown own s (stage_after g a) (fold after_entry q (act_entries a))
+  known_next g q a made k = record { back = λ agrees. k.back (agrees_before own q (act_entries a) agrees); stands = stands_next g q a made k }
+
+  its_own : (t : Txn) → Agrees own s.holdings.txns → IsTxnOf (core_facts s) t → own t.token ≡ is_account_funded t.funding
+  its_own t agrees its = agrees.at t.token t.funding (its_funding s t its)
+
+  act_same : (g : Stage) (q : CoreState) (a : Act) → IsMade (core_facts s) by at g a → IsKnown own s g q → Agrees own q.holdings.txns → AddsSame own key (act_entries a)
+  act_same g q (Loads event user currency amount) made k agrees = loaded_same own key event user currency amount
+  act_same g q (HoldsOwn ask) made k agrees =
+      let t : Txn = ask.txn in
+      let its : own t.token ≡ true = agrees.at t.token t.funding (here q (Seeks ask) made.from.0 k) ∙ made.from.2 in
+      both_same (comes_same (more_held own key t part.S ask.amount) (own_held_sum own key (own t.token) (amount_where (bytes_eq (user_key t.user t.currency) key) (pos ask.amount)) its))
+      (calm_same {es = entry.Decided ask.event verdict.Approved ∷ []} refl)
+  act_same g q (Funds o t) made k agrees =
+      both_same {xs = entry.Closed o.call how.Funded ∷ []} (calm_same refl)
+      (both_same (paid_same own key t (account.Gateway t.currency) part.G o.amount (from_gateway own key t o.amount) (its_own t (k.back agrees) (txn_of_call made.from.1) ∙ call_of_gateway s ready.held made.from.1))
+      (calm_same {es = entry.Decided o.event verdict.Approved ∷ []} refl))
+  act_same g q (Refuses o t) made k agrees = both_same {xs = entry.Closed o.call how.Refused ∷ []} (calm_same refl) (declined_same own key (call_ask o t) reason.GatewayDeclined)
+  act_same g q (StandsIn number ask when set) made k agrees =
+      let t : Txn = ask.txn in
+      both_same {xs = entry.Stood set.name t.product t.user ask.amount when ∷ []} (calm_same refl)
+      (both_same (paid_same own key t (account.Programme t.currency) part.P ask.amount (from_programme own key t ask.amount)
+      (agrees.at t.token t.funding (here q (Seeks ask) made.from.0 k) ∙ ask_of_gateway s ready.held made.from.1))
+      (calm_same {es = notice_entry number method.StandIn t None ask.amount 0 ∷ entry.Decided ask.event verdict.Approved ∷ []} refl))
+  act_same g q (TurnsDown ask why) made k agrees = declined_same own key ask why
+  act_same g q (Abandons number t why calls parts) made k agrees = abandoned_same own key number t why calls
+  act_same g q (LetsGo t parts amount) made k agrees =
+      let its = its_own t (k.back agrees) made.from.1 in
+      release_same own key t parts amount (within_funding own key t parts (parts_held (core_facts s) t) made.from.2 (parts_of_funding own key s t ready.held made.from.1 its))
+  act_same g q (Clears t parts amount when) made k agrees =
+      let its = its_own t (k.back agrees) made.from.1 in
+      clearing_same own key t parts amount when its (subst (AreOfFunding own key t) (sym made.from.2) (parts_of_funding own key s t ready.held made.from.1 its))
+  act_same g q (GivesBack t amount programme) made k agrees =
+      subst (λ (n : ℕ). AddsSame own key (act_entries (GivesBack t amount n))) (sym made.from.1) (refunded_same own key t amount (owed_to_programme (core_facts s) t) (its_own t (k.back agrees) made.from.0))
+  act_same g q a made k agrees = calm_same {es = act_entries a} refl
+
+  -- entries add the same, if the test agrees with what stands after them
+  record AddsIfAgreed (q : CoreState) (es : List Entry) : Type 0 where
+    same : Agrees own (fold after_entry q es).holdings.txns → AddsSame own key es
+
+  all_same : Goes (fold after_entry) (core_facts s) by at (IsKnown own s) (λ g q es. AddsIfAgreed q es)
+  all_same =
       record {
-        setting = λ i token why e its ready held agrees. unless_same s why token (setting_entries i token) agrees (λ agrees. calm_same refl);
-        load = λ token user currency amount ready held agrees.
-            unless_same s (load_reason f user) token (load_entries token user currency amount) agrees (λ agrees. loaded_same token user currency amount);
-        authorization = λ token card currency amount mcc mid ready held agrees.
-            let ask : Option Ask = authorization_ask f token card currency amount mcc mid at in
-            unless_same s (authorization_reason f card currency ask) token (authorization_entries f ask) agrees
-            (authorized_same s token ask (unnamed s (input.Authorization token card currency amount mcc mid) token ready refl) (authorization_token f token card currency amount mcc mid at));
-        increment = λ token txn currency amount ready held agrees.
-            let ask : Option Ask = increment_ask f token txn amount at in
-            unless_same s (increment_reason f (txn_in f txn) currency ask) token (increment_entries f ask) agrees
-            (λ agrees. raised_same s token txn amount at (txn_named txn s.holdings.txns) refl (agrees_before own s (increment_entries f ask) agrees));
-        reversal = λ token txn currency amount ready held agrees.
-            unless_same s (reversal_reason (txn_in f txn) currency) token (reversal_entries f token amount (txn_in f txn)) agrees
-            (λ agrees. reversed_same s token txn amount (txn_named txn s.holdings.txns) held (agrees_before own s (reversal_entries f token amount (txn_in f txn)) agrees) refl);
-        clearing = λ token txn currency amount last ready held agrees.
-            unless_same s (clearing_reason (txn_in f txn) currency) token (clearing_entries f token amount last at (txn_in f txn)) agrees
-            (λ agrees. cleared_same s token txn amount last at (txn_named txn s.holdings.txns) held (agrees_before own s (clearing_entries f token amount last at (txn_in f txn)) agrees) refl);
-        refund = λ token txn currency amount ready held agrees.
-            unless_same s (refund_reason f (txn_in f txn) currency amount) token (refund_entries f token amount (txn_in f txn)) agrees
-            (λ agrees. refunded_same s token txn amount (txn_named txn s.holdings.txns) (agrees_before own s (refund_entries f token amount (txn_in f txn)) agrees) refl);
-        answer = λ call what ready held agrees.
-            asked_same s (λ (o : Opened) (t : Txn). outcome_entries what (core_facts s) o t at) call.0 (outcome_same what (core_facts s) at) held
-            (agrees_before own s (entries_of_asked (λ (o : Opened) (t : Txn). outcome_entries what (core_facts s) o t at) (call_numbered call.0 s.calls) (core_facts s)) agrees);
-        acknowledgement = λ notice ready held agrees. either_same (is_notice f notice) {xs = entry.Acked notice ∷ []} (calm_same refl) none_same;
-        time = λ ready held agrees. none_same;
+        none = λ g q k. record { same = λ agrees. none_same };
+        next = known_next;
+        then = λ g q a es made k rest. record {
+          same = λ agrees.
+              let later : Agrees own (fold after_entry (fold after_entry q (act_entries a)) es).holdings.txns =
+              subst (λ (q : CoreState). Agrees own q.holdings.txns) (fold-append after_entry q (act_entries a) es) agrees
+              in
+              both_same (act_same g q a made k (agrees_before own q (act_entries a ++ es) agrees)) (rest.same later);
+        };
       }
+
+  start_known : (g : Stage) → IsStart (core_facts s) g → IsKnown own s g s
+  start_known = from_start (λ g. IsKnown own s g s) (record { back = λ agrees. agrees; stands = refl }) (λ t its. record { back = λ agrees. agrees; stands = tt })
+
+module _ (own : List ℕ → Bool) (key : List ℕ) where
+  pub thing_same : {known : Known} (s : CoreState) (thing : DueThing) (at : ℕ) → IsWellAmong known (docket_of s) → IsHeldWell s → Agrees own (fold after_entry s (thing_entries thing at (core_facts s))).holdings.txns
+      → AddsSame own key (thing_entries thing at (core_facts s))
+  thing_same s thing at well held agrees =
+      let ready = due_ready well held in (due_goes (core_facts s) thing at s (all_same own key FallsDue at s ready) (start_known own key FallsDue at s ready)).holds.same agrees
 
   pub input_same : (s : CoreState) (i : Input) (at : ℕ) → HasTakenUp s i → IsHeldWell s → Agrees own (fold after_entry s (entries_of i at (core_facts s))).holdings.txns
       → AddsSame own key (entries_of i at (core_facts s))
-  input_same s i at = walk (each_kind s at) i
+  input_same s i at taken held agrees =
+      let ready = input_ready taken held in (own_goes (core_facts s) i at s (all_same own key (ComesOf i) at s ready) (start_known own key (ComesOf i) at s ready)).holds.same agrees

@@ -1,5 +1,5 @@
 -- What each piece of a step adds to a user's balance is what it adds to what the user owns.
-use Rattle.std.proofs.Common.{◌≡◌, ℕ, ℤ, pos, neg_ℤ, ◌+ℤ◌, ◌+◌, ◌-◌, min, Bool, true, false, not, cond, ◌&&◌, nat_eq, List, [], ◌∷◌, ◌++◌, refl, sym, ap, ap₂, ◌∙◌, arith}
+use Rattle.std.proofs.Common.{◌≤◌, ◌≡◌, ℕ, ℤ, pos, neg_ℤ, ◌+ℤ◌, ◌+◌, ◌-◌, min, Bool, true, false, not, cond, ◌&&◌, nat_eq, List, [], ◌∷◌, ◌++◌, refl, sym, ap, ap₂, ◌∙◌, arith}
 use Rattle.std.proofs.lemmas.Int.{ints}
 use Rattle.std.specs.Prelude.{Some}
 use Rattle.std.specs.List.{list_all}
@@ -15,9 +15,10 @@ use Rattle.iss_model.specs.Sums.{balance_changes, changed_at, user_key}
 use Rattle.iss_model.specs.rules.Asks.{usage_of}
 use Rattle.iss_model.specs.rules.CardEntries.{clearing_money_entries}
 use Rattle.iss_model.specs.rules.CardReasons.{is_account_funded}
-use Rattle.iss_model.specs.rules.Pieces.{Parts, hold_entries, in_all, left_of, only_where, post_entries, release_entries, taken_to_clear, taken_to_release, unhold_entries, user_account}
+use Rattle.iss_model.specs.rules.Pieces.{Parts, hold_entries, in_all, only_where, post_entries, release_entries, taken_to_clear, taken_to_release, unhold_entries, user_account}
 use Rattle.iss_effects.proofs.Finds.{number_is}
 use Rattle.iss_laws.specs.UserBalances.{own_changes}
+use Rattle.iss_acts.specs.Sources.{AreWithin}
 use Rattle.iss_laws.proofs.Rows.{among_summed, sum_among}
 
 -- what entries add to a user's balance, by the user's key, and to what the user owns ----
@@ -272,16 +273,13 @@ module _ (own : List ℕ → Bool) (key : List ℕ) (t : Txn) where
       by false false b e h =
           gateway_sum b (taken_to_clear x amount).g (taken_to_clear x amount).p (taken_to_clear x amount).s amount (all_there x.g x.p x.s amount)
 
-  -- the parts that a clearing leaves are such too
-  pub left_of_funding : (x taken : Parts) → AreOfFunding x → AreOfFunding (left_of x taken)
-  left_of_funding x taken h =
-      record {
-        own_alone = λ e. none x.g x.p taken.g taken.p (h.own_alone e);
-        others = λ e. less x.s taken.s (h.others e);
-      }
+  -- parts within such parts are such too
+  pub within_funding : (small large : Parts) → AreWithin small large → AreOfFunding large → AreOfFunding small
+  within_funding small large within h =
+      record { own_alone = λ e. none small.g small.p large.g large.p within.of_gateway within.of_programme (h.own_alone e); others = λ e. less small.s large.s within.of_user (h.others e) }
     where
-      none : (g p a b : ℕ) → g + p ≡ 0 → (g - a) + (p - b) ≡ 0
-      none g p a b e = omega (arith, e)
+      none : (g p a b : ℕ) → g ≤ a → p ≤ b → a + b ≡ 0 → g + p ≡ 0
+      none g p a b h k e = omega (arith, h, k, e)
 
-      less : (s a : ℕ) → s ≡ 0 → s - a ≡ 0
-      less s a e = omega (arith, e)
+      less : (s a : ℕ) → s ≤ a → a ≡ 0 → s ≡ 0
+      less s a h e = omega (arith, h, e)

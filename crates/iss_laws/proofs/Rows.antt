@@ -1,5 +1,6 @@
 -- The rows that a step adds are its entries, numbered: what is counted or summed over rows is so over entries.
-use Rattle.std.proofs.Common.{◌≡◌, ℕ, suc, ◌+◌, Bool, true, false, cond, List, [], ◌∷◌, ◌++◌, length, filter, fold, refl, ap, ◌∙◌, arith, length-append}
+use Rattle.std.proofs.Common.{◌≡◌, ℕ, suc, ◌+◌, Bool, ◌&&◌, true, false, cond, List, [], ◌∷◌, ◌++◌, length, filter, fold, refl, sym, ap, ◌∙◌, arith, length-append}
+use Rattle.std.specs.List.{list_all}
 use Rattle.std.proofs.lemmas.Int.{ints}
 use Rattle.std.proofs.lemmas.List.Sums.{fold-append}
 use Rattle.std.specs.Prelude.{ℤ, pos, ◌+ℤ◌}
@@ -10,12 +11,49 @@ use Rattle.iss_model.specs.declared.input.Record.{Record}
 use Rattle.iss_model.specs.Sums.{Change, changed_at, sum_at}
 use Rattle.iss_model.specs.rules.Due.{DueItem, due_items, thing_entries}
 use Rattle.iss_model.specs.rules.Facts.{Facts}
-use Rattle.iss_model.specs.rules.Histories.{History, history_facts, history_keeper, numbered_rows}
+use Rattle.iss_model.specs.rules.Histories.{History, history_facts, history_keeper, history_of, nothing_yet, numbered_rows}
 use Rattle.iss_model.specs.rules.Keeper.{Growth, grow}
 use Rattle.iss_model.specs.rules.Stepping.{after_due, own_entries, settle, step}
-use Rattle.iss_payments.specs.Calls.{times_among}
-use Rattle.iss_payments.proofs.Counting.{among_append}
+use Rattle.iss_model.specs.state.Cores.{core_keeper, core_of}
+use Rattle.iss_agreement.proofs.CoreOfBook.{entries_history}
+use Rattle.iss_laws.specs.Rulings.{with_entries}
+use Rattle.iss_laws.proofs.Ruled.{with_both, with_none}
+use Rattle.iss_laws.specs.CallEntries.{times_among}
 use Rattle.iss_laws.specs.Tests.{times}
+
+-- a growth is its entries, on the book that it began with
+abbrev IsGrown : History → Growth History → Type 0
+IsGrown up g = g.world ≡ with_entries up g.entries
+
+grown : (up : History) (g : Growth History) (make : Facts → List Entry) → IsGrown up g → IsGrown up (grow history_keeper g make)
+grown up g make h =
+    let es : List Entry = make (history_facts g.world) in
+    ap (λ (w : History). with_entries w es) h ∙ with_both up g.entries es
+
+all_grown : (up : History) (at : ℕ) (g : Growth History) (items : List DueItem) → IsGrown up g → IsGrown up (fold (settle history_keeper at) g items)
+all_grown up at g [] h = h
+all_grown up at g (item ∷ items) h = all_grown up at (settle history_keeper at g item) items (grown up g (thing_entries item.thing at) h)
+
+pub step_grows : (h : History) (r : Record) → (step history_keeper h r).world ≡ with_entries (history_keeper.take_up h r) (step history_keeper h r).entries
+unfolding step
+step_grows h r =
+    let up : History = history_keeper.take_up h r in
+    grown up (after_due history_keeper up r.at) (own_entries r)
+    (all_grown up r.at (record { world = up; entries = [] }) (due_items (history_facts up) r.at) (sym (with_none up)))
+
+-- the number of the rows that a record adds
+abbrev pub number_after : History → Record → ℕ
+number_after h r = length (h.records ++ r ∷ [])
+
+pub step_rows : (h : History) (r : Record) → (step history_keeper h r).world.rows ≡ h.rows ++ numbered_rows (number_after h r) (step history_keeper h r).entries
+step_rows h r = ap (λ (h : History). h.rows) (step_grows h r)
+
+-- what each entry passes each of its rows passes
+pub numbered_pass : (test : Entry → Bool) (n : ℕ) (es : List Entry) → list_all (λ row. test row.entry) (numbered_rows n es) ≡ list_all test es
+numbered_pass test n [] = refl
+numbered_pass test n (e ∷ es) = ap (λ (b : Bool). test e && b) (numbered_pass test n es)
+
+-- counts ----
 
 pub times_append : (test : Entry → Bool) (xs ys : List Row) → times test (xs ++ ys) ≡ times test xs + times test ys
 times_append test xs ys =
@@ -37,42 +75,11 @@ times_numbered test n (e ∷ es) = by (test e) (times_numbered test n es)
         none : (a b : ℕ) → a ≡ b → a ≡ 0 + b
         none a b e = omega (arith, e)
 
--- What a growth adds to the rows is what it adds to the entries.
-abbrev IsCounted : (Entry → Bool) → Growth History → Growth History → Type 0
-IsCounted test g h = times test h.world.rows + times_among test g.entries ≡ times test g.world.rows + times_among test h.entries
-
-grown_counted : (test : Entry → Bool) (g : Growth History) (make : Facts → List Entry) → IsCounted test g (grow history_keeper g make)
-grown_counted test g make =
-    let es : List Entry = make (history_facts g.world) in
-    sum (times test (g.world.rows ++ numbered_rows (length g.world.records) es)) (times test g.world.rows) (times test (numbered_rows (length g.world.records) es)) (times_among test es) (times_among test g.entries) (times_among test (g.entries ++ es))
-    (times_append test g.world.rows (numbered_rows (length g.world.records) es)) (times_numbered test (length g.world.records) es) (among_append test g.entries es)
-  where
-    sum : (all rows more entries before after : ℕ) → all ≡ rows + more → more ≡ entries → after ≡ before + entries → all + before ≡ rows + after
-    sum all rows more entries before after e h k = omega (arith, e, h, k)
-
-settled_counted : (test : Entry → Bool) (at : ℕ) (g : Growth History) (items : List DueItem) → IsCounted test g (fold (settle history_keeper at) g items)
-settled_counted test at g [] = refl
-settled_counted test at g (item ∷ items) =
-    let next : Growth History = settle history_keeper at g item in
-    let last : Growth History = fold (settle history_keeper at) next items in
-    chain (times test last.world.rows) (times_among test last.entries) (times test next.world.rows) (times_among test next.entries) (times test g.world.rows) (times_among test g.entries)
-    (settled_counted test at next items) (grown_counted test g (thing_entries item.thing at))
-  where
-    chain : (a b c d e f : ℕ) → a + d ≡ c + b → c + f ≡ e + d → a + f ≡ e + b
-    chain a b c d e f h k = omega (arith, h, k)
-
 -- so it is with a step
 pub step_counted : (test : Entry → Bool) (h : History) (r : Record) → times test (step history_keeper h r).world.rows ≡ times test h.rows + times_among test (step history_keeper h r).entries
-unfolding step
 step_counted test h r =
-    let taken : History = record h { records = h.records ++ r ∷ [] } in
-    let due : Growth History = after_due history_keeper taken r.at in
-    let own : Growth History = grow history_keeper due (own_entries r) in
-    chain (times test own.world.rows) (times_among test own.entries) (times test due.world.rows) (times_among test due.entries) (times test h.rows)
-    (grown_counted test due (own_entries r)) (settled_counted test r.at (record { world = taken; entries = [] }) (due_items (history_facts taken) r.at))
-  where
-    chain : (a b c d e : ℕ) → a + d ≡ c + b → c + 0 ≡ e + d → a ≡ e + b
-    chain a b c d e h k = omega (arith, h, k)
+    let es : List Entry = (step history_keeper h r).entries in
+    ap (times test) (step_rows h r) ∙ times_append test h.rows (numbered_rows (number_after h r) es) ∙ ap (λ (n : ℕ). times test h.rows + n) (times_numbered test (number_after h r) es)
 
 -- sums ----
 
@@ -109,39 +116,37 @@ sum_with : (changes : Entry → List Change) (key : List ℕ) (rows : List Row) 
 sum_with changes key rows n es =
     fold-append (λ (sum : ℤ) (row : Row). sum +ℤ changed_at key (changes row.entry)) (pos 0) rows (numbered_rows n es) ∙ numbered_from changes key (sum_at changes key rows) n es
 
--- What a growth adds to a sum over the rows is what it adds to the sum over the entries.
-abbrev IsSummed : (Entry → List Change) → List ℕ → Growth History → Growth History → Type 0
-IsSummed changes key g h = sum_at changes key h.world.rows +ℤ sum_among changes key g.entries ≡ sum_at changes key g.world.rows +ℤ sum_among changes key h.entries
-
-grown_summed : (changes : Entry → List Change) (key : List ℕ) (g : Growth History) (make : Facts → List Entry) → IsSummed changes key g (grow history_keeper g make)
-grown_summed changes key g make =
-    let es : List Entry = make (history_facts g.world) in
-    sum (sum_at changes key (g.world.rows ++ numbered_rows (length g.world.records) es)) (sum_at changes key g.world.rows) (sum_among changes key es) (sum_among changes key g.entries) (sum_among changes key (g.entries ++ es))
-    (sum_with changes key g.world.rows (length g.world.records) es) (among_summed changes key g.entries es)
-  where
-    sum : (all rows more before after : ℤ) → all ≡ rows +ℤ more → after ≡ before +ℤ more → all +ℤ before ≡ rows +ℤ after
-    sum all rows more before after e k = omega (arith, ints, e, k)
-
-settled_summed : (changes : Entry → List Change) (key : List ℕ) (at : ℕ) (g : Growth History) (items : List DueItem) → IsSummed changes key g (fold (settle history_keeper at) g items)
-settled_summed changes key at g [] = refl
-settled_summed changes key at g (item ∷ items) =
-    let next : Growth History = settle history_keeper at g item in
-    let last : Growth History = fold (settle history_keeper at) next items in
-    chain (sum_at changes key last.world.rows) (sum_among changes key last.entries) (sum_at changes key next.world.rows) (sum_among changes key next.entries) (sum_at changes key g.world.rows) (sum_among changes key g.entries)
-    (settled_summed changes key at next items) (grown_summed changes key g (thing_entries item.thing at))
-  where
-    chain : (a b c d e f : ℤ) → a +ℤ d ≡ c +ℤ b → c +ℤ f ≡ e +ℤ d → a +ℤ f ≡ e +ℤ b
-    chain a b c d e f h k = omega (arith, ints, h, k)
-
 pub step_summed : (changes : Entry → List Change) (key : List ℕ) (h : History) (r : Record)
     → sum_at changes key (step history_keeper h r).world.rows ≡ sum_at changes key h.rows +ℤ sum_among changes key (step history_keeper h r).entries
-unfolding step
-step_summed changes key h r =
-    let taken : History = record h { records = h.records ++ r ∷ [] } in
-    let due : Growth History = after_due history_keeper taken r.at in
-    let own : Growth History = grow history_keeper due (own_entries r) in
-    chain (sum_at changes key own.world.rows) (sum_among changes key own.entries) (sum_at changes key due.world.rows) (sum_among changes key due.entries) (sum_at changes key h.rows)
-    (grown_summed changes key due (own_entries r)) (settled_summed changes key r.at (record { world = taken; entries = [] }) (due_items (history_facts taken) r.at))
-  where
-    chain : (a b c d e : ℤ) → a +ℤ d ≡ c +ℤ b → c +ℤ pos 0 ≡ e +ℤ d → a ≡ e +ℤ b
-    chain a b c d e h k = omega (arith, ints, h, k)
+step_summed changes key h r = ap (λ (rows : List Row). sum_at changes key rows) (step_rows h r) ∙ sum_with changes key h.rows (number_after h r) (step history_keeper h r).entries
+
+-- one record more ----
+
+pub longer : (rs : List Record) (r : Record) → history_of (rs ++ r ∷ []) ≡ (step history_keeper (history_of rs) r).world
+longer rs r = fold-append (λ (h : History) (x : Record). (step history_keeper h x).world) nothing_yet rs (r ∷ [])
+
+abbrev pub entries_of_next : List Record → Record → List Entry
+entries_of_next rs r = (step core_keeper (core_of rs) r).entries
+
+abbrev pub next_number : List Record → Record → ℕ
+next_number rs r = number_after (history_of rs) r
+
+pub next_rows : (rs : List Record) (r : Record) → (history_of (rs ++ r ∷ [])).rows ≡ (history_of rs).rows ++ numbered_rows (next_number rs r) (entries_of_next rs r)
+next_rows rs r =
+    ap (λ (h : History). h.rows) (longer rs r)
+    ∙ step_rows (history_of rs) r
+    ∙ ap (λ (es : List Entry). (history_of rs).rows ++ numbered_rows (next_number rs r) es) (sym (entries_history rs r))
+
+pub next_times : (test : Entry → Bool) (rs : List Record) (r : Record)
+    → times test (history_of (rs ++ r ∷ [])).rows ≡ times test (history_of rs).rows + times_among test (entries_of_next rs r)
+next_times test rs r =
+    ap (λ (h : History). times test h.rows) (longer rs r)
+    ∙ step_counted test (history_of rs) r
+    ∙ ap (λ (es : List Entry). times test (history_of rs).rows + times_among test es) (sym (entries_history rs r))
+
+pub next_summed : (changes : Entry → List Change) (key : List ℕ) (rs : List Record) (r : Record)
+    → sum_at changes key (history_of (rs ++ r ∷ [])).rows ≡ sum_at changes key (history_of rs).rows +ℤ sum_among changes key (entries_of_next rs r)
+next_summed changes key rs r =
+    ap (λ (h : History). sum_at changes key h.rows) (longer rs r)
+    ∙ step_summed changes key (history_of rs) r
+    ∙ ap (λ (es : List Entry). sum_at changes key (history_of rs).rows +ℤ sum_among changes key es) (sym (entries_history rs r))

@@ -17,10 +17,10 @@ use Rattle.iss_agreement.proofs.BookAndState.{history_good}
 use Rattle.iss_agreement.proofs.Records.{records_history, step_records}
 use Rattle.iss_agreement.proofs.Standing.{bounds_of, is_row_standing, is_standing}
 use Rattle.iss_effects.proofs.Finds.{same_number}
-use Rattle.iss_decisions.specs.Rulings.{Ruling, rulings_due, rulings_of}
-use Rattle.iss_decisions.proofs.Ruled.{rulings_append}
-use Rattle.iss_decisions.proofs.StepRows.{step_grows}
-use Rattle.iss_decisions.proofs.StepRulings.{legal_rules}
+use Rattle.iss_laws.specs.Rulings.{Ruling, rulings_due, rulings_of}
+use Rattle.iss_laws.proofs.Ruled.{rulings_append}
+use Rattle.iss_laws.proofs.Rows.{step_grows}
+use Rattle.iss_laws.proofs.StepRulings.{legal_rules}
 use Rattle.iss_laws.specs.Decisions.{DecidesByTheRules, book_after, entries_in, in_a_row, rulings_made, rulings_wanted}
 
 -- lists of rows ----

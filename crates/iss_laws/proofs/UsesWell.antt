@@ -18,55 +18,29 @@ use Rattle.iss_model.specs.Sums.{changed_at, int_key, sum_at}
 use Rattle.iss_model.specs.rules.Activity.{TxnNow}
 use Rattle.iss_model.specs.rules.Asks.{usage_of, used_by}
 use Rattle.iss_model.specs.rules.Controls.{ControlPut, Group, control_puts_of, counted_changes, counted_control, counts, groups_of, span_key, window_key}
-use Rattle.iss_model.specs.rules.Due.{DueItem, due_items, thing_entries}
+use Rattle.iss_model.specs.rules.Due.{thing_entries}
 use Rattle.iss_model.specs.rules.Facts.{Facts}
 use Rattle.iss_model.specs.rules.Histories.{History, IsLegal, IsLegalAfter, history_facts, history_of}
-use Rattle.iss_model.specs.rules.Keeper.{Growth}
-use Rattle.iss_model.specs.rules.Stepping.{after_due, entries_of, settle, step}
+use Rattle.iss_model.specs.rules.Stepping.{entries_of, step}
 use Rattle.iss_model.specs.state.Cores.{CoreState, after_entry, core_facts, core_keeper, core_of, no_core, with_record}
-use Rattle.iss_agreement.proofs.CoreOfBook.{core_step, entries_history, facts_history, judge_history}
+use Rattle.iss_agreement.proofs.CoreOfBook.{core_step, facts_history, judge_history}
 use Rattle.iss_invariants.specs.Sound.{IsNewEvent}
 use Rattle.iss_invariants.proofs.NewEvents.{judged_new}
 use Rattle.iss_pending.specs.Pending.{HasTakenUp, IsWell}
 use Rattle.iss_pending.proofs.Legal.{nothing_well}
 use Rattle.iss_pending.proofs.Steps.{ready_settled, ready_taken, step_well}
-use Rattle.iss_holdings.specs.Holdings.{BegunBy, IsHeldWell}
+use Rattle.iss_holdings.specs.Holdings.{AllKeepHeld, BegunBy, IsHeldWell}
 use Rattle.iss_holdings.proofs.Inputs.{own_keeps, thing_keeps}
 use Rattle.iss_holdings.proofs.Steps.{HoldsWell, nothing_held, step_held, thing_held}
-use Rattle.iss_holdings.proofs.Times.{due_now, entries_begun, entries_now, stamp_by_now}
+use Rattle.iss_holdings.proofs.Times.{entries_begun, entries_now}
+use Rattle.iss_acts.proofs.Stepping.{GoesThrough, step_leads}
 use Rattle.iss_model.proofs.Names.{one_name}
 use Rattle.iss_laws.specs.Uses.{counts_txn_well, counts_well, has_counted_well, is_use, use_is_not_negative, used_of}
-use Rattle.iss_laws.proofs.HoldsWell.{is_not_negative, longer}
+use Rattle.iss_laws.proofs.HoldsWell.{is_not_negative}
 use Rattle.iss_laws.proofs.OpenInputs.{CountsOn, input_uses, thing_uses}
 use Rattle.iss_laws.proofs.OpenUse.{Counting, IsCounting, Pays, is_usage, open_use, used}
-use Rattle.iss_laws.proofs.Rows.{among_summed, step_summed, sum_among}
+use Rattle.iss_laws.proofs.Rows.{among_summed, longer, next_summed}
 use Rattle.iss_laws.proofs.Windows.{window_grows, window_is, window_nat}
-
--- what is due ----
-
--- What stands after due items: a record that was taken up still is, all is held well, transactions began by now, and no more was opened than counted.
-record Swept (i : Input) (k : Counting) (before : ℕ) (g : Growth CoreState) : Type 0 where
-  ready : HasTakenUp g.world i
-  held : IsHeldWell g.world
-  begun : BegunBy g.world.now g.world.holdings.txns
-  opened : pos (open_use k g.world) ≤ℤ (pos before +ℤ used k g.entries)
-
-more_used : (z y x : ℕ) (u v w : ℤ) → w ≡ u +ℤ v → pos y ≤ℤ (pos x +ℤ u) → pos z ≤ℤ ((pos y +ℤ pos 0) +ℤ v) → pos z ≤ℤ (pos x +ℤ w)
-more_used z y x u v w e h k = omega (arith, ints, e, h, k)
-
-swept : (k : Counting) → IsCounting k → (before at : ℕ) (g : Growth CoreState) (items : List DueItem) (i : Input) → Swept i k before g → Swept i k before (fold (settle core_keeper at) g items)
-swept k counting before at g [] i now = now
-swept k counting before at g (item ∷ items) i now =
-    let s : CoreState = g.world in
-    let es : List Entry = thing_entries item.thing at (core_facts s) in
-    let pays : Pays k s es = thing_uses k counting now.ready.before s item.thing at now.ready.well now.held in
-    swept k counting before at (settle core_keeper at g item) items i
-    (record {
-      ready = ready_settled s i item.thing at now.ready;
-      held = thing_held s i item at now.ready now.held;
-      begun = entries_begun s es (thing_keeps now.ready.before s item.thing at now.ready.well now.held) now.begun;
-      opened = more_used (open_use k (fold after_entry s es)) (open_use k s) before (used k g.entries) (used k es) (used k (g.entries ++ es)) (among_summed k.changes k.key g.entries es) now.opened pays.le;
-    })
 
 -- a step ----
 
@@ -76,53 +50,75 @@ later_begun now last s le begun token t e = chain t.txn.at now last (begun token
     chain : (a b c : ℕ) → a ≤ b → b ≤ c → a ≤ c
     chain a b c h k = omega (arith, h, k)
 
-higher : (a b : ℕ) → a ≤ max a b
-higher a b = omega arith
+-- it is the time of a record that was taken up, all is held well, and transactions began by then
+record IsUseReady (i : Input) (at : ℕ) (s : CoreState) : Type 0 where
+  now_is : s.now ≡ at
+  taken : HasTakenUp s i
+  held : IsHeldWell s
+  begun : BegunBy s.now s.holdings.txns
 
-no_higher : (a b : ℕ) → a ≤ b → max a b ≤ b
-no_higher a b h = omega (arith, h)
+-- no more was opened than counted, transactions began by now, and the time is the same
+record Uses (at : ℕ) (s : CoreState) (es : List Entry) (later : CoreState) : Type 0 where
+  opened : (k : Counting) (last : ℕ) → IsCounting k → CountsOn k last → at ≤ last → pos (open_use k later) ≤ℤ (pos (open_use k s) +ℤ used k es)
+  begun : BegunBy s.now s.holdings.txns → BegunBy later.now later.holdings.txns
+  now_stays : later.now ≡ s.now
 
-step_opened : (s : CoreState) (r : Record) (k : Counting) (last : ℕ) → s.now ≤ r.at → IsNewEvent s r.input → IsWell s → IsHeldWell s → BegunBy s.now s.holdings.txns
-    → IsCounting k → CountsOn k last → r.at ≤ last → pos (open_use k (step core_keeper s r).world) ≤ℤ (pos (open_use k s) +ℤ used k (step core_keeper s r).entries)
-unfolding step
-step_opened s r k last early new well held begun counting on by_last =
-    let up : CoreState = with_record s r in
-    let due : Growth CoreState = after_due core_keeper up r.at in
-    let es : List Entry = entries_of r.input r.at (core_facts due.world) in
-    let sweep : Swept r.input k (open_use k s) due =
-    swept k counting (open_use k s) r.at (record { world = up; entries = [] }) (due_items (core_facts up) r.at) r.input
-    (record { ready = ready_taken s r well new; held = held; begun = later_begun s.now (max s.now r.at) s (higher s.now r.at) begun; opened = itself (open_use k s) })
-    in
-    let time : due.world.now ≤ r.at = subst (λ (n : ℕ). n ≤ r.at) (sym (due_now up r.at)) (no_higher s.now r.at early) in
-    let pays : Pays k due.world es = input_uses k counting last on due.world r.input r.at time by_last sweep.ready sweep.held sweep.begun in
-    more_used (open_use k (fold after_entry due.world es)) (open_use k due.world) (open_use k s) (used k due.entries) (used k es) (used k (due.entries ++ es)) (among_summed k.changes k.key due.entries es) sweep.opened pays.le
+-- entries that open no more than they count, and keep what is held
+entries_use : (at : ℕ) (s : CoreState) (es : List Entry) → ((k : Counting) (last : ℕ) → IsCounting k → CountsOn k last → at ≤ last → Pays k s es) → AllKeepHeld s es → Uses at s es (fold after_entry s es)
+entries_use at s es pays keeps =
+    record {
+      opened = λ k last counting on by_last. plain (open_use k (fold after_entry s es)) (open_use k s) (used k es) (pays k last counting on by_last).le;
+      begun = entries_begun s es keeps;
+      now_stays = entries_now s es;
+    }
+  where
+    plain : (z x : ℕ) (u : ℤ) → pos z ≤ℤ ((pos x +ℤ pos 0) +ℤ u) → pos z ≤ℤ (pos x +ℤ u)
+    plain z x u h = omega (arith, ints, h)
+
+uses_through : (i : Input) (at : ℕ) → GoesThrough (IsUseReady i at) (Uses at) i at
+uses_through i at =
+    record {
+      none = λ s. record { opened = λ k last counting on by_last. itself (open_use k s); begun = λ begun. begun; now_stays = refl };
+      then = λ s t u xs ys h l. record {
+        opened = λ k last counting on by_last.
+            chain (open_use k u) (open_use k t) (open_use k s) (used k xs) (used k ys) (used k (xs ++ ys)) (among_summed k.changes k.key xs ys) (h.opened k last counting on by_last)
+            (l.opened k last counting on by_last);
+        begun = λ begun. l.begun (h.begun begun);
+        now_stays = l.now_stays ∙ h.now_stays;
+      };
+      due = λ s thing ready.
+          entries_use at s (thing_entries thing at (core_facts s)) (λ k last counting on by_last. thing_uses k counting ready.taken.before s thing at ready.taken.well ready.held)
+          (thing_keeps ready.taken.before s thing at ready.taken.well ready.held);
+      own = λ s ready.
+          entries_use at s (entries_of i at (core_facts s))
+          (λ k last counting on by_last. input_uses k counting last on s i at (at_most s.now at ready.now_is) by_last ready.taken ready.held ready.begun)
+          (own_keeps s i at (at_most at s.now (sym ready.now_is)) ready.taken ready.held);
+      stays = λ s thing ready.
+          let es : List Entry = thing_entries thing at (core_facts s) in
+          record {
+            now_is = entries_now s es ∙ ready.now_is;
+            taken = ready_settled s i thing at ready.taken;
+            held = thing_held s i thing at ready.taken ready.held;
+            begun = entries_begun s es (thing_keeps ready.taken.before s thing at ready.taken.well ready.held) ready.begun;
+          };
+    }
   where
     itself : (n : ℕ) → pos n ≤ℤ (pos n +ℤ pos 0)
     itself n = omega (arith, ints)
 
--- nothing is counted
-abbrev no_counting : Counting
-no_counting = record { changes = λ e. []; key = []; counts_at = λ t at. false; by_amount = true }
+    at_most : (a b : ℕ) → a ≡ b → a ≤ b
+    at_most a b e = omega (arith, e)
 
-step_begun : (s : CoreState) (r : Record) → IsNewEvent s r.input → IsWell s → IsHeldWell s → BegunBy s.now s.holdings.txns → BegunBy (step core_keeper s r).world.now (step core_keeper s r).world.holdings.txns
-unfolding step
-step_begun s r new well held begun =
-    let up : CoreState = with_record s r in
-    let due : Growth CoreState = after_due core_keeper up r.at in
-    let sweep : Swept r.input no_counting (open_use no_counting s) due =
-    swept no_counting (record { use_ = λ t amount count at. refl; others = λ e h. refl }) (open_use no_counting s) r.at (record { world = up; entries = [] }) (due_items (core_facts up) r.at) r.input
-    (record { ready = ready_taken s r well new; held = held; begun = later_begun s.now (max s.now r.at) s (higher s.now r.at) begun; opened = itself (open_use no_counting s) })
-    in
-    entries_begun due.world (entries_of r.input r.at (core_facts due.world)) (own_keeps due.world r.input r.at (stamp_by_now s r) sweep.ready sweep.held) sweep.begun
+    chain : (z y x : ℕ) (u v w : ℤ) → w ≡ u +ℤ v → pos y ≤ℤ (pos x +ℤ u) → pos z ≤ℤ (pos y +ℤ v) → pos z ≤ℤ (pos x +ℤ w)
+    chain z y x u v w e h k = omega (arith, ints, e, h, k)
+
+step_uses : (s : CoreState) (r : Record) → s.now ≤ r.at → IsNewEvent s r.input → IsWell s → IsHeldWell s → BegunBy (max s.now r.at) s.holdings.txns
+    → Uses r.at (with_record s r) (step core_keeper s r).entries (step core_keeper s r).world
+step_uses s r early new well held begun =
+    step_leads s r (uses_through r.input r.at) (record { now_is = latest s.now r.at early; taken = ready_taken s r well new; held = held; begun = begun })
   where
-    itself : (n : ℕ) → pos n ≤ℤ (pos n +ℤ pos 0)
-    itself n = omega (arith, ints)
-
-step_now : (s : CoreState) (r : Record) → (step core_keeper s r).world.now ≡ max s.now r.at
-unfolding step
-step_now s r =
-    let due : CoreState = (after_due core_keeper (with_record s r) r.at).world in
-    entries_now due (entries_of r.input r.at (core_facts due)) ∙ due_now (with_record s r) r.at
+    latest : (a b : ℕ) → a ≤ b → max a b ≡ b
+    latest a b h = omega (arith, h)
 
 -- over all records, by their stamps ----
 
@@ -135,18 +131,21 @@ record IsCounted (rs : List Record) (s : CoreState) : Type 0 where
 counted_step : (rs : List Record) (r : Record) → (core_of rs).now ≤ r.at → IsNewEvent (core_of rs) r.input → IsCounted rs (core_of rs) → IsCounted (rs ++ r ∷ []) (step core_keeper (core_of rs) r).world
 counted_step rs r early new h =
     let s : CoreState = core_of rs in
+    let begun : BegunBy (max s.now r.at) s.holdings.txns = later_begun s.now (max s.now r.at) s (higher s.now r.at) h.begun in
+    let uses = step_uses s r early new h.holds.well h.holds.held begun in
     record {
       holds = record { well = step_well s r new h.holds.well; held = step_held s r new h.holds.well h.holds.held };
-      begun = step_begun s r new h.holds.well h.holds.held h.begun;
+      begun = uses.begun begun;
       counted = λ k last counting on by_last.
-          let now : max s.now r.at ≤ last = subst (λ (n : ℕ). n ≤ last) (step_now s r) by_last in
-          subst (λ (z : ℤ). pos (open_use k (step core_keeper s r).world) ≤ℤ z)
-          (sym (ap (λ (h : History). sum_at k.changes k.key h.rows) (longer rs r) ∙ step_summed k.changes k.key (history_of rs) r
-          ∙ ap (λ (es : List Entry). sum_at k.changes k.key (history_of rs).rows +ℤ sum_among k.changes k.key es) (sym (entries_history rs r))))
+          let now : max s.now r.at ≤ last = subst (λ (n : ℕ). n ≤ last) uses.now_stays by_last in
+          subst (λ (z : ℤ). pos (open_use k (step core_keeper s r).world) ≤ℤ z) (sym (next_summed k.changes k.key rs r))
           (chain (open_use k (step core_keeper s r).world) (open_use k s) (used k (step core_keeper s r).entries) (sum_at k.changes k.key (history_of rs).rows)
-          (step_opened s r k last early new h.holds.well h.holds.held h.begun counting on (right s.now r.at last now)) (h.counted k last counting on (left s.now r.at last now)));
+          (uses.opened k last counting on (right s.now r.at last now)) (h.counted k last counting on (left s.now r.at last now)));
     }
   where
+    higher : (a b : ℕ) → a ≤ max a b
+    higher a b = omega arith
+
     left : (a b c : ℕ) → max a b ≤ c → a ≤ c
     left a b c h = omega (arith, h)
 

@@ -27,7 +27,7 @@ use Rattle.iss_model.specs.rules.Reasons.{is_some_with}
 use Rattle.iss_model.specs.rules.Settings.{is_named_in}
 use Rattle.iss_model.specs.rules.StandIns.{Stand, allowed, over_limit, uncovered, stand}
 use Rattle.iss_model.specs.rules.Stepping.{authorization_ask, increment_ask, after_due}
-use Rattle.iss_decisions.specs.Rulings.{begun_in, is_answer, may_fail, opened_in, with_entries}
+use Rattle.iss_laws.specs.Rulings.{begun_in, is_answer, may_fail, opened_in, with_entries}
 use Rattle.iss_laws.specs.Decisions.{book_after, entries_in}
 
 -- a verdict approves

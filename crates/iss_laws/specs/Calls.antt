@@ -13,8 +13,8 @@ use Rattle.iss_model.specs.declared.entry.Entry.TheVariants as entry
 use Rattle.iss_model.specs.rules.Activity.{CallNow}
 use Rattle.iss_model.specs.rules.Facts.{Facts, call_in}
 use Rattle.iss_model.specs.rules.Histories.{History, history_facts}
-use Rattle.iss_payments.specs.Calls.{closes, is_void, is_void_method, names_call, opens, voids}
-use Rattle.iss_payments.specs.Pairs.{Pairing, is_paired, paired, pairing_after}
+use Rattle.iss_laws.specs.CallEntries.{closes, is_void, is_void_method, names_call, opens, voids}
+use Rattle.iss_laws.specs.Pairs.{Pairing, is_paired, paired, pairing_after}
 use Rattle.iss_laws.specs.Tests.{times}
 
 -- a call was funded

@@ -10,7 +10,7 @@ use Rattle.iss_model.specs.declared.entry.Entry.{Entry}
 use Rattle.iss_model.specs.declared.entry.Row.{Row}
 use Rattle.iss_model.specs.declared.input.Record.{Record}
 use Rattle.iss_model.specs.rules.Histories.{History}
-use Rattle.iss_decisions.specs.Rulings.{Ruling, rulings_of, rulings_due}
+use Rattle.iss_laws.specs.Rulings.{Ruling, rulings_of, rulings_due}
 
 -- the entries of the record of a number
 abbrev pub entries_in : ℕ → List Row → List Entry

@@ -8,3 +8,7 @@ pub mod Decisions
 pub mod Approvals
 pub mod Uses
 pub mod Books
+pub mod CallEntries
+pub mod Pairs
+pub mod Payable
+pub mod Rulings

@@ -1,6 +1,7 @@
 //! The laws of the book: what holds of it whatever inputs were taken.
+//! Below them are laws of a step: how the calls to the gateway are paid, and what each record decides.
 //!
-//! It may cite `iss_model` and the crates of laws over it, and `iss_scripts` for the books on which laws are computed.
+//! It may cite `iss_model`, `iss_acts` and the crates of laws over them, and `iss_scripts` for the books on which laws are computed.
 //! It must not cite any body of the program.
 #![tactic(auto)]
 
@@ -10,6 +11,8 @@ mod calls;
 mod decisions;
 mod events;
 mod holds;
+mod payments;
+mod rulings;
 mod uses;
 
 pub use balances::{balances_add_up, balances_are_owned};
@@ -18,4 +21,8 @@ pub use calls::calls_are_paid_once;
 pub use decisions::records_decide_by_the_rules;
 pub use events::events_are_decided;
 pub use holds::holds_are_well;
+pub use payments::{
+    calls_are_closed_once, calls_stay_payable, funded_calls_are_paid, only_purchases_open_calls,
+};
+pub use rulings::records_rule_as_due;
 pub use uses::uses_are_well;

@@ -1,0 +1,5 @@
+pub mod Made
+pub mod Passing
+pub mod Causes
+pub mod Walk
+pub mod Stepping

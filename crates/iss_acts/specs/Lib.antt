@@ -1,0 +1,5 @@
+pub mod Acts
+pub mod Causes
+pub mod Stages
+pub mod Sources
+pub mod Items

@@ -1,6 +1,0 @@
-pub mod Ruled
-pub mod ClosedCalls
-pub mod DueRulings
-pub mod OwnRulings
-pub mod StepRows
-pub mod StepRulings
