@@ -34,6 +34,8 @@ run_format "$device" 100 281474976710655
 ended 'a file that has the size' 0 ''
 holds "$device" 100 01495353310100000000ffffffffffff00
 [ "$(tail -c 83 "$device" | tr -d x | wc -c)" = 0 ] || fail 'a file that has the size: it is not left behind its end gate'
+issue replay "$device" </dev/null >"$room/out"
+ended 'a device of the greatest instance' 0 ''
 
 # One that has another size is left as it is.
 for size in 0 17 99 101; do
@@ -51,6 +53,8 @@ issuer=$PWD/$issuer
     status=0
     "$issuer" format small 17 0 || status=$?
     [ "$status" = 0 ] || fail "a name without a folder: status $status, not 0"
+    "$issuer" format small- 17 0 || status=$?
+    [ "$status" = 0 ] || fail "a name that ends in a minus sign: status $status, not 0"
 )
 holds "$room/small" 17 0149535331010000000000000000000000
 
@@ -66,6 +70,14 @@ if [ "$(id -u)" != 0 ]; then
     ended 'a folder that takes no file' 4 "$refusal"
 fi
 
+# The greatest numbers and the longest name are taken: what ends such a run is the device's size, or that no file can have the name.
+printf x >"$room/one"
+run_format "$room/one" 4294967296 281474976710655
+ended 'the greatest size and instance' 4 "$refusal"
+longest=$(printf '\303\251%.0s' {1..2048})
+run_format "$longest" 17 0
+ended 'a name of 4096 bytes' 4 "$refusal"
+
 # unformatted WORDS..: the words are no command, and no file is made.
 unformatted() {
     run_format "$@"
@@ -76,13 +88,14 @@ unformatted() {
 unformatted
 unformatted "$room/unmade"
 unformatted "$room/unmade" 100
-unformatted "$room/unmade" 16 0
-unformatted "$room/unmade" 4294967297 0
-unformatted "$room/unmade" 100 281474976710656
-unformatted "$room/unmade" 0100 7
-unformatted "$room/unmade" +100 7
-unformatted "$room/unmade" 100 -7
+for size in 16 0 4294967297 18446744073709551633 017 +17 '' '1 7' 0x11 17. $'\331\2417'; do
+    unformatted "$room/unmade" "$size" 0
+done
+for instance in 281474976710656 18446744073709551616 00 -0 -7 ''; do
+    unformatted "$room/unmade" 17 "$instance"
+done
 unformatted "$room/unmade" 100 7 7
 unformatted '' 100 7
+unformatted - 100 7
 unformatted -unmade 100 7
-unformatted "$(printf 'd%.0s' {1..4097})" 100 7
+unformatted "${longest}d" 100 7

@@ -111,13 +111,16 @@ END
 
 # requests: what a request may be, and what it is told.
 requests() {
-    local line
+    local line event
     line=$(purchase a1 c1 m1)
     told "$line" '200 {"event":"a1","reply":"approved"}'
     told "$line" '200 {"event":"a1","reply":"approved"}'
     told "$(purchase a1 c1 m2)" '409 {"event":"a1","record":8,"reply":"conflict"}'
     told "$(purchase a2 c1 m1)" "$(declined a2 INSUFFICIENT_FUNDS)"
-    told '{"type":"time","at":1}' '400 {"fault":"FIELD","field":"type","reply":"form"}'
+    for event in '"time","at":1' '"answer","call":1,"outcome":"FUNDED"' '"ack","notice":1'; do
+        told "{\"type\":$event}" '400 {"fault":"FIELD","field":"type","reply":"form"}'
+    done
+    told '{"type":"user","token":"t1","user":"u1","at":"then"}' "$(done_reply t1)"
     told 'nothing' '400 {"fault":"JSON","reply":"form"}'
     faulty 'three pieces' '200 {"event":"a1","reply":"approved"}' \
         'POST /events HTTP/1.1\r\nContent-Le' "ngth: ${#line}\\r\\n\\r\\n${line:0:20}" "${line:20}"

@@ -8,7 +8,5 @@
 
 mod events;
 mod row;
-#[cfg(test)]
-mod tests;
 
 pub use events::Events;

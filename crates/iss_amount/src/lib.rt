@@ -8,8 +8,6 @@
 
 mod currency;
 mod reading;
-#[cfg(test)]
-mod tests;
 mod writing;
 
 pub use currency::{code, decimals, from_code};

@@ -8,8 +8,6 @@
 mod call;
 mod calls;
 mod orders;
-#[cfg(test)]
-mod tests;
 
 pub use call::{Call, NotOpen};
 pub use calls::Calls;

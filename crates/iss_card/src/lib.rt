@@ -7,8 +7,6 @@
 mod cards;
 mod moves;
 mod standing;
-#[cfg(test)]
-mod tests;
 
 pub use cards::{CardFault, Cards};
 pub use moves::{card_may_move, user_may_move};

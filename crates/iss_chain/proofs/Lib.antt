@@ -4,8 +4,6 @@ pub mod RowPlaces
 pub mod FitPieces
 pub mod FitCalls
 pub mod Reaching
-pub mod Reach
-pub mod Walking
 pub mod Entered
 pub mod Made
 pub mod InCore

@@ -14,8 +14,6 @@ pub mod pieces;
 mod rows;
 mod state;
 mod sums;
-#[cfg(test)]
-mod tests;
 
 pub use chain::Chain;
 pub use laws::{a_chain_is_part_of_the_core, the_rules_make_its_entries};

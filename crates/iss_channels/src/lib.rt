@@ -10,8 +10,6 @@
 mod by_channel;
 mod on_channel;
 mod places;
-#[cfg(test)]
-mod tests;
 
 pub use by_channel::ByChannel;
 pub use on_channel::{OnChannel, Receives};

@@ -21,6 +21,3 @@ pub use contents::contents_are_their_spelling;
 pub use decoding::decode;
 pub use encoding::{encode, put_record};
 pub use spelled::{fields_are_read_again, records_are_read_again};
-
-#[cfg(test)]
-mod tests;

@@ -2,4 +2,3 @@ pub mod KeyOrder
 pub mod TreeSums
 pub mod Replaced
 pub mod StandsAlike
-pub mod Bounds

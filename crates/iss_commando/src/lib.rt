@@ -10,8 +10,6 @@ mod day;
 mod sets;
 mod stand;
 mod sums;
-#[cfg(test)]
-mod tests;
 
 pub use sets::{SetFault, Sets};
 pub use stand::Stand;

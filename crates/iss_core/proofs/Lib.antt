@@ -1,8 +1,6 @@
 pub mod Upheld
 pub mod Judged
-pub mod Sweeping
 pub mod Arms
-pub mod StandIns
 pub mod OnBook
 pub mod Bounds
 pub mod NoticeAnswers

@@ -17,6 +17,3 @@ mod tally;
 
 pub use fault::DrillFault;
 pub use run::drill;
-
-#[cfg(test)]
-mod tests;

@@ -10,8 +10,6 @@ mod device;
 mod edge;
 mod memory;
 mod outside;
-#[cfg(test)]
-mod tests;
 
 pub use bytes::Bytes;
 pub use counts::{Fault, FaultCounts};

@@ -221,6 +221,3 @@ fn copy_into(device: &mut Vec<u8>, at: usize, bytes: &[u8])
 {
     device[at..at + bytes.len()].copy_from_slice(bytes);
 }
-
-#[cfg(test)]
-mod tests;

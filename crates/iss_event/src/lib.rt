@@ -25,10 +25,3 @@ pub use writing::{
     acked_line, form_line, put_acked, put_form, put_reply, put_time, put_told, reply_line,
     time_line, told_line,
 };
-
-#[cfg(test)]
-mod faults;
-#[cfg(test)]
-mod later;
-#[cfg(test)]
-mod tests;

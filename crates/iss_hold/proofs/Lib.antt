@@ -9,7 +9,6 @@ pub mod IndexCalls
 pub mod Changes
 pub mod IndexesKept
 pub mod HoldCalls
-pub mod TestBounds
 pub mod NamedExpiries
 pub mod Named
 pub mod Earliest

@@ -11,8 +11,6 @@ mod holds;
 mod indexes;
 mod list;
 mod table;
-#[cfg(test)]
-mod tests;
 
 pub use hold::{Hold, Taken};
 pub use holds::Holds;

@@ -22,6 +22,3 @@ pub use laws::{a_bad_head_begins_nothing, what_is_whole_stays};
 pub use messages::{ask, respond};
 pub use requests::Reader;
 pub use worked::{worked_answers, worked_faults, worked_hopeless, worked_requests, worked_texts};
-
-#[cfg(test)]
-mod tests;

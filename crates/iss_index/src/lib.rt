@@ -8,8 +8,6 @@ mod groups;
 mod index;
 mod names;
 mod places;
-#[cfg(test)]
-mod tests;
 
 pub use index::Index;
 pub use names::Names;

@@ -14,8 +14,3 @@ mod texts;
 
 pub use answers::answer;
 pub use texts::{notice_text, put_notice, put_request, request_text};
-
-#[cfg(test)]
-mod answer_tests;
-#[cfg(test)]
-mod tests;

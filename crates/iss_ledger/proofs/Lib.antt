@@ -1,4 +1,3 @@
 pub mod KeyOrder
 pub mod TreeSums
 pub mod PostSums
-pub mod Bounds

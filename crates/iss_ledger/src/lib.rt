@@ -9,7 +9,5 @@
 mod key;
 mod ledger;
 mod sums;
-#[cfg(test)]
-mod tests;
 
 pub use ledger::Ledger;

@@ -17,6 +17,3 @@ pub use gone::Gone;
 pub use heard::{Heard, LinkState};
 pub use laws::{answers_are_caused, answers_are_good_stretches};
 pub use links::Links;
-
-#[cfg(test)]
-mod tests;

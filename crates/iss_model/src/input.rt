@@ -333,29 +333,3 @@ impl Clone for Input {
         })
     }
 }
-
-#[cfg(test)]
-mod tests {
-    use super::Input;
-    use crate::{Mccs, Token};
-    use std::alloc::AllocError;
-
-    #[test]
-    fn a_group_is_cloned(rt: HostRuntime) -> Result<(), AllocError> {
-        let codes = Vec::from_slice(rt.alloc(), &[5411, 5812])?;
-        if let Some(token) = Token::new(b"food") {
-            let group = Input::Group {
-                token,
-                group: token,
-                mccs: Mccs::from_rising(codes),
-            };
-            let copy = group.clone()?;
-            let kept = match &copy {
-                Input::Group { mccs, .. } => mccs.as_slice() == [5411, 5812].as_slice(),
-                _ => false,
-            };
-            assert!(rt; kept);
-        }
-        Ok(())
-    }
-}

@@ -5,7 +5,5 @@
 #![tactic(auto)]
 
 mod notices;
-#[cfg(test)]
-mod tests;
 
 pub use notices::{NoticeFault, Notices};

@@ -5,7 +5,5 @@
 #![tactic(auto)]
 
 mod products;
-#[cfg(test)]
-mod tests;
 
 pub use products::{ProductFault, Products};

@@ -1,20 +1,28 @@
-//! Tests of the top call over an outside in memory.
+//! Tests of the top call over an outside in memory: what each run does, with each of its calls failing, and where it stops.
 //!
 //! It may cite every crate below.
 //! Nothing may cite it.
 #![tactic(auto)]
 
 #[cfg(test)]
-mod balances;
+mod answers;
 #[cfg(test)]
-mod dry;
+mod images;
 #[cfg(test)]
-mod format;
+mod lines;
 #[cfg(test)]
-mod replay;
+mod links;
 #[cfg(test)]
-mod scripts;
+mod playing;
+#[cfg(test)]
+mod replays;
+#[cfg(test)]
+mod rows;
+#[cfg(test)]
+mod runs;
+#[cfg(test)]
+mod serving;
 #[cfg(test)]
 mod stops;
 #[cfg(test)]
-mod support;
+mod told;

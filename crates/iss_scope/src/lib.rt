@@ -6,8 +6,6 @@
 
 mod groups;
 mod scopes;
-#[cfg(test)]
-mod tests;
 
 pub use groups::{GroupFault, Groups};
 pub use scopes::covers;

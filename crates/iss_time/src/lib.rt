@@ -4,8 +4,6 @@
 //! It must not cite controls: it knows stamps and windows alone.
 #![tactic(auto)]
 
-#[cfg(test)]
-mod tests;
 mod windows;
 
 pub use windows::window;

@@ -9,4 +9,3 @@ pub mod Controlling
 pub mod NotedSums
 pub mod Putting
 pub mod Noting
-pub mod TestBounds

@@ -6,4 +6,3 @@ pub mod Lists
 pub mod Keeping
 pub mod Noted
 pub mod Codes
-pub mod Bounds

@@ -12,10 +12,6 @@ mod past;
 mod spans;
 mod standing;
 mod table;
-#[cfg(test)]
-mod tests;
-#[cfg(test)]
-mod worked;
 
 pub use ask::Ask;
 pub use controls::{ControlFault, Controls};

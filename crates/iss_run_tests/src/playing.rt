@@ -1,0 +1,220 @@
+//! Runs over an outside in memory, by what they begin with.
+ghost use Rattle.std.specs.Prelude.{◌≡◌, ◌∷◌, ◌&&◌, List, true, not, IsTrue, IfOk};
+ghost use Rattle.iss_edge.specs.Channels.{is_among};
+ghost use Rattle.iss_edge.specs.Memory.{are_clients_apart, are_to_come, is_client_number};
+ghost use Rattle.iss_edge.specs.declared.outside.Script.{Script};
+
+use iss_edge::{Bytes, Channel, Edge, MemoryEdge, Script};
+use iss_top::run;
+use std::alloc::{AllocError, Global};
+
+/// What a wait brings.
+#[derive(Clone, Copy)]
+pub(crate) enum Come<'a> {
+    Client(u32),
+    /// A whole request with this line.
+    Asks(u32, &'a str),
+    More(u32, &'a [u8]),
+    Ended(u32),
+    Time(u64),
+}
+
+/// A device of this size: these pieces, zeros, and then the records that these lines make there.
+#[derive(Clone, Copy)]
+pub(crate) struct Device {
+    pub(crate) size: usize,
+    pub(crate) pieces: &'static [&'static [u8]],
+    pub(crate) lines: &'static str,
+}
+
+/// A run: what it begins with, and what it has to do.
+#[derive(Clone, Copy)]
+pub(crate) struct Run {
+    pub(crate) what: &'static str,
+    pub(crate) words: &'static [&'static str],
+    pub(crate) device: Device,
+    pub(crate) input: &'static str,
+    pub(crate) comes: &'static [Come<'static>],
+    /// The numbers of the calls that fail.
+    pub(crate) fails: &'static [u64],
+    pub(crate) status: u8,
+    /// What is done, two letters each (`told`).
+    pub(crate) done: &'static str,
+    /// What the calls answer, two letters each.
+    pub(crate) heard: &'static str,
+    /// All that goes out, where it is compared.
+    pub(crate) sent: Option<&'static str>,
+    /// The device after it, where it is compared.
+    pub(crate) leaves: Option<Device>,
+    /// How many calls it makes that may fail, or 0 where none is to fail but those above.
+    pub(crate) calls: u64,
+    /// How many records stand before each text goes out.
+    pub(crate) levels: &'static [usize],
+}
+
+/// A replay of no lines: it opens the device and writes what waits for the gateway.
+pub(crate) const OPENING: Run = Run {
+    what: "an opening",
+    words: &["replay", "d"],
+    device: Device {
+        size: 0,
+        pieces: &[],
+        lines: "",
+    },
+    input: "",
+    comes: &[],
+    fails: &[],
+    status: 0,
+    done: "",
+    heard: "",
+    sent: None,
+    leaves: None,
+    calls: 0,
+    levels: &[],
+};
+
+/// A run that was played, and the outside after it.
+#[derive(Drop)]
+pub(crate) struct Played {
+    pub(crate) status: u8,
+    pub(crate) edge: MemoryEdge,
+}
+
+/// Plays the run on this device with this to come, where the call of this number fails too.
+pub(crate) fn play(
+    alloc: Global,
+    row: &Run,
+    comes: &[Come],
+    device: &[u8],
+    failing: u64,
+) -> Result<Played, AllocError> {
+    let words = words_of(alloc, row.words)?;
+    let mut edge = edge_of(alloc, row, comes, device, failing)?;
+    let status = status_of(alloc, words.as_slice(), &mut edge);
+    Ok(Played { status, edge })
+}
+
+/// The top call over any outside: over the one in memory its clauses take long to elaborate.
+fn status_of<E: Edge>(alloc: Global, words: &[String], edge: &mut E) -> u8 {
+    run(alloc, words, edge)
+}
+
+fn words_of(alloc: Global, words: &[&str]) -> Result<Vec<String>, AllocError> {
+    let mut list = Vec::new(alloc);
+    for word in words {
+        list.push(String::from_str(alloc, word)?)?;
+    }
+    Ok(list)
+}
+
+fn edge_of(
+    alloc: Global,
+    row: &Run,
+    comes: &[Come],
+    device: &[u8],
+    failing: u64,
+) -> Result<MemoryEdge, AllocError> {
+    let script = script_of(alloc, comes)?;
+    if !are_apart(alloc, script.as_slice())? {
+        return Err(AllocError);
+    }
+    let device = device.to_vec(alloc)?;
+    let input = row.input.as_bytes().to_vec(alloc)?;
+    let mut fails = row.fails.to_vec(alloc)?;
+    fails.push(failing)?;
+    MemoryEdge::new(alloc, device, input, script, fails)
+}
+
+fn script_of(alloc: Global, comes: &[Come]) -> Result<Vec<Script>, AllocError> {
+    let mut script = Vec::new(alloc);
+    for come in comes {
+        script.push(item_of(alloc, *come)?)?;
+    }
+    Ok(script)
+}
+
+fn item_of(alloc: Global, come: Come) -> Result<Script, AllocError> {
+    match come {
+        Come::Client(ch) => Ok(Script::Client(Channel(ch))),
+        Come::Asks(ch, line) => Ok(Script::More(Channel(ch), request(alloc, line)?)),
+        Come::More(ch, bytes) => Ok(Script::More(Channel(ch), Bytes::from(bytes.to_vec(alloc)?))),
+        Come::Ended(ch) => Ok(Script::Ended(Channel(ch))),
+        Come::Time(at) => Ok(Script::Time(at)),
+    }
+}
+
+/// A whole request with this line.
+fn request(alloc: Global, line: &str) -> Result<Bytes, AllocError> {
+    let length = line.len();
+    let text = format!(in alloc;
+        "POST /events HTTP/1.1\r\nContent-Length: {length}\r\n\r\n{line}"
+    )?;
+    Ok(Bytes::from(text.into_bytes()))
+}
+
+/// Whether each client comes on a channel of its own, as an outside in memory asks.
+fn are_apart(alloc: Global, script: &[Script]) -> Result<bool, AllocError>
+    ensures { IfOk result (λ apart. IsTrue apart → are_clients_apart script.now ≡ true) }
+{
+    let mut known = Vec::new(alloc);
+    for item in script {
+        if !comes_apart(&mut known, item)? {
+            return Ok(false);
+        }
+    }
+    Ok(true)
+}
+
+/// Whether a client comes on a channel that isn't known yet, and then is. All else may come.
+fn comes_apart(known: &mut Vec<u32>, item: &Script) -> Result<bool, AllocError>
+    ensures { IfOk result (λ apart. IsTrue apart → (rest : List Script)
+        → are_to_come known.old.items (item.now ∷ rest) ≡ are_to_come known.new.items rest) }
+{
+    match item {
+        Script::Client(ch) => {
+            if !is_free(known.as_slice(), ch.0) {
+                return Ok(false);
+            }
+            known.push(ch.0)?;
+            Ok(true)
+        }
+        _ => Ok(true),
+    }
+}
+
+/// Whether a client may come on this channel, where these came.
+fn is_free(known: &[u32], ch: u32) -> bool
+    ensures { IsTrue result → is_client_number ch && not (is_among known.now ch) ≡ true }
+{
+    if ch < 1 {
+        return false;
+    }
+    if 1000000 < ch {
+        return false;
+    }
+    !is_known(known, ch)
+}
+
+fn is_known(known: &[u32], ch: u32) -> bool
+    ensures { result ≡ is_among known.now ch }
+{
+    known.iter().any(|number| *number == ch)
+}
+
+/// The device that a run begins with.
+pub(crate) fn start_of(alloc: Global, device: &Device) -> Result<Vec<u8>, AllocError> {
+    let mut bytes = Vec::new(alloc);
+    for piece in device.pieces {
+        bytes.extend_from_slice(*piece)?;
+    }
+    bytes.resize(device.size, 0)?;
+    if device.lines.is_empty() {
+        return Ok(bytes);
+    }
+    let filling = Run {
+        input: device.lines,
+        ..OPENING
+    };
+    let filled = play(alloc, &filling, &[], bytes.as_slice(), 0)?;
+    filled.edge.device().to_vec(alloc)
+}
