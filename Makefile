@@ -5,7 +5,7 @@ sources := crates.txt HANDLES \
     $(shell find crates -name out -prune -o \( -name '*.rt' -o -name '*.antt' \) -print)
 
 .DEFAULT_GOAL := issuer
-.PHONY: help issuer run crate check try test bench twins doctor
+.PHONY: help issuer run crate check try test checks mutants bench twins map doctor
 
 help: ## lists these targets
 	@awk -F ':.*## ' '/^[a-z]+:.*## / { printf "make %-8s %s\n", $$1, $$2 }' Makefile
@@ -20,7 +20,7 @@ $(program): $(sources)
 	cd crates/iss_cli && rt run -- dry </dev/null
 	touch $(program)
 
-run: ## shows the replies to the first example after about a minute, by a build that is not proved
+run: ## shows the replies to the first example after some minutes, by a build that is not proved
 	@echo 'This build is not proved: `make issuer` proves the program, and leaves it at build/issuer.'
 	@cd crates/iss_cli && rt try -- dry <../../$(first)
 
@@ -30,19 +30,42 @@ crate:
 check: crate ## proves one crate, as in make check CRATE=iss_card
 	cd crates/$(CRATE) && rt check
 
-try: crate ## runs one crate's tests without proving them, as in make try CRATE=iss_card
+try: crate ## runs one crate's tests without proving them, as in make try CRATE=iss_words_tests
 	cd crates/$(CRATE) && rt try --test
 
 test: ## all that a change has to pass: each proof, wrong body, test and check
 	.ci/run
+
+checks: ## lists the checks of the gate, and what each of them asks
+	@awk 'FNR == 1 { name = FILENAME; sub(/.*\//, "", name); head = 1; next } head && /^# / { print name ":" substr($$0, 2); name = "   "; next } { head = 0 }' .ci/checks/*
+
+mutants: ## tries all wrong bodies in copies, and lists those that were not refused; make mutants CRATE=iss_card tries one crate's
+	@.ci/mutants.py try $(CRATE)
 
 bench: issuer ## lines per second, and memory; replies and served calls per second on a device, beside a loop in C
 	bash bench/dry.sh
 	bash bench/replay.sh
 	bash bench/serve.sh
 
+# The book and the table are made anew each time.
+.PHONY: book clauses
+book: ## all definitions that a clause of the top call cites, as a page in build/book: make book CLAUSE=serving
+	@python3 .ci/book.py $(CLAUSE)
+
+clauses: ## a line for each public call and what it promises, from the sources, in build/clauses.md
+	@mkdir -p build && python3 .ci/clauses.py >build/clauses.md && echo build/clauses.md
+
+.PHONY: prose
+prose: ## counts sentences over 25 words in docs/, page by page; make prose PAGE=docs/LINES.md lists those of one page
+	@python3 .ci/prose.py $(if $(PAGE),-v $(PAGE))
+
 twins: ## lists what stands twice in code, definitions and proofs
 	@bash .ci/twins.sh
+
+map: ## writes the tables of crates in docs/ARCHITECTURE.md from crates.txt and the crates' heads
+	@mkdir -p build
+	@bash .ci/map.sh >build/map
+	@cp build/map docs/ARCHITECTURE.md
 
 doctor: ## tells whether this machine has what the other targets need
 	@bash .ci/doctor.sh

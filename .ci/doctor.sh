@@ -52,5 +52,5 @@ tell ok processors "$(nproc)" 'with four, two crates are proved side by side'
 useful valgrind "$(command -v valgrind || true)" 'counts instructions, which tell growth better than seconds'
 useful gcc "$(command -v gcc || true)" 'compiles what make bench compares with, and the gateway and clients of the checks of serving'
 useful curl "$(command -v curl || true)" 'posts the lines of docs/SERVING.md, as the checks of serving do'
-useful python3 "$(command -v python3 || true)" 'runs the gateway of docs/SERVING.md'
+useful python3 "$(command -v python3 || true)" 'runs the gateway of docs/SERVING.md, and makes the book and the table of clauses'
 exit "$missing"

@@ -1,0 +1,66 @@
+#!/usr/bin/env python3
+"""Writes the table of clauses: each public call of each crate with what stands above it, and each of its clauses, as Markdown.
+
+`clauses.py` takes all crates of `crates.txt`, `clauses.py CRATE` one.
+"""
+
+import sys
+from itertools import groupby
+
+from sources import CRATES, calls_of, crate_order, exported_names, is_exported
+
+UNNAMED = "(unnamed)"
+
+
+def heading(crate):
+    """Returns a crate's heading: its name and what its root file says of it."""
+    root = CRATES / crate / "src" / "lib.rt"
+    lines = root.read_text().splitlines() if root.exists() else []
+    said = [line.removeprefix("//!").strip() for line in lines if line.startswith("//!")]
+    return [f"## {crate}", "", " ".join(said), ""]
+
+
+def cell(text):
+    return text.replace("|", "\\|")
+
+
+def names(clauses):
+    return ", ".join(f"`{clause.name}`" if clause.name else UNNAMED for clause in clauses)
+
+
+def groups(clauses):
+    """Returns the clauses in groups: those over which one comment stands."""
+    return [list(group) for _, group in groupby(clauses, key=lambda clause: clause.comment)]
+
+
+def rows(call):
+    """Returns a call's lines: its own with all of its clauses, and one for each group of clauses that has a comment."""
+    promises = [clause for clause in call.clauses if clause.kind == "ensures"]
+    needs = "yes" if len(promises) < len(call.clauses) else ""
+    path = call.path.relative_to(CRATES / call.crate)
+    commented = [group for group in groups(promises) if group[0].comment]
+    own = f"| `{call.title()}` | {names(promises)} | {needs} | {cell(call.comment)} | `{path}` |"
+    return [own] + [f"| | {names(group)} | | {cell(group[0].comment)} | |" for group in commented]
+
+
+def table(crate):
+    """Returns a crate's part: its heading, and the lines of its public calls, or nothing if it has none."""
+    shown = exported_names(crate)
+    lines = [line for call in calls_of(crate) if is_exported(call, shown) for line in rows(call)]
+    head = ["| call | clauses | needs | what stands above | file |", "|---|---|---|---|---|"]
+    return heading(crate) + head + lines + [""] if lines else []
+
+
+def main(words):
+    crates = words or crate_order()
+    unknown = [crate for crate in crates if crate not in crate_order()]
+    if unknown:
+        sys.exit(f"crates.txt has no {unknown[0]}.")
+    lines = [line for crate in crates for line in table(crate)]
+    if not lines:
+        sys.exit("No public call was found.")
+    print("\n".join(["# Clauses", "", "What each public call promises, from the sources.", "", *lines]))
+
+
+if __name__ == "__main__":
+    main(sys.argv[1:])
