@@ -39,18 +39,24 @@ impl State {
     pub(crate) fn new(alloc: Global) -> Result<State, AllocError>
         ensures { IfOk result (λ state. state_of state ≡ no_core) }
     {
+        // What may fail comes first, so that few parts are let go if it does.
+        let products = Products::new(alloc)?;
+        let chain = Chain::new(alloc)?;
+        let calls = Calls::new(alloc)?;
+        let sets = Sets::new(alloc)?;
+        let notices = Notices::new(alloc)?;
         Ok(State {
             time: 0,
             count: 0,
             events: Events::new(alloc),
             cards: Cards::new(alloc),
-            products: Products::new(alloc)?,
+            products,
             groups: Groups::new(alloc),
             controls: Controls::new(alloc),
-            chain: Chain::new(alloc)?,
-            calls: Calls::new(alloc)?,
-            sets: Sets::new(alloc)?,
-            notices: Notices::new(alloc)?,
+            chain,
+            calls,
+            sets,
+            notices,
         })
     }
 
