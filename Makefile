@@ -59,6 +59,10 @@ clauses: ## a line for each public call and what it promises, from the sources, 
 prose: ## counts sentences over 25 words in docs/, page by page; make prose PAGE=docs/LINES.md lists those of one page
 	@python3 .ci/prose.py $(if $(PAGE),-v $(PAGE))
 
+.PHONY: api
+api: ## writes the contracts for machines, api/openapi.json and api/line.schema.json, from docs/LINES.md and api/definitions.py
+	@python3 api/generate.py
+
 twins: ## lists what stands twice in code, definitions and proofs
 	@bash .ci/twins.sh
 

@@ -1,0 +1,42 @@
+#!/usr/bin/env bash
+# The contracts for machines in api/: they are what `make api` writes, each line and text of the worked scripts is as they say, and
+# so is what a program that serves answers to clients and sends to its gateway.
+
+# Each event that is served costs two syncs: in memory they take no time.
+[ ! -w /dev/shm ] || export TMPDIR=/dev/shm
+. "$(dirname "$0")/../serving.sh"
+
+if ! command -v python3 >/dev/null; then
+    echo "$0: no python3 here: the contracts for machines are left out"
+    exit 0
+fi
+export PYTHONDONTWRITEBYTECODE=1
+
+python3 api/generate.py --check
+python3 .ci/api.py cases
+python3 .ci/api.py lines "$issuer"
+
+# Half of the lines are valid for a client, and half are not.
+cat >"$room/lines" <<'END_OF_LINES'
+{"type":"user","token":"t1","user":"u1"}
+{"type":"time","at":1}
+END_OF_LINES
+status=0
+python3 api/validate.py api/line.schema.json ClientLine <"$room/lines" >"$room/out" || status=$?
+[ "$status" = 1 ] || fail "a line that no client may send: status $status, not 1"
+echo '2: {"type":"time","at":1}' >"$room/bad"
+wrote 'a line that no client may send' "$room/bad"
+python3 api/validate.py api/line.schema.json <"$room/lines" || fail 'two lines: they are not valid'
+
+formatted 1000000
+serve
+listening "$port" 'what serves'
+python3 .ci/api.py serve "$port" "$gateway_port"
+killed
+
+# A device without room.
+formatted 17
+serve
+listening "$port" 'what serves'
+python3 .ci/api.py full "$port"
+killed

@@ -1,0 +1,158 @@
+#!/usr/bin/env bash
+# What docs/RECIPES.md has on devices: its commands as they stand there, what they export, and the sizes of records that it names.
+# The bytes of a device in examples/tools/README.md.
+
+# Devices are written here: in memory their syncs take no time.
+[ ! -w /dev/shm ] || export TMPDIR=/dev/shm
+. "$(dirname "$0")/../program.sh"
+
+if ! command -v python3 >/dev/null; then
+    echo "$0: no python3 here: the recipes are left out"
+    exit 0
+fi
+export PYTHONDONTWRITEBYTECODE=1
+reader=examples/tools/device_lines.py
+tables=examples/tools/tables.py
+
+# The page's commands, in a folder in which the program is built.
+mkdir -p "$room/page/build"
+cp "$issuer" "$room/page/build/issuer"
+ln -s "$PWD/examples" "$room/page/examples"
+awk '
+    /^## / { is_ours = /^## (What a device has|Why was this|One user|Who holds|Export to|How full)/ }
+    /^```/ { inside = !inside; next }
+    inside && is_ours
+' docs/RECIPES.md >"$room/page/commands"
+(cd "$room/page" && bash -eu -o pipefail commands) >"$room/out" 2>"$room/said" || fail "docs/RECIPES.md: it said '$(cat "$room/said")'"
+cat >"$room/told" <<'END'
+{"event":"a3","reason":"CONTROL:v1","reply":"declined"}
+{"type":"control","at":0,"token":"t7","control":"v1","currency":"USD","window":"DAY","amount_limit":"1.00","active":true}
+reason,declines
+CONTROL:v1,1
+record,type,event,txn,amount,reply,reason
+2,user,t2,,,done,
+4,card,t4,,,done,
+6,load,t6,,50.00,done,
+9,authorization,a2,a2,1.00,approved,
+10,authorization,a3,a3,0.01,declined,CONTROL:v1
+{"account":"user","balance":"50.00","currency":"USD","held":"1.00","user":"u1"}
+{"account":"user","balance":"50.00","currency":"USD","held":"1.00","user":"u2"}
+{"event":"live-8","reply":"done"}
+{"event":"live-9","reply":"done"}
+records 10
+size_bytes 1048576
+free_bytes 1048254
+used_ratio 0.000307
+# TYPE issuer_device_records gauge
+issuer_device_records 10
+# TYPE issuer_device_size_bytes gauge
+issuer_device_size_bytes 1048576
+# TYPE issuer_device_free_bytes gauge
+issuer_device_free_bytes 1048254
+# TYPE issuer_device_used_ratio gauge
+issuer_device_used_ratio 0.000307
+END
+wrote 'docs/RECIPES.md' "$room/told"
+
+# What was exported: the same rows in both.
+cat >"$room/told" <<'END'
+record,at,type,event,reply,reason,user,card,txn,currency,amount,minor,mcc,mid,call,outcome,notice,line
+1,0,user,t1,done,,u1,,,,,,,,,,,"{""type"":""user"",""at"":0,""token"":""t1"",""user"":""u1""}"
+END
+head -n 2 "$room/page/cards.csv" >"$room/out"
+wrote 'cards.csv' "$room/told"
+python3 - "$room/page" <<'END' || fail 'cards.sqlite has other rows than cards.csv'
+import csv
+import sqlite3
+import sys
+
+rows = sqlite3.connect(f"{sys.argv[1]}/cards.sqlite").execute("select * from records").fetchall()
+with open(f"{sys.argv[1]}/cards.csv") as file:
+    lines = list(csv.reader(file))[1:]
+sys.exit([["" if value is None else str(value) for value in row] for row in rows] != lines)
+END
+
+# A gateway's answer and acknowledgement, a clearing and a refund are about their purchase and its user too.
+cat >"$room/in" examples/scripts/a_day_of_a_gateway_product.jsonl - <<<'{"type":"ack","notice":2}'
+issue dry <"$room/in" >"$room/replies"
+ended 'a day of a gateway product' 0 ''
+python3 "$tables" "$room/in" "$room/replies" \
+    "select type, event, txn, minor, outcome, notice from records where user = 'u1' and txn = 'a2'" >"$room/out"
+cat >"$room/told" <<'END'
+type,event,txn,minor,outcome,notice
+authorization,a2,a2,100,,
+answer,a2,a2,100,FUNDED,
+increment,i1,a2,4900,,
+answer,i1,a2,4900,FUNDED,
+clearing,k2,a2,3820,,
+ack,,a2,3820,,2
+END
+wrote 'the history of a purchase' "$room/told"
+
+# By the commands of the page: four purchases have ended, and a fifth hasn't.
+cat >"$room/page/cards.jsonl" examples/scripts/a_day_of_a_gateway_product.jsonl - <<'END'
+{"type":"authorization","token":"a5","card":"c1","currency":"USD","amount":"1.00","mcc":"5411","mid":"m1"}
+{"type":"answer","call":6,"outcome":"FUNDED"}
+END
+issue dry <"$room/page/cards.jsonl" >"$room/page/cards.replies"
+ended 'a live purchase' 0 ''
+awk '/^## / { is_ours = /^## Who holds/ } /^```/ { inside = !inside; next } inside && is_ours' docs/RECIPES.md | sed 1d >"$room/page/commands"
+(cd "$room/page" && bash -eu -o pipefail commands) | sed 's/.*"event":"\([^"]*\)".*"reply":"\([a-z]*\)".*/\1 \2/' >"$room/out"
+cat >"$room/told" <<'END'
+live-6 declined
+live-9 declined
+live-14 declined
+live-18 declined
+live-21 done
+END
+wrote 'the purchases that are live' "$room/told"
+
+# used FILE: how many bytes of a new device the records of these lines take.
+used() {
+    rm -f "$room/device"
+    issue format "$room/device" 100000 7
+    ended 'a new device' 0 ''
+    issue replay "$room/device" <"$1" >"$room/out"
+    ended 'a purchase' 0 ''
+    python3 "$reader" "$room/device" --stats | awk '/^size/ { size = $2 } /^free/ { print size - $2 - 17 }'
+}
+
+# purchase LENGTH: the lines of a purchase that a gateway funds and that is then cleared, all of whose names have this length.
+purchase() {
+    name() { printf "%-$1s" "$2" | tr ' ' '-'; }
+    local u p c t k m
+    u=$(name "$1" u) p=$(name "$1" p) c=$(name "$1" c) t=$(name "$1" t) k=$(name "$1" k) m=$(name "$1" m)
+    cat <<END
+{"type":"user","token":"t1","user":"$u"}
+{"type":"product","token":"t2","product":"$p","currency":"USD","funding":"GATEWAY"}
+{"type":"card","token":"t3","card":"$c","user":"$u","product":"$p"}
+{"type":"authorization","token":"$t","card":"$c","currency":"USD","amount":"1.00","mcc":"5411","mid":"$m"}
+{"type":"answer","call":1,"outcome":"FUNDED"}
+{"type":"clearing","token":"$k","txn":"$t","currency":"USD","amount":"1.00","final":true}
+{"type":"ack","notice":1}
+END
+}
+
+# millions BYTES: how many million times so many bytes a GiB has, cut after the first decimal.
+millions() {
+    awk -v bytes="$1" 'BEGIN { printf "%.1f", int(2 ^ 30 / bytes / 100000) / 10 }'
+}
+
+for length in 8 36; do
+    purchase "$length" >"$room/lines"
+    for count in 3 4 5 6 7; do
+        head -n "$count" "$room/lines" >"$room/some"
+        sums[count]=$(used "$room/some")
+    done
+    alone=$((sums[4] - sums[3])) answer=$((sums[5] - sums[4])) clearing=$((sums[6] - sums[5])) ack=$((sums[7] - sums[6]))
+    cleared=$((alone + clearing))
+    funded=$((cleared + answer + ack))
+    row="| $alone bytes | $cleared | $funded | $(millions "$cleared") and $(millions "$funded") million |"
+    grep -qF "$row" docs/RECIPES.md || fail "docs/RECIPES.md: names of $length characters have the row '$row'"
+done
+
+# The bytes of the first two records, as the page of the tools has them.
+issue format "$room/bytes" 1000 7
+issue replay "$room/bytes" <"$first_in" >"$room/out"
+hex=$(sed -n '/^```$/,/^```$/p' examples/tools/README.md | tr -dc '0-9a-f')
+[ "$hex" = "$(od -An -v -tx1 -j 16 -N "$((${#hex} / 2))" "$room/bytes" | tr -d ' \n')" ] || fail 'examples/tools/README.md has other bytes'
