@@ -1,0 +1,50 @@
+#!/usr/bin/env node
+// Posts each line of standard input as an event, in their order, and writes the response to each: client.js [URL].
+//
+// To send an event again is safe, since it acts once. So the same bytes are sent until a response decides them.
+// Ends with 1 if some line wasn't taken, and says on standard error why.
+"use strict";
+const { createInterface } = require("node:readline");
+const { setTimeout: sleep } = require("node:timers/promises");
+
+const PATIENCE = 75000; // milliseconds for a response: more than any product's time to answer
+const NOT_NOW = [408, 429]; // what a proxy says to a request that may come again
+
+// Returns the status and the body of the response to one attempt, or null if there was no whole one.
+async function post(url, line) {
+    try {
+        const response = await fetch(url, { method: "POST", body: line, signal: AbortSignal.timeout(PATIENCE) });
+        return { status: response.status, body: await response.text() };
+    } catch {
+        return null;
+    }
+}
+
+// Whether there is nothing to gain by sending the same bytes again: 507 says that the device is full.
+function decides({ status, body }) {
+    if (status === 200) return JSON.parse(body).reply !== "pending";
+    return status === 507 || (status >= 400 && status < 500 && !NOT_NOW.includes(status));
+}
+
+// Sends the line until a response decides it, and returns that response.
+async function posted(url, line) {
+    for (let pause = 50; ; pause = Math.min(2 * pause, 2000)) {
+        const response = await post(url, line);
+        if (response && decides(response)) return response;
+        await sleep(pause);
+    }
+}
+
+async function main(url = "http://127.0.0.1:8080/events") {
+    for await (const line of createInterface({ input: process.stdin })) {
+        const { status, body } = await posted(url, line.trim());
+        if (status === 200) {
+            process.stdout.write(body);
+        } else {
+            process.exitCode = 1;
+            process.stderr.write(`${status}: ${body.trim()}\n`);
+        }
+    }
+}
+
+main(process.argv[2]);
