@@ -2,8 +2,8 @@
 """Wrong bodies, which the prover must refuse: one file each, in crates/NAME/must-fail/ if the gate tries it, else in
 crates/NAME/mutants/. Edits of statements and definitions stand in mutants/statements/ and count apart.
 
-    .ci/mutants.py stand          each edit can still be made, and the gate doesn't try too many
-    .ci/mutants.py try [CRATE]    all edits, or those of one crate, are tried in a copy, crates side by side
+    .ci/mutants.py stand            each edit can still be made, and the gate doesn't try too many
+    .ci/mutants.py try [CRATE..]    all edits, or those of these crates, are tried in a copy, crates side by side
 """
 import os
 import pathlib
@@ -84,6 +84,9 @@ def try_all(crates):
             folder.mkdir(exist_ok=True)
             for it in crate.glob("mutants/**/*.edit"):
                 shutil.copy(it, folder)
+        if len(crates) > 1:
+            # So that no two of the runs below build the same library.
+            subprocess.run(["rt", "all", "check", "--jobs", str(os.cpu_count())], cwd=room, stdout=subprocess.DEVNULL, check=True)
         with ThreadPoolExecutor(os.cpu_count()) as lanes:
             said = [it for its in lanes.map(lambda crate: tried(room, crate.name), crates) for it in its]
     refused = [it for it in said if ": refused, as it must be" in it]
@@ -95,11 +98,11 @@ def try_all(crates):
 
 
 def main(words):
-    named = words[1:2] if words[:1] == ["try"] else []
-    crates = [it for it in sorted(ROOT.glob("crates/*")) if (it / "src").is_dir() and it.name in (named or [it.name])]
+    every = [it for it in sorted(ROOT.glob("crates/*")) if (it / "src").is_dir()]
     if words == ["stand"]:
-        return 0 if stand(crates) else 1
-    if words[:1] == ["try"] and len(words) <= 2 and crates:
+        return 0 if stand(every) else 1
+    crates = [it for it in every if it.name in (words[1:] or [it.name])]
+    if words[:1] == ["try"] and len(crates) >= len(words[1:]):
         return 0 if try_all(crates) else 1
     print(__doc__, file=sys.stderr)
     return 2

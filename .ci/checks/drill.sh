@@ -1,6 +1,6 @@
 #!/usr/bin/env bash
 # Drills: the worked lines of one and of three events; one of 300 beside the same events made here as texts and replayed one by one; and one
-# of 100000 within a minute, with the line that the proved program first wrote.
+# of 100000 within a minute, with the line that is kept here.
 . "$(dirname "$0")/../program.sh"
 
 # drilled NUMBER LINE: a drill of so many events writes this line, within a minute.
