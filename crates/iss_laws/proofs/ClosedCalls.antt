@@ -1,18 +1,14 @@
--- The rulings that go with calls which a record closes: one that failed or was answered, and those of a transaction that are abandoned.
-use Rattle.iss_model.specs.rules.CardReasons.{is_account_funded}
-use Rattle.iss_docket.proofs.Docketed.{gateway_silent, clearing_silent, both_silent, hold_silent, post_silent, release_silent, silent}
-use Rattle.iss_model.specs.rules.Pieces.{taken_to_clear, Parts, release_entries, notice_entry, void_entry, post_entries, hold_entries, user_account, abandoned_call_entries, abandoned_calls_entries, declined_ask_entries, failure_reason, stand_entries}
-use Rattle.iss_model.specs.rules.CardEntries.{clearing_money_entries, failed_call_entries}
-use Rattle.std.proofs.Common.{subst, ◌-◌, ◌≡◌, ℕ, ◌+◌, Bool, true, false, cond, nat_eq, List, [], ◌∷◌, ◌++◌, refl, sym, ap, ◌∙◌}
-use Rattle.iss_acts.specs.Acts.{Abandons, Act, Clears, Does, Ends, GivesBack, LetsGo, Tells, act_entries, acts_for_gateway, end_acts, entries_of_acts, refund_money_entries}
-use Rattle.iss_acts.proofs.Made.{acts_append}
+-- The rulings that go with calls which a record closes, and what acts rule in a row: one call failed or was answered, those of a transaction are abandoned.
+use Rattle.std.proofs.Common.{◌-◌, ◌≡◌, ℕ, ◌+◌, Bool, true, false, cond, nat_eq, List, [], ◌∷◌, ◌++◌, append-nil, refl, subst, sym, ap, ◌∙◌}
 use Rattle.std.specs.Prelude.{Option, Some, None, option_map, option_and_then, find}
-use Rattle.std.specs.List.{filter_map, cons_option, list_all}
+use Rattle.std.specs.List.{filter_map, cons_option}
 use Rattle.std.specs.Option.{option_or}
 use Rattle.std.specs.Str.{bytes_eq}
 use Rattle.std.proofs.lemmas.List.Elements.{filter_map-append}
 use Rattle.std.proofs.lemmas.List.Folds.{find-append}
+use Rattle.iss_model.specs.declared.account.Account.{Account}
 use Rattle.iss_model.specs.declared.account.Account.TheVariants as account
+use Rattle.iss_model.specs.declared.account.Part.{Part}
 use Rattle.iss_model.specs.declared.account.Part.TheVariants as part
 use Rattle.iss_model.specs.declared.call.CallId.{CallId}
 use Rattle.iss_model.specs.declared.call.Failure.{Failure}
@@ -30,16 +26,20 @@ use Rattle.iss_model.specs.declared.entry.Row.{Row}
 use Rattle.iss_model.specs.declared.input.Record.{Record}
 use Rattle.iss_model.specs.declared.txn.Txn.{Txn}
 use Rattle.iss_model.specs.rules.Activity.{TxnNow, CallNow, txn_now, txn_began, call_now, call_opened}
-use Rattle.iss_model.specs.rules.Asks.{Ask, call_ask}
+use Rattle.iss_model.specs.rules.Asks.{Ask, ask_given_back, call_ask}
+use Rattle.iss_model.specs.rules.CardReasons.{is_account_funded}
 use Rattle.iss_model.specs.rules.Facts.{Facts, txn_in, call_in, asked_calls_of, next_notice}
 use Rattle.iss_model.specs.rules.Histories.{History, history_facts, numbered_rows}
+use Rattle.iss_model.specs.rules.Pieces.{Parts, abandoned_call_entries, abandoned_calls_entries, declined_ask_entries, failure_reason, funded_ask_entries, hold_entries, in_all, notice_entry, post_entries, taken_to_clear, user_account, void_entry}
 use Rattle.iss_model.specs.rules.StandIns.{Stand, allowed, over_limit, uncovered, stand}
+use Rattle.iss_acts.specs.Acts.{Abandons, Act, Asks, Clears, Declines, Does, Ends, Fails, Funds, GivesBack, HoldsOwn, LetsGo, Loads, Refuses, Sets, StandsIn, TurnsDown, act_entries, acts_for_gateway, end_acts, entries_of_acts, failed_acts, refund_money_entries, stand_acts}
+use Rattle.iss_acts.proofs.Made.{acts_append}
 use Rattle.iss_effects.proofs.Finds.{find-map}
 use Rattle.iss_docket.proofs.Closing.{its_number}
+use Rattle.iss_docket.proofs.Docketed.{AreSilent, both_silent, clearing_silent, gateway_silent, hold_silent, post_silent, release_silent}
 use Rattle.iss_docket.proofs.Lists.{Each, each_weaker}
-use Rattle.iss_invariants.proofs.Passing.{both_pass, declined_ask_passes, hold_passes, passing, post_passes}
-use Rattle.iss_laws.specs.Rulings.{Ruling, decided_as, abandonment_reason, begun_in, call_ruling, closing_ruling, closing_rulings, closing_verdict, may_fail, only_if, opened_in, rulings_of, verdict_of_sets, with_entries}
-use Rattle.iss_laws.proofs.Ruled.{Rules, closes_none, moves_close_none, none_closed, rules_none, rules_own, rules_silent, rules_then, silent_rulings}
+use Rattle.iss_laws.specs.Rulings.{Ruling, asked_about, decided_as, abandonment_reason, begun_in, call_ruling, closing_ruling, closing_rulings, closing_verdict, may_fail, only_if, opened_in, verdict_of_sets, with_entries}
+use Rattle.iss_laws.proofs.Ruled.{Rules, RulesAlone, alone_rules, both_alone, none_closed, rules_alone, rules_none, rules_then, silent_alone}
 
 -- what was opened and begun stays ----
 
@@ -87,7 +87,7 @@ begun_stays h es token t e =
 -- one call ----
 
 -- the ruling that goes with a call's closing
-pub closing_is : (r : Record) (f : Facts) (call : CallId) (how : How) (o : Opened) (t : Txn) (v : Verdict) → opened_in f call.0 ≡ Some o → begun_in f o.txn ≡ Some t
+closing_is : (r : Record) (f : Facts) (call : CallId) (how : How) (o : Opened) (t : Txn) (v : Verdict) → opened_in f call.0 ≡ Some o → begun_in f o.txn ≡ Some t
     → closing_verdict r f o t how ≡ Some v → closing_ruling r f (entry.Closed call how) ≡ Some (decided_as o.event v)
 closing_is r f call how o t v opened begun decided =
     ap (option_and_then (call_ruling r f how)) opened
@@ -95,14 +95,14 @@ closing_is r f call how o t v opened begun decided =
     ∙ ap (option_map (decided_as o.event)) decided
 
 -- A call is closed, and entries that close none decide its event as the rules have it.
-pub closed_rules : (r : Record) (h : History) (call : CallId) (how : How) (o : Opened) (t : Txn) (v : Verdict) (es : List Entry)
-    → opened_in (history_facts h) call.0 ≡ Some o → begun_in (history_facts h) o.txn ≡ Some t → closing_verdict r (history_facts h) o t how ≡ Some v
-    → list_all closes_none es ≡ true → rulings_of es ≡ decided_as o.event v ∷ [] → Rules r h (entry.Closed call how ∷ es) []
-closed_rules r h call how o t v es opened begun decided none made =
+closed_rules : (r : Record) (h : History) (how : How) (o : Opened) (t : Txn) (v : Verdict) {es : List Entry} → opened_in (history_facts h) o.call.0 ≡ Some o → begun_in (history_facts h) o.txn ≡ Some t
+    → closing_verdict r (history_facts h) o t how ≡ Some v → RulesAlone es (decided_as o.event v ∷ []) → Rules r h (entry.Closed o.call how ∷ es) []
+closed_rules r h how o t v {es} opened begun decided alone =
+    let after : History = with_entries h (entry.Closed o.call how ∷ []) in
     record {
-      made = made
-          ∙ sym (ap (λ (x : Option Ruling). cons_option x (closing_rulings r (with_entries h (entry.Closed call how ∷ [])) es) ++ []) (closing_is r (history_facts h) call how o t v opened begun decided)
-          ∙ ap (λ (rs : List Ruling). (decided_as o.event v ∷ rs) ++ []) (none_closed r (with_entries h (entry.Closed call how ∷ [])) es none));
+      made = alone.made
+          ∙ sym (ap (λ (x : Option Ruling). cons_option x (closing_rulings r after es) ++ []) (closing_is r (history_facts h) o.call how o t v opened begun decided)
+          ∙ ap (λ (rs : List Ruling). (decided_as o.event v ∷ rs) ++ []) (none_closed r after es alone.none));
     }
 
 -- a call that stands was opened under its own number
@@ -112,51 +112,12 @@ its_opening f n c e = ap (opened_in f) (its_number f.calls n c e) ∙ ap (option
 pub its_beginning : (f : Facts) (token : List ℕ) (now : TxnNow) → txn_in f token ≡ Some now → begun_in f token ≡ Some now.txn
 its_beginning f token now e = ap (option_map (λ (now : TxnNow). now.txn)) e
 
-pub where_so : (b : Bool) (v : Verdict) → b ≡ true → only_if b v ≡ Some v
-where_so b v h = ap (λ (b : Bool). only_if b v) h
-
--- what sets decide ----
-
-pub declined_rulings : (ask : Ask) (why : Reason) → rulings_of (declined_ask_entries ask why) ≡ decided_as ask.event (verdict.Declined why) ∷ []
-declined_rulings ask why = by ask.is_first
-  where
-    by : (b : Bool) → rulings_of (cond b (entry.Ended ask.txn.token ∷ []) [] ++ entry.Decided ask.event (verdict.Declined why) ∷ []) ≡ decided_as ask.event (verdict.Declined why) ∷ []
-    by true = refl
-    by false = refl
-
-pub declined_none : (ask : Ask) (why : Reason) → list_all closes_none (declined_ask_entries ask why) ≡ true
-declined_none ask why = (declined_ask_passes moves_close_none ask why refl).all
-
-pub stand_rulings : (s : Stand) (number : ℕ) (ask : Ask) (why : Failure) (at : ℕ) → rulings_of (stand_entries s number ask why at) ≡ decided_as ask.event (verdict_of_sets s why) ∷ []
-stand_rulings (allowed s) number ask why at =
-    let stood : Entry = entry.Stood s.name ask.txn.product ask.txn.user ask.amount at in
-    silent_rulings (stood ∷ post_entries ask.txn (account.Programme ask.txn.currency) (user_account ask.txn) ask.amount ++ hold_entries ask.txn part.P ask.amount)
-    (notice_entry number method.StandIn ask.txn None ask.amount 0 ∷ entry.Decided ask.event verdict.Approved ∷ [])
-    (both_silent (both_silent {xs = stood ∷ []} (silent refl) (post_silent ask.txn (account.Programme ask.txn.currency) (user_account ask.txn) ask.amount)) (hold_silent ask.txn part.P ask.amount))
-stand_rulings (over_limit s) number ask why at = declined_rulings ask (reason.StandInLimit s.name)
-stand_rulings uncovered number ask why at = declined_rulings ask (failure_reason why)
-
-pub stand_none : (s : Stand) (number : ℕ) (ask : Ask) (why : Failure) (at : ℕ) → list_all closes_none (stand_entries s number ask why at) ≡ true
-stand_none (allowed s) number ask why at =
-    (both_pass {xs = (entry.Stood s.name ask.txn.product ask.txn.user ask.amount at ∷ post_entries ask.txn (account.Programme ask.txn.currency) (user_account ask.txn) ask.amount) ++ hold_entries ask.txn part.P ask.amount}
-    (both_pass (both_pass {xs = entry.Stood s.name ask.txn.product ask.txn.user ask.amount at ∷ []} (passing refl) (post_passes moves_close_none ask.txn (account.Programme ask.txn.currency) (user_account ask.txn) ask.amount))
-    (hold_passes moves_close_none ask.txn part.P ask.amount)) (passing refl)).all
-stand_none (over_limit s) number ask why at = declined_none ask (reason.StandInLimit s.name)
-stand_none uncovered number ask why at = declined_none ask (failure_reason why)
-
--- a call that failed ----
-
-pub failed_rules : (r : Record) (h : History) (n : ℕ) (c : CallNow) (now : TxnNow) (why : Failure) → call_in (history_facts h) n ≡ Some c → txn_in (history_facts h) c.opened.txn ≡ Some now
-    → may_fail r c.opened why ≡ true → Rules r h (failed_call_entries (history_facts h) c.opened now.txn why r.at) []
-failed_rules r h n c now why stands its cause =
-    let f : Facts = history_facts h in
-    let o : Opened = c.opened in
-    let t : Txn = now.txn in
-    let s : Stand = stand f (call_ask o t) why r.at in
-    let number : ℕ = next_notice f in
-    closed_rules r h o.call (how.Failed why) o t (verdict_of_sets s why) (void_entry number t o ∷ stand_entries s (number + 1) (call_ask o t) why r.at)
-    (its_opening f n c stands) (its_beginning f o.txn now its) (where_so (may_fail r o why) (verdict_of_sets s why) cause)
-    (stand_none s (number + 1) (call_ask o t) why r.at) (stand_rulings s (number + 1) (call_ask o t) why r.at)
+-- a call that is asked is closed so
+pub asked_closed : (r : Record) (h : History) (n : ℕ) (c : CallNow) (now : TxnNow) (how : How) (v : Verdict) {es : List Entry} → call_in (history_facts h) n ≡ Some c
+    → txn_in (history_facts h) c.opened.txn ≡ Some now → closing_verdict r (history_facts h) c.opened now.txn how ≡ Some v → RulesAlone es (decided_as c.opened.event v ∷ [])
+    → Rules r h (entry.Closed c.opened.call how ∷ es) []
+asked_closed r h n c now how v stands its decided alone =
+    closed_rules r h how c.opened now.txn v (its_opening (history_facts h) n c stands) (its_beginning (history_facts h) c.opened.txn now its) decided alone
 
 -- calls that are abandoned ----
 
@@ -166,109 +127,147 @@ pub record IsAbandoned (r : Record) (h : History) (t : Txn) (why : Reason) (c : 
   pub its_txn : begun_in (history_facts h) c.opened.txn ≡ Some t
   pub its_reason : abandonment_reason r t ≡ Some why
 
-still_abandoned : (r : Record) (h : History) (es : List Entry) (t : Txn) (why : Reason) (c : CallNow) → IsAbandoned r h t why c → IsAbandoned r (with_entries h es) t why c
-still_abandoned r h es t why c is =
-    record {
-      stands = opened_stays h es c.opened.call.0 c.opened is.stands;
-      its_txn = begun_stays h es c.opened.txn t is.its_txn;
-      its_reason = is.its_reason;
-    }
+pub still_abandoned : (r : Record) (h : History) (es : List Entry) (t : Txn) (why : Reason) (cs : List CallNow) → Each (IsAbandoned r h t why) cs → Each (IsAbandoned r (with_entries h es) t why) cs
+still_abandoned r h es t why = each_weaker (IsAbandoned r h t why) (IsAbandoned r (with_entries h es) t why) still
+  where
+    still : (c : CallNow) → IsAbandoned r h t why c → IsAbandoned r (with_entries h es) t why c
+    still c is =
+        record {
+          stands = opened_stays h es c.opened.call.0 c.opened is.stands;
+          its_txn = begun_stays h es c.opened.txn t is.its_txn;
+          its_reason = is.its_reason;
+        }
 
 one_abandoned : (r : Record) (h : History) (number : ℕ) (t : Txn) (why : Reason) (c : CallNow) → IsAbandoned r h t why c → Rules r h (abandoned_call_entries number t why c.opened) []
 one_abandoned r h number t why c is =
-    closed_rules r h c.opened.call how.Abandoned c.opened t (verdict.Declined why) _ is.stands is.its_txn
-    (ap (option_map (λ (why : Reason). verdict.Declined why)) is.its_reason) refl refl
+    closed_rules r h how.Abandoned c.opened t (verdict.Declined why) is.stands is.its_txn (ap (option_map (λ (why : Reason). verdict.Declined why)) is.its_reason) (rules_alone refl refl)
 
-pub abandoned_rules : (r : Record) (h : History) (number : ℕ) (t : Txn) (why : Reason) (cs : List CallNow) → Each (IsAbandoned r h t why) cs → Rules r h (abandoned_calls_entries number t why cs) []
+abandoned_rules : (r : Record) (h : History) (number : ℕ) (t : Txn) (why : Reason) (cs : List CallNow) → Each (IsAbandoned r h t why) cs → Rules r h (abandoned_calls_entries number t why cs) []
 abandoned_rules r h number t why [] each = rules_none
 abandoned_rules r h number t why (c ∷ cs) each =
     let first : List Entry = abandoned_call_entries number t why c.opened in
     rules_then first (abandoned_calls_entries (number + 1) t why cs) (one_abandoned r h number t why c each.0)
-    (abandoned_rules r (with_entries h first) (number + 1) t why cs (each_weaker (IsAbandoned r h t why) (IsAbandoned r (with_entries h first) t why) (still_abandoned r h first t why) cs each.1))
+    (abandoned_rules r (with_entries h first) (number + 1) t why cs (still_abandoned r h first t why cs each.1))
 
--- acts that rule nothing but what goes with the calls that they abandon ----
+-- acts that close no call ----
 
-abbrev is_quiet : Act → Bool
-is_quiet (LetsGo t parts amount) = true
-is_quiet (Ends t) = true
-is_quiet (Clears t parts amount at) = true
-is_quiet (GivesBack t amount programme) = true
-is_quiet (Tells number news t amount gateway) = true
-is_quiet _ = false
+abbrev pub closes_call : Act → Bool
+closes_call (Funds o t) = true
+closes_call (Refuses o t) = true
+closes_call (Fails number o t why) = true
+closes_call (Abandons number t why calls parts) = true
+closes_call _ = false
 
-abbrev MayRule : Record → History → Act → Type 0
-MayRule r h (Abandons number t why calls parts) = Each (IsAbandoned r h t why) calls
-MayRule r h a = is_quiet a ≡ true
+-- what they rule
+abbrev pub act_rulings : Act → List Ruling
+act_rulings (Declines event why) = decided_as event (verdict.Declined why) ∷ []
+act_rulings (Sets i event) = decided_as event verdict.Done ∷ []
+act_rulings (Loads event user currency amount) = decided_as event verdict.Done ∷ []
+act_rulings (HoldsOwn ask) = decided_as ask.event verdict.Approved ∷ []
+act_rulings (Asks f product ask) = asked_about ask.event ∷ []
+act_rulings (StandsIn number ask at set) = decided_as ask.event verdict.Approved ∷ []
+act_rulings (TurnsDown ask why) = decided_as ask.event (verdict.Declined why) ∷ []
+act_rulings (Does event) = decided_as event verdict.Done ∷ []
+act_rulings _ = []
 
-abbrev AllMayRule : Record → History → List Act → Type 0
-AllMayRule r h [] = Unit {0}
-AllMayRule r h (a ∷ acts) = MayRule r h a × AllMayRule r h acts
+pub declined_alone : (ask : Ask) (why : Reason) → RulesAlone (declined_ask_entries ask why) (decided_as ask.event (verdict.Declined why) ∷ [])
+declined_alone ask why = both_alone {xs = entry.Usage (ask_given_back ask) ∷ []} (rules_alone refl refl) (by ask.is_first)
+  where
+    by : (b : Bool) → RulesAlone (cond b (entry.Ended ask.txn.token ∷ []) [] ++ entry.Decided ask.event (verdict.Declined why) ∷ []) (decided_as ask.event (verdict.Declined why) ∷ [])
+    by true = rules_alone refl refl
+    by false = rules_alone refl refl
 
-act_rules : (r : Record) (h : History) (a : Act) → MayRule r h a → Rules r h (act_entries a) []
-act_rules r h (Abandons number t why calls parts) each = abandoned_rules r h number t why calls each
-act_rules r h (LetsGo t parts amount) quiet = rules_silent (release_entries t parts amount) (release_silent t parts amount)
-act_rules r h (Ends t) quiet = rules_own (entry.Ended t.token ∷ []) refl refl
-act_rules r h (Clears t parts amount at) quiet = rules_silent (clearing_money_entries t (taken_to_clear parts amount) amount at) (clearing_silent t (taken_to_clear parts amount) amount at)
-act_rules r h (GivesBack t amount programme) quiet =
-    rules_silent (refund_money_entries t amount programme)
+-- an ask is paid and held
+paid_silent : (t : Txn) (from : Account) (p : Part) (amount : ℕ) → AreSilent (post_entries t from (user_account t) amount ++ hold_entries t p amount)
+paid_silent t from p amount = both_silent (post_silent t from (user_account t) amount) (hold_silent t p amount)
+
+pub funded_alone : (ask : Ask) (from : Account) → RulesAlone (funded_ask_entries ask from part.G) (decided_as ask.event verdict.Approved ∷ [])
+funded_alone ask from = both_alone {ys = entry.Decided ask.event verdict.Approved ∷ []} (silent_alone (paid_silent ask.txn from part.G ask.amount)) (rules_alone refl refl)
+
+act_alone : (a : Act) → closes_call a ≡ false → RulesAlone (act_entries a) (act_rulings a)
+act_alone (Funds o t) none = cc
+act_alone (Refuses o t) none = cc
+act_alone (Fails number o t why) none = cc
+act_alone (Abandons number t why calls parts) none = cc
+act_alone (HoldsOwn ask) none = both_alone {ys = entry.Decided ask.event verdict.Approved ∷ []} (silent_alone (hold_silent ask.txn part.S ask.amount)) (rules_alone refl refl)
+act_alone (StandsIn number ask at set) none =
+    let t : Txn = ask.txn in
+    both_alone {xs = entry.Stood set.name t.product t.user ask.amount at ∷ []} (rules_alone refl refl)
+    (both_alone {ys = notice_entry number method.StandIn t None ask.amount 0 ∷ entry.Decided ask.event verdict.Approved ∷ []} (silent_alone (paid_silent t (account.Programme t.currency) part.P ask.amount)) (rules_alone refl refl))
+act_alone (TurnsDown ask why) none = declined_alone ask why
+act_alone (LetsGo t parts amount) none = silent_alone (release_silent t parts amount)
+act_alone (Clears t parts amount at) none = silent_alone (clearing_silent t (taken_to_clear parts amount) amount at)
+act_alone (GivesBack t amount programme) none =
+    silent_alone {es = refund_money_entries t amount programme}
     (both_silent (post_silent t (account.Network t.currency) (user_account t) amount)
     (gateway_silent t {es = post_entries t (user_account t) (account.Programme t.currency) programme ++ post_entries t (user_account t) (account.Gateway t.currency) (amount - programme)}
     (both_silent (post_silent t (user_account t) (account.Programme t.currency) programme) (post_silent t (user_account t) (account.Gateway t.currency) (amount - programme)))))
-act_rules r h (Tells number news t amount gateway) quiet = rules_silent (act_entries (Tells number news t amount gateway)) (silent refl)
-act_rules r h _ quiet = cc
+act_alone _ none = rules_alone refl refl
 
-may_still : (r : Record) (h : History) (es : List Entry) (a : Act) → MayRule r h a → MayRule r (with_entries h es) a
-may_still r h es (Abandons number t why calls parts) each = each_weaker (IsAbandoned r h t why) (IsAbandoned r (with_entries h es) t why) (still_abandoned r h es t why) calls each
-may_still r h es a quiet = quiet
+one_alone : (a : Act) → closes_call a ≡ false → RulesAlone (entries_of_acts (a ∷ [])) (act_rulings a)
+one_alone a none = subst (λ (es : List Entry). RulesAlone es (act_rulings a)) (sym (append-nil (act_entries a))) (act_alone a none)
 
-all_still : (r : Record) (h : History) (es : List Entry) (acts : List Act) → AllMayRule r h acts → AllMayRule r (with_entries h es) acts
-all_still r h es [] may = tt
-all_still r h es (a ∷ acts) may = (may_still r h es a may.0, all_still r h es acts may.1)
+-- the sets decide an ask
+pub stand_alone : (s : Stand) (number : ℕ) (ask : Ask) (why : Failure) (at : ℕ) → RulesAlone (entries_of_acts (stand_acts s number ask why at)) (decided_as ask.event (verdict_of_sets s why) ∷ [])
+stand_alone (allowed s) number ask why at = one_alone (StandsIn number ask at s) refl
+stand_alone (over_limit s) number ask why at = one_alone (TurnsDown ask (reason.StandInLimit s.name)) refl
+stand_alone uncovered number ask why at = one_alone (TurnsDown ask (failure_reason why)) refl
 
-acts_rule : (r : Record) (h : History) (acts : List Act) → AllMayRule r h acts → Rules r h (entries_of_acts acts) []
-acts_rule r h [] may = rules_none
-acts_rule r h (a ∷ acts) may =
-    rules_then (act_entries a) (entries_of_acts acts) (act_rules r h a may.0) (acts_rule r (with_entries h (act_entries a)) acts (all_still r h (act_entries a) acts may.1))
+-- rows of acts ----
 
-all_appended : (r : Record) (h : History) (xs ys : List Act) → AllMayRule r h xs → AllMayRule r h ys → AllMayRule r h (xs ++ ys)
-all_appended r h [] ys first second = second
-all_appended r h (x ∷ xs) ys first second = (first.0, all_appended r h xs ys first.1 second)
-
--- acts put together as the rules put them together
-pub record MayBeRuled (r : Record) (h : History) (acts : List Act) : Type 0 where
-  pub all : AllMayRule r h acts
-
--- and what they rule, with the event that is done after them
+-- What acts rule on a book is what goes with the calls that they close, and then these rulings.
 pub record RulesRow (r : Record) (h : History) (acts : List Act) (own : List Ruling) : Type 0 where
   pub rules : Rules r h (entries_of_acts acts) own
 
 module _ {r : Record} {h : History} where
-  pub no_act : MayBeRuled r h []
-  no_act = record { all = tt }
+  pub no_act : RulesRow r h [] []
+  no_act = record { rules = rules_none }
 
-  pub first_act : {a : Act} {acts : List Act} → MayRule r h a → MayBeRuled r h acts → MayBeRuled r h (a ∷ acts)
-  first_act may rest = record { all = (may, rest.all) }
+  -- an act, and then others on the book with its entries
+  next_act : {a : Act} {acts : List Act} {own : List Ruling} → Rules r h (act_entries a) [] → ((es : List Entry) → RulesRow r (with_entries h es) acts own) → RulesRow r h (a ∷ acts) own
+  next_act {a} {acts} first rest = record { rules = rules_then (act_entries a) (entries_of_acts acts) first (rest (act_entries a)).rules }
 
-  pub both_acts : {xs ys : List Act} → MayBeRuled r h xs → MayBeRuled r h ys → MayBeRuled r h (xs ++ ys)
-  both_acts {xs} {ys} first second = record { all = all_appended r h xs ys first.all second.all }
+  pub first_act : (a : Act) {acts : List Act} {own : List Ruling} → closes_call a ≡ false → act_rulings a ≡ [] → ((es : List Entry) → RulesRow r (with_entries h es) acts own) → RulesRow r h (a ∷ acts) own
+  first_act a none silent rest = next_act {a = a} (alone_rules (subst (RulesAlone (act_entries a)) silent (act_alone a none))) rest
 
-  pub either_acts : (b : Bool) {xs ys : List Act} → MayBeRuled r h xs → MayBeRuled r h ys → MayBeRuled r h (cond b xs ys)
+  pub abandons_first : {number : ℕ} {t : Txn} {why : Reason} {calls : List CallNow} {parts : Parts} {acts : List Act} {own : List Ruling}
+      → Each (IsAbandoned r h t why) calls → ((es : List Entry) → RulesRow r (with_entries h es) acts own) → RulesRow r h (Abandons number t why calls parts ∷ acts) own
+  abandons_first {number} {t} {why} {calls} {parts} each rest = next_act {a = Abandons number t why calls parts} (abandoned_rules r h number t why calls each) rest
+
+  -- an act alone
+  pub only_act : (a : Act) {own : List Ruling} → Rules r h (act_entries a) own → RulesRow r h (a ∷ []) own
+  only_act a {own} alone = record { rules = subst (λ (es : List Entry). Rules r h es own) (sym (append-nil (act_entries a))) alone }
+
+  pub last_act : (a : Act) → closes_call a ≡ false → RulesRow r h (a ∷ []) (act_rulings a)
+  last_act a none = record { rules = alone_rules (one_alone a none) }
+
+  pub both_acts : {xs ys : List Act} {own : List Ruling} → RulesRow r h xs [] → ((es : List Entry) → RulesRow r (with_entries h es) ys own) → RulesRow r h (xs ++ ys) own
+  both_acts {xs} {ys} {own} first rest =
+      record {
+        rules = subst (λ (es : List Entry). Rules r h es own) (sym (acts_append xs ys)) (rules_then (entries_of_acts xs) (entries_of_acts ys) first.rules (rest (entries_of_acts xs)).rules);
+      }
+
+  pub either_acts : (b : Bool) {xs ys : List Act} {own : List Ruling} → RulesRow r h xs own → RulesRow r h ys own → RulesRow r h (cond b xs ys) own
   either_acts true first second = first
   either_acts false first second = second
 
   -- what only a gateway transaction makes
-  pub gateway_acts : (t : Txn) {acts : List Act} → MayBeRuled r h acts → MayBeRuled r h (acts_for_gateway t acts)
-  gateway_acts t may = either_acts (is_account_funded t.funding) no_act may
+  pub for_gateway : (t : Txn) {acts : List Act} → RulesRow r h acts [] → RulesRow r h (acts_for_gateway t acts) []
+  for_gateway t row = either_acts (is_account_funded t.funding) no_act row
 
-  pub ends_acts : (number : ℕ) (f : Facts) (t : Txn) (parts : Parts) (why : Reason) → Each (IsAbandoned r h t why) (asked_calls_of f t.token) → MayBeRuled r h (end_acts number f t parts why)
-  ends_acts number f t parts why each = first_act each (first_act refl (first_act refl no_act))
+-- a transaction ends
+pub ends_acts : {r : Record} {h : History} (number : ℕ) (f : Facts) (t : Txn) (parts : Parts) (why : Reason) → Each (IsAbandoned r h t why) (asked_calls_of f t.token)
+    → RulesRow r h (end_acts number f t parts why) []
+ends_acts number f t parts why each = abandons_first each (λ es. first_act (LetsGo t parts (in_all parts)) refl refl (λ more. last_act (Ends t) refl))
 
-  pub row_rules : {acts : List Act} → MayBeRuled r h acts → RulesRow r h acts []
-  row_rules {acts} may = record { rules = acts_rule r h acts may.all }
-
-  pub then_done : {acts : List Act} (token : List ℕ) → MayBeRuled r h acts → RulesRow r h (acts ++ Does token ∷ []) (decided_as token verdict.Done ∷ [])
-  then_done {acts} token may =
-      record {
-        rules = subst (λ (es : List Entry). Rules r h es (decided_as token verdict.Done ∷ [])) (sym (acts_append acts (Does token ∷ [])))
-            (rules_then (entries_of_acts acts) (entry.Decided token verdict.Done ∷ []) (acts_rule r h acts may.all) (rules_own (entry.Decided token verdict.Done ∷ []) refl refl));
-      }
+-- a call fails, and the sets decide
+pub failed_rules : (r : Record) (h : History) (n : ℕ) (c : CallNow) (now : TxnNow) (why : Failure) → call_in (history_facts h) n ≡ Some c → txn_in (history_facts h) c.opened.txn ≡ Some now
+    → may_fail r c.opened why ≡ true → RulesRow r h (failed_acts (history_facts h) c.opened now.txn why r.at) []
+failed_rules r h n c now why stands its cause =
+    let f : Facts = history_facts h in
+    let o : Opened = c.opened in
+    let s : Stand = stand f (call_ask o now.txn) why r.at in
+    record {
+      rules = asked_closed r h n c now (how.Failed why) (verdict_of_sets s why) stands its (ap (λ (b : Bool). only_if b (verdict_of_sets s why)) cause)
+          (both_alone {xs = void_entry (next_notice f) now.txn o ∷ []} (rules_alone refl refl) (stand_alone s (next_notice f + 1) (call_ask o now.txn) why r.at));
+    }

@@ -1,7 +1,7 @@
 -- All that is due at a record's stamp rules what goes with the calls that it closes.
 use Rattle.std.proofs.Common.{nat_eq, ◌≡◌, ℕ, Bool, true, false, cond, ◌&&◌, nat_le, List, [], ◌∷◌, ◌++◌, map, filter, fold, refl, sym, ap, subst, ◌∙◌, append_assoc}
-use Rattle.iss_acts.specs.Acts.{expiry_acts}
-use Rattle.iss_acts.proofs.Made.{expiry_made}
+use Rattle.iss_acts.specs.Acts.{Act, acts_of_asked, acts_of_txn, expiry_acts, failed_acts, live_expiry_acts, thing_acts}
+use Rattle.iss_acts.proofs.Made.{thing_made}
 use Rattle.std.specs.Prelude.{Option, Some, None, option_map}
 use Rattle.std.specs.Str.{bytes_eq}
 use Rattle.std.proofs.lemmas.Bool.{and_parts}
@@ -15,8 +15,7 @@ use Rattle.iss_model.specs.declared.input.Input.{Input}
 use Rattle.iss_model.specs.declared.input.Record.{Record}
 use Rattle.iss_model.specs.declared.txn.Txn.{Txn}
 use Rattle.iss_model.specs.rules.Activity.{TxnNow, CallNow, txn_named, is_asked}
-use Rattle.iss_model.specs.rules.CardEntries.{failed_call_entries, entries_of_txn, entries_of_asked}
-use Rattle.iss_model.specs.rules.Due.{DueItem, DueThing, call_due, txn_due, due_call, due_txn, due_items, items_with, is_before, expiry_entries, live_expiry_entries, thing_entries}
+use Rattle.iss_model.specs.rules.Due.{DueItem, DueThing, call_due, txn_due, due_call, due_txn, due_items, items_with, is_before, thing_entries}
 use Rattle.iss_model.specs.rules.Facts.{Facts, txn_in, call_in, asked_calls_of, next_notice}
 use Rattle.iss_model.specs.rules.Histories.{History, history_facts, history_keeper}
 use Rattle.iss_model.specs.rules.Keeper.{Growth}
@@ -36,8 +35,8 @@ use Rattle.iss_pending.specs.Pending.{HasTakenUp}
 use Rattle.iss_pending.proofs.Due.{its_token}
 use Rattle.iss_pending.proofs.Steps.{ready_settled}
 use Rattle.iss_laws.specs.Rulings.{abandonment_reason, abandoned_by, begun_in, opened_in, with_entries}
-use Rattle.iss_laws.proofs.Ruled.{Rules, rules_if, rules_none, rules_then, with_both, with_none}
-use Rattle.iss_laws.proofs.ClosedCalls.{IsAbandoned, begun_stays, failed_rules, its_beginning, opened_stays, RulesRow, both_acts, either_acts, ends_acts, first_act, gateway_acts, no_act, row_rules}
+use Rattle.iss_laws.proofs.Ruled.{Rules, rules_none, rules_then, with_both, with_none}
+use Rattle.iss_laws.proofs.ClosedCalls.{IsAbandoned, RulesRow, begun_stays, both_acts, either_acts, ends_acts, failed_rules, for_gateway, its_beginning, last_act, no_act, opened_stays}
 
 -- a book on which a record was taken up ----
 
@@ -116,6 +115,11 @@ each_both : {A : Type 0} (P : A → Type 0) (xs ys : List A) → Each P xs → E
 each_both P [] ys first second = second
 each_both P (x ∷ xs) ys first second = (first.0, each_both P xs ys first.1 second)
 
+-- what isn't there isn't this
+pub clash : {P A : Type 0} (o : Option A) (x : A) → o ≡ None → o ≡ Some x → P
+clash None x h e = cc
+clash (Some y) x h e = cc
+
 -- a transaction stands under its own token
 abbrev StandsAlone : List TxnNow → TxnNow → Type 0
 StandsAlone txns t = txn_named t.txn.token txns ≡ Some t
@@ -127,10 +131,6 @@ all_alone (t ∷ ts) own = (
   each_weaker (StandsAlone ts) (StandsAlone (t ∷ ts)) later ts (all_alone ts own.1),
 )
   where
-    clash : {P : Type 0} (o : Option TxnNow) (x : TxnNow) → o ≡ None → o ≡ Some x → P
-    clash None x h e = cc
-    clash (Some y) x h e = cc
-
     later : (x : TxnNow) → StandsAlone ts x → StandsAlone (t ∷ ts) x
     later x e = by (bytes_eq t.txn.token x.txn.token) refl
       where
@@ -161,25 +161,18 @@ all_due f at numbers own =
 -- a due thing ----
 
 -- what comes of an asked call, if there is one, rules what goes with it
-pub asked_rules : {r : Record} {h : History} (make : Opened → Txn → List Entry) (n : ℕ)
-    → ((c : CallNow) (now : TxnNow) → call_in (history_facts h) n ≡ Some c → txn_in (history_facts h) c.opened.txn ≡ Some now → Rules r h (make c.opened now.txn) [])
-    → Rules r h (entries_of_asked make (call_in (history_facts h) n) (history_facts h)) []
+pub asked_rules : {r : Record} {h : History} (make : Opened → Txn → List Act) (n : ℕ)
+    → ((c : CallNow) (now : TxnNow) → call_in (history_facts h) n ≡ Some c → txn_in (history_facts h) c.opened.txn ≡ Some now → RulesRow r h (make c.opened now.txn) [])
+    → RulesRow r h (acts_of_asked make (call_in (history_facts h) n) (history_facts h)) []
 asked_rules {r} {h} make n each = of_call (call_in (history_facts h) n) refl
   where
-    of_txn : (c : CallNow) → call_in (history_facts h) n ≡ Some c → (now : Option TxnNow) → txn_in (history_facts h) c.opened.txn ≡ now → Rules r h (entries_of_txn (make c.opened) now) []
-    of_txn c e None its = rules_none
+    of_txn : (c : CallNow) → call_in (history_facts h) n ≡ Some c → (now : Option TxnNow) → txn_in (history_facts h) c.opened.txn ≡ now → RulesRow r h (acts_of_txn (make c.opened) now) []
+    of_txn c e None its = no_act
     of_txn c e (Some now) its = each c now e its
 
-    of_call : (c : Option CallNow) → call_in (history_facts h) n ≡ c → Rules r h (entries_of_asked make c (history_facts h)) []
-    of_call None e = rules_none
-    of_call (Some c) e = rules_if (is_asked c) (of_txn c e (txn_in (history_facts h) c.opened.txn) refl) rules_none
-
--- a call that is due has failed by its deadline
-call_rules : (r : Record) (h : History) (n : ℕ) → IsDueCall (history_facts h) r.at n → Rules r h (thing_entries (call_due n) r.at (history_facts h)) []
-call_rules r h n due =
-    asked_rules (λ (o : Opened) (t : Txn). failed_call_entries (history_facts h) o t failure.Timeout r.at) n
-    (λ c now e its. failed_rules r h n c now failure.Timeout e its
-    (ap (λ (o : Opened). nat_le o.deadline r.at) (sym (inside (sym due.stands ∙ ap (option_map (λ (c : CallNow). c.opened)) e))) ∙ due.come))
+    of_call : (c : Option CallNow) → call_in (history_facts h) n ≡ c → RulesRow r h (acts_of_asked make c (history_facts h)) []
+    of_call None e = no_act
+    of_call (Some c) e = either_acts (is_asked c) (of_txn c e (txn_in (history_facts h) c.opened.txn) refl) no_act
 
 -- the asked calls of a transaction may be abandoned for a reason
 pub asked_abandoned : (r : Record) (h : History) (i : Input) (token : List ℕ) (now : TxnNow) (why : Reason) → IsReady h i → txn_in (history_facts h) token ≡ Some now
@@ -208,9 +201,9 @@ asked_abandoned r h i token now why ready stands reason_is =
 
 -- a transaction that is due has expired
 txn_rules : (r : Record) (h : History) (i : Input) (token : List ℕ) → IsReady h i → IsDueTxn (history_facts h) r.at token → (now : Option TxnNow) → txn_in (history_facts h) token ≡ now
-    → Rules r h (live_expiry_entries (history_facts h) now) []
-txn_rules r h i token ready due None e = rules_none
-txn_rules r h i token ready due (Some now) e = rules_if now.live expired rules_none
+    → RulesRow r h (live_expiry_acts (history_facts h) now) []
+txn_rules r h i token ready due None e = no_act
+txn_rules r h i token ready due (Some now) e = either_acts now.live expired no_act
   where
     f : Facts
     f = history_facts h
@@ -221,17 +214,23 @@ txn_rules r h i token ready due (Some now) e = rules_if now.live expired rules_n
     come : nat_le t.expires r.at ≡ true
     come = ap (λ (t : Txn). nat_le t.expires r.at) (inside (sym (its_beginning f token now e) ∙ due.stands)) ∙ due.come
 
-    expired : Rules r h (expiry_entries f t) []
+    expired : RulesRow r h (expiry_acts f t) []
     expired =
-        let calls = asked_abandoned r h i token now reason.Expired ready e (λ c asked itself same. ap (λ (b : Bool). cond b (Some reason.Expired) (abandoned_by t.token r.input)) come) in
-        let row : RulesRow r h (expiry_acts f t) [] =
-        row_rules (both_acts (ends_acts (next_notice f) f t (parts_held f t) reason.Expired calls) (gateway_acts t (either_acts (nat_eq (in_all (parts_held f t)) 0) no_act (first_act refl no_act))))
-        in
-        subst (λ (es : List Entry). Rules r h es []) (expiry_made f t) row.rules
+        both_acts
+        (ends_acts (next_notice f) f t (parts_held f t) reason.Expired
+        (asked_abandoned r h i token now reason.Expired ready e (λ c asked itself same. ap (λ (b : Bool). cond b (Some reason.Expired) (abandoned_by t.token r.input)) come)))
+        (λ es. for_gateway t (either_acts (nat_eq (in_all (parts_held f t)) 0) no_act (last_act _ refl)))
+
+-- a call that is due has failed by its deadline
+thing_acts_rule : (r : Record) (h : History) (i : Input) (thing : DueThing) → IsReady h i → IsDueThing (history_facts h) r.at thing → RulesRow r h (thing_acts thing r.at (history_facts h)) []
+thing_acts_rule r h i (call_due n) ready due =
+    asked_rules (λ (o : Opened) (t : Txn). failed_acts (history_facts h) o t failure.Timeout r.at) n
+    (λ c now e its. failed_rules r h n c now failure.Timeout e its
+    (ap (λ (o : Opened). nat_le o.deadline r.at) (sym (inside (sym due.stands ∙ ap (option_map (λ (c : CallNow). c.opened)) e))) ∙ due.come))
+thing_acts_rule r h i (txn_due token) ready due = txn_rules r h i token ready due (txn_in (history_facts h) token) refl
 
 thing_rules : (r : Record) (h : History) (i : Input) (thing : DueThing) → IsReady h i → IsDueThing (history_facts h) r.at thing → Rules r h (thing_entries thing r.at (history_facts h)) []
-thing_rules r h i (call_due n) ready due = call_rules r h n due
-thing_rules r h i (txn_due token) ready due = txn_rules r h i token ready due (txn_in (history_facts h) token) refl
+thing_rules r h i thing ready due = subst (λ (es : List Entry). Rules r h es []) (thing_made (history_facts h) thing r.at) (thing_acts_rule r h i thing ready due).rules
 
 -- all that is due ----
 

@@ -1,10 +1,11 @@
 -- What entries rule, and that it goes with the calls that they close: this put together as the rules put entries together.
-use Rattle.std.proofs.Common.{◌≡◌, ℕ, Bool, true, false, cond, ◌&&◌, List, [], ◌∷◌, ◌++◌, length, filter, refl, sym, ap, ◌∙◌, append_assoc}
+use Rattle.std.proofs.Common.{◌≡◌, ℕ, Bool, true, false, ◌&&◌, List, [], ◌∷◌, ◌++◌, length, filter, refl, sym, ap, ap₂, ◌∙◌, append_assoc}
 use Rattle.std.specs.Prelude.{Option, Some, None}
 use Rattle.std.specs.List.{cons_option, list_all}
 use Rattle.std.proofs.lemmas.Bool.{and_parts}
 use Rattle.std.proofs.lemmas.List.{append-nil, map-append}
 use Rattle.std.proofs.lemmas.List.Elements.{filter_map-append}
+use Rattle.std.proofs.lemmas.List.Folds.{list_all-append}
 use Rattle.iss_model.specs.declared.entry.Entry.{Entry}
 use Rattle.iss_model.specs.declared.entry.Entry.TheVariants as entry
 use Rattle.iss_model.specs.declared.entry.Row.{Row}
@@ -12,7 +13,6 @@ use Rattle.iss_model.specs.declared.input.Record.{Record}
 use Rattle.iss_model.specs.rules.Histories.{History, history_facts, numbered_rows}
 use Rattle.iss_docket.specs.Dockets.{is_docketed}
 use Rattle.iss_docket.proofs.Docketed.{AreSilent}
-use Rattle.iss_invariants.proofs.Passing.{PassesMoves}
 use Rattle.iss_laws.specs.Rulings.{Ruling, closing_ruling, closing_rulings, ruling_of, rulings_of, with_entries}
 
 -- entries one after the other ----
@@ -66,10 +66,6 @@ rules_then {r} {h} {own} xs ys first second =
 pub rules_none : {r : Record} {h : History} → Rules r h [] []
 rules_none = record { made = refl }
 
-pub rules_if : {r : Record} {h : History} {own : List Ruling} (b : Bool) {xs ys : List Entry} → Rules r h xs own → Rules r h ys own → Rules r h (cond b xs ys) own
-rules_if true h k = h
-rules_if false h k = k
-
 -- entries that close no call ----
 
 -- an entry closes no call
@@ -88,18 +84,21 @@ none_closed r h (e ∷ es) all =
     ap (λ (o : Option Ruling). cons_option o (closing_rulings r (with_entries h (e ∷ [])) es)) (closes_nothing r h e parts.0)
     ∙ none_closed r (with_entries h (e ∷ [])) es parts.1
 
-pub moves_close_none : PassesMoves closes_none
-moves_close_none =
-    record {
-      post = λ from to amount txn. refl;
-      hold = λ txn user currency part amount. refl;
-      ended = λ txn. refl;
-      decided = λ event v. refl;
-    }
+-- Entries close no call, and rule these.
+pub record RulesAlone (es : List Entry) (own : List Ruling) : Type 0 where
+  pub none : list_all closes_none es ≡ true
+  pub made : rulings_of es ≡ own
 
--- entries that close no call rule these
-pub rules_own : {r : Record} {h : History} {own : List Ruling} (es : List Entry) → list_all closes_none es ≡ true → rulings_of es ≡ own → Rules r h es own
-rules_own {r} {h} {own} es none made = record { made = made ∙ ap (λ (rs : List Ruling). rs ++ own) (sym (none_closed r h es none)) }
+pub rules_alone : {es : List Entry} {own : List Ruling} → list_all closes_none es ≡ true → rulings_of es ≡ own → RulesAlone es own
+rules_alone none made = record { none = none; made = made }
+
+pub both_alone : {xs ys : List Entry} {own : List Ruling} → RulesAlone xs [] → RulesAlone ys own → RulesAlone (xs ++ ys) own
+both_alone {xs} {ys} h k =
+    rules_alone (list_all-append closes_none xs ys ∙ ap₂ (λ (a b : Bool). a && b) h.none k.none) (rulings_append xs ys ∙ ap₂ (λ (us vs : List Ruling). us ++ vs) h.made k.made)
+
+-- on any book
+pub alone_rules : {r : Record} {h : History} {es : List Entry} {own : List Ruling} → RulesAlone es own → Rules r h es own
+alone_rules {r} {h} {es} {own} alone = record { made = alone.made ∙ ap (λ (rs : List Ruling). rs ++ own) (sym (none_closed r h es alone.none)) }
 
 -- silent entries ----
 
@@ -111,24 +110,13 @@ silent_passes (entry.Decided event v) es h = cc
 silent_passes (entry.Ended txn) es h = cc
 silent_passes _ es h = (refl, refl, h)
 
-pub silent_rule : (es : List Entry) → AreSilent es → rulings_of es ≡ []
-silent_rule es h = by es h.none
-  where
-    by : (es : List Entry) → filter is_docketed es ≡ [] → rulings_of es ≡ []
-    by [] h = refl
-    by (e ∷ es) h = let parts = silent_passes e es h in ap (λ (o : Option Ruling). cons_option o (rulings_of es)) parts.0 ∙ by es parts.2
-
-pub silent_close : (es : List Entry) → AreSilent es → list_all closes_none es ≡ true
-silent_close es h = by es h.none
-  where
-    by : (es : List Entry) → filter is_docketed es ≡ [] → list_all closes_none es ≡ true
-    by [] h = refl
-    by (e ∷ es) h = let parts = silent_passes e es h in ap (λ (b : Bool). b && list_all closes_none es) parts.1 ∙ by es parts.2
-
 -- silent entries rule nothing
-pub rules_silent : {r : Record} {h : History} (es : List Entry) → AreSilent es → Rules r h es []
-rules_silent es h = rules_own es (silent_close es h) (silent_rule es h)
-
--- and none before others, or after others
-pub silent_rulings : (xs ys : List Entry) → AreSilent xs → rulings_of (xs ++ ys) ≡ rulings_of ys
-silent_rulings xs ys h = rulings_append xs ys ∙ ap (λ (rs : List Ruling). rs ++ rulings_of ys) (silent_rule xs h)
+pub silent_alone : {es : List Entry} → AreSilent es → RulesAlone es []
+silent_alone {es} h = by es h.none
+  where
+    by : (es : List Entry) → filter is_docketed es ≡ [] → RulesAlone es []
+    by [] h = rules_alone refl refl
+    by (e ∷ es) h =
+        let parts = silent_passes e es h in
+        let rest : RulesAlone es [] = by es parts.2 in
+        rules_alone (ap (λ (b : Bool). b && list_all closes_none es) parts.1 ∙ rest.none) (ap (λ (o : Option Ruling). cons_option o (rulings_of es)) parts.0 ∙ rest.made)

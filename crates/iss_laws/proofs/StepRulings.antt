@@ -31,7 +31,7 @@ use Rattle.iss_pending.proofs.Steps.{ready_taken}
 use Rattle.iss_laws.specs.Rulings.{Ruling, begun_in, closing_rulings, own_rulings, rulings_due, rulings_of, with_entries}
 use Rattle.iss_laws.proofs.Ruled.{Rules, rules_then}
 use Rattle.iss_laws.proofs.ClosedCalls.{begun_stays, its_beginning}
-use Rattle.iss_laws.proofs.DueRulings.{IsReady, IsSwept, due_swept}
+use Rattle.iss_laws.proofs.DueRulings.{IsReady, IsSwept, clash, due_swept}
 use Rattle.iss_laws.proofs.OwnRulings.{IsSettled, own_rules}
 
 -- when what is due is settled ----
@@ -41,10 +41,6 @@ record IsUnexpired (s : CoreState) (at : ℕ) (token : List ℕ) : Type 0 where
   its : TxnNow
   stands : txn_named token s.holdings.txns ≡ Some its
   later : nat_le its.txn.expires at ≡ false
-
-clash : {P : Type 0} {A : Type 0} (o : Option A) (x : A) → o ≡ None → o ≡ Some x → P
-clash None x h e = cc
-clash (Some y) x h e = cc
 
 -- a call that is still asked then was asked before, and is of a transaction that hasn't expired
 module _ (known : Known) (s : CoreState) (at n : ℕ) (c : CallNow) (well : IsWellAmong known (docket_of s))
