@@ -10,7 +10,8 @@ ghost use Rattle.iss_acts.specs.Sources.{IsRow};
 
 /// Whatever the facts, the entries of a due thing and those of an input are the entries of its acts, in a row.
 pub fn entries_are_of_acts()
-    ensures due { (f : Facts) → (thing : DueThing) → (at : ℕ) → entries_of_acts (thing_acts thing at f) ≡ thing_entries thing at f }
+    ensures due { (f : Facts) → (thing : DueThing) → (at : ℕ)
+        → entries_of_acts (thing_acts thing at f) ≡ thing_entries thing at f }
     ensures own { (f : Facts) → (i : Input) → (at : ℕ) → entries_of_acts (acts_of i at f) ≡ entries_of i at f }
 {}
 

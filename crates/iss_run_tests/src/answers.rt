@@ -17,7 +17,7 @@ const APPLICATION: &[u8] =
 const CONNECTION: &[u8] =
     b"{\"event\":\"a1\",\"reason\":\"GATEWAY_CONNECTION\",\"reply\":\"declined\"}\n";
 
-/// An answer, what the client of its call is told, and whether it acknowledges a notice.
+/// An answer, what the client of its call receives, and whether it acknowledges a notice.
 type Row = (&'static [u8], &'static [u8], bool);
 
 static ANSWERS: [Row; 24] = [

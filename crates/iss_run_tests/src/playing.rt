@@ -42,11 +42,11 @@ pub(crate) struct Run {
     pub(crate) done: &'static str,
     /// What the calls answer, two letters each.
     pub(crate) heard: &'static str,
-    /// All that goes out, where it is compared.
+    /// All that goes out, if it is compared.
     pub(crate) sent: Option<&'static str>,
-    /// The device after it, where it is compared.
+    /// The device after it, if it is compared.
     pub(crate) leaves: Option<Device>,
-    /// How many calls it makes that may fail, or 0 where none is to fail but those above.
+    /// How many calls it makes that may fail, or 0 if none is to fail but those above.
     pub(crate) calls: u64,
     /// How many records stand before each text goes out.
     pub(crate) levels: &'static [usize],
@@ -80,7 +80,7 @@ pub(crate) struct Played {
     pub(crate) edge: MemoryEdge,
 }
 
-/// Plays the run on this device with this to come, where the call of this number fails too.
+/// Plays the run on this device with this to come, and the call of this number fails too.
 pub(crate) fn play(
     alloc: Global,
     row: &Run,
@@ -182,7 +182,7 @@ fn comes_apart(known: &mut Vec<u32>, item: &Script) -> Result<bool, AllocError>
     }
 }
 
-/// Whether a client may come on this channel, where these came.
+/// Whether a client may come on this channel after these came.
 fn is_free(known: &[u32], ch: u32) -> bool
     ensures { IsTrue result → is_client_number ch && not (is_among known.now ch) ≡ true }
 {

@@ -73,7 +73,7 @@ fn other_devices_are_refused_by_each_command(rt: HostRuntime) -> Result<(), Fail
     Ok(())
 }
 
-/// Whether the run ends by its cause where the call of this number fails, and what went out stands then.
+/// Whether the run ends by its cause if the call of this number fails, and what went out stands then.
 fn fails_well(
     alloc: Global,
     row: &Run,

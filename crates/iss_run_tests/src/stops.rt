@@ -11,7 +11,7 @@ use std::test::Fail;
 /// The first number of a channel that is dialled.
 const FIRST_DIALLED: u32 = 1000001;
 
-/// The next opening of an image, where its records are the first ones of this device and at least so many.
+/// The next opening of an image, if its records are the first ones of this device and at least `least`.
 fn opened(
     alloc: Global,
     image: &[u8],

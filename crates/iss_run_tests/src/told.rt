@@ -11,7 +11,7 @@ fn letter(number: u64) -> u8 {
     }
 }
 
-/// The letter of what was done, small where it failed.
+/// The letter of what was done, in lower case if it failed.
 fn cased(letter: u8, ok: bool) -> u8 {
     if ok {
         letter

@@ -4,7 +4,7 @@ use iss_http::{FeedFault, HttpFault, Reader};
 use std::alloc::{AllocError, Global};
 use std::test::Fail;
 
-/// What a request comes to: nothing yet, a body of so many bytes, or a fault.
+/// What a request comes to: nothing yet, the length of its body, or a fault.
 type Told = Option<Result<usize, HttpFault>>;
 
 /// What bytes come to that arrive in two pieces.
