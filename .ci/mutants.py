@@ -86,7 +86,10 @@ def try_all(crates):
                 shutil.copy(it, folder)
         if len(crates) > 1:
             # So that no two of the runs below build the same library.
-            subprocess.run(["rt", "all", "check", "--jobs", str(os.cpu_count())], cwd=room, stdout=subprocess.DEVNULL, check=True)
+            built = subprocess.run(["rt", "all", "check", "--jobs", str(os.cpu_count())], cwd=room, stdout=subprocess.PIPE, text=True)
+            if built.returncode:
+                print("\n".join(built.stdout.splitlines()[-40:]))
+                return False
         with ThreadPoolExecutor(os.cpu_count()) as lanes:
             said = [it for its in lanes.map(lambda crate: tried(room, crate.name), crates) for it in its]
     refused = [it for it in said if ": refused, as it must be" in it]

@@ -3,7 +3,7 @@
 # of 100000 within a minute, with the line that is kept here.
 . "$(dirname "$0")/../program.sh"
 
-# drilled NUMBER LINE: a drill of so many events writes this line, within a minute.
+# drilled NUMBER LINE: a drill of NUMBER events writes this line, within a minute.
 drilled() {
     local start=$SECONDS
     issue drill "$1" </dev/null >"$room/out"
@@ -17,7 +17,7 @@ drilled 1 '{"approved":0,"declined":1,"gateway":"0.00","held":"0.00","lines":24,
 drilled 3 '{"approved":1,"declined":2,"gateway":"-1.14","held":"1.14","lines":27,"network":"0.00","notices":0,"programme":"0.00","records":27,"repeats":0}'
 drilled 100000 '{"approved":14045,"declined":68906,"gateway":"-31876.43","held":"31346.48","lines":115496,"network":"107324.26","notices":19789,"programme":"-106794.31","records":104683,"repeats":12358}'
 
-# ask LINE: the program that replays takes it, and $told is what it is told, up to the fault of the bad line after it.
+# ask LINE: the program that replays takes it, and $told is its texts, up to the fault of the bad line after it.
 ask() {
     local text
     printf '%s\n[]\n' "$1" >&"$lines"
@@ -29,7 +29,7 @@ ask() {
     printf '%s' "$told" >>"$room/all"
 }
 
-# decided: counts the decision that the last line was told, if it was told one.
+# decided: counts the decision that the last line got, if it got one.
 decided() {
     case $told in
     *'"reply":"approved"'*) approved=$((approved + 1)) ;;
@@ -75,7 +75,7 @@ answer() {
     decided
 }
 
-# events NUMBER: so many events, each answered where it asks the gateway.
+# events NUMBER: NUMBER events, each answered if it asks the gateway.
 events() {
     local i x=1 y
     for ((i = 1; i <= $1; i++)); do

@@ -37,7 +37,7 @@ nested() {
 nested 126 "$taken"
 nested 127 "$no_json"
 
-# things TYPE REST COUNT: lines that make so many things of a type, named n1, n2 and so on, with these fields too.
+# things TYPE REST COUNT: lines that make COUNT things of a type, named n1, n2 and so on, with these fields too.
 things() {
     local number
     for number in $(seq "$3"); do
@@ -50,7 +50,7 @@ thing() {
     printf '{"type":"%s","token":"%s","%s":"%s",%s}\n' "$1" "$2" "$1" "$3" "$4"
 }
 
-# all REPLY TOKENS..: each of these events is told this.
+# all REPLY TOKENS..: each of these events gets this.
 all() {
     printf '{"event":"%s",'"$1"'}\n' "${@:2}"
 }

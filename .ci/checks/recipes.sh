@@ -133,7 +133,7 @@ purchase() {
 END
 }
 
-# millions BYTES: how many million times so many bytes a GiB has, cut after the first decimal.
+# millions BYTES: how many million times BYTES a GiB has, cut after the first decimal.
 millions() {
     awk -v bytes="$1" 'BEGIN { printf "%.1f", int(2 ^ 30 / bytes / 100000) / 10 }'
 }
