@@ -83,7 +83,7 @@ pub data Act : Type 0 where
   Clears : Txn → Parts → ℕ → ℕ → Act
   -- a refund of an amount, of which this much goes to the programme
   GivesBack : Txn → ℕ → ℕ → Act
-  -- the gateway is told by the notice of this number, with an amount and the gateway's part of it
+  -- the gateway receives the notice of this number, with an amount and the gateway's part of it
   Tells : ℕ → News → Txn → ℕ → ℕ → Act
   -- an event is done
   Does : List ℕ → Act
@@ -192,11 +192,12 @@ abbrev pub funding_acts : Facts → Ask → List Act
 funding_acts f ask =
     if is_account_funded ask.txn.funding then HoldsOwn ask ∷ [] else gateway_acts (product_named ask.txn.product f.products) f ask
 
--- an authorisation, and an increment
+-- an authorisation begins its transaction and seeks funding
 abbrev pub authorization_acts : Facts → Option Ask → List Act
 authorization_acts f None = []
 authorization_acts f (Some ask) = Begins ask ∷ funding_acts f ask
 
+-- an increment counts as use and seeks funding
 abbrev pub increment_acts : Facts → Option Ask → List Act
 increment_acts f None = []
 increment_acts f (Some ask) = Uses ask ∷ funding_acts f ask

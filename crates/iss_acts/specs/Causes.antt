@@ -25,11 +25,12 @@ seeks_funding (ComesOf (input.Authorization token card currency amount mcc mid))
 seeks_funding (ComesOf (input.Increment token txn currency amount)) = true
 seeks_funding _ = false
 
--- the gateway's answers to a call
+-- the gateway's answer funds a call
 abbrev pub funds_call : Cause → Bool
 funds_call (ComesOf (input.Answer call outcome.Funded)) = true
 funds_call _ = false
 
+-- the gateway's answer refuses a call
 abbrev pub refuses_call : Cause → Bool
 refuses_call (ComesOf (input.Answer call outcome.Refused)) = true
 refuses_call _ = false
@@ -56,15 +57,17 @@ lets_go (ComesOf (input.Reversal token txn currency amount)) = true
 lets_go (ComesOf (input.Clearing token txn currency amount last)) = true
 lets_go _ = false
 
--- a cause clears so much of a transaction, refunds so much, acknowledges a notice
+-- a cause clears this amount of the transaction of a token
 abbrev pub clears : Cause → List ℕ → ℕ → Bool
 clears (ComesOf (input.Clearing event txn currency amount last)) token n = bytes_eq token txn && n == amount
 clears by token n = false
 
+-- a cause refunds this amount of the transaction of a token
 abbrev pub refunds : Cause → List ℕ → ℕ → Bool
 refunds (ComesOf (input.Refund event txn currency amount)) token n = bytes_eq token txn && n == amount
 refunds by token n = false
 
+-- a cause acknowledges the notice of a number
 abbrev pub acknowledges : Cause → ℕ → Bool
 acknowledges (ComesOf (input.Ack notice)) n = n == notice
 acknowledges by n = false

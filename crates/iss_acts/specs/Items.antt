@@ -28,6 +28,7 @@ pub data Payment : Type 0 where
   ToGateway : Payment
   ToNetwork : Payment
 
+-- the account that a payment comes from
 abbrev pub payer : Payment → Txn → Account
 payer FromProgramme t = account.Programme t.currency
 payer FromGateway t = account.Gateway t.currency
@@ -36,6 +37,7 @@ payer ToProgramme t = user_account t
 payer ToGateway t = user_account t
 payer ToNetwork t = user_account t
 
+-- the account that a payment goes to
 abbrev pub payee : Payment → Txn → Account
 payee FromProgramme t = user_account t
 payee FromGateway t = user_account t
@@ -63,6 +65,7 @@ pub data Item : Type 0 where
   Telling : ℕ → News → Txn → ℕ → ℕ → Item
   Acking : ℕ → Item
 
+-- the entry of an item
 abbrev pub item_entry : Item → Entry
 item_entry (Setting i) = entry.Conf i
 item_entry (Loading user currency amount) = entry.Post (account.Programme currency) (account.User user currency) amount None
@@ -110,23 +113,27 @@ may_decide (TurnsDown ask why) (verdict.Declined reason) = true
 may_decide (Abandons number t why calls parts) (verdict.Declined reason) = true
 may_decide a v = false
 
+-- an act may end its transaction
 abbrev pub may_end : Act → Bool
 may_end (Refuses o t) = true
 may_end (TurnsDown ask why) = true
 may_end (Ends t) = true
 may_end _ = false
 
+-- an act may hold an amount
 abbrev pub may_hold : Act → Bool
 may_hold (HoldsOwn ask) = true
 may_hold (Funds o t) = true
 may_hold (StandsIn number ask at set) = true
 may_hold _ = false
 
+-- an act may let go of what is held
 abbrev pub may_free : Act → Bool
 may_free (LetsGo t parts amount) = true
 may_free (Clears t parts amount at) = true
 may_free _ = false
 
+-- an act may ask the gateway
 abbrev pub may_open_call : Act → Bool
 may_open_call (Asks f product ask) = true
 may_open_call _ = false
@@ -139,15 +146,18 @@ may_close (Fails number o t why) (how.Failed failure) = true
 may_close (Abandons number t why calls parts) how.Abandoned = true
 may_close a h = false
 
+-- an act may begin a transaction
 abbrev pub may_begin : Act → Bool
 may_begin (Begins ask) = true
 may_begin _ = false
 
+-- an act may void a call by a notice
 abbrev pub may_void : Act → Bool
 may_void (Fails number o t why) = true
 may_void (Abandons number t why calls parts) = true
 may_void _ = false
 
+-- an act may load a user
 abbrev pub may_load : Act → Bool
 may_load (Loads event user currency amount) = true
 may_load _ = false

@@ -108,6 +108,7 @@ pub record IsMade (f : Facts) (by : Cause) (at : ℕ) (g : Stage) (a : Act) : Ty
   pub cause : may_act by a ≡ true
   pub from : IsFrom f by at g a
 
+-- each act of a list is made so, at the stage that those before it leave
 abbrev pub AllMade : Facts → Cause → ℕ → Stage → List Act → Type 0
 AllMade f by at g [] = Unit {0}
 AllMade f by at g (a ∷ acts) = IsMade f by at g a × AllMade f by at (stage_after g a) acts

@@ -4,6 +4,7 @@ use Rattle.iss_model.specs.rules.Asks.{Ask, call_ask}
 use Rattle.iss_model.specs.rules.Pieces.{Parts, left_of, taken_to_clear, taken_to_release}
 use Rattle.iss_acts.specs.Acts.{Abandons, Act, Begins, Clears, Fails, LetsGo, Uses}
 
+-- what the acts of a row have left so far
 pub data Stage : Type 0 where
   -- nothing is made yet
   Fresh : Stage
@@ -18,6 +19,7 @@ pub data Stage : Type 0 where
   -- what comes next needs nothing of what was made
   Over : Stage
 
+-- the stage that an act leaves to the next one
 abbrev pub stage_after : Stage → Act → Stage
 stage_after g (Begins ask) = Seeks ask
 stage_after g (Uses ask) = Seeks ask
