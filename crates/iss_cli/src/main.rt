@@ -1,27 +1,17 @@
 //! The program: hands its words and the real outside to `run`, and ends with the status that this answers.
 //!
-//! It may cite `iss_top`, `iss_edge` and std's streams and files.
+//! It may cite `iss_top`, `iss_real` and std's streams and files.
 //! It must not cite the model: all that it decides is in `iss_top`.
 #![tactic(auto)]
 
-mod device;
 mod failure;
-mod listener;
-mod peers;
-mod real_edge;
-mod sockets;
-#[cfg(test)]
-mod tests;
 
-use device::Device;
 use failure::failure_of;
+use iss_real::{Device, RealEdge, Sockets, words_of};
 use iss_top::{Command, command_of, run};
-use real_edge::RealEdge;
-use sockets::Sockets;
 use std::fs::{File, Files};
+use std::io;
 use std::process::ExitCode;
-use std::rt::Env;
-use std::{env, io};
 
 /// The status where the words are no command.
 const USAGE: u8 = 2;
@@ -73,9 +63,4 @@ fn device_of(files: &impl Files<File = File>, words: &[String]) -> Device {
         }
         _ => Device::absent(),
     }
-}
-
-/// The words after the program's name.
-fn words_of(rt: &(impl Env + AllocGlobal)) -> io::Result<Vec<String>> {
-    Ok(env::args(rt)?.skip(1).collect(rt.alloc())?)
 }

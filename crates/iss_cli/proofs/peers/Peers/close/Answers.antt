@@ -1,5 +1,0 @@
-use Rattle.iss_cli.proofs.Opened.{numbers_removed}
-use Rattle.iss_cli.proofs.peers.Peers.close.Goals as goal
-
-pub returns : goal.returns
-returns c = rw (← c.self.view_is) (numbers_removed c.args.ch.0 c.self.inside.peers c.remove.new.self c.remove.ensures.entries c.remove.ensures.updates)

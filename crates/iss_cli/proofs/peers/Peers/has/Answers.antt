@@ -1,6 +1,0 @@
-use Rattle.std.proofs.Common.{◌∙◌}
-use Rattle.iss_cli.proofs.Opened.{has_number}
-use Rattle.iss_cli.proofs.peers.Peers.has.Goals as goal
-
-pub returns : goal.returns
-returns c = rw (← c.self.view_is) (c.contains_key.ensures ∙ has_number c.args.ch.0 c.self.inside.peers)

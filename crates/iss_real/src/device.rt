@@ -1,0 +1,150 @@
+//! The file that a device is.
+
+ghost use Rattle.std.specs.Prelude.{◌≡◌, IfErr, IsErr, None};
+
+use std::fs::{File, Files, OpenOptions, remove_file};
+use std::io;
+use std::io::ErrorKind;
+use std::os::unix::fs::FileExt;
+use std::path::Path;
+
+/// A device: an open file and its length in bytes, or a device of no bytes whose every call fails.
+#[derive(Drop)]
+pub struct Device {
+    file: Option<File>,
+    size: u64,
+}
+
+impl Device {
+    /// The device if none can be opened.
+    pub fn absent() -> Device
+        ensures size { result.size ≡ 0 }
+        ensures file { result.file ≡ None }
+    {
+        Device {
+            file: None,
+            size: 0,
+        }
+    }
+
+    /// The file of this name, which lasts then, and if there is none, or one that was being made, a new one of `size` zero bytes. If it
+    /// can't be opened or made, the device is absent.
+    pub fn opened_or_made<R: Files<File = File>>(files: &R, name: &str, size: u64) -> Device {
+        let device = match Device::open(files, name) {
+            Err(e) if e.kind() == ErrorKind::NotFound => Device::make(files, name, size),
+            Ok(device) => device.completed(files, name, size),
+            Err(e) => Err(e),
+        };
+        device.unwrap_or(Device::absent())
+    }
+
+    /// The same device, whose name lasts. A plain file of no bytes gets `size` zero bytes: a stop left it there while it was made.
+    fn completed<R: Files<File = File>>(
+        mut self,
+        files: &R,
+        name: &str,
+        size: u64,
+    ) -> io::Result<Device> {
+        let file = self.file()?;
+        if self.size == 0 && file.metadata()?.is_file() {
+            lengthen(file, size)?;
+            self.size = size;
+        }
+        sync_folder(files, name)?;
+        Ok(self)
+    }
+
+    /// The file of this name. If it can't be opened, or another program has it open as a device, the device is absent.
+    pub fn opened<R: Files<File = File>>(files: &R, name: &str) -> Device {
+        Device::open(files, name).unwrap_or(Device::absent())
+    }
+
+    fn open<R: Files<File = File>>(files: &R, name: &str) -> io::Result<Device> {
+        let file = apart(OpenOptions::new().read(true).write(true).open(files, name)?)?;
+        // Another program that writes it would break what is known of the file.
+        file.try_lock()?;
+        let size = file.metadata()?.len();
+        Ok(Device {
+            file: Some(file),
+            size,
+        })
+    }
+
+    /// A new file of `size` zero bytes, which is taken away again if it can't be made to last.
+    fn make<R: Files<File = File>>(files: &R, name: &str, size: u64) -> io::Result<Device> {
+        let file = File::create_new(files, name)?;
+        match lengthen(&file, size).and_then(|()| sync_folder(files, name)) {
+            Ok(()) => Ok(Device {
+                file: Some(file),
+                size,
+            }),
+            Err(e) => {
+                let _ = remove_file(files, name);
+                Err(e)
+            }
+        }
+    }
+
+    /// The length in bytes.
+    pub fn size(&self) -> u64
+        ensures { result ≡ self.now.size }
+    {
+        self.size
+    }
+
+    /// Reads the bytes from this place on into `buf`.
+    pub fn read_at(&self, at: u64, buf: &mut [u8]) -> io::Result<()>
+        ensures absent { self.now.file ≡ None → IsErr result }
+    {
+        self.file()?.read_exact_at(buf, at)
+    }
+
+    /// Writes the bytes from this place on.
+    pub fn write_at(&self, at: u64, bytes: &[u8]) -> io::Result<()>
+        ensures absent { self.now.file ≡ None → IsErr result }
+    {
+        self.file()?.write_all_at(bytes, at)
+    }
+
+    /// Makes all that was written last.
+    pub fn sync(&self) -> io::Result<()>
+        ensures absent { self.now.file ≡ None → IsErr result }
+    {
+        self.file()?.sync_all()
+    }
+
+    fn file(&self) -> io::Result<&File>
+        ensures { self.now.file ≡ None → IsErr result }
+    {
+        match &self.file {
+            Some(file) => Ok(file),
+            None => Err(io::Error::from(ErrorKind::NotFound)),
+        }
+    }
+}
+
+/// The same file under a number of its own. If a standard stream is closed, an opened file gets the stream's number, and texts
+/// would be written into it, or lines read from it. A second descriptor gets none of the three.
+fn apart(file: File) -> io::Result<File> {
+    file.try_clone()
+}
+
+/// Locks a new file, gives it its length, and makes both last.
+fn lengthen(file: &File, size: u64) -> io::Result<()> {
+    file.try_lock()?;
+    file.set_len(size)?;
+    file.sync_all()
+}
+
+/// Makes the name of a file last.
+fn sync_folder<R: Files<File = File>>(files: &R, name: &str) -> io::Result<()> {
+    File::open(files, folder_of(name))?.sync_all()
+}
+
+/// The folder in which a file of this name stands.
+fn folder_of(name: &str) -> Path<'_> {
+    match Path::new(name).parent() {
+        Some(folder) if !folder.as_str().is_empty() => folder,
+        _ => Path::new("."),
+    }
+}

@@ -1,0 +1,108 @@
+//! Texts for the gateway whose channels aren't connected yet.
+//!
+//! The edge keeps such a text until a socket takes it. By then it counts as gone out: its record lasts already, and if it is lost with the
+//! program, the next run sends it again, as it does with one that is lost in a socket.
+
+ghost use Rattle.std.specs.Prelude.{◌≡◌};
+
+use crate::host::{Host, is_passing};
+use crate::peers::Peers;
+use iss_edge::Channel;
+use std::alloc::Global;
+use std::collections::VecDeque;
+use std::io;
+use std::io::{ErrorKind, Write};
+use std::net::{Net, TcpStream};
+
+/// A channel and its text.
+#[derive(Drop)]
+struct Text {
+    ch: Channel,
+    bytes: Vec<u8>,
+}
+
+/// The texts that no socket took yet, in their order. Only the first has a socket, which is connecting: if the gateway takes no connection
+/// now, it takes none for the others.
+#[derive(Drop)]
+pub struct Links {
+    alloc: Global,
+    texts: VecDeque<Text>,
+    socket: Option<TcpStream>,
+}
+
+impl Links {
+    /// No text.
+    pub fn none(alloc: Global) -> Links {
+        Links {
+            alloc,
+            texts: VecDeque::new(alloc),
+            socket: None,
+        }
+    }
+
+    /// Keeps the text of a channel that isn't connected.
+    pub fn keep(&mut self, ch: Channel, text: &[u8]) -> io::Result<()> {
+        let mut bytes = Vec::new(self.alloc);
+        bytes.extend_from_slice(text)?;
+        self.texts.push_back(Text { ch, bytes })?;
+        Ok(())
+    }
+
+    /// Gives a channel that is to be closed one more try, if it isn't connected, and drops its text.
+    pub fn finish<N: Net>(&mut self, host: &mut Host<N>, peers: &mut Peers, ch: Channel)
+        ensures { peers.new ≡ peers.old }
+    {
+        if peers.is_pending(ch) {
+            self.send_all(host, peers, true);
+            self.texts.retain(|text| text.ch.0 != ch.0);
+        }
+    }
+
+    /// Has the gateway take texts while it does, by a new connection if the first one's wasn't made in time. A channel whose connection
+    /// fails is lost.
+    pub fn send_all<N: Net>(&mut self, host: &mut Host<N>, peers: &mut Peers, is_late: bool)
+        ensures { peers.new ≡ peers.old }
+    {
+        if is_late {
+            self.socket = None;
+        }
+        for _ in 0..self.texts.len() {
+            match self.send_first(host, peers) {
+                Ok(()) => {}
+                Err(e) if is_passing(&e) => return,
+                Err(_) => self.lose_first(peers),
+            }
+        }
+    }
+
+    /// Has the gateway take the first text. It would block until the connection is made.
+    fn send_first<N: Net>(&mut self, host: &mut Host<N>, peers: &Peers) -> io::Result<()> {
+        let Some(text) = self.texts.front() else {
+            return Ok(());
+        };
+        if self.socket.is_none() {
+            let socket = host.connect()?;
+            host.watch(&socket, text.ch.0);
+            self.socket = Some(socket);
+        }
+        let mut socket = self.socket.as_ref().ok_or(ErrorKind::NotConnected)?;
+        if socket.write(&text.bytes)? < text.bytes.len() {
+            return Err(io::Error::from(ErrorKind::WriteZero));
+        }
+        if let (Some(peer), Some(socket)) = (peers.find(text.ch), self.socket.take()) {
+            peer.connect(socket);
+        }
+        self.texts.pop_front();
+        Ok(())
+    }
+
+    /// The first text has no connection.
+    fn lose_first(&mut self, peers: &mut Peers)
+        ensures { peers.new ≡ peers.old }
+    {
+        self.socket = None;
+        if let Some(text) = self.texts.pop_front() {
+            peers.lose(text.ch);
+        }
+    }
+}

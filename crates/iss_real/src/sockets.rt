@@ -1,0 +1,199 @@
+//! Channels over loopback sockets.
+
+ghost use Rattle.std.specs.Prelude.{◌≡◌, ◌+◌, Some, IfOk};
+ghost use Rattle.std.specs.Result.{result_ok};
+ghost use Rattle.std.specs.Io.{ReadsAtMost};
+ghost use Rattle.iss_edge.specs.Channels.{no_channels, is_among, IsUnused, after_dial, after_close};
+
+use crate::clocks::{Clocks, monotonic};
+use crate::host::{Host, is_passing};
+use crate::links::Links;
+use crate::peers::{Peer, Peers};
+use iss_edge::Channel;
+use std::alloc::Global;
+use std::io::{ErrorKind, Write};
+use std::marker::Model;
+use std::net::{Net, TcpStream};
+use std::time::{Clock, Duration};
+use std::{io, thread};
+
+/// How many writes an emit makes at most, with a pause of a millisecond after each that could write nothing.
+const WRITES: u32 = 100;
+
+/// Channels over loopback sockets, seen as their numbers and the one that was last ready. Moments are milliseconds of the monotonic clock.
+#[derive(Drop)]
+pub struct Sockets<N> {
+    pub(crate) host: Host<N>,
+    pub(crate) clients: Peers,
+    pub(crate) dialled: Peers,
+    /// The texts of dialled channels that aren't connected.
+    pub(crate) links: Links,
+    /// The greatest number that a channel got.
+    pub(crate) last: u32,
+    pub(crate) ready: Option<u32>,
+    /// Whether the last wait brought that channel. If the gateway is dialled now, it is a client whose request is whole.
+    pub(crate) is_heard: bool,
+    /// Whether a look is for clients first.
+    pub(crate) admits_first: bool,
+    /// A client that came when there was no memory for it.
+    pub(crate) kept: Option<Peer>,
+    pub(crate) clocks: Clocks,
+    /// When a wait began last, a time was told last, and all channels were looked at last.
+    pub(crate) at: u64,
+    pub(crate) told: u64,
+    pub(crate) looked: u64,
+    /// How many answers came before the time that is due.
+    pub(crate) in_time: u32,
+}
+
+impl<N> Model for Sockets<N> {
+    ghost use Rattle.std.specs.Prelude.{◌≡◌, true};
+    ghost use Rattle.std.specs.List.{list_all};
+    ghost use Rattle.iss_edge.specs.Channels.{Channels};
+    ghost use Rattle.iss_real.specs.Numbers.{is_up_to};
+
+    ghost Value = { Channels };
+
+    ghost view = { λ s. record { clients = s.clients; dialled = s.dialled; ready = s.ready } };
+
+    ghost invariant = { λ s.
+        (list_all (is_up_to s.last) s.clients ≡ true) × (list_all (is_up_to s.last) s.dialled ≡ true) };
+}
+
+impl<N: Net<Stream = TcpStream> + Clock + Drop> Sockets<N> {
+    /// No channels. Without a listener each wait fails, and without a gateway each dialled channel does.
+    pub fn none(net: N, alloc: Global) -> Sockets<N>
+        ensures { result ≡ no_channels }
+    {
+        Sockets {
+            host: Host::new(net, alloc),
+            clients: Peers::none(alloc),
+            dialled: Peers::none(alloc),
+            links: Links::none(alloc),
+            last: 0,
+            ready: None,
+            is_heard: false,
+            admits_first: false,
+            kept: None,
+            clocks: Clocks::new(),
+            at: 0,
+            told: 0,
+            looked: 0,
+            in_time: 0,
+        }
+    }
+
+    /// Listens for clients on a port of this machine, 0 for any that is free.
+    pub fn listen(&mut self, alloc: Global, port: u16) -> io::Result<()>
+        ensures { self.new ≡ self.old }
+    {
+        self.host.listen(alloc, port)
+    }
+
+    /// Dials this port of this machine from now on.
+    pub fn set_gateway(&mut self, port: u16)
+        ensures { self.new ≡ self.old }
+    {
+        self.host.set_gateway(port);
+    }
+
+    /// Opens a channel to the gateway. It is connected once it has a text.
+    pub fn dial(&mut self) -> io::Result<Channel>
+        ensures unused { IfOk result (IsUnused self.old) }
+        ensures channels { self.new ≡ after_dial (result_ok result) self.old }
+    {
+        let number = next_number(self.last)?;
+        let peer = Peer::new(monotonic(&self.host.net)?);
+        if self.dialled.push(number, peer).is_err() {
+            return Err(io::Error::from(ErrorKind::OutOfMemory));
+        }
+        self.last = number;
+        self.let_asker_wait();
+        Ok(Channel(number))
+    }
+
+    /// If the last wait found a client ready, it waits for the gateway now.
+    fn let_asker_wait(&self) {
+        if let (true, Some(number)) = (self.is_heard, self.ready) {
+            if let Some(peer) = self.clients.find(Channel(number)) {
+                peer.let_wait();
+            }
+        }
+    }
+
+    /// Whether the channel was dialled and not closed since.
+    pub fn is_dialled(&self, ch: Channel) -> bool
+        ensures { result ≡ is_among self.now.dialled ch.0 }
+    {
+        self.dialled.has(ch)
+    }
+
+    /// Writes the bytes to a channel, or fails if the peer doesn't take them in time. The text of a channel that isn't connected is kept
+    /// until a socket takes it.
+    pub fn emit(&mut self, ch: Channel, bytes: &[u8]) -> io::Result<()>
+        ensures { self.new ≡ self.old }
+    {
+        if self.dialled.is_pending(ch) {
+            self.links.keep(ch, bytes)?;
+            self.links
+                .send_all(&mut self.host, &mut self.dialled, false);
+            return Ok(());
+        }
+        write_in_time(&self.host.net, self.peer(ch)?.socket()?, bytes)
+    }
+
+    /// Reads what came on a channel into the start of `buf`, or fails if that would block.
+    pub fn take(&self, ch: Channel, buf: &mut [u8]) -> io::Result<usize>
+        ensures { ReadsAtMost result buf.new }
+    {
+        self.peer(ch)?.read(buf, self.at)
+    }
+
+    fn peer(&self, ch: Channel) -> io::Result<&Peer> {
+        match self.clients.find(ch).or(self.dialled.find(ch)) {
+            Some(peer) => Ok(peer),
+            None => Err(io::Error::from(ErrorKind::NotConnected)),
+        }
+    }
+
+    /// Closes a channel. A text that no socket took yet gets one more try.
+    pub fn close(&mut self, ch: Channel)
+        ensures { self.new ≡ after_close ch self.old }
+    {
+        self.links.finish(&mut self.host, &mut self.dialled, ch);
+        self.clients.close(ch);
+        self.dialled.close(ch);
+        self.host.keep_back();
+    }
+}
+
+/// The number after that one.
+pub(crate) fn next_number(last: u32) -> io::Result<u32>
+    ensures { IfOk result (λ number. number ≡ last + 1) }
+{
+    match last.checked_add(1) {
+        Some(number) => Ok(number),
+        None => Err(io::Error::from(ErrorKind::QuotaExceeded)),
+    }
+}
+
+/// Writes all of the bytes, with a pause wherever the peer takes none, and gives up after so many writes.
+fn write_in_time(clock: &impl Clock, mut socket: &TcpStream, bytes: &[u8]) -> io::Result<()> {
+    let mut rest = bytes;
+    for _ in 0..WRITES {
+        if rest.is_empty() {
+            return Ok(());
+        }
+        match socket.write(rest) {
+            Ok(0) => return Err(io::Error::from(ErrorKind::WriteZero)),
+            Ok(count) => rest = &rest[count..],
+            Err(e) if is_passing(&e) => thread::sleep(clock, Duration::from_millis(1)),
+            Err(e) => return Err(e),
+        }
+    }
+    if rest.is_empty() {
+        Ok(())
+    } else {
+        Err(io::Error::from(ErrorKind::TimedOut))
+    }
+}

@@ -1,0 +1,193 @@
+//! Waiting for what comes next.
+
+ghost use Rattle.std.specs.Prelude.{◌≡◌, Some, IfOk};
+ghost use Rattle.std.specs.Result.{result_ok};
+ghost use Rattle.iss_edge.specs.Channels.{ComesUnused, after_wait};
+
+use crate::Sockets;
+use crate::clocks::monotonic;
+use crate::host::AT_ONCE;
+use crate::peers::{Peer, Peers};
+use crate::sockets::next_number;
+use iss_edge::{Arrival, Channel};
+use mio::event::Iter;
+use std::io;
+use std::io::ErrorKind;
+use std::net::{Net, TcpStream};
+use std::time::Clock;
+
+/// How many milliseconds pass at least between two times that are told.
+const TICK: u64 = 20;
+
+/// How many milliseconds pass between two rounds of all channels, the guard against a change that no look named.
+const ROUND: u64 = 5000;
+
+/// For how many milliseconds a client may be silent before its request is whole.
+const CLIENT_PATIENCE: u64 = 30_000;
+
+/// For how many milliseconds the gateway may be silent: twice the longest time that a product gives it.
+const GATEWAY_PATIENCE: u64 = 120_000;
+
+impl<N: Net<Stream = TcpStream> + Clock + Drop> Sockets<N> {
+    /// A client or a channel that is ready, or the time if none was told lately. If there is none, it sleeps until something comes or the
+    /// time is to be told.
+    pub fn wait(&mut self) -> io::Result<Arrival>
+        ensures unused { IfOk result (ComesUnused self.old) }
+        ensures channels { self.new ≡ after_wait (result_ok result) self.old }
+    {
+        self.is_heard = false;
+        self.at = monotonic(&self.host.net)?;
+        self.listen_for(0)?;
+        let since = self.at.saturating_sub(self.told);
+        if since >= TICK {
+            return self.tell_time();
+        }
+        match self.look()? {
+            Arrival::Idle => {
+                self.listen_for(TICK - since)?;
+                self.look()
+            }
+            arrives => Ok(arrives),
+        }
+    }
+
+    /// The time, after the answers that came before it: one that came in time isn't judged late, however long the program paused. As many
+    /// go before the time as one look names, so that answers in pieces can't hold it up.
+    fn tell_time(&mut self) -> io::Result<Arrival>
+        ensures unused { IfOk result (ComesUnused self.old) }
+        ensures channels { self.new ≡ after_wait (result_ok result) self.old }
+    {
+        if self.in_time < AT_ONCE {
+            self.in_time += 1;
+            if let Some(ch) = self.dialled.next() {
+                return Ok(self.hear(ch));
+            }
+        }
+        self.in_time = 0;
+        self.told = self.at;
+        self.links.send_all(&mut self.host, &mut self.dialled, true);
+        self.look_over();
+        let time = self.clocks.time(&self.host.net)?;
+        Ok(Arrival::Time(time))
+    }
+
+    /// Looks at all channels, once in a while.
+    fn look_over(&mut self)
+        ensures { self.new ≡ self.old }
+    {
+        if self.at.saturating_sub(self.looked) >= ROUND {
+            self.looked = self.at;
+            self.clients.wake_all(self.at, CLIENT_PATIENCE);
+            self.dialled.wake_all(self.at, GATEWAY_PATIENCE);
+        }
+    }
+
+    /// Notes on what something came. If nothing did, it sleeps until then, for so many milliseconds at most.
+    fn listen_for(&mut self, most: u64) -> io::Result<()>
+        ensures { self.new ≡ self.old }
+    {
+        let names = self.host.look(most)?;
+        wake_named(names, &mut self.clients, &mut self.dialled);
+        self.links
+            .send_all(&mut self.host, &mut self.dialled, false);
+        Ok(())
+    }
+
+    /// A client or a channel that is ready, the one or the other first by turns.
+    fn look(&mut self) -> io::Result<Arrival>
+        ensures unused { IfOk result (ComesUnused self.old) }
+        ensures channels { self.new ≡ after_wait (result_ok result) self.old }
+    {
+        self.admits_first = !self.admits_first;
+        if self.admits_first {
+            return match self.admit()? {
+                Arrival::Idle => Ok(self.find_ready()),
+                arrives => Ok(arrives),
+            };
+        }
+        match self.find_ready() {
+            Arrival::Idle => self.admit(),
+            arrives => Ok(arrives),
+        }
+    }
+
+    /// The next channel that is ready. Answers come before requests, so that a call ends before others begin.
+    fn find_ready(&mut self) -> Arrival
+        ensures unused { ComesUnused self.old result }
+        ensures channels { self.new ≡ after_wait (Some result) self.old }
+    {
+        match next_of(&mut self.dialled, &mut self.clients) {
+            Some(ch) => self.hear(ch),
+            None => Arrival::Idle,
+        }
+    }
+
+    /// The channel is ready.
+    fn hear(&mut self, ch: Channel) -> Arrival
+        ensures unused { ComesUnused self.old result }
+        ensures channels { self.new ≡ after_wait (Some result) self.old }
+    {
+        self.ready = Some(ch.0);
+        self.is_heard = true;
+        Arrival::Ready(ch)
+    }
+
+    /// A client, if one came. If there is no memory for it, a later wait lets it in.
+    fn admit(&mut self) -> io::Result<Arrival>
+        ensures unused { IfOk result (ComesUnused self.old) }
+        ensures channels { self.new ≡ after_wait (result_ok result) self.old }
+    {
+        let Some(peer) = self.client() else {
+            return Ok(Arrival::Idle);
+        };
+        let number = next_number(self.last)?;
+        peer.watch(&self.host, number);
+        match self.clients.push(number, peer) {
+            Ok(()) => {
+                self.clients.wake(Channel(number));
+                self.last = number;
+                Ok(Arrival::Client(Channel(number)))
+            }
+            Err(peer) => {
+                self.kept = Some(peer);
+                Err(io::Error::from(ErrorKind::OutOfMemory))
+            }
+        }
+    }
+
+    /// A client that came. One that can't be accepted, for want of a handle or since it went, is left.
+    fn client(&mut self) -> Option<Peer>
+        ensures { self.new ≡ self.old }
+    {
+        if self.kept.is_some() {
+            return self.kept.take();
+        }
+        let socket = self.host.accept().ok()?;
+        let peer = Peer::new(self.at);
+        peer.connect(socket);
+        Some(peer)
+    }
+}
+
+/// The channels that these name may be ready.
+fn wake_named(names: Iter<'_>, clients: &mut Peers, dialled: &mut Peers)
+    ensures clients { clients.new ≡ clients.old }
+    ensures dialled { dialled.new ≡ dialled.old }
+{
+    for event in names {
+        let ch = Channel(u32::try_from(event.token().0).unwrap_or(0));
+        clients.wake(ch);
+        dialled.wake(ch);
+    }
+}
+
+/// The next channel that is ready: one of these, or else one of the others.
+fn next_of(these: &mut Peers, others: &mut Peers) -> Option<Channel>
+    ensures these { these.new ≡ these.old }
+    ensures others { others.new ≡ others.old }
+{
+    match these.next() {
+        Some(ch) => Some(ch),
+        None => others.next(),
+    }
+}
