@@ -122,3 +122,13 @@ up_to_opened last number numbers now is opened all =
     let itself : is_up_to number number ≡ true = le-leb number number (omega arith) in
     rw opened (list_all-append (is_up_to number) numbers (number ∷ [])
     ∙ and_from (list_all (is_up_to number) numbers) (is_up_to number number && true) (up_to_next last number numbers is all) (rw itself refl))
+
+-- and all are below the next number
+pub below_next : (last number : ℕ) (numbers : List ℕ) → number ≡ last + 1 → list_all (is_up_to last) numbers ≡ true → list_all (is_below number) numbers ≡ true
+below_next last number [] is all = refl
+below_next last number (n ∷ numbers) is all =
+    let parts = and_parts (is_up_to last n) (list_all (is_up_to last) numbers) all in
+    and_from (is_below number n) (list_all (is_below number) numbers) (less n number (omega (arith, is, leb-true n last parts.0))) (below_next last number numbers is parts.1)
+  where
+    less : (n m : ℕ) → n < m → nat_lt n m ≡ true
+    less n m h = grind (arith, nat_tests)

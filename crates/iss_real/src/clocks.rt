@@ -1,33 +1,28 @@
 //! The time that is told, by the system's two clocks.
 
+ghost use Rattle.std.specs.Prelude.{◌≡◌, ◌+◌, ◌≤◌, ◌⊎◌, None, IfSome};
+ghost use Rattle.iss_real.specs.Clocks.{HasLasted};
+
 use std::io;
 use std::io::ErrorKind;
 use std::time::{Clock, Duration};
 
 /// How many milliseconds the system's time may gain on the monotonic clock without having jumped.
-pub const AHEAD: u64 = 20;
+const AHEAD: u64 = 20;
 
 /// For how many milliseconds the system's time has to be ahead by a jump before it is believed.
-pub const BELIEVED: u64 = 10_000;
+const BELIEVED: u64 = 10_000;
 
-/// What is known of the clocks. A jump ahead that doesn't last is never told, since what it expires stays expired.
-#[derive(Drop)]
+/// What is known of the clocks, by default nothing. A jump ahead that doesn't last is never told, since what it expires stays expired.
+#[derive(Default, Drop)]
 pub struct Clocks {
     /// How many milliseconds the time that is told is ahead of the monotonic clock, once one was told.
-    pub offset: Option<u64>,
-    /// When the jump by which the system's time is ahead now was seen first, by the monotonic clock.
-    pub jumped: Option<u64>,
+    offset: Option<u64>,
+    /// When the system's time was first seen to be further ahead than that, by the monotonic clock, and by how much at least since.
+    jumped: Option<(u64, u64)>,
 }
 
 impl Clocks {
-    /// No time was told yet.
-    pub fn new() -> Clocks {
-        Clocks {
-            offset: None,
-            jumped: None,
-        }
-    }
-
     /// The time to tell, in milliseconds since 1970.
     pub fn time(&mut self, clock: &impl Clock) -> io::Result<u64> {
         let elapsed = monotonic(clock)?;
@@ -35,20 +30,30 @@ impl Clocks {
         Ok(self.time_at(elapsed, time))
     }
 
-    /// The time to tell when the monotonic clock and the system's time read so: the system's time, or while that is ahead by a jump that
-    /// isn't believed yet, the time that has passed since by the monotonic clock.
-    fn time_at(&mut self, elapsed: u64, time: u64) -> u64 {
+    /// The time to tell when the monotonic clock and the system's time read so: the system's time, or while that is ahead by a jump, the time
+    /// that has passed since by the monotonic clock. Once the jump has lasted, the least that it was ahead by is believed.
+    fn time_at(&mut self, elapsed: u64, time: u64) -> u64
+        ensures first { self.old.offset ≡ None → result ≡ time }
+        ensures steady { IfSome self.old.offset (λ known. time ≤ elapsed + known + AHEAD → result ≡ time) }
+        ensures held { IfSome self.old.offset (λ known. (result ≤ elapsed + known + AHEAD) ⊎ HasLasted BELIEVED self.old.jumped elapsed result) }
+        ensures passed { result ≤ time }
+    {
         let offset = time.saturating_sub(elapsed);
         let known = self.offset.unwrap_or(offset);
-        let since = self.jumped.unwrap_or(elapsed);
-        let is_ahead = offset > known.saturating_add(AHEAD);
-        if is_ahead && elapsed.saturating_sub(since) < BELIEVED {
-            self.jumped = Some(since);
+        if offset <= known.saturating_add(AHEAD) {
+            self.jumped = None;
+            self.offset = Some(offset.max(known));
+            return time;
+        }
+        let (since, seen) = self.jumped.unwrap_or((elapsed, offset));
+        let least = seen.min(offset);
+        if elapsed.saturating_sub(since) < BELIEVED {
+            self.jumped = Some((since, least));
             return elapsed.saturating_add(known);
         }
         self.jumped = None;
-        self.offset = Some(offset.max(known));
-        time
+        self.offset = Some(least);
+        elapsed.saturating_add(least)
     }
 }
 

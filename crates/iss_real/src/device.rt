@@ -30,28 +30,36 @@ impl Device {
     /// The file of this name, which lasts then, and if there is none, or one that was being made, a new one of `size` zero bytes. If it
     /// can't be opened or made, the device is absent.
     pub fn opened_or_made<R: Files<File = File>>(files: &R, name: &str, size: u64) -> Device {
-        let device = match Device::open(files, name) {
-            Err(e) if e.kind() == ErrorKind::NotFound => Device::make(files, name, size),
-            Ok(device) => device.completed(files, name, size),
-            Err(e) => Err(e),
-        };
-        device.unwrap_or(Device::absent())
+        Device::made(files, name, size).unwrap_or(Device::absent())
     }
 
-    /// The same device, whose name lasts. A plain file of no bytes gets `size` zero bytes: a stop left it there while it was made.
-    fn completed<R: Files<File = File>>(
-        mut self,
-        files: &R,
-        name: &str,
-        size: u64,
-    ) -> io::Result<Device> {
-        let file = self.file()?;
-        if self.size == 0 && file.metadata()?.is_file() {
-            lengthen(file, size)?;
-            self.size = size;
+    /// A new file is taken away again if it can't be made to last.
+    fn made<R: Files<File = File>>(files: &R, name: &str, size: u64) -> io::Result<Device> {
+        match Device::open(files, name) {
+            Err(e) if e.kind() == ErrorKind::NotFound => {
+                File::create_new(files, name)?;
+                let made = Device::completed(files, name, size);
+                if made.is_err() {
+                    let _ = remove_file(files, name);
+                }
+                made
+            }
+            Err(e) => Err(e),
+            Ok(_) => Device::completed(files, name, size),
         }
-        sync_folder(files, name)?;
-        Ok(self)
+    }
+
+    /// The file of this name, whose name lasts. A plain file of no bytes gets `size` zero bytes: a stop left it there while it was made.
+    fn completed<R: Files<File = File>>(files: &R, name: &str, size: u64) -> io::Result<Device> {
+        let mut device = Device::open(files, name)?;
+        let file = device.file()?;
+        if device.size == 0 && file.metadata()?.is_file() {
+            file.set_len(size)?;
+            file.sync_all()?;
+            device.size = size;
+        }
+        File::open(files, folder_of(name))?.sync_all()?;
+        Ok(device)
     }
 
     /// The file of this name. If it can't be opened, or another program has it open as a device, the device is absent.
@@ -68,21 +76,6 @@ impl Device {
             file: Some(file),
             size,
         })
-    }
-
-    /// A new file of `size` zero bytes, which is taken away again if it can't be made to last.
-    fn make<R: Files<File = File>>(files: &R, name: &str, size: u64) -> io::Result<Device> {
-        let file = File::create_new(files, name)?;
-        match lengthen(&file, size).and_then(|()| sync_folder(files, name)) {
-            Ok(()) => Ok(Device {
-                file: Some(file),
-                size,
-            }),
-            Err(e) => {
-                let _ = remove_file(files, name);
-                Err(e)
-            }
-        }
     }
 
     /// The length in bytes.
@@ -127,18 +120,6 @@ impl Device {
 /// would be written into it, or lines read from it. A second descriptor gets none of the three.
 fn apart(file: File) -> io::Result<File> {
     file.try_clone()
-}
-
-/// Locks a new file, gives it its length, and makes both last.
-fn lengthen(file: &File, size: u64) -> io::Result<()> {
-    file.try_lock()?;
-    file.set_len(size)?;
-    file.sync_all()
-}
-
-/// Makes the name of a file last.
-fn sync_folder<R: Files<File = File>>(files: &R, name: &str) -> io::Result<()> {
-    File::open(files, folder_of(name))?.sync_all()
 }
 
 /// The folder in which a file of this name stands.

@@ -33,7 +33,7 @@ struct Listener {
 pub struct Host<N> {
     pub net: N,
     listener: Option<Listener>,
-    gateway: Option<u16>,
+    pub gateway: Option<u16>,
     /// Handles that are kept back for each side, so that the other can't take all that the system gives.
     for_clients: Vec<Registry>,
     for_gateway: Vec<Registry>,
@@ -49,11 +49,6 @@ impl<N: Net> Host<N> {
             for_clients: Vec::new(alloc),
             for_gateway: Vec::new(alloc),
         }
-    }
-
-    /// Dials this port from now on.
-    pub fn set_gateway(&mut self, port: u16) {
-        self.gateway = Some(port);
     }
 
     /// Listens on a port, 0 for any that is free. As many clients as the system allows may wait to be let in.

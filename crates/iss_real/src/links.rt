@@ -42,8 +42,7 @@ impl Links {
 
     /// Keeps the text of a channel that isn't connected.
     pub fn keep(&mut self, ch: Channel, text: &[u8]) -> io::Result<()> {
-        let mut bytes = Vec::new(self.alloc);
-        bytes.extend_from_slice(text)?;
+        let bytes = text.to_vec(self.alloc)?;
         self.texts.push_back(Text { ch, bytes })?;
         Ok(())
     }
@@ -70,7 +69,12 @@ impl Links {
             match self.send_first(host, peers) {
                 Ok(()) => {}
                 Err(e) if is_passing(&e) => return,
-                Err(_) => self.lose_first(peers),
+                Err(_) => {
+                    self.socket = None;
+                    if let Some(text) = self.texts.pop_front() {
+                        peers.lose(text.ch);
+                    }
+                }
             }
         }
     }
@@ -94,15 +98,5 @@ impl Links {
         }
         self.texts.pop_front();
         Ok(())
-    }
-
-    /// The first text has no connection.
-    fn lose_first(&mut self, peers: &mut Peers)
-        ensures { peers.new ≡ peers.old }
-    {
-        self.socket = None;
-        if let Some(text) = self.texts.pop_front() {
-            peers.lose(text.ch);
-        }
     }
 }

@@ -6,7 +6,7 @@ ghost use Rattle.std.specs.List.{list_all};
 ghost use Rattle.iss_edge.specs.Channels.{is_among, without};
 ghost use Rattle.iss_real.specs.Numbers.{is_below};
 
-use crate::host::Host;
+use crate::host::{Host, is_passing};
 use iss_edge::Channel;
 use std::alloc::Global;
 use std::cell::{Cell, OnceCell};
@@ -86,11 +86,10 @@ impl Peer {
         if self.is_lost.get() || self.has_ended.get() {
             return self.is_lost.get();
         }
-        match self.socket().map(|socket| socket.peek(&mut [0])) {
-            Ok(Err(e)) => !matches!(e.kind(), ErrorKind::WouldBlock | ErrorKind::Interrupted),
-            Ok(Ok(_)) => true,
-            Err(_) => false,
-        }
+        let Ok(socket) = self.socket() else {
+            return false;
+        };
+        !matches!(socket.peek(&mut [0]), Err(e) if is_passing(&e))
     }
 
     /// Ends what goes out and reads what came. If bytes were left unread, closing the socket would take back what the peer
@@ -145,11 +144,6 @@ impl Peers {
         ensures pushed { OnOk result (self.new ≡ self.old ++ number ∷ []) }
         ensures refused { OnErr result (self.new ≡ self.old) }
     {
-        // Room for all channels, so that waking one asks for no memory.
-        let room = self.peers.len().saturating_add(1);
-        if self.woken.reserve(room).is_err() {
-            return Err(peer);
-        }
         match self.peers.insert(number, peer) {
             Ok(_) => Ok(()),
             Err(e) => Err(e.value.1),
@@ -179,10 +173,8 @@ impl Peers {
 
     /// Whether the channel isn't connected yet, and may still be.
     pub fn is_pending(&self, ch: Channel) -> bool {
-        match self.find(ch) {
-            Some(peer) => peer.socket().is_err() && !peer.is_lost.get(),
-            None => false,
-        }
+        self.find(ch)
+            .is_some_and(|peer| peer.socket().is_err() && !peer.is_lost.get())
     }
 
     /// The channel may be ready.
@@ -204,7 +196,7 @@ impl Peers {
         self.wake(ch);
     }
 
-    /// Each channel may be ready, and those that were silent for so many milliseconds are lost.
+    /// Each channel may be ready. Those that were silent for `patience` milliseconds, and on which nothing came since, are lost.
     pub fn wake_all(&mut self, now: u64, patience: u64)
         ensures { self.new ≡ self.old }
     {
@@ -219,16 +211,16 @@ impl Peers {
     }
 }
 
-/// The channel may be ready. Room for its number was made when it was opened.
+/// The channel may be ready. If there is no memory to say so, the next round does.
 fn wake(woken: &mut VecDeque<u32>, number: u32, peer: &Peer) {
-    if !peer.is_woken.replace(true) {
-        let _ = woken.push_back(number);
+    if !peer.is_woken.get() {
+        peer.is_woken.set(woken.push_back(number).is_ok());
     }
 }
 
 fn wake_all(peers: &BTreeMap<u32, Peer>, woken: &mut VecDeque<u32>, now: u64, patience: u64) {
     for (number, peer) in peers {
-        if now.saturating_sub(peer.heard.get()) >= patience {
+        if now.saturating_sub(peer.heard.get()) >= patience && !peer.is_ready() {
             peer.is_lost.set(true);
         }
         wake(woken, *number, peer);
@@ -243,7 +235,7 @@ fn next_ready(peers: &BTreeMap<u32, Peer>, woken: &mut VecDeque<u32>) -> Option<
             continue;
         };
         if peer.is_ready() {
-            let _ = woken.push_back(number);
+            peer.is_woken.set(woken.push_back(number).is_ok());
             return Some(Channel(number));
         }
         peer.is_woken.set(false);

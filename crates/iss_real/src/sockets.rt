@@ -31,8 +31,8 @@ pub struct Sockets<N> {
     /// The greatest number that a channel got.
     pub(crate) last: u32,
     pub(crate) ready: Option<u32>,
-    /// Whether the last wait brought that channel. If the gateway is dialled now, it is a client whose request is whole.
-    pub(crate) is_heard: bool,
+    /// The channel that the last wait found ready. If the gateway is dialled now, it is a client's whose request is whole.
+    pub(crate) asking: Option<Channel>,
     /// Whether a look is for clients first.
     pub(crate) admits_first: bool,
     /// A client that came when there was no memory for it.
@@ -72,10 +72,10 @@ impl<N: Net<Stream = TcpStream> + Clock + Drop> Sockets<N> {
             links: Links::none(alloc),
             last: 0,
             ready: None,
-            is_heard: false,
+            asking: None,
             admits_first: false,
             kept: None,
-            clocks: Clocks::new(),
+            clocks: Clocks::default(),
             at: 0,
             told: 0,
             looked: 0,
@@ -94,7 +94,7 @@ impl<N: Net<Stream = TcpStream> + Clock + Drop> Sockets<N> {
     pub fn set_gateway(&mut self, port: u16)
         ensures { self.new ≡ self.old }
     {
-        self.host.set_gateway(port);
+        self.host.gateway = Some(port);
     }
 
     /// Opens a channel to the gateway. It is connected once it has a text.
@@ -112,12 +112,9 @@ impl<N: Net<Stream = TcpStream> + Clock + Drop> Sockets<N> {
         Ok(Channel(number))
     }
 
-    /// If the last wait found a client ready, it waits for the gateway now.
     fn let_asker_wait(&self) {
-        if let (true, Some(number)) = (self.is_heard, self.ready) {
-            if let Some(peer) = self.clients.find(Channel(number)) {
-                peer.let_wait();
-            }
+        if let Some(peer) = self.asking.and_then(|ch| self.clients.find(ch)) {
+            peer.let_wait();
         }
     }
 
@@ -150,10 +147,8 @@ impl<N: Net<Stream = TcpStream> + Clock + Drop> Sockets<N> {
     }
 
     fn peer(&self, ch: Channel) -> io::Result<&Peer> {
-        match self.clients.find(ch).or(self.dialled.find(ch)) {
-            Some(peer) => Ok(peer),
-            None => Err(io::Error::from(ErrorKind::NotConnected)),
-        }
+        let peer = self.clients.find(ch).or(self.dialled.find(ch));
+        Ok(peer.ok_or(ErrorKind::NotConnected)?)
     }
 
     /// Closes a channel. A text that no socket took yet gets one more try.
@@ -171,16 +166,13 @@ impl<N: Net<Stream = TcpStream> + Clock + Drop> Sockets<N> {
 pub(crate) fn next_number(last: u32) -> io::Result<u32>
     ensures { IfOk result (λ number. number ≡ last + 1) }
 {
-    match last.checked_add(1) {
-        Some(number) => Ok(number),
-        None => Err(io::Error::from(ErrorKind::QuotaExceeded)),
-    }
+    Ok(last.checked_add(1).ok_or(ErrorKind::QuotaExceeded)?)
 }
 
 /// Writes all of the bytes, with a pause wherever the peer takes none, and gives up after so many writes.
 fn write_in_time(clock: &impl Clock, mut socket: &TcpStream, bytes: &[u8]) -> io::Result<()> {
     let mut rest = bytes;
-    for _ in 0..WRITES {
+    for _ in 0..=WRITES {
         if rest.is_empty() {
             return Ok(());
         }
@@ -191,9 +183,5 @@ fn write_in_time(clock: &impl Clock, mut socket: &TcpStream, bytes: &[u8]) -> io
             Err(e) => return Err(e),
         }
     }
-    if rest.is_empty() {
-        Ok(())
-    } else {
-        Err(io::Error::from(ErrorKind::TimedOut))
-    }
+    Err(io::Error::from(ErrorKind::TimedOut))
 }

@@ -35,7 +35,7 @@ impl<N: Net<Stream = TcpStream> + Clock + Drop> Sockets<N> {
         ensures unused { IfOk result (ComesUnused self.old) }
         ensures channels { self.new ≡ after_wait (result_ok result) self.old }
     {
-        self.is_heard = false;
+        self.asking = None;
         self.at = monotonic(&self.host.net)?;
         self.listen_for(0)?;
         let since = self.at.saturating_sub(self.told);
@@ -116,7 +116,10 @@ impl<N: Net<Stream = TcpStream> + Clock + Drop> Sockets<N> {
         ensures unused { ComesUnused self.old result }
         ensures channels { self.new ≡ after_wait (Some result) self.old }
     {
-        match next_of(&mut self.dialled, &mut self.clients) {
+        if let Some(ch) = self.dialled.next() {
+            return self.hear(ch);
+        }
+        match self.clients.next() {
             Some(ch) => self.hear(ch),
             None => Arrival::Idle,
         }
@@ -128,7 +131,7 @@ impl<N: Net<Stream = TcpStream> + Clock + Drop> Sockets<N> {
         ensures channels { self.new ≡ after_wait (Some result) self.old }
     {
         self.ready = Some(ch.0);
-        self.is_heard = true;
+        self.asking = Some(ch);
         Arrival::Ready(ch)
     }
 
@@ -178,16 +181,5 @@ fn wake_named(names: Iter<'_>, clients: &mut Peers, dialled: &mut Peers)
         let ch = Channel(u32::try_from(event.token().0).unwrap_or(0));
         clients.wake(ch);
         dialled.wake(ch);
-    }
-}
-
-/// The next channel that is ready: one of these, or else one of the others.
-fn next_of(these: &mut Peers, others: &mut Peers) -> Option<Channel>
-    ensures these { these.new ≡ these.old }
-    ensures others { others.new ≡ others.old }
-{
-    match these.next() {
-        Some(ch) => Some(ch),
-        None => others.next(),
     }
 }

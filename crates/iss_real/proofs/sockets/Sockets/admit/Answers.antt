@@ -1,6 +1,11 @@
 use Rattle.std.proofs.Common.{◌≡◌, ◌+◌, ◌++◌, ◌∷◌, [], rules}
-use Rattle.iss_real.proofs.Opened.{next_unused, up_to_next, up_to_opened}
+use Rattle.iss_real.proofs.Opened.{below_next, next_unused, up_to_next, up_to_opened}
 use Rattle.iss_real.proofs.sockets.Sockets.admit.Goals as goal
+
+pub push-requires : goal.push-requires
+push-requires g c =
+    let next : c.in_ok-number.number ≡ c.self.inside.last + 1 = search rules in
+    record { greatest = below_next c.self.inside.last c.in_ok-number.number c.self.inside.clients next c.self.invariant.0 }
 
 pub invariant_of-self : goal.invariant_of-self
 invariant_of-self g c =
