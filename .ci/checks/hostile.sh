@@ -26,7 +26,8 @@ leave_all() {
 }
 trap leave_all EXIT
 
-for attacks in silence 'short_jumps lasting_jump' dials 'kept_links kept_clients pause files'; do
+for attacks in silence 'short_jumps lasting_jump' restless_clock 'dials end_of_run' \
+    'small_crowd kept_links kept_clients pause files'; do
     # shellcheck disable=SC2086
     python3 bench/hostile.py --check --issuer "$issuer" --folder "$room" "${outside[@]}" $attacks &
     beside+=($!)
