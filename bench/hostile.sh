@@ -31,7 +31,7 @@ fi
 
 # attack NAME: its rows.
 attack() {
-    python3 bench/hostile.py --issuer "$issuer" --folder "$folder" "${outside[@]}" "$1"
+    python3 -B bench/hostile.py --issuer "$issuer" --folder "$folder" "${outside[@]}" "$1"
 }
 
 if [ $# -gt 1 ]; then
@@ -45,7 +45,7 @@ for name in $long; do
     attack "$name" >"$room/$name" &
     waiting+=($!)
 done
-for name in crowds kept_links kept_clients dials calls_again notices_again full_queue end_of_run pause short_jumps \
+for name in crowds pieces kept_links kept_clients dials calls_again notices_again full_queue end_of_run pause short_jumps \
     lasting_jump files; do
     attack "$name"
 done

@@ -27,9 +27,9 @@ leave_all() {
 trap leave_all EXIT
 
 for attacks in silence 'short_jumps lasting_jump' restless_clock 'dials end_of_run' \
-    'small_crowd kept_links kept_clients pause files'; do
+    'small_crowd kept_links kept_clients' 'pieces pause files'; do
     # shellcheck disable=SC2086
-    python3 bench/hostile.py --check --issuer "$issuer" --folder "$room" "${outside[@]}" $attacks &
+    python3 -B bench/hostile.py --check --issuer "$issuer" --folder "$room" "${outside[@]}" $attacks &
     beside+=($!)
 done
 missed=0
