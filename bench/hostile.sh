@@ -40,12 +40,12 @@ if [ $# -gt 1 ]; then
     done
     exit
 fi
-long='silence let_in_again restless_clock silent_links reached_again'
+long='silence let_in_again slow_sync restless_clock silent_links reached_again'
 for name in $long; do
     attack "$name" >"$room/$name" &
     waiting+=($!)
 done
-for name in crowds pieces kept_links kept_clients dials calls_again notices_again full_queue end_of_run pause short_jumps \
+for name in crowds pieces kept_links kept_clients reached dials calls_again notices_again full_queue end_of_run pause short_jumps \
     lasting_jump files; do
     attack "$name"
 done

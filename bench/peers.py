@@ -80,8 +80,8 @@ class Issuer:
         self.device = str(self.room / "device")
         self.port, self.gateway, self.handles = free_port(), gateway or free_port(), handles
         self.process = None
-        self.ahead, self.synced = self.room / "ahead", self.room / "synced"
-        self.ahead.write_bytes(bytes(8))
+        self.outer, self.synced = self.room / "outer", self.room / "synced"
+        self.outer.write_bytes(bytes(16))
         self.synced.touch()
         self.run("format", self.device, "64000000", "7")
         self.run("replay", self.device, text="".join(f"{line}\n" for line in [*settings(timeout_ms), *lines]))
@@ -102,12 +102,19 @@ class Issuer:
         return self.balances()[-1]["notices"]
 
     def watched(self):
-        """The environment of a program whose clock `move_clock` moves and whose syncs of folders are noted in `synced`."""
-        return {**os.environ, "LD_PRELOAD": self.outside, "AHEAD": str(self.ahead), "SYNCED": str(self.synced)}
+        """The environment of a program in the outside of outside.c, which the next two calls change."""
+        return {**os.environ, "LD_PRELOAD": self.outside, "OUTSIDE": str(self.outer), "SYNCED": str(self.synced)}
 
     def move_clock(self, millis):
-        with open(self.ahead, "r+b") as file:
-            file.write(struct.pack("=q", millis))
+        self.set_outer(0, millis)
+
+    def slow_down(self, millis):
+        self.set_outer(1, millis)
+
+    def set_outer(self, place, number):
+        with open(self.outer, "r+b") as file:
+            file.seek(8 * place)
+            file.write(struct.pack("=q", number))
 
     def serve(self, is_watched=False):
         def limit():

@@ -27,7 +27,7 @@ leave_all() {
 trap leave_all EXIT
 
 for attacks in silence 'short_jumps lasting_jump' restless_clock 'dials end_of_run' \
-    'small_crowd kept_links kept_clients' 'pieces pause files'; do
+    'small_crowd kept_links reached' 'pieces pause files' slow_sync; do
     # shellcheck disable=SC2086
     python3 -B bench/hostile.py --check --issuer "$issuer" --folder "$room" "${outside[@]}" $attacks &
     beside+=($!)
