@@ -24,7 +24,7 @@ run: ## shows the replies to the first example: at once if the proved program is
 	@if $(MAKE) -qs $(program); then \
 	    echo 'This is the proved program.' && $(program) dry <$(first); \
 	else \
-	    echo 'This build takes some two minutes, and is not proved: `make issuer` proves the program, and leaves it at build/issuer.' && \
+	    echo 'This build takes some minutes, and is not proved: `make issuer` proves the program, and leaves it at build/issuer.' && \
 	    cd crates/iss_cli && rt try -- dry <../../$(first); \
 	fi
 
