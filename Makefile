@@ -20,9 +20,13 @@ $(program): $(sources)
 	cd crates/iss_cli && rt run -- dry </dev/null
 	touch $(program)
 
-run: ## shows the replies to the first example after some minutes, by a build that is not proved
-	@echo 'This build is not proved: `make issuer` proves the program, and leaves it at build/issuer.'
-	@cd crates/iss_cli && rt try -- dry <../../$(first)
+run: ## shows the replies to the first example: at once if the proved program is up to date, else, in minutes, by a build that is not proved
+	@if $(MAKE) -qs $(program); then \
+	    echo 'This is the proved program.' && $(program) dry <$(first); \
+	else \
+	    echo 'This build takes some minutes, and is not proved: `make issuer` proves the program, and leaves it at build/issuer.' && \
+	    cd crates/iss_cli && rt try -- dry <../../$(first); \
+	fi
 
 crate:
 	@[ -d 'crates/$(CRATE)/src' ] || { echo 'Name a crate, as in CRATE=iss_card.' >&2; exit 1; }

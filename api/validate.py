@@ -3,7 +3,8 @@
 
 usage: validate.py SCHEMA [NAME] <LINES
 
-NAME is a definition of the schema, as `ClientLine`; without one the schema's root is meant. The status is 1 if a line is not valid.
+NAME is a definition of the schema, as `ClientLine`; without one the schema's root is meant. A line that is no JSON isn't valid, and
+blank lines are ignored. The status is 1 if a line is not valid.
 """
 import json
 import re
@@ -132,16 +133,26 @@ class Validator:
         return None
 
 
+def is_valid_line(validator, schema, line):
+    try:
+        value = json.loads(line)
+    except ValueError:
+        return False
+    return validator.is_valid(schema, value)
+
+
 def main(words):
     if len(words) not in (1, 2):
         sys.exit(__doc__)
     with open(words[0]) as file:
         document = json.load(file)
     validator = Validator(document)
+    if words[1:] and words[1] not in document.get("$defs", {}):
+        sys.exit(f"{words[0]} has no definition {words[1]}")
     schema = validator.at(f"#/$defs/{words[1]}") if words[1:] else document
     is_bad = False
     for number, line in enumerate(sys.stdin, 1):
-        if not validator.is_valid(schema, json.loads(line)):
+        if line.strip() and not is_valid_line(validator, schema, line):
             print(f"{number}: {line.rstrip()}")
             is_bad = True
     sys.exit(1 if is_bad else 0)

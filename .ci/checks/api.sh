@@ -16,17 +16,19 @@ python3 api/generate.py --check
 python3 .ci/api.py cases
 python3 .ci/api.py lines "$issuer"
 
-# Half of the lines are valid for a client, and half are not.
+# Of these lines the first is valid for a client, the second for a replay, and the last for nobody.
 cat >"$room/lines" <<'END_OF_LINES'
 {"type":"user","token":"t1","user":"u1"}
 {"type":"time","at":1}
+
+nothing
 END_OF_LINES
 status=0
 python3 api/validate.py api/line.schema.json ClientLine <"$room/lines" >"$room/out" || status=$?
 [ "$status" = 1 ] || fail "a line that no client may send: status $status, not 1"
-echo '2: {"type":"time","at":1}' >"$room/bad"
+printf '%s\n' '2: {"type":"time","at":1}' '4: nothing' >"$room/bad"
 wrote 'a line that no client may send' "$room/bad"
-python3 api/validate.py api/line.schema.json <"$room/lines" || fail 'two lines: they are not valid'
+head -n 3 "$room/lines" | python3 api/validate.py api/line.schema.json || fail 'two lines: they are not valid'
 
 formatted 1000000
 serve

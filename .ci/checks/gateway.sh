@@ -118,7 +118,7 @@ complaints() {
 }
 
 # posts_on PROGRAM..: this client sends the same bytes again until a response decides them. What it talks to gives it five responses that
-# don't for its first line, and one for each other line.
+# don't for its first line, and one for each other line; that for the last one is no issuer's. Then the client gets a word that is no URL.
 posts_on() {
     python3 - "$port" >"$room/heard" <<'LINES' &
 import sys
@@ -128,6 +128,7 @@ from http.server import BaseHTTPRequestHandler, HTTPServer
 CUT = 9
 ANSWERS = [None, (200, '{"reply"', CUT), (502, "", 0), (408, "", 0), (200, '{"event":"a","reply":"pending"}\n', 0)]
 ANSWERS += [(200, '{"event":"a","reply":"done"}\n', 0), (409, "conflict", 0), (507, "full", 0), (200, '{"event":"d","reply":"done"}\n', 0)]
+ANSWERS += [(200, "nothing", 0)]
 
 
 class Issuer(BaseHTTPRequestHandler):
@@ -150,12 +151,15 @@ LINES
     server=$!
     awaited 'what a client talks to' listens "$port"
     status=0
-    printf '%s\n' a b c d | timeout 120 "$@" "http://127.0.0.1:$port/events" >"$room/out" 2>"$room/said" || status=$?
+    printf '%s\n' a b '' c d ' ' e | timeout 120 "$@" "http://127.0.0.1:$port/events" >"$room/out" 2>"$room/said" || status=$?
     killed
-    ended "$2" 1 $'409: conflict\n507: full'
+    ended "$2" 1 $'409: conflict\n507: full\n200: nothing'
     printf '{"event":"%s","reply":"done"}\n' a d >"$room/expected"
     wrote "$2" "$room/expected"
-    printf '/events %s\n' a a a a a a b c d | diff - "$room/heard" >&2 || fail "$2: it didn't send that (<)"
+    printf '/events %s\n' a a a a a a b c d e | diff - "$room/heard" >&2 || fail "$2: it didn't send that (<)"
+    status=0
+    timeout 20 "$@" "127.0.0.1:$port/events" <<<a 2>"$room/said" || status=$?
+    ended "$2" 1 "${2##*/}: no URL of http or https: 127.0.0.1:$port/events"
 }
 
 # reconciled STATUS BALANCE COUNT: the store of those answers, beside a report of the issuer.

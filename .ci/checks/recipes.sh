@@ -59,15 +59,15 @@ cat >"$room/told" <<'END'
 record,at,type,event,reply,reason,user,card,txn,currency,amount,minor,mcc,mid,call,outcome,notice,line
 1,0,user,t1,done,,u1,,,,,,,,,,,"{""type"":""user"",""at"":0,""token"":""t1"",""user"":""u1""}"
 END
-head -n 2 "$room/page/cards.csv" >"$room/out"
-wrote 'cards.csv' "$room/told"
-python3 - "$room/page" <<'END' || fail 'cards.sqlite has other rows than cards.csv'
+head -n 2 "$room/page/example.csv" >"$room/out"
+wrote 'example.csv' "$room/told"
+python3 - "$room/page" <<'END' || fail 'example.sqlite has other rows than example.csv'
 import csv
 import sqlite3
 import sys
 
-rows = sqlite3.connect(f"{sys.argv[1]}/cards.sqlite").execute("select * from records").fetchall()
-with open(f"{sys.argv[1]}/cards.csv") as file:
+rows = sqlite3.connect(f"{sys.argv[1]}/example.sqlite").execute("select * from records").fetchall()
+with open(f"{sys.argv[1]}/example.csv") as file:
     lines = list(csv.reader(file))[1:]
 sys.exit([["" if value is None else str(value) for value in row] for row in rows] != lines)
 END
@@ -90,11 +90,11 @@ END
 wrote 'the history of a purchase' "$room/told"
 
 # By the commands of the page: four purchases have ended, and a fifth hasn't.
-cat >"$room/page/cards.jsonl" examples/scripts/a_day_of_a_gateway_product.jsonl - <<'END'
+cat >"$room/page/example.jsonl" examples/scripts/a_day_of_a_gateway_product.jsonl - <<'END'
 {"type":"authorization","token":"a5","card":"c1","currency":"USD","amount":"1.00","mcc":"5411","mid":"m1"}
 {"type":"answer","call":6,"outcome":"FUNDED"}
 END
-issue dry <"$room/page/cards.jsonl" >"$room/page/cards.replies"
+issue dry <"$room/page/example.jsonl" >"$room/page/example.replies"
 ended 'a live purchase' 0 ''
 awk '/^## / { is_ours = /^## Who holds/ } /^```/ { inside = !inside; next } inside && is_ours' docs/RECIPES.md | sed 1d >"$room/page/commands"
 (cd "$room/page" && bash -eu -o pipefail commands) | sed 's/.*"event":"\([^"]*\)".*"reply":"\([a-z]*\)".*/\1 \2/' >"$room/out"

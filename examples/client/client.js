@@ -2,7 +2,7 @@
 // Posts each line of standard input as an event, in their order, and writes the response to each: client.js [URL].
 //
 // To send an event again is safe, since it acts once. So the same bytes are sent until a response decides them.
-// Ends with 1 if some line wasn't taken, and says on standard error why.
+// Ends with 1 if some line wasn't taken, and says on standard error why. Blank lines are ignored.
 "use strict";
 const { createInterface } = require("node:readline");
 const { setTimeout: sleep } = require("node:timers/promises");
@@ -20,9 +20,18 @@ async function post(url, line) {
     }
 }
 
+// Returns the issuer's reply, or undefined if the body isn't the issuer's.
+function replyOf(body) {
+    try {
+        return JSON.parse(body)?.reply;
+    } catch {
+        return undefined;
+    }
+}
+
 // Whether there is nothing to gain by sending the same bytes again: 507 says that the device is full.
 function decides({ status, body }) {
-    if (status === 200) return JSON.parse(body).reply !== "pending";
+    if (status === 200) return replyOf(body) !== "pending";
     return status === 507 || (status >= 400 && status < 500 && !NOT_NOW.includes(status));
 }
 
@@ -35,10 +44,24 @@ async function posted(url, line) {
     }
 }
 
+// Whether this is a URL that can be posted to.
+function isUrl(text) {
+    try {
+        return ["http:", "https:"].includes(new URL(text).protocol);
+    } catch {
+        return false;
+    }
+}
+
 async function main(url = "http://127.0.0.1:8080/events") {
+    if (!isUrl(url)) {
+        process.stderr.write(`client.js: no URL of http or https: ${url}\n`);
+        process.exit(1);
+    }
     for await (const line of createInterface({ input: process.stdin })) {
+        if (!line.trim()) continue;
         const { status, body } = await posted(url, line.trim());
-        if (status === 200) {
+        if (status === 200 && replyOf(body)) {
             process.stdout.write(body);
         } else {
             process.exitCode = 1;

@@ -2,21 +2,22 @@
 """Posts each line of standard input as an event, in their order, and writes the response to each: client.py [URL].
 
 To send an event again is safe, since it acts once. So the same bytes are sent until a response decides them.
-Ends with 1 if some line wasn't taken, and says on standard error why.
+Ends with 1 if some line wasn't taken, and says on standard error why. Blank lines are ignored.
 """
 import json
 import sys
 import time
-from http.client import HTTPConnection, HTTPException
+from http.client import HTTPConnection, HTTPException, HTTPSConnection
 from urllib.parse import urlsplit
 
 PATIENCE = 75  # seconds for a response: more than any product's time to answer
 NOT_NOW = (408, 429)  # what a proxy says to a request that may come again
+CONNECTIONS = {"http": HTTPConnection, "https": HTTPSConnection}
 
 
 def post(url, line):
     """Returns the status and the body of the response to one attempt, or None if there was no whole one."""
-    connection = HTTPConnection(url.netloc, timeout=PATIENCE)
+    connection = CONNECTIONS[url.scheme](url.hostname, url.port, timeout=PATIENCE)
     try:
         connection.request("POST", url.path, line)
         response = connection.getresponse()
@@ -27,10 +28,18 @@ def post(url, line):
         connection.close()
 
 
+def reply_of(body):
+    """Returns the issuer's reply, or None if the body isn't the issuer's."""
+    try:
+        return json.loads(body)["reply"]
+    except (KeyError, TypeError, ValueError):
+        return None
+
+
 def decides(status, body):
     """Whether there is nothing to gain by sending the same bytes again: 507 says that the device is full."""
     if status == 200:
-        return json.loads(body).get("reply") != "pending"
+        return reply_of(body) != "pending"
     return status == 507 or 400 <= status < 500 and status not in NOT_NOW
 
 
@@ -43,12 +52,23 @@ def posted(url, line):
     return response
 
 
-def main():
-    url = urlsplit(sys.argv[1] if len(sys.argv) > 1 else "http://127.0.0.1:8080/events")
+def given_url(text="http://127.0.0.1:8080/events"):
+    """Returns the parts of a URL that can be posted to."""
+    try:
+        url = urlsplit(text)
+        if url.scheme in CONNECTIONS and url.hostname and url.port != 0:
+            return url
+    except ValueError:
+        pass
+    sys.exit(f"client.py: no URL of http or https: {text}")
+
+
+def main(words):
+    url = given_url(*words[:1])
     is_taken = True
-    for line in sys.stdin.buffer:
-        status, body = posted(url, line.strip())
-        if status == 200:
+    for line in filter(None, map(bytes.strip, sys.stdin.buffer)):
+        status, body = posted(url, line)
+        if status == 200 and reply_of(body):
             sys.stdout.buffer.write(body)
             sys.stdout.flush()
         else:
@@ -57,4 +77,4 @@ def main():
     sys.exit(not is_taken)
 
 
-main()
+main(sys.argv[1:])

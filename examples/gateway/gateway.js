@@ -168,10 +168,24 @@ function answerTo(gateway, request, text) {
     }
 }
 
+function stop(why) {
+    process.stderr.write(`gateway.js: ${why}\n`);
+    process.exit(1);
+}
+
+// Returns the limit of each currency that the words name.
+function limitsOf(words) {
+    try {
+        const pairs = words.map((word) => word.split("="));
+        return new Map(pairs.map(([currency, amount]) => [currency, minorUnits(amount, currency)]));
+    } catch (error) {
+        return stop(error.message);
+    }
+}
+
 function main([port, file, ...limits]) {
-    if (!file) throw new Error("usage: gateway.js PORT STORE CURRENCY=LIMIT..");
-    const pairs = limits.map((limit) => limit.split("="));
-    const limitOf = new Map(pairs.map(([currency, amount]) => [currency, minorUnits(amount, currency)]));
+    if (!/^\d{1,5}$/.test(port) || port > 65535 || !file) stop("usage: gateway.js PORT STORE CURRENCY=LIMIT..");
+    const limitOf = limitsOf(limits);
     let gateway;
     const server = http.createServer((request, response) => {
         let text = "";
@@ -188,9 +202,15 @@ function main([port, file, ...limits]) {
         });
     });
     server.requestTimeout = 10000;
+    const fails = (error) => stop(`port ${port}, store ${file}: ${error.message}`);
+    server.on("error", fails);
     // The port comes first: whoever has it alone writes to the store.
     server.listen({ port: Number(port), host: "127.0.0.1", backlog: 1024 }, () => {
-        gateway = new Gateway(new Store(file), limitOf);
+        try {
+            gateway = new Gateway(new Store(file), limitOf);
+        } catch (error) {
+            fails(error);
+        }
     });
 }
 

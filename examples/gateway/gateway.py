@@ -188,11 +188,15 @@ def main():
         port, path, *limits = sys.argv[1:]
         pairs = [limit.split("=") for limit in limits]
         limits = {currency: minor_units(amount, currency) for currency, amount in pairs}
+        port = int(port)
     except (KeyError, ValueError):
         sys.exit(__doc__)
     # The port comes first: whoever has it alone writes to the store.
-    server = Server(("127.0.0.1", int(port)), Handler)
-    server.gateway = Gateway(Store(path), limits)
+    try:
+        server = Server(("127.0.0.1", port), Handler)
+        server.gateway = Gateway(Store(path), limits)
+    except (OSError, OverflowError) as error:
+        sys.exit(f"gateway.py: port {port}, store {path}: {error}")
     server.serve_forever()
 
 

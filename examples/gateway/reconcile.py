@@ -47,9 +47,17 @@ def issuer_side(lines):
     return side, counts
 
 
-def main():
-    gateway = gateway_side(sys.argv[1])
-    issuer, counts = issuer_side(sys.stdin)
+def main(words):
+    if len(words) != 1:
+        sys.exit(__doc__)
+    try:
+        gateway = gateway_side(words[0])
+    except (ArithmeticError, KeyError, OSError, TypeError, ValueError) as error:
+        sys.exit(f"reconcile.py: {words[0]} is no store of a gateway: {error}")
+    try:
+        issuer, counts = issuer_side(sys.stdin)
+    except (ArithmeticError, AttributeError, KeyError, TypeError, ValueError):
+        sys.exit("reconcile.py: no report of the issuer on standard input")
     is_equal = True
     for currency in sorted({*gateway, *issuer}):
         difference = gateway[currency] - issuer[currency]
@@ -60,4 +68,4 @@ def main():
         sys.exit(3 if counts["calls"] or counts["notices"] else 1)
 
 
-main()
+main(sys.argv[1:])

@@ -77,17 +77,35 @@ def fill(database, lines, replies):
     database.commit()
 
 
+def asked(database, query):
+    """Returns what the query gives, which has to be one that gives rows."""
+    try:
+        answer = database.execute(query)
+    except sqlite3.Error as error:
+        sys.exit(f"{query}: {error}")
+    if answer.description is None:
+        sys.exit(f"{query}: it gives no rows")
+    return answer
+
+
 def main(words):
     is_saved = len(words) == 4 and words[2] == "--save"
     if not is_saved and len(words) != 3:
         sys.exit(__doc__)
     if is_saved and os.path.exists(words[3]):
         sys.exit(f"{words[3]}: it is there already")
-    database = sqlite3.connect(words[3] if is_saved else ":memory:")
-    with open(words[0]) as lines, open(words[1]) as replies:
-        fill(database, lines, replies)
+    database = sqlite3.connect(":memory:")
+    try:
+        with open(words[0]) as lines, open(words[1]) as replies:
+            fill(database, lines, replies)
+        if is_saved:
+            database.execute("VACUUM INTO ?", words[3:])
+    except (OSError, sqlite3.Error) as error:
+        sys.exit(f"tables.py: {error}")
+    except (AttributeError, KeyError, TypeError, ValueError):
+        sys.exit(f"tables.py: {words[0]} has no lines of a device, or {words[1]} no replies to them")
     if not is_saved:
-        answer = database.execute(words[2])
+        answer = asked(database, words[2])
         table = csv.writer(sys.stdout, lineterminator="\n")
         table.writerow(column[0] for column in answer.description)
         table.writerows(answer)
