@@ -78,43 +78,50 @@ def torn(old, new, chance):
     return chance.choice((old, new, noise, new[:cut] + old[cut:], old[:cut] + new[cut:], each))
 
 
+def last_sync(actions):
+    return max((place for place, action in enumerate(actions) if action.kind == "sync"), default=-1)
+
+
 def image_of(device, actions, chance):
     """The device, as a machine that stops after these actions may leave it."""
-    last_sync = max((place for place, action in enumerate(actions) if action.kind == "sync"), default=-1)
-    image = bytearray(device)
+    settled, image = last_sync(actions), bytearray(device)
     for place, action in enumerate(actions):
         if action.kind == "write":
             here = slice(action.number, action.number + len(action.data))
-            image[here] = action.data if place < last_sync else torn(image[here], action.data, chance)
+            image[here] = action.data if place < settled else torn(image[here], action.data, chance)
     return bytes(image)
 
 
 class Seen:
     """What texts told of which a byte went out."""
 
-    def __init__(self, texts=()):
-        self.events, self.notices, self.acknowledged, self.replies, self.requests = set(), set(), set(), set(), {}
-        self.add(texts)
+    def __init__(self):
+        self.events, self.replies, self.acknowledged, self.sent = set(), set(), set(), {}
 
     def add(self, texts):
         for said in map(said_by, texts):
             told = json.loads(said)
-            if "number" in told:
+            if "event" in told:
                 self.events.add(told["event"])
-                if self.requests.setdefault(told["token"], said) != said:
-                    raise Lost(f"a call has two texts: {said}")
-            elif "event" in told:
-                self.events.add(told["event"])
-                self.replies |= {said} if told["reply"] in ("done", "approved", "declined") else set()
-            elif "method" in told:
-                self.notices.add(told["notice"])
+            if "method" in told:
+                self.add_sent(said, *((name, told[name]) for name in ("number", "notice") if name in told))
+            elif told["reply"] in ("done", "approved", "declined"):
+                self.replies.add(said)
             elif told["reply"] == "acked":
                 self.acknowledged.add(told["notice"])
+
+    def add_sent(self, said, key):
+        """A request or a notice to the gateway."""
+        if self.sent.setdefault(key, said) != said:
+            raise Lost(f"it has two texts: {said}")
+
+    def notices(self):
+        return [number for name, number in self.sent if name == "notice"]
 
     def check_notices(self, out):
         """What acknowledgements of all these notices are told now."""
         told = {line["notice"]: line["reply"] for line in map(json.loads, out.splitlines()) if "notice" in line}
-        for notice in self.notices:
+        for notice in self.notices():
             if told[notice] not in (["already"] if notice in self.acknowledged else ["already", "acked"]):
                 raise Lost(f"notice {notice} is {told[notice]}")
 
@@ -124,7 +131,7 @@ class Machine:
 
     def __init__(self, program, room, syncs, chance):
         self.program, self.room, self.library = program, room, room.parent / "disk.so"
-        self.syncs, self.chance = syncs, random.Random(chance)
+        self.syncs, self.chance, self.amid = syncs, random.Random(chance), 0
         self.device, self.log = room / "device", room / "log"
         room.mkdir()
         self.format()
@@ -139,7 +146,8 @@ class Machine:
         self.lasting, self.done = self.device.read_bytes(), []
 
     def forget(self):
-        """The machine stops."""
+        """The machine stops, amid an append if something isn't settled."""
+        self.amid += any(action.kind == "write" for action in self.done[last_sync(self.done) + 1:])
         self.device.write_bytes(image_of(self.lasting, self.done, self.chance))
         self.settle()
 
@@ -161,7 +169,7 @@ class Machine:
         """A copy of the device opens, has a record of each of these lines and of each notice, and tells the same replies."""
         copy = self.room / "copy"
         shutil.copy(self.device, copy)
-        acknowledgements = b"".join(b'{"type":"ack","notice":%d}\n' % notice for notice in seen.notices)
+        acknowledgements = b"".join(b'{"type":"ack","notice":%d}\n' % notice for notice in seen.notices())
         status, out, actions = self.replay(b"".join(lines) + MARK + acknowledgements, device=copy)
         refuse(status, [0])
         marked = next(place for place, action in enumerate(actions) if action.data == MARKED)

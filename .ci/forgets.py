@@ -21,7 +21,7 @@ from disk import MARK, MARKED, SECONDS, Lost, Machine, Seen, Wrong, image_of, is
 
 PROGRAM, ROOM = sys.argv[1], Path(sys.argv[2])
 CHANCE = os.environ.get("ISSUER_CHANCE") or str(random.SystemRandom().randrange(10**6))
-KILLS = 200
+KILLS, PARTS = 200, 2
 # After so many kills at most a disk whose syncs don't count has lost something.
 CONTROL_KILLS = 200
 # So many kills in a hundred leave the machine running, and with it all that was written.
@@ -57,6 +57,15 @@ def is_kept(machine):
     return machine.chance.randrange(100) < KEPT
 
 
+def for_all_kills(machine, kills, kill):
+    """Kills as often, where `kill` returns how often it did, and asks whether enough of them came amid an append."""
+    left = kills
+    while left > 0:
+        left -= kill(left)
+    if machine.amid < kills / 4:
+        raise Wrong(f"only {machine.amid} of {kills} kills came amid an append")
+
+
 # Runs that replay.
 
 
@@ -76,8 +85,7 @@ def count_told(texts):
 def kill_replays(name, syncs, kills):
     machine, lines = machine_of(name, syncs), lines_to_replay()
     records = records_of(whole_replay(machine_of(f"{name}-whole"), lines))
-    while kills > 0:
-        kills -= replay_through(machine, lines, records, kills)
+    for_all_kills(machine, kills, lambda most: replay_through(machine, lines, records, most))
 
 
 def whole_replay(machine, lines):
@@ -196,13 +204,12 @@ def serve(machine, gateway, first):
 
 def kill_serves(name, syncs, kills):
     machine = machine_of(name, syncs)
-    while kills > 0:
-        kills -= serve_on(machine, min(kills, SERVED))
+    for_all_kills(machine, kills, lambda most: serve_on(machine, min(most, SERVED)))
 
 
 def serve_on(machine, most):
     """Serves on a new device, each run killed, until the disk forgot so often."""
-    forgot, first, ever, ever_heard = 0, 0, Seen(), set()
+    forgot, first, ever = 0, 0, Seen()
     set_up(machine, 400)
     with Gateway(machine.room) as gateway:
         while forgot < most:
@@ -214,8 +221,8 @@ def serve_on(machine, most):
                 machine.forget()
                 machine.tells_again([purchase(event) for event in ever.events], ever)
                 forgot += 1
-        heard = {text for text in gateway.texts() if b'"number"' in text}
-    if not heard <= set(ever.requests.values()):
+        heard = gateway.texts()
+    if not heard <= set(ever.sent.values()):
         raise Wrong("the program sends the gateway by other calls than those that .ci/disk.c stands before")
     return forgot
 
@@ -247,16 +254,22 @@ def records_in_order(actions):
     return lines
 
 
+def said_key(line):
+    """What a line's texts name it by: its event, or the call that it answers."""
+    return line.get("token", line.get("call"))
+
+
 def order_of_replay(name):
     """The record of each line stands before its first text."""
     lines = lines_to_replay()
     status, _, actions = machine_of(name).replay(marked(lines))
     refuse(status, [0])
     records = records_in_order(actions)
+    first = {said_key(record): place for place, record in reversed(records.items()) if said_key(record)}
     marks = [place for place, action in enumerate(actions) if action.data == MARKED]
     for line, start, end in zip(lines, marks, marks[1:]):
         text = next(place for place in range(start + 1, end + 1) if actions[place].kind == "text")
-        if text == end or any(text < place < end for place in records):
+        if text == end or first.get(said_key(json.loads(line)), start) > text or any(text < place < end for place in records):
             raise Lost(f"a text goes out before its record stands: {line}")
     if len(records) < len(lines) / 2:
         raise Wrong(f"only {len(records)} of {len(lines)} lines made a record")
@@ -272,7 +285,7 @@ def order_of_serve(name):
         finally:
             server.kill()
     actions = read_log(machine.log)
-    places = {line.get("token", line.get("call")): place for place, line in records_in_order(actions).items()}
+    places = {said_key(record): place for place, record in records_in_order(actions).items()}
     for place, action in enumerate(actions):
         if action.kind == "text":
             told = json.loads(said_by(action.data))
@@ -305,8 +318,9 @@ def is_noticed(name, syncs, kill):
 
 
 def checks():
-    yield kill_replays, "replay", "all", KILLS
-    yield kill_serves, "serve", "all", KILLS
+    for part in range(1, PARTS + 1):
+        yield kill_serves, f"serve-{part}", "all", KILLS // PARTS
+        yield kill_replays, f"replay-{part}", "all", KILLS // PARTS
     yield order_of_replay, "replay-order"
     yield order_of_serve, "serve-order"
     for syncs in ("none", "gate", "body"):
@@ -315,7 +329,7 @@ def checks():
 
 
 def main():
-    with ThreadPoolExecutor(4) as pool:
+    with ThreadPoolExecutor(2 * PARTS) as pool:
         faults = {check[1]: pool.submit(*check) for check in checks()}
     faults = {name: future.exception() for name, future in faults.items() if future.exception()}
     for name, fault in faults.items():
