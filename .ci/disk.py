@@ -31,6 +31,22 @@ class Wrong(Exception):
     """Something else isn't as it should be."""
 
 
+CHILDREN = []
+
+
+def start(words, **options):
+    """A program that doesn't outlive this one if a signal ends it."""
+    child = subprocess.Popen(words, **options)
+    CHILDREN.append(child)
+    return child
+
+
+def end_all(*_):
+    for child in CHILDREN:
+        child.kill()
+    os._exit(1)
+
+
 def read_log(path):
     """What a run did. A text of which no byte was taken isn't among it, and one that was taken in parts is there once."""
     actions, rests = [], {}
@@ -156,7 +172,7 @@ class Machine:
         self.log.unlink(missing_ok=True)
         disk = {"DISK": str(device), "DISK_LOG": str(self.log), "DISK_SYNCS": self.syncs, "DISK_STOP": str(stop)}
         environment = {**os.environ, **disk, "LD_PRELOAD": str(self.library)}
-        return subprocess.Popen([self.program, command, device, *words], env=environment, **streams)
+        return start([self.program, command, device, *words], env=environment, **streams)
 
     def replay(self, lines, stop=0, device=None):
         """How a replay ended, what it wrote and what it did."""

@@ -2,8 +2,8 @@
 
 usage: forgets.py PROGRAM ROOM
 
-ROOM has the library of .ci/disk.c as `disk.so`, the programs `load` and `gateway` of bench/, and the file `lines` to be replayed. Chance goes
-by a number, which a failure tells; ISSUER_CHANCE gives it again.
+ROOM has the library of .ci/disk.c as `disk.so`, the programs `load` and `gateway` of bench/, and the file `lines` to be replayed. Chance
+goes by a number, which a failure tells. ISSUER_CHANCE gives it again: the replays are then the same, and what is served nearly so.
 """
 import json
 import os
@@ -17,7 +17,8 @@ import threading
 from concurrent.futures import ThreadPoolExecutor
 from pathlib import Path
 
-from disk import MARK, MARKED, SECONDS, Lost, Machine, Seen, Wrong, image_of, is_body, read_log, record_line, records_of, refuse, said_by, texts_of
+from disk import MARK, MARKED, SECONDS, Lost, Machine, Seen, Wrong
+from disk import end_all, image_of, is_body, read_log, record_line, records_of, refuse, said_by, start, texts_of
 
 PROGRAM, ROOM = sys.argv[1], Path(sys.argv[2])
 CHANCE = os.environ.get("ISSUER_CHANCE") or str(random.SystemRandom().randrange(10**6))
@@ -141,7 +142,7 @@ class Gateway:
 
     def __enter__(self):
         with open(self.heard, "wb") as heard:
-            self.process = subprocess.Popen([ROOM / "gateway", str(self.port), str(GATEWAY_MILLIS)], stdout=heard)
+            self.process = start([ROOM / "gateway", str(self.port), str(GATEWAY_MILLIS)], stdout=heard)
         return self
 
     def __exit__(self, *_):
@@ -159,7 +160,7 @@ class Clients:
         words = [str(word) for word in (port, first, count, FLIGHT, "c1", names)]
         self.out, self.figures = room / "replies", room / "figures"
         with open(self.out, "wb") as out, open(self.figures, "wb") as figures:
-            self.process = subprocess.Popen([ROOM / "load", *words], stdout=out, stderr=figures)
+            self.process = start([ROOM / "load", *words], stdout=out, stderr=figures)
 
     def end(self, seconds):
         """How many purchases were begun, and what their responses said."""
@@ -169,7 +170,7 @@ class Clients:
             self.process.kill()
             self.process.wait()
         figures = self.figures.read_text().split()
-        return int(figures[0]) if figures else 0, {line.split(b" ", 2)[2] for line in self.out.read_bytes().splitlines()}
+        return int(figures[0]) if len(figures) == 8 else 0, {line.split(b" ", 2)[2] for line in self.out.read_bytes().splitlines()}
 
 
 def purchase(event):
@@ -329,6 +330,8 @@ def checks():
 
 
 def main():
+    signal.signal(signal.SIGTERM, end_all)
+    signal.signal(signal.SIGINT, end_all)
     with ThreadPoolExecutor(2 * PARTS) as pool:
         faults = {check[1]: pool.submit(*check) for check in checks()}
     faults = {name: future.exception() for name, future in faults.items() if future.exception()}
