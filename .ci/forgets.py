@@ -23,13 +23,13 @@ from disk import end_all, image_of, is_body, read_log, record_line, records_of, 
 PROGRAM, ROOM = sys.argv[1], Path(sys.argv[2])
 CHANCE = os.environ.get("ISSUER_CHANCE") or str(random.SystemRandom().randrange(10**6))
 KILLS, PARTS = 200, 2
-# After so many kills at most a disk whose syncs don't count has lost something.
+# The most kills that a disk needs whose syncs don't all count, to lose something.
 CONTROL_KILLS = 200
-# So many kills in a hundred leave the machine running, and with it all that was written.
+# Of a hundred kills, those after which the machine goes on and keeps all that was written.
 KEPT = 20
-# A run is killed at one of so many actions; one in six at one of so few, most of which its opening does.
+# The last action at which a run is killed; for one run in six the last one of an opening, more or less.
 ACTIONS = {"replay": (40, 5), "serve": (80, 20)}
-# After so many served runs the device and the gateway are new ones, since an opening takes the longer the more records stand.
+# The most times that the disk forgets on one device while serving: the more records stand, the longer an opening takes.
 SERVED = 10
 KILLED = -signal.SIGKILL
 
@@ -38,7 +38,7 @@ SETTINGS = b"""\
 {"type":"user","token":"t1","user":"u1"}
 {"type":"card","token":"t2","card":"c1","user":"u1","product":"g"}
 """
-# What the gateway does with the calls, in turn (bench/gateway.c), and what it does if each is to be answered soon.
+# What the gateway does with the calls, in turn (bench/gateway.c); and if each is to be answered soon.
 NAMES = "m1,m1,m1,bytes,m1,refuses,m1,slow,garbled,m1,silent,m1,early,m1,fails,m1"
 PROMPT_NAMES = "m1,refuses,m1,garbled,m1,early,fails"
 FLIGHT, GATEWAY_MILLIS = 8, 3
@@ -51,18 +51,18 @@ def machine_of(name, syncs="all"):
 def moment_of(machine, command):
     """The number of the action at which a run is killed."""
     most, few = ACTIONS[command]
-    return machine.chance.randrange(1, few if machine.chance.randrange(6) == 0 else most)
+    return machine.chance.randint(1, few if machine.chance.randrange(6) == 0 else most)
 
 
 def is_kept(machine):
     return machine.chance.randrange(100) < KEPT
 
 
-def for_all_kills(machine, kills, kill):
-    """Kills as often, where `kill` returns how often it did, and asks whether enough of them came amid an append."""
+def kill_all(machine, kills, kill_some):
+    """Has the disk forget after this number of kills, of which a quarter at least come amid an append."""
     left = kills
     while left > 0:
-        left -= kill(left)
+        left -= kill_some(left)
     if machine.amid < kills / 4:
         raise Wrong(f"only {machine.amid} of {kills} kills came amid an append")
 
@@ -86,7 +86,7 @@ def count_told(texts):
 def kill_replays(name, syncs, kills):
     machine, lines = machine_of(name, syncs), lines_to_replay()
     records = records_of(whole_replay(machine_of(f"{name}-whole"), lines))
-    for_all_kills(machine, kills, lambda most: replay_through(machine, lines, records, most))
+    kill_all(machine, kills, lambda most: replay_through(machine, lines, records, most))
 
 
 def whole_replay(machine, lines):
@@ -100,7 +100,8 @@ def whole_replay(machine, lines):
 
 
 def replay_through(machine, lines, records, most):
-    """Replays all lines, each run killed, and returns how often the disk forgot. A line whose record stands untold comes again."""
+    """Replays all lines, in runs that are killed, and returns after how many kills the disk forgot. Each run begins with the first line
+    that wasn't told, whose record may stand."""
     machine.format()
     told, forgot, seen = 0, 0, Seen()
     while told < len(lines) and forgot < most:
@@ -154,7 +155,7 @@ class Gateway:
 
 
 class Clients:
-    """Clients that post purchases (bench/load.c), each of them an event, until one fails."""
+    """Clients that post purchases (bench/load.c) until one fails. Each purchase is an event."""
 
     def __init__(self, room, port, first, count, names):
         words = [str(word) for word in (port, first, count, FLIGHT, "c1", names)]
@@ -205,11 +206,11 @@ def serve(machine, gateway, first):
 
 def kill_serves(name, syncs, kills):
     machine = machine_of(name, syncs)
-    for_all_kills(machine, kills, lambda most: serve_on(machine, min(most, SERVED)))
+    kill_all(machine, kills, lambda most: serve_on(machine, min(most, SERVED)))
 
 
 def serve_on(machine, most):
-    """Serves on a new device, each run killed, until the disk forgot so often."""
+    """Serves on a new device, in runs that are killed, and returns after how many kills the disk forgot."""
     forgot, first, ever = 0, 0, Seen()
     set_up(machine, 400)
     with Gateway(machine.room) as gateway:
@@ -268,9 +269,9 @@ def order_of_replay(name):
     records = records_in_order(actions)
     first = {said_key(record): place for place, record in reversed(records.items()) if said_key(record)}
     marks = [place for place, action in enumerate(actions) if action.data == MARKED]
-    for line, start, end in zip(lines, marks, marks[1:]):
-        text = next(place for place in range(start + 1, end + 1) if actions[place].kind == "text")
-        if text == end or first.get(said_key(json.loads(line)), start) > text or any(text < place < end for place in records):
+    for line, begin, end in zip(lines, marks, marks[1:]):
+        text = next(place for place in range(begin + 1, end + 1) if actions[place].kind == "text")
+        if text == end or first.get(said_key(json.loads(line)), begin) > text or any(text < place < end for place in records):
             raise Lost(f"a text goes out before its record stands: {line}")
     if len(records) < len(lines) / 2:
         raise Wrong(f"only {len(records)} of {len(lines)} lines made a record")
@@ -315,7 +316,7 @@ def is_noticed(name, syncs, kill):
         kill(name, syncs, CONTROL_KILLS)
     except Lost:
         return
-    raise Wrong(f"nothing was lost in {CONTROL_KILLS} kills, though syncs count by {syncs}")
+    raise Wrong(f"nothing was lost in {CONTROL_KILLS} kills, and these syncs count: {syncs}")
 
 
 def checks():
