@@ -21,6 +21,7 @@ SECONDS = 60
 MARK, MARKED = b"[]\n", b'{"fault":"JSON","reply":"form"}\n'
 
 Action = namedtuple("Action", "kind number data")
+SYNC = Action("sync", 0, b"")
 
 
 class Lost(Exception):
@@ -29,6 +30,12 @@ class Lost(Exception):
 
 class Wrong(Exception):
     """Something else isn't as it should be."""
+
+
+def compare(is_seen):
+    """The library sees calls of the C library, and not how else a program may write."""
+    if not is_seen:
+        raise Wrong("the program writes by other calls than those that .ci/disk.c stands before")
 
 
 CHILDREN = []
@@ -163,6 +170,7 @@ class Machine:
 
     def forget(self):
         """The machine stops, amid an append if something isn't settled."""
+        compare(self.device.read_bytes() == image_of(self.lasting, self.done + [SYNC], self.chance))
         self.amid += any(action.kind == "write" for action in self.done[last_sync(self.done) + 1:])
         self.device.write_bytes(image_of(self.lasting, self.done, self.chance))
         self.settle()
@@ -179,7 +187,9 @@ class Machine:
         pipes = {"stdin": subprocess.PIPE, "stdout": subprocess.PIPE, "stderr": subprocess.DEVNULL}
         with self.start("replay", device or self.device, stop=stop, **pipes) as process:
             out, _ = process.communicate(lines, timeout=SECONDS)
-        return process.returncode, out, read_log(self.log)
+        actions = read_log(self.log)
+        compare(b"".join(texts_of(actions)).startswith(out))
+        return process.returncode, out, actions
 
     def tells_again(self, lines, seen):
         """A copy of the device opens, has a record of each of these lines and of each notice, and tells the same replies."""

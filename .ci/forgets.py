@@ -18,7 +18,7 @@ from concurrent.futures import ThreadPoolExecutor
 from pathlib import Path
 
 from disk import MARK, MARKED, SECONDS, Lost, Machine, Seen, Wrong
-from disk import end_all, image_of, is_body, read_log, record_line, records_of, refuse, said_by, start, texts_of
+from disk import compare, end_all, is_body, read_log, record_line, records_of, refuse, said_by, start, texts_of
 
 PROGRAM, ROOM = sys.argv[1], Path(sys.argv[2])
 CHANCE = os.environ.get("ISSUER_CHANCE") or str(random.SystemRandom().randrange(10**6))
@@ -90,13 +90,12 @@ def kill_replays(name, syncs, kills):
 
 
 def whole_replay(machine, lines):
-    """The device that a run which isn't killed leaves. The library sees all that the run does."""
-    status, out, actions = machine.replay(b"".join(lines))
-    device = machine.device.read_bytes()
+    """The device that a run which isn't killed leaves."""
+    status, out, machine.done = machine.replay(b"".join(lines))
     refuse(status, [0])
-    if out != b"".join(texts_of(actions)) or device != image_of(machine.lasting, actions, machine.chance):
-        raise Wrong("the program writes by other calls than those that .ci/disk.c stands before")
-    return device
+    compare(out == b"".join(texts_of(machine.done)))
+    machine.forget()
+    return machine.device.read_bytes()
 
 
 def replay_through(machine, lines, records, most):
@@ -198,8 +197,7 @@ def serve(machine, gateway, first):
         # Clients that were never let in try for seconds.
         begun, bodies = clients.end(SECONDS if any(text.startswith(b"HTTP") for text in texts_of(actions)) else 0)
     refuse(status, [KILLED])
-    if not bodies <= set(map(said_by, texts_of(actions))):
-        raise Wrong("the program sends clients by other calls than those that .ci/disk.c stands before")
+    compare(bodies <= set(map(said_by, texts_of(actions))))
     machine.done += actions
     return begun
 
@@ -223,9 +221,7 @@ def serve_on(machine, most):
                 machine.forget()
                 machine.tells_again([purchase(event) for event in ever.events], ever)
                 forgot += 1
-        heard = gateway.texts()
-    if not heard <= set(ever.sent.values()):
-        raise Wrong("the program sends the gateway by other calls than those that .ci/disk.c stands before")
+        compare(gateway.texts() <= set(ever.sent.values()))
     return forgot
 
 
