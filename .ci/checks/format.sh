@@ -37,8 +37,14 @@ holds "$device" 100 01495353310100000000ffffffffffff00
 issue replay "$device" </dev/null >"$room/out"
 ended 'a device of the greatest instance' 0 ''
 
+# One of no bytes, as a killed format leaves it, is made whole.
+: >"$device"
+run_format "$device" 100 7
+ended 'a file of 0 bytes' 0 ''
+holds "$device" 100 0149535331010000000000000000000700
+
 # One that has another size is left as it is.
-for size in 0 17 99 101; do
+for size in 1 17 99 101; do
     head -c "$size" /dev/zero | tr '\0' x >"$device"
     cp "$device" "$room/before"
     run_format "$device" 100 7

@@ -26,8 +26,7 @@ impl Clocks {
     /// The time to tell, in milliseconds since 1970.
     pub fn time(&mut self, clock: &impl Clock) -> io::Result<u64> {
         let elapsed = monotonic(clock)?;
-        let time = millis(clock.since_1970()?)?;
-        Ok(self.time_at(elapsed, time))
+        Ok(self.time_at(elapsed, millis(clock.since_1970()?)?))
     }
 
     /// The time to tell when the monotonic clock and the system's time read so: the system's time, or while that is ahead by a jump, the time

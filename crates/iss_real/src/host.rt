@@ -53,7 +53,8 @@ impl<N: Net> Host<N> {
 
     /// Listens on a port, 0 for any that is free. As many clients as the system allows may wait to be let in.
     pub fn listen(&mut self, alloc: Global, port: u16) -> io::Result<()> {
-        let mut port = TcpListener::bind(&self.net, local(port))?;
+        let address = SocketAddr::from((Ipv4Addr::LOCALHOST, port));
+        let mut port = TcpListener::bind(&self.net, address)?;
         let poll = Poll::new(&self.net)?;
         // No channel has the number 0.
         poll.registry()
@@ -85,7 +86,8 @@ impl<N: Net> Host<N> {
     /// A socket that begins to connect to the gateway. If something but a refusal stands in its way, as want of a handle, it would block:
     /// that may be over a moment later.
     pub fn connect(&mut self) -> io::Result<TcpStream> {
-        let address = local(self.gateway.ok_or(ErrorKind::NotConnected)?);
+        let port = self.gateway.ok_or(ErrorKind::NotConnected)?;
+        let address = SocketAddr::from((Ipv4Addr::LOCALHOST, port));
         match mio::net::TcpStream::connect(&self.net, address) {
             Ok(socket) => Ok(TcpStream::from(socket)),
             Err(e) if e.kind() == ErrorKind::ConnectionRefused => Err(e),
@@ -111,8 +113,8 @@ impl<N: Net> Host<N> {
     /// once.
     pub fn look(&mut self, most: u64) -> io::Result<Iter<'_>> {
         let listener = self.listener.as_mut().ok_or(ErrorKind::NotConnected)?;
-        let most = Duration::from_millis(most);
-        listener.poll.poll(&mut listener.events, Some(most))?;
+        let sleep = Some(Duration::from_millis(most));
+        listener.poll.poll(&mut listener.events, sleep)?;
         Ok(listener.events.iter())
     }
 }
@@ -123,11 +125,6 @@ fn keep_back(listener: &Listener, handles: &mut Vec<Registry>, most: usize) {
             let _ = handles.push(handle);
         }
     }
-}
-
-/// A port of this machine.
-fn local(port: u16) -> SocketAddr {
-    SocketAddr::from((Ipv4Addr::LOCALHOST, port))
 }
 
 /// Whether the same call may succeed a moment later.

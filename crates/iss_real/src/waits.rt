@@ -67,8 +67,7 @@ impl<N: Net<Stream = TcpStream> + Clock + Drop> Sockets<N> {
         self.told = self.at;
         self.links.send_all(&mut self.host, &mut self.dialled, true);
         self.look_over();
-        let time = self.clocks.time(&self.host.net)?;
-        Ok(Arrival::Time(time))
+        Ok(Arrival::Time(self.clocks.time(&self.host.net)?))
     }
 
     /// Looks at all channels, once in a while.
