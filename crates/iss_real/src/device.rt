@@ -27,50 +27,43 @@ impl Device {
         }
     }
 
+    /// The file of this name. If it can't be opened, or another program has it open as a device, the device is absent.
+    pub fn opened<R: Files<File = File>>(files: &R, name: &str) -> Device {
+        Device::open(files, name, None).unwrap_or(Device::absent())
+    }
+
     /// The file of this name, which lasts then, and if there is none, or one that was being made, a new one of `size` zero bytes. If it
     /// can't be opened or made, the device is absent.
     pub fn opened_or_made<R: Files<File = File>>(files: &R, name: &str, size: u64) -> Device {
-        Device::made(files, name, size).unwrap_or(Device::absent())
+        let device = match Device::open(files, name, Some(size)) {
+            Err(e) if e.kind() == ErrorKind::NotFound => Device::make(files, name, size),
+            opened => opened,
+        };
+        device.unwrap_or(Device::absent())
     }
 
-    /// A new file is taken away again if it can't be made to last.
-    fn made<R: Files<File = File>>(files: &R, name: &str, size: u64) -> io::Result<Device> {
-        match Device::open(files, name) {
-            Err(e) if e.kind() == ErrorKind::NotFound => {
-                File::create_new(files, name)?;
-                let made = Device::completed(files, name, size);
-                if made.is_err() {
-                    let _ = remove_file(files, name);
-                }
-                made
-            }
-            Err(e) => Err(e),
-            Ok(_) => Device::completed(files, name, size),
+    /// A new file, which is taken away again if it can't be made to last.
+    fn make<R: Files<File = File>>(files: &R, name: &str, size: u64) -> io::Result<Device> {
+        File::create_new(files, name)?;
+        let made = Device::open(files, name, Some(size));
+        if made.is_err() {
+            let _ = remove_file(files, name);
         }
+        made
     }
 
-    /// The file of this name, whose name lasts. A plain file of no bytes gets `size` zero bytes: a stop left it there while it was made.
-    fn completed<R: Files<File = File>>(files: &R, name: &str, size: u64) -> io::Result<Device> {
-        let mut device = Device::open(files, name)?;
-        let file = device.file()?;
-        if device.size == 0 && file.metadata()?.is_file() {
-            file.set_len(size)?;
-            file.sync_all()?;
-            device.size = size;
-        }
-        File::open(files, folder_of(name))?.sync_all()?;
-        Ok(device)
-    }
-
-    /// The file of this name. If it can't be opened, or another program has it open as a device, the device is absent.
-    pub fn opened<R: Files<File = File>>(files: &R, name: &str) -> Device {
-        Device::open(files, name).unwrap_or(Device::absent())
-    }
-
-    fn open<R: Files<File = File>>(files: &R, name: &str) -> io::Result<Device> {
+    /// The file of this name. If it is one to be made, its name lasts then, and it gets its size if it has no bytes: a stop left it so.
+    fn open<R: Files<File = File>>(files: &R, name: &str, made: Option<u64>) -> io::Result<Device> {
         let file = apart(OpenOptions::new().read(true).write(true).open(files, name)?)?;
         // Another program that writes it would break what is known of the file.
         file.try_lock()?;
+        if let Some(size) = made {
+            if file.metadata()?.is_file() && file.metadata()?.len() == 0 {
+                file.set_len(size)?;
+                file.sync_all()?;
+            }
+            File::open(files, folder_of(name))?.sync_all()?;
+        }
         let size = file.metadata()?.len();
         Ok(Device {
             file: Some(file),
