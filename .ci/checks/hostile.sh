@@ -39,7 +39,7 @@ attacks slow_sync
 attacks restless_clock
 attacks short_jumps lasting_jump
 attacks dials end_of_run
-attacks small_crowd kept_links reached
+attacks small_crowd kept_links kept_clients reached
 attacks pieces pause files
 missed=0
 for number in "${beside[@]}"; do

@@ -76,11 +76,15 @@ impl<N: Net> Host<N> {
     /// The socket of a client that came. It doesn't block.
     pub fn accept(&mut self) -> io::Result<TcpStream> {
         let listener = self.listener.as_ref().ok_or(ErrorKind::NotConnected)?;
-        let (client, _) = match listener.port.accept() {
+        let accepted = match listener.port.accept() {
             Err(e) if !is_passing(&e) && self.for_clients.pop().is_some() => listener.port.accept(),
-            outcome => outcome,
-        }?;
-        Ok(TcpStream::from(client))
+            accepted => accepted,
+        };
+        if accepted.is_err() {
+            // Without a handle the system doesn't say whether anybody came.
+            keep_back(listener, &mut self.for_clients, FOR_CLIENTS);
+        }
+        Ok(TcpStream::from(accepted?.0))
     }
 
     /// A socket that begins to connect to the gateway. If something but a refusal stands in its way, as want of a handle, it would block:
@@ -91,10 +95,11 @@ impl<N: Net> Host<N> {
         match mio::net::TcpStream::connect(&self.net, address) {
             Ok(socket) => Ok(TcpStream::from(socket)),
             Err(e) if e.kind() == ErrorKind::ConnectionRefused => Err(e),
-            Err(_) => {
-                self.for_gateway.pop();
-                Err(io::Error::from(ErrorKind::WouldBlock))
+            Err(_) if self.for_gateway.pop().is_some() => {
+                let socket = mio::net::TcpStream::connect(&self.net, address)?;
+                Ok(TcpStream::from(socket))
             }
+            Err(_) => Err(io::Error::from(ErrorKind::WouldBlock)),
         }
     }
 
