@@ -13,7 +13,7 @@ use Rattle.iss_edge.proofs.PutStretches.{puts_good, puts_go_on}
 use Rattle.iss_edge.proofs.StretchLemmas.{none_goes_on}
 use Rattle.iss_journal.specs.Place.{Place}
 use Rattle.iss_journal.specs.Region.{Region, bytes_before_gate, EndsWith, Shows, ShowsClosed, LeavesBehind, ShowsFirmly, RestsFirst}
-use Rattle.iss_journal.specs.Opening.{ReadsGate, OpensFirst, OpenedOrOneMore, IsEndGate, ClosesGood, ClosesGoing}
+use Rattle.iss_journal.specs.Opening.{ReadsGate, OpensFirst, WasLeft, OpenedOrOneMore, IsEndGate, ClosesGood, ClosesGoing}
 use Rattle.iss_journal.proofs.Gates.{splice_gate, one_byte}
 
 -- the byte at the end gate
@@ -37,12 +37,30 @@ pub shows_firm : (region : Region) (bodies : List (List ℕ)) (image : List ℕ)
 shows_firm region bodies image firm =
     elim firm [ inl closed ↦ shows_closed region bodies image closed | inr left ↦ left.1.shows ]
 
+-- a record that is left behind a gate: where that is 0 the records are shown closed, else it was left so
+module _ (region : Region) (bodies : List (List ℕ)) (start image : List ℕ) (j : ℕ) (same : image ≡ start) (body : List ℕ) (left : LeavesBehind region (take j bodies) body image) where
+  left_by_gate : (gate : ℕ) → left.shows.gate ≡ gate → OpenedOrOneMore region bodies start image j
+  left_by_gate zero is =
+      inl (record { rest = left.shows.rest; ends = subst (λ (g : ℕ). EndsWith region (take j bodies) g left.shows.rest image) is left.shows.ends })
+  left_by_gate (suc gate) is =
+      let place = length (bytes_before_gate region (take j bodies)) in
+      let there : get_or start place 0 ≡ suc gate =
+      ap (λ (l : List ℕ). get_or l place 0) (sym same) ∙ gate_byte region (take j bodies) left.shows.gate left.shows.rest image left.shows.ends ∙ is in
+      inr (
+        body,
+        record {
+          left = subst (λ (l : List ℕ). LeavesBehind region (take j bodies) body l) same left;
+          other = λ none. omega (arith, there, none);
+        },
+        inl left,
+      )
+
 -- what an opening starts with is what it may leave
 pub opens_unchanged : (region : Region) (bodies : List (List ℕ)) (start image : List ℕ) (j : ℕ) → OpensFirst region bodies start image j → OpenedOrOneMore region bodies start image j
 opens_unchanged region bodies start image j opens =
     elim opens.firm [
       | inl closed ↦ inl closed
-      | inr left ↦ inr (left.0, subst (λ (l : List ℕ). LeavesBehind region (take j bodies) left.0 l) opens.same left.1, inl left.1)
+      | inr left ↦ left_by_gate region bodies start image j opens.same left.0 left.1 left.1.shows.gate refl
     ]
 
 -- one byte over another is a byte set
@@ -63,7 +81,7 @@ module _ (region : Region) (bodies : List (List ℕ)) (j : ℕ) (place : Place) 
   stands_at image stand = record { i = j; low = omega arith; high = omega arith; stand = stand }
 
   -- the end gate before a record left behind, with any byte in its place
-  torn_gate : (body : List ℕ) (byte : ℕ) (image : List ℕ) → LeavesBehind region (take j bodies) body start → LeavesBehind region (take j bodies) body image → OpenedOrOneMore region bodies start (splice place.gate (byte ∷ []) image) j
+  torn_gate : (body : List ℕ) (byte : ℕ) (image : List ℕ) → WasLeft region (take j bodies) body start → LeavesBehind region (take j bodies) body image → OpenedOrOneMore region bodies start (splice place.gate (byte ∷ []) image) j
   torn_gate body zero image at_start left =
       inl (record {
         rest = left.shows.rest;
@@ -114,7 +132,11 @@ module _ (region : Region) (bodies : List (List ℕ)) (j : ℕ) (place : Place) 
       let shows : Shows region (take j bodies) image = shows_firm region (take j bodies) image opens.firm in
       let lt : place.gate < length image = within_image image shows in
       let left = left_at image other opens in
-      let at_start : LeavesBehind region (take j bodies) left.0 start = subst (λ (l : List ℕ). LeavesBehind region (take j bodies) left.0 l) opens.same left.1 in (
+      let at_start : WasLeft region (take j bodies) left.0 start =
+      record {
+        left = subst (λ (l : List ℕ). LeavesBehind region (take j bodies) left.0 l) opens.same left.1;
+        other = λ none. other (ap (λ (n : ℕ). get_or start n 0) here_is ∙ none);
+      } in (
         omega (arith, lt),
         stands_at image (opens_unchanged region bodies start image j opens),
         λ torn one.

@@ -56,12 +56,17 @@ pub record OpensFirst (region : Region) (bodies : List (List ℕ)) (start image 
   pub same : image ≡ start
   pub firm : ShowsFirmly region (take i bodies) image
 
+-- at the start this record was left behind these, after an end gate other than 0
+pub record WasLeft (region : Region) (bodies : List (List ℕ)) (body start : List ℕ) : Type 0 where
+  pub left : LeavesBehind region bodies body start
+  pub other : slice_index start (length (bytes_before_gate region bodies)) ≡ 0 → ⊥
+
 -- What a stop may leave within an opening: the first i of these records with an end gate of 0, or with the record left behind that was so
--- at the start, or also that one.
+-- at the start, after an end gate other than 0, or also that one.
 abbrev pub OpenedOrOneMore : Region → List (List ℕ) → List ℕ → List ℕ → ℕ → Type 0
 OpenedOrOneMore region bodies start image i =
     ShowsClosed region (take i bodies) image
-    ⊎ ((body : List ℕ) × LeavesBehind region (take i bodies) body start
+    ⊎ ((body : List ℕ) × WasLeft region (take i bodies) body start
     × (LeavesBehind region (take i bodies) body image ⊎ ShowsClosed region (take i bodies ++ body ∷ []) image))
 
 -- the end gate of these records stands at this place
