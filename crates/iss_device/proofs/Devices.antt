@@ -8,18 +8,17 @@ use Rattle.iss_edge.proofs.Tolds.{told_then}
 use Rattle.iss_journal.specs.Region.{Region, frames, Shows, ShowsClosed, RestsFirst}
 use Rattle.iss_journal.specs.Header.{header, IsSize, HasInstance}
 use Rattle.iss_journal.proofs.Records.{one_list}
-use Rattle.iss_journal.proofs.Formats.{instance_back, Sized, told_sized}
+use Rattle.iss_journal.proofs.Formats.{instance_back}
 use Rattle.iss_model.specs.declared.input.Record.{Record}
 use Rattle.iss_model.specs.rules.Histories.{history_of}
 use Rattle.iss_model.specs.texts.Spelling.{spelling}
 use Rattle.iss_store.specs.Values.{StoreNow}
 use Rattle.iss_store.specs.Standing.{region_of, region_under, bodies_of, AreHistory, StandsFor, DeviceStandsFor}
-use Rattle.iss_store.specs.Opening.{Opens, OpensStore, OpensGood, OpensGoing}
+use Rattle.iss_store.specs.Opening.{OpensStore, OpenedAs}
 use Rattle.iss_store.proofs.GoodDevices.{same_records, same_journal}
 use Rattle.iss_store.proofs.Regions.{length-header}
-use Rattle.iss_store.proofs.ToldReadings.{told_both}
 use Rattle.iss_device.specs.Runs.{run_at, run_on_device}
-use Rattle.iss_device.specs.Opened.{OpenedAs, IsOpenedOn}
+use Rattle.iss_device.specs.Opened.{IsOpenedOn}
 
 -- ---- a device has one instance, and stands for one list of records
 
@@ -56,35 +55,32 @@ header_first instance device others rest is =
     ∙ ap (λ (n : ℕ). take n (header instance ++ (others ++ rest))) (sym (length-header instance))
     ∙ take-append_seam (header instance) (others ++ rest)
 
--- a device of this size that rests with all of these records, with an end gate of 0, stands for them
-pub rests_stands : (instance size : ℕ) (rs : List Record) (device : List ℕ) → IsSize size → instance < 2 ^ 48 → AreHistory rs → RestsFirst (region_of instance size) (bodies_of rs) device (length rs) → DeviceStandsFor instance rs device
-rests_stands instance size rs device sized small history rests =
-    let all : take (length rs) (bodies_of rs) ≡ bodies_of rs = take_all (length rs) (bodies_of rs) (omega (arith, length-map rs spelling)) in
-    let closed : ShowsClosed (region_of instance size) (bodies_of rs) device = subst (λ (l : List (List ℕ)). ShowsClosed (region_of instance size) l device) all rests in
-    let whole : length device ≡ size = closed.ends.whole in
+-- a device of this size that shows these records stands for them
+pub shows_stands : (instance size : ℕ) (rs : List Record) (device : List ℕ) → IsSize size → instance < 2 ^ 48 → AreHistory rs → Shows (region_of instance size) (bodies_of rs) device → DeviceStandsFor instance rs device
+shows_stands instance size rs device sized small history shows =
+    let whole : length device ≡ size = shows.ends.whole in
     record {
       header =
           record {
             size = subst IsSize (sym whole) sized;
             small = small;
-            is = header_first instance device (frames (bodies_of rs)) (0 ∷ closed.rest) closed.ends.is;
+            is = header_first instance device (frames (bodies_of rs)) (shows.gate ∷ shows.rest) shows.ends.is;
           };
       history = history;
-      shows =
-          subst (λ (n : ℕ). Shows (region_of instance n) (bodies_of rs) device) (sym whole)
-          (record { gate = 0; shut = λ e. cc; rest = closed.rest; ends = closed.ends });
+      shows = subst (λ (n : ℕ). Shows (region_of instance n) (bodies_of rs) device) (sym whole) shows;
     }
+
+-- one that rests with all of these records, with an end gate of 0, too
+pub rests_stands : (instance size : ℕ) (rs : List Record) (device : List ℕ) → IsSize size → instance < 2 ^ 48 → AreHistory rs → RestsFirst (region_of instance size) (bodies_of rs) device (length rs) → DeviceStandsFor instance rs device
+rests_stands instance size rs device sized small history rests =
+    let all : take (length rs) (bodies_of rs) ≡ bodies_of rs = take_all (length rs) (bodies_of rs) (omega (arith, length-map rs spelling)) in
+    let closed : ShowsClosed (region_of instance size) (bodies_of rs) device = subst (λ (l : List (List ℕ)). ShowsClosed (region_of instance size) l device) all rests in
+    shows_stands instance size rs device sized small history (record { gate = 0; shut = λ e. cc; rest = closed.rest; ends = closed.ends })
 
 -- ---- an opening
 
 pub stands_opened : (instance : ℕ) (rs : List Record) (s : StoreNow) (a b : World) → OpenedAs s a b → DeviceStandsFor instance rs a.device → IsOpenedOn instance (length a.device) rs s
 stands_opened instance rs s a b opening stands = opened_on instance rs s a.device opening.size stands opening.opens
-
-pub told_opened : (s : StoreNow) (size : ℕ) (x y : Option World) → Sized size x → s.place.to ≡ size → Told (Opens (Ok s)) x y → Told OpensGood x y → Told OpensGoing x y → Told (OpenedAs s) x y
-told_opened s size x y sized to opens good going =
-    told_sized size (λ a b. (Opens (Ok s) a b × OpensGood a b) × OpensGoing a b) (OpenedAs s) x y sized
-    (λ a b here p. record { size = to ∙ sym here; opens = p.0.0; good = p.0.1; going = p.1 })
-    (told_both (λ a b. Opens (Ok s) a b × OpensGood a b) OpensGoing x y (told_both (Opens (Ok s)) OpensGood x y opens good) going)
 
 -- what is told of the opening, and of what came behind it
 pub record Behind (s : StoreNow) (R : World → World → Type 0) (a d : World) : Type 0 where

@@ -1,4 +1,4 @@
-pub mod NextRecords
 pub mod Devices
 pub mod Moments
+pub mod Firmly
 pub mod Refusals

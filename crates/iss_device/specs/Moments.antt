@@ -1,27 +1,90 @@
--- What a stop leaves at each moment of a run that opens a device.
-use Rattle.std.specs.Prelude.{◌≡◌, ◌⊎◌, ℕ, List, ◌++◌, length}
-use Rattle.iss_edge.specs.Stretches.{Step, actions_of, ShowsUpTo}
+-- What a stop leaves at each moment of a run that opens a device, and how such a run ends.
+use Rattle.std.specs.Prelude.{◌≡◌, ◌⊎◌, ℕ, ◌≤◌, false, List, [], ◌∷◌, ◌++◌, length}
+use Rattle.iss_edge.specs.declared.outside.Action.{Action}
+use Rattle.iss_edge.specs.World.{World}
+use Rattle.iss_edge.specs.Puts.{syncs_after}
+use Rattle.iss_edge.specs.Stretches.{Step, actions_of, SentUpTo, ShowsUpTo}
 use Rattle.iss_edge.specs.Disk.{Disk, after_actions, IsAtRest, IsImage}
-use Rattle.iss_journal.specs.Region.{StandsFirst}
+use Rattle.iss_journal.specs.Region.{ShowsClosed, LeavesBehind}
 use Rattle.iss_journal.specs.Opening.{OpensFirst, OpenedOrOneMore}
 use Rattle.iss_model.specs.declared.input.Record.{Record}
-use Rattle.iss_store.specs.Standing.{region_of, bodies_of}
+use Rattle.iss_model.specs.texts.Spelling.{spelling}
+use Rattle.iss_store.specs.Standing.{region_of, bodies_of, AreHistory, DeviceStandsFor, StandsIn}
+use Rattle.iss_store.specs.Goings.{AreFirstOf}
+
+-- where a run begins: the device is at rest, reads so, and stands firmly for these records
+pub record BeginsAtRest (instance : ℕ) (rs : List Record) (device : List ℕ) (d : Disk) : Type 0 where
+  pub rest : IsAtRest d
+  pub starts : OpensFirst (region_of instance (length device)) (bodies_of rs) device d.bytes (length rs)
+
+-- Where it may begin, too: no write was left failed, but maybe some are unsynced, as after a kill. The device reads so, and as it reads
+-- it stands firmly for these records.
+pub record BeginsUnsynced (instance : ℕ) (rs : List Record) (device : List ℕ) (d : Disk) : Type 0 where
+  pub none_failed : (place : ℕ) → d.failed place ≡ false
+  pub starts : OpensFirst (region_of instance (length device)) (bodies_of rs) device d.bytes (length rs)
+
+-- these steps are a first part of the opening
+abbrev pub IsWithin : List Step → List Step → Type 0
+IsWithin opening before = (later : List Step) × (opening ≡ before ++ later)
 
 -- What a stop leaves at a moment of a run, once these steps were done: the records that stood and so many of those that it makes,
 -- at least as many as the level of each text of which a byte went out, with nothing or the next of them left behind; or, as long as
 -- the steps are those of the opening, the records that stood, with what was left behind them at the start, or with that one too.
 abbrev pub MomentStands : ℕ → List Record → List Record → List Step → List Step → List ℕ → List ℕ → Type 0
 MomentStands instance rs all opening before start image =
-    ShowsUpTo (StandsFirst (region_of instance (length start)) (bodies_of all)) (length rs) (length all) before image
-    ⊎ (((later : List Step) × (opening ≡ before ++ later))
+    ShowsUpTo (StandsIn (region_of instance (length start)) all) (length rs) (length all) before image
+    ⊎ (IsWithin opening before
     × ShowsUpTo (OpenedOrOneMore (region_of instance (length start)) (bodies_of all) start) (length rs) (length rs) before image)
 
 -- Each moment of these steps, first those of the opening and then the later ones, on a device at rest that stands firmly for these
 -- records, where all of those may stand in the end.
 abbrev pub EachMoment : ℕ → List Record → List Record → List Step → List Step → List ℕ → Type 0
 EachMoment instance rs all opening later device =
-    (d : Disk) → IsAtRest d
-    → OpensFirst (region_of instance (length device)) (bodies_of rs) device d.bytes (length rs)
+    (d : Disk) → BeginsAtRest instance rs device d
     → (before rest : List Step) → opening ++ later ≡ before ++ rest
     → (image : List ℕ) → IsImage (after_actions d (actions_of before)) image
     → MomentStands instance rs all opening before device image
+
+-- Within the opening, before a sync of it has succeeded, a stop leaves what it may have left before the run.
+pub record AsBefore (opening before : List Step) (d : Disk) (image : List ℕ) : Type 0 where
+  pub within : IsWithin opening before
+  pub unsynced : syncs_after 0 (actions_of before) ≡ 0
+  pub is_image : IsImage d image
+
+-- The same of a run that begins on a device with unsynced writes: until a sync of the opening has succeeded nothing is worse than before
+-- the run, and from then on all is as on a device at rest.
+abbrev pub EachMomentUnsynced : ℕ → List Record → List Record → List Step → List Step → List ℕ → Type 0
+EachMomentUnsynced instance rs all opening later device =
+    (d : Disk) → BeginsUnsynced instance rs device d
+    → (before rest : List Step) → opening ++ later ≡ before ++ rest
+    → (image : List ℕ) → IsImage (after_actions d (actions_of before)) image
+    → AsBefore opening before d image ⊎ MomentStands instance rs all opening before device image
+
+-- the device stands firmly for these records: its end gate is 0, or a record that follows on them is left behind
+pub record StandsFirmly (instance : ℕ) (rs : List Record) (device : List ℕ) : Type 0 where
+  pub stands : DeviceStandsFor instance rs device
+  pub firm : ShowsClosed (region_of instance (length device)) (bodies_of rs) device
+      ⊎ ((r : Record) × (AreHistory (rs ++ r ∷ []) × LeavesBehind (region_of instance (length device)) (bodies_of rs) (spelling r) device))
+
+-- What a stop leaves stands firmly for some first ones of the records that the run made, or for one more than those that stood, which was
+-- left behind at the start. They are at least as many as the level of each text of which a byte went out.
+pub record StopStands (instance : ℕ) (rs made : List Record) (before : List Step) (image : List ℕ) : Type 0 where
+  pub now : List Record
+  pub firm : StandsFirmly instance now image
+  pub least : length rs ≤ length now
+  pub told : SentUpTo (length now) before
+  pub which : AreFirstOf now made ⊎ ((r : Record) × (now ≡ rs ++ r ∷ []))
+
+-- So it is at each moment of these steps, if it was so at the start: the next run may begin with whatever a stop leaves.
+abbrev pub EachStopStands : ℕ → List Record → List Record → List Step → List ℕ → Type 0
+EachStopStands instance rs made steps device =
+    (d : Disk) → IsAtRest d → d.bytes ≡ device → StandsFirmly instance rs device
+    → (before rest : List Step) → steps ≡ before ++ rest
+    → (image : List ℕ) → IsImage (after_actions d (actions_of before)) image
+    → StopStands instance rs made before image
+
+-- A run that did this and began at rest ends where the next one begins: on a device at rest, which reads so and stands for these records
+-- with an end gate of 0.
+pub record EndsAtRest (instance : ℕ) (rs now : List Record) (actions : List Action) (a b : World) : Type 0 where
+  pub closed : ShowsClosed (region_of instance (length b.device)) (bodies_of now) b.device
+  pub begins : (d : Disk) → BeginsAtRest instance rs a.device d → BeginsAtRest instance now b.device (after_actions d actions)

@@ -4,12 +4,12 @@ use Rattle.std.proofs.lemmas.List.{get_or_at, set_split, set-set}
 use Rattle.iss_edge.specs.declared.outside.Action.{Action}
 use Rattle.iss_edge.specs.World.{World, Told}
 use Rattle.iss_edge.specs.Calls.{Same}
-use Rattle.iss_edge.specs.Disk.{after_actions, splice}
-use Rattle.iss_edge.specs.Puts.{one_put, actions_of_puts, Ran, Puts, PutsPart, Holds}
+use Rattle.iss_edge.specs.Disk.{Disk, after_actions, splice}
+use Rattle.iss_edge.specs.Puts.{one_put, after_puts, actions_of_puts, Ran, Puts, PutsPart, Holds}
 use Rattle.iss_edge.specs.Stretches.{Step, actions_of, StandsUpTo, GoesOn}
 use Rattle.iss_edge.proofs.Tolds.{told_map, told_then}
 use Rattle.iss_edge.proofs.PutLemmas.{part_all}
-use Rattle.iss_edge.proofs.PutStretches.{puts_good, puts_go_on}
+use Rattle.iss_edge.proofs.PutStretches.{puts_good, puts_bytes, puts_go_on}
 use Rattle.iss_edge.proofs.StretchLemmas.{none_goes_on}
 use Rattle.iss_journal.specs.Place.{Place}
 use Rattle.iss_journal.specs.Region.{Region, bytes_before_gate, EndsWith, Shows, ShowsClosed, LeavesBehind, ShowsFirmly, RestsFirst}
@@ -17,7 +17,7 @@ use Rattle.iss_journal.specs.Opening.{ReadsGate, OpensFirst, WasLeft, OpenedOrOn
 use Rattle.iss_journal.proofs.Gates.{splice_gate, one_byte}
 
 -- the byte at the end gate
-gate_byte : (region : Region) (bodies : List (List ℕ)) (gate : ℕ) (rest image : List ℕ) → EndsWith region bodies gate rest image → get_or image (length (bytes_before_gate region bodies)) 0 ≡ gate
+pub gate_byte : (region : Region) (bodies : List (List ℕ)) (gate : ℕ) (rest image : List ℕ) → EndsWith region bodies gate rest image → get_or image (length (bytes_before_gate region bodies)) 0 ≡ gate
 gate_byte region bodies gate rest image ends =
     ap (λ (l : List ℕ). get_or l (length (bytes_before_gate region bodies)) 0) ends.is
     ∙ get_or_at (bytes_before_gate region bodies) gate rest 0 (length (bytes_before_gate region bodies)) refl
@@ -28,7 +28,7 @@ closed_by_byte region bodies image none shows =
     let same : shows.gate ≡ 0 = sym (gate_byte region bodies shows.gate shows.rest image shows.ends) ∙ none in
     record { rest = shows.rest; ends = subst (λ (g : ℕ). EndsWith region bodies g shows.rest image) same shows.ends }
 
-shows_closed : (region : Region) (bodies : List (List ℕ)) (image : List ℕ) → ShowsClosed region bodies image → Shows region bodies image
+pub shows_closed : (region : Region) (bodies : List (List ℕ)) (image : List ℕ) → ShowsClosed region bodies image → Shows region bodies image
 shows_closed region bodies image closed =
     record { gate = 0; shut = λ one. omega (arith, one); rest = closed.rest; ends = closed.ends }
 
@@ -189,6 +189,7 @@ close_here place a b read =
           };
       closed = λ region bodies is_end shows.
           subst (λ (l : List ℕ). ShowsClosed region bodies l) (sym read.same.device) (closed_by_byte region bodies a.device (ap (λ (n : ℕ). get_or a.device n 0) is_end.here ∙ read.there) shows);
+      leaves = λ d is. is ∙ sym read.same.device;
     }
 
 -- the gate was another, and the put made in part
@@ -215,6 +216,10 @@ close_wholly place gate a b c other read made =
             rest = shows.rest;
             ends = splice_gate region bodies place.gate shows.gate 0 shows.rest a.device is_end.here shows.ends;
           });
+      leaves = λ d is.
+          puts_bytes (one_put place.gate (0 ∷ [])) d
+          ∙ ap (λ (l : List ℕ). after_puts l (one_put place.gate (0 ∷ []))) (is ∙ sym read.same.device)
+          ∙ sym made.device;
     }
 
 -- the same by what an edge tells, at each end of the call

@@ -3,6 +3,8 @@ use Rattle.std.specs.Prelude.{◌≡◌, ◌⊎◌, ℕ, ◌+◌, ◌^◌, ◌<�
 use Rattle.std.specs.Int.{w32, to_be_bytes}
 use Rattle.iss_edge.specs.World.{World}
 use Rattle.iss_edge.specs.Calls.{Same}
+use Rattle.iss_edge.specs.Disk.{after_actions}
+use Rattle.iss_edge.specs.Disk as disks
 use Rattle.iss_edge.specs.Puts.{one_put, PutsPart}
 use Rattle.iss_edge.specs.Stretches.{Step, actions_of, IsGood, GoesOn}
 use Rattle.iss_journal.specs.declared.fault.JournalFault.{JournalFault}
@@ -83,7 +85,7 @@ pub record ClosesGood (place : Place) (a b : World) : Type 0 where
       → IsGood (OpensFirst region bodies a.device) (OpenedOrOneMore region bodies a.device) j j steps
 
 -- And the run may go on after that: the device is then at rest and shows the same records, with an end gate of 0. So it does, as it
--- reads, of each list of records that it showed before, firmly or not.
+-- reads, of each list of records that it showed before, firmly or not. What it reads is what was written.
 pub record ClosesGoing (place : Place) (a b : World) : Type 0 where
   pub part : PutsPart (one_put place.gate (0 ∷ [])) a b
   pub goes_on : (region : Region) (bodies : List (List ℕ)) (j : ℕ) (steps : List Step)
@@ -91,6 +93,7 @@ pub record ClosesGoing (place : Place) (a b : World) : Type 0 where
       → GoesOn (OpensFirst region bodies a.device) (OpenedOrOneMore region bodies a.device) (RestsFirst region bodies) j j steps
   pub closed : (region : Region) (bodies : List (List ℕ))
       → IsEndGate region bodies place → Shows region bodies a.device → ShowsClosed region bodies b.device
+  pub leaves : (d : disks.Disk) → d.bytes ≡ a.device → (after_actions d part.actions).bytes ≡ b.device
 
 -- this byte stands at this place, and nothing of what is told has changed
 pub record ReadsGate (at gate : ℕ) (a b : World) : Type 0 where

@@ -28,9 +28,9 @@ use Rattle.iss_store.specs.declared.fault.PlanFault.TheVariants as plan_fault
 use Rattle.iss_store.specs.Values.{StoreNow, Plan, DurableNow, said_of, room_of}
 use Rattle.iss_store.specs.Planning.{Plans, judged_as}
 use Rattle.iss_store.specs.Standing.{region_under, StandsFor}
-use Rattle.iss_store.specs.Committing.{Commits, CommitsOnBook, CommitsGood, CommitsGoing}
+use Rattle.iss_store.specs.Committing.{Commits, CommitsOnBook, Keeps, KeepsPart}
 use Rattle.iss_store.specs.Serving.{tasks_of_record, all_gone, SendsAll, SendsPart}
-use Rattle.iss_device.proofs.NextRecords.{with_record}
+use Rattle.iss_store.proofs.NextRecords.{with_record}
 use Rattle.iss_serve.specs.Goings.{records_in, Goes}
 use Rattle.iss_serve.specs.Held.{HeldNow, Stage, to_judge, sending, answer_unreached, answers_unreached, call_unreached, noted, session_at}
 use Rattle.iss_serve.specs.Judged.{judged_again, waiting_for, IsPlannedFor}
@@ -127,7 +127,7 @@ module _ (store : StoreNow) (h : HeldNow) (q : Queued) (rest : List Queued) wher
     one_made : (rs : List Record) → StandsFor store rs → records_in (judged_first (start rs) (start rs).queue) ≡ with_record (records_in (start rs)) p.accepted
     one_made rs stands = ap records_in (made_so rs stands) ∙ step_records (history_of rs) p.accepted
 
-    pub commit_some : (x y : Outer) → Quietly (CommitsGood store p.accepted) x y → ServesSome (to_judge store h (q ∷ rest)) x y
+    pub commit_some : (x y : Outer) → Quietly (KeepsPart store p.accepted) x y → ServesSome (to_judge store h (q ∷ rest)) x y
     commit_some x y good =
         record {
           on_book =
@@ -179,7 +179,7 @@ module _ (store : StoreNow) (h : HeldNow) (q : Queued) (rest : List Queued) wher
           ∙ ap (λ (n : ℕ). with_parts n store.place.to (history_of (rs ++ p.accepted ∷ [])) (tasks_of_record next d waits.served) waits) (sym commits.stepped.kept)
           ∙ ap (λ (n : ℕ). with_parts next.core.instance n (history_of (rs ++ p.accepted ∷ [])) (tasks_of_record next d waits.served) waits) (sym (ap (λ place. place.to) commits.place))
 
-      pub commit_on : (x y : Outer) → Quietly (CommitsGoing store p.accepted) x y → ServesOn (to_judge store h (q ∷ rest)) now x y
+      pub commit_on : (x y : Outer) → Quietly (Keeps store p.accepted) x y → ServesOn (to_judge store h (q ∷ rest)) now x y
       commit_on x y going =
           record {
             instance = commits.stepped.kept;

@@ -1,5 +1,5 @@
 -- An input is judged, by what is told of each call.
-use Rattle.std.proofs.Common.{◌≡◌, ℕ, ◌+◌, ◌-◌, ◌<◌, ◌≤◌, List, [], ◌∷◌, Option, Some, None, refl, sym, ap, subst, arith}
+use Rattle.std.proofs.Common.{◌≡◌, ℕ, ◌+◌, ◌-◌, ◌<◌, ◌≤◌, List, [], ◌∷◌, Option, Some, None, refl, sym, ap, subst, ◌∙◌, arith}
 use Rattle.std.specs.Prelude.{Err}
 use Rattle.iss_edge.specs.declared.outside.Answered.{Answered}
 use Rattle.iss_edge.specs.Calls.{HearsNothing}
@@ -7,12 +7,13 @@ use Rattle.iss_edge.specs.declared.outside.Channel.{Channel}
 use Rattle.iss_edge.specs.Outer.{Outer, outer_of, Adds}
 use Rattle.iss_edge.specs.World.{World, Told}
 use Rattle.iss_edge.proofs.Tolds.{told_map, told_self}
-use Rattle.iss_journal.specs.Place.{Place}
+use Rattle.iss_model.specs.declared.limits.TheConstants.{MOST_RECORDS}
+use Rattle.iss_model.specs.state.Cores.{CoreState}
 use Rattle.iss_model.specs.declared.decision.Answer.{Answer}
 use Rattle.iss_model.specs.declared.input.Record.{Record}
 use Rattle.iss_model.specs.rules.Judging.{judge}
 use Rattle.iss_model.specs.rules.Histories.{history_keeper, history_of}
-use Rattle.iss_model.specs.run.Rooms.{need_of, judgement_within}
+use Rattle.iss_model.specs.run.Rooms.{judgement_within}
 use Rattle.iss_serving.specs.Desks.{Task, Waiter, to_reply, desk_with, waiters_without}
 use Rattle.iss_serving.specs.Sendings.{Sends}
 use Rattle.iss_http.specs.Messages.{respond}
@@ -22,11 +23,12 @@ use Rattle.iss_serving.specs.Judgements.{status_of, answer_tasks}
 use Rattle.iss_link.specs.declared.gone.Gone as link
 use Rattle.iss_store.specs.declared.fault.PlanFault.TheVariants as plan_fault
 use Rattle.iss_store.specs.Values.{StoreNow, Plan, DurableNow, room_of}
-use Rattle.iss_store.specs.Planning.{Plans, IsPlanOf}
+use Rattle.iss_store.specs.Planning.{Plans}
 use Rattle.iss_store.specs.Standing.{StandsFor}
-use Rattle.iss_store.specs.Committing.{Commits, CommitsOnBook, CommitsGood, CommitsGoing}
+use Rattle.iss_store.specs.Committing.{Commits, CommitsOnBook, Keeps, KeepsPart}
 use Rattle.iss_store.specs.Serving.{tasks_of_record, all_gone, SendsAll, SendsPart}
-use Rattle.iss_serve.specs.Held.{HeldNow, Stage, to_judge, sending, noted, left_on}
+use Rattle.iss_store.proofs.Counts.{step_count}
+use Rattle.iss_serve.specs.Held.{HeldNow, Stage, to_judge, sending, noted, records_left}
 use Rattle.iss_serve.specs.Judged.{judged_again, waiting_for, IsPlannedFor}
 use Rattle.iss_serve.specs.Runs.{ServesOn, ServesSome}
 use Rattle.iss_serve.proofs.Quietly.{Quietly, told_quietly}
@@ -45,20 +47,20 @@ told_answer store h q rest a on_book x = told_self (ServesOn (to_judge store h (
 
 module _ (store : StoreNow) (h : HeldNow) (q : Queued) (rest : List Queued) (p : Plan) (planned : IsPlannedFor store h.clock q.input p)
     (v w : Option World) (k l : Option (List Answered)) (quiet : Told HearsNothing k l) where
-  pub told_commit_some : Told (CommitsGood store p.accepted) v w → Told (ServesSome (to_judge store h (q ∷ rest))) (outer_of v k) (outer_of w l)
+  pub told_commit_some : Told (KeepsPart store p.accepted) v w → Told (ServesSome (to_judge store h (q ∷ rest))) (outer_of v k) (outer_of w l)
   told_commit_some good =
-      told_map (Quietly (CommitsGood store p.accepted)) (ServesSome (to_judge store h (q ∷ rest))) (outer_of v k) (outer_of w l)
-      (commit_some store h q rest p planned) (told_quietly (CommitsGood store p.accepted) v w k l good quiet)
+      told_map (Quietly (KeepsPart store p.accepted)) (ServesSome (to_judge store h (q ∷ rest))) (outer_of v k) (outer_of w l)
+      (commit_some store h q rest p planned) (told_quietly (KeepsPart store p.accepted) v w k l good quiet)
 
   module _ (next : StoreNow) (d : DurableNow) (commits : Commits store p next d) (on_book : (rs : List Record) → StandsFor store rs → CommitsOnBook next rs p d)
-      (going : Told (CommitsGoing store p.accepted) v w) where
+      (going : Told (Keeps store p.accepted) v w) where
     abbrev after : Stage
     after = sending next (waiting_for q p.is_clock h) (judged_again p.is_clock q rest) (tasks_of_record next d (waiting_for q p.is_clock h).served)
 
     committed : Told (ServesOn (to_judge store h (q ∷ rest)) after) (outer_of v k) (outer_of w l)
     committed =
-        told_map (Quietly (CommitsGoing store p.accepted)) (ServesOn (to_judge store h (q ∷ rest)) after) (outer_of v k) (outer_of w l)
-        (commit_on store h q rest p planned next d commits on_book) (told_quietly (CommitsGoing store p.accepted) v w k l going quiet)
+        told_map (Quietly (Keeps store p.accepted)) (ServesOn (to_judge store h (q ∷ rest)) after) (outer_of v k) (outer_of w l)
+        (commit_on store h q rest p planned next d commits on_book) (told_quietly (Keeps store p.accepted) v w k l going quiet)
 
     -- its client can't be let wait
     pub told_unwaited : Told (ServesSome (to_judge store h (q ∷ rest))) (outer_of v k) (outer_of w l)
@@ -124,16 +126,13 @@ told_client_answer store h now first client ch a x y e is p =
     subst (λ (c : Option Channel). Told (ServesOn (sending store h first (answer_tasks c a)) (to_judge store now first)) x y) (sym e)
     (told_replied store h now ch (respond (status_of a) (answer_text a)) (respond (status_of a) (answer_text a)) first x y refl is p)
 
--- ---- a record leaves less of the device
+-- ---- behind a record fewer may still come
 
-less_left : (gate to need : ℕ) → 5 ≤ need → need ≤ to - 1 - gate → to - (gate + need) < to - gate
-less_left gate to need some fits = omega (arith, some, fits)
+less_left : (most before now : ℕ) → now ≡ before + 1 → now ≤ most → most - now < most - before
+less_left most before now one few = omega (arith, one, few)
 
-pub less_there : (store next : StoreNow) (p : Plan) (d : DurableNow) → Commits store p next d → IsPlanOf store p → left_on next < left_on store
-less_there store next p d commits plan =
-    let gate = ap (λ (place : Place). place.gate) commits.place in
-    let to = ap (λ (place : Place). place.to) commits.place in
-    let some : 5 ≤ need_of p.accepted = omega arith in
-    let less = less_left store.place.gate store.place.to (need_of p.accepted) some plan.fits in
-    subst (λ (n : ℕ). n - next.place.gate < store.place.to - store.place.gate) (sym to)
-    (subst (λ (n : ℕ). store.place.to - n < store.place.to - store.place.gate) (sym gate) less)
+pub less_there : (store next : StoreNow) (p : Plan) (d : DurableNow) → Commits store p next d → records_left next < records_left store
+less_there store next p d commits =
+    let one : next.core.state.count ≡ store.core.state.count + 1 =
+    ap (λ (c : CoreState). c.count) commits.stepped.state ∙ step_count store.core.state p.accepted in
+    less_left MOST_RECORDS store.core.state.count next.core.state.count one commits.few

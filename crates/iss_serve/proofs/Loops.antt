@@ -12,7 +12,7 @@ use Rattle.iss_model.specs.Forms.{is_stamp}
 use Rattle.iss_store.specs.Values.{StoreNow}
 use Rattle.iss_store.specs.Serving.{all_gone}
 use Rattle.iss_serve.specs.declared.held.Held.{Held}
-use Rattle.iss_serve.specs.Held.{HeldNow, IsHeld, IsStillHeld, IsOf, noted, call_unreached, left_on}
+use Rattle.iss_serve.specs.Held.{HeldNow, IsHeld, IsStillHeld, IsOf, noted, call_unreached, records_left}
 use Rattle.iss_serve.specs.Judged.{Judges}
 
 -- ---- judging
@@ -30,9 +30,9 @@ judges_then s t u f g h p q =
       moves = moves_then p.moves q.moves;
     }
   where
-    moves_then : (left_on t < left_on s) ⊎ ((left_on t ≡ left_on s) × (g.unreached.items ≡ f.unreached.items))
-        → (left_on u < left_on t) ⊎ ((left_on u ≡ left_on t) × (h.unreached.items ≡ g.unreached.items))
-        → (left_on u < left_on s) ⊎ ((left_on u ≡ left_on s) × (h.unreached.items ≡ f.unreached.items))
+    moves_then : (records_left t < records_left s) ⊎ ((records_left t ≡ records_left s) × (g.unreached.items ≡ f.unreached.items))
+        → (records_left u < records_left t) ⊎ ((records_left u ≡ records_left t) × (h.unreached.items ≡ g.unreached.items))
+        → (records_left u < records_left s) ⊎ ((records_left u ≡ records_left s) × (h.unreached.items ≡ f.unreached.items))
     moves_then (inl less) (inl more) = inl (omega (arith, less, more))
     moves_then (inl less) (inr same) = inl (omega (arith, less, same.0))
     moves_then (inr same) (inl more) = inl (omega (arith, same.0, more))

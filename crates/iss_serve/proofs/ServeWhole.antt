@@ -6,12 +6,12 @@ use Rattle.iss_edge.specs.declared.outside.Action.TheVariants.{Write, Sync, Emit
 use Rattle.iss_edge.specs.declared.outside.Answered.{Answered}
 use Rattle.iss_edge.specs.World.{sent_on}
 use Rattle.iss_edge.specs.Outer.{Outer}
-use Rattle.iss_edge.specs.Stretches.{Step, actions_of, is_still, IsGood, with_levels}
+use Rattle.iss_edge.specs.Stretches.{Step, actions_of, is_still, with_levels}
 use Rattle.iss_edge.proofs.Tolds.{sent_on-append}
 use Rattle.iss_edge.proofs.StretchLemmas.{actions_of-append, actions_of-leveled}
-use Rattle.iss_journal.specs.Region.{Region, RestsFirst}
+use Rattle.std.proofs.lemmas.List.{append_cancel_left}
 use Rattle.iss_model.specs.declared.input.Record.{Record}
-use Rattle.iss_model.specs.rules.Histories.{History, history_of, nothing_yet, IsLegal}
+use Rattle.iss_model.specs.rules.Histories.{History, history_of}
 use Rattle.iss_model.specs.run.Runs.{Run}
 use Rattle.iss_agreement.proofs.Records.{records_history}
 use Rattle.iss_serving.specs.Items.{Happening, answers_of}
@@ -21,24 +21,27 @@ use Rattle.iss_serving.specs.Accepted.{session_records}
 use Rattle.iss_serving.specs.Turns.{waits_in}
 use Rattle.iss_serving.specs.Serving.{channel_actions, ServesPart, ServesAll}
 use Rattle.iss_serving.proofs.ServingLaws.{serves_part_sent, serves_all_sent}
-use Rattle.iss_serving.proofs.JudgedLines.{records_of_session, legal_session}
+use Rattle.iss_serving.proofs.JudgedLines.{records_of_session}
 use Rattle.iss_serving.proofs.Closings.{run_closed, run_client_closed}
 use Rattle.iss_serving.proofs.Waits.{waits_within}
 use Rattle.iss_sessions.specs.Program.{program_readers}
 use Rattle.iss_sessions.proofs.ClientLines.{program_reads_events}
 use Rattle.iss_store.specs.Values.{StoreNow}
-use Rattle.iss_store.specs.Standing.{region_of, region_under, bodies_of, StandsFor, DeviceStandsFor, RestsAt, StandsAt}
-use Rattle.iss_store.specs.Opening.{is_on_device, AreOnDevice, OpensGood}
+use Rattle.iss_store.specs.Standing.{region_under, AreHistory, StandsFor, DeviceStandsFor}
+use Rattle.iss_store.specs.Goings.{channel_steps}
+use Rattle.iss_store.specs.Goings as device
+use Rattle.iss_store.proofs.Goings as joins
+use Rattle.iss_store.specs.Opening.{is_on_device, AreOnDevice, OpensGood, OpenedAs}
 use Rattle.iss_device.specs.Runs.{run_at}
-use Rattle.iss_device.specs.Moments.{EachMoment}
-use Rattle.iss_device.specs.Opened.{OpenedAs, IsOpenedOn}
-use Rattle.iss_device.proofs.NextRecords.{legal_append}
-use Rattle.iss_device.proofs.Devices.{stands_opened, region_opened, run_opened, rests_stands}
-use Rattle.iss_device.proofs.Moments.{opening_on_device, trace_opened, not_opened_moments, opened_moments}
-use Rattle.iss_serve.specs.Goings.{channel_steps, records_in, IsGoodFrom, GoesPart}
+use Rattle.iss_device.specs.Moments.{EachMoment, EachMomentUnsynced, EachStopStands, EndsAtRest}
+use Rattle.iss_device.specs.Opened.{IsOpenedOn}
+use Rattle.iss_device.proofs.Devices.{stands_opened, run_opened, rests_stands}
+use Rattle.iss_store.proofs.NextRecords.{first_self}
+use Rattle.iss_device.proofs.Firmly.{stops_stand}
+use Rattle.iss_device.proofs.Moments.{opening_on_device, trace_opened, not_opened_moments, not_opened_unsynced, opened_moments, opened_unsynced, rests_now, ends_at_rest}
+use Rattle.iss_serve.specs.Goings.{records_in, GoesPart}
 use Rattle.iss_serve.specs.Runs.{EndsWith}
 use Rattle.iss_serve.specs.ServeRuns.{session_on_device, session_then, steps_said, records_then, IsDoneInPart, DoneAt, AllClosed, ServeOn}
-use Rattle.iss_serve.proofs.Going.{good_of}
 
 -- ---- what an opening does isn't on channels
 
@@ -139,21 +142,34 @@ module _ (turns instance : ℕ) (rs : List Record) (s : StoreNow) (a b d : Outer
   on_device : (P : Session → Type 0) → P start → P (session_on_device turns instance rs a.world.device)
   on_device P p = subst (λ (k : Run). P (session_of k turns)) (run_opened instance rs s a.world.device opened) p
 
-  legal : (happenings : List Happening) → IsLegal (records_then rs start happenings)
-  legal happenings =
-      legal_append nothing_yet rs (session_records program_readers start happenings) stands.history.legal (legal_session program_readers start happenings)
+  -- the records that a session made are those that stood and its own
+  made : (happenings : List Happening) → records_in (session_then start happenings) ≡ records_then rs start happenings
+  made happenings = records_are (run_at s rs) turns rs happenings refl
 
-  moments : (happenings : List Happening) (steps : List Step) → IsGoodFrom (region_under s) start (session_then start happenings) steps
-      → EachMoment instance rs (records_then rs start happenings) first_steps steps a.world.device
-  moments happenings steps good =
-      let t = session_then start happenings in
-      let all = records_then rs start happenings in
-      let more = session_records program_readers start happenings in
-      let made : records_in t ≡ all = records_are (run_at s rs) turns rs happenings refl in
-      let here : IsGood (RestsAt s all) (StandsAt s all) (count start) (count t) steps =
-      subst (λ (l : List Record). IsGood (RestsAt s l) (StandsAt s l) (count start) (count t) steps) (append-nil (records_in t) ∙ made) (good []) in
-      opened_moments instance rs more s a.world b.world opening stands (count t) (omega (arith, ap (λ (l : List Record). length l) made)) steps
-      (subst (λ (n : ℕ). IsGood (RestsAt s all) (StandsAt s all) n (count t) steps) (ap (λ (l : List Record). length l) (records_history rs)) here)
+  -- what was done from the session's start was done from the records that stood
+  part_there : (happenings : List Happening) (said : List Step) → device.GoesPart (region_under s) (records_in start) (records_in (session_then start happenings)) said b.world d.world
+      → device.GoesPart (region_under s) rs (records_then rs start happenings) said b.world d.world
+  part_there happenings said part =
+      subst (λ (l : List Record). device.GoesPart (region_under s) rs l said b.world d.world) (made happenings)
+      (subst (λ (l : List Record). device.GoesPart (region_under s) l (records_in (session_then start happenings)) said b.world d.world) (records_history rs) part)
+
+  goes_there : (happenings : List Happening) (last : Session) (said : List Step) → session_then start happenings ≡ last → device.Goes (region_under s) (records_in start) (records_in last) said b.world d.world
+      → device.Goes (region_under s) rs (records_then rs start happenings) said b.world d.world
+  goes_there happenings last said ends goes =
+      subst (λ (l : List Record). device.Goes (region_under s) rs l said b.world d.world) (ap records_in (sym ends) ∙ made happenings)
+      (subst (λ (l : List Record). device.Goes (region_under s) l (records_in last) said b.world d.world) (records_history rs) goes)
+
+  -- where it ends, by what was done since the start
+  whole_ends : (all : List Record) (said : List Step) (part : device.GoesPart (region_under s) rs all said b.world d.world) → device.Goes (region_under s) rs all said b.world d.world
+      → EndsAtRest instance rs all (actions_of (first_steps ++ part.steps)) a.world d.world
+  whole_ends all said part goes =
+      let same : actions_of part.steps ≡ actions_of goes.steps =
+      append_cancel_left b.world.trace (actions_of part.steps) (actions_of goes.steps) (sym part.grew ∙ goes.grew) in
+      subst (λ (l : List Action). EndsAtRest instance rs all l a.world d.world)
+      (sym (actions_of-append first_steps part.steps
+      ∙ ap (λ (l : List Action). l ++ actions_of part.steps) (actions_of-leveled 0 opening.good.added)
+      ∙ ap (λ (l : List Action). opening.good.added ++ l) same))
+      (ends_at_rest instance rs s a.world b.world opening stands all said d.world goes)
 
   in_turns : (happenings : List Happening) → Fits program_readers start happenings → waits_in happenings ≤ turns
   in_turns happenings fits =
@@ -174,11 +190,13 @@ module _ (turns instance : ℕ) (rs : List Record) (s : StoreNow) (a b d : Outer
   pub serve_part : (status : ℕ) → (status ≡ 0 → ⊥) → (status ≡ 4 → ⊥) → GoesPart program_readers (region_under s) start b d
       → ServeOn turns status instance rs (session_on_device turns instance rs a.world.device) a d
   serve_part status not_done not_device p =
-      let steps = first_steps ++ p.steps in
+      let all = records_then rs start p.happenings in
+      let part = part_there p.happenings p.said p.part in
+      let steps = first_steps ++ part.steps in
       let heard : d.heard ≡ a.heard ++ answers_of p.happenings = p.heard ∙ ap (λ (h : List Answered). h ++ answers_of p.happenings) quiet in
-      let grew : d.world.trace ≡ a.world.trace ++ actions_of steps = trace_grew p.steps p.grew in
-      let cut : steps_said start p.happenings ≡ channel_steps steps ++ p.undone = p.done ∙ ap (λ (l : List Step). l ++ p.undone) (sym (silent p.steps)) in
-      let part : ServesPart program_readers start a d =
+      let grew : d.world.trace ≡ a.world.trace ++ actions_of steps = trace_grew part.steps part.grew in
+      let cut : steps_said start p.happenings ≡ channel_steps steps ++ p.undone = p.cut ∙ ap (λ (l : List Step). l ++ p.undone) (sym (silent part.steps ∙ part.done)) in
+      let serves : ServesPart program_readers start a d =
       record {
         happenings = p.happenings;
         heard = heard;
@@ -197,41 +215,37 @@ module _ (turns instance : ℕ) (rs : List Record) (s : StoreNow) (a b d : Outer
         fits = p.fits;
         waits = in_turns p.happenings p.fits;
         opening = first_steps;
-        later = p.steps;
+        later = part.steps;
         opening_alone = opening_on_device opening.good.added opening.good.on_device;
         grew = grew;
         done = done_at status start p.happenings (channel_steps steps) not_done (record { undone = p.undone; cut = cut });
         sent = λ ch.
-            let sent = serves_part_sent program_readers start a d ch part in
+            let sent = serves_part_sent program_readers start a d ch serves in
             record { unsent = sent.unsent; sent = sent.sent };
-        legal = legal p.happenings;
-        moments = moments p.happenings p.steps p.good;
+        history = part.history stands.history;
+        moments = opened_moments instance rs s a.world b.world opening stands all p.said d.world part;
+        unsynced = opened_unsynced instance rs s a.world b.world opening stands all p.said d.world part;
+        stops =
+            stops_stand instance rs all a.world.device part.more (part.history stands.history) first_steps part.steps
+            (opened_moments instance rs s a.world b.world opening stands all p.said d.world part);
         whole = λ e. absurd (not_done e);
         other_device = not_device;
       })
 
-  -- the device at the end
-  device_stands : (ends : EndsWith s turns rs b d) → DeviceStandsFor instance (records_then rs start ends.goes.happenings) d.world.device
-  device_stands ends =
-      let last = ends.last in
-      let region : region_under s ≡ region_of instance (length a.world.device) = region_opened instance (length a.world.device) rs s opened in
-      let begins : RestsFirst (region_under s) (bodies_of rs) b.world.device (length rs) =
-      subst (λ (r : Region). RestsFirst r (bodies_of rs) b.world.device (length rs)) (sym region) (opening.going.rests rs instance stands) in
-      let there : RestsFirst (region_under s) (bodies_of (records_in last)) d.world.device (count last) =
-      ends.goes.rests (subst (λ (l : List Record). RestsFirst (region_under s) (bodies_of l) b.world.device (length l)) (sym (records_history rs)) begins) in
-      subst (λ (l : List Record). DeviceStandsFor instance l d.world.device) (ap records_in (sym ends.goes.ends) ∙ records_are (run_at s rs) turns rs ends.goes.happenings refl)
-      (rests_stands instance (length a.world.device) (records_in last) d.world.device stands.header.size stands.header.small ends.history
-      (subst (λ (r : Region). RestsFirst r (bodies_of (records_in last)) d.world.device (count last)) region there))
-
   pub serve_whole : EndsWith s turns rs b d → ServeOn turns 0 instance rs (session_on_device turns instance rs a.world.device) a d
   serve_whole ends =
       let p = ends.goes in
-      let steps = first_steps ++ p.steps in
+      let all = records_then rs start p.happenings in
+      let said = steps_said start p.happenings ++ last_steps ends.last in
+      let goes : device.Goes (region_under s) rs all said b.world d.world = goes_there p.happenings ends.last said p.ends p.goes in
+      let part : device.GoesPart (region_under s) rs all said b.world d.world = joins.goes_part (region_under s) rs all said b.world d.world goes in
+      let part_steps : List Step = part.steps in
+      let steps = first_steps ++ part_steps in
       let heard : d.heard ≡ a.heard ++ answers_of p.happenings = p.heard ∙ ap (λ (h : List Answered). h ++ answers_of p.happenings) quiet in
-      let grew : d.world.trace ≡ a.world.trace ++ actions_of steps = trace_grew p.steps p.grew in
-      let done : channel_steps steps ≡ steps_said start p.happenings ++ last_steps ends.last = silent p.steps ∙ p.done in
+      let grew : d.world.trace ≡ a.world.trace ++ actions_of steps = trace_grew part_steps part.grew in
+      let done : channel_steps steps ≡ said = silent part_steps ∙ part.done in
       let over : IsComplete (session_then start p.happenings) = subst IsComplete (sym p.ends) p.complete in
-      let all : ServesAll program_readers (run_at s rs) turns ends.last a d =
+      let serves : ServesAll program_readers (run_at s rs) turns ends.last a d =
       record {
         happenings = p.happenings;
         heard = heard;
@@ -244,7 +258,7 @@ module _ (turns instance : ℕ) (rs : List Record) (s : StoreNow) (a b d : Outer
       } in
       let sent : (ch : ℕ) → sent_on ch d.world.trace ≡ sent_on ch a.world.trace ++ sent_on ch (actions_of (steps_said start p.happenings)) =
       λ ch.
-      serves_all_sent program_readers (run_at s rs) turns ends.last a d ch all
+      serves_all_sent program_readers (run_at s rs) turns ends.last a d ch serves
       ∙ ap (λ (l : List ℕ). sent_on ch a.world.trace ++ l) (sent_to_last ch (steps_said start p.happenings) ends.last) in
       on_device (λ (m : Session). ServeOn turns 0 instance rs m a d)
       (record {
@@ -253,16 +267,28 @@ module _ (turns instance : ℕ) (rs : List Record) (s : StoreNow) (a b d : Outer
         fits = p.fits;
         waits = in_turns p.happenings p.fits;
         opening = first_steps;
-        later = p.steps;
+        later = part_steps;
         opening_alone = opening_on_device opening.good.added opening.good.on_device;
         grew = grew;
         done = done ∙ ap (λ (m : Session). steps_said start p.happenings ++ last_steps m) (sym p.ends);
         sent = λ ch. record { unsent = []; sent = sym (sent ch) ∙ sym (append-nil (sent_on ch d.world.trace)) };
-        legal = legal p.happenings;
-        moments =
-            moments p.happenings p.steps
-            (subst (λ (m : Session). IsGoodFrom (region_under s) start m p.steps) (sym p.ends) (good_of (region_under s) start ends.last p.steps p.goes_on));
-        whole = λ e. record { came = p.came; complete = over; sent = sent; closed = closed_at_end (run_at s rs) turns p.happenings p.fits over; stands = device_stands ends };
+        history = part.history stands.history;
+        moments = opened_moments instance rs s a.world b.world opening stands all said d.world part;
+        unsynced = opened_unsynced instance rs s a.world b.world opening stands all said d.world part;
+        stops =
+            stops_stand instance rs all a.world.device part.more (part.history stands.history) first_steps part_steps
+            (opened_moments instance rs s a.world b.world opening stands all said d.world part);
+        whole = λ e.
+            record {
+              came = p.came;
+              complete = over;
+              sent = sent;
+              closed = closed_at_end (run_at s rs) turns p.happenings p.fits over;
+              stands =
+                  rests_stands instance (length a.world.device) all d.world.device stands.header.size stands.header.small (part.history stands.history)
+                  (rests_now instance rs s a.world b.world opening stands all said d.world goes);
+              ends = whole_ends all said part goes;
+            };
         other_device = λ e. cc;
       })
 
@@ -298,8 +324,16 @@ not_opened turns status instance rs a b not_done not_device good quiet stands =
       sent = λ ch.
           let sent = serves_part_sent program_readers start a b ch part in
           record { unsent = sent.unsent; sent = sent.sent };
-      legal = subst IsLegal (sym (append-nil rs)) stands.history.legal;
-      moments = not_opened_moments instance rs [] a.world b.world good stands;
+      history = subst AreHistory (sym (append-nil rs)) stands.history;
+      moments =
+          subst (λ (l : List Record). EachMoment instance rs l (with_levels 0 good.added) [] a.world.device) (sym (append-nil rs))
+          (not_opened_moments instance rs a.world b.world good stands);
+      unsynced =
+          subst (λ (l : List Record). EachMomentUnsynced instance rs l (with_levels 0 good.added) [] a.world.device) (sym (append-nil rs))
+          (not_opened_unsynced instance rs a.world b.world good stands);
+      stops =
+          subst (λ (l : List Record). EachStopStands instance rs l (with_levels 0 good.added ++ []) a.world.device) (sym (append-nil rs))
+          (stops_stand instance rs rs a.world.device (first_self rs) stands.history (with_levels 0 good.added) [] (not_opened_moments instance rs a.world b.world good stands));
       whole = λ e. absurd (not_done e);
       other_device = not_device;
     }

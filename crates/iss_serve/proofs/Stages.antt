@@ -2,10 +2,10 @@
 use Rattle.std.proofs.Common.{◌≡◌, ℕ, ◌≤◌, inl, true, List, [], ◌∷◌, ◌++◌, length, Option, refl, sym, ap, subst, ◌∙◌, append-nil, arith}
 use Rattle.iss_edge.specs.declared.outside.Action.{Action}
 use Rattle.iss_edge.specs.Outer.{Outer, Adds}
-use Rattle.iss_edge.specs.Stretches.{actions_of, IsGood}
+use Rattle.iss_edge.specs.Stretches.{actions_of}
 use Rattle.iss_edge.specs.World.{Told}
 use Rattle.iss_edge.proofs.Tolds.{told_map, told_then, told_self}
-use Rattle.iss_journal.specs.Region.{Region, RestsFirst, StandsFirst}
+use Rattle.iss_journal.specs.Region.{Region}
 use Rattle.iss_model.specs.declared.call.CallId.{CallId}
 use Rattle.iss_model.specs.declared.input.Record.{Record}
 use Rattle.iss_agreement.proofs.Records.{records_history}
@@ -15,12 +15,13 @@ use Rattle.iss_model.specs.run.Runs.{Run}
 use Rattle.iss_serving.specs.Sessions.{Readers, Session, Queued, count}
 use Rattle.iss_serving.specs.Happenings.{session_change, session_after, session_steps, IsNext}
 use Rattle.iss_serving.proofs.Runs.{run_item}
-use Rattle.iss_serving.proofs.StillSteps.{stretch_goes_on}
 use Rattle.iss_serving.specs.Sendings.{Sends}
 use Rattle.iss_serving.proofs.DesksInSessions.{with_desk}
 use Rattle.iss_sessions.specs.Program.{program_readers}
 use Rattle.iss_store.specs.Values.{StoreNow}
-use Rattle.iss_store.specs.Standing.{region_of, region_under, bodies_of, StandsFor}
+use Rattle.iss_store.specs.Standing.{region_of, region_under, StandsFor}
+use Rattle.iss_store.specs.Goings as device
+use Rattle.iss_store.proofs.Goings as joins
 use Rattle.iss_store.proofs.Histories.{count_on_book}
 use Rattle.iss_serve.specs.Goings.{has_come, records_in, Goes, GoesPart}
 use Rattle.iss_serve.specs.Held.{HeldNow, Stage, idle, to_judge, answers_unreached, session_at}
@@ -141,21 +142,18 @@ told_some_as x x' o p e t = subst (λ (s : Stage). Told (ServesSome s) o p) e t
 heard_goes_part : (read : Readers) (region : Region) (s : Session) (item : Item) (a b : Outer) → IsNext s item → Adds [] (item.answer ∷ []) a b → GoesPart read region s a b
 heard_goes_part read region s item a b next adds =
     let t = session_after read s (hears item ∷ []) in
-    let number : count t ≡ count s = ap (λ (run : Run). length run.history.records) (run_item read s item s.desk.tasks) in
+    let same : records_in t ≡ records_in s = ap (λ (run : Run). run.history.records) (run_item read s item s.desk.tasks) in
     record {
       happenings = hears item ∷ [];
       heard = adds.heard;
       fits = (next, tt);
-      steps = [];
+      said = [];
       undone = session_steps read s (hears item ∷ []);
-      grew = adds.trace;
-      done = refl;
-      good =
-          λ later.
-          let all = records_in t ++ later in
-          let most : count s ≤ count s = omega arith in
-          subst (λ (n : ℕ). IsGood (RestsFirst region (bodies_of all)) (StandsFirst region (bodies_of all)) (count s) n []) (sym number)
-          (stretch_goes_on (RestsFirst region (bodies_of all)) (StandsFirst region (bodies_of all)) read s [] (count s) (λ bytes rests. inl rests) most).good;
+      cut = refl;
+      part =
+          subst (λ (l : List Record). device.GoesPart region (records_in s) l [] a.world b.world) (sym same)
+          (joins.goes_part region (records_in s) (records_in s) [] a.world b.world
+          (joins.still_goes region (records_in s) [] a.world b.world tt tt adds.device adds.trace));
     }
 
 -- the session goes on to another stage of the same store

@@ -9,10 +9,9 @@ use Rattle.iss_edge.proofs.Tolds.{told_map, told_then, later_then, rose_later}
 use Rattle.iss_store.specs.declared.fault.OpenFault.{OpenFault}
 use Rattle.iss_store.specs.declared.fault.OpenFault.TheVariants as open_fault
 use Rattle.iss_store.specs.Values.{StoreNow}
-use Rattle.iss_store.specs.Opening.{Opens, OpensGood, ReadsAlone, OnRefused, OpenCause, IsOfDiskOrMemory}
+use Rattle.iss_store.specs.Opening.{Opens, OpensGood, ReadsAlone, OnRefused, OpenCause, IsOfDiskOrMemory, OpenedAs}
 use Rattle.iss_store.proofs.GoodDevices.{good_device}
 use Rattle.iss_store.proofs.ToldReadings.{told_both}
-use Rattle.iss_device.specs.Opened.{OpenedAs}
 use Rattle.iss_device.specs.Refusals.{RefusesExactly, opening_status}
 use Rattle.iss_device.proofs.Refusals.{told_refuses, opened_refuses}
 use Rattle.iss_serve.specs.declared.fault.ServeFault.{ServeFault}

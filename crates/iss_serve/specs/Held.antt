@@ -3,6 +3,7 @@ use Rattle.std.specs.Prelude.{◌≡◌, ◌-◌, ◌||◌, ℕ, Bool, true, Lis
 use Rattle.std.specs.List.{flat_map, list_all}
 use Rattle.iss_edge.specs.declared.outside.Channel.{Channel}
 use Rattle.iss_model.specs.declared.call.CallId.{CallId}
+use Rattle.iss_model.specs.declared.limits.TheConstants.{MOST_RECORDS}
 use Rattle.iss_model.specs.declared.input.Input.TheVariants as input
 use Rattle.iss_model.specs.declared.input.Outcome.TheVariants.{Connection}
 use Rattle.iss_model.specs.declared.input.Record.{Record}
@@ -157,6 +158,6 @@ pub record IsStillHeld (before after : Held) : Type 0 where
 abbrev pub IsOf : StoreNow → Held → Type 0
 IsOf s h = h.links.instance ≡ s.core.instance
 
--- how many bytes are left behind the end gate
-abbrev pub left_on : StoreNow → ℕ
-left_on s = s.place.to - s.place.gate
+-- how many records may still come
+abbrev pub records_left : StoreNow → ℕ
+records_left s = MOST_RECORDS - s.core.state.count

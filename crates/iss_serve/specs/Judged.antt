@@ -12,15 +12,15 @@ use Rattle.iss_store.specs.Values.{StoreNow, Plan, room_of}
 use Rattle.iss_store.specs.Planning.{Plans}
 use Rattle.iss_store.specs.Standing.{StandsFor}
 use Rattle.iss_serve.specs.declared.held.Held.{Held}
-use Rattle.iss_serve.specs.Held.{HeldNow, IsHeld, IsOf, left_on}
+use Rattle.iss_serve.specs.Held.{HeldNow, IsHeld, IsOf, records_left}
 
--- An input was judged: a record was made, so that less is left of the device, or no call more has an answer that is to be judged.
+-- An input was judged: a record was made, so that fewer may still come, or no call more has an answer that is to be judged.
 pub record Judges (store next : StoreNow) (before after : Held) : Type 0 where
   pub held : IsHeld after
   pub instance : IsOf next after
   pub turns : after.turns ≡ before.turns
   pub to : next.place.to ≡ store.place.to
-  pub moves : (left_on next < left_on store) ⊎ ((left_on next ≡ left_on store) × (after.unreached.items ≡ before.unreached.items))
+  pub moves : (records_left next < records_left store) ⊎ ((records_left next ≡ records_left store) × (after.unreached.items ≡ before.unreached.items))
 
 -- All inputs were judged: no call has an answer that is to be judged.
 pub record Settles (store next : StoreNow) (before after : Held) : Type 0 where

@@ -1,13 +1,13 @@
 -- What a run that serves does, whatever status it ends with.
 use Rattle.std.specs.Prelude.{◌≡◌, ℕ, zero, suc, ◌≤◌, ◌⊎◌, false, true, List, [], ◌∷◌, ◌++◌, Some, Result, Ok, Err, IfErr}
 use Rattle.iss_edge.specs.declared.outside.Channel.{Channel}
+use Rattle.iss_edge.specs.declared.outside.Action.{Action}
 use Rattle.iss_edge.specs.declared.outside.Arrival.TheVariants.{Client}
 use Rattle.iss_edge.specs.declared.outside.Answered.TheVariants.{Waited}
 use Rattle.iss_edge.specs.Outer.{Outer}
 use Rattle.iss_edge.specs.World.{World, Faults, Later, Rose, sent_on}
 use Rattle.iss_edge.specs.Stretches.{Step, actions_of}
 use Rattle.iss_model.specs.declared.input.Record.{Record}
-use Rattle.iss_model.specs.rules.Histories.{IsLegal}
 use Rattle.iss_serving.specs.Items.{Item, Happening, hears, answers_of}
 use Rattle.iss_serving.specs.Sessions.{Session, session_of}
 use Rattle.iss_serving.specs.Happenings.{session_after, session_steps, last_steps, Fits, IsComplete}
@@ -15,13 +15,14 @@ use Rattle.iss_serving.specs.Accepted.{session_records}
 use Rattle.iss_serving.specs.Openings.{left_open}
 use Rattle.iss_serving.specs.Turns.{waits_in}
 use Rattle.iss_sessions.specs.Program.{program_readers}
-use Rattle.iss_store.specs.Standing.{DeviceStandsFor}
+use Rattle.iss_store.specs.Standing.{AreHistory, DeviceStandsFor}
+use Rattle.iss_store.specs.Goings.{channel_steps}
 use Rattle.iss_store.specs.Opening.{AreOnDevice}
 use Rattle.iss_device.specs.Runs.{run_on_device}
-use Rattle.iss_device.specs.Moments.{EachMoment}
+use Rattle.iss_device.specs.Moments.{EachMoment, EachMomentUnsynced, EachStopStands, EndsAtRest}
 use Rattle.iss_serve.specs.declared.fault.ServeFault.{ServeFault}
 use Rattle.iss_serve.specs.declared.fault.ServeFault.TheVariants.{Device, Wait, Disk, OutOfMemory}
-use Rattle.iss_serve.specs.Goings.{channel_steps, NoWaitFailed}
+use Rattle.iss_serve.specs.Goings.{NoWaitFailed}
 
 -- the exit status of a run that serves
 abbrev pub status_of : {A : Type 0} → Result A ServeFault → ℕ
@@ -73,20 +74,23 @@ pub record AllClosed (s : Session) (happenings : List Happening) : Type 0 where
       → left_open ch.0 true (actions_of (all_steps_said (session_then s (before ++ hears item ∷ [])) after)) ≡ false
 
 -- What a run did that served to its end: no wait failed, nothing was left to hear, each channel has exactly the bytes that the session says, each was closed
--- behind its last bytes, and the device stands for the records that stood and those that the session made.
-pub record ServedWhole (instance : ℕ) (rs : List Record) (s : Session) (happenings : List Happening) (a b : World) : Type 0 where
+-- behind its last bytes, and the device stands for the records that stood and those that the session made. If the run began at rest, the
+-- next one begins there.
+pub record ServedWhole (instance : ℕ) (rs : List Record) (s : Session) (happenings : List Happening) (actions : List Action) (a b : World) : Type 0 where
   pub came : NoWaitFailed happenings
   pub complete : IsComplete (session_then s happenings)
   pub sent : (ch : ℕ) → sent_on ch b.trace ≡ sent_on ch a.trace ++ sent_on ch (actions_of (steps_said s happenings))
   pub closed : AllClosed s happenings
   pub stands : DeviceStandsFor instance (records_then rs s happenings) b.device
+  pub ends : EndsAtRest instance rs (records_then rs s happenings) actions a b
 
 -- What a run with this status and so many turns did that began with the session s, on a device that stands for these records. What it heard
 -- is what its session called for, in at most so many waits. The opening of the device writes to it and syncs it, and no more. What was done
 -- on channels behind it is what the session says, or a first part of it; and so are the bytes on each channel. At whatever moment it stops,
--- where the device stood firmly for them it stands for the records that stood and a first part of those that the session makes, all of them
--- legal, at least as many as the level of each text of which a byte went out; within the opening one more may stand, which is left behind.
--- At 0 all of it was done.
+-- where the device stood firmly for them it stands for the records that stood and a first part of those that the session makes, which are
+-- a history, at least as many as the level of each text of which a byte went out; within the opening one more may stand, which is left
+-- behind. So it does of a device with unsynced writes, once a sync of the opening has succeeded. The next run may begin with what a stop
+-- leaves. At 0 all of it was done.
 pub record ServeOn (turns status instance : ℕ) (rs : List Record) (s : Session) (a b : Outer) : Type 0 where
   pub happenings : List Happening
   pub heard : b.heard ≡ a.heard ++ answers_of happenings
@@ -98,9 +102,11 @@ pub record ServeOn (turns status instance : ℕ) (rs : List Record) (s : Session
   pub grew : b.world.trace ≡ a.world.trace ++ actions_of (opening ++ later)
   pub done : DoneAt status s happenings (channel_steps (opening ++ later))
   pub sent : (ch : ℕ) → SentInPart ch (steps_said s happenings) a.world b.world
-  pub legal : IsLegal (records_then rs s happenings)
+  pub history : AreHistory (records_then rs s happenings)
   pub moments : EachMoment instance rs (records_then rs s happenings) opening later a.world.device
-  pub whole : status ≡ 0 → ServedWhole instance rs s happenings a.world b.world
+  pub unsynced : EachMomentUnsynced instance rs (records_then rs s happenings) opening later a.world.device
+  pub stops : EachStopStands instance rs (records_then rs s happenings) (opening ++ later) a.world.device
+  pub whole : status ≡ 0 → ServedWhole instance rs s happenings (actions_of (opening ++ later)) a.world b.world
   pub other_device : status ≡ 4 → ⊥
 
 -- whichever records the device stands for, if any

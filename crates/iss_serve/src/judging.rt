@@ -8,7 +8,7 @@ ghost use Rattle.iss_store.specs.Planning.{IsPlanOf};
 ghost use Rattle.iss_store.specs.Saying.{IsDurableOf};
 ghost use Rattle.iss_store.specs.Serving.{tasks_of_record};
 ghost use Rattle.iss_serve.specs.Causes.{IsServeCaused};
-ghost use Rattle.iss_serve.specs.Held.{now_of, queued_as, answers_unreached, IsQueuedInForm, idle, to_judge, sending, CallsNumbered, IsHeld, IsStillHeld, IsOf, left_on};
+ghost use Rattle.iss_serve.specs.Held.{now_of, queued_as, answers_unreached, IsQueuedInForm, idle, to_judge, sending, CallsNumbered, IsHeld, IsStillHeld, IsOf, records_left};
 ghost use Rattle.iss_serve.specs.Judged.{Judges, Settles, judged_again, waiting_for, IsPlannedFor};
 ghost use Rattle.iss_serve.specs.Runs.{ServesOn, ServesSome};
 
@@ -146,7 +146,7 @@ fn judge_once<E: Edge>(
     ensures part { (rest : List session.Queued) → OnErr result (Told (ServesSome (to_judge store (now_of held.old) (queued_as queued.now ∷ rest)))
         (outer_of (E.told edge.old) (E.heard edge.old)) (outer_of (E.told edge.new) (E.heard edge.new))) }
     ensures judges { IfOk result (λ x. Judges store x.0 held.old held.new) }
-    ensures again { IfOk result (λ x. x.1 ≡ true → left_on x.0 < left_on store) }
+    ensures again { IfOk result (λ x. x.1 ≡ true → records_left x.0 < records_left store) }
     ensures caused { IsServeCaused (E.faults edge.old) (E.faults edge.new) result }
     ensures kept { E.extent edge.new ≡ E.extent edge.old }
 {
@@ -183,7 +183,7 @@ fn keep<E: Edge>(
     ensures part { (rest : List session.Queued) → OnErr result (Told (ServesSome (to_judge store (now_of held.old) (queued_as queued.now ∷ rest)))
         (outer_of (E.told edge.old) (E.heard edge.old)) (outer_of (E.told edge.new) (E.heard edge.new))) }
     ensures judges { IfOk result (λ next. Judges store next held.old held.new) }
-    ensures less { IfOk result (λ next. left_on next < left_on store) }
+    ensures less { IfOk result (λ next. records_left next < records_left store) }
     ensures caused { IsServeCaused (E.faults edge.old) (E.faults edge.new) result }
     ensures kept { E.extent edge.new ≡ E.extent edge.old }
 {

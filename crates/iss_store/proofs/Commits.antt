@@ -1,34 +1,44 @@
--- A commit's moments are those of the append of its record.
+-- A commit is a part of a run, as the append of its record is.
 use Rattle.std.proofs.Common.{◌≡◌, ℕ, ◌+◌, ◌≤◌, Bool, true, List, [], ◌∷◌, ◌++◌, length, take, refl, sym, ap, subst, ◌∙◌, arith}
 use Rattle.std.specs.Prelude.{Option, Err}
+use Rattle.iss_edge.specs.declared.outside.Action.{Action}
 use Rattle.iss_edge.specs.World.{World, Told, Faults, Rose}
+use Rattle.iss_edge.specs.Disk.{after_actions}
+use Rattle.iss_edge.specs.Puts.{Put, after_puts, actions_of_puts, Ran}
+use Rattle.iss_edge.specs.Stretches.{actions_of, IsGood, GoesOn, with_levels}
 use Rattle.iss_edge.proofs.Tolds.{told_map}
+use Rattle.iss_edge.proofs.PutStretches.{puts_bytes}
+use Rattle.iss_edge.proofs.StretchLemmas.{actions_of-leveled}
 use Rattle.iss_journal.specs.declared.fault.JournalFault.{JournalFault}
 use Rattle.iss_journal.specs.declared.fault.JournalFault.TheVariants.{Disk, NotFormatted, BadRecord, Full, OutOfMemory}
 use Rattle.iss_journal.specs.Place.{Place, free_at}
 use Rattle.iss_journal.specs.Region.{append_bytes, bytes_before_gate}
-use Rattle.iss_journal.specs.Append.{AppendsGood, AppendsGoing}
+use Rattle.iss_journal.specs.Append.{append_puts, AppendsGood, AppendsGoing}
 use Rattle.iss_journal.specs.Append as journal
 use Rattle.iss_journal.specs.Answers.{DiskCause, FullByNeed}
 use Rattle.iss_journal.proofs.Records.{length-behind}
 use Rattle.iss_model.specs.declared.input.Record.{Record}
+use Rattle.iss_model.specs.declared.limits.TheConstants.{MOST_RECORDS}
 use Rattle.iss_model.specs.declared.entry.Entry.{Entry}
 use Rattle.iss_model.specs.state.Cores.{CoreState, core_keeper}
 use Rattle.iss_model.specs.run.Rooms.{need_of}
 use Rattle.iss_model.specs.texts.Spelling.{spelling, is_record}
-use Rattle.iss_core.specs.Values.{CoreNow, Steps}
+use Rattle.iss_core.specs.Values.{CoreNow, IsNext, Steps}
 use Rattle.iss_store.specs.declared.fault.StoreFault.TheVariants as store
 use Rattle.iss_store.specs.Values.{StoreNow, Plan, IsFramed, IsStore, is_told_time}
 use Rattle.iss_store.specs.Numbers.{AreNumbered, IsNumbered}
-use Rattle.iss_store.specs.Standing.{region_under, bodies_of}
-use Rattle.iss_store.specs.Committing.{ComesNext, Commits, CommitsGood, CommitsGoing, CommitCause}
+use Rattle.iss_store.specs.Standing.{region_under, bodies_of, AreHistory, StandsFor, RestsAt, StandsAt}
+use Rattle.iss_store.specs.Goings.{channel_steps, Goes, GoesPart}
+use Rattle.iss_store.specs.Committing.{Commits, Keeps, KeepsPart, CommitCause}
 use Rattle.iss_store.proofs.Counts.{step_count}
+use Rattle.iss_store.proofs.Histories.{next_follows, history_more}
 use Rattle.iss_store.proofs.Lengths.{record_body}
+use Rattle.iss_store.proofs.NextRecords.{with_record, one_more, first_one, ComesNext, comes_next}
 use Rattle.iss_store.proofs.Numbered.{entries_numbered, step_numbered}
 use Rattle.iss_store.proofs.Regions.{bodies_end, take_bodies, bodies_more}
 
-comes_next : (s : StoreNow) (rs : List Record) (j : ℕ) (r : Record) → is_record r ≡ true → ComesNext s rs j r → journal.ComesNext (region_under s) (bodies_of rs) j (spelling r) s.place
-comes_next s rs j r spelled comes =
+journal_next : (s : StoreNow) (rs : List Record) (j : ℕ) (r : Record) → is_record r ≡ true → ComesNext s rs j r → journal.ComesNext (region_under s) (bodies_of rs) j (spelling r) s.place
+journal_next s rs j r spelled comes =
     record {
       is_body = record_body r spelled;
       next =
@@ -43,31 +53,86 @@ comes_next s rs j r spelled comes =
       to = refl;
     }
 
-commit_good : (s : StoreNow) (r : Record) (a b : World) → is_record r ≡ true → AppendsGood s.place (append_bytes (spelling r)) a b → CommitsGood s r a b
-commit_good s r a b spelled appends =
-    record {
-      part = appends.part;
-      good = λ rs j steps comes e. appends.good (region_under s) (bodies_of rs) j (spelling r) steps (comes_next s rs j r spelled comes) refl e;
-    }
+-- ---- what puts do isn't on channels
 
-commit_going : (s : StoreNow) (r : Record) (a b : World) → is_record r ≡ true → AppendsGoing s.place (append_bytes (spelling r)) a b → CommitsGoing s r a b
-commit_going s r a b spelled appends =
-    record {
-      made = appends.made;
-      goes_on = λ rs j steps comes e. appends.goes_on (region_under s) (bodies_of rs) j (spelling r) steps (comes_next s rs j r spelled comes) refl e;
-      stands = λ rs j comes rests. appends.shows (region_under s) (bodies_of rs) j (spelling r) (comes_next s rs j r spelled comes) refl rests;
-    }
+puts_on_device : (n : ℕ) (puts : List Put) → channel_steps (with_levels n (actions_of_puts puts)) ≡ []
+puts_on_device n [] = refl
+puts_on_device n (put ∷ puts) = puts_on_device n puts
+
+ran_on_device : (n : ℕ) (puts : List Put) (actions : List Action) → Ran puts actions → channel_steps (with_levels n actions) ≡ []
+ran_on_device n puts [] ran = refl
+ran_on_device n [] (action ∷ more) ran = absurd ran
+ran_on_device n (put ∷ puts) (write ∷ []) ran = ap (λ (w : Action). channel_steps (with_levels n (w ∷ []))) ran.1
+ran_on_device n (put ∷ puts) (write ∷ sync ∷ []) ran =
+    ap (λ (w : Action). channel_steps (with_levels n (w ∷ sync ∷ []))) ran.1 ∙ ap (λ (y : Action). channel_steps (with_levels n (y ∷ []))) ran.2
+ran_on_device n (put ∷ puts) (write ∷ sync ∷ action ∷ more) ran =
+    ap (λ (w : Action). channel_steps (with_levels n (w ∷ sync ∷ action ∷ more))) ran.0
+    ∙ ap (λ (y : Action). channel_steps (with_levels n (y ∷ action ∷ more))) ran.1
+    ∙ ran_on_device n puts (action ∷ more) ran.2
+
+-- ---- a commit as a part of a run
+
+module _ (s : StoreNow) (r : Record) (spelled : is_record r ≡ true) (next : IsNext s.core r) (a b : World) where
+  abbrev puts : List Put
+  puts = append_puts s.place.gate (append_bytes (spelling r))
+
+  stays_history : (rs : List Record) → StandsFor s rs → AreHistory rs → AreHistory (with_record rs r)
+  stays_history rs stands history = history_more rs r history (next_follows s.core rs r stands.core next) spelled
+
+  keeps_going : (rs : List Record) → StandsFor s rs → AppendsGoing s.place (append_bytes (spelling r)) a b → Goes (region_under s) rs (with_record rs r) [] a b
+  keeps_going rs stands appends =
+      let steps = with_levels 0 (actions_of_puts puts) in
+      let same : actions_of steps ≡ actions_of_puts puts = actions_of-leveled 0 (actions_of_puts puts) in
+      record {
+        more = first_one rs r;
+        steps = steps;
+        grew = appends.made.trace ∙ ap (λ (l : List Action). a.trace ++ l) (sym same);
+        done = puts_on_device 0 puts;
+        goes_on =
+            λ all first.
+            subst (λ (n : ℕ). GoesOn (RestsAt s all) (StandsAt s all) (RestsAt s all) (length rs) n steps) (sym (one_more rs r))
+            (appends.goes_on (region_under s) (bodies_of all) (length rs) (spelling r) steps (journal_next s all (length rs) r spelled (comes_next s rs all r stands first)) refl same);
+        leaves =
+            record {
+              leaves = λ d is.
+                  ap (λ (l : List Action). (after_actions d l).bytes) same ∙ puts_bytes puts d ∙ ap (λ (l : List ℕ). after_puts l puts) is ∙ sym appends.made.device;
+            };
+        history = stays_history rs stands;
+      }
+
+  keeps_partly : (rs : List Record) → StandsFor s rs → AppendsGood s.place (append_bytes (spelling r)) a b → GoesPart (region_under s) rs (with_record rs r) [] a b
+  keeps_partly rs stands appends =
+      let actions = appends.part.actions in
+      let steps = with_levels 0 actions in
+      let same : actions_of steps ≡ actions = actions_of-leveled 0 actions in
+      record {
+        more = first_one rs r;
+        steps = steps;
+        grew = appends.part.trace ∙ ap (λ (l : List Action). a.trace ++ l) (sym same);
+        done = ran_on_device 0 puts actions appends.part.ran;
+        good =
+            λ all first.
+            subst (λ (n : ℕ). IsGood (RestsAt s all) (StandsAt s all) (length rs) n steps) (sym (one_more rs r))
+            (appends.good (region_under s) (bodies_of all) (length rs) (spelling r) steps (journal_next s all (length rs) r spelled (comes_next s rs all r stands first)) refl same);
+        history = stays_history rs stands;
+      }
+
+  commit_keeps : AppendsGoing s.place (append_bytes (spelling r)) a b → Keeps s r a b
+  commit_keeps appends = record { left = appends.made.left; goes = λ rs stands. keeps_going rs stands appends }
+
+  commit_part : AppendsGood s.place (append_bytes (spelling r)) a b → KeepsPart s r a b
+  commit_part appends = record { left = appends.part.left; goes = λ rs stands. keeps_partly rs stands appends }
 
 -- ---- the same of what an edge tells
 
-told_commit_good : (s : StoreNow) (r : Record) (frame : List ℕ) (x y : Option World) → is_record r ≡ true → frame ≡ append_bytes (spelling r) → Told (AppendsGood s.place frame) x y → Told (CommitsGood s r) x y
-told_commit_good s r frame x y spelled framed told =
-    told_map (AppendsGood s.place (append_bytes (spelling r))) (CommitsGood s r) x y (λ a b appends. commit_good s r a b spelled appends)
+told_commit_part : (s : StoreNow) (r : Record) (frame : List ℕ) (x y : Option World) → is_record r ≡ true → IsNext s.core r → frame ≡ append_bytes (spelling r) → Told (AppendsGood s.place frame) x y → Told (KeepsPart s r) x y
+told_commit_part s r frame x y spelled next framed told =
+    told_map (AppendsGood s.place (append_bytes (spelling r))) (KeepsPart s r) x y (commit_part s r spelled next)
     (subst (λ (bytes : List ℕ). Told (AppendsGood s.place bytes) x y) framed told)
 
-told_commit_going : (s : StoreNow) (r : Record) (frame : List ℕ) (x y : Option World) → is_record r ≡ true → frame ≡ append_bytes (spelling r) → Told (AppendsGoing s.place frame) x y → Told (CommitsGoing s r) x y
-told_commit_going s r frame x y spelled framed told =
-    told_map (AppendsGoing s.place (append_bytes (spelling r))) (CommitsGoing s r) x y (λ a b appends. commit_going s r a b spelled appends)
+told_commit_keeps : (s : StoreNow) (r : Record) (frame : List ℕ) (x y : Option World) → is_record r ≡ true → IsNext s.core r → frame ≡ append_bytes (spelling r) → Told (AppendsGoing s.place frame) x y → Told (Keeps s r) x y
+told_commit_keeps s r frame x y spelled next framed told =
+    told_map (AppendsGoing s.place (append_bytes (spelling r))) (Keeps s r) x y (commit_keeps s r spelled next)
     (subst (λ (bytes : List ℕ). Told (AppendsGoing s.place bytes) x y) framed told)
 
 -- ---- why an append of what fits fails
@@ -86,17 +151,17 @@ frame_length : (r : Record) (p : Plan) (frame : List ℕ) → r ≡ p.accepted �
 frame_length r p frame same framed =
     ap (λ (bytes : List ℕ). length bytes) framed ∙ length-behind (spelling r) ∙ ap (λ (x : Record). need_of x) same
 
-pub kept_good : (s : StoreNow) (place : Place) (p : Plan) (r : Record) (frame : List ℕ) (x y : Option World) → place ≡ s.place → r ≡ p.accepted → IsFramed r frame → Told (AppendsGood place frame) x y → Told (CommitsGood s p.accepted) x y
-kept_good s place p r frame x y here same framed told =
-    told_commit_good s p.accepted frame x y
-    (subst (λ (a : Record). is_record a ≡ true) same framed.spelled)
+pub kept_part : (s : StoreNow) (place : Place) (p : Plan) (r : Record) (frame : List ℕ) (x y : Option World) → place ≡ s.place → r ≡ p.accepted → IsFramed r frame → IsNext s.core p.accepted → Told (AppendsGood place frame) x y → Told (KeepsPart s p.accepted) x y
+kept_part s place p r frame x y here same framed next told =
+    told_commit_part s p.accepted frame x y
+    (subst (λ (a : Record). is_record a ≡ true) same framed.spelled) next
     (subst (λ (a : Record). frame ≡ append_bytes (spelling a)) same framed.framed)
     (subst (λ (q : Place). Told (AppendsGood q frame) x y) here told)
 
-pub kept_going : (s : StoreNow) (place : Place) (p : Plan) (r : Record) (frame : List ℕ) (x y : Option World) → place ≡ s.place → r ≡ p.accepted → IsFramed r frame → Told (AppendsGoing place frame) x y → Told (CommitsGoing s p.accepted) x y
-kept_going s place p r frame x y here same framed told =
-    told_commit_going s p.accepted frame x y
-    (subst (λ (a : Record). is_record a ≡ true) same framed.spelled)
+pub kept : (s : StoreNow) (place : Place) (p : Plan) (r : Record) (frame : List ℕ) (x y : Option World) → place ≡ s.place → r ≡ p.accepted → IsFramed r frame → IsNext s.core p.accepted → Told (AppendsGoing place frame) x y → Told (Keeps s p.accepted) x y
+kept s place p r frame x y here same framed next told =
+    told_commit_keeps s p.accepted frame x y
+    (subst (λ (a : Record). is_record a ≡ true) same framed.spelled) next
     (subst (λ (a : Record). frame ≡ append_bytes (spelling a)) same framed.framed)
     (subst (λ (q : Place). Told (AppendsGoing q frame) x y) here told)
 
@@ -114,9 +179,9 @@ abbrev behind : Place → ℕ → Place
 behind place n = record { gate = place.gate + n; to = place.to }
 
 pub committed : (s : StoreNow) (core next : CoreNow) (place now : Place) (p : Plan) (r : Record) (frame : List ℕ) (made : List Entry) (number : ℕ) (is_time : Bool)
-    → core ≡ s.core → place ≡ s.place → r ≡ p.accepted → IsFramed r frame → Steps core next r made → now ≡ record { gate = place.gate + length frame; to = place.to } → number ≡ next.state.count → is_time ≡ is_told_time p
+    → core ≡ s.core → place ≡ s.place → r ≡ p.accepted → IsFramed r frame → Steps core next r made → now ≡ record { gate = place.gate + length frame; to = place.to } → number ≡ next.state.count → next.state.count ≤ MOST_RECORDS → is_time ≡ is_told_time p
     → Commits s p (record { core = next; place = now }) (record { number = number; entries = made; is_time = is_time })
-committed s core next place now p r frame made number is_time stood here same framed steps moved counted told =
+committed s core next place now p r frame made number is_time stood here same framed steps moved counted few told =
     record {
       stepped =
           subst (λ (a : Record). Steps s.core next a made) same
@@ -126,6 +191,7 @@ committed s core next place now p r frame made number is_time stood here same fr
           ∙ ap (λ (q : Place). behind q (length frame)) here
           ∙ ap (behind s.place) (frame_length r p frame same framed.framed);
       number = counted;
+      few = few;
       is_time = told;
     }
 
@@ -150,3 +216,13 @@ stays_store core next place now r frame made stood framed steps short moved =
       instance = omega (arith, stood.instance, steps.kept);
       numbered = subst IsNumbered (sym steps.state) (step_numbered core.state r stood.numbered);
     }
+
+-- so a device holds no more records than may stand
+most_records : (s : StoreNow) → IsStore s → s.core.state.count ≤ MOST_RECORDS
+most_records s is = omega (arith, is.behind, is.within, is.size)
+
+pub few_records : (core next : CoreNow) (place now : Place) (r : Record) (frame : List ℕ) (made : List Entry)
+    → IsStore (record { core = core; place = place }) → IsFramed r frame → Steps core next r made → length frame ≤ free_at place → now ≡ record { gate = place.gate + length frame; to = place.to }
+    → next.state.count ≤ MOST_RECORDS
+few_records core next place now r frame made stood framed steps short moved =
+    most_records (record { core = next; place = now }) (stays_store core next place now r frame made stood framed steps short moved)

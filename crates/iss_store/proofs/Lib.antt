@@ -2,6 +2,8 @@ pub mod Numbered
 pub mod Lengths
 pub mod Regions
 pub mod Histories
+pub mod NextRecords
+pub mod Goings
 pub mod Plans
 pub mod Commits
 pub mod Stays

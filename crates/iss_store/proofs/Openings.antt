@@ -1,11 +1,12 @@
 -- An opening's moments: a sync, reads, and the end gate closed.
-use Rattle.std.proofs.Common.{◌≡◌, ℕ, Bool, true, List, [], ◌∷◌, ◌++◌, length, take, refl, sym, ap, subst, ◌∙◌, append-nil, append_assoc, arith}
+use Rattle.std.proofs.Common.{◌≡◌, ℕ, Bool, true, false, List, [], ◌∷◌, ◌++◌, length, take, refl, sym, ap, subst, ◌∙◌, append-nil, append_assoc, arith}
 use Rattle.std.specs.Prelude.{slice_index}
 use Rattle.std.proofs.lemmas.List.{take_all, length-map}
 use Rattle.iss_edge.specs.declared.outside.Action.{Action}
 use Rattle.iss_edge.specs.declared.outside.Action.TheVariants.{Write, Sync}
 use Rattle.iss_edge.specs.Puts.{Put, one_put, Ran}
 use Rattle.iss_edge.specs.World.{World}
+use Rattle.iss_edge.specs.Disk.{after_action}
 use Rattle.iss_edge.specs.Stretches.{Step, actions_of, IsGood, GoesOn}
 use Rattle.iss_edge.proofs.StretchLemmas.{join, join_on, parts, none_goes_on, sync_goes_on}
 use Rattle.iss_journal.specs.Place.{Place}
@@ -21,7 +22,7 @@ use Rattle.iss_model.specs.texts.Spelling.{spelling}
 use Rattle.iss_core.specs.Values.{CoreNow}
 use Rattle.iss_store.specs.Values.{StoreNow}
 use Rattle.iss_store.specs.Standing.{region_of, bodies_of, DeviceStandsFor}
-use Rattle.iss_store.specs.Opening.{OpensStore, OpensGood, OpensGoing, ReadsCore, is_on_device, AreOnDevice}
+use Rattle.iss_store.specs.Opening.{OpensStore, OpensGood, OpensGoing, ReadsCore, is_on_device, AreOnDevice, SyncsFirst}
 use Rattle.iss_store.proofs.Regions.{bodies_end}
 
 -- ---- what is done on the device
@@ -48,12 +49,17 @@ did_nothing a b left trace =
       added = [];
       grew = trace ∙ sym (append-nil a.trace);
       on_device = tt;
+      syncs = tt;
       good =
           λ instance rs j steps has e.
           let region = region_of instance (length a.device) in
           let bodies = bodies_of rs in
           (none_goes_on (OpensFirst region bodies a.device) (OpenedOrOneMore region bodies a.device) j steps (λ bytes first. opens_unchanged region bodies a.device bytes j first) e).good;
     }
+
+syncs_alone : (ok : Bool) → SyncsFirst (Sync ok ∷ [])
+syncs_alone true = tt
+syncs_alone false = refl
 
 pub only_synced : (a b : World) (ok : Bool) → b.left ≡ a.left → b.trace ≡ a.trace ++ Sync ok ∷ [] → OpensGood a b
 only_synced a b ok left trace =
@@ -62,6 +68,7 @@ only_synced a b ok left trace =
       added = Sync ok ∷ [];
       grew = trace;
       on_device = (refl, tt);
+      syncs = syncs_alone ok;
       good =
           λ instance rs j steps has e.
           let region = region_of instance (length a.device) in
@@ -114,6 +121,7 @@ synced_then_closing c place a b d synced whole reads closes =
           ∙ ap (λ (t : List Action). t ++ closes.part.actions) synced.trace
           ∙ append_assoc a.trace (Sync true ∷ []) closes.part.actions;
       on_device = (refl, ran_on_device (one_put place.gate (0 ∷ [])) closes.part.actions closes.part.ran);
+      syncs = tt;
       good =
           λ instance rs j steps has e.
           let starts = OpensFirst (region_of instance (length b.device)) (bodies_of rs) b.device in
@@ -192,6 +200,9 @@ synced_then_closed c place a b d synced whole reads closes =
           λ rs instance stands.
           subst (λ (l : List ℕ). RestsFirst (region_of instance (length l)) (bodies_of rs) d.device (length rs)) synced.device
           (closed_at_end c place instance rs b d reads whole (subst (λ (l : List ℕ). DeviceStandsFor instance rs l) (sym synced.device) stands) closes);
+      leaves = λ d is. closes.leaves (after_action d (Sync true)) (is ∙ sym synced.device);
+      behind = closes.part.actions;
+      synced = refl;
     }
 
 -- ---- what was opened

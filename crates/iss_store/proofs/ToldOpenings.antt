@@ -18,7 +18,7 @@ use Rattle.iss_store.specs.declared.fault.OpenFault.{OpenFault}
 use Rattle.iss_store.specs.declared.fault.OpenFault.TheVariants.{Disk, NotFormatted, BadRecord, BadSpelling, BadHistory, OutOfMemory}
 use Rattle.iss_store.specs.Faults.{fault_of_reading}
 use Rattle.iss_store.specs.Values.{StoreNow}
-use Rattle.iss_store.specs.Opening.{BadRecordAt, BadSpellingAt, BadHistoryAt, Opens, OpensStore, OpensGood, OpensGoing, ReadsCore, ReadsAll, ReadsAlone, OnRefused}
+use Rattle.iss_store.specs.Opening.{BadRecordAt, BadSpellingAt, BadHistoryAt, Opens, OpensStore, OpensGood, OpensGoing, OpenedAs, ReadsCore, ReadsAll, ReadsAlone, OnRefused}
 use Rattle.iss_store.proofs.ToldReadings.{told_both}
 use Rattle.iss_store.proofs.Openings.{SyncedAlone, did_nothing, only_synced, synced_then_closing, synced_then_closed, opens_store}
 
@@ -28,7 +28,7 @@ on_refused NotFormatted P p = p
 on_refused (BadRecord gate) P p = p
 on_refused (BadSpelling gate) P p = p
 on_refused (BadHistory gate) P p = p
-on_refused OutOfMemory P p = tt
+on_refused OutOfMemory P p = p
 
 pub told_unopened : (x y : Option World) → Told Same x y → Told OpensGood x y
 told_unopened x y same = told_map Same OpensGood x y (λ a b s. did_nothing a b s.left s.trace) same
@@ -192,3 +192,11 @@ pub told_refused_records : (fault : OpenFault) (w x y z : Option World) → Told
 told_refused_records fault w x y z first syncs second =
     on_refused fault (Told ReadsAlone w z)
     (told_map SyncedAlone ReadsAlone w z (λ a b s. record { device = s.device; left = s.left; trace = inr s.trace }) (told_still_synced w x y z first syncs second))
+
+-- ---- a device that opened
+
+pub told_opened : (s : StoreNow) (size : ℕ) (x y : Option World) → Sized size x → s.place.to ≡ size → Told (Opens (Ok s)) x y → Told OpensGood x y → Told OpensGoing x y → Told (OpenedAs s) x y
+told_opened s size x y sized to opens good going =
+    told_sized size (λ a b. (Opens (Ok s) a b × OpensGood a b) × OpensGoing a b) (OpenedAs s) x y sized
+    (λ a b here p. record { size = to ∙ sym here; opens = p.0.0; good = p.0.1; going = p.1 })
+    (told_both (λ a b. Opens (Ok s) a b × OpensGood a b) OpensGoing x y (told_both (Opens (Ok s)) OpensGood x y opens good) going)

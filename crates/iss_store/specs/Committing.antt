@@ -1,12 +1,8 @@
 -- What a commit does, and what it leaves at each of its moments.
-use Rattle.std.specs.Prelude.{◌≡◌, ℕ, ◌+◌, List, [], ◌∷◌, ◌++◌, take, length, Result, Ok, Err, IsErrOf, if◌then◌else◌}
+use Rattle.std.specs.Prelude.{◌≡◌, ℕ, ◌+◌, ◌≤◌, List, [], ◌∷◌, ◌++◌, length, Result, Ok, Err, IsErrOf, if◌then◌else◌}
 use Rattle.iss_edge.specs.World.{World, Faults, Later, Rose}
-use Rattle.iss_edge.specs.Puts.{actions_of_puts, Puts, PutsPart}
-use Rattle.iss_edge.specs.Stretches.{Step, actions_of, IsGood, GoesOn}
-use Rattle.iss_journal.specs.Region.{append_bytes}
-use Rattle.iss_journal.specs.Append.{append_puts}
 use Rattle.iss_model.specs.declared.input.Record.{Record}
-use Rattle.iss_model.specs.texts.Spelling.{spelling}
+use Rattle.iss_model.specs.declared.limits.TheConstants.{MOST_RECORDS}
 use Rattle.iss_model.specs.rules.Stepping.{step}
 use Rattle.iss_model.specs.rules.Histories.{history_keeper, history_of}
 use Rattle.iss_model.specs.run.Sayings.{Said, said_of_time, reaction_to_record}
@@ -15,13 +11,15 @@ use Rattle.iss_core.specs.Values.{Steps}
 use Rattle.iss_store.specs.declared.fault.StoreFault.{StoreFault}
 use Rattle.iss_store.specs.declared.fault.StoreFault.TheVariants.{Disk, Output, OutOfMemory}
 use Rattle.iss_store.specs.Values.{StoreNow, Plan, DurableNow, is_told_time, said_of}
-use Rattle.iss_store.specs.Standing.{StandsFor, RestsAt, StandsAt}
+use Rattle.iss_store.specs.Standing.{StandsFor, region_under}
+use Rattle.iss_store.specs.Goings.{Goes, GoesPart}
 
--- A record was committed: the core took it up, the end gate is behind it, and this is what it has to say.
+-- A record was committed: the core took it up, the end gate is behind it, and this is what it has to say. No more records stand than may.
 pub record Commits (before : StoreNow) (p : Plan) (after : StoreNow) (d : DurableNow) : Type 0 where
   pub stepped : Steps before.core after.core p.accepted d.entries
   pub place : after.place ≡ record { gate = before.place.gate + need_of p.accepted; to = before.place.to }
   pub number : d.number ≡ after.core.state.count
+  pub few : after.core.state.count ≤ MOST_RECORDS
   pub is_time : d.is_time ≡ is_told_time p
 
 -- What a record has to say by the book: what its entries say, and that a time was taken, unless it only goes before an answer.
@@ -37,25 +35,15 @@ pub record CommitsOnBook (after : StoreNow) (rs : List Record) (p : Plan) (d : D
   pub entries : d.entries ≡ (step history_keeper (history_of rs) p.accepted).entries
   pub said : said_of d ≡ said_on_book rs p
 
--- after the first j of these records, for which the store stands, this one comes next
-pub record ComesNext (s : StoreNow) (rs : List Record) (j : ℕ) (r : Record) : Type 0 where
-  pub stands : StandsFor s (take j rs)
-  pub next : take (j + 1) rs ≡ take j rs ++ r ∷ []
+-- A record was made to last: whatever records the store stood for, the run goes on from those to one more. Nothing was done on channels.
+pub record Keeps (s : StoreNow) (r : Record) (a b : World) : Type 0 where
+  pub left : b.left ≡ a.left
+  pub goes : (rs : List Record) → StandsFor s rs → Goes (region_under s) rs (rs ++ r ∷ []) [] a b
 
--- A record's length, body and closed gate were put behind the end gate, and then the gate was opened, or a part of that was done. That
--- is good from j records to one more: each image of each moment stands for the old records, maybe with the new one left behind, or also for the new one.
-pub record CommitsGood (s : StoreNow) (r : Record) (a b : World) : Type 0 where
-  pub part : PutsPart (append_puts s.place.gate (append_bytes (spelling r))) a b
-  pub good : (rs : List Record) (j : ℕ) (steps : List Step) → ComesNext s rs j r → actions_of steps ≡ part.actions
-      → IsGood (RestsAt s rs) (StandsAt s rs) j (j + 1) steps
-
--- All of that was done, and the run may go on after it: the device is then at rest and stands for the new record too, as it does when read.
-pub record CommitsGoing (s : StoreNow) (r : Record) (a b : World) : Type 0 where
-  pub made : Puts (append_puts s.place.gate (append_bytes (spelling r))) a b
-  pub goes_on : (rs : List Record) (j : ℕ) (steps : List Step) → ComesNext s rs j r
-      → actions_of steps ≡ actions_of_puts (append_puts s.place.gate (append_bytes (spelling r)))
-      → GoesOn (RestsAt s rs) (StandsAt s rs) (RestsAt s rs) j (j + 1) steps
-  pub stands : (rs : List Record) (j : ℕ) → ComesNext s rs j r → RestsAt s rs a.device j → RestsAt s rs b.device (j + 1)
+-- a part of that was done: the device stands for the old records, or also for the new one
+pub record KeepsPart (s : StoreNow) (r : Record) (a b : World) : Type 0 where
+  pub left : b.left ≡ a.left
+  pub goes : (rs : List Record) → StandsFor s rs → GoesPart (region_under s) rs (rs ++ r ∷ []) [] a b
 
 -- the gate was opened: nothing failed, or memory alone was wanting, behind the gate
 abbrev pub WhereItLasts : {T : Type 0} → Result T StoreFault → Type 0 → Type 0

@@ -1,6 +1,7 @@
 pub mod Numbers
 pub mod Values
 pub mod Standing
+pub mod Goings
 pub mod Faults
 pub mod Planning
 pub mod Committing

@@ -3,6 +3,8 @@ use Rattle.std.specs.Prelude.{◌≡◌, ◌⊎◌, ℕ, ◌+◌, Bool, true, fa
 use Rattle.iss_edge.specs.declared.outside.Action.{Action}
 use Rattle.iss_edge.specs.declared.outside.Action.TheVariants.{Write, Sync, Emit, Dial, Close}
 use Rattle.iss_edge.specs.World.{World, Faults, Later, Rose}
+use Rattle.iss_edge.specs.Disk.{after_actions}
+use Rattle.iss_edge.specs.Disk as disks
 use Rattle.iss_edge.specs.Stretches.{Step, actions_of, IsGood, GoesOn}
 use Rattle.iss_journal.specs.Place.{Place}
 use Rattle.iss_journal.specs.Region.{RestsFirst}
@@ -107,29 +109,41 @@ pub record ReadsAlone (a b : World) : Type 0 where
   pub left : b.left ≡ a.left
   pub trace : (b.trace ≡ a.trace) ⊎ (b.trace ≡ a.trace ++ Sync true ∷ [])
 
--- where a device was read and is none of a store
+-- where a device was not opened, and no call on it failed
 abbrev pub OnRefused : {T : Type 0} → Result T OpenFault → Type 0 → Type 0
 OnRefused (Ok value) P = Unit {0}
 OnRefused (Err Disk) P = Unit {0}
-OnRefused (Err OutOfMemory) P = Unit {0}
+OnRefused (Err OutOfMemory) P = P
 OnRefused (Err NotFormatted) P = P
 OnRefused (Err (BadRecord gate)) P = P
 OnRefused (Err (BadSpelling gate)) P = P
 OnRefused (Err (BadHistory gate)) P = P
 
+-- no write stands before the first sync, and after a sync that failed nothing was done
+abbrev pub SyncsFirst : List Action → Type 0
+SyncsFirst [] = Unit {0}
+SyncsFirst (Sync true ∷ more) = Unit {0}
+SyncsFirst (Sync false ∷ more) = more ≡ []
+SyncsFirst (Write at bytes ok ∷ more) = ⊥
+SyncsFirst (Emit ch bytes ok ∷ more) = ⊥
+SyncsFirst (Dial ch ∷ more) = ⊥
+SyncsFirst (Close ch ∷ more) = ⊥
+
 -- What an opening does is good, whichever records the device stands for at its start: each image of each moment stands for them, with nothing
--- left behind or with what was, or also for the one that was left behind at the start.
+-- left behind or with what was, or also for the one that was left behind at the start. It begins with a sync.
 pub record OpensGood (a b : World) : Type 0 where
   pub left : b.left ≡ a.left
   pub added : List Action
   pub grew : b.trace ≡ a.trace ++ added
   pub on_device : AreOnDevice added
+  pub syncs : SyncsFirst added
   pub good : (instance : ℕ) (rs : List Record) (j : ℕ) (steps : List Step)
       → HasInstance a.device instance → actions_of steps ≡ added
       → IsGood (OpensFirst (region_of instance (length a.device)) (bodies_of rs) a.device)
       (OpenedOrOneMore (region_of instance (length a.device)) (bodies_of rs) a.device) j j steps
 
--- And the run may go on after it: the device is then at rest and stands for the same records, with an end gate of 0.
+-- And the run may go on after it: the device is then at rest and stands for the same records, with an end gate of 0. It reads as it was
+-- left, and the first sync succeeded.
 pub record OpensGoing (a b : World) : Type 0 where
   pub left : b.left ≡ a.left
   pub added : List Action
@@ -141,11 +155,16 @@ pub record OpensGoing (a b : World) : Type 0 where
       (RestsFirst (region_of instance (length a.device)) (bodies_of rs)) j j steps
   pub rests : (rs : List Record) (instance : ℕ) → DeviceStandsFor instance rs a.device
       → RestsFirst (region_of instance (length a.device)) (bodies_of rs) b.device (length rs)
+  pub leaves : (d : disks.Disk) → d.bytes ≡ a.device → (after_actions d added).bytes ≡ b.device
+  pub behind : List Action
+  pub synced : added ≡ Sync true ∷ behind
 
--- where the device was opened
-abbrev pub OnOpened : {T : Type 0} → Result T OpenFault → Type 0 → Type 0
-OnOpened (Ok value) P = P
-OnOpened (Err fault) P = Unit {0}
+-- The device was opened: the store stands for what it stood for, and what was done for it is good.
+pub record OpenedAs (s : StoreNow) (a b : World) : Type 0 where
+  pub size : s.place.to ≡ length a.device
+  pub opens : OpensStore s a.device
+  pub good : OpensGood a b
+  pub going : OpensGoing a b
 
 -- no count of faults has fallen, and a fault of the disk has the disk's count risen
 pub record OpenCause {T : Type 0} (before now : Faults) (result : Result T OpenFault) : Type 0 where

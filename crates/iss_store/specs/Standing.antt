@@ -39,10 +39,17 @@ pub record DeviceStandsFor (instance : ℕ) (rs : List Record) (device : List �
   pub history : AreHistory rs
   pub shows : Shows (region_of instance (length device)) (bodies_of rs) device
 
--- where a stretch on a store's device starts and ends: at the first i of these records, with an end gate of 0
-abbrev pub RestsAt : StoreNow → List Record → List ℕ → ℕ → Type 0
-RestsAt s rs image i = RestsFirst (region_under s) (bodies_of rs) image i
+-- where a stretch on a region starts and ends: at the first i of these records, with an end gate of 0
+abbrev pub RestsIn : Region → List Record → List ℕ → ℕ → Type 0
+RestsIn region rs image i = RestsFirst region (bodies_of rs) image i
 
--- what a stop may leave within a stretch on a store's device: the first i of these records, with nothing or the next of them left behind
+-- what a stop may leave within a stretch on a region: the first i of these records, with nothing or the next of them left behind
+abbrev pub StandsIn : Region → List Record → List ℕ → ℕ → Type 0
+StandsIn region rs image i = StandsFirst region (bodies_of rs) image i
+
+-- the same on a store's device
+abbrev pub RestsAt : StoreNow → List Record → List ℕ → ℕ → Type 0
+RestsAt s = RestsIn (region_under s)
+
 abbrev pub StandsAt : StoreNow → List Record → List ℕ → ℕ → Type 0
-StandsAt s rs image i = StandsFirst (region_under s) (bodies_of rs) image i
+StandsAt s = StandsIn (region_under s)

@@ -3,7 +3,7 @@ ghost use Rattle.std.specs.Prelude.{◌≡◌, ◌+◌, ◌*◌, ◌<◌, ◌≤
 ghost use Rattle.iss_edge.specs.World.{Told};
 ghost use Rattle.iss_edge.specs.Calls.{Same, HearsNothing};
 ghost use Rattle.iss_store.specs.Numbers.{IsNumbered};
-ghost use Rattle.iss_store.specs.Opening.{Opens, OpensGood, OpensGoing, OnOpened, OnRefused, ReadsAlone, OpenCause, TakesIn, ReadsAll};
+ghost use Rattle.iss_store.specs.Opening.{Opens, OpensGood, OpenedAs, OnRefused, ReadsAlone, OpenCause, TakesIn, ReadsAll};
 
 use crate::OpenFault;
 use crate::store::{HEAD, Store};
@@ -30,7 +30,7 @@ impl Store {
         ensures opens { Told (Opens result) (E.told edge.old) (E.told edge.new) }
         ensures moments { Told OpensGood (E.told edge.old) (E.told edge.new) }
         ensures refused { OnRefused result (Told ReadsAlone (E.told edge.old) (E.told edge.new)) }
-        ensures rests { OnOpened result (Told OpensGoing (E.told edge.old) (E.told edge.new)) }
+        ensures opened { IfOk result (λ store. Told (OpenedAs store) (E.told edge.old) (E.told edge.new)) }
         ensures size { IfOk result (λ store. store.place.to ≡ E.extent edge.new) }
         ensures cause { OpenCause (E.faults edge.old) (E.faults edge.new) result }
         ensures heard { Told HearsNothing (E.heard edge.old) (E.heard edge.new) }

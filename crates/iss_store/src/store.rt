@@ -14,7 +14,7 @@ ghost use Rattle.iss_core.specs.Values.{IsNext};
 ghost use Rattle.iss_store.specs.Values.{room_of};
 ghost use Rattle.iss_store.specs.Standing.{StandsFor};
 ghost use Rattle.iss_store.specs.Planning.{IsPlanOf, judged_at, Plans, made_of};
-ghost use Rattle.iss_store.specs.Committing.{Commits, CommitsOnBook, CommitsGood, CommitsGoing, WhereItLasts, CommitCause};
+ghost use Rattle.iss_store.specs.Committing.{Commits, CommitsOnBook, Keeps, KeepsPart, WhereItLasts, CommitCause};
 
 use crate::{Durable, PlanFault, Planned, StoreFault};
 use iss_codec::put_record;
@@ -121,9 +121,9 @@ impl Store {
         ensures committed { IfOk result (λ x. Commits self planned x.0 x.1) }
         ensures on_book { (rs : List Record) → StandsFor self rs
             → IfOk result (λ x. CommitsOnBook x.0 rs planned x.1) }
-        ensures moments { Told (CommitsGood self planned.accepted) (E.told edge.old) (E.told edge.new) }
+        ensures moments { Told (KeepsPart self planned.accepted) (E.told edge.old) (E.told edge.new) }
         ensures lasts { WhereItLasts result
-            (Told (CommitsGoing self planned.accepted) (E.told edge.old) (E.told edge.new)) }
+            (Told (Keeps self planned.accepted) (E.told edge.old) (E.told edge.new)) }
         ensures cause { CommitCause (E.faults edge.old) (E.faults edge.new) result }
         ensures heard { Told HearsNothing (E.heard edge.old) (E.heard edge.new) }
         ensures kept { E.extent edge.new ≡ E.extent edge.old }

@@ -17,7 +17,8 @@ use Rattle.iss_texts.specs.Sending.{Says, SaysSome}
 use Rattle.iss_device.specs.Runs.{run_at}
 use Rattle.iss_top.specs.Lines.{parts_of, all_but_last}
 use Rattle.iss_top.specs.Progress.{is_output}
-use Rattle.iss_top.specs.Replaying.{told_lines, is_of_run, outputs_of, output_levels, AreFirstOf, Goes, GoesPart, GoesWhole, RunsAs, RunsOnBook}
+use Rattle.iss_store.specs.Goings.{AreFirstOf}
+use Rattle.iss_top.specs.Replaying.{told_lines, is_of_run, outputs_of, output_levels, Goes, GoesPart, GoesWhole, RunsAs, RunsOnBook}
 use Rattle.iss_top.proofs.Goings.{goes_then, goes_then_part, part_more, says_goes, says_goes_part}
 use Rattle.iss_top.proofs.ToldLines.{told_from_start, records_first}
 
@@ -95,8 +96,8 @@ lines_from_start status s rs took b c d left begins lines =
       rs' = lines.rs';
       records = subst (λ (l : List (List ℕ)). AreFirstOf lines.rs' (told_from_start run l).run.history.records) input lines.records;
       goes =
-          subst (λ (l : List (List ℕ)). GoesPart s rs lines.rs' (told_from_start run l).texts b d) input
-          (goes_then_part s rs rs lines.rs' (first_texts run) told.texts b c d begins lines.goes);
+          subst (λ (l : List (List ℕ)). GoesPart (status ≡ 6) s rs lines.rs' (told_from_start run l).texts b d) input
+          (goes_then_part (status ≡ 6) s rs rs lines.rs' (first_texts run) told.texts b c d begins lines.goes);
       whole =
           λ e.
           let all = lines.whole e in (
@@ -112,12 +113,12 @@ pub stops_at_start : (status : ℕ) (s : StoreNow) (rs : List Record) (b c : Wor
 stops_at_start status s rs b c not_done not_input not_long on_book says =
     let run = run_at s rs in
     let told = told_lines run (parts_of (b.left 0)) in
-    let waited : GoesPart s rs rs (first_texts run) b c =
-    subst (λ (t : List Text). GoesPart s rs rs t b c) (waits s rs on_book) (says_goes_part s rs (texts_pending s) b c says) in
+    let waited : GoesPart (status ≡ 6) s rs rs (first_texts run) b c =
+    subst (λ (t : List Text). GoesPart (status ≡ 6) s rs rs t b c) (waits s rs on_book) (says_goes_part (status ≡ 6) s rs (texts_pending s) b c says) in
     record {
       rs' = rs;
       records = subst (λ (l : List Record). AreFirstOf l told.run.history.records) (records_history rs) (records_first run (parts_of (b.left 0)));
-      goes = part_more s rs rs (first_texts run) told.texts b c waited;
+      goes = part_more (status ≡ 6) s rs rs (first_texts run) told.texts b c waited;
       whole = λ e. absurd (not_done e);
       stopped = λ e. elim e [ inl at ↦ absurd (not_input at) | inr at ↦ absurd (not_long at) ];
     }

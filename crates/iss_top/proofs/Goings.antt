@@ -1,97 +1,55 @@
 -- Parts of a run on a device, one after the other, and those that only say something.
-use Rattle.std.proofs.Common.{◌≡◌, ℕ, ◌≤◌, ◌⊎◌, ◌&&◌, inl, inr, Bool, true, List, [], ◌∷◌, ◌++◌, length, map, refl, sym, ap, subst, ◌∙◌, append-nil, append_assoc, arith, length-append}
+use Rattle.std.proofs.Common.{◌≡◌, ℕ, ◌⊎◌, ◌&&◌, ◌==◌, inl, inr, Bool, true, false, cond, List, [], ◌∷◌, ◌++◌, length, refl, sym, ap, subst, ◌∙◌, append-nil, append_assoc}
 use Rattle.std.specs.List.{filter, list_all}
+use Rattle.std.proofs.lemmas.Bool.{and_parts}
 use Rattle.std.proofs.lemmas.List.{map-append}
-use Rattle.std.proofs.lemmas.List.Elements.{filter-append}
 use Rattle.std.proofs.lemmas.List.Folds.{list_all-append}
 use Rattle.iss_edge.specs.declared.outside.Action.{Action}
-use Rattle.iss_edge.specs.declared.outside.Action.TheVariants.{Emit}
+use Rattle.iss_edge.specs.declared.outside.Action.TheVariants.{Write, Sync, Emit, Dial, Close}
 use Rattle.iss_edge.specs.World.{World}
-use Rattle.iss_edge.specs.Stretches.{Step, actions_of, AreStill, with_levels}
-use Rattle.iss_edge.proofs.StretchLemmas.{join, join_on, good_up, actions_of-append, none_goes_on, still_append, still_goes_on, actions_of-leveled, sent_leveled}
+use Rattle.iss_edge.specs.Stretches.{Step, actions_of, is_still, AreStill, with_levels}
+use Rattle.iss_edge.proofs.StretchLemmas.{actions_of-append, still_append, actions_of-leveled, sent_leveled}
+use Rattle.iss_journal.specs.Region.{Region}
 use Rattle.iss_model.specs.declared.input.Record.{Record}
 use Rattle.iss_model.specs.run.Transcripts.{Text, at_level}
 use Rattle.iss_store.specs.Values.{StoreNow}
-use Rattle.iss_store.specs.Standing.{RestsAt, StandsAt}
+use Rattle.iss_store.specs.Standing.{region_under}
+use Rattle.iss_store.specs.Goings.{channel_steps}
+use Rattle.iss_store.specs.Goings as device
+use Rattle.iss_store.proofs.Goings as joins
 use Rattle.iss_texts.specs.Sending.{emits, FailsAt, GoOut, Says, SaysSome}
 use Rattle.iss_texts.proofs.Saying.{all_out}
 use Rattle.iss_top.specs.Dry.{each_bytes}
 use Rattle.iss_top.specs.Progress.{is_output}
-use Rattle.iss_top.specs.Replaying.{outputs_of, is_of_run, output_levels, levels_of, AreFirstOf, Goes, GoesPart}
+use Rattle.iss_top.specs.Replaying.{outputs_of, is_of_run, output_levels, levels_of, text_step, text_steps, step_levels, Goes, GoesPart}
 
--- ---- records that come first
+-- ---- texts as steps
 
-pub first_self : (rs : List Record) → AreFirstOf rs rs
-first_self rs = record { later = []; cut = sym (append-nil rs) }
+text_actions : (texts : List Text) → actions_of (text_steps texts) ≡ emits (each_bytes texts)
+text_actions [] = refl
+text_actions (text ∷ texts) = ap (λ (l : List Action). Emit (record { 0 = 0 }) text.bytes true ∷ l) (text_actions texts)
 
-pub first_then : (xs ys zs : List Record) → AreFirstOf xs ys → AreFirstOf ys zs → AreFirstOf xs zs
-first_then xs ys zs f g =
-    record {
-      later = f.later ++ g.later;
-      cut = g.cut ∙ ap (λ (l : List Record). l ++ g.later) f.cut ∙ append_assoc xs f.later g.later;
-    }
+text_levels : (texts : List Text) → step_levels (text_steps texts) ≡ levels_of texts
+text_levels [] = refl
+text_levels (text ∷ texts) = ap (λ (l : List ℕ). text.level ∷ l) (text_levels texts)
 
--- ---- what goes out of two parts
+steps_at : (n : ℕ) (texts : List (List ℕ)) → text_steps (at_level n texts) ≡ with_levels n (emits texts)
+steps_at n [] = refl
+steps_at n (text ∷ texts) = ap (λ (l : List Step). text_step (record { level = n; bytes = text }) ∷ l) (steps_at n texts)
 
-outputs_append : (x y : List Step) → outputs_of (actions_of (x ++ y)) ≡ outputs_of (actions_of x) ++ outputs_of (actions_of y)
-outputs_append x y = ap outputs_of (actions_of-append x y) ∙ filter-append is_output (actions_of x) (actions_of y)
+step_levels_then : (x y : List Step) → step_levels (x ++ y) ≡ step_levels x ++ step_levels y
+step_levels_then x y = map-append (λ (step : Step). step.level) x y
 
-levels_append : (x y : List Step) → output_levels (x ++ y) ≡ output_levels x ++ output_levels y
-levels_append x y =
-    let sends = λ (step : Step). is_output step.action in
-    ap (map (λ (step : Step). step.level)) (filter-append sends x y) ∙ map-append (λ (step : Step). step.level) (filter sends x) (filter sends y)
+bytes_at : (n : ℕ) (texts : List (List ℕ)) → each_bytes (at_level n texts) ≡ texts
+bytes_at n [] = refl
+bytes_at n (text ∷ texts) = ap (λ (l : List (List ℕ)). text ∷ l) (bytes_at n texts)
 
-emits_texts : (t u : List Text) → emits (each_bytes (t ++ u)) ≡ emits (each_bytes t) ++ emits (each_bytes u)
-emits_texts t u =
-    ap emits (map-append (λ (text : Text). text.bytes) t u)
-    ∙ map-append (λ (text : List ℕ). Emit (record { 0 = 0 }) text true) (each_bytes t) (each_bytes u)
-
-trace_append : (a b c : World) (x y : List Step) → b.trace ≡ a.trace ++ actions_of x → c.trace ≡ b.trace ++ actions_of y → c.trace ≡ a.trace ++ actions_of (x ++ y)
-trace_append a b c x y e f =
-    f ∙ ap (λ (t : List Action). t ++ actions_of y) e
-    ∙ append_assoc a.trace (actions_of x) (actions_of y)
-    ∙ ap (λ (t : List Action). a.trace ++ t) (sym (actions_of-append x y))
-
-both_true : (s t : Bool) → s ≡ true → t ≡ true → (s && t) ≡ true
-both_true s t p q = rw (p, q) refl
-
--- nothing is done but on the device and on channel 0
-abbrev pub AreOfRun : List Action → Type 0
-AreOfRun actions = list_all is_of_run actions ≡ true
-
-kinds_both : (x y : List Action) → AreOfRun x → AreOfRun y → AreOfRun (x ++ y)
-kinds_both x y first second = list_all-append is_of_run x y ∙ both_true (list_all is_of_run x) (list_all is_of_run y) first second
-
-kinds_append : (x y : List Step) → AreOfRun (actions_of x) → AreOfRun (actions_of y) → AreOfRun (actions_of (x ++ y))
-kinds_append x y first second = ap (list_all is_of_run) (actions_of-append x y) ∙ kinds_both (actions_of x) (actions_of y) first second
-
-emits_kinds : (texts : List (List ℕ)) → AreOfRun (emits texts)
-emits_kinds [] = refl
-emits_kinds (text ∷ texts) = emits_kinds texts
+-- ---- one after the other
 
 pub goes_then : (s : StoreNow) (rs rs' rs'' : List Record) (t u : List Text) (a b c : World) → Goes s rs rs' t a b → Goes s rs' rs'' u b c → Goes s rs rs'' (t ++ u) a c
 goes_then s rs rs' rs'' t u a b c f g =
-    record {
-      more = first_then rs rs' rs'' f.more g.more;
-      steps = f.steps ++ g.steps;
-      grew = trace_append a b c f.steps g.steps f.grew g.grew;
-      out =
-          outputs_append f.steps g.steps
-          ∙ ap (λ (l : List Action). l ++ outputs_of (actions_of g.steps)) f.out
-          ∙ ap (λ (l : List Action). emits (each_bytes t) ++ l) g.out
-          ∙ sym (emits_texts t u);
-      levels =
-          levels_append f.steps g.steps
-          ∙ ap (λ (l : List ℕ). l ++ output_levels g.steps) f.levels
-          ∙ ap (λ (l : List ℕ). levels_of t ++ l) g.levels
-          ∙ sym (map-append (λ (text : Text). text.level) t u);
-      goes_on =
-          λ all first.
-          join_on (RestsAt s all) (StandsAt s all) (RestsAt s all) (RestsAt s all) (length rs) (length rs') (length rs'') f.steps g.steps
-          (f.goes_on all (first_then rs' rs'' all g.more first)) (g.goes_on all first);
-      rests = λ start. g.rests (f.rests start);
-      kinds = kinds_append f.steps g.steps f.kinds g.kinds;
-    }
+    subst (λ (l : List Step). device.Goes (region_under s) rs rs'' l a c) (sym (map-append text_step t u))
+    (joins.goes_then (region_under s) rs rs' rs'' (text_steps t) (text_steps u) a b c f g)
 
 -- some of the texts that come behind others went out, and those others did
 out_then : (xs ys : List (List ℕ)) (actions : List Action) → GoOut ys actions → GoOut (xs ++ ys) (emits xs ++ actions)
@@ -108,61 +66,43 @@ out_then xs ys actions out =
       ended = out.ended;
     }
 
-pub goes_then_part : (s : StoreNow) (rs rs' rs'' : List Record) (t u : List Text) (a b c : World) → Goes s rs rs' t a b → GoesPart s rs' rs'' u b c → GoesPart s rs rs'' (t ++ u) a c
-goes_then_part s rs rs' rs'' t u a b c f g =
+pub goes_then_part : (failed : Type 0) (s : StoreNow) (rs rs' rs'' : List Record) (t u : List Text) (a b c : World) → Goes s rs rs' t a b → GoesPart failed s rs' rs'' u b c → GoesPart failed s rs rs'' (t ++ u) a c
+goes_then_part failed s rs rs' rs'' t u a b c f g =
+    let said = text_steps t ++ g.said in
     let bytes : each_bytes (t ++ u) ≡ each_bytes t ++ each_bytes u = map-append (λ (text : Text). text.bytes) t u in
-    let done : outputs_of (actions_of (f.steps ++ g.steps)) ≡ emits (each_bytes t) ++ outputs_of (actions_of g.steps) =
-    outputs_append f.steps g.steps ∙ ap (λ (l : List Action). l ++ outputs_of (actions_of g.steps)) f.out in
+    let done : actions_of said ≡ emits (each_bytes t) ++ actions_of g.said =
+    actions_of-append (text_steps t) g.said ∙ ap (λ (l : List Action). l ++ actions_of g.said) (text_actions t) in
+    let levels : levels_of t ++ step_levels g.said ≡ step_levels said =
+    ap (λ (l : List ℕ). l ++ step_levels g.said) (sym (text_levels t)) ∙ sym (step_levels_then (text_steps t) g.said) in
     record {
-      more = first_then rs rs' rs'' f.more g.more;
-      steps = f.steps ++ g.steps;
-      grew = trace_append a b c f.steps g.steps f.grew g.grew;
+      said = said;
       out =
-          subst (λ (l : List (List ℕ)). GoOut l (outputs_of (actions_of (f.steps ++ g.steps)))) (sym bytes)
+          subst (λ (l : List (List ℕ)). GoOut l (actions_of said)) (sym bytes)
           (subst (λ (l : List Action). GoOut (each_bytes t ++ each_bytes u) l) (sym done)
-          (out_then (each_bytes t) (each_bytes u) (outputs_of (actions_of g.steps)) g.out));
+          (out_then (each_bytes t) (each_bytes u) (actions_of g.said) g.out));
       levels = (
         g.levels.0,
         map-append (λ (text : Text). text.level) t u
             ∙ ap (λ (l : List ℕ). levels_of t ++ l) g.levels.1
-            ∙ sym (append_assoc (levels_of t) (output_levels g.steps) g.levels.0)
-            ∙ ap (λ (l : List ℕ). l ++ g.levels.0)
-            (sym (levels_append f.steps g.steps ∙ ap (λ (l : List ℕ). l ++ output_levels g.steps) f.levels)),
+            ∙ sym (append_assoc (levels_of t) (step_levels g.said) g.levels.0)
+            ∙ ap (λ (l : List ℕ). l ++ g.levels.0) levels,
       );
-      good =
-          λ all first.
-          join (RestsAt s all) (StandsAt s all) (RestsAt s all) (length rs) (length rs') (length rs'') f.steps g.steps
-          (f.goes_on all (first_then rs' rs'' all g.more first)) (g.good all first);
-      kinds = kinds_append f.steps g.steps f.kinds g.kinds;
+      part = joins.goes_then_part (region_under s) rs rs' rs'' (text_steps t) g.said a b c f g.part;
+      whole = elim g.whole [ inl goes ↦ inl (joins.goes_then (region_under s) rs rs' rs'' (text_steps t) g.said a b c f goes) | inr fails ↦ inr fails ];
     }
 
--- ---- what goes on is good
-
-pub goes_part : (s : StoreNow) (rs rs' : List Record) (t : List Text) (a b : World) → Goes s rs rs' t a b → GoesPart s rs rs' t a b
-goes_part s rs rs' t a b f =
+-- what goes on is good
+pub goes_part : (failed : Type 0) (s : StoreNow) (rs rs' : List Record) (t : List Text) (a b : World) → Goes s rs rs' t a b → GoesPart failed s rs rs' t a b
+goes_part failed s rs rs' t a b f =
     record {
-      more = f.more;
-      steps = f.steps;
-      grew = f.grew;
-      out = subst (λ (l : List Action). GoOut (each_bytes t) l) (sym f.out) (all_out (each_bytes t));
-      levels = ([], sym f.levels ∙ sym (append-nil (output_levels f.steps)));
-      good = λ all first. (f.goes_on all first).good;
-      kinds = f.kinds;
+      said = text_steps t;
+      out = subst (λ (l : List Action). GoOut (each_bytes t) l) (sym (text_actions t)) (all_out (each_bytes t));
+      levels = ([], sym (text_levels t) ∙ sym (append-nil (step_levels (text_steps t))));
+      part = joins.goes_part (region_under s) rs rs' (text_steps t) a b f;
+      whole = inl f;
     }
 
 -- ---- texts that are said where so many records stand
-
-bytes_at : (n : ℕ) (texts : List (List ℕ)) → each_bytes (at_level n texts) ≡ texts
-bytes_at n [] = refl
-bytes_at n (text ∷ texts) = ap (λ (l : List (List ℕ)). text ∷ l) (bytes_at n texts)
-
-outputs_emits : (texts : List (List ℕ)) → outputs_of (emits texts) ≡ emits texts
-outputs_emits [] = refl
-outputs_emits (text ∷ texts) = ap (λ (l : List Action). Emit (record { 0 = 0 }) text true ∷ l) (outputs_emits texts)
-
-levels_emits : (n : ℕ) (texts : List (List ℕ)) → output_levels (with_levels n (emits texts)) ≡ levels_of (at_level n texts)
-levels_emits n [] = refl
-levels_emits n (text ∷ texts) = ap (λ (l : List ℕ). n ∷ l) (levels_emits n texts)
 
 emits_still : (texts : List (List ℕ)) → AreStill (emits texts)
 emits_still [] = tt
@@ -170,39 +110,14 @@ emits_still (text ∷ texts) = (refl, emits_still texts)
 
 pub says_goes : (s : StoreNow) (rs : List Record) (texts : List (List ℕ)) (a b : World) → Says texts a b → Goes s rs rs (at_level (length rs) texts) a b
 says_goes s rs texts a b says =
-    let steps = with_levels (length rs) (emits texts) in
-    let same : actions_of steps ≡ emits texts = actions_of-leveled (length rs) (emits texts) in
-    record {
-      more = first_self rs;
-      steps = steps;
-      grew = says.sends.grew ∙ ap (λ (l : List Action). a.trace ++ l) (sym same);
-      out = ap outputs_of same ∙ outputs_emits texts ∙ ap emits (sym (bytes_at (length rs) texts));
-      levels = levels_emits (length rs) texts;
-      goes_on =
-          λ all first.
-          still_goes_on (RestsAt s all) (StandsAt s all) (length rs) steps (λ bytes rests. inl rests)
-          (subst AreStill (sym same) (emits_still texts)) (sent_leveled (length rs) (emits texts));
-      rests = λ start. subst (λ (device : List ℕ). RestsAt s rs device (length rs)) (sym says.sends.device) start;
-      kinds = ap (list_all is_of_run) same ∙ emits_kinds texts;
-    }
+    let n = length rs in
+    let steps = with_levels n (emits texts) in
+    let same : actions_of steps ≡ emits texts = actions_of-leveled n (emits texts) in
+    subst (λ (l : List Step). device.Goes (region_under s) rs rs l a b) (sym (steps_at n texts))
+    (joins.still_goes (region_under s) rs steps a b (subst AreStill (sym same) (emits_still texts)) (sent_leveled n (emits texts)) says.sends.device
+    (says.sends.grew ∙ ap (λ (l : List Action). a.trace ++ l) (sym same)))
 
 -- ---- texts of which some were said
-
--- what was done are emits alone, the last of which may have failed
-outputs_last : (rest : List (List ℕ)) (last : List Action) → (last ≡ []) ⊎ FailsAt rest last → outputs_of last ≡ last
-outputs_last rest last ended =
-    elim ended [
-      | inl none ↦ subst (λ (l : List Action). outputs_of l ≡ l) (sym none) refl
-      | inr fails ↦ subst (λ (l : List Action). outputs_of l ≡ l) (sym fails.action) refl
-    ]
-
-outputs_whole : (whole : List (List ℕ)) (last : List Action) → outputs_of last ≡ last → outputs_of (emits whole ++ last) ≡ emits whole ++ last
-outputs_whole [] last h = h
-outputs_whole (text ∷ whole) last h = ap (λ (l : List Action). Emit (record { 0 = 0 }) text true ∷ l) (outputs_whole whole last h)
-
-outputs_out : (texts : List (List ℕ)) (actions : List Action) → GoOut texts actions → outputs_of actions ≡ actions
-outputs_out texts actions out =
-    subst (λ (l : List Action). outputs_of l ≡ l) (sym out.done) (outputs_whole out.whole out.last (outputs_last out.rest out.last out.ended))
 
 still_last : (rest : List (List ℕ)) (last : List Action) → (last ≡ []) ⊎ FailsAt rest last → AreStill last
 still_last rest last ended =
@@ -215,29 +130,27 @@ still_out : (texts : List (List ℕ)) (actions : List Action) → GoOut texts ac
 still_out texts actions out =
     subst AreStill (sym out.done) (still_append (emits out.whole) out.last (emits_still out.whole) (still_last out.rest out.last out.ended))
 
-kinds_last : (rest : List (List ℕ)) (last : List Action) → (last ≡ []) ⊎ FailsAt rest last → AreOfRun last
-kinds_last rest last ended =
-    elim ended [
-      | inl none ↦ subst AreOfRun (sym none) refl
-      | inr fails ↦ subst AreOfRun (sym fails.action) refl
-    ]
-
-kinds_out : (texts : List (List ℕ)) (actions : List Action) → GoOut texts actions → AreOfRun actions
-kinds_out texts actions out =
-    subst AreOfRun (sym out.done) (kinds_both (emits out.whole) out.last (emits_kinds out.whole) (kinds_last out.rest out.last out.ended))
+-- what was said leaves the device as it was
+pub some_goes : (region : Region) (rs : List Record) (texts : List (List ℕ)) (a b : World) (says : SaysSome texts a b) → device.Goes region rs rs (with_levels (length rs) says.sends.actions) a b
+some_goes region rs texts a b says =
+    let n = length rs in
+    let actions = says.sends.actions in
+    let same : actions_of (with_levels n actions) ≡ actions = actions_of-leveled n actions in
+    joins.still_goes region rs (with_levels n actions) a b (subst AreStill (sym same) (still_out texts actions says.sends.out)) (sent_leveled n actions) says.sends.device
+    (says.sends.grew ∙ ap (λ (l : List Action). a.trace ++ l) (sym same))
 
 -- the levels of the texts that went out come first among those of all
 abbrev LevelsFirst : ℕ → List (List ℕ) → List Action → Type 0
-LevelsFirst n texts actions = (later : List ℕ) × (levels_of (at_level n texts) ≡ output_levels (with_levels n actions) ++ later)
+LevelsFirst n texts actions = (later : List ℕ) × (levels_of (at_level n texts) ≡ step_levels (with_levels n actions) ++ later)
 
 levels_last : (n : ℕ) (rest : List (List ℕ)) (last : List Action) → (last ≡ []) ⊎ FailsAt rest last → LevelsFirst n rest last
 levels_last n rest last ended =
     elim ended [
-      | inl none ↦ (levels_of (at_level n rest), ap (λ (l : List Action). output_levels (with_levels n l) ++ levels_of (at_level n rest)) (sym none))
+      | inl none ↦ (levels_of (at_level n rest), ap (λ (l : List Action). step_levels (with_levels n l) ++ levels_of (at_level n rest)) (sym none))
       | inr fails ↦ (
         levels_of (at_level n fails.others),
         ap (λ (l : List (List ℕ)). levels_of (at_level n l)) fails.first
-            ∙ ap (λ (l : List Action). output_levels (with_levels n l) ++ levels_of (at_level n fails.others)) (sym fails.action),
+            ∙ ap (λ (l : List Action). step_levels (with_levels n l) ++ levels_of (at_level n fails.others)) (sym fails.action),
       )
     ]
 
@@ -253,28 +166,22 @@ levels_out n texts actions out =
       h.0,
       ap (λ (l : List (List ℕ)). levels_of (at_level n l)) out.cut
           ∙ h.1
-          ∙ ap (λ (l : List Action). output_levels (with_levels n l) ++ h.0) (sym out.done),
+          ∙ ap (λ (l : List Action). step_levels (with_levels n l) ++ h.0) (sym out.done),
     )
 
-pub says_goes_part : (s : StoreNow) (rs : List Record) (texts : List (List ℕ)) (a b : World) → SaysSome texts a b → GoesPart s rs rs (at_level (length rs) texts) a b
-says_goes_part s rs texts a b says =
+pub says_goes_part : (failed : Type 0) (s : StoreNow) (rs : List Record) (texts : List (List ℕ)) (a b : World) → SaysSome texts a b → GoesPart failed s rs rs (at_level (length rs) texts) a b
+says_goes_part failed s rs texts a b says =
     let n = length rs in
     let actions = says.sends.actions in
     let steps = with_levels n actions in
-    let same : actions_of steps ≡ actions = actions_of-leveled n actions in
     record {
-      more = first_self rs;
-      steps = steps;
-      grew = says.sends.grew ∙ ap (λ (l : List Action). a.trace ++ l) (sym same);
+      said = steps;
       out =
-          subst (λ (l : List (List ℕ)). GoOut l (outputs_of (actions_of steps))) (sym (bytes_at n texts))
-          (subst (λ (l : List Action). GoOut texts l) (sym (ap outputs_of same ∙ outputs_out texts actions says.sends.out)) says.sends.out);
+          subst (λ (l : List (List ℕ)). GoOut l (actions_of steps)) (sym (bytes_at n texts))
+          (subst (λ (l : List Action). GoOut texts l) (sym (actions_of-leveled n actions)) says.sends.out);
       levels = levels_out n texts actions says.sends.out;
-      good =
-          λ all first.
-          (still_goes_on (RestsAt s all) (StandsAt s all) n steps (λ bytes rests. inl rests)
-          (subst AreStill (sym same) (still_out texts actions says.sends.out)) (sent_leveled n actions)).good;
-      kinds = ap (list_all is_of_run) same ∙ kinds_out texts actions says.sends.out;
+      part = joins.goes_part (region_under s) rs rs steps a b (some_goes (region_under s) rs texts a b says);
+      whole = inl (some_goes (region_under s) rs texts a b says);
     }
 
 -- ---- texts behind those of which some went out
@@ -302,56 +209,172 @@ out_more xs ys actions out =
       ended = elim out.ended [ inl none ↦ inl none | inr fails ↦ inr (fails_more out.rest ys out.last fails) ];
     }
 
-pub part_more : (s : StoreNow) (rs rs' : List Record) (t u : List Text) (a b : World) → GoesPart s rs rs' t a b → GoesPart s rs rs' (t ++ u) a b
-part_more s rs rs' t u a b f =
+pub part_more : (failed : Type 0) (s : StoreNow) (rs rs' : List Record) (t u : List Text) (a b : World) → GoesPart failed s rs rs' t a b → GoesPart failed s rs rs' (t ++ u) a b
+part_more failed s rs rs' t u a b f =
     record {
-      more = f.more;
-      steps = f.steps;
-      grew = f.grew;
+      said = f.said;
       out =
-          subst (λ (l : List (List ℕ)). GoOut l (outputs_of (actions_of f.steps))) (sym (map-append (λ (text : Text). text.bytes) t u))
-          (out_more (each_bytes t) (each_bytes u) (outputs_of (actions_of f.steps)) f.out);
+          subst (λ (l : List (List ℕ)). GoOut l (actions_of f.said)) (sym (map-append (λ (text : Text). text.bytes) t u))
+          (out_more (each_bytes t) (each_bytes u) (actions_of f.said) f.out);
       levels = (
         f.levels.0 ++ levels_of u,
         map-append (λ (text : Text). text.level) t u
             ∙ ap (λ (l : List ℕ). l ++ levels_of u) f.levels.1
-            ∙ append_assoc (output_levels f.steps) f.levels.0 (levels_of u),
+            ∙ append_assoc (step_levels f.said) f.levels.0 (levels_of u),
       );
-      good = f.good;
-      kinds = f.kinds;
+      part = f.part;
+      whole = f.whole;
     }
+
+-- what failed may be told as something else
+pub part_fails : (failed other : Type 0) (s : StoreNow) (rs rs' : List Record) (t : List Text) (a b : World) → (failed → other) → GoesPart failed s rs rs' t a b → GoesPart other s rs rs' t a b
+part_fails failed other s rs rs' t a b so f =
+    record { said = f.said; out = f.out; levels = f.levels; part = f.part; whole = elim f.whole [ inl goes ↦ inl goes | inr fails ↦ inr (so fails) ] }
 
 -- ---- nothing at all
 
 pub goes_nothing : (s : StoreNow) (rs : List Record) (a : World) → Goes s rs rs [] a a
-goes_nothing s rs a =
-    record {
-      more = first_self rs;
-      steps = [];
-      grew = sym (append-nil a.trace);
-      out = refl;
-      levels = refl;
-      goes_on = λ all first. none_goes_on (RestsAt s all) (StandsAt s all) (length rs) [] (λ bytes rests. inl rests) refl;
-      rests = λ start. start;
-      kinds = refl;
-    }
+goes_nothing s rs a = joins.nothing_goes (region_under s) rs a
 
-first_length : (rs rs' : List Record) → AreFirstOf rs rs' → length rs ≤ length rs'
-first_length rs rs' first =
-    omega (arith, ap (λ (l : List Record). length l) first.cut, length-append {A = Record} rs first.later)
-
--- whatever was to come
-pub part_nothing : (s : StoreNow) (rs rs' : List Record) (t : List Text) (a : World) → AreFirstOf rs rs' → GoesPart s rs rs' t a a
-part_nothing s rs rs' t a more =
+-- whatever was to be said
+pub part_nothing : (failed : Type 0) (s : StoreNow) (rs : List Record) (t : List Text) (a : World) → GoesPart failed s rs rs t a a
+part_nothing failed s rs t a =
     record {
-      more = more;
-      steps = [];
-      grew = sym (append-nil a.trace);
+      said = [];
       out = record { whole = []; rest = each_bytes t; cut = refl; last = []; done = refl; ended = inl refl };
       levels = (levels_of t, refl);
-      good =
-          λ all first.
-          good_up (RestsAt s all) (StandsAt s all) (length rs) (length rs) (length rs') [] (first_length rs rs' more)
-          (none_goes_on (RestsAt s all) (StandsAt s all) (length rs) [] (λ bytes rests. inl rests) refl).good;
-      kinds = refl;
+      part = joins.goes_part (region_under s) rs rs [] a a (joins.nothing_goes (region_under s) rs a);
+      whole = inl (joins.nothing_goes (region_under s) rs a);
     }
+
+-- ---- what went out is what was done on channels
+
+abbrev with_action : Action → ℕ → Step
+with_action action level = record { action = action; level = level }
+
+outputs_by : (action : Action) (level : ℕ) (steps : List Step) → outputs_of (actions_of steps) ≡ outputs_of (actions_of (channel_steps steps))
+    → outputs_of (action ∷ actions_of steps) ≡ outputs_of (actions_of (cond (is_still action) (with_action action level ∷ channel_steps steps) (channel_steps steps)))
+outputs_by (Write at bytes ok) level steps rest = rest
+outputs_by (Sync ok) level steps rest = rest
+outputs_by (Emit ch bytes ok) level steps rest = ap (λ (l : List Action). cond (ch.0 == 0) (Emit ch bytes ok ∷ l) l) rest
+outputs_by (Dial ch) level steps rest = rest
+outputs_by (Close ch) level steps rest = rest
+
+outputs_channels : (steps : List Step) → outputs_of (actions_of steps) ≡ outputs_of (actions_of (channel_steps steps))
+outputs_channels [] = refl
+outputs_channels (step ∷ steps) = outputs_by step.action step.level steps (outputs_channels steps)
+
+levels_sent : (step : Step) (sends : Bool) (x y : List Step) → step_levels x ≡ step_levels y → step_levels (cond sends (step ∷ x) x) ≡ step_levels (cond sends (step ∷ y) y)
+levels_sent step true x y rest = ap (λ (l : List ℕ). step.level ∷ l) rest
+levels_sent step false x y rest = rest
+
+abbrev sent_steps : List Step → List Step
+sent_steps steps = filter (λ (step : Step). is_output step.action) steps
+
+levels_by : (action : Action) (level : ℕ) (steps : List Step) → output_levels steps ≡ output_levels (channel_steps steps)
+    → output_levels (with_action action level ∷ steps) ≡ output_levels (cond (is_still action) (with_action action level ∷ channel_steps steps) (channel_steps steps))
+levels_by (Write at bytes ok) level steps rest = rest
+levels_by (Sync ok) level steps rest = rest
+levels_by (Emit ch bytes ok) level steps rest = levels_sent (with_action (Emit ch bytes ok) level) (ch.0 == 0) (sent_steps steps) (sent_steps (channel_steps steps)) rest
+levels_by (Dial ch) level steps rest = rest
+levels_by (Close ch) level steps rest = rest
+
+levels_channels : (steps : List Step) → output_levels steps ≡ output_levels (channel_steps steps)
+levels_channels [] = refl
+levels_channels (step ∷ steps) = levels_by step.action step.level steps (levels_channels steps)
+
+kinds_by : (action : Action) (level : ℕ) (steps : List Step) → list_all is_of_run (actions_of steps) ≡ list_all is_of_run (actions_of (channel_steps steps))
+    → list_all is_of_run (action ∷ actions_of steps) ≡ list_all is_of_run (actions_of (cond (is_still action) (with_action action level ∷ channel_steps steps) (channel_steps steps)))
+kinds_by (Write at bytes ok) level steps rest = rest
+kinds_by (Sync ok) level steps rest = rest
+kinds_by (Emit ch bytes ok) level steps rest = ap (λ (all : Bool). (ch.0 == 0) && all) rest
+kinds_by (Dial ch) level steps rest = refl
+kinds_by (Close ch) level steps rest = refl
+
+kinds_channels : (steps : List Step) → list_all is_of_run (actions_of steps) ≡ list_all is_of_run (actions_of (channel_steps steps))
+kinds_channels [] = refl
+kinds_channels (step ∷ steps) = kinds_by step.action step.level steps (kinds_channels steps)
+
+both_true : (s t : Bool) → s ≡ true → t ≡ true → (s && t) ≡ true
+both_true s t p q = rw (p, q) refl
+
+-- each of these goes out on channel 0
+abbrev AreOutputs : List Action → Type 0
+AreOutputs actions = list_all is_output actions ≡ true
+
+emits_sent : (texts : List (List ℕ)) → AreOutputs (emits texts)
+emits_sent [] = refl
+emits_sent (text ∷ texts) = emits_sent texts
+
+last_sent : (rest : List (List ℕ)) (last : List Action) → (last ≡ []) ⊎ FailsAt rest last → AreOutputs last
+last_sent rest last ended =
+    elim ended [
+      | inl none ↦ subst AreOutputs (sym none) refl
+      | inr fails ↦ subst AreOutputs (sym fails.action) refl
+    ]
+
+out_sent : (texts : List (List ℕ)) (actions : List Action) → GoOut texts actions → AreOutputs actions
+out_sent texts actions out =
+    subst AreOutputs (sym out.done)
+    (list_all-append is_output (emits out.whole) out.last
+    ∙ both_true (list_all is_output (emits out.whole)) (list_all is_output out.last) (emits_sent out.whole) (last_sent out.rest out.last out.ended))
+
+outputs_alone : (actions : List Action) → AreOutputs actions → outputs_of actions ≡ actions
+outputs_alone [] sent = refl
+outputs_alone (action ∷ actions) sent =
+    let p = and_parts (is_output action) (list_all is_output actions) sent in
+    ap (λ (sends : Bool). cond sends (action ∷ outputs_of actions) (outputs_of actions)) p.0
+    ∙ ap (λ (l : List Action). action ∷ l) (outputs_alone actions p.1)
+
+levels_alone : (steps : List Step) → AreOutputs (actions_of steps) → output_levels steps ≡ step_levels steps
+levels_alone [] sent = refl
+levels_alone (step ∷ steps) sent =
+    let p = and_parts (is_output step.action) (list_all is_output (actions_of steps)) sent in
+    let others = filter (λ (x : Step). is_output x.action) steps in
+    ap (λ (sends : Bool). step_levels (cond sends (step ∷ others) others)) p.0
+    ∙ ap (λ (l : List ℕ). step.level ∷ l) (levels_alone steps p.1)
+
+output_of_run : (action : Action) → is_output action ≡ true → is_of_run action ≡ true
+output_of_run (Write at bytes ok) sent = refl
+output_of_run (Sync ok) sent = refl
+output_of_run (Emit ch bytes ok) sent = sent
+output_of_run (Dial ch) sent = absurd cc
+output_of_run (Close ch) sent = absurd cc
+
+-- nothing is done but on the device and on channel 0
+abbrev pub AreOfRun : List Action → Type 0
+AreOfRun actions = list_all is_of_run actions ≡ true
+
+kinds_alone : (actions : List Action) → AreOutputs actions → AreOfRun actions
+kinds_alone [] sent = refl
+kinds_alone (action ∷ actions) sent =
+    let p = and_parts (is_output action) (list_all is_output actions) sent in
+    both_true (is_of_run action) (list_all is_of_run actions) (output_of_run action p.0) (kinds_alone actions p.1)
+
+module _ (s : StoreNow) (rs rs' : List Record) (texts : List Text) (a b : World) where
+  module _ (failed : Type 0) (p : GoesPart failed s rs rs' texts a b) where
+    sends_said : AreOutputs (actions_of p.said)
+    sends_said = out_sent (each_bytes texts) (actions_of p.said) p.out
+
+    part_outputs : outputs_of (actions_of p.part.steps) ≡ actions_of p.said
+    part_outputs =
+        outputs_channels p.part.steps ∙ ap (λ (l : List Step). outputs_of (actions_of l)) p.part.done ∙ outputs_alone (actions_of p.said) sends_said
+
+    pub part_out : GoOut (each_bytes texts) (outputs_of (actions_of p.part.steps))
+    part_out = subst (λ (l : List Action). GoOut (each_bytes texts) l) (sym part_outputs) p.out
+
+    pub part_levels : levels_of texts ≡ output_levels p.part.steps ++ p.levels.0
+    part_levels =
+        p.levels.1
+        ∙ ap (λ (l : List ℕ). l ++ p.levels.0) (sym (levels_channels p.part.steps ∙ ap output_levels p.part.done ∙ levels_alone p.said sends_said))
+
+    pub part_kinds : AreOfRun (actions_of p.part.steps)
+    part_kinds =
+        kinds_channels p.part.steps ∙ ap (λ (l : List Step). list_all is_of_run (actions_of l)) p.part.done ∙ kinds_alone (actions_of p.said) sends_said
+
+  pub goes_outputs : (f : Goes s rs rs' texts a b) → outputs_of (actions_of f.steps) ≡ emits (each_bytes texts)
+  goes_outputs f =
+      outputs_channels f.steps
+      ∙ ap (λ (l : List Step). outputs_of (actions_of l)) f.done
+      ∙ ap outputs_of (text_actions texts)
+      ∙ outputs_alone (emits (each_bytes texts)) (emits_sent (each_bytes texts))

@@ -1,135 +1,29 @@
 -- A record is made to last, and then what it says goes out.
-use Rattle.std.proofs.Common.{◌≡◌, ℕ, List, [], ◌∷◌, ◌++◌, length, map, Option, Ok, Err, inl, refl, sym, ap, subst, ◌∙◌}
-use Rattle.std.specs.Prelude.{Result, OnErr}
-use Rattle.std.specs.List.{list_all}
-use Rattle.iss_edge.specs.declared.outside.Action.{Action}
+use Rattle.std.proofs.Common.{◌≡◌, ℕ, List, [], length, map, Option, Ok, Err, inl, inr, refl, sym, ap, subst, ◌∙◌}
+use Rattle.std.specs.Prelude.{Result, IfErr}
 use Rattle.iss_edge.specs.World.{World, Told}
-use Rattle.iss_edge.specs.Puts.{Put, actions_of_puts, Ran}
-use Rattle.iss_edge.specs.Stretches.{actions_of, GoesOn, IsGood, with_levels}
-use Rattle.iss_edge.proofs.StretchLemmas.{actions_of-leveled}
 use Rattle.iss_edge.proofs.Tolds.{told_map, told_then}
-use Rattle.iss_journal.specs.Region.{append_bytes}
-use Rattle.iss_journal.specs.Append.{append_puts}
 use Rattle.iss_journal.specs.Place.{Place}
 use Rattle.iss_model.specs.declared.input.Record.{Record}
-use Rattle.iss_model.specs.texts.Spelling.{spelling}
 use Rattle.iss_model.specs.rules.Histories.{history_of}
 use Rattle.iss_model.specs.run.Sayings.{Said}
 use Rattle.iss_model.specs.run.Transcripts.{Text, at_level, said_text_at}
 use Rattle.iss_agreement.proofs.Records.{records_history, step_records}
 use Rattle.iss_store.specs.Values.{StoreNow, Plan, DurableNow, said_of}
-use Rattle.iss_store.specs.Standing.{StandsFor, RestsAt, StandsAt}
-use Rattle.iss_store.specs.Committing.{ComesNext, Commits, CommitsOnBook, CommitsGood, CommitsGoing, said_on_book}
+use Rattle.iss_store.specs.Standing.{StandsFor}
+use Rattle.iss_store.specs.Goings.{AreFirstOf}
+use Rattle.iss_store.specs.declared.fault.StoreFault.{StoreFault}
+use Rattle.iss_store.specs.declared.fault.StoreFault.TheVariants as store_fault
+use Rattle.iss_store.specs.Committing.{Commits, CommitsOnBook, Keeps, KeepsPart, WhereItLasts, said_on_book}
 use Rattle.iss_store.specs.Saying.{texts_of_record}
-use Rattle.iss_texts.specs.Sending.{GoOut, Says, SaysSome}
+use Rattle.iss_store.proofs.NextRecords.{with_record, first_self}
+use Rattle.iss_texts.specs.Sending.{Says, SaysSome}
 use Rattle.iss_device.specs.Runs.{run_at}
-use Rattle.iss_device.proofs.NextRecords.{with_record, one_more, comes_next, rests_before}
 use Rattle.iss_top.specs.Dry.{each_bytes}
-use Rattle.iss_top.specs.Replaying.{outputs_of, is_of_run, output_levels, levels_of, AreFirstOf, Goes, GoesPart, TakesAs, TakesPartAs, response_to_plan}
-use Rattle.iss_top.proofs.Goings.{AreOfRun, first_self, goes_then, goes_then_part, says_goes, says_goes_part}
-
--- ---- what a commit does sends nothing
-
-puts_silent : (puts : List Put) → outputs_of (actions_of_puts puts) ≡ []
-puts_silent [] = refl
-puts_silent (put ∷ puts) = puts_silent puts
-
-puts_unleveled : (n : ℕ) (puts : List Put) → output_levels (with_levels n (actions_of_puts puts)) ≡ []
-puts_unleveled n [] = refl
-puts_unleveled n (put ∷ puts) = puts_unleveled n puts
-
-ran_silent : (puts : List Put) (actions : List Action) → Ran puts actions → outputs_of actions ≡ []
-ran_silent puts [] ran = refl
-ran_silent [] (action ∷ more) ran = absurd ran
-ran_silent (put ∷ puts) (write ∷ []) ran = ap (λ (w : Action). outputs_of (w ∷ [])) ran.1
-ran_silent (put ∷ puts) (write ∷ sync ∷ []) ran =
-    ap (λ (w : Action). outputs_of (w ∷ sync ∷ [])) ran.1 ∙ ap (λ (y : Action). outputs_of (y ∷ [])) ran.2
-ran_silent (put ∷ puts) (write ∷ sync ∷ action ∷ more) ran =
-    ap (λ (w : Action). outputs_of (w ∷ sync ∷ action ∷ more)) ran.0
-    ∙ ap (λ (y : Action). outputs_of (y ∷ action ∷ more)) ran.1
-    ∙ ran_silent puts (action ∷ more) ran.2
-
-ran_unleveled : (n : ℕ) (puts : List Put) (actions : List Action) → Ran puts actions → output_levels (with_levels n actions) ≡ []
-ran_unleveled n puts [] ran = refl
-ran_unleveled n [] (action ∷ more) ran = absurd ran
-ran_unleveled n (put ∷ puts) (write ∷ []) ran = ap (λ (w : Action). output_levels (with_levels n (w ∷ []))) ran.1
-ran_unleveled n (put ∷ puts) (write ∷ sync ∷ []) ran =
-    ap (λ (w : Action). output_levels (with_levels n (w ∷ sync ∷ []))) ran.1 ∙ ap (λ (y : Action). output_levels (with_levels n (y ∷ []))) ran.2
-ran_unleveled n (put ∷ puts) (write ∷ sync ∷ action ∷ more) ran =
-    ap (λ (w : Action). output_levels (with_levels n (w ∷ sync ∷ action ∷ more))) ran.0
-    ∙ ap (λ (y : Action). output_levels (with_levels n (y ∷ action ∷ more))) ran.1
-    ∙ ran_unleveled n puts (action ∷ more) ran.2
-
-puts_kinds : (puts : List Put) → AreOfRun (actions_of_puts puts)
-puts_kinds [] = refl
-puts_kinds (put ∷ puts) = puts_kinds puts
-
-ran_kinds : (puts : List Put) (actions : List Action) → Ran puts actions → AreOfRun actions
-ran_kinds puts [] ran = refl
-ran_kinds [] (action ∷ more) ran = absurd ran
-ran_kinds (put ∷ puts) (write ∷ []) ran = ap (λ (w : Action). list_all is_of_run (w ∷ [])) ran.1
-ran_kinds (put ∷ puts) (write ∷ sync ∷ []) ran =
-    ap (λ (w : Action). list_all is_of_run (w ∷ sync ∷ [])) ran.1 ∙ ap (λ (y : Action). list_all is_of_run (y ∷ [])) ran.2
-ran_kinds (put ∷ puts) (write ∷ sync ∷ action ∷ more) ran =
-    ap (λ (w : Action). list_all is_of_run (w ∷ sync ∷ action ∷ more)) ran.0
-    ∙ ap (λ (y : Action). list_all is_of_run (y ∷ action ∷ more)) ran.1
-    ∙ ran_kinds puts (action ∷ more) ran.2
-
--- ---- which record comes next
-
-pub more_records : (rs : List Record) (r : Record) → AreFirstOf rs (with_record rs r)
-more_records rs r = record { later = r ∷ []; cut = refl }
-
-comes_first : (s : StoreNow) (rs all : List Record) (r : Record) → StandsFor s rs → AreFirstOf (with_record rs r) all → ComesNext s all (length rs) r
-comes_first s rs all r stands first =
-    subst (λ (l : List Record). ComesNext s l (length rs) r) (sym first.cut) (comes_next s rs r first.later stands)
-
--- ---- a commit as a part of a run
-
-commit_goes : (s : StoreNow) (rs : List Record) (r : Record) (a b : World) → StandsFor s rs → CommitsGoing s r a b → Goes s rs (with_record rs r) [] a b
-commit_goes s rs r a b stands going =
-    let puts = append_puts s.place.gate (append_bytes (spelling r)) in
-    let steps = with_levels 0 (actions_of_puts puts) in
-    let same : actions_of steps ≡ actions_of_puts puts = actions_of-leveled 0 (actions_of_puts puts) in
-    record {
-      more = more_records rs r;
-      steps = steps;
-      grew = going.made.trace ∙ ap (λ (l : List Action). a.trace ++ l) (sym same);
-      out = ap outputs_of same ∙ puts_silent puts;
-      levels = puts_unleveled 0 puts;
-      goes_on =
-          λ all first.
-          subst (λ (n : ℕ). GoesOn (RestsAt s all) (StandsAt s all) (RestsAt s all) (length rs) n steps) (sym (one_more rs r))
-          (going.goes_on all (length rs) steps (comes_first s rs all r stands first) same);
-      rests =
-          λ start.
-          subst (λ (n : ℕ). RestsAt s (with_record rs r) b.device n) (sym (one_more rs r))
-          (going.stands (with_record rs r) (length rs) (comes_first s rs (with_record rs r) r stands (first_self (with_record rs r)))
-          (rests_before s rs (r ∷ []) a.device start));
-      kinds = ap (list_all is_of_run) same ∙ puts_kinds puts;
-    }
-
--- a part of it, before anything is said
-commit_goes_part : (s : StoreNow) (rs : List Record) (r : Record) (t : List Text) (a b : World) → StandsFor s rs → CommitsGood s r a b → GoesPart s rs (with_record rs r) t a b
-commit_goes_part s rs r t a b stands good =
-    let puts = append_puts s.place.gate (append_bytes (spelling r)) in
-    let actions = good.part.actions in
-    let steps = with_levels 0 actions in
-    let same : actions_of steps ≡ actions = actions_of-leveled 0 actions in
-    record {
-      more = more_records rs r;
-      steps = steps;
-      grew = good.part.trace ∙ ap (λ (l : List Action). a.trace ++ l) (sym same);
-      out =
-          subst (λ (l : List Action). GoOut (each_bytes t) l) (sym (ap outputs_of same ∙ ran_silent puts actions good.part.ran))
-          (record { whole = []; rest = each_bytes t; cut = refl; last = []; done = refl; ended = inl refl });
-      levels = (levels_of t, ap (λ (l : List ℕ). l ++ levels_of t) (sym (ran_unleveled 0 puts actions good.part.ran)));
-      good =
-          λ all first.
-          subst (λ (n : ℕ). IsGood (RestsAt s all) (StandsAt s all) (length rs) n steps) (sym (one_more rs r))
-          (good.good all (length rs) steps (comes_first s rs all r stands first) same);
-      kinds = ap (list_all is_of_run) same ∙ ran_kinds puts actions good.part.ran;
-    }
+use Rattle.iss_top.specs.declared.stop.Stop.{Stop}
+use Rattle.iss_top.specs.Statuses.{stop_of_store}
+use Rattle.iss_top.specs.Replaying.{levels_of, IsOfDisk, Goes, GoesPart, GoesSome, TakesAs, TakesPartAs, response_to_plan}
+use Rattle.iss_top.proofs.Goings.{goes_then, goes_then_part, goes_part, part_more, says_goes, says_goes_part}
 
 -- ---- what is told of a planned record
 
@@ -163,10 +57,10 @@ pub record Committed (s : StoreNow) (p : Plan) (s' : StoreNow) (d : DurableNow) 
   pub commits : Commits s p s' d
   pub on_book : (rs : List Record) → StandsFor s rs → CommitsOnBook s' rs p d
 
-kept : (s s' : StoreNow) (p : Plan) (d : DurableNow) (a b c : World) → Committed s p s' d → CommitsGoing s p.accepted a b → Says (texts_of_record s' d) b c → TakesAs (response_to_plan p) s s' a c
-kept s s' p d a b c done going says =
+kept : (s s' : StoreNow) (p : Plan) (d : DurableNow) (a b c : World) → Committed s p s' d → Keeps s p.accepted a b → Says (texts_of_record s' d) b c → TakesAs (response_to_plan p) s s' a c
+kept s s' p d a b c done keeps says =
     record {
-      left = says.left ∙ going.made.left;
+      left = says.left ∙ keeps.left;
       same = record { instance = done.commits.stepped.kept; to = ap (λ (place : Place). place.to) done.commits.place };
       on_book = λ rs stands.
           let book = done.on_book rs stands in
@@ -174,50 +68,87 @@ kept s s' p d a b c done going says =
             subst (λ (l : List Record). StandsFor s' l) (sym (planned_records s p rs)) book.stands,
             as_planned s s' p d rs (λ (l : List Record) (t : List Text). Goes s rs l t a c) done.commits.stepped.kept book.said
                 (goes_then s rs after after [] (at_level (length after) (texts_of_record s' d)) a b c
-                (commit_goes s rs p.accepted a b stands going) (says_goes s after (texts_of_record s' d) b c says)),
+                (keeps.goes rs stands) (says_goes s after (texts_of_record s' d) b c says)),
           );
     }
 
-kept_part : (s s' : StoreNow) (p : Plan) (d : DurableNow) (a b c : World) → Committed s p s' d → CommitsGoing s p.accepted a b → SaysSome (texts_of_record s' d) b c → TakesPartAs (response_to_plan p) s a c
-kept_part s s' p d a b c done going says =
+-- a part of what is told of a plan, up to its record
+some_planned : (failed : Type 0) (s : StoreNow) (p : Plan) (rs : List Record) (a b : World) → GoesPart failed s rs (with_record rs p.accepted) (response_to_plan p (run_at s rs)).texts a b → GoesSome failed s rs (response_to_plan p (run_at s rs)) a b
+some_planned failed s p rs a b part =
     record {
-      left = says.left ∙ going.made.left;
+      rs' = with_record rs p.accepted;
+      records = subst (λ (l : List Record). AreFirstOf (with_record rs p.accepted) l) (sym (planned_records s p rs)) (first_self (with_record rs p.accepted));
+      goes = part;
+    }
+
+kept_part : (failed : Type 0) (s s' : StoreNow) (p : Plan) (d : DurableNow) (a b c : World) → Committed s p s' d → Keeps s p.accepted a b → SaysSome (texts_of_record s' d) b c → TakesPartAs failed (response_to_plan p) s a c
+kept_part failed s s' p d a b c done keeps says =
+    record {
+      left = says.left ∙ keeps.left;
       on_book = λ rs stands.
           let book = done.on_book rs stands in
           let after = with_record rs p.accepted in
-          as_planned s s' p d rs (λ (l : List Record) (t : List Text). GoesPart s rs l t a c) done.commits.stepped.kept book.said
-          (goes_then_part s rs after after [] (at_level (length after) (texts_of_record s' d)) a b c
-          (commit_goes s rs p.accepted a b stands going) (says_goes_part s after (texts_of_record s' d) b c says));
+          some_planned failed s p rs a c
+          (subst (λ (t : List Text). GoesPart failed s rs after t a c) (sym (planned_texts s s' p d rs done.commits.stepped.kept book.said))
+          (goes_then_part failed s rs after after [] (at_level (length after) (texts_of_record s' d)) a b c
+          (keeps.goes rs stands) (says_goes_part failed s after (texts_of_record s' d) b c says)));
     }
 
-not_kept : (s : StoreNow) (p : Plan) (a b : World) → CommitsGood s p.accepted a b → TakesPartAs (response_to_plan p) s a b
-not_kept s p a b good =
+not_kept : (failed : Type 0) (s : StoreNow) (p : Plan) (a b : World) → failed → KeepsPart s p.accepted a b → TakesPartAs failed (response_to_plan p) s a b
+not_kept failed s p a b fails keeps =
     record {
-      left = good.part.left;
+      left = keeps.left;
       on_book = λ rs stands.
-          subst (λ (l : List Record). GoesPart s rs l (response_to_plan p (run_at s rs)).texts a b) (sym (planned_records s p rs))
-          (commit_goes_part s rs p.accepted (response_to_plan p (run_at s rs)).texts a b stands good);
+          let texts = (response_to_plan p (run_at s rs)).texts in
+          some_planned failed s p rs a b
+          (record {
+            said = [];
+            out = record { whole = []; rest = each_bytes texts; cut = refl; last = []; done = refl; ended = inl refl };
+            levels = (levels_of texts, refl);
+            part = keeps.goes rs stands;
+            whole = inr fails;
+          });
+    }
+
+-- it was kept, and nothing was said
+unsaid : (failed : Type 0) (s : StoreNow) (p : Plan) (a b : World) → Keeps s p.accepted a b → TakesPartAs failed (response_to_plan p) s a b
+unsaid failed s p a b keeps =
+    record {
+      left = keeps.left;
+      on_book = λ rs stands.
+          some_planned failed s p rs a b
+          (part_more failed s rs (with_record rs p.accepted) [] (response_to_plan p (run_at s rs)).texts a b
+          (goes_part failed s rs (with_record rs p.accepted) [] a b (keeps.goes rs stands)));
     }
 
 -- ---- the same of what an edge tells
 
--- what holds anyway holds where something failed
-pub anyway : {A E : Type 0} (result : Result A E) (P : Type 0) → P → OnErr result P
+-- what holds anyway holds if something failed
+pub anyway : {A : Type 0} (result : Result A Stop) (P : Stop → Type 0) → ((why : Stop) → P why) → IfErr result P
 anyway (Ok value) P p = tt
-anyway (Err why) P p = p
+anyway (Err why) P p = p why
 
-pub told_kept : (s s' : StoreNow) (p : Plan) (d : DurableNow) (x y z : Option World) → Committed s p s' d → Told (CommitsGoing s p.accepted) x y → Told (Says (texts_of_record s' d)) y z
+pub if_err_weaker : {A : Type 0} (result : Result A Stop) (P Q : Stop → Type 0) → ((why : Stop) → P why → Q why) → IfErr result P → IfErr result Q
+if_err_weaker (Ok value) P Q f p = tt
+if_err_weaker (Err why) P Q f p = f why p
+
+pub told_kept : (s s' : StoreNow) (p : Plan) (d : DurableNow) (x y z : Option World) → Committed s p s' d → Told (Keeps s p.accepted) x y → Told (Says (texts_of_record s' d)) y z
     → Told (TakesAs (response_to_plan p) s s') x z
 told_kept s s' p d x y z done going says =
-    told_then (CommitsGoing s p.accepted) (Says (texts_of_record s' d)) (TakesAs (response_to_plan p) s s') x y z
+    told_then (Keeps s p.accepted) (Says (texts_of_record s' d)) (TakesAs (response_to_plan p) s s') x y z
     (λ a b c. kept s s' p d a b c done) going says
 
-pub told_kept_part : (s s' : StoreNow) (p : Plan) (d : DurableNow) (x y z : Option World) → Committed s p s' d → Told (CommitsGoing s p.accepted) x y → Told (SaysSome (texts_of_record s' d)) y z
-    → Told (TakesPartAs (response_to_plan p) s) x z
-told_kept_part s s' p d x y z done going says =
-    told_then (CommitsGoing s p.accepted) (SaysSome (texts_of_record s' d)) (TakesPartAs (response_to_plan p) s) x y z
-    (λ a b c. kept_part s s' p d a b c done) going says
+pub told_kept_part : (failed : Type 0) (s s' : StoreNow) (p : Plan) (d : DurableNow) (x y z : Option World) → Committed s p s' d → Told (Keeps s p.accepted) x y → Told (SaysSome (texts_of_record s' d)) y z
+    → Told (TakesPartAs failed (response_to_plan p) s) x z
+told_kept_part failed s s' p d x y z done going says =
+    told_then (Keeps s p.accepted) (SaysSome (texts_of_record s' d)) (TakesPartAs failed (response_to_plan p) s) x y z
+    (λ a b c. kept_part failed s s' p d a b c done) going says
 
-pub told_not_kept : (s : StoreNow) (p : Plan) (x y : Option World) → Told (CommitsGood s p.accepted) x y → Told (TakesPartAs (response_to_plan p) s) x y
-told_not_kept s p x y good =
-    told_map (CommitsGood s p.accepted) (TakesPartAs (response_to_plan p) s) x y (not_kept s p) good
+-- a commit failed: nothing was said, and only a fault of the disk keeps the run from going on
+pub told_not_kept : (fault : StoreFault) (s : StoreNow) (p : Plan) (x y : Option World) → Told (KeepsPart s p.accepted) x y → WhereItLasts {T = Unit {0}} (Err fault) (Told (Keeps s p.accepted) x y)
+    → Told (TakesPartAs (IsOfDisk (stop_of_store fault)) (response_to_plan p) s) x y
+told_not_kept store_fault.Disk s p x y part lasts =
+    told_map (KeepsPart s p.accepted) (TakesPartAs (Unit {0}) (response_to_plan p) s) x y (λ a b. not_kept (Unit {0}) s p a b tt) part
+told_not_kept store_fault.OutOfMemory s p x y part lasts =
+    told_map (Keeps s p.accepted) (TakesPartAs ⊥ (response_to_plan p) s) x y (unsaid ⊥ s p) lasts
+told_not_kept store_fault.Output s p x y part lasts = absurd lasts

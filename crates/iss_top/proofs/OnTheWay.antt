@@ -1,16 +1,19 @@
 -- A run on a device from its opening to each of its ends, line by line.
-use Rattle.std.proofs.Common.{◌≡◌, ℕ, ◌≤◌, inl, inr, false, List, [], ◌∷◌, ◌++◌, length, take, Err, refl, sym, ap, subst, ◌∙◌, arith}
+use Rattle.std.proofs.Common.{◌≡◌, ℕ, ◌≤◌, inl, inr, false, List, [], ◌∷◌, ◌++◌, take, Err, refl, sym, ap, subst, ◌∙◌, arith}
 use Rattle.std.specs.Prelude.{◌⊎◌}
 use Rattle.iss_edge.specs.World.{World}
-use Rattle.iss_edge.specs.Stretches.{IsGood, GoesOn}
-use Rattle.iss_journal.specs.Region.{Region, RestsFirst, StandsFirst}
+use Rattle.iss_journal.specs.Region.{Region}
 use Rattle.iss_model.specs.declared.input.Record.{Record}
 use Rattle.iss_model.specs.declared.limits.TheConstants.{MOST_INPUT}
 use Rattle.iss_model.specs.run.Transcripts.{Text}
 use Rattle.iss_model.specs.run.Runs.{Run, Response}
 use Rattle.iss_agreement.proofs.Records.{records_history}
 use Rattle.iss_store.specs.Values.{StoreNow}
-use Rattle.iss_store.specs.Standing.{region_of, region_under, bodies_of, StandsFor, RestsAt}
+use Rattle.iss_store.specs.Standing.{region_of, region_under, StandsFor}
+use Rattle.iss_store.specs.Goings.{AreFirstOf}
+use Rattle.iss_store.specs.Goings as device
+use Rattle.iss_store.proofs.Goings as joins
+use Rattle.iss_store.proofs.NextRecords.{first_then}
 use Rattle.iss_device.specs.Runs.{run_at}
 use Rattle.iss_top.specs.declared.stop.Stop.{Stop}
 use Rattle.iss_top.specs.declared.stop.Stop.TheVariants as stop
@@ -18,8 +21,8 @@ use Rattle.iss_top.specs.Statuses.{status_of}
 use Rattle.iss_top.specs.Lines.{parts_of, all_but_last}
 use Rattle.iss_top.specs.Progress.{HasRead}
 use Rattle.iss_top.specs.Reader.{ReaderNow, fresh_reader, IsToldAs, ReadsPart, ReadsNoPart, ReadsOn}
-use Rattle.iss_top.specs.Replaying.{told_line, told_lines, then_told, Goes, GoesPart, GoesFor, GoesWhole, IsSameDevice, TakesAs, TakesPartAs, IsReplaying, RunsOnBook, RunsFrom}
-use Rattle.iss_top.proofs.Goings.{goes_nothing, goes_then, goes_then_part, goes_part, part_more}
+use Rattle.iss_top.specs.Replaying.{told_line, told_lines, then_told, text_steps, Goes, GoesPart, GoesFor, GoesWhole, IsSameDevice, TakesAs, TakesPartAs, IsReplaying, RunsOnBook, RunsFrom}
+use Rattle.iss_top.proofs.Goings.{goes_nothing, goes_then, goes_then_part, goes_part, part_more, part_fails}
 use Rattle.iss_top.proofs.Parts.{has_read_begins, has_read_next, has_read_on, parts_first, parts_over, parts_stopped}
 use Rattle.iss_top.proofs.ToldAs.{same_told}
 use Rattle.iss_top.proofs.ToldLines.{ComesFirst, first_parts, told_one_more, run_then}
@@ -34,9 +37,9 @@ abbrev GoesTo : StoreNow → List Record → Response → World → World → Ty
 GoesTo s rs r a b = Goes s rs r.run.history.records r.texts a b
 
 -- some of what the first parts are told is some of what all are told
-goes_first : (s : StoreNow) (rs : List Record) (first all : Response) (a b : World) → ComesFirst first all → GoesPart s rs first.run.history.records first.texts a b → GoesPart s rs first.run.history.records all.texts a b
-goes_first s rs first all a b more f =
-    subst (λ (t : List Text). GoesPart s rs first.run.history.records t a b) more.cut (part_more s rs first.run.history.records first.texts more.later a b f)
+goes_first : (failed : Type 0) (s : StoreNow) (rs rs' : List Record) (first all : Response) (a b : World) → ComesFirst first all → GoesPart failed s rs rs' first.texts a b → GoesPart failed s rs rs' all.texts a b
+goes_first failed s rs rs' first all a b more f =
+    subst (λ (t : List Text). GoesPart failed s rs rs' t a b) more.cut (part_more failed s rs rs' first.texts more.later a b f)
 
 -- the parts that were read come first among those of the input
 first_of_input : (s : Run) (parts : List (List ℕ)) (now : ReaderNow) (a b : World) → HasRead parts now a b → ComesFirst (told_lines s parts) (told_lines s (parts_of (a.left 0)))
@@ -46,17 +49,7 @@ first_of_input s parts now a b read =
 
 -- what neither does anything nor changes the device
 goes_still : (s : StoreNow) (rs rs' : List Record) (t : List Text) (a b c : World) → Goes s rs rs' t a b → c.device ≡ b.device → c.trace ≡ b.trace → Goes s rs rs' t a c
-goes_still s rs rs' t a b c f device trace =
-    record {
-      more = f.more;
-      steps = f.steps;
-      grew = trace ∙ f.grew;
-      out = f.out;
-      levels = f.levels;
-      goes_on = f.goes_on;
-      rests = λ start. subst (λ (image : List ℕ). RestsAt s rs' image (length rs')) (sym device) (f.rests start);
-      kinds = f.kinds;
-    }
+goes_still s rs rs' t a b c f same trace = joins.goes_still (region_under s) rs rs' (text_steps t) a b c f same trace
 
 same_region : (s s' : StoreNow) → IsSameDevice s s' → region_under s' ≡ region_under s
 same_region s s' same = λ i. region_of (same.instance i) (same.to i)
@@ -64,37 +57,17 @@ same_region s s' same = λ i. region_of (same.instance i) (same.to i)
 -- what was done on a store is said of the one that was opened, which has the same device
 goes_same : (s s' : StoreNow) (rs rs' : List Record) (t : List Text) (a b : World) → IsSameDevice s s' → Goes s' rs rs' t a b → Goes s rs rs' t a b
 goes_same s s' rs rs' t a b same f =
-    let region = same_region s s' same in
-    record {
-      more = f.more;
-      steps = f.steps;
-      grew = f.grew;
-      out = f.out;
-      levels = f.levels;
-      goes_on =
-          λ all first.
-          subst (λ (r : Region). GoesOn (RestsFirst r (bodies_of all)) (StandsFirst r (bodies_of all)) (RestsFirst r (bodies_of all)) (length rs) (length rs') f.steps) region
-          (f.goes_on all first);
-      rests =
-          λ start.
-          subst (λ (r : Region). RestsFirst r (bodies_of rs') b.device (length rs')) region
-          (f.rests (subst (λ (r : Region). RestsFirst r (bodies_of rs) a.device (length rs)) (sym region) start));
-      kinds = f.kinds;
-    }
+    subst (λ (r : Region). device.Goes r rs rs' (text_steps t) a b) (same_region s s' same) f
 
-part_same : (s s' : StoreNow) (rs rs' : List Record) (t : List Text) (a b : World) → IsSameDevice s s' → GoesPart s' rs rs' t a b → GoesPart s rs rs' t a b
-part_same s s' rs rs' t a b same f =
+part_same : (failed : Type 0) (s s' : StoreNow) (rs rs' : List Record) (t : List Text) (a b : World) → IsSameDevice s s' → GoesPart failed s' rs rs' t a b → GoesPart failed s rs rs' t a b
+part_same failed s s' rs rs' t a b same f =
     record {
-      more = f.more;
-      steps = f.steps;
-      grew = f.grew;
+      said = f.said;
       out = f.out;
       levels = f.levels;
-      good =
-          λ all first.
-          subst (λ (r : Region). IsGood (RestsFirst r (bodies_of all)) (StandsFirst r (bodies_of all)) (length rs) (length rs') f.steps) (same_region s s' same)
-          (f.good all first);
-      kinds = f.kinds;
+      part = subst (λ (r : Region). device.GoesPart r rs rs' f.said a b) (same_region s s' same) f.part;
+      whole =
+          elim f.whole [ inl goes ↦ inl (subst (λ (r : Region). device.Goes r rs rs' f.said a b) (same_region s s' same) goes) | inr fails ↦ inr fails ];
     }
 
 same_then : (s s' s'' : StoreNow) → IsSameDevice s s' → IsSameDevice s' s'' → IsSameDevice s s''
@@ -161,33 +134,37 @@ module _ (opened s : StoreNow) (before now : ReaderNow) (a b c : World) (way : I
       }
 
   -- some of what it is told went out
-  taken_part : (d : World) (status : ℕ) (took : List ℕ) → (status ≡ 0 → ⊥) → (status ≡ 3 → ⊥) → (status ≡ 8 → ⊥) → TakesPartAs (λ k. told_line k now.line) s c d → (rs : List Record) → StandsFor opened rs → RunsOnBook status opened rs took a d
-  taken_part d status took not_done not_input not_long taken rs stands =
+  taken_part : (failed : Type 0) (d : World) (status : ℕ) (took : List ℕ) → (status ≡ 0 → ⊥) → (status ≡ 3 → ⊥) → (status ≡ 8 → ⊥) → (failed → status ≡ 6) → TakesPartAs failed (λ k. told_line k now.line) s c d → (rs : List Record) → StandsFor opened rs → RunsOnBook status opened rs took a d
+  taken_part failed d status took not_done not_input not_long fails taken rs stands =
       let told = told_lines (run_at opened rs) way.parts in
       let line = told_line (run_at s told.run.history.records) now.line in
       let more = told_lines (run_at opened rs) (way.parts ++ reads.part ∷ []) in
       let first : ComesFirst more (told_lines (run_at opened rs) (parts_of (a.left 0))) =
       first_of_input (run_at opened rs) (way.parts ++ reads.part ∷ []) now a d (read_then d taken.left) in
-      let part : GoesPart opened rs line.run.history.records (told.texts ++ line.texts) a d =
-      goes_then_part opened rs told.run.history.records line.run.history.records told.texts line.texts a c d (goes_until rs stands)
-      (part_same opened s told.run.history.records line.run.history.records line.texts c d way.same (taken.on_book told.run.history.records (way.on_book rs stands).0)) in
+      let some = taken.on_book told.run.history.records (way.on_book rs stands).0 in
+      let part : GoesPart failed opened rs some.rs' (told.texts ++ line.texts) a d =
+      goes_then_part failed opened rs told.run.history.records some.rs' told.texts line.texts a c d (goes_until rs stands)
+      (part_same failed opened s told.run.history.records some.rs' line.texts c d way.same some.goes) in
+      let made : AreFirstOf some.rs' more.run.history.records =
+      subst (λ (r : Response). AreFirstOf some.rs' r.run.history.records) (told_more rs) some.records in
       record {
-        rs' = more.run.history.records;
-        records = first.records;
+        rs' = some.rs';
+        records = first_then some.rs' more.run.history.records (told_lines (run_at opened rs) (parts_of (a.left 0))).run.history.records made first.records;
         goes =
-            goes_first opened rs more (told_lines (run_at opened rs) (parts_of (a.left 0))) a d first
-            (subst (λ (r : Response). GoesPart opened rs r.run.history.records r.texts a d) (told_more rs) part);
+            goes_first (status ≡ 6) opened rs some.rs' more (told_lines (run_at opened rs) (parts_of (a.left 0))) a d first
+            (subst (λ (r : Response). GoesPart (status ≡ 6) opened rs some.rs' r.texts a d) (told_more rs)
+            (part_fails failed (status ≡ 6) opened rs some.rs' (told.texts ++ line.texts) a d fails part));
         whole = λ e. absurd (not_done e);
         stopped = λ e. elim e [ inl at ↦ absurd (not_input at) | inr at ↦ absurd (not_long at) ];
       }
 
-  pub ends_in_line : (d : World) (status : ℕ) → (status ≡ 0 → ⊥) → (status ≡ 3 → ⊥) → (status ≡ 8 → ⊥) → TakesPartAs (λ k. told_line k now.line) s c d → RunsFrom status opened a d
-  ends_in_line d status not_done not_input not_long taken =
+  pub ends_in_line : (failed : Type 0) (d : World) (status : ℕ) → (status ≡ 0 → ⊥) → (status ≡ 3 → ⊥) → (status ≡ 8 → ⊥) → (failed → status ≡ 6) → TakesPartAs failed (λ k. told_line k now.line) s c d → RunsFrom status opened a d
+  ends_in_line failed d status not_done not_input not_long fails taken =
       let read = read_then d taken.left in
       record {
         took = read.took;
         takes = read.takes;
-        on_book = taken_part d status read.took not_done not_input not_long taken;
+        on_book = taken_part failed d status read.took not_done not_input not_long fails taken;
         long = (λ e. absurd (not_long e), λ e. absurd (omega (arith, read.count, reads.bound, e)));
         bound = omega (arith, read.count, reads.bound);
       }
@@ -206,8 +183,8 @@ ends_before opened s now took a b c status way device trace not_done stopped rs 
       rs' = told.run.history.records;
       records = first.records;
       goes =
-          goes_first opened rs told (told_lines (run_at opened rs) (parts_of (a.left 0))) a c first
-          (goes_part opened rs told.run.history.records told.texts a c goes);
+          goes_first (status ≡ 6) opened rs told.run.history.records told (told_lines (run_at opened rs) (parts_of (a.left 0))) a c first
+          (goes_part (status ≡ 6) opened rs told.run.history.records told.texts a c goes);
       whole = λ e. absurd (not_done e);
       stopped =
           λ e.
@@ -273,8 +250,8 @@ ends_well opened s before now a b c le way over =
             rs' = told.run.history.records;
             records = first.records;
             goes =
-                goes_first opened rs told (told_lines (run_at opened rs) (parts_of (a.left 0))) a c first
-                (goes_part opened rs told.run.history.records told.texts a c goes);
+                goes_first (0 ≡ 6) opened rs told.run.history.records told (told_lines (run_at opened rs) (parts_of (a.left 0))) a c first
+                (goes_part (0 ≡ 6) opened rs told.run.history.records told.texts a c goes);
             whole =
                 λ e. (
                   all.1,

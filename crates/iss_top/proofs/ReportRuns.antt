@@ -1,19 +1,24 @@
 -- A report of what stands on a device: what went out, and each moment.
-use Rattle.std.proofs.Common.{◌≡◌, ℕ, inl, inr, List, [], ◌++◌, length, refl, sym, ap, subst, ◌∙◌, append-nil, append_assoc}
+use Rattle.std.proofs.Common.{◌≡◌, ℕ, inl, inr, List, [], ◌++◌, length, refl, sym, ap, subst, ◌∙◌, append-nil, append_assoc, arith}
+use Rattle.std.proofs.lemmas.List.{append_cancel_left}
 use Rattle.iss_edge.specs.declared.outside.Action.{Action}
 use Rattle.iss_edge.specs.World.{World}
+use Rattle.iss_edge.specs.Stretches.{with_levels, actions_of}
 use Rattle.iss_model.specs.declared.input.Record.{Record}
 use Rattle.iss_model.specs.rules.Histories.{IsLegal}
 use Rattle.iss_store.specs.Values.{StoreNow}
-use Rattle.iss_store.specs.Standing.{DeviceStandsFor}
-use Rattle.iss_store.specs.Opening.{OpensGood}
+use Rattle.iss_store.specs.Standing.{DeviceStandsFor, region_under}
+use Rattle.iss_store.specs.Opening.{OpensGood, OpenedAs, ReadsAlone}
+use Rattle.iss_store.specs.Goings.{Goes}
 use Rattle.iss_texts.specs.Sending.{emits, Says, SaysSome}
 use Rattle.iss_texts.proofs.Saying.{all_out, says_all}
-use Rattle.iss_device.specs.Opened.{OpenedAs}
+use Rattle.iss_store.proofs.NextRecords.{first_self}
+use Rattle.iss_device.specs.Moments.{EndsAtRest}
 use Rattle.iss_device.proofs.Devices.{rests_stands}
+use Rattle.iss_device.proofs.Moments.{ends_at_rest}
 use Rattle.iss_top.specs.Replays.{MomentsOf}
 use Rattle.iss_top.specs.Reports.{report_lines, report_texts, ReportOn}
-use Rattle.iss_top.proofs.Goings.{says_goes_part}
+use Rattle.iss_top.proofs.Goings.{some_goes, says_goes_part}
 use Rattle.iss_top.proofs.Moments.{moments_unopened, moments_opened}
 
 -- no more records than those that stood
@@ -26,8 +31,8 @@ legal_still instance rs device stands = subst IsLegal (sym (append-nil rs)) stan
 
 -- ---- the device didn't open
 
-pub unopened_report_on : (status instance : ℕ) (rs : List Record) (a b : World) → (status ≡ 0 → ⊥) → (status ≡ 4 → ⊥) → (status ≡ 5 → ⊥) → OpensGood a b → ReportOn status instance rs a b
-unopened_report_on status instance rs a b not_done not_device not_output good =
+pub unopened_report_on : (status instance : ℕ) (rs : List Record) (a b : World) → (status ≡ 0 → ⊥) → (status ≡ 4 → ⊥) → (status ≡ 5 → ⊥) → OpensGood a b → ((status ≡ 6 → ⊥) → ReadsAlone a b) → ReportOn status instance rs a b
+unopened_report_on status instance rs a b not_done not_device not_output good reads =
     record {
       left = good.left;
       opening = good.added;
@@ -37,6 +42,8 @@ unopened_report_on status instance rs a b not_done not_device not_output good =
       out = record { whole = []; rest = report_lines rs; cut = refl; last = []; done = refl; ended = inl refl };
       whole = λ e. absurd (not_done e);
       stands = λ e. elim e [ inl done ↦ absurd (not_done done) | inr failed ↦ absurd (not_output failed) ];
+      ends = λ e. elim e [ inl done ↦ absurd (not_done done) | inr failed ↦ absurd (not_output failed) ];
+      ended = λ e. inl (reads (λ six. absurd (omega (arith, e, six))));
       other_device = not_device;
     }
 
@@ -55,6 +62,24 @@ module _ (instance : ℕ) (rs : List Record) (s : StoreNow) (a b d : World) (ope
   behind_opening sent grew =
       grew ∙ ap (λ (l : List Action). l ++ sent) opening.good.grew ∙ append_assoc a.trace opening.good.added sent
 
+  -- where it ends, whatever went out
+  still_ends : (says : SaysSome (report_lines rs) b d) → EndsAtRest instance rs rs (opening.good.added ++ says.sends.actions) a d
+  still_ends says =
+      let going : Goes (region_under s) rs rs (with_levels (length rs) says.sends.actions) b d = some_goes (region_under s) rs (report_lines rs) b d says in
+      let same : actions_of going.steps ≡ says.sends.actions = append_cancel_left b.trace (actions_of going.steps) says.sends.actions (sym going.grew ∙ says.sends.grew) in
+      subst (λ (l : List Action). EndsAtRest instance rs rs (opening.good.added ++ l) a d) same
+      (ends_at_rest instance rs s a b opening stands rs (with_levels (length rs) says.sends.actions) d going)
+
+  all_ends : (says : Says (report_lines rs) b d) → EndsAtRest instance rs rs (opening.good.added ++ emits (report_lines rs)) a d
+  all_ends says =
+      let sent : SaysSome (report_lines rs) b d =
+      record {
+        left = says.left;
+        arrivals = says.arrivals;
+        sends = record { device = says.sends.device; actions = emits (report_lines rs); grew = says.sends.grew; out = all_out (report_lines rs) };
+      } in
+      still_ends sent
+
   -- some of the lines went out
   pub part_on : (status : ℕ) → (status ≡ 0 → ⊥) → (status ≡ 4 → ⊥) → SaysSome (report_lines rs) b d → ReportOn status instance rs a d
   part_on status not_done not_device says =
@@ -67,6 +92,8 @@ module _ (instance : ℕ) (rs : List Record) (s : StoreNow) (a b d : World) (ope
         out = says.sends.out;
         whole = λ e. absurd (not_done e);
         stands = λ e. subst (λ (device : List ℕ). DeviceStandsFor instance rs device) (sym says.sends.device) still_stands;
+        ends = λ e. still_ends says;
+        ended = λ e. inr (still_ends says);
         other_device = not_device;
       }
 
@@ -82,14 +109,14 @@ module _ (instance : ℕ) (rs : List Record) (s : StoreNow) (a b d : World) (ope
         out = all_out (report_lines rs);
         whole = λ e. refl;
         stands = λ e. subst (λ (device : List ℕ). DeviceStandsFor instance rs device) (sym says.sends.device) still_stands;
+        ends = λ e. all_ends says;
+        ended = λ e. inr (all_ends says);
         other_device = not_device;
       }
 
   pub part_moments : SaysSome (report_lines rs) b d → MomentsOf instance rs rs (report_texts rs) a d
   part_moments says =
-      no_more instance rs a d
-      (moments_opened instance rs [] rs (report_texts rs) s a b d opening stands (legal_still instance rs a.device stands)
-      (record { later = []; cut = refl }) (says_goes_part s rs (report_lines rs) b d says))
+      moments_opened ⊥ instance rs rs rs (report_texts rs) s a b d opening stands stands.history.legal (first_self rs) (says_goes_part ⊥ s rs (report_lines rs) b d says)
 
   pub whole_moments : Says (report_lines rs) b d → MomentsOf instance rs rs (report_texts rs) a d
   whole_moments says = part_moments (says_all (report_lines rs) b d says)

@@ -31,8 +31,10 @@ use Rattle.iss_store.specs.Standing.{StandsFor}
 use Rattle.iss_store.specs.Planning.{judged_as, Plans}
 use Rattle.iss_texts.specs.Sending.{Says, SaysSome}
 use Rattle.iss_device.specs.Runs.{run_at}
-use Rattle.iss_top.specs.Replaying.{AreFirstOf, Goes, GoesPart, IsSameDevice, TakesAs, TakesPartAs, response_to_plan, texts_left}
-use Rattle.iss_top.proofs.Goings.{first_self, goes_then, goes_then_part, says_goes, says_goes_part, part_more, part_nothing}
+use Rattle.iss_store.specs.Goings.{AreFirstOf}
+use Rattle.iss_top.specs.Replaying.{Goes, GoesPart, GoesSome, IsSameDevice, TakesAs, TakesPartAs, response_to_plan, texts_left}
+use Rattle.iss_store.proofs.NextRecords.{first_self}
+use Rattle.iss_top.proofs.Goings.{goes_then, goes_then_part, says_goes, says_goes_part, part_more, part_nothing}
 use Rattle.iss_top.proofs.Lasting.{planned_records}
 
 -- ---- what is judged new is the input itself
@@ -150,10 +152,17 @@ pub stays_and_says : (s : StoreNow) (rs : List Record) (texts : List (List ℕ))
 stays_and_says s rs texts a b stands says =
     subst (λ (l : List Record). StandsFor s l × Goes s rs l (at_level (length l) texts) a b) (sym (records_history rs)) (stands, says_goes s rs texts a b says)
 
-pub says_in_part : (s : StoreNow) (rs : List Record) (texts : List (List ℕ)) (a b : World) → SaysSome texts a b
-    → GoesPart s rs (history_of rs).records (at_level (length (history_of rs).records) texts) a b
-says_in_part s rs texts a b says =
-    subst (λ (l : List Record). GoesPart s rs l (at_level (length l) texts) a b) (sym (records_history rs)) (says_goes_part s rs texts a b says)
+-- some of what is said where no record is made
+pub says_in_part : (failed : Type 0) (s : StoreNow) (rs : List Record) (told : Response) (texts : List (List ℕ)) (a b : World) → AreFirstOf (history_of rs).records told.run.history.records
+    → told.texts ≡ at_level (length (history_of rs).records) texts → SaysSome texts a b → GoesSome failed s rs told a b
+says_in_part failed s rs told texts a b first is says =
+    record {
+      rs' = rs;
+      records = subst (λ (l : List Record). AreFirstOf l told.run.history.records) (records_history rs) first;
+      goes =
+          subst (λ (t : List Text). GoesPart failed s rs rs t a b) (ap (λ (l : List Record). at_level (length l) texts) (sym (records_history rs)) ∙ sym is)
+          (says_goes_part failed s rs texts a b says);
+    }
 
 answer_takes : (s : StoreNow) (i : Input) (at : Option ℕ) (stamp : ℕ) (answer : Answer) (a b : World) → stamp ≡ unwrap_or at 0 → PlansOn s i stamp (Err (plan_fault.Told answer))
     → Says (answer_text answer ∷ []) a b → TakesAs (told_input i at) s s a b
@@ -167,15 +176,15 @@ answer_takes s i at stamp answer a b is plans says =
           (stays_and_says s rs (answer_text answer ∷ []) a b stands says);
     }
 
-answer_takes_part : (s : StoreNow) (i : Input) (at : Option ℕ) (stamp : ℕ) (answer : Answer) (a b : World) → stamp ≡ unwrap_or at 0 → PlansOn s i stamp (Err (plan_fault.Told answer))
-    → SaysSome (answer_text answer ∷ []) a b → TakesPartAs (told_input i at) s a b
-answer_takes_part s i at stamp answer a b is plans says =
+answer_takes_part : (failed : Type 0) (s : StoreNow) (i : Input) (at : Option ℕ) (stamp : ℕ) (answer : Answer) (a b : World) → stamp ≡ unwrap_or at 0 → PlansOn s i stamp (Err (plan_fault.Told answer))
+    → SaysSome (answer_text answer ∷ []) a b → TakesPartAs failed (told_input i at) s a b
+answer_takes_part failed s i at stamp answer a b is plans says =
     record {
       left = says.left;
       on_book = λ rs stands.
-          subst (λ (r : Response). GoesPart s rs r.run.history.records r.texts a b)
+          subst (λ (r : Response). GoesSome failed s rs r a b)
           (sym (response_is s i at stamp rs (judged.Told answer) is (plans_told (judged_on s i stamp rs) answer (plans rs stands))))
-          (says_in_part s rs (answer_text answer ∷ []) a b says);
+          (says_in_part failed s rs (response_as (run_at s rs) i stamp (judged.Told answer)) (answer_text answer ∷ []) a b (first_self (history_of rs).records) refl says);
     }
 
 -- ---- a new one
@@ -248,9 +257,9 @@ clock_takes s s' i at stamp p a b c is clock plans takes says =
           );
     }
 
-clock_takes_part : (s s' : StoreNow) (i : Input) (at : Option ℕ) (stamp : ℕ) (p : Plan) (a b c : World) → stamp ≡ unwrap_or at 0 → p.is_clock ≡ true → PlansOn s i stamp (Ok p)
-    → TakesAs (response_to_plan p) s s' a b → SaysSome (texts_left s' i stamp) b c → TakesPartAs (told_input i at) s a c
-clock_takes_part s s' i at stamp p a b c is clock plans takes says =
+clock_takes_part : (failed : Type 0) (s s' : StoreNow) (i : Input) (at : Option ℕ) (stamp : ℕ) (p : Plan) (a b c : World) → stamp ≡ unwrap_or at 0 → p.is_clock ≡ true → PlansOn s i stamp (Ok p)
+    → TakesAs (response_to_plan p) s s' a b → SaysSome (texts_left s' i stamp) b c → TakesPartAs failed (told_input i at) s a c
+clock_takes_part failed s s' i at stamp p a b c is clock plans takes says =
     record {
       left = says.left ∙ takes.left;
       on_book = λ rs stands.
@@ -258,33 +267,42 @@ clock_takes_part s s' i at stamp p a b c is clock plans takes says =
           let told = response_to_plan p (run_at s rs) in
           let after = told.run.history.records in
           let left = at_level (length after) (texts_left s' i stamp) in
-          subst (λ (r : Response). GoesPart s rs r.run.history.records r.texts a c)
+          subst (λ (r : Response). GoesSome failed s rs r a c)
           (sym (planned_clock s i at stamp p rs is clock (plans rs stands)))
-          (subst (λ (t : List Text). GoesPart s rs after t a c) (sym (clock_texts s s' p i stamp rs clock takes.same first.0))
-          (goes_then_part s rs after after told.texts left a b c first.1 (says_goes_part s after (texts_left s' i stamp) b c says)));
+          (record {
+            rs' = after;
+            records = first_self after;
+            goes =
+                subst (λ (t : List Text). GoesPart failed s rs after t a c) (sym (clock_texts s s' p i stamp rs clock takes.same first.0))
+                (goes_then_part failed s rs after after told.texts left a b c first.1 (says_goes_part failed s after (texts_left s' i stamp) b c says));
+          });
     }
 
 -- ---- a record that wasn't kept, or not all of which was said
 
-failed_on_book : (clock : Bool) (s : StoreNow) (i : Input) (at : Option ℕ) (stamp : ℕ) (p : Plan) (rs : List Record) (a b : World) → p.is_clock ≡ clock → stamp ≡ unwrap_or at 0 → Plans (judged_on s i stamp rs) (Ok p)
-    → GoesPart s rs (response_to_plan p (run_at s rs)).run.history.records (response_to_plan p (run_at s rs)).texts a b
-    → GoesPart s rs (told_input i at (run_at s rs)).run.history.records (told_input i at (run_at s rs)).texts a b
-failed_on_book false s i at stamp p rs a b new is plans part =
-    subst (λ (r : Response). GoesPart s rs r.run.history.records r.texts a b) (sym (planned_new s i at stamp p rs is new plans)) part
-failed_on_book true s i at stamp p rs a b clock is plans part =
+failed_on_book : (failed : Type 0) (clock : Bool) (s : StoreNow) (i : Input) (at : Option ℕ) (stamp : ℕ) (p : Plan) (rs : List Record) (a b : World) → p.is_clock ≡ clock → stamp ≡ unwrap_or at 0 → Plans (judged_on s i stamp rs) (Ok p)
+    → GoesSome failed s rs (response_to_plan p (run_at s rs)) a b → GoesSome failed s rs (told_input i at (run_at s rs)) a b
+failed_on_book failed false s i at stamp p rs a b new is plans part =
+    subst (λ (r : Response). GoesSome failed s rs r a b) (sym (planned_new s i at stamp p rs is new plans)) part
+failed_on_book failed true s i at stamp p rs a b clock is plans part =
     let told = response_to_plan p (run_at s rs) in
     let after = told.run.history.records in
     let left = map (said_text_at s.core.instance) (answer_left (judge history_keeper told.run.history i stamp)) in
-    subst (λ (r : Response). GoesPart s rs r.run.history.records r.texts a b) (sym (planned_clock s i at stamp p rs is clock plans))
-    (subst (λ (t : List Text). GoesPart s rs after t a b) (sym (told_clock (run_at s rs) i stamp p clock))
-    (part_more s rs after told.texts (at_level (length after) left) a b part))
+    subst (λ (r : Response). GoesSome failed s rs r a b) (sym (planned_clock s i at stamp p rs is clock plans))
+    (record {
+      rs' = part.rs';
+      records = part.records;
+      goes =
+          subst (λ (t : List Text). GoesPart failed s rs part.rs' t a b) (sym (told_clock (run_at s rs) i stamp p clock))
+          (part_more failed s rs part.rs' told.texts (at_level (length after) left) a b part.goes);
+    })
 
-failed_takes_part : (s : StoreNow) (i : Input) (at : Option ℕ) (stamp : ℕ) (p : Plan) (a b : World) → stamp ≡ unwrap_or at 0 → PlansOn s i stamp (Ok p)
-    → TakesPartAs (response_to_plan p) s a b → TakesPartAs (told_input i at) s a b
-failed_takes_part s i at stamp p a b is plans part =
+failed_takes_part : (failed : Type 0) (s : StoreNow) (i : Input) (at : Option ℕ) (stamp : ℕ) (p : Plan) (a b : World) → stamp ≡ unwrap_or at 0 → PlansOn s i stamp (Ok p)
+    → TakesPartAs failed (response_to_plan p) s a b → TakesPartAs failed (told_input i at) s a b
+failed_takes_part failed s i at stamp p a b is plans part =
     record {
       left = part.left;
-      on_book = λ rs stands. failed_on_book p.is_clock s i at stamp p rs a b refl is (plans rs stands) (part.on_book rs stands);
+      on_book = λ rs stands. failed_on_book failed p.is_clock s i at stamp p rs a b refl is (plans rs stands) (part.on_book rs stands);
     }
 
 -- ---- nothing was done
@@ -301,30 +319,33 @@ response_first s (faulty text) = first_self s.history.records
 abbrev pub KeepsRecords : (Run → Response) → Type 0
 KeepsRecords told = (s : Run) → AreFirstOf s.history.records (told s).run.history.records
 
-pub nothing_taken : (told : Run → Response) (s : StoreNow) (a : World) → KeepsRecords told → TakesPartAs told s a a
-nothing_taken told s a keeps =
+pub nothing_taken : (failed : Type 0) (told : Run → Response) (s : StoreNow) (a : World) → KeepsRecords told → TakesPartAs failed told s a a
+nothing_taken failed told s a keeps =
     record {
       left = refl;
       on_book = λ rs stands.
-          part_nothing s rs (told (run_at s rs)).run.history.records (told (run_at s rs)).texts a
-          (subst (λ (l : List Record). AreFirstOf l (told (run_at s rs)).run.history.records) (records_history rs) (keeps (run_at s rs)));
+          record {
+            rs' = rs;
+            records = subst (λ (l : List Record). AreFirstOf l (told (run_at s rs)).run.history.records) (records_history rs) (keeps (run_at s rs));
+            goes = part_nothing failed s rs (told (run_at s rs)).texts a;
+          };
     }
 
 -- ---- the same of what an edge tells
 
-pub told_nothing_taken : (i : Input) (at : Option ℕ) (s : StoreNow) (x : Option World) → Told (TakesPartAs (told_input i at) s) x x
-told_nothing_taken i at s x =
-    told_self (TakesPartAs (told_input i at) s) x (λ a. nothing_taken (told_input i at) s a (λ run. response_first run (sound i at)))
+pub told_nothing_taken : (failed : Type 0) (i : Input) (at : Option ℕ) (s : StoreNow) (x : Option World) → Told (TakesPartAs failed (told_input i at) s) x x
+told_nothing_taken failed i at s x =
+    told_self (TakesPartAs failed (told_input i at) s) x (λ a. nothing_taken failed (told_input i at) s a (λ run. response_first run (sound i at)))
 
 pub told_answer : (s : StoreNow) (i : Input) (at : Option ℕ) (stamp : ℕ) (answer : Answer) (x y : Option World) → stamp ≡ unwrap_or at 0 → PlansOn s i stamp (Err (plan_fault.Told answer))
     → Told (Says (answer_text answer ∷ [])) x y → Told (TakesAs (told_input i at) s s) x y
 told_answer s i at stamp answer x y is plans says =
     told_map (Says (answer_text answer ∷ [])) (TakesAs (told_input i at) s s) x y (λ a b. answer_takes s i at stamp answer a b is plans) says
 
-pub told_answer_part : (s : StoreNow) (i : Input) (at : Option ℕ) (stamp : ℕ) (answer : Answer) (x y : Option World) → stamp ≡ unwrap_or at 0 → PlansOn s i stamp (Err (plan_fault.Told answer))
-    → Told (SaysSome (answer_text answer ∷ [])) x y → Told (TakesPartAs (told_input i at) s) x y
-told_answer_part s i at stamp answer x y is plans says =
-    told_map (SaysSome (answer_text answer ∷ [])) (TakesPartAs (told_input i at) s) x y (λ a b. answer_takes_part s i at stamp answer a b is plans) says
+pub told_answer_part : (failed : Type 0) (s : StoreNow) (i : Input) (at : Option ℕ) (stamp : ℕ) (answer : Answer) (x y : Option World) → stamp ≡ unwrap_or at 0 → PlansOn s i stamp (Err (plan_fault.Told answer))
+    → Told (SaysSome (answer_text answer ∷ [])) x y → Told (TakesPartAs failed (told_input i at) s) x y
+told_answer_part failed s i at stamp answer x y is plans says =
+    told_map (SaysSome (answer_text answer ∷ [])) (TakesPartAs failed (told_input i at) s) x y (λ a b. answer_takes_part failed s i at stamp answer a b is plans) says
 
 pub told_taken_new : (s s' : StoreNow) (i : Input) (at : Option ℕ) (stamp : ℕ) (p : Plan) (x y : Option World) → stamp ≡ unwrap_or at 0 → p.is_clock ≡ false → PlansOn s i stamp (Ok p)
     → Told (TakesAs (response_to_plan p) s s') x y → Told (TakesAs (told_input i at) s s') x y
@@ -337,13 +358,13 @@ told_taken_clock s s' i at stamp p x y z is clock plans takes says =
     told_then (TakesAs (response_to_plan p) s s') (Says (texts_left s' i stamp)) (TakesAs (told_input i at) s s') x y z
     (λ a b c. clock_takes s s' i at stamp p a b c is clock plans) takes says
 
-pub told_clock_part : (s s' : StoreNow) (i : Input) (at : Option ℕ) (stamp : ℕ) (p : Plan) (x y z : Option World) → stamp ≡ unwrap_or at 0 → p.is_clock ≡ true → PlansOn s i stamp (Ok p)
-    → Told (TakesAs (response_to_plan p) s s') x y → Told (SaysSome (texts_left s' i stamp)) y z → Told (TakesPartAs (told_input i at) s) x z
-told_clock_part s s' i at stamp p x y z is clock plans takes says =
-    told_then (TakesAs (response_to_plan p) s s') (SaysSome (texts_left s' i stamp)) (TakesPartAs (told_input i at) s) x y z
-    (λ a b c. clock_takes_part s s' i at stamp p a b c is clock plans) takes says
+pub told_clock_part : (failed : Type 0) (s s' : StoreNow) (i : Input) (at : Option ℕ) (stamp : ℕ) (p : Plan) (x y z : Option World) → stamp ≡ unwrap_or at 0 → p.is_clock ≡ true → PlansOn s i stamp (Ok p)
+    → Told (TakesAs (response_to_plan p) s s') x y → Told (SaysSome (texts_left s' i stamp)) y z → Told (TakesPartAs failed (told_input i at) s) x z
+told_clock_part failed s s' i at stamp p x y z is clock plans takes says =
+    told_then (TakesAs (response_to_plan p) s s') (SaysSome (texts_left s' i stamp)) (TakesPartAs failed (told_input i at) s) x y z
+    (λ a b c. clock_takes_part failed s s' i at stamp p a b c is clock plans) takes says
 
-pub told_failed : (s : StoreNow) (i : Input) (at : Option ℕ) (stamp : ℕ) (p : Plan) (x y : Option World) → stamp ≡ unwrap_or at 0 → PlansOn s i stamp (Ok p)
-    → Told (TakesPartAs (response_to_plan p) s) x y → Told (TakesPartAs (told_input i at) s) x y
-told_failed s i at stamp p x y is plans part =
-    told_map (TakesPartAs (response_to_plan p) s) (TakesPartAs (told_input i at) s) x y (λ a b. failed_takes_part s i at stamp p a b is plans) part
+pub told_failed : (failed : Type 0) (s : StoreNow) (i : Input) (at : Option ℕ) (stamp : ℕ) (p : Plan) (x y : Option World) → stamp ≡ unwrap_or at 0 → PlansOn s i stamp (Ok p)
+    → Told (TakesPartAs failed (response_to_plan p) s) x y → Told (TakesPartAs failed (told_input i at) s) x y
+told_failed failed s i at stamp p x y is plans part =
+    told_map (TakesPartAs failed (response_to_plan p) s) (TakesPartAs failed (told_input i at) s) x y (λ a b. failed_takes_part failed s i at stamp p a b is plans) part

@@ -3,6 +3,7 @@ use Rattle.std.proofs.Common.{◌≡◌, ℕ, Bool, true, false, cond, List, [],
 use Rattle.iss_edge.specs.World.{World, Told}
 use Rattle.iss_edge.proofs.Tolds.{told_map, told_self}
 use Rattle.iss_model.specs.declared.input.Record.{Record}
+use Rattle.iss_model.specs.rules.Histories.{history_of}
 use Rattle.iss_model.specs.run.Runs.{Run, Response, response}
 use Rattle.iss_model.specs.run.Transcripts.{Reading, sound, faulty}
 use Rattle.iss_agreement.proofs.Records.{records_history}
@@ -17,8 +18,10 @@ use Rattle.iss_texts.specs.Sending.{Says, SaysSome}
 use Rattle.iss_device.specs.Runs.{run_at}
 use Rattle.iss_top.specs.Dry.{as_reading, reading_of}
 use Rattle.iss_top.specs.Lines.{is_blank}
-use Rattle.iss_top.specs.Replaying.{told_line, AreFirstOf, Goes, GoesPart, TakesAs, TakesPartAs}
-use Rattle.iss_top.proofs.Goings.{first_self, goes_nothing}
+use Rattle.iss_store.specs.Goings.{AreFirstOf}
+use Rattle.iss_top.specs.Replaying.{told_line, Goes, GoesSome, TakesAs, TakesPartAs}
+use Rattle.iss_store.proofs.NextRecords.{first_self}
+use Rattle.iss_top.proofs.Goings.{goes_nothing}
 use Rattle.iss_top.proofs.Taken.{told_input, same_device, stays_and_says, says_in_part, response_first, KeepsRecords, nothing_taken}
 
 -- what a line does to a run
@@ -40,12 +43,12 @@ takes_same f g s s' a b same takes =
           (sym (same (run_at s rs))) (takes.on_book rs stands);
     }
 
-part_same : (f g : Run → Response) (s : StoreNow) (a b : World) → ((run : Run) → g run ≡ f run) → TakesPartAs f s a b → TakesPartAs g s a b
-part_same f g s a b same part =
+part_same : (failed : Type 0) (f g : Run → Response) (s : StoreNow) (a b : World) → ((run : Run) → g run ≡ f run) → TakesPartAs failed f s a b → TakesPartAs failed g s a b
+part_same failed f g s a b same part =
     record {
       left = part.left;
       on_book = λ rs stands.
-          subst (λ (r : Response). GoesPart s rs r.run.history.records r.texts a b) (sym (same (run_at s rs))) (part.on_book rs stands);
+          subst (λ (r : Response). GoesSome failed s rs r a b) (sym (same (run_at s rs))) (part.on_book rs stands);
     }
 
 -- ---- what a line is read as
@@ -88,12 +91,13 @@ fault_takes line fault s a b written read says =
       on_book = λ rs stands. stays_and_says s rs (form_text fault ∷ []) a b stands says;
     })
 
-fault_takes_part : (line : List ℕ) (fault : FormFault) (s : StoreNow) (a b : World) → is_blank line ≡ false → line_read Lines line ≡ Err fault → SaysSome (form_text fault ∷ []) a b → TakesPartAs (line_told line) s a b
-fault_takes_part line fault s a b written read says =
-    part_same (λ run. response run (faulty (form_text fault))) (line_told line) s a b (λ run. told_read line (faulty (form_text fault)) run written (reads_fault line fault read))
+fault_takes_part : (failed : Type 0) (line : List ℕ) (fault : FormFault) (s : StoreNow) (a b : World) → is_blank line ≡ false → line_read Lines line ≡ Err fault → SaysSome (form_text fault ∷ []) a b → TakesPartAs failed (line_told line) s a b
+fault_takes_part failed line fault s a b written read says =
+    part_same failed (λ run. response run (faulty (form_text fault))) (line_told line) s a b (λ run. told_read line (faulty (form_text fault)) run written (reads_fault line fault read))
     (record {
       left = says.left;
-      on_book = λ rs stands. says_in_part s rs (form_text fault ∷ []) a b says;
+      on_book = λ rs stands.
+          says_in_part failed s rs (response (run_at s rs) (faulty (form_text fault))) (form_text fault ∷ []) a b (first_self (history_of rs).records) refl says;
     })
 
 line_keeps : (line : List ℕ) (blank : Bool) → is_blank line ≡ blank → KeepsRecords (line_told line)
@@ -112,10 +116,10 @@ pub told_fault_line : (line : List ℕ) (fault : FormFault) (s : StoreNow) (x y 
 told_fault_line line fault s x y written read says =
     told_map (Says (form_text fault ∷ [])) (TakesAs (line_told line) s s) x y (λ a b. fault_takes line fault s a b written read) says
 
-pub told_fault_part : (line : List ℕ) (fault : FormFault) (s : StoreNow) (x y : Option World) → is_blank line ≡ false → line_read Lines line ≡ Err fault → Told (SaysSome (form_text fault ∷ [])) x y
-    → Told (TakesPartAs (line_told line) s) x y
-told_fault_part line fault s x y written read says =
-    told_map (SaysSome (form_text fault ∷ [])) (TakesPartAs (line_told line) s) x y (λ a b. fault_takes_part line fault s a b written read) says
+pub told_fault_part : (failed : Type 0) (line : List ℕ) (fault : FormFault) (s : StoreNow) (x y : Option World) → is_blank line ≡ false → line_read Lines line ≡ Err fault → Told (SaysSome (form_text fault ∷ [])) x y
+    → Told (TakesPartAs failed (line_told line) s) x y
+told_fault_part failed line fault s x y written read says =
+    told_map (SaysSome (form_text fault ∷ [])) (TakesPartAs failed (line_told line) s) x y (λ a b. fault_takes_part failed line fault s a b written read) says
 
 pub told_read_line : (line : List ℕ) (said : Line) (s s' : StoreNow) (x y : Option World) → is_blank line ≡ false → line_read Lines line ≡ Ok said → Told (TakesAs (told_input said.input said.at) s s') x y
     → Told (TakesAs (line_told line) s s') x y
@@ -124,13 +128,13 @@ told_read_line line said s s' x y written read takes =
     (λ a b. takes_same (told_input said.input said.at) (line_told line) s s' a b (λ run. told_read line (sound said.input said.at) run written (reads_sound line said read)))
     takes
 
-pub told_read_part : (line : List ℕ) (said : Line) (s : StoreNow) (x y : Option World) → is_blank line ≡ false → line_read Lines line ≡ Ok said → Told (TakesPartAs (told_input said.input said.at) s) x y
-    → Told (TakesPartAs (line_told line) s) x y
-told_read_part line said s x y written read part =
-    told_map (TakesPartAs (told_input said.input said.at) s) (TakesPartAs (line_told line) s) x y
-    (λ a b. part_same (told_input said.input said.at) (line_told line) s a b (λ run. told_read line (sound said.input said.at) run written (reads_sound line said read)))
+pub told_read_part : (failed : Type 0) (line : List ℕ) (said : Line) (s : StoreNow) (x y : Option World) → is_blank line ≡ false → line_read Lines line ≡ Ok said → Told (TakesPartAs failed (told_input said.input said.at) s) x y
+    → Told (TakesPartAs failed (line_told line) s) x y
+told_read_part failed line said s x y written read part =
+    told_map (TakesPartAs failed (told_input said.input said.at) s) (TakesPartAs failed (line_told line) s) x y
+    (λ a b. part_same failed (told_input said.input said.at) (line_told line) s a b (λ run. told_read line (sound said.input said.at) run written (reads_sound line said read)))
     part
 
-pub told_no_line : (line : List ℕ) (s : StoreNow) (x : Option World) → Told (TakesPartAs (line_told line) s) x x
-told_no_line line s x =
-    told_self (TakesPartAs (line_told line) s) x (λ a. nothing_taken (line_told line) s a (line_keeps line (is_blank line) refl))
+pub told_no_line : (failed : Type 0) (line : List ℕ) (s : StoreNow) (x : Option World) → Told (TakesPartAs failed (line_told line) s) x x
+told_no_line failed line s x =
+    told_self (TakesPartAs failed (line_told line) s) x (λ a. nothing_taken failed (line_told line) s a (line_keeps line (is_blank line) refl))

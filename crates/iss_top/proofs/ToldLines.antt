@@ -10,7 +10,8 @@ use Rattle.iss_store.specs.Values.{StoreNow}
 use Rattle.iss_device.specs.Runs.{run_at, run_on}
 use Rattle.iss_top.specs.Lines.{is_blank}
 use Rattle.iss_top.specs.Dry.{reading_of}
-use Rattle.iss_top.specs.Replaying.{told_line, told_lines, then_told, AreFirstOf, IsSameDevice}
+use Rattle.iss_store.specs.Goings.{AreFirstOf}
+use Rattle.iss_top.specs.Replaying.{told_line, told_lines, then_told, IsSameDevice}
 use Rattle.iss_top.proofs.Continues.{run_left}
 
 -- ---- in a row

@@ -10,13 +10,12 @@ use Rattle.iss_store.specs.declared.fault.StoreFault.{StoreFault}
 use Rattle.iss_store.specs.declared.fault.StoreFault.TheVariants as store
 use Rattle.iss_store.specs.Values.{StoreNow}
 use Rattle.iss_store.specs.Standing.{StandsFor, DeviceStandsFor}
-use Rattle.iss_store.specs.Opening.{Opens, OpensGood, ReadsAlone, OnRefused, OpenCause, IsOfDiskOrMemory}
+use Rattle.iss_store.specs.Opening.{Opens, OpensGood, ReadsAlone, OnRefused, OpenCause, IsOfDiskOrMemory, OpenedAs}
 use Rattle.iss_store.specs.Saying.{texts_pending, texts_pending_on_book, SayingCause}
 use Rattle.iss_store.proofs.GoodDevices.{good_device}
 use Rattle.iss_store.proofs.ToldReadings.{told_both}
 use Rattle.iss_texts.specs.Sending.{Says, SaysSome}
 use Rattle.iss_device.specs.Runs.{run_at}
-use Rattle.iss_device.specs.Opened.{OpenedAs}
 use Rattle.iss_device.specs.Refusals.{RefusesExactly, opening_status}
 use Rattle.iss_device.proofs.Devices.{Behind, stands_opened, told_behind}
 use Rattle.iss_device.proofs.Refusals.{opened_refuses, told_refuses}
@@ -47,16 +46,32 @@ not_this n m ends le e = elim ends [ inl six ↦ absurd (omega (arith, six, le, 
 not_eight : (n : ℕ) → (n ≡ 6) ⊎ (n ≡ 7) → n ≡ 8 → ⊥
 not_eight n ends e = elim ends [ inl six ↦ absurd (omega (arith, six, e)) | inr seven ↦ absurd (omega (arith, seven, e)) ]
 
-unopened_run : (fault : OpenFault) (a b : World) → Opens (Err fault) a b → OpensGood a b → ReplayRun (ends_with (stop_of_opening fault)) a b
-unopened_run fault a b opens good instance rs stands =
+-- nothing was done but maybe a sync, unless a call on the device failed
+abbrev pub ReadsUnless : OpenFault → World → World → Type 0
+ReadsUnless fault a b = (ends_with (stop_of_opening fault) ≡ 6 → ⊥) → ReadsAlone a b
+
+reads_at_all : (fault : OpenFault) (x y : Option World) → Told ReadsAlone x y → Told (ReadsUnless fault) x y
+reads_at_all fault x y reads = told_map ReadsAlone (ReadsUnless fault) x y (λ a b r other. r) reads
+
+pub told_unless : (fault : OpenFault) (x y : Option World) → Told OpensGood x y → OnRefused {T = StoreNow} (Err fault) (Told ReadsAlone x y) → Told (ReadsUnless fault) x y
+told_unless Disk x y good reads = told_map OpensGood (ReadsUnless Disk) x y (λ a b g other. absurd (other refl)) good
+told_unless OutOfMemory x y good reads = reads_at_all OutOfMemory x y reads
+told_unless NotFormatted x y good reads = reads_at_all NotFormatted x y reads
+told_unless (BadRecord gate) x y good reads = reads_at_all (BadRecord gate) x y reads
+told_unless (BadSpelling gate) x y good reads = reads_at_all (BadSpelling gate) x y reads
+told_unless (BadHistory gate) x y good reads = reads_at_all (BadHistory gate) x y reads
+
+unopened_run : (fault : OpenFault) (a b : World) → Opens (Err fault) a b → OpensGood a b → ReadsUnless fault a b → ReplayRun (ends_with (stop_of_opening fault)) a b
+unopened_run fault a b opens good reads instance rs stands =
     let n = ends_with (stop_of_opening fault) in
     let ends : (n ≡ 6) ⊎ (n ≡ 7) = opening_ends fault (good_device instance rs fault a b stands opens) in
-    not_opened_on n instance rs a b (not_this n 0 ends (omega arith)) (not_this n 3 ends (omega arith)) (not_this n 4 ends (omega arith)) (not_eight n ends) good
+    not_opened_on n instance rs a b (not_this n 0 ends (omega arith)) (not_this n 3 ends (omega arith)) (not_this n 4 ends (omega arith)) (not_eight n ends) good reads
 
-pub told_unopened_run : (fault : OpenFault) (x y : Option World) → Told (Opens (Err fault)) x y → Told OpensGood x y → Told (ReplayRun (ends_with (stop_of_opening fault))) x y
-told_unopened_run fault x y opens good =
-    told_map (λ a b. Opens (Err fault) a b × OpensGood a b) (ReplayRun (ends_with (stop_of_opening fault))) x y (λ a b p. unopened_run fault a b p.0 p.1)
-    (told_both (Opens (Err fault)) OpensGood x y opens good)
+pub told_unopened_run : (fault : OpenFault) (x y : Option World) → Told (Opens (Err fault)) x y → Told OpensGood x y → OnRefused {T = StoreNow} (Err fault) (Told ReadsAlone x y)
+    → Told (ReplayRun (ends_with (stop_of_opening fault))) x y
+told_unopened_run fault x y opens good reads =
+    told_map (λ a b. (Opens (Err fault) a b × OpensGood a b) × ReadsUnless fault a b) (ReplayRun (ends_with (stop_of_opening fault))) x y (λ a b p. unopened_run fault a b p.0.0 p.0.1 p.1)
+    (told_both (λ a b. Opens (Err fault) a b × OpensGood a b) (ReadsUnless fault) x y (told_both (Opens (Err fault)) OpensGood x y opens good) (told_unless fault x y good reads))
 
 pub told_unopened_moments : (x y : Option World) → Told OpensGood x y → Told EveryMomentStands x y
 told_unopened_moments x y good =

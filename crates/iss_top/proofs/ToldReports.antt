@@ -8,14 +8,13 @@ use Rattle.iss_core.specs.Values as cores
 use Rattle.iss_store.specs.declared.fault.OpenFault.{OpenFault}
 use Rattle.iss_store.specs.declared.fault.OpenFault.TheVariants.{Disk, NotFormatted, BadRecord, BadSpelling, BadHistory, OutOfMemory}
 use Rattle.iss_store.specs.Values.{StoreNow}
-use Rattle.iss_store.specs.Opening.{Opens, OpensGood, OpenCause}
+use Rattle.iss_store.specs.Opening.{Opens, OpensGood, OpenCause, OpenedAs, ReadsAlone, OnRefused}
 use Rattle.iss_store.proofs.GoodDevices.{good_device}
 use Rattle.iss_store.proofs.ToldReadings.{told_both}
 use Rattle.iss_texts.specs.declared.row.Texts.{Texts}
 use Rattle.iss_texts.specs.TextRows.{HasAll}
 use Rattle.iss_texts.specs.Sending.{Says, SaysSome, IsSending}
 use Rattle.iss_texts.proofs.ToldSaying.{told_none}
-use Rattle.iss_device.specs.Opened.{OpenedAs}
 use Rattle.iss_device.specs.Refusals.{RefusesExactly}
 use Rattle.iss_device.proofs.Devices.{Behind, stands_opened, told_behind}
 use Rattle.iss_device.proofs.Refusals.{opened_refuses}
@@ -24,21 +23,22 @@ use Rattle.iss_top.specs.declared.stop.Stop.TheVariants as stop
 use Rattle.iss_top.specs.Statuses.{status_of, stop_of_opening}
 use Rattle.iss_top.specs.Reports.{report_lines, ReportRun, ReportMomentStands, IsReportCaused, ReportEndsWell}
 use Rattle.iss_top.proofs.OnTheWay.{ends_with}
-use Rattle.iss_top.proofs.ToldReplays.{opening_ends, not_this}
+use Rattle.iss_top.proofs.ToldReplays.{opening_ends, not_this, ReadsUnless, told_unless}
 use Rattle.iss_top.proofs.ReportRuns.{unopened_report_on, unopened_report_moments, part_on, whole_on, part_moments, whole_moments}
 
 -- ---- the device didn't open
 
-unopened_report : (fault : OpenFault) (a b : World) → Opens (Err fault) a b → OpensGood a b → ReportRun (ends_with (stop_of_opening fault)) a b
-unopened_report fault a b opens good instance rs stands =
+unopened_report : (fault : OpenFault) (a b : World) → Opens (Err fault) a b → OpensGood a b → ReadsUnless fault a b → ReportRun (ends_with (stop_of_opening fault)) a b
+unopened_report fault a b opens good reads instance rs stands =
     let n = ends_with (stop_of_opening fault) in
     let ends : (n ≡ 6) ⊎ (n ≡ 7) = opening_ends fault (good_device instance rs fault a b stands opens) in
-    unopened_report_on n instance rs a b (not_this n 0 ends (omega arith)) (not_this n 4 ends (omega arith)) (not_this n 5 ends (omega arith)) good
+    unopened_report_on n instance rs a b (not_this n 0 ends (omega arith)) (not_this n 4 ends (omega arith)) (not_this n 5 ends (omega arith)) good reads
 
-pub told_unopened_report : (fault : OpenFault) (x y : Option World) → Told (Opens (Err fault)) x y → Told OpensGood x y → Told (ReportRun (ends_with (stop_of_opening fault))) x y
-told_unopened_report fault x y opens good =
-    told_map (λ a b. Opens (Err fault) a b × OpensGood a b) (ReportRun (ends_with (stop_of_opening fault))) x y (λ a b p. unopened_report fault a b p.0 p.1)
-    (told_both (Opens (Err fault)) OpensGood x y opens good)
+pub told_unopened_report : (fault : OpenFault) (x y : Option World) → Told (Opens (Err fault)) x y → Told OpensGood x y → OnRefused {T = StoreNow} (Err fault) (Told ReadsAlone x y)
+    → Told (ReportRun (ends_with (stop_of_opening fault))) x y
+told_unopened_report fault x y opens good reads =
+    told_map (λ a b. (Opens (Err fault) a b × OpensGood a b) × ReadsUnless fault a b) (ReportRun (ends_with (stop_of_opening fault))) x y (λ a b p. unopened_report fault a b p.0.0 p.0.1 p.1)
+    (told_both (λ a b. Opens (Err fault) a b × OpensGood a b) (ReadsUnless fault) x y (told_both (Opens (Err fault)) OpensGood x y opens good) (told_unless fault x y good reads))
 
 pub told_unopened_report_moments : (x y : Option World) → Told OpensGood x y → Told ReportMomentStands x y
 told_unopened_report_moments x y good =

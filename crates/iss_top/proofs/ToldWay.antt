@@ -1,5 +1,5 @@
 -- The same of what an edge tells: the lines of a run on a device, and each of its ends.
-use Rattle.std.proofs.Common.{◌≡◌, ℕ, ◌≤◌, true, false, List, Option, subst}
+use Rattle.std.proofs.Common.{◌≡◌, ℕ, ◌≤◌, true, false, List, Option, refl, subst}
 use Rattle.iss_edge.specs.World.{World, Told, Faults}
 use Rattle.iss_edge.proofs.Tolds.{told_then, told_self}
 use Rattle.iss_model.specs.declared.limits.TheConstants.{MOST_INPUT}
@@ -7,7 +7,7 @@ use Rattle.iss_store.specs.Values.{StoreNow}
 use Rattle.iss_top.specs.declared.stop.Stop.{Stop}
 use Rattle.iss_top.specs.declared.stop.Stop.TheVariants as stop
 use Rattle.iss_top.specs.Reader.{ReaderNow, fresh_reader, ReadsOn, ReadsPart, ReadsNoPart, ReadingCause}
-use Rattle.iss_top.specs.Replaying.{told_line, TakesAs, TakesPartAs, IsReplaying, RunsFrom, TakingCause}
+use Rattle.iss_top.specs.Replaying.{told_line, IsOfDisk, TakesAs, TakesPartAs, IsReplaying, RunsFrom, TakingCause}
 use Rattle.iss_top.proofs.OnTheWay.{ends_with, way_begins, way_goes_on, ends_in_line, ends_reading, ends_at_start, ends_well}
 
 pub told_way_begins : (s : StoreNow) (now : ReaderNow) (x : Option World) → now ≡ fresh_reader → Told (IsReplaying s s now) x x
@@ -69,15 +69,24 @@ taking_not_device before now stop.Disk cause e = cc
 taking_not_device before now stop.Memory cause e = cc
 taking_not_device before now stop.InputLong cause e = absurd cause
 
+-- a fault of the disk has its status
+disk_status : (why : Stop) → IsOfDisk why → ends_with why ≡ 6
+disk_status stop.Input is = absurd is
+disk_status stop.Device is = absurd is
+disk_status stop.Output is = absurd is
+disk_status stop.Disk is = refl
+disk_status stop.Memory is = absurd is
+disk_status stop.InputLong is = absurd is
+
 pub told_line_fails : (why : Stop) (f f' : Faults) (opened s : StoreNow) (before now : ReaderNow) (line : List ℕ) (x y z w : Option World) → TakingCause f f' why → line ≡ now.line
-    → Told (IsReplaying opened s before) x y → Told (ReadsOn true before now) y z → Told (TakesPartAs (λ k. told_line k line) s) z w → Told (RunsFrom (ends_with why) opened) x w
+    → Told (IsReplaying opened s before) x y → Told (ReadsOn true before now) y z → Told (TakesPartAs (IsOfDisk why) (λ k. told_line k line) s) z w → Told (RunsFrom (ends_with why) opened) x w
 told_line_fails why f f' opened s before now line x y z w cause same way reads taken =
-    told_then (HasNext opened s before now) (TakesPartAs (λ k. told_line k now.line) s) (RunsFrom (ends_with why) opened) x z w
+    told_then (HasNext opened s before now) (TakesPartAs (IsOfDisk why) (λ k. told_line k now.line) s) (RunsFrom (ends_with why) opened) x z w
     (λ a c d next t.
-    ends_in_line opened s before now a next.between c next.way next.going next.reads d (ends_with why)
-    (taking_not_done f f' why cause) (taking_not_input f f' why cause) (taking_not_long f f' why cause) t)
+    ends_in_line opened s before now a next.between c next.way next.going next.reads (IsOfDisk why) d (ends_with why)
+    (taking_not_done f f' why cause) (taking_not_input f f' why cause) (taking_not_long f f' why cause) (disk_status why) t)
     (told_next opened s before now x y z way reads)
-    (subst (λ (l : List ℕ). Told (TakesPartAs (λ k. told_line k l) s) z w) same taken)
+    (subst (λ (l : List ℕ). Told (TakesPartAs (IsOfDisk why) (λ k. told_line k l) s) z w) same taken)
 
 -- reading ends with status 3, 7 or 8, and with 8 where the input is too long alone
 reading_not_done : (before now : Faults) (s : Stop) → ReadingCause before now s → ends_with s ≡ 0 → ⊥

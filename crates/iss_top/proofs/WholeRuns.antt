@@ -6,7 +6,6 @@ use Rattle.std.proofs.lemmas.List.{append_cancel_left}
 use Rattle.iss_edge.specs.declared.outside.Action.{Action}
 use Rattle.iss_edge.specs.World.{World}
 use Rattle.iss_edge.specs.Stretches.{actions_of}
-use Rattle.iss_journal.specs.Region.{Region, RestsFirst}
 use Rattle.iss_model.specs.declared.input.Record.{Record}
 use Rattle.iss_model.specs.declared.limits.TheConstants.{MOST_INPUT}
 use Rattle.iss_model.specs.rules.Histories.{nothing_yet, IsLegal}
@@ -15,20 +14,24 @@ use Rattle.iss_model.specs.run.Runs.{Run, accepted_records, transcript_of}
 use Rattle.iss_agreement.proofs.Records.{records_history}
 use Rattle.iss_agreement.proofs.RunLaws.{accepted_legal}
 use Rattle.iss_store.specs.Values.{StoreNow}
-use Rattle.iss_store.specs.Standing.{region_of, region_under, bodies_of, DeviceStandsFor, RestsAt}
-use Rattle.iss_store.specs.Opening.{OpensGood}
+use Rattle.iss_store.specs.Standing.{DeviceStandsFor}
+use Rattle.iss_store.specs.Opening.{OpensGood, ReadsAlone, OpenedAs}
 use Rattle.iss_texts.specs.Sending.{emits, GoOut}
 use Rattle.iss_device.specs.Runs.{run_at, run_on_device}
-use Rattle.iss_device.specs.Opened.{OpenedAs, IsOpenedOn}
-use Rattle.iss_device.proofs.NextRecords.{legal_append}
-use Rattle.iss_device.proofs.Devices.{stands_opened, region_opened, run_opened, rests_stands}
+use Rattle.iss_device.specs.Opened.{IsOpenedOn}
+use Rattle.iss_store.proofs.NextRecords.{legal_append}
+use Rattle.iss_device.specs.Moments.{EndsAtRest}
+use Rattle.iss_device.proofs.Moments.{rests_now, ends_at_rest}
+use Rattle.iss_device.proofs.Devices.{stands_opened, run_opened, rests_stands}
 use Rattle.iss_top.specs.Lines.{is_blank, parts_of, lines_of, all_but_last}
 use Rattle.iss_top.specs.Dry.{each_bytes}
 use Rattle.iss_top.specs.Reader.{TakesIn}
-use Rattle.iss_top.specs.Replaying.{is_of_run, outputs_of, AreFirstOf, GoesPart, GoesWhole, RunsAs}
-use Rattle.iss_top.specs.Replays.{texts_for, records_for, Replayed, ReplayOn, EveryMoment}
+use Rattle.iss_store.specs.Goings.{AreFirstOf}
+use Rattle.iss_top.specs.Replaying.{is_of_run, outputs_of, text_steps, GoesPart, GoesWhole, RunsAs}
+use Rattle.iss_top.specs.Replays.{texts_for, records_for, Replayed, EndsSomewhere, ReplayOn, EveryMoment}
 use Rattle.iss_top.proofs.ToldLines.{readings_of, told_from_start, transcript_told, told_records}
 use Rattle.iss_top.proofs.Beginnings.{outputs_behind, kinds_behind}
+use Rattle.iss_top.proofs.Goings.{part_out, part_kinds, goes_outputs}
 use Rattle.iss_top.proofs.Moments.{moments_unopened, moments_opened}
 
 -- ---- the records of a run
@@ -54,8 +57,8 @@ not_opened_moments instance rs a b good stands =
     moments_unopened instance rs (made_later instance rs a) (texts_for (run_on_device instance rs a.device) (lines_of (a.left 0))) a b good stands (made_legal instance rs a stands)
 
 -- nothing went out
-pub not_opened_on : (status instance : ℕ) (rs : List Record) (a b : World) → (status ≡ 0 → ⊥) → (status ≡ 3 → ⊥) → (status ≡ 4 → ⊥) → (status ≡ 8 → ⊥) → OpensGood a b → ReplayOn status instance rs a b
-not_opened_on status instance rs a b not_done not_input not_device not_long good =
+pub not_opened_on : (status instance : ℕ) (rs : List Record) (a b : World) → (status ≡ 0 → ⊥) → (status ≡ 3 → ⊥) → (status ≡ 4 → ⊥) → (status ≡ 8 → ⊥) → OpensGood a b → ((status ≡ 6 → ⊥) → ReadsAlone a b) → ReplayOn status instance rs a b
+not_opened_on status instance rs a b not_done not_input not_device not_long good reads =
     let texts = each_bytes (texts_for (run_on_device instance rs a.device) (lines_of (a.left 0))) in
     let none : outputs_of good.added ≡ [] = ap outputs_of (sym (append-nil good.added)) ∙ outputs_behind good.added [] good.on_device in
     record {
@@ -71,6 +74,7 @@ not_opened_on status instance rs a b not_done not_input not_device not_long good
       stopped = λ e. elim e [ inl at ↦ absurd (not_input at) | inr at ↦ absurd (not_long at) ];
       long = (λ e. absurd (not_long e), λ e. absurd (omega (arith, e)));
       bound = omega arith;
+      ended = λ other. inl (reads other);
       other_device = not_device;
     }
 
@@ -83,9 +87,6 @@ module _ (instance : ℕ) (rs : List Record) (s : StoreNow) (status : ℕ) (took
 
   same_run : run_at s rs ≡ run_on_device instance rs a.device
   same_run = run_opened instance rs s a.device opened
-
-  region_is : region_under s ≡ region_of instance (length a.device)
-  region_is = region_opened instance (length a.device) rs s opened
 
   input : parts_of (b.left 0) ≡ parts_of (a.left 0)
   input = ap (λ (l : ℕ → List ℕ). parts_of (l 0)) opening.good.left
@@ -100,16 +101,16 @@ module _ (instance : ℕ) (rs : List Record) (s : StoreNow) (status : ℕ) (took
       ∙ ap (λ (k : Run). rs ++ accepted_records k (readings_of parts)) same_run
 
   abbrev done : List Action
-  done = opening.good.added ++ actions_of runs.goes.steps
+  done = opening.good.added ++ actions_of runs.goes.part.steps
 
   trace_grew : d.trace ≡ a.trace ++ done
   trace_grew =
-      runs.goes.grew
-      ∙ ap (λ (t : List Action). t ++ actions_of runs.goes.steps) opening.good.grew
-      ∙ append_assoc a.trace opening.good.added (actions_of runs.goes.steps)
+      runs.goes.part.grew
+      ∙ ap (λ (t : List Action). t ++ actions_of runs.goes.part.steps) opening.good.grew
+      ∙ append_assoc a.trace opening.good.added (actions_of runs.goes.part.steps)
 
-  sent : outputs_of done ≡ outputs_of (actions_of runs.goes.steps)
-  sent = outputs_behind opening.good.added (actions_of runs.goes.steps) opening.good.on_device
+  sent : outputs_of done ≡ outputs_of (actions_of runs.goes.part.steps)
+  sent = outputs_behind opening.good.added (actions_of runs.goes.part.steps) opening.good.on_device
 
   -- what the input is to be told is the transcript
   all_texts : (told_from_start (run_at s rs) (parts_of (b.left 0))).texts ≡ texts_for (run_on_device instance rs a.device) (lines_of (a.left 0))
@@ -119,24 +120,51 @@ module _ (instance : ℕ) (rs : List Record) (s : StoreNow) (status : ℕ) (took
   went_out : GoOut (each_bytes (texts_for (run_on_device instance rs a.device) (lines_of (a.left 0)))) (outputs_of done)
   went_out =
       subst (λ (l : List Action). GoOut (each_bytes (texts_for (run_on_device instance rs a.device) (lines_of (a.left 0)))) l) (sym sent)
-      (subst (λ (t : List Text). GoOut (each_bytes t) (outputs_of (actions_of runs.goes.steps))) all_texts runs.goes.out)
+      (subst (λ (t : List Text). GoOut (each_bytes t) (outputs_of (actions_of runs.goes.part.steps))) all_texts
+      (part_out s rs runs.rs' (told_from_start (run_at s rs) (parts_of (b.left 0))).texts b d (status ≡ 6) runs.goes))
 
   -- what was done for exactly these parts
   replayed : (parts : List (List ℕ)) → GoesWhole s rs (told_from_start (run_at s rs) parts) b d → Replayed instance rs (filter (λ (part : List ℕ). not (is_blank part)) parts) done a d
   replayed parts whole =
       let told = told_from_start (run_at s rs) parts in
-      let same : actions_of runs.goes.steps ≡ actions_of whole.goes.steps =
-      append_cancel_left b.trace (actions_of runs.goes.steps) (actions_of whole.goes.steps) (sym runs.goes.grew ∙ whole.goes.grew) in
-      let start : RestsAt s rs b.device (length rs) =
-      subst (λ (r : Region). RestsFirst r (bodies_of rs) b.device (length rs)) (sym region_is) (opening.going.rests rs instance stands) in
-      let rests : RestsFirst (region_of instance (length a.device)) (bodies_of told.run.history.records) d.device (length told.run.history.records) =
-      subst (λ (r : Region). RestsFirst r (bodies_of told.run.history.records) d.device (length told.run.history.records)) region_is (whole.goes.rests start) in
+      let same : actions_of runs.goes.part.steps ≡ actions_of whole.goes.steps =
+      append_cancel_left b.trace (actions_of runs.goes.part.steps) (actions_of whole.goes.steps) (sym runs.goes.part.grew ∙ whole.goes.grew) in
       record {
-        out = sent ∙ ap outputs_of same ∙ whole.goes.out ∙ ap (λ (t : List Text). emits (each_bytes t)) (texts_are parts);
+        out = sent ∙ ap outputs_of same ∙ goes_outputs s rs told.run.history.records told.texts b d whole.goes ∙ ap (λ (t : List Text). emits (each_bytes t)) (texts_are parts);
         stands =
             subst (λ (l : List Record). DeviceStandsFor instance l d.device) (records_are parts)
-            (rests_stands instance (length a.device) told.run.history.records d.device stands.header.size stands.header.small whole.history rests);
+            (rests_stands instance (length a.device) told.run.history.records d.device stands.header.size stands.header.small whole.history
+            (rests_now instance rs s a b opening stands told.run.history.records (text_steps told.texts) d whole.goes));
+        ends =
+            subst (λ (l : List Record). EndsAtRest instance rs l done a d) (records_are parts)
+            (subst (λ (l : List Action). EndsAtRest instance rs told.run.history.records (opening.good.added ++ l) a d) (sym same)
+            (ends_at_rest instance rs s a b opening stands told.run.history.records (text_steps told.texts) d whole.goes));
       }
+
+  -- ---- where it ends
+
+  made_first : AreFirstOf runs.rs' (made_by instance rs a)
+  made_first =
+      let told : (told_from_start (run_at s rs) (parts_of (b.left 0))).run.history.records ≡ made_by instance rs a =
+      ap (λ (l : List (List ℕ)). (told_from_start (run_at s rs) l).run.history.records) input ∙ records_are (parts_of (a.left 0)) in
+      subst (λ (l : List Record). AreFirstOf runs.rs' l) told runs.records
+
+  ended_somewhere : (status ≡ 6 → ⊥) → EndsSomewhere instance rs done a d
+  ended_somewhere other =
+      elim runs.goes.whole [
+        | inl goes ↦
+            let same : actions_of runs.goes.part.steps ≡ actions_of goes.steps =
+            append_cancel_left b.trace (actions_of runs.goes.part.steps) (actions_of goes.steps) (sym runs.goes.part.grew ∙ goes.grew) in
+            inr (
+              runs.rs',
+              (
+                made_first,
+                subst (λ (l : List Action). EndsAtRest instance rs runs.rs' (opening.good.added ++ l) a d) (sym same)
+                    (ends_at_rest instance rs s a b opening stands runs.rs' runs.goes.said d goes),
+              ),
+            )
+        | inr fails ↦ absurd (other fails)
+      ]
 
   pub replay_on : (status ≡ 4 → ⊥) → TakesIn took b d → (status ≡ 8) ↔ (length took ≡ MOST_INPUT + 1) → length took ≤ MOST_INPUT + 1 → ReplayOn status instance rs a d
   replay_on not_device takes long bound =
@@ -149,7 +177,7 @@ module _ (instance : ℕ) (rs : List Record) (s : StoreNow) (status : ℕ) (took
             };
         actions = done;
         grew = trace_grew;
-        kinds = kinds_behind opening.good.added (actions_of runs.goes.steps) opening.good.on_device runs.goes.kinds;
+        kinds = kinds_behind opening.good.added (actions_of runs.goes.part.steps) opening.good.on_device (part_kinds s rs runs.rs' (told_from_start (run_at s rs) (parts_of (b.left 0))).texts b d (status ≡ 6) runs.goes);
         out = went_out;
         whole =
             λ e.
@@ -160,18 +188,13 @@ module _ (instance : ℕ) (rs : List Record) (s : StoreNow) (status : ℕ) (took
         stopped = λ e. replayed (all_but_last (parts_of (take MOST_INPUT took))) (runs.stopped e);
         long = long;
         bound = bound;
+        ended = ended_somewhere;
         other_device = not_device;
       }
 
   -- ---- each moment
 
-  made_first : AreFirstOf runs.rs' (made_by instance rs a)
-  made_first =
-      let told : (told_from_start (run_at s rs) (parts_of (b.left 0))).run.history.records ≡ made_by instance rs a =
-      ap (λ (l : List (List ℕ)). (told_from_start (run_at s rs) l).run.history.records) input ∙ records_are (parts_of (a.left 0)) in
-      subst (λ (l : List Record). AreFirstOf runs.rs' l) told runs.records
-
   pub every_moment : EveryMoment instance rs a d
   every_moment =
-      moments_opened instance rs (made_later instance rs a) runs.rs' (texts_for (run_on_device instance rs a.device) (lines_of (a.left 0))) s a b d opening stands
-      (made_legal instance rs a stands) made_first (subst (λ (t : List Text). GoesPart s rs runs.rs' t b d) all_texts runs.goes)
+      moments_opened (status ≡ 6) instance rs (made_by instance rs a) runs.rs' (texts_for (run_on_device instance rs a.device) (lines_of (a.left 0))) s a b d opening stands
+      (made_legal instance rs a stands) made_first (subst (λ (t : List Text). GoesPart (status ≡ 6) s rs runs.rs' t b d) all_texts runs.goes)

@@ -1,10 +1,9 @@
 -- A run on a device on its way: what each line is told on what stands, what was done for it, and what the rest of the input will be told.
-use Rattle.std.specs.Prelude.{◌≡◌, ℕ, ◌+◌, ◌≤◌, ◌==◌, ◌↔◌, ◌⊎◌, Bool, true, false, List, [], ◌∷◌, ◌++◌, length, map, filter, take, Some, IsTrue, IfErr, Result, if◌then◌else◌}
-use Rattle.std.specs.List.{list_all}
+use Rattle.std.specs.Prelude.{◌≡◌, ℕ, ◌+◌, ◌≤◌, ◌==◌, ◌↔◌, ◌⊎◌, Bool, true, false, List, [], ◌∷◌, ◌++◌, length, map, filter, take, Some, IfErr, Result, if◌then◌else◌}
 use Rattle.iss_edge.specs.declared.outside.Action.{Action}
 use Rattle.iss_edge.specs.declared.outside.Action.TheVariants.{Write, Sync, Emit, Dial, Close}
 use Rattle.iss_edge.specs.World.{World, Faults, Later, Rose}
-use Rattle.iss_edge.specs.Stretches.{Step, actions_of, IsGood, GoesOn}
+use Rattle.iss_edge.specs.Stretches.{Step, actions_of}
 use Rattle.iss_model.specs.declared.input.Record.{Record}
 use Rattle.iss_model.specs.declared.limits.TheConstants.{MOST_INPUT}
 use Rattle.iss_model.specs.declared.input.Input.{Input}
@@ -16,8 +15,10 @@ use Rattle.iss_model.specs.run.Runs.{Run, Response, response}
 use Rattle.iss_model.specs.run.Sayings.{reaction_to_record, said_of_time, answer_left}
 use Rattle.iss_model.specs.run.Transcripts.{Text, at_level, said_text_at}
 use Rattle.iss_store.specs.Values.{StoreNow, Plan}
-use Rattle.iss_store.specs.Standing.{StandsFor, RestsAt, StandsAt, AreHistory}
-use Rattle.iss_texts.specs.Sending.{emits, GoOut}
+use Rattle.iss_store.specs.Standing.{StandsFor, AreHistory, region_under}
+use Rattle.iss_store.specs.Goings.{AreFirstOf}
+use Rattle.iss_store.specs.Goings as device
+use Rattle.iss_texts.specs.Sending.{GoOut}
 use Rattle.iss_device.specs.Runs.{run_at}
 use Rattle.iss_top.specs.declared.stop.Stop.{Stop}
 use Rattle.iss_top.specs.declared.stop.Stop.TheVariants as stop
@@ -59,34 +60,37 @@ output_levels steps = map (λ step. step.level) (filter (λ step. is_output step
 abbrev pub levels_of : List Text → List ℕ
 levels_of texts = map (λ text. text.level) texts
 
--- the first ones of a list of records
-pub record AreFirstOf (rs all : List Record) : Type 0 where
-  pub later : List Record
-  pub cut : all ≡ rs ++ later
+-- the step by which a text goes out on channel 0
+abbrev pub text_step : Text → Step
+text_step text = record { action = Emit (record { 0 = 0 }) text.bytes true; level = text.level }
 
--- From these records of a store up to those, each of these texts went out by an emit of its own at its level, and what was done is a
--- stretch that is good from the one number of records to the other, after which the run goes on. Nothing was done but on the device and
--- on channel 0.
-pub record Goes (s : StoreNow) (rs rs' : List Record) (texts : List Text) (a b : World) : Type 0 where
-  pub more : AreFirstOf rs rs'
-  pub steps : List Step
-  pub grew : b.trace ≡ a.trace ++ actions_of steps
-  pub out : outputs_of (actions_of steps) ≡ emits (each_bytes texts)
-  pub levels : output_levels steps ≡ levels_of texts
-  pub goes_on : (all : List Record) → AreFirstOf rs' all
-      → GoesOn (RestsAt s all) (StandsAt s all) (RestsAt s all) (length rs) (length rs') steps
-  pub rests : RestsAt s rs a.device (length rs) → RestsAt s rs' b.device (length rs')
-  pub kinds : IsTrue (list_all is_of_run (actions_of steps))
+-- those of texts in a row
+abbrev pub text_steps : List Text → List Step
+text_steps texts = map text_step texts
 
--- The same in part: some of these texts went out, the last one maybe as a prefix of it, and the stretch is good; the run ends.
-pub record GoesPart (s : StoreNow) (rs rs' : List Record) (texts : List Text) (a b : World) : Type 0 where
-  pub more : AreFirstOf rs rs'
-  pub steps : List Step
-  pub grew : b.trace ≡ a.trace ++ actions_of steps
-  pub out : GoOut (each_bytes texts) (outputs_of (actions_of steps))
-  pub levels : (later : List ℕ) × (levels_of texts ≡ output_levels steps ++ later)
-  pub good : (all : List Record) → AreFirstOf rs' all → IsGood (RestsAt s all) (StandsAt s all) (length rs) (length rs') steps
-  pub kinds : IsTrue (list_all is_of_run (actions_of steps))
+-- the levels of steps
+abbrev pub step_levels : List Step → List ℕ
+step_levels steps = map (λ step. step.level) steps
+
+-- From these records of a store up to those, each of these texts went out by an emit of its own at its level, and nothing else was done but
+-- on the device.
+abbrev pub Goes : StoreNow → List Record → List Record → List Text → World → World → Type 0
+Goes s rs rs' texts a b = device.Goes (region_under s) rs rs' (text_steps texts) a b
+
+-- The same in part: some of these texts went out, the last one maybe as a prefix of it; the run ends. It might have gone on from there,
+-- unless this failed.
+pub record GoesPart (failed : Type 0) (s : StoreNow) (rs rs' : List Record) (texts : List Text) (a b : World) : Type 0 where
+  pub said : List Step
+  pub out : GoOut (each_bytes texts) (actions_of said)
+  pub levels : (later : List ℕ) × (levels_of texts ≡ step_levels said ++ later)
+  pub part : device.GoesPart (region_under s) rs rs' said a b
+  pub whole : device.Goes (region_under s) rs rs' said a b ⊎ failed
+
+-- some of what is told was done, up to some first ones of the records that it makes
+pub record GoesSome (failed : Type 0) (s : StoreNow) (rs : List Record) (told : Response) (a b : World) : Type 0 where
+  pub rs' : List Record
+  pub records : AreFirstOf rs' told.run.history.records
+  pub goes : GoesPart failed s rs rs' told.texts a b
 
 -- the same for what lines in a row are told
 abbrev pub GoesFor : StoreNow → List Record → List (List ℕ) → World → World → Type 0
@@ -106,11 +110,19 @@ pub record TakesAs (told : Run → Response) (s s' : StoreNow) (a b : World) : T
       → StandsFor s' (told (run_at s rs)).run.history.records
       × Goes s rs (told (run_at s rs)).run.history.records (told (run_at s rs)).texts a b
 
--- an input was taken in part
-pub record TakesPartAs (told : Run → Response) (s : StoreNow) (a b : World) : Type 0 where
+-- a call on the device ended it
+abbrev pub IsOfDisk : Stop → Type 0
+IsOfDisk stop.Input = ⊥
+IsOfDisk stop.Device = ⊥
+IsOfDisk stop.Output = ⊥
+IsOfDisk stop.Disk = Unit {0}
+IsOfDisk stop.Memory = ⊥
+IsOfDisk stop.InputLong = ⊥
+
+-- An input was taken in part, and the run might have gone on from there, unless this failed.
+pub record TakesPartAs (failed : Type 0) (told : Run → Response) (s : StoreNow) (a b : World) : Type 0 where
   pub left : b.left ≡ a.left
-  pub on_book : (rs : List Record) → StandsFor s rs
-      → GoesPart s rs (told (run_at s rs)).run.history.records (told (run_at s rs)).texts a b
+  pub on_book : (rs : List Record) → StandsFor s rs → GoesSome failed s rs (told (run_at s rs)) a b
 
 -- what is told of a planned record, and what then stands
 abbrev pub response_to_plan : Plan → Run → Response
@@ -143,11 +155,12 @@ pub record GoesWhole (s : StoreNow) (rs : List Record) (told : Response) (a b : 
 
 -- What a run with this status did on a store that stood for these records, where parts of the input are told so. What went out is the
 -- first of what its input is to be told, and the records are the first of those that it makes; at 0 it is all of that, and at 3 and 8
--- that of exactly the lines which ended within the bytes that were taken.
+-- that of exactly the lines which ended within the bytes that were taken. The run might have gone on from there, unless a call on the device
+-- failed.
 pub record RunsAs (tell : List (List ℕ) → Response) (status : ℕ) (opened : StoreNow) (rs : List Record) (took : List ℕ) (a b : World) : Type 0 where
   pub rs' : List Record
   pub records : AreFirstOf rs' (tell (parts_of (a.left 0))).run.history.records
-  pub goes : GoesPart opened rs rs' (tell (parts_of (a.left 0))).texts a b
+  pub goes : GoesPart (status ≡ 6) opened rs rs' (tell (parts_of (a.left 0))).texts a b
   pub whole : status ≡ 0 → (b.left 0 ≡ []) × GoesWhole opened rs (tell (parts_of (a.left 0))) a b
   pub stopped : (status ≡ 3) ⊎ (status ≡ 8) → GoesWhole opened rs (tell (all_but_last (parts_of (take MOST_INPUT took)))) a b
 

@@ -9,11 +9,12 @@ use Rattle.iss_model.specs.declared.limits.TheConstants.{MOST_INPUT}
 use Rattle.iss_model.specs.rules.Histories.{IsLegal}
 use Rattle.iss_model.specs.run.Runs.{Run, transcript_of, line_texts, accepted_records}
 use Rattle.iss_model.specs.run.Transcripts.{Reading, Text}
-use Rattle.iss_store.specs.Standing.{DeviceStandsFor}
-use Rattle.iss_store.specs.Opening.{AreOnDevice}
+use Rattle.iss_store.specs.Standing.{AreHistory, DeviceStandsFor}
+use Rattle.iss_store.specs.Goings.{AreFirstOf}
+use Rattle.iss_store.specs.Opening.{AreOnDevice, ReadsAlone}
 use Rattle.iss_texts.specs.Sending.{emits, GoOut}
 use Rattle.iss_device.specs.Runs.{run_on, run_on_device}
-use Rattle.iss_device.specs.Moments.{EachMoment}
+use Rattle.iss_device.specs.Moments.{EachMoment, EachMomentUnsynced, EachStopStands, EndsAtRest}
 use Rattle.iss_top.specs.Lines.{lines_of, ended_lines}
 use Rattle.iss_top.specs.Dry.{reading_of, each_bytes}
 use Rattle.iss_top.specs.Reader.{TakesIn}
@@ -28,10 +29,19 @@ abbrev pub records_for : Run → List Record → List (List ℕ) → List Record
 records_for s rs lines = rs ++ accepted_records s (map reading_of lines)
 
 -- What was done for exactly these lines: the texts with which the run begins and those of each line went out, each by an emit of its
--- own, and the device stands for the records that stood and those that the lines made.
+-- own, and the device stands for the records that stood and those that the lines made. If the run began at rest, the next one begins there.
 pub record Replayed (instance : ℕ) (rs : List Record) (lines : List (List ℕ)) (actions : List Action) (a b : World) : Type 0 where
   pub out : outputs_of actions ≡ emits (each_bytes (texts_for (run_on_device instance rs a.device) lines))
   pub stands : DeviceStandsFor instance (records_for (run_on_device instance rs a.device) rs lines) b.device
+  pub ends : EndsAtRest instance rs (records_for (run_on_device instance rs a.device) rs lines) actions a b
+
+-- Unless a call on the device failed, nothing was done but maybe a sync, or the run ended where the next one begins, with some first ones
+-- of the records that stood and those that the input makes.
+abbrev pub EndsSomewhere : ℕ → List Record → List Action → World → World → Type 0
+EndsSomewhere instance rs actions a b =
+    ReadsAlone a b
+    ⊎ ((made : List Record) × (AreFirstOf made (records_for (run_on_device instance rs a.device) rs (lines_of (a.left 0)))
+    × EndsAtRest instance rs made actions a b))
 
 -- What a run with this status did on a device that stands for these records. Nothing was done but on the device and on channel 0. What
 -- went out is the transcript of the input, text by text, or a prefix of it. At 0 it is all of it, and the input was read to its end. At 3
@@ -48,24 +58,32 @@ pub record ReplayOn (status : ℕ) (instance : ℕ) (rs : List Record) (a b : Wo
   pub stopped : (status ≡ 3) ⊎ (status ≡ 8) → Replayed instance rs (ended_lines (take MOST_INPUT took)) actions a b
   pub long : (status ≡ 8) ↔ (length took ≡ MOST_INPUT + 1)
   pub bound : length took ≤ MOST_INPUT + 1
+  pub ended : (status ≡ 6 → ⊥) → EndsSomewhere instance rs actions a b
   pub other_device : status ≡ 4 → ⊥
 
 -- whichever records the device stands for, if any
 abbrev pub ReplayRun : ℕ → World → World → Type 0
 ReplayRun status a b = (instance : ℕ) (rs : List Record) → DeviceStandsFor instance rs a.device → ReplayOn status instance rs a b
 
--- Every moment of a run that begins on a device at rest which stands firmly for these records, where all of those may stand in the end,
--- and these texts are to go out. The opening writes to the device and syncs it, and no more. All of the records that may stand are legal, so
--- each first part of them is.
+-- Every moment of a run on a device that stands firmly for these records, where some first ones of all of those stand in the end, and
+-- these texts are to go out. The opening writes to the device and syncs it, and no more. The records that the run made last are a history:
+-- they are legal, and each has a spelling.
 pub record MomentsOf (instance : ℕ) (rs all : List Record) (texts : List Text) (a b : World) : Type 0 where
   pub opening : List Step
   pub later : List Step
   pub opening_alone : AreOnDevice (actions_of opening)
   pub grew : b.trace ≡ a.trace ++ actions_of (opening ++ later)
   pub legal : IsLegal all
+  pub made : List Record
+  pub first : AreFirstOf made all
+  pub history : AreHistory made
   -- each text that was sent has its level, in the order of the texts
   pub levels : (unsent : List ℕ) × (levels_of texts ≡ output_levels (opening ++ later) ++ unsent)
-  pub each : EachMoment instance rs all opening later a.device
+  -- begun on a device at rest, and on one with unsynced writes
+  pub each : EachMoment instance rs made opening later a.device
+  pub unsynced : EachMomentUnsynced instance rs made opening later a.device
+  -- the next run may begin with what a stop leaves
+  pub stops : EachStopStands instance rs made (opening ++ later) a.device
 
 -- the same of a run that takes lines
 abbrev pub EveryMoment : ℕ → List Record → World → World → Type 0

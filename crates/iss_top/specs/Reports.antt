@@ -7,8 +7,9 @@ use Rattle.iss_model.specs.rules.Histories.{history_of}
 use Rattle.iss_model.specs.run.Transcripts.{Text, at_level}
 use Rattle.iss_model.specs.texts.BalanceLines.{balance_lines}
 use Rattle.iss_store.specs.Standing.{DeviceStandsFor}
-use Rattle.iss_store.specs.Opening.{AreOnDevice}
+use Rattle.iss_store.specs.Opening.{AreOnDevice, ReadsAlone}
 use Rattle.iss_texts.specs.Sending.{emits, GoOut}
+use Rattle.iss_device.specs.Moments.{EndsAtRest}
 use Rattle.iss_top.specs.declared.stop.Stop.{Stop}
 use Rattle.iss_top.specs.declared.stop.Stop.TheVariants as stop
 use Rattle.iss_top.specs.Replays.{MomentsOf}
@@ -23,7 +24,8 @@ report_texts rs = at_level (length rs) (report_lines rs)
 
 -- What a run with this status did on a device that stands for these records. Nothing was taken. First there was an opening, which is on
 -- the device alone, and then the lines of the report went out, each by an emit of its own, and at 0 all of them; where the run ended
--- early, some first ones did, and maybe a prefix of the next. At 0, and where the output failed, the device stands for the records.
+-- early, some first ones did, and maybe a prefix of the next. At 0, and where the output failed, the device stands for the records, and
+-- if the run began at rest, the next one begins there. So it is at 7, unless nothing was done but maybe a sync.
 pub record ReportOn (status : ℕ) (instance : ℕ) (rs : List Record) (a b : World) : Type 0 where
   pub left : b.left ≡ a.left
   pub opening : List Action
@@ -33,6 +35,8 @@ pub record ReportOn (status : ℕ) (instance : ℕ) (rs : List Record) (a b : Wo
   pub out : GoOut (report_lines rs) sent
   pub whole : status ≡ 0 → sent ≡ emits (report_lines rs)
   pub stands : (status ≡ 0) ⊎ (status ≡ 5) → DeviceStandsFor instance rs b.device
+  pub ends : (status ≡ 0) ⊎ (status ≡ 5) → EndsAtRest instance rs rs (opening ++ sent) a b
+  pub ended : status ≡ 7 → ReadsAlone a b ⊎ EndsAtRest instance rs rs (opening ++ sent) a b
   pub other_device : status ≡ 4 → ⊥
 
 -- whichever records the device stands for, if any

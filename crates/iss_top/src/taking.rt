@@ -1,5 +1,5 @@
 //! What a line does on a store, and what it is told.
-ghost use Rattle.std.specs.Prelude.{◌≡◌, [], ◌∷◌, IfOk, OnOk, OnErr, IsTrue};
+ghost use Rattle.std.specs.Prelude.{◌≡◌, [], ◌∷◌, IfOk, IfErr, OnOk, OnErr, IsTrue};
 ghost use Rattle.iss_edge.specs.World.{Told};
 ghost use Rattle.iss_model.specs.Forms.{is_in_form, is_stamp, is_stamp_or_none};
 ghost use Rattle.iss_model.specs.run.Runs.{response};
@@ -7,7 +7,7 @@ ghost use Rattle.iss_model.specs.run.Transcripts.{sound};
 ghost use Rattle.iss_event.specs.FormLines.{form_text};
 ghost use Rattle.iss_texts.specs.Sending.{Says, SaysSome};
 ghost use Rattle.iss_store.specs.Planning.{IsPlanOf};
-ghost use Rattle.iss_top.specs.Replaying.{told_line, response_to_plan, texts_left, TakesAs, TakesPartAs, IsTaking};
+ghost use Rattle.iss_top.specs.Replaying.{told_line, response_to_plan, texts_left, IsOfDisk, TakesAs, TakesPartAs, IsTaking};
 
 use crate::buffer::is_blank;
 use crate::stop::Stop;
@@ -29,7 +29,7 @@ pub(crate) fn take_line<E: Edge>(
 ) -> Result<Store, Stop>
     requires size { E.extent edge.old ≡ store.place.to }
     ensures taken { IfOk result (λ next. Told (TakesAs (λ s. told_line s line.now) store next) (E.told edge.old) (E.told edge.new)) }
-    ensures part { OnErr result (Told (TakesPartAs (λ s. told_line s line.now) store) (E.told edge.old) (E.told edge.new)) }
+    ensures part { IfErr result (λ why. Told (TakesPartAs (IsOfDisk why) (λ s. told_line s line.now) store) (E.told edge.old) (E.told edge.new)) }
     ensures taking { IsTaking (E.faults edge.old) (E.faults edge.new) result }
     ensures kept { E.extent edge.new ≡ E.extent edge.old }
     ensures size { IfOk result (λ next. next.place.to ≡ store.place.to) }
@@ -74,7 +74,7 @@ fn take_input<E: Edge>(
     requires input_form { IsTrue (is_in_form said.now.input) }
     requires stamp_form { IsTrue (is_stamp_or_none said.now.at) }
     ensures taken { IfOk result (λ next. Told (TakesAs (λ s. response s (sound said.now.input said.now.at)) store next) (E.told edge.old) (E.told edge.new)) }
-    ensures part { OnErr result (Told (TakesPartAs (λ s. response s (sound said.now.input said.now.at)) store) (E.told edge.old) (E.told edge.new)) }
+    ensures part { IfErr result (λ why. Told (TakesPartAs (IsOfDisk why) (λ s. response s (sound said.now.input said.now.at)) store) (E.told edge.old) (E.told edge.new)) }
     ensures taking { IsTaking (E.faults edge.old) (E.faults edge.new) result }
     ensures kept { E.extent edge.new ≡ E.extent edge.old }
     ensures size { IfOk result (λ next. next.place.to ≡ store.place.to) }
@@ -103,7 +103,7 @@ fn keep<E: Edge>(alloc: Global, store: Store, planned: Planned, edge: &mut E) ->
     requires size { E.extent edge.old ≡ store.place.to }
     requires plan { IsPlanOf store planned }
     ensures taken { IfOk result (λ next. Told (TakesAs (response_to_plan planned) store next) (E.told edge.old) (E.told edge.new)) }
-    ensures part { OnErr result (Told (TakesPartAs (response_to_plan planned) store) (E.told edge.old) (E.told edge.new)) }
+    ensures part { IfErr result (λ why. Told (TakesPartAs (IsOfDisk why) (response_to_plan planned) store) (E.told edge.old) (E.told edge.new)) }
     ensures taking { IsTaking (E.faults edge.old) (E.faults edge.new) result }
     ensures kept { E.extent edge.new ≡ E.extent edge.old }
     ensures size { IfOk result (λ next. next.place.to ≡ store.place.to) }

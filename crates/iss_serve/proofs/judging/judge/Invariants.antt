@@ -2,7 +2,7 @@ use Rattle.std.proofs.Common.{◌≡◌, List, ◌∷◌}
 use Rattle.iss_edge.specs.World.{Told, Later}
 use Rattle.iss_edge.specs.Outer.{outer_of}
 use Rattle.iss_serving.specs.Sessions.{Queued}
-use Rattle.iss_serve.specs.Held.{now_of, queued_as, to_judge, left_on}
+use Rattle.iss_serve.specs.Held.{now_of, queued_as, to_judge, records_left}
 use Rattle.iss_serve.specs.Judged.{Judges}
 use Rattle.iss_serve.specs.Runs.{ServesOn}
 use Rattle.iss_serve.proofs.judging.judge.Given as goal
@@ -18,4 +18,4 @@ invariant-again g l = record {
 }
 
 abbrev pub decreases-again : goal.decreases-again
-decreases-again g l = left_on l.next
+decreases-again g l = records_left l.next

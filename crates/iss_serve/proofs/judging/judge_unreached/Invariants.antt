@@ -1,7 +1,7 @@
 use Rattle.std.proofs.Common.{◌≡◌}
 use Rattle.iss_edge.specs.World.{Told, Later}
 use Rattle.iss_edge.specs.Outer.{outer_of}
-use Rattle.iss_serve.specs.Held.{now_of, idle, IsHeld, IsOf, left_on}
+use Rattle.iss_serve.specs.Held.{now_of, idle, IsHeld, IsOf, records_left}
 use Rattle.iss_serve.specs.Runs.{ServesOn}
 use Rattle.iss_serve.proofs.Loops.{work_left}
 use Rattle.iss_serve.proofs.judging.judge_unreached.Given as goal
@@ -20,4 +20,4 @@ invariant-calls g l = record {
 }
 
 abbrev pub decreases-calls : goal.decreases-calls
-decreases-calls g l = work_left (left_on l.next) l.held.unreached.items
+decreases-calls g l = work_left (records_left l.next) l.held.unreached.items

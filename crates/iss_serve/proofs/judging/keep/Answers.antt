@@ -67,8 +67,8 @@ returns-clause-judges g c =
       instance = still.instance ∙ c.requires.instance ∙ sym c.in_ok-next.ensures.committed.stepped.kept;
       turns = still.turns;
       to = ap (λ place. place.to) c.in_ok-next.ensures.committed.place;
-      moves = inl (less_there c.args.store c.in_ok-next.next c.args.planned c.in_ok-next.durable c.in_ok-next.ensures.committed c.requires.plan);
+      moves = inl (less_there c.args.store c.in_ok-next.next c.args.planned c.in_ok-next.durable c.in_ok-next.ensures.committed);
     }
 
 pub returns-clause-less : goal.returns-clause-less
-returns-clause-less g c = less_there c.args.store c.in_ok-next.next c.args.planned c.in_ok-next.durable c.in_ok-next.ensures.committed c.requires.plan
+returns-clause-less g c = less_there c.args.store c.in_ok-next.next c.args.planned c.in_ok-next.durable c.in_ok-next.ensures.committed

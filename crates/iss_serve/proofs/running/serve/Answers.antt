@@ -1,6 +1,4 @@
 use Rattle.std.proofs.Common.{◌≡◌, Err, ◌∙◌, rules}
-use Rattle.iss_journal.proofs.Formats.{Sized}
-use Rattle.iss_device.proofs.Devices.{told_opened}
 use Rattle.iss_serve.specs.Causes.{fault_of_opening}
 use Rattle.iss_serve.proofs.ToldServes.{told_unopened_serve, told_served, told_served_refuses, caused_by_opening, told_ends_well}
 use Rattle.iss_serve.proofs.running.serve.Goals as goal
@@ -18,20 +16,12 @@ returns-in_err-store-clause-complete g c =
 
 pub returns-clause-serving : goal.returns-clause-serving
 returns-clause-serving g c =
-    let sized : Sized (g.E.Edge.extent c.args.edge.now) (g.E.Edge.told c.args.edge.now) = search rules in
-    let opened =
-    told_opened c.in_ok-store.store (g.E.Edge.extent c.args.edge.now) (g.E.Edge.told c.args.edge.now) (g.E.Edge.told c.open.new.edge) sized
-    (c.in_ok-store.ensures.size ∙ c.in_ok-store.ensures.kept) c.in_ok-store.ensures.opens c.in_ok-store.ensures.moments c.in_ok-store.ensures.rests in
     told_served c.args.turns c.in_ok-store.store (g.E.Edge.told c.args.edge.now) (g.E.Edge.told c.open.new.edge) (g.E.Edge.told c.serve_on.new.edge)
-    (g.E.Edge.heard c.args.edge.now) (g.E.Edge.heard c.open.new.edge) (g.E.Edge.heard c.serve_on.new.edge) opened c.in_ok-store.ensures.heard
+    (g.E.Edge.heard c.args.edge.now) (g.E.Edge.heard c.open.new.edge) (g.E.Edge.heard c.serve_on.new.edge) c.in_ok-store.ensures.opened c.in_ok-store.ensures.heard
     c.serve_on.result (g.E.Edge.faults c.open.new.edge) (g.E.Edge.faults c.serve_on.new.edge) c.serve_on.ensures.caused c.serve_on.ensures.whole c.serve_on.ensures.part
 
 pub returns-clause-refused : goal.returns-clause-refused
 returns-clause-refused g c =
-    let sized : Sized (g.E.Edge.extent c.args.edge.now) (g.E.Edge.told c.args.edge.now) = search rules in
-    let opened =
-    told_opened c.in_ok-store.store (g.E.Edge.extent c.args.edge.now) (g.E.Edge.told c.args.edge.now) (g.E.Edge.told c.open.new.edge) sized
-    (c.in_ok-store.ensures.size ∙ c.in_ok-store.ensures.kept) c.in_ok-store.ensures.opens c.in_ok-store.ensures.moments c.in_ok-store.ensures.rests in
     told_served_refuses c.args.turns c.in_ok-store.store (g.E.Edge.told c.args.edge.now) (g.E.Edge.told c.open.new.edge) (g.E.Edge.told c.serve_on.new.edge)
-    (g.E.Edge.heard c.args.edge.now) (g.E.Edge.heard c.open.new.edge) (g.E.Edge.heard c.serve_on.new.edge) opened c.in_ok-store.ensures.heard
+    (g.E.Edge.heard c.args.edge.now) (g.E.Edge.heard c.open.new.edge) (g.E.Edge.heard c.serve_on.new.edge) c.in_ok-store.ensures.opened c.in_ok-store.ensures.heard
     c.serve_on.result (g.E.Edge.faults c.open.new.edge) (g.E.Edge.faults c.serve_on.new.edge) c.serve_on.ensures.caused c.serve_on.ensures.whole c.serve_on.ensures.part

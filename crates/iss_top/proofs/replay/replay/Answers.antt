@@ -1,7 +1,5 @@
-use Rattle.std.proofs.Common.{◌≡◌, Err, ◌∙◌, rules}
-use Rattle.iss_journal.proofs.Formats.{Sized}
+use Rattle.std.proofs.Common.{◌≡◌, Err, rules}
 use Rattle.iss_top.specs.Statuses.{status_of, stop_of_opening, stop_of_store}
-use Rattle.iss_device.proofs.Devices.{told_opened}
 use Rattle.iss_top.proofs.ToldReplays.{told_unopened_run, told_unopened_moments, told_waited_run, told_waited_moments, told_waited_refuses, told_run, told_moments, told_run_refuses}
 use Rattle.iss_top.proofs.replay.replay.Goals as goal
 
@@ -9,7 +7,7 @@ pub returns-in_err-store-clause-ran : goal.returns-in_err-store-clause-ran
 returns-in_err-store-clause-ran g c =
     let failed : c.from_residual.result ≡ Err (stop_of_opening c.in_err-store.field-0.0) = search rules in
     rw failed (
-    told_unopened_run c.in_err-store.field-0.0 (g.E.Edge.told c.args.edge.now) (g.E.Edge.told c.open.new.edge) c.in_err-store.ensures.opens c.in_err-store.ensures.moments
+    told_unopened_run c.in_err-store.field-0.0 (g.E.Edge.told c.args.edge.now) (g.E.Edge.told c.open.new.edge) c.in_err-store.ensures.opens c.in_err-store.ensures.moments c.in_err-store.ensures.refused
     )
 
 pub returns-in_err-store-clause-moments : goal.returns-in_err-store-clause-moments
@@ -18,60 +16,36 @@ returns-in_err-store-clause-moments g c =
 
 pub returns-in_err-resume-clause-ran : goal.returns-in_err-resume-clause-ran
 returns-in_err-resume-clause-ran g c =
-    let sized : Sized (g.E.Edge.extent c.args.edge.now) (g.E.Edge.told c.args.edge.now) = search rules in
-    let opened =
-    told_opened c.in_ok-store.store (g.E.Edge.extent c.args.edge.now) (g.E.Edge.told c.args.edge.now) (g.E.Edge.told c.open.new.edge) sized
-    (c.in_ok-store.ensures.size ∙ c.in_ok-store.ensures.kept) c.in_ok-store.ensures.opens c.in_ok-store.ensures.moments c.in_ok-store.ensures.rests in
     let failed : c.from_residual-in_err-resume.result ≡ Err (stop_of_store c.in_err-resume.field-0.0) = search rules in
     rw failed (
-    told_waited_run c.in_ok-store.store c.in_err-resume.ensures.on_book (g.E.Edge.told c.args.edge.now) (g.E.Edge.told c.open.new.edge) (g.E.Edge.told c.resume.new.edge) opened
+    told_waited_run c.in_ok-store.store c.in_err-resume.ensures.on_book (g.E.Edge.told c.args.edge.now) (g.E.Edge.told c.open.new.edge) (g.E.Edge.told c.resume.new.edge) c.in_ok-store.ensures.opened
     c.in_err-resume.field-0.0 (g.E.Edge.faults c.open.new.edge) (g.E.Edge.faults c.resume.new.edge) c.in_err-resume.ensures.cause c.in_err-resume.ensures.part
     )
 
 pub returns-in_err-resume-clause-moments : goal.returns-in_err-resume-clause-moments
 returns-in_err-resume-clause-moments g c =
-    let sized : Sized (g.E.Edge.extent c.args.edge.now) (g.E.Edge.told c.args.edge.now) = search rules in
-    let opened =
-    told_opened c.in_ok-store.store (g.E.Edge.extent c.args.edge.now) (g.E.Edge.told c.args.edge.now) (g.E.Edge.told c.open.new.edge) sized
-    (c.in_ok-store.ensures.size ∙ c.in_ok-store.ensures.kept) c.in_ok-store.ensures.opens c.in_ok-store.ensures.moments c.in_ok-store.ensures.rests in
-    told_waited_moments c.in_ok-store.store c.in_err-resume.ensures.on_book (g.E.Edge.told c.args.edge.now) (g.E.Edge.told c.open.new.edge) (g.E.Edge.told c.resume.new.edge) opened
+    told_waited_moments c.in_ok-store.store c.in_err-resume.ensures.on_book (g.E.Edge.told c.args.edge.now) (g.E.Edge.told c.open.new.edge) (g.E.Edge.told c.resume.new.edge) c.in_ok-store.ensures.opened
     c.in_err-resume.field-0.0 (g.E.Edge.faults c.open.new.edge) (g.E.Edge.faults c.resume.new.edge) c.in_err-resume.ensures.cause c.in_err-resume.ensures.part
 
 pub returns-in_err-resume-clause-refused : goal.returns-in_err-resume-clause-refused
 returns-in_err-resume-clause-refused g c =
-    let sized : Sized (g.E.Edge.extent c.args.edge.now) (g.E.Edge.told c.args.edge.now) = search rules in
-    let opened =
-    told_opened c.in_ok-store.store (g.E.Edge.extent c.args.edge.now) (g.E.Edge.told c.args.edge.now) (g.E.Edge.told c.open.new.edge) sized
-    (c.in_ok-store.ensures.size ∙ c.in_ok-store.ensures.kept) c.in_ok-store.ensures.opens c.in_ok-store.ensures.moments c.in_ok-store.ensures.rests in
     let failed : c.from_residual-in_err-resume.result ≡ Err (stop_of_store c.in_err-resume.field-0.0) = search rules in
     rw failed (
-    told_waited_refuses c.in_ok-store.store c.in_err-resume.ensures.on_book (g.E.Edge.told c.args.edge.now) (g.E.Edge.told c.open.new.edge) (g.E.Edge.told c.resume.new.edge) opened
+    told_waited_refuses c.in_ok-store.store c.in_err-resume.ensures.on_book (g.E.Edge.told c.args.edge.now) (g.E.Edge.told c.open.new.edge) (g.E.Edge.told c.resume.new.edge) c.in_ok-store.ensures.opened
     c.in_err-resume.field-0.0 (g.E.Edge.faults c.open.new.edge) (g.E.Edge.faults c.resume.new.edge) c.in_err-resume.ensures.cause c.in_err-resume.ensures.part
     )
 
 pub returns-clause-ran : goal.returns-clause-ran
 returns-clause-ran g c =
-    let sized : Sized (g.E.Edge.extent c.args.edge.now) (g.E.Edge.told c.args.edge.now) = search rules in
-    let opened =
-    told_opened c.in_ok-store.store (g.E.Edge.extent c.args.edge.now) (g.E.Edge.told c.args.edge.now) (g.E.Edge.told c.open.new.edge) sized
-    (c.in_ok-store.ensures.size ∙ c.in_ok-store.ensures.kept) c.in_ok-store.ensures.opens c.in_ok-store.ensures.moments c.in_ok-store.ensures.rests in
-    told_run c.in_ok-store.store c.in_ok-resume.ensures.on_book (g.E.Edge.told c.args.edge.now) (g.E.Edge.told c.open.new.edge) (g.E.Edge.told c.resume.new.edge) opened
+    told_run c.in_ok-store.store c.in_ok-resume.ensures.on_book (g.E.Edge.told c.args.edge.now) (g.E.Edge.told c.open.new.edge) (g.E.Edge.told c.resume.new.edge) c.in_ok-store.ensures.opened
     (status_of c.take_lines.result) c.take_lines.ensures.no_device (g.E.Edge.told c.take_lines.new.edge) c.in_ok-resume.ensures.says c.take_lines.ensures.ran
 
 pub returns-clause-moments : goal.returns-clause-moments
 returns-clause-moments g c =
-    let sized : Sized (g.E.Edge.extent c.args.edge.now) (g.E.Edge.told c.args.edge.now) = search rules in
-    let opened =
-    told_opened c.in_ok-store.store (g.E.Edge.extent c.args.edge.now) (g.E.Edge.told c.args.edge.now) (g.E.Edge.told c.open.new.edge) sized
-    (c.in_ok-store.ensures.size ∙ c.in_ok-store.ensures.kept) c.in_ok-store.ensures.opens c.in_ok-store.ensures.moments c.in_ok-store.ensures.rests in
-    told_moments c.in_ok-store.store c.in_ok-resume.ensures.on_book (g.E.Edge.told c.args.edge.now) (g.E.Edge.told c.open.new.edge) (g.E.Edge.told c.resume.new.edge) opened
+    told_moments c.in_ok-store.store c.in_ok-resume.ensures.on_book (g.E.Edge.told c.args.edge.now) (g.E.Edge.told c.open.new.edge) (g.E.Edge.told c.resume.new.edge) c.in_ok-store.ensures.opened
     (status_of c.take_lines.result) c.take_lines.ensures.no_device (g.E.Edge.told c.take_lines.new.edge) c.in_ok-resume.ensures.says c.take_lines.ensures.ran
 
 pub returns-clause-refused : goal.returns-clause-refused
 returns-clause-refused g c =
-    let sized : Sized (g.E.Edge.extent c.args.edge.now) (g.E.Edge.told c.args.edge.now) = search rules in
-    let opened =
-    told_opened c.in_ok-store.store (g.E.Edge.extent c.args.edge.now) (g.E.Edge.told c.args.edge.now) (g.E.Edge.told c.open.new.edge) sized
-    (c.in_ok-store.ensures.size ∙ c.in_ok-store.ensures.kept) c.in_ok-store.ensures.opens c.in_ok-store.ensures.moments c.in_ok-store.ensures.rests in
-    told_run_refuses c.in_ok-store.store c.in_ok-resume.ensures.on_book (g.E.Edge.told c.args.edge.now) (g.E.Edge.told c.open.new.edge) (g.E.Edge.told c.resume.new.edge) opened
+    told_run_refuses c.in_ok-store.store c.in_ok-resume.ensures.on_book (g.E.Edge.told c.args.edge.now) (g.E.Edge.told c.open.new.edge) (g.E.Edge.told c.resume.new.edge) c.in_ok-store.ensures.opened
     (status_of c.take_lines.result) c.take_lines.ensures.no_device (g.E.Edge.told c.take_lines.new.edge) c.in_ok-resume.ensures.says c.take_lines.ensures.ran

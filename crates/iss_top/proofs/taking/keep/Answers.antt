@@ -1,18 +1,23 @@
+use Rattle.std.proofs.Common.{◌≡◌, Err, rules}
 use Rattle.iss_edge.specs.World.{Told}
-use Rattle.iss_top.specs.Replaying.{TakesPartAs, response_to_plan}
+use Rattle.iss_top.specs.Statuses.{stop_of_store}
+use Rattle.iss_top.specs.Replaying.{IsOfDisk, TakesPartAs, response_to_plan}
 use Rattle.iss_top.proofs.Lasting.{anyway, told_kept, told_kept_part, told_not_kept}
 use Rattle.iss_top.proofs.taking.keep.Goals as goal
 
 pub returns-in_err-next-clause-part : goal.returns-in_err-next-clause-part
 returns-in_err-next-clause-part g c =
-    anyway c.from_residual.result (Told (TakesPartAs (response_to_plan c.args.planned) c.args.store) (g.E.Edge.told c.args.edge.now) (g.E.Edge.told c.commit.new.edge))
-    (told_not_kept c.args.store c.args.planned (g.E.Edge.told c.args.edge.now) (g.E.Edge.told c.commit.new.edge) c.commit.ensures.moments)
+    let failed : c.from_residual.result ≡ Err (stop_of_store c.in_err-next.field-0.0) = search rules in
+    rw failed (
+    told_not_kept c.in_err-next.field-0.0 c.args.store c.args.planned (g.E.Edge.told c.args.edge.now) (g.E.Edge.told c.commit.new.edge) c.in_err-next.ensures.moments c.in_err-next.ensures.lasts
+    )
 
 pub returns-in_err-release-clause-part : goal.returns-in_err-release-clause-part
 returns-in_err-release-clause-part g c =
     anyway c.from_residual-in_err-release.result
-    (Told (TakesPartAs (response_to_plan c.args.planned) c.args.store) (g.E.Edge.told c.args.edge.now) (g.E.Edge.told c.release.new.edge))
-    (told_kept_part c.args.store c.in_ok-next.next c.args.planned c.in_ok-next.durable
+    (λ why. Told (TakesPartAs (IsOfDisk why) (response_to_plan c.args.planned) c.args.store) (g.E.Edge.told c.args.edge.now) (g.E.Edge.told c.release.new.edge))
+    (λ why.
+    told_kept_part (IsOfDisk why) c.args.store c.in_ok-next.next c.args.planned c.in_ok-next.durable
     (g.E.Edge.told c.args.edge.now) (g.E.Edge.told c.commit.new.edge) (g.E.Edge.told c.release.new.edge)
     (record { commits = c.in_ok-next.ensures.committed; on_book = c.in_ok-next.ensures.on_book })
     c.in_ok-next.ensures.lasts c.in_err-release.ensures.part)

@@ -1,15 +1,15 @@
-use Rattle.std.proofs.Common.{sym, ◌∙◌}
+use Rattle.std.proofs.Common.{◌≡◌, Err, sym, ◌∙◌, rules}
 use Rattle.iss_edge.specs.World.{Told}
-use Rattle.iss_top.specs.Replaying.{TakesPartAs}
+use Rattle.iss_top.specs.Replaying.{IsOfDisk, TakesPartAs}
 use Rattle.iss_top.proofs.Lasting.{anyway}
 use Rattle.iss_top.proofs.Taken.{told_input, told_nothing_taken, told_answer, told_answer_part, told_taken_new, told_taken_clock, told_clock_part, told_failed}
 use Rattle.iss_top.proofs.taking.take_input.Goals as goal
 
 pub returns-in_err-next-in-Ok-clause-part : goal.returns-in_err-next-in-Ok-clause-part
 returns-in_err-next-in-Ok-clause-part g c =
-    anyway c.from_residual.result
-    (Told (TakesPartAs (told_input c.args.said.now.input c.args.said.now.at) c.args.store) (g.E.Edge.told c.args.edge.now) (g.E.Edge.told c.keep.new.edge))
-    (told_failed c.args.store c.args.said.now.input c.args.said.now.at c.unwrap_or-at.result c.in-Ok.planned
+    let failed : c.from_residual.result ≡ Err c.in_err-next-in-Ok.field-0.0 = search rules in
+    rw failed
+    (told_failed (IsOfDisk c.in_err-next-in-Ok.field-0.0) c.args.store c.args.said.now.input c.args.said.now.at c.unwrap_or-at.result c.in-Ok.planned
     (g.E.Edge.told c.args.edge.now) (g.E.Edge.told c.keep.new.edge) c.unwrap_or-at.ensures c.in-Ok.ensures.on_book c.in_err-next-in-Ok.ensures.part)
 
 pub returns-then-not-more-clause-taken : goal.returns-then-not-more-clause-taken
@@ -21,8 +21,9 @@ returns-then-not-more-clause-taken g c =
 pub returns-in_err-tell_answer_left-in-Ok-clause-part : goal.returns-in_err-tell_answer_left-in-Ok-clause-part
 returns-in_err-tell_answer_left-in-Ok-clause-part g c =
     anyway c.from_residual-in_err-tell_answer_left-in-Ok.result
-    (Told (TakesPartAs (told_input c.args.said.now.input c.args.said.now.at) c.args.store) (g.E.Edge.told c.args.edge.now) (g.E.Edge.told c.tell_answer_left.new.edge))
-    (told_clock_part c.args.store c.in_ok-next-in-Ok.next c.args.said.now.input c.args.said.now.at c.unwrap_or-at.result c.in-Ok.planned
+    (λ why. Told (TakesPartAs (IsOfDisk why) (told_input c.args.said.now.input c.args.said.now.at) c.args.store) (g.E.Edge.told c.args.edge.now) (g.E.Edge.told c.tell_answer_left.new.edge))
+    (λ why.
+    told_clock_part (IsOfDisk why) c.args.store c.in_ok-next-in-Ok.next c.args.said.now.input c.args.said.now.at c.unwrap_or-at.result c.in-Ok.planned
     (g.E.Edge.told c.args.edge.now) (g.E.Edge.told c.keep.new.edge) (g.E.Edge.told c.tell_answer_left.new.edge)
     c.unwrap_or-at.ensures (sym c.more-more.ensures ∙ c.if-not-more.false) c.in-Ok.ensures.on_book c.in_ok-next-in-Ok.ensures.taken
     c.in_err-tell_answer_left-in-Ok.ensures.part)
@@ -30,8 +31,9 @@ returns-in_err-tell_answer_left-in-Ok-clause-part g c =
 pub returns-in_err-tell-in-Err-Told-clause-part : goal.returns-in_err-tell-in-Err-Told-clause-part
 returns-in_err-tell-in-Err-Told-clause-part g c =
     anyway c.from_residual-in_err-tell-in-Err-Told.result
-    (Told (TakesPartAs (told_input c.args.said.now.input c.args.said.now.at) c.args.store) (g.E.Edge.told c.args.edge.now) (g.E.Edge.told c.tell.new.edge))
-    (told_answer_part c.args.store c.args.said.now.input c.args.said.now.at c.unwrap_or-at.result c.in-Err-Told.answer
+    (λ why. Told (TakesPartAs (IsOfDisk why) (told_input c.args.said.now.input c.args.said.now.at) c.args.store) (g.E.Edge.told c.args.edge.now) (g.E.Edge.told c.tell.new.edge))
+    (λ why.
+    told_answer_part (IsOfDisk why) c.args.store c.args.said.now.input c.args.said.now.at c.unwrap_or-at.result c.in-Err-Told.answer
     (g.E.Edge.told c.args.edge.now) (g.E.Edge.told c.tell.new.edge) c.unwrap_or-at.ensures
     (rw c.in-Err-Told.field-0-is at c.in-Err-Told.ensures.on_book) c.in_err-tell-in-Err-Told.ensures.part)
 
@@ -50,4 +52,4 @@ returns-in_ok-tell-in-Err-Told-clause-taken g c =
 
 pub returns-in-Err-OutOfMemory-clause-part : goal.returns-in-Err-OutOfMemory-clause-part
 returns-in-Err-OutOfMemory-clause-part g c =
-    told_nothing_taken c.args.said.now.input c.args.said.now.at c.args.store (g.E.Edge.told c.args.edge.now)
+    told_nothing_taken ⊥ c.args.said.now.input c.args.said.now.at c.args.store (g.E.Edge.told c.args.edge.now)

@@ -1,8 +1,8 @@
 use Rattle.std.proofs.Common.{sym, ◌∙◌}
-use Rattle.std.proofs.lemmas.Result.{IfOk-weaker, on_err_weaker}
+use Rattle.std.proofs.lemmas.Result.{IfOk-weaker}
 use Rattle.iss_edge.specs.World.{Told}
-use Rattle.iss_top.specs.Replaying.{TakesPartAs}
-use Rattle.iss_top.proofs.Lasting.{anyway}
+use Rattle.iss_top.specs.Replaying.{IsOfDisk, TakesPartAs}
+use Rattle.iss_top.proofs.Lasting.{anyway, if_err_weaker}
 use Rattle.iss_top.proofs.TakenLines.{line_told, told_blank_line, told_fault_line, told_fault_part, told_read_line, told_read_part, told_no_line}
 use Rattle.iss_top.proofs.taking.take_line.Goals as goal
 
@@ -13,8 +13,9 @@ returns-then-is_blank-clause-taken g c =
 pub returns-in_err-tell_fault-in-Err-Form-clause-part : goal.returns-in_err-tell_fault-in-Err-Form-clause-part
 returns-in_err-tell_fault-in-Err-Form-clause-part g c =
     anyway c.from_residual.result
-    (Told (TakesPartAs (line_told c.args.line.now) c.args.store) (g.E.Edge.told c.args.edge.now) (g.E.Edge.told c.tell_fault.new.edge))
-    (told_fault_part c.args.line.now c.in-Err-Form.fault c.args.store (g.E.Edge.told c.args.edge.now) (g.E.Edge.told c.tell_fault.new.edge)
+    (λ why. Told (TakesPartAs (IsOfDisk why) (line_told c.args.line.now) c.args.store) (g.E.Edge.told c.args.edge.now) (g.E.Edge.told c.tell_fault.new.edge))
+    (λ why.
+    told_fault_part (IsOfDisk why) c.args.line.now c.in-Err-Form.fault c.args.store (g.E.Edge.told c.args.edge.now) (g.E.Edge.told c.tell_fault.new.edge)
     (sym c.is_blank.ensures ∙ c.if-is_blank.false)
     (rw c.in-Err-Form.field-0-is at c.in-Err-Form.ensures.read)
     (rw c.in-Err-Form.field-0-is at c.in_err-tell_fault-in-Err-Form.ensures.part))
@@ -29,8 +30,9 @@ returns-in-Ok-clause-taken g c =
 
 pub returns-in-Ok-clause-part : goal.returns-in-Ok-clause-part
 returns-in-Ok-clause-part g c =
-    on_err_weaker c.take_input.result
-    (told_read_part c.args.line.now c.in-Ok.said c.args.store (g.E.Edge.told c.args.edge.now) (g.E.Edge.told c.take_input.new.edge)
+    if_err_weaker c.take_input.result _ _
+    (λ why.
+    told_read_part (IsOfDisk why) c.args.line.now c.in-Ok.said c.args.store (g.E.Edge.told c.args.edge.now) (g.E.Edge.told c.take_input.new.edge)
     (sym c.is_blank.ensures ∙ c.if-is_blank.false) c.in-Ok.ensures.read)
     c.take_input.ensures.part
 
@@ -43,4 +45,4 @@ returns-in_ok-tell_fault-in-Err-Form-clause-taken g c =
 
 pub returns-in-Err-OutOfMemory-clause-part : goal.returns-in-Err-OutOfMemory-clause-part
 returns-in-Err-OutOfMemory-clause-part g c =
-    told_no_line c.args.line.now c.args.store (g.E.Edge.told c.args.edge.now)
+    told_no_line ⊥ c.args.line.now c.args.store (g.E.Edge.told c.args.edge.now)
