@@ -54,3 +54,12 @@ caused_commit f g store.OutOfMemory P c l = record { later = c.later; cause = tt
 pub anyway : {T E : Type 0} (r : Result T E) (P : Type 0) → P → OnErr r P
 anyway (Ok x) P p = tt
 anyway (Err e) P p = p
+
+-- what holds by the fault
+pub anyhow : {T : Type 0} (r : Result T ServeFault) (P : ServeFault → Type 0) → ((why : ServeFault) → P why) → IfErr r P
+anyhow (Ok x) P p = tt
+anyhow (Err e) P p = p e
+
+pub if_err_weaker : {T : Type 0} (r : Result T ServeFault) (P Q : ServeFault → Type 0) → ((why : ServeFault) → P why → Q why) → IfErr r P → IfErr r Q
+if_err_weaker (Ok x) P Q f p = tt
+if_err_weaker (Err e) P Q f p = f e p

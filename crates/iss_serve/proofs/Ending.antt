@@ -22,17 +22,17 @@ use Rattle.iss_serve.proofs.Waiting.{is_over}
 use Rattle.iss_serve.proofs.Closes.{last_closes}
 
 -- a run that hasn't begun
-not_begun : (store : StoreNow) (turns : ℕ) (a : Outer) → ServesUpTo store turns a a
-not_begun store turns a =
+not_begun : (failed : Type 0) (store : StoreNow) (turns : ℕ) (a : Outer) → ServesUpTo failed store turns a a
+not_begun failed store turns a =
     record {
       on_book =
           λ rs stands.
           let s = session_on store turns rs in
-          goes_part program_readers (region_under store) s s a a (goes_self program_readers (region_under store) s a);
+          goes_part failed program_readers (region_under store) s s a a (goes_self program_readers (region_under store) s a);
     }
 
-pub told_not_begun : (store : StoreNow) (turns : ℕ) (x : Option Outer) → Told (ServesUpTo store turns) x x
-told_not_begun store turns x = told_self (ServesUpTo store turns) x (not_begun store turns)
+pub told_not_begun : (failed : Type 0) (store : StoreNow) (turns : ℕ) (x : Option Outer) → Told (ServesUpTo failed store turns) x x
+told_not_begun failed store turns x = told_self (ServesUpTo failed store turns) x (not_begun failed store turns)
 
 -- nothing is held, and so many waits are left
 abbrev pub fresh : StoreNow → ℕ → HeldNow
@@ -50,16 +50,16 @@ module _ (store : StoreNow) (turns : ℕ) (h : HeldNow) (is : h ≡ fresh store 
       ap (λ (n : HeldNow). session_at (first_stage store n) rs) is
       ∙ ap (λ (ts : List Task). session_at (sending store (fresh store turns) [] ts) rs) (on_book rs stands)
 
-  up_to : (a b : Outer) → ServesSome (first_stage store h) a b → ServesUpTo store turns a b
-  up_to a b p =
+  up_to : (failed : Type 0) (a b : Outer) → ServesSome failed (first_stage store h) a b → ServesUpTo failed store turns a b
+  up_to failed a b p =
       record {
         on_book =
             λ rs stands.
-            subst (λ (s : Session). GoesPart program_readers (region_under store) s a b) (first_session rs stands) (p.on_book rs stands);
+            subst (λ (s : Session). GoesPart failed program_readers (region_under store) s a b) (first_session rs stands) (p.on_book rs stands);
       }
 
-  pub told_up_to : (x y : Option Outer) → Told (ServesSome (first_stage store h)) x y → Told (ServesUpTo store turns) x y
-  told_up_to x y p = told_map (ServesSome (first_stage store h)) (ServesUpTo store turns) x y up_to p
+  pub told_up_to : (failed : Type 0) (x y : Option Outer) → Told (ServesSome failed (first_stage store h)) x y → Told (ServesUpTo failed store turns) x y
+  told_up_to failed x y p = told_map (ServesSome failed (first_stage store h)) (ServesUpTo failed store turns) x y (up_to failed) p
 
   module _ (last : StoreNow) (end : HeldNow) (settled : end.unreached ≡ []) (over : end.turns ≡ 0) where
     to_end : (a b c : Outer) → ServesOn (first_stage store h) (idle last end) a b → Adds (map Close (open_channels end)) [] b c → ServesToEnd store turns a c

@@ -1,5 +1,5 @@
 -- Parts of a run that serves, one after the other, and each kind of them.
-use Rattle.std.proofs.Common.{◌≡◌, ℕ, ◌≤◌, Bool, true, List, Some, None, [], ◌∷◌, ◌++◌, length, refl, sym, ap, subst, ◌∙◌, append-nil, append_assoc, arith}
+use Rattle.std.proofs.Common.{◌≡◌, ℕ, ◌≤◌, ◌⊎◌, inl, inr, true, List, Some, None, [], ◌∷◌, ◌++◌, length, refl, sym, ap, subst, ◌∙◌, append-nil, append_assoc, arith}
 use Rattle.std.specs.List.{list_all}
 use Rattle.std.proofs.lemmas.Bool.{false≢true, and_from}
 use Rattle.std.proofs.lemmas.List.Folds.{list_all-append}
@@ -90,8 +90,8 @@ module _ (read : Readers) (region : Region) (s t : Session) (a b c : Outer) (p :
             (joins.goes_then region (records_in s) (records_in t) (records_in u) (session_steps read s p.happenings) (session_steps read t q.happenings) a.world b.world c.world p.goes q.goes);
       }
 
-  pub goes_then_part : GoesPart read region t b c → GoesPart read region s a c
-  goes_then_part q =
+  pub goes_then_part : (failed : Type 0) → GoesPart failed read region t b c → GoesPart failed read region s a c
+  goes_then_part failed q =
       let said = session_steps read s p.happenings ++ q.said in
       record {
         happenings = p.happenings ++ q.happenings;
@@ -106,6 +106,12 @@ module _ (read : Readers) (region : Region) (s t : Session) (a b c : Outer) (p :
         part =
             subst (λ (m : Session). device.GoesPart region (records_in s) (records_in m) said a.world c.world) (sym (after_then read s t p.happenings q.happenings p.ends))
             (joins.goes_then_part region (records_in s) (records_in t) (records_in (session_after read t q.happenings)) (session_steps read s p.happenings) q.said a.world b.world c.world p.goes q.part);
+        whole = elim q.whole [
+          | inl goes ↦
+              inl (subst (λ (m : Session). device.Goes region (records_in s) (records_in m) said a.world c.world) (sym (after_then read s t p.happenings q.happenings p.ends))
+              (joins.goes_then region (records_in s) (records_in t) (records_in (session_after read t q.happenings)) (session_steps read s p.happenings) q.said a.world b.world c.world p.goes goes))
+          | inr fails ↦ inr fails
+        ];
       }
 
   -- a session that went to where nothing comes next, and then the last closes
@@ -124,8 +130,8 @@ module _ (read : Readers) (region : Region) (s t : Session) (a b c : Outer) (p :
       }
 
 -- what a session went on to is a part of it
-pub goes_part : (read : Readers) (region : Region) (s t : Session) (a b : Outer) → Goes read region s t a b → GoesPart read region s a b
-goes_part read region s t a b p =
+pub goes_part : (failed : Type 0) (read : Readers) (region : Region) (s t : Session) (a b : Outer) → Goes read region s t a b → GoesPart failed read region s a b
+goes_part failed read region s t a b p =
     record {
       happenings = p.happenings;
       heard = p.heard;
@@ -136,6 +142,7 @@ goes_part read region s t a b p =
       part =
           subst (λ (m : Session). device.GoesPart region (records_in s) (records_in m) (session_steps read s p.happenings) a.world b.world) (sym p.ends)
           (joins.goes_part region (records_in s) (records_in t) (session_steps read s p.happenings) a.world b.world p.goes);
+      whole = inl (subst (λ (m : Session). device.Goes region (records_in s) (records_in m) (session_steps read s p.happenings) a.world b.world) (sym p.ends) p.goes);
     }
 
 -- ---- what makes no record
@@ -222,8 +229,8 @@ module _ (read : Readers) (store : StoreNow) (s : Session) (r : Record) (a b : O
       }
 
   -- a part of it, before anything is said
-  pub commit_goes_part : KeepsPart store r a.world b.world → GoesPart read (region_under store) s a b
-  commit_goes_part keeps =
+  pub commit_goes_part : (failed : Type 0) → failed → KeepsPart store r a.world b.world → GoesPart failed read (region_under store) s a b
+  commit_goes_part failed fails keeps =
       record {
         happenings = judges ∷ [];
         heard = quiet ∙ sym (append-nil a.heard);
@@ -234,4 +241,5 @@ module _ (read : Readers) (store : StoreNow) (s : Session) (r : Record) (a b : O
         part =
             subst (λ (l : List Record). device.GoesPart (region_under store) (records_in s) l [] a.world b.world) (sym made)
             (keeps.goes (records_in s) stands);
+        whole = inr fails;
       }

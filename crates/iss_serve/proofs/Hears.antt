@@ -47,10 +47,10 @@ closed_then ch answer x y z p q = told_then (Adds [] (answer ∷ [])) (Adds (Clo
 
 module _ (store : StoreNow) (h : HeldNow) (ch : Channel) (settled : h.unreached ≡ []) (x y : Option Outer) where
   -- a take was made, and what it brought isn't read
-  pub told_took_some : (buffer : List ℕ) (count : ℕ) → length buffer ≡ 4096 → count ≤ length buffer → Told (Adds [] (Took ch (Some (take count buffer)) ∷ [])) x y → Told (ServesSome (taking store h ch)) x y
+  pub told_took_some : (buffer : List ℕ) (count : ℕ) → length buffer ≡ 4096 → count ≤ length buffer → Told (Adds [] (Took ch (Some (take count buffer)) ∷ [])) x y → Told (ServesSome ⊥ (taking store h ch)) x y
   told_took_some buffer count room bound p =
-      told_map (Adds [] (Took ch (Some (take count buffer)) ∷ [])) (ServesSome (taking store h ch)) x y
-      (λ a b adds. took_some store h ch settled (Some (take count buffer)) a b (piece_fits buffer count room bound) adds) p
+      told_map (Adds [] (Took ch (Some (take count buffer)) ∷ [])) (ServesSome ⊥ (taking store h ch)) x y
+      (λ a b adds. took_some store h ch settled ⊥ (Some (take count buffer)) a b (piece_fits buffer count room bound) adds) p
 
   -- ---- a client whose request isn't whole
 
@@ -100,10 +100,10 @@ module _ (store : StoreNow) (h : HeldNow) (ch : Channel) (settled : h.unreached 
       (told_map (Adds (closing ch (heard_of said)) (Took ch listens.got ∷ [])) (ServesOn (taking store h ch) (to_judge store now (inputs_of (heard_of said)))) x y
       (λ a b adds. link_heard store h ch settled no_client none_waits own now listens.got (heard_of said) a b listens.piece is listens.answers adds) listens.told)
 
-  pub told_link_some : {E : Type 0} (now : LinksNow) (e : E) (channels : Channels) (f g : Faults) → Listens {E = E} h.links now ch (Err e) channels f g x y → Told (ServesSome (taking store h ch)) x y
+  pub told_link_some : {E : Type 0} (now : LinksNow) (e : E) (channels : Channels) (f g : Faults) → Listens {E = E} h.links now ch (Err e) channels f g x y → Told (ServesSome ⊥ (taking store h ch)) x y
   told_link_some now e channels f g listens =
-      told_map (Adds [] (Took ch listens.got ∷ [])) (ServesSome (taking store h ch)) x y
-      (λ a b adds. took_some store h ch settled listens.got a b listens.piece adds) listens.untold
+      told_map (Adds [] (Took ch listens.got ∷ [])) (ServesSome ⊥ (taking store h ch)) x y
+      (λ a b adds. took_some store h ch settled ⊥ listens.got a b listens.piece adds) listens.untold
 
 -- a response goes out
 pub told_replied : (store : StoreNow) (h now : HeldNow) (ch : Channel) (text bytes : List ℕ) (first : List Queued) (x y : Option Outer) → bytes ≡ text → now ≡ record h { served = waiters_without ch h.served }

@@ -36,7 +36,7 @@ use Rattle.iss_serve.specs.Held.{HeldNow, Stage, to_judge, sending, answer_unrea
 use Rattle.iss_serve.specs.Judged.{judged_again, waiting_for, IsPlannedFor}
 use Rattle.iss_serve.specs.Runs.{ServesOn, ServesSome}
 use Rattle.iss_serve.proofs.Quietly.{Quietly}
-use Rattle.iss_serve.proofs.Going.{told_goes, commit_goes, commit_goes_part}
+use Rattle.iss_serve.proofs.Going.{told_goes, commit_goes, commit_goes_part, goes_part}
 use Rattle.iss_serve.proofs.Stages.{sends_on, sends_some}
 
 -- ---- what judging comes to
@@ -127,12 +127,22 @@ module _ (store : StoreNow) (h : HeldNow) (q : Queued) (rest : List Queued) wher
     one_made : (rs : List Record) → StandsFor store rs → records_in (judged_first (start rs) (start rs).queue) ≡ with_record (records_in (start rs)) p.accepted
     one_made rs stands = ap records_in (made_so rs stands) ∙ step_records (history_of rs) p.accepted
 
-    pub commit_some : (x y : Outer) → Quietly (KeepsPart store p.accepted) x y → ServesSome (to_judge store h (q ∷ rest)) x y
-    commit_some x y good =
+    pub commit_some : (failed : Type 0) → failed → (x y : Outer) → Quietly (KeepsPart store p.accepted) x y → ServesSome failed (to_judge store h (q ∷ rest)) x y
+    commit_some failed fails x y good =
         record {
           on_book =
               λ rs stands.
-              commit_goes_part program_readers store (start rs) p.accepted x y refl (stands_there rs stands) (one_made rs stands) good.heard good.world;
+              commit_goes_part program_readers store (start rs) p.accepted x y refl (stands_there rs stands) (one_made rs stands) good.heard failed fails good.world;
+        }
+
+    -- the record lasts, and there is nothing of it to go out with
+    pub commit_lost : (x y : Outer) → Quietly (Keeps store p.accepted) x y → ServesSome ⊥ (to_judge store h (q ∷ rest)) x y
+    commit_lost x y good =
+        record {
+          on_book =
+              λ rs stands.
+              goes_part ⊥ program_readers (region_under store) (start rs) (judged_first (start rs) (start rs).queue) x y
+              (commit_goes program_readers store (start rs) p.accepted x y refl (stands_there rs stands) (one_made rs stands) good.heard good.world);
         }
 
     module _ (next : StoreNow) (d : DurableNow) (commits : Commits store p next d) (on_book : (rs : List Record) → StandsFor store rs → CommitsOnBook next rs p d) where
@@ -219,6 +229,6 @@ sent_on_all store h now first tasks served gone x y is sends =
         ∙ append_assoc first (answers_unreached h.unreached) (answers_unreached (flat_map call_unreached gone))
         ∙ ap (λ (qs : List Queued). first ++ qs) (sym (map-append answer_unreached h.unreached (flat_map call_unreached gone)))
 
-pub sent_some : (store : StoreNow) (h : HeldNow) (first : List Queued) (tasks : List Task) (x y : Outer) → SendsPart store.core.state.count (desk_with tasks h.served) x y
-    → ServesSome (sending store h first tasks) x y
-sent_some store h first tasks x y part = sends_some (sending store h first tasks) part.left part.gone x y part.sends
+pub sent_some : (failed : Type 0) (store : StoreNow) (h : HeldNow) (first : List Queued) (tasks : List Task) (x y : Outer) → SendsPart store.core.state.count (desk_with tasks h.served) x y
+    → ServesSome failed (sending store h first tasks) x y
+sent_some failed store h first tasks x y part = sends_some failed (sending store h first tasks) part.left part.gone x y part.sends

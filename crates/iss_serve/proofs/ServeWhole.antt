@@ -1,5 +1,5 @@
 -- A run that serves from the device's side: what was heard and done, what a stop leaves, and what the device stands for at the end.
-use Rattle.std.proofs.Common.{◌≡◌, ℕ, ◌+◌, ◌≤◌, zero, suc, Bool, true, false, cond, List, [], ◌∷◌, ◌++◌, length, map, refl, sym, ap, subst, ◌∙◌, append-nil, append_assoc, arith}
+use Rattle.std.proofs.Common.{◌≡◌, ℕ, ◌+◌, ◌≤◌, inl, inr, zero, suc, Bool, true, false, cond, List, [], ◌∷◌, ◌++◌, length, map, refl, sym, ap, subst, ◌∙◌, append-nil, append_assoc, arith}
 use Rattle.iss_edge.specs.declared.outside.Channel.{Channel}
 use Rattle.iss_edge.specs.declared.outside.Action.{Action}
 use Rattle.iss_edge.specs.declared.outside.Action.TheVariants.{Write, Sync, Emit, Dial, Close}
@@ -31,7 +31,7 @@ use Rattle.iss_store.specs.Standing.{region_under, AreHistory, StandsFor, Device
 use Rattle.iss_store.specs.Goings.{channel_steps}
 use Rattle.iss_store.specs.Goings as device
 use Rattle.iss_store.proofs.Goings as joins
-use Rattle.iss_store.specs.Opening.{is_on_device, AreOnDevice, OpensGood, OpenedAs}
+use Rattle.iss_store.specs.Opening.{is_on_device, AreOnDevice, OpensGood, ReadsAlone, OpenedAs}
 use Rattle.iss_device.specs.Runs.{run_at}
 use Rattle.iss_device.specs.Moments.{EachMoment, EachMomentUnsynced, EachStopStands, EndsAtRest}
 use Rattle.iss_device.specs.Opened.{IsOpenedOn}
@@ -187,9 +187,9 @@ module _ (turns instance : ℕ) (rs : List Record) (s : StoreNow) (a b d : Outer
   silent : (later : List Step) → channel_steps (first_steps ++ later) ≡ channel_steps later
   silent later = opening_silent opening.good.added later opening.good.on_device
 
-  pub serve_part : (status : ℕ) → (status ≡ 0 → ⊥) → (status ≡ 4 → ⊥) → GoesPart program_readers (region_under s) start b d
+  pub serve_part : (status : ℕ) → (status ≡ 0 → ⊥) → (status ≡ 4 → ⊥) → (failed : Type 0) → (failed → status ≡ 6) → GoesPart failed program_readers (region_under s) start b d
       → ServeOn turns status instance rs (session_on_device turns instance rs a.world.device) a d
-  serve_part status not_done not_device p =
+  serve_part status not_done not_device failed of_disk p =
       let all = records_then rs start p.happenings in
       let part = part_there p.happenings p.said p.part in
       let steps = first_steps ++ part.steps in
@@ -229,6 +229,10 @@ module _ (turns instance : ℕ) (rs : List Record) (s : StoreNow) (a b d : Outer
             stops_stand instance rs all a.world.device part.more (part.history stands.history) first_steps part.steps
             (opened_moments instance rs s a.world b.world opening stands all p.said d.world part);
         whole = λ e. absurd (not_done e);
+        ended = λ other. elim p.whole [
+          | inl goes ↦ inr (whole_ends all p.said part (goes_there p.happenings (session_then start p.happenings) p.said refl goes))
+          | inr fails ↦ absurd (other (of_disk fails))
+        ];
         other_device = not_device;
       })
 
@@ -289,14 +293,15 @@ module _ (turns instance : ℕ) (rs : List Record) (s : StoreNow) (a b d : Outer
                   (rests_now instance rs s a.world b.world opening stands all said d.world goes);
               ends = whole_ends all said part goes;
             };
+        ended = λ other. inr (whole_ends all said part goes);
         other_device = λ e. cc;
       })
 
 -- ---- a run that ended with its opening
 
-pub not_opened : (turns status instance : ℕ) (rs : List Record) (a b : Outer) → (status ≡ 0 → ⊥) → (status ≡ 4 → ⊥) → OpensGood a.world b.world → b.heard ≡ a.heard → DeviceStandsFor instance rs a.world.device
+pub not_opened : (turns status instance : ℕ) (rs : List Record) (a b : Outer) → (status ≡ 0 → ⊥) → (status ≡ 4 → ⊥) → OpensGood a.world b.world → ((status ≡ 6 → ⊥) → ReadsAlone a.world b.world) → b.heard ≡ a.heard → DeviceStandsFor instance rs a.world.device
     → ServeOn turns status instance rs (session_on_device turns instance rs a.world.device) a b
-not_opened turns status instance rs a b not_done not_device good quiet stands =
+not_opened turns status instance rs a b not_done not_device good reads quiet stands =
     let start = session_on_device turns instance rs a.world.device in
     let steps = with_levels 0 good.added ++ [] in
     let none : channel_steps steps ≡ [] = opening_silent good.added [] good.on_device in
@@ -335,5 +340,6 @@ not_opened turns status instance rs a b not_done not_device good quiet stands =
           subst (λ (l : List Record). EachStopStands instance rs l (with_levels 0 good.added ++ []) a.world.device) (sym (append-nil rs))
           (stops_stand instance rs rs a.world.device (first_self rs) stands.history (with_levels 0 good.added) [] (not_opened_moments instance rs a.world b.world good stands));
       whole = λ e. absurd (not_done e);
+      ended = λ other. inl (reads other);
       other_device = not_device;
     }

@@ -1,5 +1,5 @@
 -- Parts of a run that serves, from one stage to the next, whatever records the store stands for.
-use Rattle.std.proofs.Common.{◌≡◌, ℕ, ◌≤◌, inl, true, List, [], ◌∷◌, ◌++◌, length, Option, refl, sym, ap, subst, ◌∙◌, append-nil, arith}
+use Rattle.std.proofs.Common.{◌≡◌, ℕ, inl, inr, true, List, [], ◌∷◌, length, Option, refl, sym, ap, subst, ◌∙◌, append-nil}
 use Rattle.iss_edge.specs.declared.outside.Action.{Action}
 use Rattle.iss_edge.specs.Outer.{Outer, Adds}
 use Rattle.iss_edge.specs.Stretches.{actions_of}
@@ -63,23 +63,23 @@ on_then x y z a b c p q =
           };
     }
 
-pub on_then_some : (x y : Stage) (a b c : Outer) → ServesOn x y a b → ServesSome y b c → ServesSome x a c
-on_then_some x y a b c p q =
+pub on_then_some : (failed : Type 0) (x y : Stage) (a b c : Outer) → ServesOn x y a b → ServesSome failed y b c → ServesSome failed x a c
+on_then_some failed x y a b c p q =
     record {
       on_book =
           λ rs stands.
           let first = p.on_book rs stands in
-          goes_then_part program_readers (region_under x.store) (session_at x rs) (session_at y first.now) a b c first.goes
-          (subst (λ (r : Region). GoesPart program_readers r (session_at y first.now) b c) (same_region x y p.instance p.to) (q.on_book first.now first.stands));
+          goes_then_part program_readers (region_under x.store) (session_at x rs) (session_at y first.now) a b c first.goes failed
+          (subst (λ (r : Region). GoesPart failed program_readers r (session_at y first.now) b c) (same_region x y p.instance p.to) (q.on_book first.now first.stands));
     }
 
-pub some_of_on : (x y : Stage) (a b : Outer) → ServesOn x y a b → ServesSome x a b
-some_of_on x y a b p =
+pub some_of_on : (failed : Type 0) (x y : Stage) (a b : Outer) → ServesOn x y a b → ServesSome failed x a b
+some_of_on failed x y a b p =
     record {
       on_book =
           λ rs stands.
           let first = p.on_book rs stands in
-          goes_part program_readers (region_under x.store) (session_at x rs) (session_at y first.now) a b first.goes;
+          goes_part failed program_readers (region_under x.store) (session_at x rs) (session_at y first.now) a b first.goes;
     }
 
 -- two stages of one store that are the same session
@@ -118,29 +118,50 @@ told_on_self x o = told_self (ServesOn x x) o (on_self x)
 pub told_on_then : (x y z : Stage) (o p q : Option Outer) → Told (ServesOn x y) o p → Told (ServesOn y z) p q → Told (ServesOn x z) o q
 told_on_then x y z o p q f g = told_then (ServesOn x y) (ServesOn y z) (ServesOn x z) o p q (on_then x y z) f g
 
-pub told_on_then_some : (x y : Stage) (o p q : Option Outer) → Told (ServesOn x y) o p → Told (ServesSome y) p q → Told (ServesSome x) o q
-told_on_then_some x y o p q f g = told_then (ServesOn x y) (ServesSome y) (ServesSome x) o p q (on_then_some x y) f g
+pub told_on_then_some : (failed : Type 0) (x y : Stage) (o p q : Option Outer) → Told (ServesOn x y) o p → Told (ServesSome failed y) p q → Told (ServesSome failed x) o q
+told_on_then_some failed x y o p q f g = told_then (ServesOn x y) (ServesSome failed y) (ServesSome failed x) o p q (on_then_some failed x y) f g
 
-pub told_some_of_on : (x y : Stage) (o p : Option Outer) → Told (ServesOn x y) o p → Told (ServesSome x) o p
-told_some_of_on x y o p f = told_map (ServesOn x y) (ServesSome x) o p (some_of_on x y) f
+pub told_some_of_on : (failed : Type 0) (x y : Stage) (o p : Option Outer) → Told (ServesOn x y) o p → Told (ServesSome failed x) o p
+told_some_of_on failed x y o p f = told_map (ServesOn x y) (ServesSome failed x) o p (some_of_on failed x y) f
+
+-- nothing failed that couldn't
+some_never : (failed : Type 0) (x : Stage) (a b : Outer) → ServesSome ⊥ x a b → ServesSome failed x a b
+some_never failed x a b p =
+    record {
+      on_book = λ rs stands.
+          let part = p.on_book rs stands in
+          record {
+            happenings = part.happenings;
+            heard = part.heard;
+            fits = part.fits;
+            said = part.said;
+            undone = part.undone;
+            cut = part.cut;
+            part = part.part;
+            whole = elim part.whole [ inl goes ↦ inl goes | inr fails ↦ absurd fails ];
+          };
+    }
+
+pub told_some_never : (failed : Type 0) (x : Stage) (o p : Option Outer) → Told (ServesSome ⊥ x) o p → Told (ServesSome failed x) o p
+told_some_never failed x o p f = told_map (ServesSome ⊥ x) (ServesSome failed x) o p (some_never failed x) f
 
 -- nothing was done
-pub told_none_on : (x : Stage) (o : Option Outer) → Told (ServesSome x) o o
-told_none_on x o = told_some_of_on x x o o (told_on_self x o)
+pub told_none_on : (failed : Type 0) (x : Stage) (o : Option Outer) → Told (ServesSome failed x) o o
+told_none_on failed x o = told_some_of_on failed x x o o (told_on_self x o)
 
 -- a stage that is the same session
 pub told_on_as : (x x' y y' : Stage) (o p : Option Outer) → x ≡ x' → y ≡ y' → Told (ServesOn x y) o p → Told (ServesOn x' y') o p
 told_on_as x x' y y' o p e f t =
     subst (λ (s : Stage). Told (ServesOn s y') o p) e (subst (λ (s : Stage). Told (ServesOn x s) o p) f t)
 
-pub told_some_as : (x x' : Stage) (o p : Option Outer) → x ≡ x' → Told (ServesSome x) o p → Told (ServesSome x') o p
-told_some_as x x' o p e t = subst (λ (s : Stage). Told (ServesSome s) o p) e t
+pub told_some_as : (failed : Type 0) (x x' : Stage) (o p : Option Outer) → x ≡ x' → Told (ServesSome failed x) o p → Told (ServesSome failed x') o p
+told_some_as failed x x' o p e t = subst (λ (s : Stage). Told (ServesSome failed s) o p) e t
 
 -- ---- each kind of part, on a store that stays as it is
 
 -- an answer that was called for, where a fault keeps what the session does then from being done
-heard_goes_part : (read : Readers) (region : Region) (s : Session) (item : Item) (a b : Outer) → IsNext s item → Adds [] (item.answer ∷ []) a b → GoesPart read region s a b
-heard_goes_part read region s item a b next adds =
+heard_goes_part : (failed : Type 0) (read : Readers) (region : Region) (s : Session) (item : Item) (a b : Outer) → IsNext s item → Adds [] (item.answer ∷ []) a b → GoesPart failed read region s a b
+heard_goes_part failed read region s item a b next adds =
     let t = session_after read s (hears item ∷ []) in
     let same : records_in t ≡ records_in s = ap (λ (run : Run). run.history.records) (run_item read s item s.desk.tasks) in
     record {
@@ -153,6 +174,9 @@ heard_goes_part read region s item a b next adds =
       part =
           subst (λ (l : List Record). device.GoesPart region (records_in s) l [] a.world b.world) (sym same)
           (joins.goes_part region (records_in s) (records_in s) [] a.world b.world
+          (joins.still_goes region (records_in s) [] a.world b.world tt tt adds.device adds.trace));
+      whole =
+          inl (subst (λ (l : List Record). device.Goes region (records_in s) l [] a.world b.world) (sym same)
           (joins.still_goes region (records_in s) [] a.world b.world tt tt adds.device adds.trace));
     }
 
@@ -183,9 +207,9 @@ heard_on store x y item actions a b xs ys next came leads does adds =
     }
 
 -- the same where a fault keeps the session's steps from being done
-pub heard_some : (x : Stage) (item : Item) (a b : Outer) → ((rs : List Record) → IsNext (session_at x rs) item) → Adds [] (item.answer ∷ []) a b → ServesSome x a b
-heard_some x item a b next adds =
-    record { on_book = λ rs stands. heard_goes_part program_readers (region_under x.store) (session_at x rs) item a b (next rs) adds }
+pub heard_some : (failed : Type 0) (x : Stage) (item : Item) (a b : Outer) → ((rs : List Record) → IsNext (session_at x rs) item) → Adds [] (item.answer ∷ []) a b → ServesSome failed x a b
+heard_some failed x item a b next adds =
+    record { on_book = λ rs stands. heard_goes_part failed program_readers (region_under x.store) (session_at x rs) item a b (next rs) adds }
 
 -- what a desk did for its texts
 pub sends_on : (store : StoreNow) (x y : Stage) (e : Desk) (gone : List Gone) (a b : Outer) → x.store ≡ store → y.store ≡ store
@@ -208,12 +232,12 @@ sends_on store x y e gone a b xs ys leads sends =
     }
 
 -- and what it did in part
-pub sends_some : (x : Stage) (e : Desk) (gone : List Gone) (a b : Outer) → Sends x.store.core.state.count (desk_with x.tasks x.held.served) e gone a b → ServesSome x a b
-sends_some x e gone a b sends =
+pub sends_some : (failed : Type 0) (x : Stage) (e : Desk) (gone : List Gone) (a b : Outer) → Sends x.store.core.state.count (desk_with x.tasks x.held.served) e gone a b → ServesSome failed x a b
+sends_some failed x e gone a b sends =
     record {
       on_book =
           λ rs stands.
-          goes_part program_readers (region_under x.store) (session_at x rs) (with_desk (session_at x rs) e gone) a b
+          goes_part failed program_readers (region_under x.store) (session_at x rs) (with_desk (session_at x rs) e gone) a b
           (sends_goes program_readers (region_under x.store) (session_at x rs) e gone a b
           (subst (λ (n : ℕ). Sends n (desk_with x.tasks x.held.served) e gone a b) (sym (count_at x rs stands)) sends));
     }

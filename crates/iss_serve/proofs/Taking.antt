@@ -105,8 +105,8 @@ module _ (store : StoreNow) (h : HeldNow) (ch : Channel) (settled : h.unreached 
   late got rs = (late_request (session_at (taking store h ch) rs) ch got, λ other none_waits. late_answer (link_at ch h.links.links) got)
 
   -- the take was made, and what it brought isn't read
-  pub took_some : (got : Option (List ℕ)) (a b : Outer) → is_piece got ≡ true → Adds [] (Took ch got ∷ []) a b → ServesSome (taking store h ch) a b
-  took_some got a b fits adds = heard_some (taking store h ch) (took ch got false) a b (is_next got false fits (late got)) adds
+  pub took_some : (failed : Type 0) (got : Option (List ℕ)) (a b : Outer) → is_piece got ≡ true → Adds [] (Took ch got ∷ []) a b → ServesSome failed (taking store h ch) a b
+  took_some failed got a b fits adds = heard_some failed (taking store h ch) (took ch got false) a b (is_next got false fits (late got)) adds
 
   -- what the session is by a take
   abbrev after : Option (List ℕ) → Bool → List Record → Change

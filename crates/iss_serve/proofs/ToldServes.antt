@@ -1,6 +1,6 @@
 -- The same of what an edge tells: a run that serves at each of its ends.
 use Rattle.std.proofs.Common.{◌≡◌, ℕ, inl, inr, List, Option, Ok, Err, refl, arith}
-use Rattle.std.specs.Prelude.{Result, OnOk, OnErr}
+use Rattle.std.specs.Prelude.{Result, OnOk, IfErr}
 use Rattle.iss_edge.specs.declared.outside.Answered.{Answered}
 use Rattle.iss_edge.specs.World.{World, Told, Faults, Later}
 use Rattle.iss_edge.specs.Calls.{HearsNothing}
@@ -16,7 +16,7 @@ use Rattle.iss_device.specs.Refusals.{RefusesExactly, opening_status}
 use Rattle.iss_device.proofs.Refusals.{told_refuses, opened_refuses}
 use Rattle.iss_serve.specs.declared.fault.ServeFault.{ServeFault}
 use Rattle.iss_serve.specs.declared.fault.ServeFault.TheVariants.{Device, Wait, Disk, OutOfMemory}
-use Rattle.iss_serve.specs.Causes.{fault_of_opening, ServeCause, IsServeCaused}
+use Rattle.iss_serve.specs.Causes.{fault_of_opening, ServeCause, IsServeCaused, IsOfDisk}
 use Rattle.iss_serve.specs.Runs.{ServesToEnd, ServesUpTo}
 use Rattle.iss_serve.specs.ServeRuns.{status_of, ServeRun, OfWorlds, EndingCause, EndsCaused, ServeEndsWell}
 use Rattle.iss_serve.proofs.Quietly.{Quietly, told_quietly}
@@ -40,6 +40,13 @@ not_device Wait before now caused e = cc
 not_device Disk before now caused e = cc
 not_device OutOfMemory before now caused e = cc
 
+-- a fault of the disk has its status
+disk_status : (why : ServeFault) → IsOfDisk why → ends_with why ≡ 6
+disk_status Device is = absurd is
+disk_status Wait is = absurd is
+disk_status Disk is = refl
+disk_status OutOfMemory is = absurd is
+
 opening_ends : (fault : OpenFault) → IsOfDiskOrMemory fault → ends_with (fault_of_opening fault) ≡ 4 → ⊥
 opening_ends open_fault.Disk is e = cc
 opening_ends open_fault.OutOfMemory is e = cc
@@ -50,14 +57,33 @@ opening_ends (open_fault.BadHistory gate) is e = absurd is
 
 -- ---- a device that doesn't open
 
+-- nothing was done but maybe a sync, unless a call on the device failed
+abbrev ReadsUnless : OpenFault → World → World → Type 0
+ReadsUnless fault a b = (ends_with (fault_of_opening fault) ≡ 6 → ⊥) → ReadsAlone a b
+
+reads_at_all : (fault : OpenFault) (x y : Option World) → Told ReadsAlone x y → Told (ReadsUnless fault) x y
+reads_at_all fault x y reads = told_map ReadsAlone (ReadsUnless fault) x y (λ a b r other. r) reads
+
+told_unless : (fault : OpenFault) (x y : Option World) → Told OpensGood x y → OnRefused {T = StoreNow} (Err fault) (Told ReadsAlone x y) → Told (ReadsUnless fault) x y
+told_unless open_fault.Disk x y good reads = told_map OpensGood (ReadsUnless open_fault.Disk) x y (λ a b g other. absurd (other refl)) good
+told_unless open_fault.OutOfMemory x y good reads = reads_at_all open_fault.OutOfMemory x y reads
+told_unless open_fault.NotFormatted x y good reads = reads_at_all open_fault.NotFormatted x y reads
+told_unless (open_fault.BadRecord gate) x y good reads = reads_at_all (open_fault.BadRecord gate) x y reads
+told_unless (open_fault.BadSpelling gate) x y good reads = reads_at_all (open_fault.BadSpelling gate) x y reads
+told_unless (open_fault.BadHistory gate) x y good reads = reads_at_all (open_fault.BadHistory gate) x y reads
+
 module _ (turns : ℕ) (fault : OpenFault) (x y : Option World) (h k : Option (List Answered)) (opens : Told (Opens (Err fault)) x y) (good : Told OpensGood x y) (quiet : Told HearsNothing h k) where
-  pub told_unopened_serve : Told (ServeRun turns (ends_with (fault_of_opening fault))) (outer_of x h) (outer_of y k)
-  told_unopened_serve =
-      told_map (Quietly (λ a b. Opens (Err fault) a b × OpensGood a b)) (ServeRun turns (ends_with (fault_of_opening fault))) (outer_of x h) (outer_of y k)
+  abbrev Unopened : World → World → Type 0
+  Unopened a b = (Opens (Err fault) a b × OpensGood a b) × ReadsUnless fault a b
+
+  pub told_unopened_serve : OnRefused {T = StoreNow} (Err fault) (Told ReadsAlone x y) → Told (ServeRun turns (ends_with (fault_of_opening fault))) (outer_of x h) (outer_of y k)
+  told_unopened_serve reads =
+      told_map (Quietly Unopened) (ServeRun turns (ends_with (fault_of_opening fault))) (outer_of x h) (outer_of y k)
       (λ a b p instance rs stands.
       not_opened turns (ends_with (fault_of_opening fault)) instance rs a b (not_done (fault_of_opening fault))
-      (opening_ends fault (good_device instance rs fault a.world b.world stands p.world.0)) p.world.1 p.heard stands)
-      (told_quietly (λ a b. Opens (Err fault) a b × OpensGood a b) x y h k (told_both (Opens (Err fault)) OpensGood x y opens good) quiet)
+      (opening_ends fault (good_device instance rs fault a.world b.world stands p.world.0.0)) p.world.0.1 p.world.1 p.heard stands)
+      (told_quietly Unopened x y h k
+      (told_both (λ a b. Opens (Err fault) a b × OpensGood a b) (ReadsUnless fault) x y (told_both (Opens (Err fault)) OpensGood x y opens good) (told_unless fault x y good reads)) quiet)
 
   pub told_unopened_refuses : OnRefused {T = StoreNow} (Err fault) (Told ReadsAlone x y) → Told (OfWorlds (RefusesExactly (ends_with (fault_of_opening fault)))) (outer_of x h) (outer_of y k)
   told_unopened_refuses reads =
@@ -82,12 +108,12 @@ module _ (turns : ℕ) (s : StoreNow) (x y z : Option World) (h k l : Option (Li
       serve_whole turns instance rs s a b d o.world o.heard stands (p.on_book rs (stands_there turns instance rs s a b d o.world o.heard stands)))
       (told_quietly (OpenedAs s) x y h k opened quiet) serves
 
-  pub told_served_part : (why : ServeFault) (before now : Faults) → IsServeCaused {A = Unit {0}} before now (Err why) → Told (ServesUpTo s turns) (outer_of y k) (outer_of z l)
+  pub told_served_part : (why : ServeFault) (before now : Faults) → IsServeCaused {A = Unit {0}} before now (Err why) → Told (ServesUpTo (IsOfDisk why) s turns) (outer_of y k) (outer_of z l)
       → Told (ServeRun turns (ends_with why)) (outer_of x h) (outer_of z l)
   told_served_part why before now caused serves =
-      told_then (Quietly (OpenedAs s)) (ServesUpTo s turns) (ServeRun turns (ends_with why)) (outer_of x h) (outer_of y k) (outer_of z l)
+      told_then (Quietly (OpenedAs s)) (ServesUpTo (IsOfDisk why) s turns) (ServeRun turns (ends_with why)) (outer_of x h) (outer_of y k) (outer_of z l)
       (λ a b d o p instance rs stands.
-      serve_part turns instance rs s a b d o.world o.heard stands (ends_with why) (not_done why) (not_device {A = Unit {0}} why before now caused)
+      serve_part turns instance rs s a b d o.world o.heard stands (ends_with why) (not_done why) (not_device {A = Unit {0}} why before now caused) (IsOfDisk why) (disk_status why)
       (p.on_book rs (stands_there turns instance rs s a b d o.world o.heard stands)))
       (told_quietly (OpenedAs s) x y h k opened quiet) serves
 
@@ -99,18 +125,18 @@ module _ (turns : ℕ) (s : StoreNow) (x y z : Option World) (h k l : Option (Li
   pub told_whole_refuses : Told (ServesToEnd s turns) (outer_of y k) (outer_of z l) → Told (OfWorlds (RefusesExactly 0)) (outer_of x h) (outer_of z l)
   told_whole_refuses serves = refuses_no_more (ServesToEnd s turns) 0 (λ e. cc) serves
 
-  pub told_part_refuses : (why : ServeFault) (before now : Faults) → IsServeCaused {A = Unit {0}} before now (Err why) → Told (ServesUpTo s turns) (outer_of y k) (outer_of z l)
+  pub told_part_refuses : (why : ServeFault) (before now : Faults) → IsServeCaused {A = Unit {0}} before now (Err why) → Told (ServesUpTo (IsOfDisk why) s turns) (outer_of y k) (outer_of z l)
       → Told (OfWorlds (RefusesExactly (ends_with why))) (outer_of x h) (outer_of z l)
-  told_part_refuses why before now caused serves = refuses_no_more (ServesUpTo s turns) (ends_with why) (not_device {A = Unit {0}} why before now caused) serves
+  told_part_refuses why before now caused serves = refuses_no_more (ServesUpTo (IsOfDisk why) s turns) (ends_with why) (not_device {A = Unit {0}} why before now caused) serves
 
   -- both, by how it ended
   pub told_served : (result : Result (Unit {0}) ServeFault) (before now : Faults) → IsServeCaused before now result → OnOk result (Told (ServesToEnd s turns) (outer_of y k) (outer_of z l))
-      → OnErr result (Told (ServesUpTo s turns) (outer_of y k) (outer_of z l)) → Told (ServeRun turns (status_of result)) (outer_of x h) (outer_of z l)
+      → IfErr result (λ why. Told (ServesUpTo (IsOfDisk why) s turns) (outer_of y k) (outer_of z l)) → Told (ServeRun turns (status_of result)) (outer_of x h) (outer_of z l)
   told_served (Ok done) before now caused whole part = told_served_whole whole
   told_served (Err why) before now caused whole part = told_served_part why before now caused part
 
   pub told_served_refuses : (result : Result (Unit {0}) ServeFault) (before now : Faults) → IsServeCaused before now result → OnOk result (Told (ServesToEnd s turns) (outer_of y k) (outer_of z l))
-      → OnErr result (Told (ServesUpTo s turns) (outer_of y k) (outer_of z l)) → Told (OfWorlds (RefusesExactly (status_of result))) (outer_of x h) (outer_of z l)
+      → IfErr result (λ why. Told (ServesUpTo (IsOfDisk why) s turns) (outer_of y k) (outer_of z l)) → Told (OfWorlds (RefusesExactly (status_of result))) (outer_of x h) (outer_of z l)
   told_served_refuses (Ok done) before now caused whole part = told_whole_refuses whole
   told_served_refuses (Err why) before now caused whole part = told_part_refuses why before now caused part
 

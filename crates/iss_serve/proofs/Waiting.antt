@@ -64,18 +64,18 @@ module _ (store : StoreNow) (h : HeldNow) (settled : h.unreached ≡ []) (turns 
       (told_waits arrival x z g k brought heard)
 
   -- the wait was made, and what it brought isn't taken in
-  pub told_waited_some : (arrival : Arrival) (x z : Option World) (g k : Option (List Answered)) → Told (Waits arrival) x z → Told (Hears (Waited (Some arrival))) g k
-      → Told (ServesSome (idle store h)) (outer_of x g) (outer_of z k)
-  told_waited_some arrival x z g k brought heard =
-      told_map (Adds [] (Waited (Some arrival) ∷ [])) (ServesSome (idle store h)) (outer_of x g) (outer_of z k)
-      (λ a b adds. heard_some (idle store h) (waited (Some arrival)) a b (is_next (Some arrival)) adds)
+  pub told_waited_some : (failed : Type 0) (arrival : Arrival) (x z : Option World) (g k : Option (List Answered)) → Told (Waits arrival) x z → Told (Hears (Waited (Some arrival))) g k
+      → Told (ServesSome failed (idle store h)) (outer_of x g) (outer_of z k)
+  told_waited_some failed arrival x z g k brought heard =
+      told_map (Adds [] (Waited (Some arrival) ∷ [])) (ServesSome failed (idle store h)) (outer_of x g) (outer_of z k)
+      (λ a b adds. heard_some failed (idle store h) (waited (Some arrival)) a b (is_next (Some arrival)) adds)
       (told_waits arrival x z g k brought heard)
 
-  pub told_wait_failed : (x z : Option World) (g k : Option (List Answered)) → Told Same x z → Told (Hears (Waited None)) g k
-      → Told (ServesSome (idle store h)) (outer_of x g) (outer_of z k)
-  told_wait_failed x z g k same heard =
-      told_map (Adds [] (Waited None ∷ [])) (ServesSome (idle store h)) (outer_of x g) (outer_of z k)
-      (λ a b adds. heard_some (idle store h) (waited None) a b (is_next None) adds)
+  pub told_wait_failed : (failed : Type 0) (x z : Option World) (g k : Option (List Answered)) → Told Same x z → Told (Hears (Waited None)) g k
+      → Told (ServesSome failed (idle store h)) (outer_of x g) (outer_of z k)
+  told_wait_failed failed x z g k same heard =
+      told_map (Adds [] (Waited None ∷ [])) (ServesSome failed (idle store h)) (outer_of x g) (outer_of z k)
+      (λ a b adds. heard_some failed (idle store h) (waited None) a b (is_next None) adds)
       (told_unwaited x z g k same heard)
 
   -- a session with these turns, this time, these clients and these inputs

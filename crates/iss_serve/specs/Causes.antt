@@ -23,6 +23,13 @@ fault_of_store store.Disk = Disk
 fault_of_store store.Output = Disk
 fault_of_store store.OutOfMemory = OutOfMemory
 
+-- a call on the device ended it
+abbrev pub IsOfDisk : ServeFault → Type 0
+IsOfDisk Device = ⊥
+IsOfDisk Wait = ⊥
+IsOfDisk Disk = Unit {0}
+IsOfDisk OutOfMemory = ⊥
+
 -- why a run on an opened device may end early: clients' channels and those to the gateway may fail without that
 abbrev pub ServeCause : Faults → Faults → ServeFault → Type 0
 ServeCause before now Device = ⊥

@@ -1,5 +1,5 @@
 -- A run that serves, on its way: what was heard, what was said and done for it, and what a stop leaves at each moment.
-use Rattle.std.specs.Prelude.{◌≡◌, Bool, true, false, List, ◌++◌, None}
+use Rattle.std.specs.Prelude.{◌≡◌, ◌⊎◌, Bool, true, false, List, ◌++◌, None}
 use Rattle.std.specs.List.{list_all}
 use Rattle.iss_edge.specs.declared.outside.Answered.{Answered}
 use Rattle.iss_edge.specs.declared.outside.Answered.TheVariants.{Waited}
@@ -35,8 +35,8 @@ pub record Goes (read : Readers) (region : Region) (s t : Session) (a b : Outer)
   pub ends : session_after read s happenings ≡ t
   pub goes : device.Goes region (records_in s) (records_in t) (session_steps read s happenings) a.world b.world
 
--- The same where a fault ended it: the last steps of the session may not have been done.
-pub record GoesPart (read : Readers) (region : Region) (s : Session) (a b : Outer) : Type 0 where
+-- The same where a fault ended it: the last steps of the session may not have been done. It might have gone on from there, unless this failed.
+pub record GoesPart (failed : Type 0) (read : Readers) (region : Region) (s : Session) (a b : Outer) : Type 0 where
   pub happenings : List Happening
   pub heard : b.heard ≡ a.heard ++ answers_of happenings
   pub fits : Fits read s happenings
@@ -44,6 +44,7 @@ pub record GoesPart (read : Readers) (region : Region) (s : Session) (a b : Oute
   pub undone : List Step
   pub cut : session_steps read s happenings ≡ said ++ undone
   pub part : device.GoesPart region (records_in s) (records_in (session_after read s happenings)) said a.world b.world
+  pub whole : device.Goes region (records_in s) (records_in (session_after read s happenings)) said a.world b.world ⊎ failed
 
 -- A session went from s to t, where nothing comes next, and then every channel that was still open was closed.
 pub record GoesToEnd (read : Readers) (region : Region) (s t : Session) (a b : Outer) : Type 0 where

@@ -22,9 +22,9 @@ pub record ServesOn (x y : Stage) (a b : Outer) : Type 0 where
   pub to : y.store.place.to ≡ x.store.place.to
   pub on_book : (rs : List Record) → StandsFor x.store rs → ServesFrom x y rs a b
 
--- A run went on in part from what stood.
-pub record ServesSome (x : Stage) (a b : Outer) : Type 0 where
-  pub on_book : (rs : List Record) → StandsFor x.store rs → GoesPart program_readers (region_under x.store) (session_at x rs) a b
+-- A run went on in part from what stood, and might have gone on, unless this failed.
+pub record ServesSome (failed : Type 0) (x : Stage) (a b : Outer) : Type 0 where
+  pub on_book : (rs : List Record) → StandsFor x.store rs → GoesPart failed program_readers (region_under x.store) (session_at x rs) a b
 
 -- the session with which a run on a store begins, where the store stands for these records
 abbrev pub session_on : StoreNow → ℕ → List Record → Session
@@ -40,6 +40,6 @@ pub record EndsWith (s : StoreNow) (turns : ℕ) (rs : List Record) (a b : Outer
 pub record ServesToEnd (s : StoreNow) (turns : ℕ) (a b : Outer) : Type 0 where
   pub on_book : (rs : List Record) → StandsFor s rs → EndsWith s turns rs a b
 
--- A run with so many turns ended by a fault since its store was opened.
-pub record ServesUpTo (s : StoreNow) (turns : ℕ) (a b : Outer) : Type 0 where
-  pub on_book : (rs : List Record) → StandsFor s rs → GoesPart program_readers (region_under s) (session_on s turns rs) a b
+-- A run with so many turns ended by a fault since its store was opened, and might have gone on, unless this failed.
+pub record ServesUpTo (failed : Type 0) (s : StoreNow) (turns : ℕ) (a b : Outer) : Type 0 where
+  pub on_book : (rs : List Record) → StandsFor s rs → GoesPart failed program_readers (region_under s) (session_on s turns rs) a b

@@ -17,7 +17,7 @@ use Rattle.iss_serving.specs.Turns.{waits_in}
 use Rattle.iss_sessions.specs.Program.{program_readers}
 use Rattle.iss_store.specs.Standing.{AreHistory, DeviceStandsFor}
 use Rattle.iss_store.specs.Goings.{channel_steps}
-use Rattle.iss_store.specs.Opening.{AreOnDevice}
+use Rattle.iss_store.specs.Opening.{AreOnDevice, ReadsAlone}
 use Rattle.iss_device.specs.Runs.{run_on_device}
 use Rattle.iss_device.specs.Moments.{EachMoment, EachMomentUnsynced, EachStopStands, EndsAtRest}
 use Rattle.iss_serve.specs.declared.fault.ServeFault.{ServeFault}
@@ -90,7 +90,8 @@ pub record ServedWhole (instance : ℕ) (rs : List Record) (s : Session) (happen
 -- where the device stood firmly for them it stands for the records that stood and a first part of those that the session makes, which are
 -- a history, at least as many as the level of each text of which a byte went out; within the opening one more may stand, which is left
 -- behind. So it does of a device with unsynced writes, once a sync of the opening has succeeded. The next run may begin with what a stop
--- leaves. At 0 all of it was done.
+-- leaves. At 0 all of it was done. Unless a call on the device failed, nothing was done but maybe a sync, or the run ended where the next
+-- one begins.
 pub record ServeOn (turns status instance : ℕ) (rs : List Record) (s : Session) (a b : Outer) : Type 0 where
   pub happenings : List Happening
   pub heard : b.heard ≡ a.heard ++ answers_of happenings
@@ -107,6 +108,8 @@ pub record ServeOn (turns status instance : ℕ) (rs : List Record) (s : Session
   pub unsynced : EachMomentUnsynced instance rs (records_then rs s happenings) opening later a.world.device
   pub stops : EachStopStands instance rs (records_then rs s happenings) (opening ++ later) a.world.device
   pub whole : status ≡ 0 → ServedWhole instance rs s happenings (actions_of (opening ++ later)) a.world b.world
+  pub ended : (status ≡ 6 → ⊥)
+      → ReadsAlone a.world b.world ⊎ EndsAtRest instance rs (records_then rs s happenings) (actions_of (opening ++ later)) a.world b.world
   pub other_device : status ≡ 4 → ⊥
 
 -- whichever records the device stands for, if any

@@ -1,5 +1,5 @@
 //! What a wait brings: a client, a channel that is ready, the time, or nothing.
-ghost use Rattle.std.specs.Prelude.{◌≡◌, ◌<◌, ◌≤◌, ℕ, List, [], ◌∷◌, Some, None, true, false, length, IfOk, OnErr, IfSome, IsSome};
+ghost use Rattle.std.specs.Prelude.{◌≡◌, ◌<◌, ◌≤◌, ℕ, List, [], ◌∷◌, Some, None, true, false, length, IfOk, IfErr, OnErr, IfSome, IsSome};
 ghost use Rattle.iss_edge.specs.declared.outside.Action.TheVariants.{Close};
 ghost use Rattle.iss_edge.specs.declared.outside.Answered.TheVariants.{Took};
 ghost use Rattle.iss_edge.specs.World.{Told, Later};
@@ -13,7 +13,7 @@ ghost use Rattle.iss_serving.specs.Sessions.{unasked};
 ghost use Rattle.iss_link.specs.Values.{heard_of};
 ghost use Rattle.iss_store.specs.Numbers.{is_from_one};
 ghost use Rattle.iss_store.specs.Values.{StoreNow};
-ghost use Rattle.iss_serve.specs.Causes.{IsServeCaused};
+ghost use Rattle.iss_serve.specs.Causes.{IsServeCaused, IsOfDisk};
 ghost use Rattle.iss_serve.specs.Held.{now_of, queued_maybe, queued_as, IsQueuedInForm, idle, to_judge, taking, arrived, is_heard_numbered, IsHeld, IsStillHeld, IsOf};
 ghost use Rattle.iss_serve.specs.Runs.{ServesOn, ServesSome};
 
@@ -46,7 +46,7 @@ impl Held {
             → IfOk result (λ heard. Told (ServesOn (idle store (now_of self.old)) (to_judge store (now_of self.new) (queued_maybe heard)))
             (outer_of (E.told edge.old) (E.heard edge.old)) (outer_of (E.told edge.new) (E.heard edge.new))) }
         ensures part { (store : StoreNow) → IsOf store self.old
-            → OnErr result (Told (ServesSome (idle store (now_of self.old)))
+            → IfErr result (λ why. Told (ServesSome (IsOfDisk why) (idle store (now_of self.old)))
             (outer_of (E.told edge.old) (E.heard edge.old)) (outer_of (E.told edge.new) (E.heard edge.new))) }
         ensures caused { IsServeCaused (E.faults edge.old) (E.faults edge.new) result }
         ensures kept { E.extent edge.new ≡ E.extent edge.old }
@@ -90,7 +90,7 @@ impl Held {
             → IfOk result (λ heard. Told (ServesOn (arrived store (now_of self.old) ch) (to_judge store (now_of self.new) (queued_maybe heard)))
             (outer_of (E.told edge.old) (E.heard edge.old)) (outer_of (E.told edge.new) (E.heard edge.new))) }
         ensures part { (store : StoreNow) → IsOf store self.old
-            → OnErr result (Told (ServesSome (arrived store (now_of self.old) ch))
+            → OnErr result (Told (ServesSome ⊥ (arrived store (now_of self.old) ch))
             (outer_of (E.told edge.old) (E.heard edge.old)) (outer_of (E.told edge.new) (E.heard edge.new))) }
         ensures later { Later (E.faults edge.old) (E.faults edge.new) }
         ensures kept { E.extent edge.new ≡ E.extent edge.old }
@@ -125,7 +125,7 @@ impl Held {
         ensures hears { (store : StoreNow)
             → IfOk result (λ heard. Told (ServesOn (taking store (now_of self.old) ch) (to_judge store (now_of self.new) (queued_maybe heard)))
             (outer_of (E.told edge.old) (E.heard edge.old)) (outer_of (E.told edge.new) (E.heard edge.new))) }
-        ensures part { (store : StoreNow) → OnErr result (Told (ServesSome (taking store (now_of self.old) ch))
+        ensures part { (store : StoreNow) → OnErr result (Told (ServesSome ⊥ (taking store (now_of self.old) ch))
             (outer_of (E.told edge.old) (E.heard edge.old)) (outer_of (E.told edge.new) (E.heard edge.new))) }
         ensures later { Later (E.faults edge.old) (E.faults edge.new) }
         ensures kept { E.extent edge.new ≡ E.extent edge.old }
@@ -233,7 +233,7 @@ impl Held {
             → IfOk result (λ heard. Told (ServesOn (taking store (now_of self.old) ch) (to_judge store (now_of self.new) (queued_maybe heard)))
             (outer_of (E.told edge.old) (E.heard edge.old)) (outer_of (E.told edge.new) (E.heard edge.new))) }
         ensures part { (store : StoreNow) → IsOf store self.old
-            → OnErr result (Told (ServesSome (taking store (now_of self.old) ch))
+            → OnErr result (Told (ServesSome ⊥ (taking store (now_of self.old) ch))
             (outer_of (E.told edge.old) (E.heard edge.old)) (outer_of (E.told edge.new) (E.heard edge.new))) }
         ensures later { Later (E.faults edge.old) (E.faults edge.new) }
         ensures kept { E.extent edge.new ≡ E.extent edge.old }

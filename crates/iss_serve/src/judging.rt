@@ -1,5 +1,5 @@
 //! Inputs are judged one after the other. What a record makes lasts before anything of it goes out.
-ghost use Rattle.std.specs.Prelude.{◌≡◌, ◌<◌, ◌∷◌, List, [], true, IfOk, OnErr, OnOk};
+ghost use Rattle.std.specs.Prelude.{◌≡◌, ◌<◌, ◌∷◌, List, [], true, IfOk, IfErr, OnErr, OnOk};
 ghost use Rattle.iss_edge.specs.World.{Told, Later};
 ghost use Rattle.iss_edge.specs.Outer.{outer_of};
 ghost use Rattle.iss_serving.specs.Judgements.{answer_tasks};
@@ -7,7 +7,7 @@ ghost use Rattle.iss_serving.specs.Sessions as session;
 ghost use Rattle.iss_store.specs.Planning.{IsPlanOf};
 ghost use Rattle.iss_store.specs.Saying.{IsDurableOf};
 ghost use Rattle.iss_store.specs.Serving.{tasks_of_record};
-ghost use Rattle.iss_serve.specs.Causes.{IsServeCaused};
+ghost use Rattle.iss_serve.specs.Causes.{IsServeCaused, IsOfDisk};
 ghost use Rattle.iss_serve.specs.Held.{now_of, queued_as, answers_unreached, IsQueuedInForm, idle, to_judge, sending, CallsNumbered, IsHeld, IsStillHeld, IsOf, records_left};
 ghost use Rattle.iss_serve.specs.Judged.{Judges, Settles, judged_again, waiting_for, IsPlannedFor};
 ghost use Rattle.iss_serve.specs.Runs.{ServesOn, ServesSome};
@@ -35,7 +35,7 @@ pub(crate) fn judge_all<E: Edge>(
     requires form { IsQueuedInForm first.now }
     ensures judged { IfOk result (λ next. Told (ServesOn (to_judge store (now_of held.old) (queued_as first.now ∷ [])) (idle next (now_of held.new)))
         (outer_of (E.told edge.old) (E.heard edge.old)) (outer_of (E.told edge.new) (E.heard edge.new))) }
-    ensures part { OnErr result (Told (ServesSome (to_judge store (now_of held.old) (queued_as first.now ∷ [])))
+    ensures part { IfErr result (λ why. Told (ServesSome (IsOfDisk why) (to_judge store (now_of held.old) (queued_as first.now ∷ [])))
         (outer_of (E.told edge.old) (E.heard edge.old)) (outer_of (E.told edge.new) (E.heard edge.new))) }
     ensures settles { IfOk result (λ next. Settles store next held.old held.new) }
     ensures caused { IsServeCaused (E.faults edge.old) (E.faults edge.new) result }
@@ -57,7 +57,7 @@ pub(crate) fn judge_unreached<E: Edge>(
     requires instance { IsOf store held.old }
     ensures judged { IfOk result (λ next. Told (ServesOn (idle store (now_of held.old)) (idle next (now_of held.new)))
         (outer_of (E.told edge.old) (E.heard edge.old)) (outer_of (E.told edge.new) (E.heard edge.new))) }
-    ensures part { OnErr result (Told (ServesSome (idle store (now_of held.old)))
+    ensures part { IfErr result (λ why. Told (ServesSome (IsOfDisk why) (idle store (now_of held.old)))
         (outer_of (E.told edge.old) (E.heard edge.old)) (outer_of (E.told edge.new) (E.heard edge.new))) }
     ensures settles { IfOk result (λ next. Settles store next held.old held.new) }
     ensures caused { IsServeCaused (E.faults edge.old) (E.faults edge.new) result }
@@ -85,7 +85,7 @@ fn judge_each<E: Edge>(
     requires instance { IsOf store held.old }
     ensures judged { IfOk result (λ next. Told (ServesOn (to_judge store (now_of held.old) (answers_unreached calls.now)) (idle next (now_of held.new)))
         (outer_of (E.told edge.old) (E.heard edge.old)) (outer_of (E.told edge.new) (E.heard edge.new))) }
-    ensures part { OnErr result (Told (ServesSome (to_judge store (now_of held.old) (answers_unreached calls.now)))
+    ensures part { IfErr result (λ why. Told (ServesSome (IsOfDisk why) (to_judge store (now_of held.old) (answers_unreached calls.now)))
         (outer_of (E.told edge.old) (E.heard edge.old)) (outer_of (E.told edge.new) (E.heard edge.new))) }
     ensures judges { IfOk result (λ next. Judges store next held.old held.new) }
     ensures caused { IsServeCaused (E.faults edge.old) (E.faults edge.new) result }
@@ -113,7 +113,7 @@ fn judge<E: Edge>(
     requires form { IsQueuedInForm queued.now }
     ensures judged { (rest : List session.Queued) → IfOk result (λ next. Told (ServesOn (to_judge store (now_of held.old) (queued_as queued.now ∷ rest)) (to_judge next (now_of held.new) rest))
         (outer_of (E.told edge.old) (E.heard edge.old)) (outer_of (E.told edge.new) (E.heard edge.new))) }
-    ensures part { (rest : List session.Queued) → OnErr result (Told (ServesSome (to_judge store (now_of held.old) (queued_as queued.now ∷ rest)))
+    ensures part { (rest : List session.Queued) → IfErr result (λ why. Told (ServesSome (IsOfDisk why) (to_judge store (now_of held.old) (queued_as queued.now ∷ rest)))
         (outer_of (E.told edge.old) (E.heard edge.old)) (outer_of (E.told edge.new) (E.heard edge.new))) }
     ensures judges { IfOk result (λ next. Judges store next held.old held.new) }
     ensures caused { IsServeCaused (E.faults edge.old) (E.faults edge.new) result }
@@ -143,7 +143,7 @@ fn judge_once<E: Edge>(
     requires form { IsQueuedInForm queued.now }
     ensures judged { (rest : List session.Queued) → IfOk result (λ x. Told (ServesOn (to_judge store (now_of held.old) (queued_as queued.now ∷ rest)) (to_judge x.0 (now_of held.new) (judged_again x.1 (queued_as queued.now) rest)))
         (outer_of (E.told edge.old) (E.heard edge.old)) (outer_of (E.told edge.new) (E.heard edge.new))) }
-    ensures part { (rest : List session.Queued) → OnErr result (Told (ServesSome (to_judge store (now_of held.old) (queued_as queued.now ∷ rest)))
+    ensures part { (rest : List session.Queued) → IfErr result (λ why. Told (ServesSome (IsOfDisk why) (to_judge store (now_of held.old) (queued_as queued.now ∷ rest)))
         (outer_of (E.told edge.old) (E.heard edge.old)) (outer_of (E.told edge.new) (E.heard edge.new))) }
     ensures judges { IfOk result (λ x. Judges store x.0 held.old held.new) }
     ensures again { IfOk result (λ x. x.1 ≡ true → records_left x.0 < records_left store) }
@@ -180,7 +180,7 @@ fn keep<E: Edge>(
     requires planned_for { IsPlannedFor store held.old.clock queued.now.input planned }
     ensures judged { (rest : List session.Queued) → IfOk result (λ next. Told (ServesOn (to_judge store (now_of held.old) (queued_as queued.now ∷ rest)) (to_judge next (now_of held.new) (judged_again planned.is_clock (queued_as queued.now) rest)))
         (outer_of (E.told edge.old) (E.heard edge.old)) (outer_of (E.told edge.new) (E.heard edge.new))) }
-    ensures part { (rest : List session.Queued) → OnErr result (Told (ServesSome (to_judge store (now_of held.old) (queued_as queued.now ∷ rest)))
+    ensures part { (rest : List session.Queued) → IfErr result (λ why. Told (ServesSome (IsOfDisk why) (to_judge store (now_of held.old) (queued_as queued.now ∷ rest)))
         (outer_of (E.told edge.old) (E.heard edge.old)) (outer_of (E.told edge.new) (E.heard edge.new))) }
     ensures judges { IfOk result (λ next. Judges store next held.old held.new) }
     ensures less { IfOk result (λ next. records_left next < records_left store) }
@@ -205,7 +205,7 @@ fn release<E: Edge>(
     requires last { IsDurableOf store.now durable }
     ensures released { (first : List session.Queued) → OnOk result (Told (ServesOn (sending store.now (now_of held.old) first (tasks_of_record store.now durable held.old.served)) (to_judge store.now (now_of held.new) first))
         (outer_of (E.told edge.old) (E.heard edge.old)) (outer_of (E.told edge.new) (E.heard edge.new))) }
-    ensures part { (first : List session.Queued) → OnErr result (Told (ServesSome (sending store.now (now_of held.old) first (tasks_of_record store.now durable held.old.served)))
+    ensures part { (first : List session.Queued) → OnErr result (Told (ServesSome ⊥ (sending store.now (now_of held.old) first (tasks_of_record store.now durable held.old.served)))
         (outer_of (E.told edge.old) (E.heard edge.old)) (outer_of (E.told edge.new) (E.heard edge.new))) }
     ensures still { OnOk result (IsStillHeld held.old held.new) }
     ensures later { Later (E.faults edge.old) (E.faults edge.new) }
@@ -226,7 +226,7 @@ fn tell<E: Edge>(
 ) -> Result<(), AllocError>
     ensures told { (first : List session.Queued) → OnOk result (Told (ServesOn (sending store.now (now_of held.old) first (answer_tasks queued.now.client answer.now)) (to_judge store.now (now_of held.new) first))
         (outer_of (E.told edge.old) (E.heard edge.old)) (outer_of (E.told edge.new) (E.heard edge.new))) }
-    ensures part { (first : List session.Queued) → OnErr result (Told (ServesSome (sending store.now (now_of held.old) first (answer_tasks queued.now.client answer.now)))
+    ensures part { (first : List session.Queued) → OnErr result (Told (ServesSome ⊥ (sending store.now (now_of held.old) first (answer_tasks queued.now.client answer.now)))
         (outer_of (E.told edge.old) (E.heard edge.old)) (outer_of (E.told edge.new) (E.heard edge.new))) }
     ensures still { OnOk result (IsStillHeld held.old held.new) }
     ensures unreached { OnOk result (held.new.unreached.items ≡ held.old.unreached.items) }

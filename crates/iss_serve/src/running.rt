@@ -1,9 +1,9 @@
 //! A run that serves.
-ghost use Rattle.std.specs.Prelude.{◌≡◌, ◌<◌, [], IfOk, OnErr, OnOk};
+ghost use Rattle.std.specs.Prelude.{◌≡◌, ◌<◌, [], IfOk, IfErr, OnOk};
 ghost use Rattle.iss_edge.specs.World.{Told};
 ghost use Rattle.iss_edge.specs.Outer.{outer_of};
 ghost use Rattle.iss_store.specs.Serving.{tasks_pending};
-ghost use Rattle.iss_serve.specs.Causes.{IsServeCaused};
+ghost use Rattle.iss_serve.specs.Causes.{IsServeCaused, IsOfDisk};
 ghost use Rattle.iss_serve.specs.Held.{now_of, idle, sending, IsHeld, IsOf};
 ghost use Rattle.iss_serve.specs.Judged.{Settles};
 ghost use Rattle.iss_device.specs.Refusals.{RefusesExactly};
@@ -51,7 +51,7 @@ fn serve_on<E: Edge>(
     requires size { E.extent edge.old ≡ store.place.to }
     ensures whole { OnOk result (Told (ServesToEnd store turns)
         (outer_of (E.told edge.old) (E.heard edge.old)) (outer_of (E.told edge.new) (E.heard edge.new))) }
-    ensures part { OnErr result (Told (ServesUpTo store turns)
+    ensures part { IfErr result (λ why. Told (ServesUpTo (IsOfDisk why) store turns)
         (outer_of (E.told edge.old) (E.heard edge.old)) (outer_of (E.told edge.new) (E.heard edge.new))) }
     ensures caused { IsServeCaused (E.faults edge.old) (E.faults edge.new) result }
 {
@@ -74,7 +74,7 @@ fn resume<E: Edge>(
     requires instance { IsOf store held.old }
     ensures resumed { IfOk result (λ next. Told (ServesOn (sending store (now_of held.old) [] (tasks_pending store)) (idle next (now_of held.new)))
         (outer_of (E.told edge.old) (E.heard edge.old)) (outer_of (E.told edge.new) (E.heard edge.new))) }
-    ensures part { OnErr result (Told (ServesSome (sending store (now_of held.old) [] (tasks_pending store)))
+    ensures part { IfErr result (λ why. Told (ServesSome (IsOfDisk why) (sending store (now_of held.old) [] (tasks_pending store)))
         (outer_of (E.told edge.old) (E.heard edge.old)) (outer_of (E.told edge.new) (E.heard edge.new))) }
     ensures settles { IfOk result (λ next. Settles store next held.old held.new) }
     ensures caused { IsServeCaused (E.faults edge.old) (E.faults edge.new) result }
@@ -98,7 +98,7 @@ fn wait_on<E: Edge>(
     requires settled { held.old.unreached.items ≡ [] }
     ensures waited { IfOk result (λ next. Told (ServesOn (idle store (now_of held.old)) (idle next (now_of held.new)))
         (outer_of (E.told edge.old) (E.heard edge.old)) (outer_of (E.told edge.new) (E.heard edge.new))) }
-    ensures part { OnErr result (Told (ServesSome (idle store (now_of held.old)))
+    ensures part { IfErr result (λ why. Told (ServesSome (IsOfDisk why) (idle store (now_of held.old)))
         (outer_of (E.told edge.old) (E.heard edge.old)) (outer_of (E.told edge.new) (E.heard edge.new))) }
     ensures settled { IfOk result (λ next. held.new.unreached.items ≡ []) }
     ensures turns { IfOk result (λ next. held.new.turns ≡ 0) }
@@ -125,7 +125,7 @@ fn turn<E: Edge>(
     requires turns { 0 < held.old.turns }
     ensures turned { IfOk result (λ next. Told (ServesOn (idle store (now_of held.old)) (idle next (now_of held.new)))
         (outer_of (E.told edge.old) (E.heard edge.old)) (outer_of (E.told edge.new) (E.heard edge.new))) }
-    ensures part { OnErr result (Told (ServesSome (idle store (now_of held.old)))
+    ensures part { IfErr result (λ why. Told (ServesSome (IsOfDisk why) (idle store (now_of held.old)))
         (outer_of (E.told edge.old) (E.heard edge.old)) (outer_of (E.told edge.new) (E.heard edge.new))) }
     ensures held { IfOk result (λ next. IsHeld held.new) }
     ensures instance { IfOk result (λ next. IsOf next held.new) }

@@ -1,11 +1,11 @@
-use Rattle.std.proofs.Common.{Bool, ◌∷◌, refl, sym, subst, ◌∙◌}
+use Rattle.std.proofs.Common.{Bool, ◌∷◌, refl, sym, subst, ◌∙◌, ◌≡◌, Err, rules}
 use Rattle.iss_edge.specs.Outer.{outer_of}
 use Rattle.iss_edge.specs.World.{Told}
 use Rattle.iss_edge.proofs.Tolds.{later_self, later_then}
+use Rattle.iss_serve.specs.Causes.{IsOfDisk}
 use Rattle.iss_serve.specs.Held.{now_of, queued_as, to_judge}
 use Rattle.iss_serve.specs.Judged.{judged_again}
 use Rattle.iss_serve.specs.Runs.{ServesOn, ServesSome}
-use Rattle.iss_serve.proofs.Causings.{anyway}
 use Rattle.iss_serve.proofs.Loops.{judges_self, judges_then}
 use Rattle.iss_serve.proofs.Stages.{told_on_self, told_on_then, told_on_then_some}
 use Rattle.iss_serve.proofs.judging.judge.Goals as goal
@@ -23,8 +23,9 @@ pub returns-in_err-after-clause-part : goal.returns-in_err-after-clause-part
 returns-in_err-after-clause-part g c = λ rest.
     let q = queued_as c.args.queued.now in
     let first = to_judge c.args.store (now_of c.args.held.now) (q ∷ rest) in
-    anyway c.from_residual.result (Told (ServesSome first) (outer_of (g.E.Edge.told c.args.edge.now) (g.E.Edge.heard c.args.edge.now)) (outer_of (g.E.Edge.told c.judge_once.new.edge) (g.E.Edge.heard c.judge_once.new.edge)))
-    (told_on_then_some first (to_judge c.again.next (now_of c.again.held) (q ∷ rest)) (outer_of (g.E.Edge.told c.args.edge.now) (g.E.Edge.heard c.args.edge.now)) (outer_of (g.E.Edge.told c.again.edge) (g.E.Edge.heard c.again.edge)) (outer_of (g.E.Edge.told c.judge_once.new.edge) (g.E.Edge.heard c.judge_once.new.edge)) (c.again.invariant.judged rest) (c.in_err-after.ensures.part rest))
+    let failed : c.from_residual.result ≡ Err c.in_err-after.field-0.0 = search rules in
+    rw failed
+    (told_on_then_some (IsOfDisk c.in_err-after.field-0.0) first (to_judge c.again.next (now_of c.again.held) (q ∷ rest)) (outer_of (g.E.Edge.told c.args.edge.now) (g.E.Edge.heard c.args.edge.now)) (outer_of (g.E.Edge.told c.again.edge) (g.E.Edge.heard c.again.edge)) (outer_of (g.E.Edge.told c.judge_once.new.edge) (g.E.Edge.heard c.judge_once.new.edge)) (c.again.invariant.judged rest) (c.in_err-after.ensures.part rest))
 
 pub returns-then-not-more-clause-judged : goal.returns-then-not-more-clause-judged
 returns-then-not-more-clause-judged g c = λ rest.

@@ -1,13 +1,13 @@
-use Rattle.std.proofs.Common.{◌≡◌, ◌<◌, ◌+◌, List, ◌∷◌, length, drop, refl, sym, ap, subst, ◌∙◌, arith}
+use Rattle.std.proofs.Common.{◌≡◌, ◌<◌, ◌+◌, List, ◌∷◌, length, drop, refl, sym, ap, subst, ◌∙◌, arith, Err, rules}
 use Rattle.iss_edge.specs.Outer.{outer_of}
 use Rattle.iss_edge.specs.World.{Told}
 use Rattle.iss_edge.proofs.Tolds.{later_self, later_then}
 use Rattle.iss_model.specs.declared.call.CallId.{CallId}
 use Rattle.iss_serving.specs.Sessions.{Queued}
 use Rattle.iss_store.specs.Numbers.{is_from_one}
+use Rattle.iss_serve.specs.Causes.{IsOfDisk}
 use Rattle.iss_serve.specs.Held.{now_of, queued_as, to_judge, answers_unreached}
 use Rattle.iss_serve.specs.Runs.{ServesOn, ServesSome}
-use Rattle.iss_serve.proofs.Causings.{anyway}
 use Rattle.iss_serve.proofs.Loops.{judges_self, judges_then, next_call}
 use Rattle.iss_serve.proofs.Numbering.{all_at}
 use Rattle.iss_serve.proofs.Stages.{told_on_self, told_on_then, told_on_then_some}
@@ -34,8 +34,9 @@ returns-in_err-next-clause-part g c =
     let here : answers_unreached (drop i calls) ≡ queued_as c.answer-queued.result ∷ answers_unreached (drop (i + 1) calls) =
     ap answers_unreached (next_call calls i _ within) ∙ ap (λ (q : Queued). q ∷ answers_unreached (drop (i + 1) calls)) (sym c.answer-queued.ensures.said) in
     let judged = subst (λ (qs : List Queued). Told (ServesOn first (to_judge c.loop-call.next (now_of c.loop-call.held) qs)) (outer_of (g.E.Edge.told c.args.edge.now) (g.E.Edge.heard c.args.edge.now)) (outer_of (g.E.Edge.told c.loop-call.edge) (g.E.Edge.heard c.loop-call.edge))) here c.loop-call.invariant.judged in
-    anyway c.from_residual.result (Told (ServesSome first) (outer_of (g.E.Edge.told c.args.edge.now) (g.E.Edge.heard c.args.edge.now)) (outer_of (g.E.Edge.told c.judge.new.edge) (g.E.Edge.heard c.judge.new.edge)))
-    (told_on_then_some first (to_judge c.loop-call.next (now_of c.loop-call.held) (queued_as c.answer-queued.result ∷ answers_unreached (drop (i + 1) calls))) (outer_of (g.E.Edge.told c.args.edge.now) (g.E.Edge.heard c.args.edge.now)) (outer_of (g.E.Edge.told c.loop-call.edge) (g.E.Edge.heard c.loop-call.edge)) (outer_of (g.E.Edge.told c.judge.new.edge) (g.E.Edge.heard c.judge.new.edge)) judged
+    let failed : c.from_residual.result ≡ Err c.in_err-next.field-0.0 = search rules in
+    rw failed
+    (told_on_then_some (IsOfDisk c.in_err-next.field-0.0) first (to_judge c.loop-call.next (now_of c.loop-call.held) (queued_as c.answer-queued.result ∷ answers_unreached (drop (i + 1) calls))) (outer_of (g.E.Edge.told c.args.edge.now) (g.E.Edge.heard c.args.edge.now)) (outer_of (g.E.Edge.told c.loop-call.edge) (g.E.Edge.heard c.loop-call.edge)) (outer_of (g.E.Edge.told c.judge.new.edge) (g.E.Edge.heard c.judge.new.edge)) judged
     (c.in_err-next.ensures.part (answers_unreached (drop (i + 1) calls))))
 
 pub loop-call-preserved : goal.loop-call-preserved

@@ -2,11 +2,12 @@ use Rattle.std.proofs.Common.{◌∷◌}
 use Rattle.iss_edge.specs.Outer.{outer_of}
 use Rattle.iss_edge.specs.World.{Told}
 use Rattle.iss_serving.specs.Judgements.{answer_tasks}
+use Rattle.iss_serve.specs.Causes.{IsOfDisk}
 use Rattle.iss_serve.specs.Held.{now_of, queued_as, sending, to_judge}
 use Rattle.iss_serve.specs.Runs.{ServesSome}
-use Rattle.iss_serve.proofs.Causings.{anyway}
+use Rattle.iss_serve.proofs.Causings.{anyhow}
 use Rattle.iss_serve.proofs.Keeps.{told_answer}
-use Rattle.iss_serve.proofs.Stages.{told_none_on, told_on_then, told_on_then_some}
+use Rattle.iss_serve.proofs.Stages.{told_none_on, told_some_never, told_on_then, told_on_then_some}
 use Rattle.iss_serve.proofs.judging.judge_once.Goals as goal
 
 pub returns-in_err-tell-in-Err-Told-clause-part : goal.returns-in_err-tell-in-Err-Told-clause-part
@@ -16,9 +17,9 @@ returns-in_err-tell-in-Err-Told-clause-part g c = λ rest.
     let a = c.in-Err-Told.answer in
     let x = (outer_of (g.E.Edge.told c.args.edge.now) (g.E.Edge.heard c.args.edge.now)) in
     let z = (outer_of (g.E.Edge.told c.tell.new.edge) (g.E.Edge.heard c.tell.new.edge)) in
-    anyway c.from_residual-in_err-tell-in-Err-Told.result (Told (ServesSome (to_judge c.args.store h (q ∷ rest))) x z)
-    (told_on_then_some (to_judge c.args.store h (q ∷ rest)) (sending c.args.store h rest (answer_tasks q.client a)) x x z
-    (told_answer c.args.store h q rest a (rw c.in-Err-Told.field-0-is at c.in-Err-Told.ensures.on_book) x) (c.in_err-tell-in-Err-Told.ensures.part rest))
+    anyhow c.from_residual-in_err-tell-in-Err-Told.result (λ why. Told (ServesSome (IsOfDisk why) (to_judge c.args.store h (q ∷ rest))) x z)
+    (λ why. told_on_then_some (IsOfDisk why) (to_judge c.args.store h (q ∷ rest)) (sending c.args.store h rest (answer_tasks q.client a)) x x z
+    (told_answer c.args.store h q rest a (rw c.in-Err-Told.field-0-is at c.in-Err-Told.ensures.on_book) x) (told_some_never (IsOfDisk why) (sending c.args.store h rest (answer_tasks q.client a)) x z (c.in_err-tell-in-Err-Told.ensures.part rest)))
 
 pub returns-in_ok-tell-in-Err-Told-clause-judged : goal.returns-in_ok-tell-in-Err-Told-clause-judged
 returns-in_ok-tell-in-Err-Told-clause-judged g c = λ rest.
@@ -31,4 +32,4 @@ returns-in_ok-tell-in-Err-Told-clause-judged g c = λ rest.
     (told_answer c.args.store h q rest a (rw c.in-Err-Told.field-0-is at c.in-Err-Told.ensures.on_book) x) (c.in_ok-tell-in-Err-Told.ensures.told rest)
 
 pub returns-in-Err-OutOfMemory-clause-part : goal.returns-in-Err-OutOfMemory-clause-part
-returns-in-Err-OutOfMemory-clause-part g c = λ rest. told_none_on (to_judge c.args.store (now_of c.args.held.now) (queued_as c.args.queued.now ∷ rest)) (outer_of (g.E.Edge.told c.args.edge.now) (g.E.Edge.heard c.args.edge.now))
+returns-in-Err-OutOfMemory-clause-part g c = λ rest. told_none_on ⊥ (to_judge c.args.store (now_of c.args.held.now) (queued_as c.args.queued.now ∷ rest)) (outer_of (g.E.Edge.told c.args.edge.now) (g.E.Edge.heard c.args.edge.now))

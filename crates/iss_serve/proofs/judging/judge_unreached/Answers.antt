@@ -1,10 +1,10 @@
-use Rattle.std.proofs.Common.{[], refl, sym, ap, subst, ◌∙◌}
+use Rattle.std.proofs.Common.{[], refl, sym, ap, subst, ◌∙◌, ◌≡◌, Err, rules}
 use Rattle.iss_edge.specs.Outer.{outer_of}
 use Rattle.iss_edge.specs.World.{Told}
 use Rattle.iss_edge.proofs.Tolds.{later_self, later_then}
+use Rattle.iss_serve.specs.Causes.{IsOfDisk}
 use Rattle.iss_serve.specs.Held.{HeldNow, now_of, idle, to_judge, answers_unreached}
 use Rattle.iss_serve.specs.Runs.{ServesOn, ServesSome}
-use Rattle.iss_serve.proofs.Causings.{anyway}
 use Rattle.iss_serve.proofs.Stages.{calls_first, told_on_self, told_on_then, told_on_then_some}
 use Rattle.iss_serve.proofs.judging.judge_unreached.Goals as goal
 
@@ -27,9 +27,11 @@ returns-in_err-next-clause-part g c =
     let mid = to_judge c.calls.next (record h { unreached = [] }) (answers_unreached calls) in
     let taken = calls_first c.calls.next h calls (outer_of (g.E.Edge.told c.calls.edge) (g.E.Edge.heard c.calls.edge)) (c.deref.ensures.value ∙ c.take_unreached-calls.ensures.calls) in
     let begun = told_on_then (idle c.args.store (now_of c.args.held.now)) (idle c.calls.next h) mid (outer_of (g.E.Edge.told c.args.edge.now) (g.E.Edge.heard c.args.edge.now)) (outer_of (g.E.Edge.told c.calls.edge) (g.E.Edge.heard c.calls.edge)) (outer_of (g.E.Edge.told c.calls.edge) (g.E.Edge.heard c.calls.edge)) c.calls.invariant.judged taken in
-    let part = subst (λ (n : HeldNow). Told (ServesSome (to_judge c.calls.next n (answers_unreached calls))) (outer_of (g.E.Edge.told c.calls.edge) (g.E.Edge.heard c.calls.edge)) (outer_of (g.E.Edge.told c.judge_each.new.edge) (g.E.Edge.heard c.judge_each.new.edge))) c.take_unreached-calls.ensures.now c.in_err-next.ensures.part in
-    anyway c.from_residual.result (Told (ServesSome (idle c.args.store (now_of c.args.held.now))) (outer_of (g.E.Edge.told c.args.edge.now) (g.E.Edge.heard c.args.edge.now)) (outer_of (g.E.Edge.told c.judge_each.new.edge) (g.E.Edge.heard c.judge_each.new.edge)))
-    (told_on_then_some (idle c.args.store (now_of c.args.held.now)) mid (outer_of (g.E.Edge.told c.args.edge.now) (g.E.Edge.heard c.args.edge.now)) (outer_of (g.E.Edge.told c.calls.edge) (g.E.Edge.heard c.calls.edge)) (outer_of (g.E.Edge.told c.judge_each.new.edge) (g.E.Edge.heard c.judge_each.new.edge)) begun part)
+    let why = c.in_err-next.field-0.0 in
+    let failed : c.from_residual.result ≡ Err why = search rules in
+    let part = subst (λ (n : HeldNow). Told (ServesSome (IsOfDisk why) (to_judge c.calls.next n (answers_unreached calls))) (outer_of (g.E.Edge.told c.calls.edge) (g.E.Edge.heard c.calls.edge)) (outer_of (g.E.Edge.told c.judge_each.new.edge) (g.E.Edge.heard c.judge_each.new.edge))) c.take_unreached-calls.ensures.now c.in_err-next.ensures.part in
+    rw failed
+    (told_on_then_some (IsOfDisk why) (idle c.args.store (now_of c.args.held.now)) mid (outer_of (g.E.Edge.told c.args.edge.now) (g.E.Edge.heard c.args.edge.now)) (outer_of (g.E.Edge.told c.calls.edge) (g.E.Edge.heard c.calls.edge)) (outer_of (g.E.Edge.told c.judge_each.new.edge) (g.E.Edge.heard c.judge_each.new.edge)) begun part)
 
 pub calls-preserved : goal.calls-preserved
 calls-preserved g c =

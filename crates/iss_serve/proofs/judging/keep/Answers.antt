@@ -1,12 +1,14 @@
 use Rattle.std.proofs.Common.{◌≡◌, ◌∷◌, Bool, Err, inl, sym, ap, subst, ◌∙◌, rules}
 use Rattle.iss_edge.specs.Outer.{outer_of}
 use Rattle.iss_edge.specs.World.{Told}
-use Rattle.iss_serve.specs.Causes.{fault_of_store}
-use Rattle.iss_serve.specs.Held.{now_of, queued_as, to_judge}
+use Rattle.iss_store.specs.Serving.{tasks_of_record}
+use Rattle.iss_serve.specs.Causes.{fault_of_store, IsOfDisk}
+use Rattle.iss_serve.specs.Held.{now_of, queued_as, sending, to_judge}
 use Rattle.iss_serve.specs.Judged.{judged_again, waiting_for}
 use Rattle.iss_serve.specs.Runs.{ServesSome}
-use Rattle.iss_serve.proofs.Causings.{anyway, caused_commit}
-use Rattle.iss_serve.proofs.Keeps.{told_commit_some, told_unwaited, told_kept_some, told_kept, less_there}
+use Rattle.iss_serve.proofs.Causings.{anyhow, caused_commit}
+use Rattle.iss_serve.proofs.Keeps.{told_not_kept, told_unwaited, told_kept_some, told_kept, less_there}
+use Rattle.iss_serve.proofs.Stages.{told_some_never}
 use Rattle.iss_serve.proofs.Loops.{still_then, still_is}
 use Rattle.iss_serve.proofs.judging.keep.Goals as goal
 
@@ -16,9 +18,10 @@ returns-in_err-next-clause-part g c = λ rest.
     let q = queued_as c.args.queued.now in
     let x = outer_of (g.E.Edge.told c.args.edge.now) (g.E.Edge.heard c.args.edge.now) in
     let y = outer_of (g.E.Edge.told c.commit.new.edge) (g.E.Edge.heard c.commit.new.edge) in
-    anyway c.from_residual.result (Told (ServesSome (to_judge c.args.store h (q ∷ rest))) x y)
-    (told_commit_some c.args.store h q rest c.args.planned c.requires.planned_for (g.E.Edge.told c.args.edge.now) (g.E.Edge.told c.commit.new.edge) (g.E.Edge.heard c.args.edge.now) (g.E.Edge.heard c.commit.new.edge)
-    c.commit.ensures.heard c.commit.ensures.moments)
+    let failed : c.from_residual.result ≡ Err (fault_of_store c.in_err-next.field-0.0) = search rules in
+    rw failed
+    (told_not_kept c.in_err-next.field-0.0 c.args.store h q rest c.args.planned c.requires.planned_for (g.E.Edge.told c.args.edge.now) (g.E.Edge.told c.commit.new.edge) (g.E.Edge.heard c.args.edge.now) (g.E.Edge.heard c.commit.new.edge)
+    c.commit.ensures.heard c.in_err-next.ensures.moments c.in_err-next.ensures.lasts)
 
 pub returns-in_err-next-clause-caused : goal.returns-in_err-next-clause-caused
 returns-in_err-next-clause-caused g c =
@@ -31,9 +34,9 @@ returns-in_err-wait_for-clause-part g c = λ rest.
     let q = queued_as c.args.queued.now in
     let x = outer_of (g.E.Edge.told c.args.edge.now) (g.E.Edge.heard c.args.edge.now) in
     let y = outer_of (g.E.Edge.told c.commit.new.edge) (g.E.Edge.heard c.commit.new.edge) in
-    anyway c.from_residual-in_err-wait_for.result (Told (ServesSome (to_judge c.args.store h (q ∷ rest))) x y)
-    (told_unwaited c.args.store h q rest c.args.planned c.requires.planned_for (g.E.Edge.told c.args.edge.now) (g.E.Edge.told c.commit.new.edge) (g.E.Edge.heard c.args.edge.now) (g.E.Edge.heard c.commit.new.edge)
-    c.commit.ensures.heard c.in_ok-next.next c.in_ok-next.durable c.in_ok-next.ensures.committed c.in_ok-next.ensures.on_book c.in_ok-next.ensures.lasts)
+    anyhow c.from_residual-in_err-wait_for.result (λ why. Told (ServesSome (IsOfDisk why) (to_judge c.args.store h (q ∷ rest))) x y)
+    (λ why. told_unwaited c.args.store h q rest c.args.planned c.requires.planned_for (g.E.Edge.told c.args.edge.now) (g.E.Edge.told c.commit.new.edge) (g.E.Edge.heard c.args.edge.now) (g.E.Edge.heard c.commit.new.edge)
+    c.commit.ensures.heard c.in_ok-next.next c.in_ok-next.durable c.in_ok-next.ensures.committed c.in_ok-next.ensures.on_book c.in_ok-next.ensures.lasts (IsOfDisk why))
 
 pub returns-in_err-release-clause-part : goal.returns-in_err-release-clause-part
 returns-in_err-release-clause-part g c = λ rest.
@@ -43,10 +46,11 @@ returns-in_err-release-clause-part g c = λ rest.
     let is = subst (λ (b : Bool). waits ≡ waiting_for q b h) c.more-more.ensures c.in_ok-wait_for.ensures.now in
     let x = outer_of (g.E.Edge.told c.args.edge.now) (g.E.Edge.heard c.args.edge.now) in
     let z = outer_of (g.E.Edge.told c.release.new.edge) (g.E.Edge.heard c.release.new.edge) in
-    anyway c.from_residual-in_err-release.result (Told (ServesSome (to_judge c.args.store h (q ∷ rest))) x z)
-    (told_kept_some c.args.store h q rest c.args.planned c.requires.planned_for (g.E.Edge.told c.args.edge.now) (g.E.Edge.told c.commit.new.edge) (g.E.Edge.heard c.args.edge.now) (g.E.Edge.heard c.commit.new.edge)
-    c.commit.ensures.heard c.in_ok-next.next c.in_ok-next.durable c.in_ok-next.ensures.committed c.in_ok-next.ensures.on_book c.in_ok-next.ensures.lasts waits is z
-    (c.in_err-release.ensures.part (judged_again c.args.planned.is_clock q rest)))
+    anyhow c.from_residual-in_err-release.result (λ why. Told (ServesSome (IsOfDisk why) (to_judge c.args.store h (q ∷ rest))) x z)
+    (λ why. told_kept_some c.args.store h q rest c.args.planned c.requires.planned_for (g.E.Edge.told c.args.edge.now) (g.E.Edge.told c.commit.new.edge) (g.E.Edge.heard c.args.edge.now) (g.E.Edge.heard c.commit.new.edge)
+    c.commit.ensures.heard c.in_ok-next.next c.in_ok-next.durable c.in_ok-next.ensures.committed c.in_ok-next.ensures.on_book c.in_ok-next.ensures.lasts waits is z (IsOfDisk why)
+    (told_some_never (IsOfDisk why) (sending c.in_ok-next.next waits (judged_again c.args.planned.is_clock q rest) (tasks_of_record c.in_ok-next.next c.in_ok-next.durable waits.served)) _ z
+    (c.in_err-release.ensures.part (judged_again c.args.planned.is_clock q rest))))
 
 pub returns-clause-judged : goal.returns-clause-judged
 returns-clause-judged g c = λ rest.

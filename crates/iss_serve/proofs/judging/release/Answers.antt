@@ -15,8 +15,8 @@ returns-in_err-gone-clause-part g c = λ first.
     let tasks = tasks_of_record c.args.store.now c.args.durable c.args.held.now.served in
     let x = outer_of (g.E.Edge.told c.args.edge.now) (g.E.Edge.heard c.args.edge.now) in
     let y = outer_of (g.E.Edge.told c.release_served.new.edge) (g.E.Edge.heard c.release_served.new.edge) in
-    anyway c.from_residual.result (Told (ServesSome (sending c.args.store.now (now_of c.args.held.now) first tasks)) x y)
-    (told_sent_part c.args.store.now (now_of c.args.held.now) first tasks x y c.in_err-gone.ensures.part)
+    anyway c.from_residual.result (Told (ServesSome ⊥ (sending c.args.store.now (now_of c.args.held.now) first tasks)) x y)
+    (told_sent_part ⊥ c.args.store.now (now_of c.args.held.now) first tasks x y c.in_err-gone.ensures.part)
 
 pub returns-clause-released : goal.returns-clause-released
 returns-clause-released g c = λ first.
@@ -33,5 +33,5 @@ returns-clause-part g c = λ first.
     let tasks = tasks_of_record c.args.store.now c.args.durable c.args.held.now.served in
     let x = outer_of (g.E.Edge.told c.args.edge.now) (g.E.Edge.heard c.args.edge.now) in
     let y = outer_of (g.E.Edge.told c.release_served.new.edge) (g.E.Edge.heard c.release_served.new.edge) in
-    anyway c.note_all.result (Told (ServesSome (sending c.args.store.now (now_of c.args.held.now) first tasks)) x y)
-    (told_sent_some c.args.store.now (now_of c.args.held.now) first tasks c.release_served.new.served c.in_ok-gone.gone.items x y c.in_ok-gone.ensures.sends)
+    anyway c.note_all.result (Told (ServesSome ⊥ (sending c.args.store.now (now_of c.args.held.now) first tasks)) x y)
+    (told_sent_some ⊥ c.args.store.now (now_of c.args.held.now) first tasks c.release_served.new.served c.in_ok-gone.gone.items x y c.in_ok-gone.ensures.sends)

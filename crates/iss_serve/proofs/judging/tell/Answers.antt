@@ -17,7 +17,7 @@ returns-in_err-tell_served-clause-part g c = λ first.
     let x = outer_of (g.E.Edge.told c.args.edge.now) (g.E.Edge.heard c.args.edge.now) in
     let y = outer_of (g.E.Edge.told c.tell_served.new.edge) (g.E.Edge.heard c.tell_served.new.edge) in
     let stage = sending c.args.store.now (now_of c.args.held.now) first (answer_tasks c.args.queued.now.client c.args.answer.now) in
-    anyway c.from_residual.result (Told (ServesSome stage) x y) (told_nothing_some stage x y c.in_err-tell_served.ensures.unsent)
+    anyway c.from_residual.result (Told (ServesSome ⊥ stage) x y) (told_nothing_some ⊥ stage x y c.in_err-tell_served.ensures.unsent)
 
 pub returns-clause-told : goal.returns-clause-told
 returns-clause-told g c = λ first.

@@ -1,12 +1,13 @@
 use Rattle.std.proofs.Common.{◌≡◌, List, [], subst}
 use Rattle.iss_link.specs.declared.gone.Gone as link
-use Rattle.std.proofs.lemmas.Result.{IfOk-weaker, on_err_weaker}
+use Rattle.std.proofs.lemmas.Result.{IfOk-weaker}
 use Rattle.iss_edge.specs.Outer.{outer_of}
 use Rattle.iss_edge.specs.World.{Told}
 use Rattle.iss_store.specs.Serving.{tasks_pending}
+use Rattle.iss_serve.specs.Causes.{IsOfDisk}
 use Rattle.iss_serve.specs.Held.{now_of, noted, idle, sending}
 use Rattle.iss_serve.specs.Runs.{ServesSome}
-use Rattle.iss_serve.proofs.Causings.{anyway}
+use Rattle.iss_serve.proofs.Causings.{anyhow, if_err_weaker}
 use Rattle.iss_serve.proofs.Keeps.{told_sent, told_sent_part, told_sent_some}
 use Rattle.iss_serve.proofs.Stages.{told_on_then, told_on_then_some}
 use Rattle.iss_serve.proofs.running.resume.Goals as goal
@@ -17,8 +18,8 @@ returns-in_err-gone-clause-part g c =
     let tasks = tasks_pending c.args.store in
     let x = (outer_of (g.E.Edge.told c.args.edge.now) (g.E.Edge.heard c.args.edge.now)) in
     let y = (outer_of (g.E.Edge.told c.resume_served.new.edge) (g.E.Edge.heard c.resume_served.new.edge)) in
-    anyway c.from_residual.result (Told (ServesSome (sending c.args.store h [] tasks)) x y)
-    (told_sent_part c.args.store h [] tasks x y (c.in_err-gone.ensures.part h.served))
+    anyhow c.from_residual.result (λ why. Told (ServesSome (IsOfDisk why) (sending c.args.store h [] tasks)) x y)
+    (λ why. told_sent_part (IsOfDisk why) c.args.store h [] tasks x y (c.in_err-gone.ensures.part h.served))
 
 pub returns-in_err-note_all-clause-part : goal.returns-in_err-note_all-clause-part
 returns-in_err-note_all-clause-part g c =
@@ -26,8 +27,8 @@ returns-in_err-note_all-clause-part g c =
     let tasks = tasks_pending c.args.store in
     let x = (outer_of (g.E.Edge.told c.args.edge.now) (g.E.Edge.heard c.args.edge.now)) in
     let y = (outer_of (g.E.Edge.told c.resume_served.new.edge) (g.E.Edge.heard c.resume_served.new.edge)) in
-    anyway c.from_residual-in_err-note_all.result (Told (ServesSome (sending c.args.store h [] tasks)) x y)
-    (told_sent_some c.args.store h [] tasks h.served c.in_ok-gone.gone.items x y (c.in_ok-gone.ensures.sends h.served))
+    anyhow c.from_residual-in_err-note_all.result (λ why. Told (ServesSome (IsOfDisk why) (sending c.args.store h [] tasks)) x y)
+    (λ why. told_sent_some (IsOfDisk why) c.args.store h [] tasks h.served c.in_ok-gone.gone.items x y (c.in_ok-gone.ensures.sends h.served))
 
 pub returns-clause-resumed : goal.returns-clause-resumed
 returns-clause-resumed g c =
@@ -51,7 +52,7 @@ returns-clause-part g c =
     let x = (outer_of (g.E.Edge.told c.args.edge.now) (g.E.Edge.heard c.args.edge.now)) in
     let y = (outer_of (g.E.Edge.told c.resume_served.new.edge) (g.E.Edge.heard c.resume_served.new.edge)) in
     let z = (outer_of (g.E.Edge.told c.judge_unreached.new.edge) (g.E.Edge.heard c.judge_unreached.new.edge)) in
-    on_err_weaker c.judge_unreached.result
-    (told_on_then_some (sending c.args.store h [] tasks) (idle c.args.store now) x y z
+    if_err_weaker c.judge_unreached.result _ _
+    (λ why. told_on_then_some (IsOfDisk why) (sending c.args.store h [] tasks) (idle c.args.store now) x y z
     (told_sent c.args.store h now [] tasks h.served c.in_ok-gone.gone.items x y (subst (λ (l : List link.Gone). now ≡ noted l h) c.deref.ensures.value c.in_ok-note_all.ensures.now) (c.in_ok-gone.ensures.sends h.served)))
     c.judge_unreached.ensures.part

@@ -11,7 +11,7 @@ returns-in_err-store-clause-complete g c =
     told_ends_well c.args.turns (Err (fault_of_opening fault)) (g.E.Edge.faults c.args.edge.now) (g.E.Edge.faults c.open.new.edge) _ _
     (caused_by_opening fault (g.E.Edge.faults c.args.edge.now) (g.E.Edge.faults c.open.new.edge) c.in_err-store.ensures.cause)
     (told_unopened_serve c.args.turns fault (g.E.Edge.told c.args.edge.now) (g.E.Edge.told c.open.new.edge) (g.E.Edge.heard c.args.edge.now) (g.E.Edge.heard c.open.new.edge)
-    c.in_err-store.ensures.opens c.in_err-store.ensures.moments c.in_err-store.ensures.heard)
+    c.in_err-store.ensures.opens c.in_err-store.ensures.moments c.in_err-store.ensures.heard c.in_err-store.ensures.refused)
     )
 
 pub returns-clause-serving : goal.returns-clause-serving

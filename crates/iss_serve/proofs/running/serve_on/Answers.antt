@@ -1,10 +1,11 @@
-use Rattle.std.proofs.Common.{◌≡◌, rules}
+use Rattle.std.proofs.Common.{◌≡◌, rules, Err}
 use Rattle.iss_edge.specs.Outer.{outer_of}
 use Rattle.iss_edge.specs.World.{Told}
 use Rattle.iss_store.proofs.ServedTexts.{tasks_on_book}
+use Rattle.iss_serve.specs.Causes.{IsOfDisk}
 use Rattle.iss_serve.specs.Held.{now_of, idle}
 use Rattle.iss_serve.specs.Runs.{ServesUpTo}
-use Rattle.iss_serve.proofs.Causings.{anyway}
+use Rattle.iss_serve.proofs.Causings.{anyhow}
 use Rattle.iss_serve.proofs.Ending.{fresh, first_stage, told_not_begun, told_up_to, told_to_end}
 use Rattle.iss_serve.proofs.Keeps.{told_nothing_some}
 use Rattle.iss_serve.proofs.Stages.{told_on_then, told_on_then_some}
@@ -12,15 +13,16 @@ use Rattle.iss_serve.proofs.running.serve_on.Goals as goal
 
 pub returns-in_err-held-clause-part : goal.returns-in_err-held-clause-part
 returns-in_err-held-clause-part g c =
-    anyway c.from_residual.result (Told (ServesUpTo c.args.store c.args.turns) (outer_of (g.E.Edge.told c.args.edge.now) (g.E.Edge.heard c.args.edge.now)) (outer_of (g.E.Edge.told c.args.edge.now) (g.E.Edge.heard c.args.edge.now))) (told_not_begun c.args.store c.args.turns (outer_of (g.E.Edge.told c.args.edge.now) (g.E.Edge.heard c.args.edge.now)))
+    anyhow c.from_residual.result (λ why. Told (ServesUpTo (IsOfDisk why) c.args.store c.args.turns) (outer_of (g.E.Edge.told c.args.edge.now) (g.E.Edge.heard c.args.edge.now)) (outer_of (g.E.Edge.told c.args.edge.now) (g.E.Edge.heard c.args.edge.now))) (λ why. told_not_begun (IsOfDisk why) c.args.store c.args.turns (outer_of (g.E.Edge.told c.args.edge.now) (g.E.Edge.heard c.args.edge.now)))
 
 pub returns-in_err-resumed-clause-part : goal.returns-in_err-resumed-clause-part
 returns-in_err-resumed-clause-part g c =
     let is : now_of c.in_ok-held.held ≡ fresh c.args.store c.args.turns = search rules in
     let x = (outer_of (g.E.Edge.told c.args.edge.now) (g.E.Edge.heard c.args.edge.now)) in
     let y = (outer_of (g.E.Edge.told c.resume.new.edge) (g.E.Edge.heard c.resume.new.edge)) in
-    anyway c.from_residual-in_err-resumed.result (Told (ServesUpTo c.args.store c.args.turns) x y)
-    (told_up_to c.args.store c.args.turns (now_of c.in_ok-held.held) is (tasks_on_book c.args.store) x y c.in_err-resumed.ensures.part)
+    let failed : c.from_residual-in_err-resumed.result ≡ Err c.in_err-resumed.field-0.0 = search rules in
+    rw failed
+    (told_up_to c.args.store c.args.turns (now_of c.in_ok-held.held) is (tasks_on_book c.args.store) (IsOfDisk c.in_err-resumed.field-0.0) x y c.in_err-resumed.ensures.part)
 
 pub returns-in_err-wait_on-clause-part : goal.returns-in_err-wait_on-clause-part
 returns-in_err-wait_on-clause-part g c =
@@ -29,9 +31,10 @@ returns-in_err-wait_on-clause-part g c =
     let y = (outer_of (g.E.Edge.told c.resume.new.edge) (g.E.Edge.heard c.resume.new.edge)) in
     let z = (outer_of (g.E.Edge.told c.wait_on.new.edge) (g.E.Edge.heard c.wait_on.new.edge)) in
     let h = now_of c.in_ok-held.held in
-    anyway c.from_residual-in_err-wait_on.result (Told (ServesUpTo c.args.store c.args.turns) x z)
-    (told_up_to c.args.store c.args.turns h is (tasks_on_book c.args.store) x z
-    (told_on_then_some (first_stage c.args.store h) (idle c.in_ok-resumed.resumed (now_of c.resume.new.held)) x y z c.in_ok-resumed.ensures.resumed c.in_err-wait_on.ensures.part))
+    let failed : c.from_residual-in_err-wait_on.result ≡ Err c.in_err-wait_on.field-0.0 = search rules in
+    rw failed
+    (told_up_to c.args.store c.args.turns h is (tasks_on_book c.args.store) (IsOfDisk c.in_err-wait_on.field-0.0) x z
+    (told_on_then_some (IsOfDisk c.in_err-wait_on.field-0.0) (first_stage c.args.store h) (idle c.in_ok-resumed.resumed (now_of c.resume.new.held)) x y z c.in_ok-resumed.ensures.resumed c.in_err-wait_on.ensures.part))
 
 pub returns-in_err-close_all-clause-part : goal.returns-in_err-close_all-clause-part
 returns-in_err-close_all-clause-part g c =
@@ -42,11 +45,11 @@ returns-in_err-close_all-clause-part g c =
     let w = (outer_of (g.E.Edge.told c.close_all.new.edge) (g.E.Edge.heard c.close_all.new.edge)) in
     let h = now_of c.in_ok-held.held in
     let last = idle c.in_ok-wait_on.field-0 (now_of c.wait_on.new.held) in
-    anyway c.from_residual-in_err-close_all.result (Told (ServesUpTo c.args.store c.args.turns) x w)
-    (told_up_to c.args.store c.args.turns h is (tasks_on_book c.args.store) x w
-    (told_on_then_some (first_stage c.args.store h) last x z w
+    anyhow c.from_residual-in_err-close_all.result (λ why. Told (ServesUpTo (IsOfDisk why) c.args.store c.args.turns) x w)
+    (λ why. told_up_to c.args.store c.args.turns h is (tasks_on_book c.args.store) (IsOfDisk why) x w
+    (told_on_then_some (IsOfDisk why) (first_stage c.args.store h) last x z w
     (told_on_then (first_stage c.args.store h) (idle c.in_ok-resumed.resumed (now_of c.resume.new.held)) last x y z c.in_ok-resumed.ensures.resumed c.in_ok-wait_on.ensures.waited)
-    (told_nothing_some last z w c.in_err-close_all.ensures.unchanged)))
+    (told_nothing_some (IsOfDisk why) last z w c.in_err-close_all.ensures.unchanged)))
 
 pub returns-clause-whole : goal.returns-clause-whole
 returns-clause-whole g c =

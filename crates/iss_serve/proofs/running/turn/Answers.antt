@@ -1,10 +1,12 @@
 use Rattle.std.proofs.Common.{[], ◌∷◌, Option, subst}
-use Rattle.std.proofs.lemmas.Result.{IfOk-weaker, on_err_weaker}
+use Rattle.std.proofs.lemmas.Result.{IfOk-weaker}
 use Rattle.iss_edge.specs.Outer.{outer_of}
 use Rattle.iss_edge.specs.World.{Told}
+use Rattle.iss_serve.specs.Causes.{IsOfDisk}
 use Rattle.iss_serve.specs.declared.held.Queued.{Queued}
 use Rattle.iss_serve.specs.Held.{now_of, queued_as, queued_maybe, idle, to_judge}
 use Rattle.iss_serve.specs.Runs.{ServesOn}
+use Rattle.iss_serve.proofs.Causings.{if_err_weaker}
 use Rattle.iss_serve.proofs.Stages.{told_on_then, told_on_then_some}
 use Rattle.iss_serve.proofs.running.turn.Goals as goal
 
@@ -28,8 +30,8 @@ returns-in-Some-clause-part g c =
     let heard = now_of c.hear.new.self in
     let z = (outer_of (g.E.Edge.told c.judge_all.new.edge) (g.E.Edge.heard c.judge_all.new.edge)) in
     let hears = subst (λ (o : Option Queued). Told (ServesOn (idle c.args.store h) (to_judge c.args.store heard (queued_maybe o))) x y) c.in-Some.is (c.in_ok-queued.ensures.hears c.args.store c.requires.instance) in
-    on_err_weaker c.judge_all.result
-    (told_on_then_some (idle c.args.store h) (to_judge c.args.store heard (queued_as c.in-Some.queued ∷ [])) x y z hears)
+    if_err_weaker c.judge_all.result _ _
+    (λ why. told_on_then_some (IsOfDisk why) (idle c.args.store h) (to_judge c.args.store heard (queued_as c.in-Some.queued ∷ [])) x y z hears)
     c.judge_all.ensures.part
 
 pub returns-in-None-clause-turned : goal.returns-in-None-clause-turned

@@ -5,10 +5,11 @@ use Rattle.iss_edge.specs.Calls.{Same, Waits, Hears}
 use Rattle.iss_edge.specs.Outer.{outer_of}
 use Rattle.iss_edge.specs.World.{Told}
 use Rattle.iss_serving.specs.Sessions.{Queued}
+use Rattle.iss_serve.specs.Causes.{IsOfDisk}
 use Rattle.iss_serve.specs.Held.{HeldNow, now_of, queued_maybe, idle, to_judge, arrived}
 use Rattle.iss_serve.specs.Runs.{ServesOn, ServesSome}
-use Rattle.iss_serve.proofs.Causings.{anyway}
-use Rattle.iss_serve.proofs.Stages.{told_on_then, told_on_then_some}
+use Rattle.iss_serve.proofs.Causings.{anyhow}
+use Rattle.iss_serve.proofs.Stages.{told_some_never, told_on_then, told_on_then_some}
 use Rattle.iss_serve.proofs.Waiting.{told_wait_failed, told_waited_some, told_client, told_ready, told_time, told_idle, told_end}
 use Rattle.iss_serve.proofs.held.Held.hear.Goals as goal
 
@@ -21,7 +22,7 @@ returns-in_default-clause-part g c = λ store own.
     let l = g.E.Edge.heard c.wait.new.self in
     let same : Told Same x z = search rules in
     let heard : Told (Hears (Waited None)) k l = search rules in
-    told_wait_failed store h c.requires.settled c.requires.turns x z k l same heard
+    told_wait_failed store h c.requires.settled c.requires.turns ⊥ x z k l same heard
 
 pub returns-in_err-add-in-Client-clause-part : goal.returns-in_err-add-in-Client-clause-part
 returns-in_err-add-in-Client-clause-part g c = λ store own.
@@ -32,8 +33,8 @@ returns-in_err-add-in-Client-clause-part g c = λ store own.
     let l = g.E.Edge.heard c.wait.new.self in
     let brought : Told (Waits (Client c.in-Client.ch)) x z = search rules in
     let heard : Told (Hears (Waited (Some (Client c.in-Client.ch)))) k l = search rules in
-    anyway c.from_residual.result (Told (ServesSome (idle store h)) (outer_of x k) (outer_of z l))
-    (told_waited_some store h c.requires.settled c.requires.turns (Client c.in-Client.ch) x z k l brought heard)
+    anyhow c.from_residual.result (λ why. Told (ServesSome (IsOfDisk why) (idle store h)) (outer_of x k) (outer_of z l))
+    (λ why. told_waited_some store h c.requires.settled c.requires.turns (IsOfDisk why) (Client c.in-Client.ch) x z k l brought heard)
 
 pub returns-in_err-take-in-Ready-clause-part : goal.returns-in_err-take-in-Ready-clause-part
 returns-in_err-take-in-Ready-clause-part g c = λ store own.
@@ -46,9 +47,9 @@ returns-in_err-take-in-Ready-clause-part g c = λ store own.
     let heard : Told (Hears (Waited (Some (Ready c.in-Ready.ch)))) k l = search rules in
     let now : HeldNow = record h { turns = h.turns - 1 } in
     let w = (outer_of (g.E.Edge.told c.take.new.edge) (g.E.Edge.heard c.take.new.edge)) in
-    anyway c.from_residual-in_err-take-in-Ready.result (Told (ServesSome (idle store h)) (outer_of x k) w)
-    (told_on_then_some (idle store h) (arrived store now c.in-Ready.ch) (outer_of x k) (outer_of z l) w
-    (told_ready store h c.requires.settled c.requires.turns c.in-Ready.ch now x z k l refl brought heard) (c.in_err-take-in-Ready.ensures.part store own))
+    anyhow c.from_residual-in_err-take-in-Ready.result (λ why. Told (ServesSome (IsOfDisk why) (idle store h)) (outer_of x k) w)
+    (λ why. told_on_then_some (IsOfDisk why) (idle store h) (arrived store now c.in-Ready.ch) (outer_of x k) (outer_of z l) w
+    (told_ready store h c.requires.settled c.requires.turns c.in-Ready.ch now x z k l refl brought heard) (told_some_never (IsOfDisk why) (arrived store now c.in-Ready.ch) (outer_of z l) w (c.in_err-take-in-Ready.ensures.part store own)))
 
 pub returns-in_ok-add-in-Client-clause-hears : goal.returns-in_ok-add-in-Client-clause-hears
 returns-in_ok-add-in-Client-clause-hears g c = λ store own.

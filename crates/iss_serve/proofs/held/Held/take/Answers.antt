@@ -24,7 +24,7 @@ returns-then-is_reading-clause-part g c = λ store own.
     let h = now_of c.args.self.now in
     let ch = c.args.ch in
     let reading : is_reading ch h.clients ≡ true = search rules in
-    on_err_weaker c.take_request.result (told_some_as (taking store h ch) (arrived store h ch) (outer_of (g.E.Edge.told c.args.edge.now) (g.E.Edge.heard c.args.edge.now)) (outer_of (g.E.Edge.told c.take_request.new.edge) (g.E.Edge.heard c.take_request.new.edge)) (sym (is_taken store h ch (listened_reading h ch reading)))) (c.take_request.ensures.part store)
+    on_err_weaker c.take_request.result (told_some_as ⊥ (taking store h ch) (arrived store h ch) (outer_of (g.E.Edge.told c.args.edge.now) (g.E.Edge.heard c.args.edge.now)) (outer_of (g.E.Edge.told c.take_request.new.edge) (g.E.Edge.heard c.take_request.new.edge)) (sym (is_taken store h ch (listened_reading h ch reading)))) (c.take_request.ensures.part store)
 
 pub returns-then-waits-clause-hears : goal.returns-then-waits-clause-hears
 returns-then-waits-clause-hears g c = λ store own.
@@ -55,7 +55,7 @@ returns-then-is_some-clause-part g c = λ store own.
     let other : is_reading ch h.clients ≡ false = search rules in
     let none_waits : is_waiting ch h.served ≡ false = search rules in
     let linked : IsSome (link_at ch h.links.links) = search rules in
-    on_err_weaker c.take_answer.result (told_some_as (taking store h ch) (arrived store h ch) (outer_of (g.E.Edge.told c.args.edge.now) (g.E.Edge.heard c.args.edge.now)) (outer_of (g.E.Edge.told c.take_answer.new.edge) (g.E.Edge.heard c.take_answer.new.edge)) (sym (is_taken store h ch (listened_link h ch other none_waits linked)))) (c.take_answer.ensures.part store own)
+    on_err_weaker c.take_answer.result (told_some_as ⊥ (taking store h ch) (arrived store h ch) (outer_of (g.E.Edge.told c.args.edge.now) (g.E.Edge.heard c.args.edge.now)) (outer_of (g.E.Edge.told c.take_answer.new.edge) (g.E.Edge.heard c.take_answer.new.edge)) (sym (is_taken store h ch (listened_link h ch other none_waits linked)))) (c.take_answer.ensures.part store own)
 
 pub returns-clause-hears : goal.returns-clause-hears
 returns-clause-hears g c = λ store own.

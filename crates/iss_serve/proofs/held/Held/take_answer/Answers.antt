@@ -13,7 +13,7 @@ pub returns-in_err-heard-clause-part : goal.returns-in_err-heard-clause-part
 returns-in_err-heard-clause-part g c = λ store own.
     let x = (outer_of (g.E.Edge.told c.args.edge.now) (g.E.Edge.heard c.args.edge.now)) in
     let y = (outer_of (g.E.Edge.told c.ready.new.edge) (g.E.Edge.heard c.ready.new.edge)) in
-    anyway c.from_residual.result (Told (ServesSome (taking store (now_of c.args.self.now) c.args.ch)) x y)
+    anyway c.from_residual.result (Told (ServesSome ⊥ (taking store (now_of c.args.self.now) c.args.ch)) x y)
     (told_link_some store (now_of c.args.self.now) c.args.ch c.requires.settled x y c.ready.new.self _ _ _ _ c.in_err-heard.ensures.listens)
 
 pub queued_of-requires : goal.queued_of-requires

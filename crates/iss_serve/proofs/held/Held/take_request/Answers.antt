@@ -28,7 +28,7 @@ returns-then-count-eq0-clause-hears g c = λ store.
 
 pub returns-in_err-read-clause-part : goal.returns-in_err-read-clause-part
 returns-in_err-read-clause-part g c = λ store.
-    anyway c.from_residual.result (Told (ServesSome (taking store (now_of c.args.self.now) c.args.ch)) (outer_of (g.E.Edge.told c.args.edge.now) (g.E.Edge.heard c.args.edge.now)) (outer_of (g.E.Edge.told c.take_piece.new.edge) (g.E.Edge.heard c.take_piece.new.edge)))
+    anyway c.from_residual.result (Told (ServesSome ⊥ (taking store (now_of c.args.self.now) c.args.ch)) (outer_of (g.E.Edge.told c.args.edge.now) (g.E.Edge.heard c.args.edge.now)) (outer_of (g.E.Edge.told c.take_piece.new.edge) (g.E.Edge.heard c.take_piece.new.edge)))
     (told_took_some store (now_of c.args.self.now) c.args.ch c.requires.settled (outer_of (g.E.Edge.told c.args.edge.now) (g.E.Edge.heard c.args.edge.now)) (outer_of (g.E.Edge.told c.take_piece.new.edge) (g.E.Edge.heard c.take_piece.new.edge)) c.take_piece.new.buffer c.in-Some.count c.take_piece.ensures.room c.in-Some.ensures.bound c.in-Some.ensures.told)
 
 pub returns-in-More-clause-hears : goal.returns-in-More-clause-hears
