@@ -1,7 +1,7 @@
 //! The time that is told, by the system's two clocks.
 
-ghost use Rattle.std.specs.Prelude.{◌≡◌, ◌+◌, ◌≤◌, ◌⊎◌, None, IfSome};
-ghost use Rattle.iss_real.specs.Clocks.{HasLasted};
+ghost use Rattle.std.specs.Prelude.{◌≡◌, ◌+◌, ◌-◌, ◌<◌, ◌≤◌, ℕ, max, Some, None};
+ghost use Rattle.iss_real.specs.Clocks.{IsTold, jump_seen};
 
 use std::io;
 use std::io::ErrorKind;
@@ -16,7 +16,7 @@ const BELIEVED: u64 = 10_000;
 /// What is known of the clocks, by default nothing. A jump ahead that doesn't last is never told, since what it expires stays expired.
 #[derive(Default, Drop)]
 pub struct Clocks {
-    /// How many milliseconds the time that is told is ahead of the monotonic clock, once one was told.
+    /// How many milliseconds the times that were told were ahead of the monotonic clock at most.
     offset: Option<u64>,
     /// When the system's time was first seen to be further ahead than that, by the monotonic clock, and by how much at least since.
     jumped: Option<(u64, u64)>,
@@ -25,21 +25,28 @@ pub struct Clocks {
 impl Clocks {
     /// The time to tell, in milliseconds since 1970.
     pub fn time(&mut self, clock: &impl Clock) -> io::Result<u64> {
-        let elapsed = monotonic(clock)?;
-        Ok(self.time_at(elapsed, millis(clock.since_1970()?)?))
+        // A pause between the two looks like a step back, which does no harm.
+        let time = millis(clock.since_1970()?)?;
+        Ok(self.time_at(monotonic(clock)?, time))
     }
 
     /// The time to tell when the monotonic clock and the system's time read so: the system's time, or while that is ahead by a jump, the time
     /// that has passed since by the monotonic clock. Once the jump has lasted, the least that it was ahead by is believed.
     fn time_at(&mut self, elapsed: u64, time: u64) -> u64
-        ensures first { self.old.offset ≡ None → result ≡ time }
-        ensures steady { IfSome self.old.offset (λ known. time ≤ elapsed + known + AHEAD → result ≡ time) }
-        ensures held { IfSome self.old.offset (λ known. (result ≤ elapsed + known + AHEAD) ⊎ HasLasted BELIEVED self.old.jumped elapsed result) }
-        ensures passed { result ≤ time }
+        ensures first { self.old.offset ≡ None → IsTold time (time - elapsed) None result self.new.offset self.new.jumped }
+        ensures steady { (known : ℕ) → self.old.offset ≡ Some known → time - elapsed - known ≤ AHEAD
+            → IsTold time (max (time - elapsed) known) None result self.new.offset self.new.jumped }
+        ensures held { (known : ℕ) → self.old.offset ≡ Some known → AHEAD < time - elapsed - known
+            → elapsed - (jump_seen self.old.jumped elapsed (time - elapsed)).0 < BELIEVED
+            → IsTold (elapsed + known) known (Some (jump_seen self.old.jumped elapsed (time - elapsed))) result self.new.offset self.new.jumped }
+        ensures believed { (known : ℕ) → self.old.offset ≡ Some known → AHEAD < time - elapsed - known
+            → BELIEVED ≤ elapsed - (jump_seen self.old.jumped elapsed (time - elapsed)).0
+            → IsTold (elapsed + (jump_seen self.old.jumped elapsed (time - elapsed)).1) (jump_seen self.old.jumped elapsed (time - elapsed)).1 None
+            result self.new.offset self.new.jumped }
     {
         let offset = time.saturating_sub(elapsed);
         let known = self.offset.unwrap_or(offset);
-        if offset <= known.saturating_add(AHEAD) {
+        if offset.saturating_sub(known) <= AHEAD {
             self.jumped = None;
             self.offset = Some(offset.max(known));
             return time;
@@ -48,11 +55,11 @@ impl Clocks {
         let least = seen.min(offset);
         if elapsed.saturating_sub(since) < BELIEVED {
             self.jumped = Some((since, least));
-            return elapsed.saturating_add(known);
+            return elapsed + known;
         }
         self.jumped = None;
         self.offset = Some(least);
-        elapsed.saturating_add(least)
+        elapsed + least
     }
 }
 

@@ -46,7 +46,8 @@ impl Device {
     fn make<R: Files<File = File>>(files: &R, name: &str, size: u64) -> io::Result<Device> {
         File::create_new(files, name)?;
         let made = Device::open(files, name, Some(size));
-        if made.is_err() {
+        // One that another program has by now isn't taken away.
+        if matches!(&made, Err(e) if e.kind() != ErrorKind::WouldBlock) {
             let _ = remove_file(files, name);
         }
         made
@@ -102,10 +103,7 @@ impl Device {
     fn file(&self) -> io::Result<&File>
         ensures { self.now.file ≡ None → IsErr result }
     {
-        match &self.file {
-            Some(file) => Ok(file),
-            None => Err(io::Error::from(ErrorKind::NotFound)),
-        }
+        Ok(self.file.as_ref().ok_or(ErrorKind::NotFound)?)
     }
 }
 

@@ -80,10 +80,8 @@ impl<N: Net> Host<N> {
             Err(e) if !is_passing(&e) && self.for_clients.pop().is_some() => listener.port.accept(),
             accepted => accepted,
         };
-        if accepted.is_err() {
-            // Without a handle the system doesn't say whether anybody came.
-            keep_back(listener, &mut self.for_clients, FOR_CLIENTS);
-        }
+        // Without a handle the system doesn't say whether anybody came.
+        keep_back(listener, &mut self.for_clients, FOR_CLIENTS);
         Ok(TcpStream::from(accepted?.0))
     }
 
@@ -92,13 +90,14 @@ impl<N: Net> Host<N> {
     pub fn connect(&mut self) -> io::Result<TcpStream> {
         let port = self.gateway.ok_or(ErrorKind::NotConnected)?;
         let address = SocketAddr::from((Ipv4Addr::LOCALHOST, port));
-        match mio::net::TcpStream::connect(&self.net, address) {
+        let mut begun = mio::net::TcpStream::connect(&self.net, address);
+        if begun.is_err() && self.for_gateway.pop().is_some() {
+            begun = mio::net::TcpStream::connect(&self.net, address);
+            self.keep_back();
+        }
+        match begun {
             Ok(socket) => Ok(TcpStream::from(socket)),
             Err(e) if e.kind() == ErrorKind::ConnectionRefused => Err(e),
-            Err(_) if self.for_gateway.pop().is_some() => {
-                let socket = mio::net::TcpStream::connect(&self.net, address)?;
-                Ok(TcpStream::from(socket))
-            }
             Err(_) => Err(io::Error::from(ErrorKind::WouldBlock)),
         }
     }

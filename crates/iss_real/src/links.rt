@@ -47,14 +47,16 @@ impl Links {
         Ok(())
     }
 
-    /// Gives a channel that is to be closed one more try, if it isn't connected, and drops its text.
+    /// Gives a channel that is to be closed one more try, if it may still be connected, and drops its text.
     pub fn finish<N: Net>(&mut self, host: &mut Host<N>, peers: &mut Peers, ch: Channel)
         ensures { peers.new ≡ peers.old }
     {
         if peers.is_pending(ch) {
             self.send_all(host, peers, true);
-            self.texts.retain(|text| text.ch.0 != ch.0);
         }
+        // It may be connecting by the number of this channel.
+        self.socket = None;
+        self.texts.retain(|text| text.ch.0 != ch.0);
     }
 
     /// Has the gateway take texts while it does, by a new connection if the first one's wasn't made in time. A channel whose connection
@@ -71,6 +73,7 @@ impl Links {
                 Err(e) if is_passing(&e) => return,
                 Err(_) => {
                     self.socket = None;
+                    host.keep_back();
                     if let Some(text) = self.texts.pop_front() {
                         peers.lose(text.ch);
                     }

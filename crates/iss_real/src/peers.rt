@@ -89,7 +89,11 @@ impl Peer {
         let Ok(socket) = self.socket() else {
             return false;
         };
-        !matches!(socket.peek(&mut [0]), Err(e) if is_passing(&e))
+        let peeked = socket.peek(&mut [0]);
+        // The peek takes a fault away, which the take has still to tell.
+        self.is_lost
+            .set(matches!(&peeked, Err(e) if !is_passing(e)));
+        peeked.is_ok() || self.is_lost.get()
     }
 
     /// Ends what goes out and reads what came. If bytes were left unread, closing the socket would take back what the peer

@@ -31,7 +31,7 @@ pub struct Sockets<N> {
     /// The greatest number that a channel got.
     pub(crate) last: u32,
     pub(crate) ready: Option<u32>,
-    /// The channel that the last wait found ready. If the gateway is dialled now, it is a client's whose request is whole.
+    /// The channel that the last wait found ready. If it is a client's and the gateway is dialled now, its request is whole.
     pub(crate) asking: Option<Channel>,
     /// Whether a look is for clients first.
     pub(crate) admits_first: bool,
@@ -172,15 +172,14 @@ pub(crate) fn next_number(last: u32) -> io::Result<u32>
 /// Writes all of the bytes, with a pause wherever the peer takes none, and gives up after so many writes.
 fn write_in_time(clock: &impl Clock, mut socket: &TcpStream, bytes: &[u8]) -> io::Result<()> {
     let mut rest = bytes;
-    for _ in 0..=WRITES {
-        if rest.is_empty() {
-            return Ok(());
-        }
+    for _ in 0..WRITES {
         match socket.write(rest) {
-            Ok(0) => return Err(io::Error::from(ErrorKind::WriteZero)),
             Ok(count) => rest = &rest[count..],
             Err(e) if is_passing(&e) => thread::sleep(clock, Duration::from_millis(1)),
             Err(e) => return Err(e),
+        }
+        if rest.is_empty() {
+            return Ok(());
         }
     }
     Err(io::Error::from(ErrorKind::TimedOut))

@@ -37,11 +37,14 @@ impl<N: Net<Stream = TcpStream> + Clock + Drop> Sockets<N> {
     {
         self.asking = None;
         self.at = monotonic(&self.host.net)?;
-        self.listen_for(0)?;
         let since = self.at.saturating_sub(self.told);
         if since >= TICK {
-            return self.tell_time();
+            // What came before this time is named by the look that follows.
+            let time = self.clocks.time(&self.host.net)?;
+            self.listen_for(0)?;
+            return Ok(self.tell(time));
         }
+        self.listen_for(0)?;
         match self.look()? {
             Arrival::Idle => {
                 self.listen_for(TICK - since)?;
@@ -53,21 +56,21 @@ impl<N: Net<Stream = TcpStream> + Clock + Drop> Sockets<N> {
 
     /// The time, after the answers that came before it: one that came in time isn't judged late, however long the program paused. As many
     /// go before the time as one look names, so that answers in pieces can't hold it up.
-    fn tell_time(&mut self) -> io::Result<Arrival>
-        ensures unused { IfOk result (ComesUnused self.old) }
-        ensures channels { self.new ≡ after_wait (result_ok result) self.old }
+    fn tell(&mut self, time: u64) -> Arrival
+        ensures unused { ComesUnused self.old result }
+        ensures channels { self.new ≡ after_wait (Some result) self.old }
     {
         if self.in_time < AT_ONCE {
             self.in_time += 1;
             if let Some(ch) = self.dialled.next() {
-                return Ok(self.hear(ch));
+                return self.hear(ch);
             }
         }
         self.in_time = 0;
         self.told = self.at;
         self.links.send_all(&mut self.host, &mut self.dialled, true);
         self.look_over();
-        Ok(Arrival::Time(self.clocks.time(&self.host.net)?))
+        Arrival::Time(time)
     }
 
     /// Looks at all channels, once in a while.

@@ -14,7 +14,7 @@ use std::test::Fail;
 const WAITS: u32 = 60;
 
 /// Ports that no other program here is likely to have, one for each test. The system gives none of them to a client.
-const PORTS: [u16; 3] = [17217, 17218, 17219];
+const PORTS: [u16; 4] = [17217, 17218, 17219, 17220];
 
 /// A file that a test makes where it runs, and takes away.
 const FILE: &str = "edge-test";
@@ -131,6 +131,34 @@ fn a_peer_that_neither_reads_nor_writes(rt: HostRuntime) -> Result<(), Fail> {
 
     assert!(rt; fails_to_emit(&mut edge, ch));
     assert!(rt; connects(&mut edge));
+    Ok(())
+}
+
+/// Whether the next take fails.
+fn fails_to_take<E: Edge>(edge: &mut E) -> bool {
+    let mut buf = [0; 8];
+    for _ in 0..WAITS {
+        match edge.wait() {
+            Ok(Arrival::Ready(ch)) => return edge.take(ch, &mut buf).is_err(),
+            Ok(Arrival::Time(_) | Arrival::Idle) => {}
+            _ => return false,
+        }
+    }
+    false
+}
+
+#[test]
+fn a_connection_that_is_reset(rt: HostRuntime) -> Result<(), Fail> {
+    let mut edge = edge_on(rt, PORTS[3], Device::absent())?;
+    let peer = TcpStream::connect(&rt, (Ipv4Addr::LOCALHOST, PORTS[3]))?;
+    let Some(ch) = client(&mut edge) else {
+        return Err(Fail::from(io::Error::from(io::ErrorKind::NotConnected)));
+    };
+
+    // A socket that is closed with bytes unread resets its connection.
+    assert!(rt; edge.emit(ch, b"unread").is_ok());
+    drop(peer);
+    assert!(rt; fails_to_take(&mut edge));
     Ok(())
 }
 
