@@ -85,8 +85,8 @@ impl<N: Net> Host<N> {
         Ok(TcpStream::from(accepted?.0))
     }
 
-    /// A socket that begins to connect to the gateway. If something but a refusal stands in its way, as want of a handle, it would block:
-    /// that may be over a moment later.
+    /// A socket that begins to connect to the gateway. It fails with `WouldBlock` if something but a refusal stands in its way, as want of a
+    /// handle: that may be over a moment later.
     pub fn connect(&mut self) -> io::Result<TcpStream> {
         let port = self.gateway.ok_or(ErrorKind::NotConnected)?;
         let address = SocketAddr::from((Ipv4Addr::LOCALHOST, port));
@@ -113,7 +113,7 @@ impl<N: Net> Host<N> {
         }
     }
 
-    /// Sleeps until something comes, for so many milliseconds at most, and names what it came on. What came since the last look is named at
+    /// Sleeps until something comes, for at most `most` milliseconds, and names what it came on. What came since the last look is named at
     /// once.
     pub fn look(&mut self, most: u64) -> io::Result<Iter<'_>> {
         let listener = self.listener.as_mut().ok_or(ErrorKind::NotConnected)?;

@@ -7,10 +7,10 @@
 mod clocks;
 mod device;
 mod host;
-mod links;
 mod peers;
 mod real_edge;
 mod sockets;
+mod unsent;
 mod waits;
 mod words;
 

@@ -7,8 +7,8 @@ ghost use Rattle.iss_edge.specs.Channels.{no_channels, is_among, IsUnused, after
 
 use crate::clocks::{Clocks, monotonic};
 use crate::host::{Host, is_passing};
-use crate::links::Links;
 use crate::peers::{Peer, Peers};
+use crate::unsent::Unsent;
 use iss_edge::Channel;
 use std::alloc::Global;
 use std::io::{ErrorKind, Write};
@@ -27,7 +27,7 @@ pub struct Sockets<N> {
     pub(crate) clients: Peers,
     pub(crate) dialled: Peers,
     /// The texts of dialled channels that aren't connected.
-    pub(crate) links: Links,
+    pub(crate) texts: Unsent,
     /// The greatest number that a channel got.
     pub(crate) last: u32,
     pub(crate) ready: Option<u32>,
@@ -69,7 +69,7 @@ impl<N: Net<Stream = TcpStream> + Clock + Drop> Sockets<N> {
             host: Host::new(net, alloc),
             clients: Peers::none(alloc),
             dialled: Peers::none(alloc),
-            links: Links::none(alloc),
+            texts: Unsent::none(alloc),
             last: 0,
             ready: None,
             asking: None,
@@ -131,8 +131,8 @@ impl<N: Net<Stream = TcpStream> + Clock + Drop> Sockets<N> {
         ensures { self.new ≡ self.old }
     {
         if self.dialled.is_pending(ch) {
-            self.links.keep(ch, bytes)?;
-            self.links
+            self.texts.push(ch, bytes)?;
+            self.texts
                 .send_all(&mut self.host, &mut self.dialled, false);
             return Ok(());
         }
@@ -155,7 +155,7 @@ impl<N: Net<Stream = TcpStream> + Clock + Drop> Sockets<N> {
     pub fn close(&mut self, ch: Channel)
         ensures { self.new ≡ after_close ch self.old }
     {
-        self.links.finish(&mut self.host, &mut self.dialled, ch);
+        self.texts.withdraw(&mut self.host, &mut self.dialled, ch);
         self.clients.close(ch);
         self.dialled.close(ch);
         self.host.keep_back();
@@ -169,7 +169,7 @@ pub(crate) fn next_number(last: u32) -> io::Result<u32>
     Ok(last.checked_add(1).ok_or(ErrorKind::QuotaExceeded)?)
 }
 
-/// Writes all of the bytes, with a pause wherever the peer takes none, and gives up after so many writes.
+/// Writes all of the bytes, with a pause whenever the peer takes none. It fails if `WRITES` writes weren't enough.
 fn write_in_time(clock: &impl Clock, mut socket: &TcpStream, bytes: &[u8]) -> io::Result<()> {
     let mut rest = bytes;
     for _ in 0..WRITES {

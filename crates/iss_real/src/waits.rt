@@ -68,7 +68,7 @@ impl<N: Net<Stream = TcpStream> + Clock + Drop> Sockets<N> {
         }
         self.in_time = 0;
         self.told = self.at;
-        self.links.send_all(&mut self.host, &mut self.dialled, true);
+        self.texts.send_all(&mut self.host, &mut self.dialled, true);
         self.look_over();
         Arrival::Time(time)
     }
@@ -84,13 +84,13 @@ impl<N: Net<Stream = TcpStream> + Clock + Drop> Sockets<N> {
         }
     }
 
-    /// Notes on what something came. If nothing did, it sleeps until then, for so many milliseconds at most.
+    /// Notes on what something came. If nothing did, it sleeps until then, for at most `most` milliseconds.
     fn listen_for(&mut self, most: u64) -> io::Result<()>
         ensures { self.new ≡ self.old }
     {
         let names = self.host.look(most)?;
         wake_named(names, &mut self.clients, &mut self.dialled);
-        self.links
+        self.texts
             .send_all(&mut self.host, &mut self.dialled, false);
         Ok(())
     }

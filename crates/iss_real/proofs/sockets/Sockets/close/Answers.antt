@@ -6,7 +6,7 @@ use Rattle.iss_real.proofs.sockets.Sockets.close.Goals as goal
 pub invariant_of-self : goal.invariant_of-self
 invariant_of-self g c =
     let s = c.self.inside in
-    rw c.close.ensures (rw c.close-2.ensures (rw c.finish.ensures (
+    rw c.close.ensures (rw c.close-2.ensures (rw c.withdraw.ensures (
       filter_all (is_up_to s.last) (λ n. not (n == c.args.ch.0)) s.clients c.self.invariant.0,
       filter_all (is_up_to s.last) (λ n. not (n == c.args.ch.0)) s.dialled c.self.invariant.1,
     )))

@@ -24,31 +24,31 @@ struct Text {
 /// The texts that no socket took yet, in their order. Only the first has a socket, which is connecting: if the gateway takes no connection
 /// now, it takes none for the others.
 #[derive(Drop)]
-pub struct Links {
+pub struct Unsent {
     alloc: Global,
     texts: VecDeque<Text>,
     socket: Option<TcpStream>,
 }
 
-impl Links {
+impl Unsent {
     /// No text.
-    pub fn none(alloc: Global) -> Links {
-        Links {
+    pub fn none(alloc: Global) -> Unsent {
+        Unsent {
             alloc,
             texts: VecDeque::new(alloc),
             socket: None,
         }
     }
 
-    /// Keeps the text of a channel that isn't connected.
-    pub fn keep(&mut self, ch: Channel, text: &[u8]) -> io::Result<()> {
+    /// One text more, of a channel that isn't connected.
+    pub fn push(&mut self, ch: Channel, text: &[u8]) -> io::Result<()> {
         let bytes = text.to_vec(self.alloc)?;
         self.texts.push_back(Text { ch, bytes })?;
         Ok(())
     }
 
-    /// Gives a channel that is to be closed one more try, if it may still be connected, and drops its text.
-    pub fn finish<N: Net>(&mut self, host: &mut Host<N>, peers: &mut Peers, ch: Channel)
+    /// Withdraws the text of a channel that is to be closed, after one more try if it may still be connected.
+    pub fn withdraw<N: Net>(&mut self, host: &mut Host<N>, peers: &mut Peers, ch: Channel)
         ensures { peers.new ≡ peers.old }
     {
         if peers.is_pending(ch) {
