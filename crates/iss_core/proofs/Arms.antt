@@ -15,9 +15,9 @@ use Rattle.iss_model.specs.Inputs.{is_event}
 use Rattle.iss_model.specs.rules.Facts.{Accepted, Decision}
 use Rattle.iss_model.specs.state.Kept.{AreSmall}
 use Rattle.iss_model.specs.state.Cores.{CoreState, ControlKept, control_after_use, core_facts}
-use Rattle.iss_effects.specs.Needs as needs
-use Rattle.iss_effects.proofs.FoundByName.{named_found, standing_found, later_unlike}
-use Rattle.iss_invariants.specs.Entering.{HaveCountedSmall}
+use Rattle.iss_state.specs.Needs as needs
+use Rattle.iss_state.proofs.effects.FoundByName.{named_found, standing_found, later_unlike}
+use Rattle.iss_state.specs.Entering.{HaveCountedSmall}
 use Rattle.iss_hold.specs.Entries as holds
 use Rattle.iss_chain.specs.Values.{chain_part}
 use Rattle.iss_chain.specs.Entering as chain

@@ -18,7 +18,7 @@ use Rattle.iss_model.specs.rules.Activity.{CallNow, call_numbered, is_asked}
 use Rattle.iss_model.specs.rules.Facts.{next_notice}
 use Rattle.iss_model.specs.rules.Pieces.{abandoned_call_entries, abandoned_calls_entries}
 use Rattle.iss_model.specs.state.Cores.{CoreState, ProductNow, core_facts}
-use Rattle.iss_invariants.specs.InForm.{are_times}
+use Rattle.iss_state.specs.InForm.{are_times}
 use Rattle.iss_call.specs.States.{asked_of}
 use Rattle.iss_core.specs.Answers.{abandoned_entries}
 use Rattle.iss_core.specs.Order.{asks_little, IsInOrder}

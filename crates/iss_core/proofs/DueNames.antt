@@ -9,10 +9,10 @@ use Rattle.iss_model.specs.rules.Activity.{TxnNow, CallNow, is_asked, txn_named,
 use Rattle.iss_model.specs.rules.Due.{DueThing, DueItem, call_due, txn_due, due_call, due_txn, due_items, is_before, items_with}
 use Rattle.iss_model.specs.state.Cores.{CoreState, core_facts}
 use Rattle.iss_model.proofs.Names.{its_name, one_name}
-use Rattle.iss_docket.specs.Dockets.{docket_of}
-use Rattle.iss_docket.specs.Well.{HaveOwnTokens, IsWellAmong, Known}
-use Rattle.iss_docket.proofs.Closing.{StandsItself, all_stand}
-use Rattle.iss_docket.proofs.Lists.{Each, each_weaker}
+use Rattle.iss_state.specs.Dockets.{docket_of}
+use Rattle.iss_state.specs.Well.{HaveOwnTokens, IsWellAmong, Known}
+use Rattle.iss_state.proofs.docket.Closing.{StandsItself, all_stand}
+use Rattle.iss_state.proofs.docket.Lists.{Each, each_weaker}
 use Rattle.iss_call.specs.States.{calls_due}
 use Rattle.iss_hold.specs.Expiries.{txns_due}
 use Rattle.iss_core.specs.declared.due.Due.{Due}

@@ -12,7 +12,7 @@ use Rattle.iss_model.specs.rules.Keeper.{Growth, grow}
 use Rattle.iss_model.specs.rules.Judging.{judge}
 use Rattle.iss_model.specs.rules.Stepping.{entries_of, own_entries, after_due, step}
 use Rattle.iss_model.specs.state.Cores.{CoreState, after_entry, with_record, core_facts, core_keeper}
-use Rattle.iss_invariants.proofs.Settled.{due_settled}
+use Rattle.iss_state.proofs.invariants.Settled.{due_settled}
 use Rattle.iss_core.specs.Values.{CoreNow, IsNext, Steps}
 use Rattle.iss_core.specs.Sound.{IsSound, IsTakenUp}
 use Rattle.iss_core.proofs.Upheld.{taken_up, next_is_new, next_is_unknown, sound_after}

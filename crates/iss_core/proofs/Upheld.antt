@@ -17,21 +17,21 @@ use Rattle.iss_model.specs.rules.Due.{DueThing, thing_entries}
 use Rattle.iss_model.specs.rules.Judging.{judge}
 use Rattle.iss_model.specs.rules.Stepping.{entries_of, step}
 use Rattle.iss_model.specs.state.Cores.{CoreState, no_core, after_entry, with_record, core_facts, core_keeper}
-use Rattle.iss_effects.specs.Stakes.{total_asked, asked_amount, at_least_one}
-use Rattle.iss_invariants.specs.Sound.{IsSoundAt, IsNewEvent}
-use Rattle.iss_invariants.specs.Entering.{AreEnterable}
-use Rattle.iss_invariants.specs.InForm.{IsInForm, is_entry_in_form}
-use Rattle.iss_invariants.proofs.Kept.{entries_accepted, entries_count}
-use Rattle.iss_invariants.proofs.Steps.{ready_with_record, ready_after_thing, step_sound, sound_begins}
-use Rattle.iss_invariants.proofs.Enterable.{due_enterable, own_enterable}
-use Rattle.iss_invariants.proofs.FormStates.{nothing_form, record_form, entries_form}
-use Rattle.iss_invariants.proofs.FormEntries.{thing_formed, own_formed}
-use Rattle.iss_invariants.proofs.NewEvents.{judged_new}
-use Rattle.iss_pending.specs.Pending.{IsWell, AreAllowed, decides_accepted}
-use Rattle.iss_pending.specs.Few.{HasFewNumbers}
-use Rattle.iss_pending.proofs.Legal.{nothing_well}
-use Rattle.iss_pending.proofs.Steps.{ready_taken, ready_settled, due_allowed, own_allowed, due_decides, own_decides, step_well}
-use Rattle.iss_pending.proofs.FewSteps.{none_yet, few_taken, few_due, few_step}
+use Rattle.iss_state.specs.Stakes.{total_asked, asked_amount, at_least_one}
+use Rattle.iss_state.specs.Sound.{IsSoundAt, IsNewEvent}
+use Rattle.iss_state.specs.Entering.{AreEnterable}
+use Rattle.iss_state.specs.InForm.{IsInForm, is_entry_in_form}
+use Rattle.iss_state.proofs.invariants.Kept.{entries_accepted, entries_count}
+use Rattle.iss_state.proofs.invariants.Steps.{ready_with_record, ready_after_thing, step_sound, sound_begins}
+use Rattle.iss_state.proofs.invariants.Enterable.{due_enterable, own_enterable}
+use Rattle.iss_state.proofs.invariants.FormStates.{nothing_form, record_form, entries_form}
+use Rattle.iss_state.proofs.invariants.FormEntries.{thing_formed, own_formed}
+use Rattle.iss_state.proofs.invariants.NewEvents.{judged_new}
+use Rattle.iss_state.specs.Pending.{IsWell, AreAllowed, decides_accepted}
+use Rattle.iss_state.specs.Few.{HasFewNumbers}
+use Rattle.iss_state.proofs.calls.Legal.{nothing_well}
+use Rattle.iss_state.proofs.calls.Steps.{ready_taken, ready_settled, due_allowed, own_allowed, due_decides, own_decides, step_well}
+use Rattle.iss_state.proofs.calls.FewSteps.{none_yet, few_taken, few_due, few_step}
 use Rattle.iss_core.specs.Order.{asks_little, IsInOrder}
 use Rattle.iss_core.specs.Entering.{MayAllEnter}
 use Rattle.iss_core.specs.Sound.{IsSound, IsTakenUp}

@@ -2,11 +2,11 @@
 use Rattle.std.specs.Prelude.{◌≡◌, true, List, [], ◌∷◌}
 use Rattle.iss_model.specs.declared.entry.Entry.{Entry}
 use Rattle.iss_model.specs.state.Cores.{CoreState, after_entry}
-use Rattle.iss_invariants.specs.Entering.{IsEnterable}
-use Rattle.iss_invariants.specs.InForm.{is_entry_in_form}
-use Rattle.iss_docket.specs.Dockets.{docket_of}
-use Rattle.iss_docket.specs.Allowed.{IsAllowed}
-use Rattle.iss_pending.specs.Pending.{decides_accepted}
+use Rattle.iss_state.specs.Entering.{IsEnterable}
+use Rattle.iss_state.specs.InForm.{is_entry_in_form}
+use Rattle.iss_state.specs.Dockets.{docket_of}
+use Rattle.iss_state.specs.Allowed.{IsAllowed}
+use Rattle.iss_state.specs.Pending.{decides_accepted}
 
 -- An entry may be entered: it fits and leaves small sums, it may come next on the docket, it is in form, and what it decides was accepted.
 pub record MayEnter (s : CoreState) (e : Entry) : Type 0 where

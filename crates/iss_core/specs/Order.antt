@@ -3,7 +3,7 @@ use Rattle.std.specs.Prelude.{◌≡◌, ◌+◌, ◌^◌, ◌<◌, true, nat_lt
 use Rattle.std.specs.List.{list_all}
 use Rattle.iss_model.specs.rules.Activity.{CallNow, is_asked}
 use Rattle.iss_model.specs.state.Cores.{CoreState}
-use Rattle.iss_invariants.specs.InForm.{IsInForm}
+use Rattle.iss_state.specs.InForm.{IsInForm}
 
 -- a call that is asked asks for a small amount
 abbrev pub asks_little : CallNow → Bool

@@ -3,10 +3,10 @@ use Rattle.std.specs.Prelude.{ℕ, ◌<◌}
 use Rattle.iss_model.specs.declared.limits.TheConstants.{MOST_RECORDS}
 use Rattle.iss_model.specs.declared.input.Input.{Input}
 use Rattle.iss_model.specs.state.Cores.{CoreState}
-use Rattle.iss_invariants.specs.Sound.{IsSoundAt, IsReady}
-use Rattle.iss_invariants.specs.InForm.{IsInForm}
-use Rattle.iss_pending.specs.Few.{HasFewNumbers}
-use Rattle.iss_pending.specs.Pending.{IsWell, HasTakenUp}
+use Rattle.iss_state.specs.Sound.{IsSoundAt, IsReady}
+use Rattle.iss_state.specs.InForm.{IsInForm}
+use Rattle.iss_state.specs.Few.{HasFewNumbers}
+use Rattle.iss_state.specs.Pending.{IsWell, HasTakenUp}
 
 -- What holds of every core: its sums are within the reach of its records, its calls and decisions are well, its stamps are in form,
 -- and no more calls and notices were made than its records can make.

@@ -7,8 +7,8 @@ use Rattle.iss_model.specs.rules.Activity.{TxnNow, CallNow, txn_named, call_numb
 use Rattle.iss_model.specs.rules.Due.{DueItem, DueThing, call_due, txn_due, is_before, thing_entries}
 use Rattle.iss_model.specs.rules.Keeper.{Growth, grow}
 use Rattle.iss_model.specs.state.Cores.{CoreState, core_keeper}
-use Rattle.iss_invariants.specs.Numbers.{CallsNumberedFrom}
-use Rattle.iss_docket.specs.Well.{HaveOwnTokens}
+use Rattle.iss_state.specs.Numbers.{CallsNumberedFrom}
+use Rattle.iss_state.specs.Well.{HaveOwnTokens}
 use Rattle.iss_core.specs.declared.due.Due.{Due}
 use Rattle.iss_core.specs.declared.due.Due.TheVariants.{Call, Txn}
 

@@ -3,7 +3,7 @@ ghost use Rattle.std.specs.Prelude.{◌≡◌, ◌∷◌, ◌++◌, [], None, On
 ghost use Rattle.iss_model.specs.state.Cores.{core_facts, after_setting, with_user, with_card, with_user_moved, with_card_moved, with_product, with_control, with_set};
 ghost use Rattle.iss_model.specs.rules.Reasons.{user_reason, card_reason, move_reason, product_reason, group_reason, control_reason, set_reason};
 ghost use Rattle.iss_model.specs.declared.setting.Moved.TheVariants as moved;
-ghost use Rattle.iss_effects.specs.Needs.{setting_reason};
+ghost use Rattle.iss_state.specs.Needs.{setting_reason};
 ghost use Rattle.iss_card.specs.Standings as card;
 ghost use Rattle.iss_velocity.specs.Puts as control;
 ghost use Rattle.iss_scope.specs.Merchants as group;

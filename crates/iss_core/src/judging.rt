@@ -7,7 +7,7 @@ ghost use Rattle.iss_model.specs.Forms.{is_in_form};
 ghost use Rattle.iss_model.specs.rules.Due.{due_items, is_quiet};
 ghost use Rattle.iss_model.specs.rules.Judging.{judgement_as, judgement_at, notice_answer, is_ack};
 ghost use Rattle.iss_model.specs.state.Cores.{core_facts, core_keeper};
-ghost use Rattle.iss_pending.specs.Pending.{IsWell};
+ghost use Rattle.iss_state.specs.Pending.{IsWell};
 ghost use Rattle.iss_core.specs.States.{state_of};
 
 use crate::state::State;

@@ -20,9 +20,9 @@ use Rattle.iss_model.specs.state.Kept.{IsSmall}
 use Rattle.iss_model.specs.texts.Spelling.{has_spelling, is_record, tokens_of}
 use Rattle.iss_model.proofs.Lists.{all_weaker}
 use Rattle.iss_agreement.proofs.Records.{step_records}
-use Rattle.iss_effects.specs.Bounds.{IsWithin}
-use Rattle.iss_invariants.specs.Sound.{AreInForm, IsSoundAt}
-use Rattle.iss_invariants.proofs.Legal.{records_sound}
+use Rattle.iss_state.specs.Bounds.{IsWithin}
+use Rattle.iss_state.specs.Sound.{AreInForm, IsSoundAt}
+use Rattle.iss_state.proofs.invariants.Legal.{records_sound}
 use Rattle.iss_store.specs.Standing.{AreHistory}
 use Rattle.iss_store.specs.Values.{StoreNow}
 use Rattle.iss_drill.specs.declared.tally.Tally.{Tally}

@@ -5,7 +5,7 @@ use Rattle.iss_model.specs.declared.account.Account.TheVariants as account
 use Rattle.iss_model.specs.rules.Facts.{Facts, balance_in}
 use Rattle.iss_model.specs.state.Cores.{CoreState}
 use Rattle.iss_model.specs.texts.DrillLines.{DrillTotals}
-use Rattle.iss_effects.specs.Bounds.{AreWithin}
+use Rattle.iss_state.specs.Bounds.{AreWithin}
 use Rattle.iss_drill.specs.declared.tally.Tally.{Tally}
 use Rattle.iss_drill.specs.declared.report.Totals.{Totals}
 use Rattle.iss_drill.specs.Drills.{held_of_users}

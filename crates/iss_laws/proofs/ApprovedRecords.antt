@@ -39,13 +39,13 @@ use Rattle.iss_model.proofs.Lists.{neither}
 use Rattle.iss_model.proofs.Names.{its_name, one_name}
 use Rattle.iss_agreement.proofs.CoreOfBook.{core_history, core_step, judge_history}
 use Rattle.iss_agreement.proofs.Records.{records_history}
-use Rattle.iss_invariants.specs.Sound.{IsNewEvent, is_accepted}
-use Rattle.iss_invariants.proofs.Kept.{due_accepted, entries_accepted}
-use Rattle.iss_invariants.proofs.NewEvents.{accepted_with_record, judged_new, still_accepted}
-use Rattle.iss_docket.specs.Well.{asked_times, decided_times, is_decided}
-use Rattle.iss_docket.proofs.Lists.{not_both, or_true}
-use Rattle.iss_pending.proofs.Legal.{core_well}
-use Rattle.iss_pending.proofs.Steps.{decided_once}
+use Rattle.iss_state.specs.Sound.{IsNewEvent, is_accepted}
+use Rattle.iss_state.proofs.invariants.Kept.{due_accepted, entries_accepted}
+use Rattle.iss_state.proofs.invariants.NewEvents.{accepted_with_record, judged_new, still_accepted}
+use Rattle.iss_state.specs.Well.{asked_times, decided_times, is_decided}
+use Rattle.iss_state.proofs.docket.Lists.{not_both, or_true}
+use Rattle.iss_state.proofs.calls.Legal.{core_well}
+use Rattle.iss_state.proofs.calls.Steps.{decided_once}
 use Rattle.iss_laws.specs.Rulings.{Ruling, decided_as, asked_about, ask_rulings, begun_in, call_ruling, closing_ruling, closing_rulings, closing_verdict, abandonment_reason, funding_ruling, is_answer, may_fail, only_if, opened_in, own_rulings, rulings_due, rulings_of, ruling_of, verdict_of_sets, with_entries}
 use Rattle.iss_laws.proofs.StepRulings.{legal_rules}
 use Rattle.iss_laws.specs.Approvals.{agree, approved_rightly, are_approved_rightly, entries_pay_for, facts_at_turn, is_approval, is_approved, is_approved_rightly, is_paid_at_once, is_paid_closing, is_to_be_approved, pays_for, records_pay_for, stands_in}

@@ -24,7 +24,7 @@ use Rattle.iss_acts.specs.Acts.{Abandons, Act, Asks, Fails, Funds, News, Refuses
 use Rattle.iss_acts.specs.Items.{Closing, FromGateway, FromNetwork, FromProgramme, Item, Opening, Paying, Payment, Telling, ToGateway, ToNetwork, ToProgramme, Voiding, item_entry, may_close, has_item, may_open_call, may_pay, may_void, payer}
 use Rattle.iss_acts.proofs.Passing.{EachPasses, act_passes, hold_passes}
 use Rattle.iss_acts.proofs.Walk.{Holds, each_item}
-use Rattle.iss_docket.proofs.Lists.{both_so, not_both}
+use Rattle.iss_state.proofs.docket.Lists.{both_so, not_both}
 use Rattle.iss_laws.specs.CallEntries.{closes_void, is_call, is_void_method, may_open, names_what_it_voids, opens_none, times_among, voids}
 use Rattle.iss_laws.specs.Pairs.{is_gateway}
 use Rattle.iss_laws.proofs.CallCounting.{among_append}

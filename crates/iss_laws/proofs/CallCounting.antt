@@ -12,15 +12,15 @@ use Rattle.iss_model.specs.declared.input.Input.{Input}
 use Rattle.iss_model.specs.rules.Activity.{CallNow, call_numbered, is_asked}
 use Rattle.iss_model.specs.rules.Reasons.{is_some_with}
 use Rattle.iss_model.specs.state.Cores.{CoreState, after_entry, after_setting, call_after_close}
-use Rattle.iss_effects.proofs.Effects.{setting_calls}
-use Rattle.iss_effects.proofs.Finds.{number_is}
-use Rattle.iss_invariants.specs.Numbers.{CallsNumberedFrom}
-use Rattle.iss_invariants.proofs.Calls.{entry_numbered}
-use Rattle.iss_docket.specs.Allowed.{IsAllowed}
-use Rattle.iss_docket.specs.Dockets.{docket_of}
-use Rattle.iss_docket.proofs.Closing.{call_closed, its_number, other_stays, own_closed}
-use Rattle.iss_docket.proofs.Entering.{call_more}
-use Rattle.iss_pending.specs.Pending.{AreAllowed}
+use Rattle.iss_state.proofs.effects.Effects.{setting_calls}
+use Rattle.iss_state.proofs.effects.Finds.{number_is}
+use Rattle.iss_state.specs.Numbers.{CallsNumberedFrom}
+use Rattle.iss_state.proofs.invariants.Calls.{entry_numbered}
+use Rattle.iss_state.specs.Allowed.{IsAllowed}
+use Rattle.iss_state.specs.Dockets.{docket_of}
+use Rattle.iss_state.proofs.docket.Closing.{call_closed, its_number, other_stays, own_closed}
+use Rattle.iss_state.proofs.docket.Entering.{call_more}
+use Rattle.iss_state.specs.Pending.{AreAllowed}
 use Rattle.iss_laws.specs.CallEntries.{closes, opens, times_among}
 use Rattle.iss_laws.specs.Payable.{asked_at}
 

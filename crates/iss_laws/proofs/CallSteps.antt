@@ -11,9 +11,9 @@ use Rattle.iss_model.specs.rules.Due.{thing_entries}
 use Rattle.iss_model.specs.rules.Facts.{Facts}
 use Rattle.iss_model.specs.rules.Stepping.{entries_of, step}
 use Rattle.iss_model.specs.state.Cores.{CoreState, after_entry, core_facts, core_keeper, no_core, with_record}
-use Rattle.iss_invariants.specs.Sound.{IsNewEvent}
-use Rattle.iss_pending.specs.Pending.{AreAllowed, HasTakenUp, IsWell}
-use Rattle.iss_pending.proofs.Steps.{due_allowed, own_allowed, ready_settled, ready_taken}
+use Rattle.iss_state.specs.Sound.{IsNewEvent}
+use Rattle.iss_state.specs.Pending.{AreAllowed, HasTakenUp, IsWell}
+use Rattle.iss_state.proofs.calls.Steps.{due_allowed, own_allowed, ready_settled, ready_taken}
 use Rattle.iss_laws.specs.CallEntries.{closes, may_open, opens, opens_none, times_among}
 use Rattle.iss_laws.specs.Pairs.{Pairing, paired, pairing_after}
 use Rattle.iss_laws.specs.Payable.{ArePayable, CallsStand, asked_at}

@@ -19,15 +19,15 @@ use Rattle.iss_model.specs.rules.Histories.{History, IsLegal, history_facts, his
 use Rattle.iss_model.specs.rules.Stepping.{step}
 use Rattle.iss_model.specs.state.Cores.{CoreState, core_keeper, core_of, no_core}
 use Rattle.iss_agreement.proofs.CoreOfBook.{facts_history}
-use Rattle.iss_effects.proofs.Finds.{same_number}
-use Rattle.iss_invariants.specs.Numbers.{CallsNumberedFrom}
-use Rattle.iss_invariants.specs.Sound.{IsNewEvent}
-use Rattle.iss_invariants.proofs.Legal.{legal_induction}
-use Rattle.iss_docket.proofs.Closing.{StandsItself, all_stand, calls_lone}
-use Rattle.iss_docket.proofs.Lists.{Each, both_so, each_weaker, found_any, lone_times}
-use Rattle.iss_pending.specs.Pending.{IsWell}
-use Rattle.iss_pending.proofs.Legal.{nothing_well}
-use Rattle.iss_pending.proofs.Steps.{step_well}
+use Rattle.iss_state.proofs.effects.Finds.{same_number}
+use Rattle.iss_state.specs.Numbers.{CallsNumberedFrom}
+use Rattle.iss_state.specs.Sound.{IsNewEvent}
+use Rattle.iss_state.proofs.invariants.Legal.{legal_induction}
+use Rattle.iss_state.proofs.docket.Closing.{StandsItself, all_stand, calls_lone}
+use Rattle.iss_state.proofs.docket.Lists.{Each, both_so, each_weaker, found_any, lone_times}
+use Rattle.iss_state.specs.Pending.{IsWell}
+use Rattle.iss_state.proofs.calls.Legal.{nothing_well}
+use Rattle.iss_state.proofs.calls.Steps.{step_well}
 use Rattle.iss_laws.specs.CallEntries.{closes, closes_void, is_call, is_void, is_void_method, names_call, names_what_it_voids, opens, times_among, voids}
 use Rattle.iss_laws.specs.Payable.{asked_at}
 use Rattle.iss_laws.proofs.CallSteps.{Counts, step_counts, step_voids}

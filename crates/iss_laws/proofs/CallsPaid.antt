@@ -13,12 +13,12 @@ use Rattle.iss_model.specs.rules.Histories.{IsLegal, history_facts, history_of, 
 use Rattle.iss_model.specs.rules.Stepping.{step}
 use Rattle.iss_model.specs.state.Cores.{CoreState, core_keeper, core_of}
 use Rattle.iss_agreement.proofs.CoreOfBook.{facts_history}
-use Rattle.iss_invariants.specs.Sound.{AreInForm, IsNewEvent}
-use Rattle.iss_invariants.proofs.Legal.{legal_induction}
-use Rattle.iss_docket.proofs.Lists.{both_so}
-use Rattle.iss_pending.specs.Pending.{IsWell}
-use Rattle.iss_pending.proofs.Legal.{nothing_well}
-use Rattle.iss_pending.proofs.Steps.{step_well}
+use Rattle.iss_state.specs.Sound.{AreInForm, IsNewEvent}
+use Rattle.iss_state.proofs.invariants.Legal.{legal_induction}
+use Rattle.iss_state.proofs.docket.Lists.{both_so}
+use Rattle.iss_state.specs.Pending.{IsWell}
+use Rattle.iss_state.proofs.calls.Legal.{nothing_well}
+use Rattle.iss_state.proofs.calls.Steps.{step_well}
 use Rattle.iss_laws.specs.Pairs.{Pairing, is_paired, paired, pairing_after}
 use Rattle.iss_laws.specs.Payable.{ArePayable, CallsStand}
 use Rattle.iss_laws.proofs.Payable.{calls_stand, stand_then}

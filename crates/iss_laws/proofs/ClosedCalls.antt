@@ -34,10 +34,10 @@ use Rattle.iss_model.specs.rules.Pieces.{Parts, abandoned_call_entries, abandone
 use Rattle.iss_model.specs.rules.StandIns.{Stand, allowed, over_limit, uncovered, stand}
 use Rattle.iss_acts.specs.Acts.{Abandons, Act, Asks, Clears, Declines, Does, Ends, Fails, Funds, GivesBack, HoldsOwn, LetsGo, Loads, Refuses, Sets, StandsIn, TurnsDown, act_entries, acts_for_gateway, end_acts, entries_of_acts, failed_acts, refund_money_entries, stand_acts}
 use Rattle.iss_acts.proofs.Made.{acts_append}
-use Rattle.iss_effects.proofs.Finds.{find-map}
-use Rattle.iss_docket.proofs.Closing.{its_number}
-use Rattle.iss_docket.proofs.Docketed.{AreSilent, both_silent, clearing_silent, gateway_silent, hold_silent, post_silent, release_silent}
-use Rattle.iss_docket.proofs.Lists.{Each, each_weaker}
+use Rattle.iss_state.proofs.effects.Finds.{find-map}
+use Rattle.iss_state.proofs.docket.Closing.{its_number}
+use Rattle.iss_state.proofs.docket.Docketed.{AreSilent, both_silent, clearing_silent, gateway_silent, hold_silent, post_silent, release_silent}
+use Rattle.iss_state.proofs.docket.Lists.{Each, each_weaker}
 use Rattle.iss_laws.specs.Rulings.{Ruling, asked_about, decided_as, abandonment_reason, begun_in, call_ruling, closing_ruling, closing_rulings, closing_verdict, may_fail, only_if, opened_in, verdict_of_sets, with_entries}
 use Rattle.iss_laws.proofs.Ruled.{Rules, RulesAlone, alone_rules, both_alone, none_closed, rules_alone, rules_none, rules_then, silent_alone}
 

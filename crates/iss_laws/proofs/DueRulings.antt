@@ -27,13 +27,13 @@ use Rattle.iss_agreement.specs.Shown.{shown_state}
 use Rattle.iss_agreement.proofs.BookAndState.{book_kept}
 use Rattle.iss_agreement.proofs.CoreOfBook.{core_shows}
 use Rattle.iss_agreement.proofs.Fitting.{IsGood, enters}
-use Rattle.iss_invariants.specs.Numbers.{CallsNumberedFrom}
-use Rattle.iss_docket.specs.Well.{HaveOwnTokens}
-use Rattle.iss_docket.proofs.Closing.{StandsItself, all_stand}
-use Rattle.iss_docket.proofs.Lists.{Each, each_weaker, inside}
-use Rattle.iss_pending.specs.Pending.{HasTakenUp}
-use Rattle.iss_pending.proofs.Due.{its_token}
-use Rattle.iss_pending.proofs.Steps.{ready_settled}
+use Rattle.iss_state.specs.Numbers.{CallsNumberedFrom}
+use Rattle.iss_state.specs.Well.{HaveOwnTokens}
+use Rattle.iss_state.proofs.docket.Closing.{StandsItself, all_stand}
+use Rattle.iss_state.proofs.docket.Lists.{Each, each_weaker, inside}
+use Rattle.iss_state.specs.Pending.{HasTakenUp}
+use Rattle.iss_state.proofs.calls.Due.{its_token}
+use Rattle.iss_state.proofs.calls.Steps.{ready_settled}
 use Rattle.iss_laws.specs.Rulings.{abandonment_reason, abandoned_by, begun_in, opened_in, with_entries}
 use Rattle.iss_laws.proofs.Ruled.{Rules, rules_none, rules_then, with_both, with_none}
 use Rattle.iss_laws.proofs.ClosedCalls.{IsAbandoned, RulesRow, begun_stays, both_acts, either_acts, ends_acts, failed_rules, for_gateway, its_beginning, last_act, no_act, opened_stays}

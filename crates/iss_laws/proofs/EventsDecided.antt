@@ -15,11 +15,11 @@ use Rattle.iss_model.proofs.Names.{its_name}
 use Rattle.iss_agreement.proofs.CoreOfBook.{core_history}
 use Rattle.iss_laws.specs.Tests.{times}
 use Rattle.iss_laws.specs.Events.{decides, calls_asked_for, is_decided_or_waits, each_event_decided}
-use Rattle.iss_docket.specs.Well.{decided_times}
-use Rattle.iss_invariants.specs.Sound.{is_accepted}
-use Rattle.iss_pending.specs.Pending.{IsWell}
-use Rattle.iss_pending.proofs.Legal.{core_well}
-use Rattle.iss_pending.proofs.Steps.{decided_once}
+use Rattle.iss_state.specs.Well.{decided_times}
+use Rattle.iss_state.specs.Sound.{is_accepted}
+use Rattle.iss_state.specs.Pending.{IsWell}
+use Rattle.iss_state.proofs.calls.Legal.{core_well}
+use Rattle.iss_state.proofs.calls.Steps.{decided_once}
 
 pub none_first : (n : ℕ) → n ≡ 0 + n
 none_first n = omega arith

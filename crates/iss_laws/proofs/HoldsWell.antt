@@ -19,14 +19,14 @@ use Rattle.iss_model.specs.rules.Stepping.{step}
 use Rattle.iss_model.specs.state.Cores.{CoreState, core_facts, core_keeper, core_of}
 use Rattle.iss_model.proofs.Names.{its_name, one_name}
 use Rattle.iss_agreement.proofs.CoreOfBook.{facts_history}
-use Rattle.iss_invariants.specs.Sound.{IsNewEvent}
-use Rattle.iss_invariants.proofs.Legal.{legal_induction}
-use Rattle.iss_docket.specs.Well.{HaveOwnTokens}
-use Rattle.iss_pending.proofs.Due.{its_token}
-use Rattle.iss_pending.proofs.Legal.{nothing_well}
-use Rattle.iss_pending.proofs.Steps.{step_well}
-use Rattle.iss_holdings.specs.Holdings.{HoldsNothing, IsHeldWell, ended_times, ends_left, part_sum}
-use Rattle.iss_holdings.proofs.Steps.{HoldsWell, nothing_held, step_held, step_left}
+use Rattle.iss_state.specs.Sound.{IsNewEvent}
+use Rattle.iss_state.proofs.invariants.Legal.{legal_induction}
+use Rattle.iss_state.specs.Well.{HaveOwnTokens}
+use Rattle.iss_state.proofs.calls.Due.{its_token}
+use Rattle.iss_state.proofs.calls.Legal.{nothing_well}
+use Rattle.iss_state.proofs.calls.Steps.{step_well}
+use Rattle.iss_state.specs.Holdings.{HoldsNothing, IsHeldWell, ended_times, ends_left, part_sum}
+use Rattle.iss_state.proofs.held.Steps.{HoldsWell, nothing_held, step_held, step_left}
 use Rattle.iss_laws.specs.Holds.{is_held_on, parts_and_ends, parts_of}
 use Rattle.iss_laws.specs.Tests.{not_negative, times}
 use Rattle.iss_laws.specs.CallEntries.{times_among}

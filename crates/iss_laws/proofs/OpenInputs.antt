@@ -26,16 +26,16 @@ use Rattle.iss_model.specs.rules.Pieces.{Parts, abandoned_calls_entries, hold_en
 use Rattle.iss_model.specs.rules.Reasons.{is_some_with}
 use Rattle.iss_model.specs.rules.Stepping.{entries_of}
 use Rattle.iss_model.specs.state.Cores.{CoreState, after_entry, core_facts, is_live}
-use Rattle.iss_invariants.proofs.Passing.{both_pass, gateway_passes, one_passes, passing}
-use Rattle.iss_docket.specs.Dockets.{docket_of}
-use Rattle.iss_docket.specs.Well.{HaveOwnTokens, IsWellAmong, Known}
-use Rattle.iss_docket.proofs.Closing.{StandsItself, all_stand}
-use Rattle.iss_docket.proofs.Docketed.{clearing_silent}
-use Rattle.iss_docket.proofs.Entering.{apart_too, txn_more}
-use Rattle.iss_docket.proofs.Lists.{Each, each_weaker, inside}
-use Rattle.iss_pending.specs.Pending.{HasTakenUp}
-use Rattle.iss_pending.proofs.Due.{its_token}
-use Rattle.iss_holdings.specs.Holdings.{BegunBy, IsHeldWell}
+use Rattle.iss_state.proofs.invariants.Passing.{both_pass, gateway_passes, one_passes, passing}
+use Rattle.iss_state.specs.Dockets.{docket_of}
+use Rattle.iss_state.specs.Well.{HaveOwnTokens, IsWellAmong, Known}
+use Rattle.iss_state.proofs.docket.Closing.{StandsItself, all_stand}
+use Rattle.iss_state.proofs.docket.Docketed.{clearing_silent}
+use Rattle.iss_state.proofs.docket.Entering.{apart_too, txn_more}
+use Rattle.iss_state.proofs.docket.Lists.{Each, each_weaker, inside}
+use Rattle.iss_state.specs.Pending.{HasTakenUp}
+use Rattle.iss_state.proofs.calls.Due.{its_token}
+use Rattle.iss_state.specs.Holdings.{BegunBy, IsHeldWell}
 use Rattle.iss_model.specs.declared.account.Account.TheVariants as account
 use Rattle.iss_model.specs.declared.account.Part.TheVariants as part
 use Rattle.iss_acts.specs.Acts.{Abandons, Act, Asks, Begins, Clears, Fails, Funds, GivesBack, HoldsOwn, LetsGo, Refuses, StandsIn, TurnsDown, Uses, act_entries}
@@ -43,10 +43,10 @@ use Rattle.iss_acts.specs.Causes.{Cause, ComesOf, FallsDue}
 use Rattle.iss_acts.specs.Sources.{IsAskedCall, IsFirstAsk, IsFurtherAsk, IsMade, IsStart, IsTxnOf}
 use Rattle.iss_acts.specs.Stages.{Frees, Fresh, Keeps, Seeks, Stage, stage_after}
 use Rattle.iss_acts.proofs.Walk.{FromStart, Goes, due_goes, from_start, of_asked, own_goes, txn_of_ask, txn_of_call}
-use Rattle.iss_holdings.proofs.Acts.{IsReadyFor}
-use Rattle.iss_holdings.proofs.Begun.{authorization_stamp, begun_stands, first_unnamed, not_live}
-use Rattle.iss_holdings.proofs.Inputs.{due_ready, input_ready}
-use Rattle.iss_holdings.proofs.Pieces.{HoldsJust, abandoned_calm, calm_leaves, clearing_leaves, its_parts}
+use Rattle.iss_state.proofs.held.Acts.{IsReadyFor}
+use Rattle.iss_state.proofs.held.Begun.{authorization_stamp, begun_stands, first_unnamed, not_live}
+use Rattle.iss_state.proofs.held.Inputs.{due_ready, input_ready}
+use Rattle.iss_state.proofs.held.Pieces.{HoldsJust, abandoned_calm, calm_leaves, clearing_leaves, its_parts}
 use Rattle.iss_laws.proofs.OpenPieces.{abandoned_txns, abandonment_pays, ask_within, asked_again, clearing_pays, declined_within, free_first, free_last, funded_within, hold_for, knows_after, paid_within, post_free, release_pays, silent_calls, silent_txns}
 use Rattle.iss_laws.proofs.OpenUse.{Counting, IsCounting, IsOfThese, Knows, Pays, Within, begin_pays, both_within, close_within, free_pays, open_within, opens, weaker, head_none}
 

@@ -24,17 +24,17 @@ use Rattle.iss_model.specs.rules.Facts.{Facts, not_below}
 use Rattle.iss_model.specs.rules.Pieces.{Parts, abandoned_call_entries, abandoned_calls_entries, declined_ask_entries, funded_ask_entries, hold_entries, in_all, only_gateway, only_where, post_entries, release_entries, taken_to_clear, taken_to_release, unhold_entries, use_return_entries, user_account, void_entry}
 use Rattle.iss_model.specs.state.Cores.{CoreState, after_entry, call_after_close}
 use Rattle.iss_model.proofs.Names.{one_name}
-use Rattle.iss_effects.specs.Stakes.{part_held}
-use Rattle.iss_invariants.specs.Numbers.{CallsNumberedFrom}
-use Rattle.iss_invariants.proofs.Passing.{EachPasses, both_pass, either_passes, gateway_passes, one_passes, passing, where_passes}
-use Rattle.iss_docket.specs.Dockets.{Docket, docket_of}
-use Rattle.iss_docket.specs.Well.{IsAsked}
-use Rattle.iss_docket.proofs.Abandoning.{asked_in, closings_txns}
-use Rattle.iss_docket.proofs.Closing.{NumbersGrowFrom, StandsItself, all_stand, asked_after, filtered_grow}
-use Rattle.iss_docket.proofs.Docketed.{AreSilent, abandoned_docketed, both_silent, post_silent, silent, where_silent}
-use Rattle.iss_docket.proofs.Lists.{Each}
-use Rattle.iss_pending.proofs.Staying.{comes_to}
-use Rattle.iss_holdings.proofs.Pieces.{HoldsJust, Leaves, amount_of, calm_leaves, its_amount, let_go, post_calm, then_leaves, without}
+use Rattle.iss_state.specs.Stakes.{part_held}
+use Rattle.iss_state.specs.Numbers.{CallsNumberedFrom}
+use Rattle.iss_state.proofs.invariants.Passing.{EachPasses, both_pass, either_passes, gateway_passes, one_passes, passing, where_passes}
+use Rattle.iss_state.specs.Dockets.{Docket, docket_of}
+use Rattle.iss_state.specs.Well.{IsAsked}
+use Rattle.iss_state.proofs.docket.Abandoning.{asked_in, closings_txns}
+use Rattle.iss_state.proofs.docket.Closing.{NumbersGrowFrom, StandsItself, all_stand, asked_after, filtered_grow}
+use Rattle.iss_state.proofs.docket.Docketed.{AreSilent, abandoned_docketed, both_silent, post_silent, silent, where_silent}
+use Rattle.iss_state.proofs.docket.Lists.{Each}
+use Rattle.iss_state.proofs.calls.Staying.{comes_to}
+use Rattle.iss_state.proofs.held.Pieces.{HoldsJust, Leaves, amount_of, calm_leaves, its_amount, let_go, post_calm, then_leaves, without}
 use Rattle.iss_laws.proofs.OpenUse.{Counting, IsCounting, Knows, Pays, Within, both_pay, both_within, close_within, free_pays, hold_within, holds_there, is_free, opens, unhold_within, usage_within, weaker}
 
 -- entries without anything to count ----

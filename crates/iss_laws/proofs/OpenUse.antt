@@ -26,16 +26,16 @@ use Rattle.iss_model.specs.rules.Reasons.{is_some_with}
 use Rattle.iss_model.specs.state.Cores.{CoreState, after_entry, after_setting, begun_part_changes, call_after_close, is_live, txn_after_end}
 use Rattle.iss_model.specs.state.Kept.{Kept, after_changes}
 use Rattle.iss_model.proofs.Names.{name-sym, one_name}
-use Rattle.iss_effects.specs.Stakes.{part_held, whole_held}
-use Rattle.iss_effects.proofs.Finds.{number-sym, number_is}
-use Rattle.iss_effects.proofs.Parts.{change_of, whole_less, whole_more, whole_same}
-use Rattle.iss_invariants.proofs.Passing.{EachPasses}
-use Rattle.iss_docket.specs.Well.{HaveOwnTokens, IsAsked}
-use Rattle.iss_docket.proofs.Closing.{by_itself}
-use Rattle.iss_docket.proofs.Entering.{same_txn, txn_more}
-use Rattle.iss_docket.proofs.Lists.{Each}
-use Rattle.iss_holdings.specs.Holdings.{HoldsNothing}
-use Rattle.iss_holdings.proofs.Changes.{begun_sum, txn_ended}
+use Rattle.iss_state.specs.Stakes.{part_held, whole_held}
+use Rattle.iss_state.proofs.effects.Finds.{number-sym, number_is}
+use Rattle.iss_state.proofs.effects.Parts.{change_of, whole_less, whole_more, whole_same}
+use Rattle.iss_state.proofs.invariants.Passing.{EachPasses}
+use Rattle.iss_state.specs.Well.{HaveOwnTokens, IsAsked}
+use Rattle.iss_state.proofs.docket.Closing.{by_itself}
+use Rattle.iss_state.proofs.docket.Entering.{same_txn, txn_more}
+use Rattle.iss_state.proofs.docket.Lists.{Each}
+use Rattle.iss_state.specs.Holdings.{HoldsNothing}
+use Rattle.iss_state.proofs.held.Changes.{begun_sum, txn_ended}
 use Rattle.iss_laws.proofs.Rows.{among_summed, sum_among}
 
 -- how use is counted at a key ----

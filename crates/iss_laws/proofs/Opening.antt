@@ -1,6 +1,6 @@
 -- A call that an authorisation or increment opens is payable.
 use Rattle.iss_model.specs.rules.CardReasons.{txn_asked, first_ask}
-use Rattle.iss_docket.proofs.Lists.{inside}
+use Rattle.iss_state.proofs.docket.Lists.{inside}
 use Rattle.iss_model.specs.declared.txn.Txn.{Txn}
 use Rattle.std.proofs.Common.{fold, subst, ◌≡◌, ℕ, Bool, true, false, nat_eq, nat_le, List, refl, sym, ap, ◌∙◌, arith}
 use Rattle.std.specs.Prelude.{Option, Some, None, option_map}
@@ -22,9 +22,9 @@ use Rattle.iss_acts.specs.Causes.{Cause, ComesOf, fails_call, seeks_funding}
 use Rattle.iss_acts.specs.Sources.{IsFirstAsk, IsFurtherAsk, IsMade}
 use Rattle.iss_acts.specs.Stages.{Fresh, Seeks, Stage, stage_after}
 use Rattle.iss_acts.proofs.Walk.{Goes, from_start, own_goes}
-use Rattle.iss_pending.specs.Pending.{HasTakenUp}
-use Rattle.iss_pending.proofs.Due.{its_token}
-use Rattle.iss_holdings.proofs.Begun.{begun_stands, first_unnamed}
+use Rattle.iss_state.specs.Pending.{HasTakenUp}
+use Rattle.iss_state.proofs.calls.Due.{its_token}
+use Rattle.iss_state.proofs.held.Begun.{begun_stands, first_unnamed}
 use Rattle.iss_laws.proofs.Payable.{AllPayable, none_needed, payable_append}
 use Rattle.iss_laws.proofs.CallActs.{act_opens_none}
 

@@ -19,14 +19,14 @@ use Rattle.iss_model.specs.rules.Histories.{History, IsLegal, history_facts, his
 use Rattle.iss_model.specs.rules.Stepping.{entries_of, step}
 use Rattle.iss_model.specs.state.Cores.{CoreState, core_facts, core_keeper, core_of, with_record}
 use Rattle.iss_agreement.proofs.CoreOfBook.{facts_history}
-use Rattle.iss_invariants.specs.Sound.{IsNewEvent}
-use Rattle.iss_invariants.proofs.Legal.{legal_induction}
-use Rattle.iss_docket.proofs.Lists.{inside}
-use Rattle.iss_pending.specs.Pending.{HasTakenUp, IsWell}
-use Rattle.iss_pending.proofs.Legal.{nothing_well}
-use Rattle.iss_pending.proofs.Steps.{ready_settled, ready_taken, step_well}
-use Rattle.iss_holdings.specs.Holdings.{IsHeldWell}
-use Rattle.iss_holdings.proofs.Steps.{HoldsWell, nothing_held, step_held, thing_held}
+use Rattle.iss_state.specs.Sound.{IsNewEvent}
+use Rattle.iss_state.proofs.invariants.Legal.{legal_induction}
+use Rattle.iss_state.proofs.docket.Lists.{inside}
+use Rattle.iss_state.specs.Pending.{HasTakenUp, IsWell}
+use Rattle.iss_state.proofs.calls.Legal.{nothing_well}
+use Rattle.iss_state.proofs.calls.Steps.{ready_settled, ready_taken, step_well}
+use Rattle.iss_state.specs.Holdings.{IsHeldWell}
+use Rattle.iss_state.proofs.held.Steps.{HoldsWell, nothing_held, step_held, thing_held}
 use Rattle.iss_laws.specs.UserBalances.{EachBalanceIsOwn, accounts_named, balances_are_own, has_own_balance, is_own, own_changes, owned_in, pays_itself}
 use Rattle.iss_acts.proofs.Stepping.{GoesThrough, step_leads}
 use Rattle.iss_laws.proofs.OwnInputs.{Agrees, agrees_before, input_same, thing_same}

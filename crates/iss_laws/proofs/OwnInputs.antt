@@ -32,10 +32,10 @@ use Rattle.iss_model.specs.rules.Pieces.{abandoned_calls_entries, declined_ask_e
 use Rattle.iss_model.specs.rules.Reasons.{is_some_with}
 use Rattle.iss_model.specs.rules.Stepping.{entries_of, load_entries}
 use Rattle.iss_model.specs.state.Cores.{CoreState, after_entry, after_setting, core_facts, is_live, txn_after_end}
-use Rattle.iss_docket.proofs.Entering.{same_txn, txn_more}
-use Rattle.iss_pending.specs.Pending.{HasTakenUp}
-use Rattle.iss_pending.proofs.Due.{its_token}
-use Rattle.iss_holdings.specs.Holdings.{IsHeldWell, is_part_of, part_sum}
+use Rattle.iss_state.proofs.docket.Entering.{same_txn, txn_more}
+use Rattle.iss_state.specs.Pending.{HasTakenUp}
+use Rattle.iss_state.proofs.calls.Due.{its_token}
+use Rattle.iss_state.specs.Holdings.{IsHeldWell, is_part_of, part_sum}
 use Rattle.std.proofs.lemmas.List.Sums.{fold-append}
 use Rattle.iss_model.specs.declared.account.Account.{Account}
 use Rattle.iss_acts.specs.Acts.{Abandons, Act, Begins, Clears, Fails, Funds, GivesBack, HoldsOwn, LetsGo, Loads, Refuses, StandsIn, TurnsDown, Uses, act_entries}
@@ -43,13 +43,13 @@ use Rattle.iss_acts.specs.Causes.{Cause, ComesOf, FallsDue}
 use Rattle.iss_acts.specs.Sources.{IsMade, IsStart, IsTxnOf}
 use Rattle.iss_acts.specs.Stages.{Fresh, Seeks, Stage, stage_after}
 use Rattle.iss_acts.proofs.Walk.{Goes, due_goes, from_start, own_goes, txn_of_ask, txn_of_call}
-use Rattle.iss_docket.proofs.Lists.{inside}
-use Rattle.iss_docket.specs.Dockets.{docket_of}
-use Rattle.iss_docket.specs.Well.{IsWellAmong, Known}
-use Rattle.iss_holdings.proofs.Acts.{IsReadyFor, ask_of_gateway, call_of_gateway}
-use Rattle.iss_holdings.proofs.Begun.{begun_stands, first_unnamed}
-use Rattle.iss_holdings.proofs.Changes.{txn_ended}
-use Rattle.iss_holdings.proofs.Inputs.{due_ready, input_ready}
+use Rattle.iss_state.proofs.docket.Lists.{inside}
+use Rattle.iss_state.specs.Dockets.{docket_of}
+use Rattle.iss_state.specs.Well.{IsWellAmong, Known}
+use Rattle.iss_state.proofs.held.Acts.{IsReadyFor, ask_of_gateway, call_of_gateway}
+use Rattle.iss_state.proofs.held.Begun.{begun_stands, first_unnamed}
+use Rattle.iss_state.proofs.held.Changes.{txn_ended}
+use Rattle.iss_state.proofs.held.Inputs.{due_ready, input_ready}
 use Rattle.iss_laws.proofs.OwnPieces.{Adds, AddsSame, AreOfFunding, amount_where, back_to_gateway, back_to_programme, both_add, both_same, calm_adds, calm_same, clearing_same, comes_same, either_same, from_gateway, from_network, from_programme, more_held, moves_nothing, none_same, release_same, within_funding}
 
 -- the funding of transactions ----

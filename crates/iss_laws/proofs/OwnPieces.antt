@@ -16,7 +16,7 @@ use Rattle.iss_model.specs.rules.Asks.{usage_of}
 use Rattle.iss_model.specs.rules.CardEntries.{clearing_money_entries}
 use Rattle.iss_model.specs.rules.CardReasons.{is_account_funded}
 use Rattle.iss_model.specs.rules.Pieces.{Parts, hold_entries, in_all, only_where, post_entries, release_entries, taken_to_clear, taken_to_release, unhold_entries, user_account}
-use Rattle.iss_effects.proofs.Finds.{number_is}
+use Rattle.iss_state.proofs.effects.Finds.{number_is}
 use Rattle.iss_laws.specs.UserBalances.{own_changes}
 use Rattle.iss_acts.specs.Sources.{AreWithin}
 use Rattle.iss_laws.proofs.Rows.{among_summed, sum_among}

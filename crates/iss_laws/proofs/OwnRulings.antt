@@ -36,10 +36,10 @@ use Rattle.iss_model.proofs.Names.{one_name, same_name}
 use Rattle.iss_acts.specs.Acts.{Act, Acknowledges, Asks, Begins, Clears, Declines, Does, Ends, Funds, GivesBack, HoldsOwn, LetsGo, Loads, Refuses, Sets, Uses, acts_of, acts_unless, authorization_acts, clearing_acts, funding_acts, gateway_acts, increment_acts, outcome_acts, refund_acts, reversal_acts, stand_acts}
 use Rattle.iss_acts.proofs.Made.{input_made}
 use Rattle.iss_agreement.proofs.CoreOfBook.{core_shows}
-use Rattle.iss_effects.proofs.Finds.{found_passes, same_number}
-use Rattle.iss_docket.proofs.Closing.{StandsItself, its_number}
-use Rattle.iss_docket.proofs.Lists.{Each, both_so}
-use Rattle.iss_pending.proofs.Due.{its_token}
+use Rattle.iss_state.proofs.effects.Finds.{found_passes, same_number}
+use Rattle.iss_state.proofs.docket.Closing.{StandsItself, its_number}
+use Rattle.iss_state.proofs.docket.Lists.{Each, both_so}
+use Rattle.iss_state.proofs.calls.Due.{its_token}
 use Rattle.iss_laws.specs.Rulings.{Ruling, decided_as, asked_about, abandoned_by, abandonment_reason, ask_rulings, done_unless, funding_ruling, is_answer, only_if, own_rulings, verdict_of_sets}
 use Rattle.iss_laws.proofs.Ruled.{Rules, alone_rules}
 use Rattle.iss_laws.proofs.ClosedCalls.{IsAbandoned, RulesRow, abandons_first, asked_closed, both_acts, declined_alone, either_acts, ends_acts, failed_rules, first_act, for_gateway, funded_alone, last_act, no_act, only_act, stand_alone, still_abandoned}

@@ -29,10 +29,10 @@ use Rattle.iss_acts.specs.Sources.{IsAskedCall, IsFrom}
 use Rattle.iss_acts.specs.Stages.{Stage}
 use Rattle.iss_acts.proofs.Passing.{hold_passes}
 use Rattle.iss_acts.proofs.Walk.{Holds, due_holds, of_asked, own_holds}
-use Rattle.iss_effects.proofs.Finds.{same_number}
-use Rattle.iss_docket.proofs.Closing.{its_number}
-use Rattle.iss_docket.proofs.Lists.{both_so, inside}
-use Rattle.iss_pending.proofs.Due.{its_token}
+use Rattle.iss_state.proofs.effects.Finds.{same_number}
+use Rattle.iss_state.proofs.docket.Closing.{its_number}
+use Rattle.iss_state.proofs.docket.Lists.{both_so, inside}
+use Rattle.iss_state.proofs.calls.Due.{its_token}
 use Rattle.iss_laws.specs.Pairs.{Pairing, paired, pairing_after, pays, pays_call, unpaired, waits}
 use Rattle.iss_laws.specs.Payable.{ArePayable, CallsStand, IsPayable, StandsAs}
 use Rattle.iss_laws.proofs.CallActs.{calm_act, is_calm}

@@ -13,10 +13,10 @@ use Rattle.iss_model.specs.declared.setting.Moved.TheVariants as moved
 use Rattle.iss_model.specs.declared.txn.Txn.{Txn}
 use Rattle.iss_model.specs.rules.Activity.{CallNow, TxnNow, call_numbered}
 use Rattle.iss_model.specs.state.Cores.{CoreState, after_entry, after_setting, call_after_close, is_live, txn_after_end}
-use Rattle.iss_docket.proofs.Closing.{opened_before, same_opened, stands_after}
-use Rattle.iss_docket.proofs.Entering.{call_more, same_txn, txn_more}
-use Rattle.iss_docket.proofs.Lists.{by_either, either_found}
-use Rattle.iss_holdings.proofs.Changes.{txn_ended}
+use Rattle.iss_state.proofs.docket.Closing.{opened_before, same_opened, stands_after}
+use Rattle.iss_state.proofs.docket.Entering.{call_more, same_txn, txn_more}
+use Rattle.iss_state.proofs.docket.Lists.{by_either, either_found}
+use Rattle.iss_state.proofs.held.Changes.{txn_ended}
 use Rattle.iss_laws.specs.Payable.{ArePayable, CallsStand, IsPayable}
 use Rattle.iss_laws.specs.CallEntries.{opens_none}
 

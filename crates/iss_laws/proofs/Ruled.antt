@@ -11,8 +11,8 @@ use Rattle.iss_model.specs.declared.entry.Entry.TheVariants as entry
 use Rattle.iss_model.specs.declared.entry.Row.{Row}
 use Rattle.iss_model.specs.declared.input.Record.{Record}
 use Rattle.iss_model.specs.rules.Histories.{History, history_facts, numbered_rows}
-use Rattle.iss_docket.specs.Dockets.{is_docketed}
-use Rattle.iss_docket.proofs.Docketed.{AreSilent}
+use Rattle.iss_state.specs.Dockets.{is_docketed}
+use Rattle.iss_state.proofs.docket.Docketed.{AreSilent}
 use Rattle.iss_laws.specs.Rulings.{Ruling, closing_ruling, closing_rulings, ruling_of, rulings_of, with_entries}
 
 -- entries one after the other ----

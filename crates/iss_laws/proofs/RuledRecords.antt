@@ -16,7 +16,7 @@ use Rattle.iss_model.proofs.Lists.{all_weaker}
 use Rattle.iss_agreement.proofs.BookAndState.{history_good}
 use Rattle.iss_agreement.proofs.Records.{records_history, step_records}
 use Rattle.iss_agreement.proofs.Standing.{bounds_of, is_row_standing, is_standing}
-use Rattle.iss_effects.proofs.Finds.{same_number}
+use Rattle.iss_state.proofs.effects.Finds.{same_number}
 use Rattle.iss_laws.specs.Rulings.{Ruling, rulings_due, rulings_of}
 use Rattle.iss_laws.proofs.Ruled.{rulings_append}
 use Rattle.iss_laws.proofs.Rows.{step_grows}

@@ -17,17 +17,17 @@ use Rattle.iss_agreement.proofs.CoreOfBook.{core_history, core_shows, judge_hist
 use Rattle.iss_agreement.proofs.Fitting.{IsGood}
 use Rattle.iss_agreement.proofs.Keepers.{after_due-shown}
 use Rattle.iss_agreement.proofs.Standing.{Fit}
-use Rattle.iss_invariants.specs.Sound.{IsNewEvent}
-use Rattle.iss_invariants.proofs.NewEvents.{judged_new}
-use Rattle.iss_docket.specs.Dockets.{docket_of}
-use Rattle.iss_docket.specs.Well.{IsWellAmong, Known}
-use Rattle.iss_docket.proofs.Lists.{inside, not_both}
-use Rattle.iss_pending.specs.Pending.{HasTakenUp, IsWell}
-use Rattle.iss_pending.proofs.CallsAfterDue.{closed_stays_closed, unknown_stays}
-use Rattle.iss_pending.proofs.DueHits.{after_due_fate}
-use Rattle.iss_pending.proofs.Fates.{Fate}
-use Rattle.iss_pending.proofs.Legal.{core_well}
-use Rattle.iss_pending.proofs.Steps.{ready_taken}
+use Rattle.iss_state.specs.Sound.{IsNewEvent}
+use Rattle.iss_state.proofs.invariants.NewEvents.{judged_new}
+use Rattle.iss_state.specs.Dockets.{docket_of}
+use Rattle.iss_state.specs.Well.{IsWellAmong, Known}
+use Rattle.iss_state.proofs.docket.Lists.{inside, not_both}
+use Rattle.iss_state.specs.Pending.{HasTakenUp, IsWell}
+use Rattle.iss_state.proofs.calls.CallsAfterDue.{closed_stays_closed, unknown_stays}
+use Rattle.iss_state.proofs.calls.DueHits.{after_due_fate}
+use Rattle.iss_state.proofs.calls.Fates.{Fate}
+use Rattle.iss_state.proofs.calls.Legal.{core_well}
+use Rattle.iss_state.proofs.calls.Steps.{ready_taken}
 use Rattle.iss_laws.specs.Rulings.{Ruling, begun_in, closing_rulings, own_rulings, rulings_due, rulings_of, with_entries}
 use Rattle.iss_laws.proofs.Ruled.{Rules, rules_then}
 use Rattle.iss_laws.proofs.ClosedCalls.{begun_stays, its_beginning}

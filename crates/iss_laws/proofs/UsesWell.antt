@@ -24,15 +24,15 @@ use Rattle.iss_model.specs.rules.Histories.{History, IsLegal, IsLegalAfter, hist
 use Rattle.iss_model.specs.rules.Stepping.{entries_of, step}
 use Rattle.iss_model.specs.state.Cores.{CoreState, after_entry, core_facts, core_keeper, core_of, no_core, with_record}
 use Rattle.iss_agreement.proofs.CoreOfBook.{core_step, facts_history, judge_history}
-use Rattle.iss_invariants.specs.Sound.{IsNewEvent}
-use Rattle.iss_invariants.proofs.NewEvents.{judged_new}
-use Rattle.iss_pending.specs.Pending.{HasTakenUp, IsWell}
-use Rattle.iss_pending.proofs.Legal.{nothing_well}
-use Rattle.iss_pending.proofs.Steps.{ready_settled, ready_taken, step_well}
-use Rattle.iss_holdings.specs.Holdings.{AllKeepHeld, BegunBy, IsHeldWell}
-use Rattle.iss_holdings.proofs.Inputs.{own_keeps, thing_keeps}
-use Rattle.iss_holdings.proofs.Steps.{HoldsWell, nothing_held, step_held, thing_held}
-use Rattle.iss_holdings.proofs.Times.{entries_begun, entries_now}
+use Rattle.iss_state.specs.Sound.{IsNewEvent}
+use Rattle.iss_state.proofs.invariants.NewEvents.{judged_new}
+use Rattle.iss_state.specs.Pending.{HasTakenUp, IsWell}
+use Rattle.iss_state.proofs.calls.Legal.{nothing_well}
+use Rattle.iss_state.proofs.calls.Steps.{ready_settled, ready_taken, step_well}
+use Rattle.iss_state.specs.Holdings.{AllKeepHeld, BegunBy, IsHeldWell}
+use Rattle.iss_state.proofs.held.Inputs.{own_keeps, thing_keeps}
+use Rattle.iss_state.proofs.held.Steps.{HoldsWell, nothing_held, step_held, thing_held}
+use Rattle.iss_state.proofs.held.Times.{entries_begun, entries_now}
 use Rattle.iss_acts.proofs.Stepping.{GoesThrough, step_leads}
 use Rattle.iss_model.proofs.Names.{one_name}
 use Rattle.iss_laws.specs.Uses.{counts_txn_well, counts_well, has_counted_well, is_use, use_is_not_negative, used_of}

@@ -2,16 +2,16 @@
 use Rattle.std.specs.Prelude.{◌≡◌, Bool, true, List, [], ◌∷◌, map}
 use Rattle.std.specs.List.{list_all}
 use Rattle.iss_model.specs.rules.Histories.{History, nothing_yet}
-use Rattle.iss_scripts.specs.Scripts.{Script, history_after}
-use Rattle.iss_scripts.specs.WorkedPurchases.{repeated_purchase, raised_reversed_cleared, refunded_once, after_expiry, cleared_after_expiry, states_of_a_card, loads_in_three_currencies}
-use Rattle.iss_scripts.specs.WorkedControls.{limit_of_a_day, limit_of_a_transaction}
-use Rattle.iss_scripts.specs.WorkedCalls.{funded_by_the_gateway, refused_by_the_gateway, open_call, answer_too_late, reversed_while_pending, cleared_in_parts, cleared_for_less}
-use Rattle.iss_scripts.specs.WorkedStandIns.{stand_in, gateway_switched_off}
-use Rattle.iss_scripts.specs.WorkedDay.{a_day}
-use Rattle.iss_scripts.specs.WorkedDue.{clearing_of_a_pending_purchase, two_timeouts_and_an_expiry, expired_call, raised_by_the_gateway}
-use Rattle.iss_scripts.specs.WorkedSettings.{use_given_back}
+use Rattle.iss_book_examples.specs.Scripts.{Script, history_after}
+use Rattle.iss_book_examples.specs.WorkedPurchases.{repeated_purchase, raised_reversed_cleared, refunded_once, after_expiry, cleared_after_expiry, states_of_a_card, loads_in_three_currencies}
+use Rattle.iss_book_examples.specs.WorkedControls.{limit_of_a_day, limit_of_a_transaction}
+use Rattle.iss_book_examples.specs.WorkedCalls.{funded_by_the_gateway, refused_by_the_gateway, open_call, answer_too_late, reversed_while_pending, cleared_in_parts, cleared_for_less}
+use Rattle.iss_book_examples.specs.WorkedStandIns.{stand_in, gateway_switched_off}
+use Rattle.iss_book_examples.specs.WorkedDay.{a_day}
+use Rattle.iss_book_examples.specs.WorkedDue.{clearing_of_a_pending_purchase, two_timeouts_and_an_expiry, expired_call, raised_by_the_gateway}
+use Rattle.iss_book_examples.specs.WorkedSettings.{use_given_back}
 use Rattle.iss_laws.specs.Decisions.{made_in, wanted_in}
-use Rattle.iss_scripts.specs.WorkedRefunds.{refund_of_a_stand_in, partly_released_stand_in}
+use Rattle.iss_book_examples.specs.WorkedRefunds.{refund_of_a_stand_in, partly_released_stand_in}
 
 -- scripts of every kind
 abbrev pub scripts : List Script

@@ -2,7 +2,7 @@
 ghost use Rattle.std.specs.Prelude.{◌≡◌, true, List};
 ghost use Rattle.iss_model.specs.declared.input.Record.{Record};
 ghost use Rattle.iss_model.specs.rules.Histories.{history_of, IsLegal};
-ghost use Rattle.iss_invariants.specs.Sound.{AreInForm};
+ghost use Rattle.iss_state.specs.Sound.{AreInForm};
 ghost use Rattle.iss_laws.specs.Calls.{each_call_once, each_stands_once};
 
 /// On the book of every legal list of records each call to the gateway is opened once and closed at most once; it has one notice of the

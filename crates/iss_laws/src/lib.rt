@@ -1,7 +1,7 @@
 //! The laws of the book: what holds of it whatever inputs were taken.
 //! Below them are laws of a step: how the calls to the gateway are paid, and what each record decides.
 //!
-//! It may cite `iss_model`, `iss_acts` and the crates of laws over them, and `iss_scripts` for the books on which laws are computed.
+//! It may cite `iss_model`, `iss_acts` and the crates of laws over them, and `iss_book_examples` for the books on which laws are computed.
 //! It must not cite any body of the program.
 #![tactic(auto)]
 

@@ -10,8 +10,8 @@ use Rattle.iss_model.specs.rules.Reasons.{is_some_with}
 use Rattle.iss_http.specs.Answers.{Reading, more, ended, garbled, whole, answer_read}
 use Rattle.iss_http.proofs.Endings.{is_more, is_ended, no_more_once_over, no_end_before}
 use Rattle.iss_jit.specs.Outcomes.{outcome_of, is_funding, json_of}
-use Rattle.iss_serving.specs.Desks.{Subject, of_call, of_notice}
-use Rattle.iss_serving.specs.Links.{Heard, unfinished, outcome, acknowledged, dropped, reading_early, heard_as}
+use Rattle.iss_session.specs.Desks.{Subject, of_call, of_notice}
+use Rattle.iss_session.specs.Links.{Heard, unfinished, outcome, acknowledged, dropped, reading_early, heard_as}
 use Rattle.iss_link.specs.Causes.{UnfinishedOnlyAt, ConnectionOnlyAt, ApplicationExactly, RefusedExactly, AcknowledgedExactly, DroppedExactly}
 
 either : {A B C : Type 0} → (A → C) → (B → C) → A ⊎ B → C

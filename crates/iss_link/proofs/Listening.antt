@@ -28,10 +28,10 @@ use Rattle.iss_http.specs.Heard as came
 use Rattle.iss_http.specs.Heads.{is_empty}
 use Rattle.iss_http.specs.Answers.{Reading, more, ended, garbled, whole, IsReadAs}
 use Rattle.iss_jit.specs.Outcomes.{outcome_of}
-use Rattle.iss_serving.specs.Items.{is_piece}
-use Rattle.iss_serving.specs.Desks.{Subject, of_call, of_notice}
-use Rattle.iss_serving.specs.Links.{Link, Heard, unfinished, outcome, acknowledged, dropped, link_reading, heard_as, piece_of, links_with, links_without, links_after, MayReadEarly}
-use Rattle.iss_serving.specs.Hearings.{link_at}
+use Rattle.iss_session.specs.Items.{is_piece}
+use Rattle.iss_session.specs.Desks.{Subject, of_call, of_notice}
+use Rattle.iss_session.specs.Links.{Link, Heard, unfinished, outcome, acknowledged, dropped, link_reading, heard_as, piece_of, links_with, links_without, links_after, MayReadEarly}
+use Rattle.iss_session.specs.Hearings.{link_at}
 use Rattle.iss_model.specs.declared.call.Opened.{Opened}
 use Rattle.iss_model.specs.declared.input.Outcome.{Outcome}
 use Rattle.iss_link.specs.declared.heard.Heard as rust

@@ -5,8 +5,8 @@ use Rattle.iss_model.specs.declared.call.CallId.{CallId}
 use Rattle.iss_model.specs.declared.input.Outcome.TheVariants.{Refused, Application, Connection}
 use Rattle.iss_http.specs.Answers.{Reading, more, ended, garbled, whole, answer_read}
 use Rattle.iss_jit.specs.Outcomes.{outcome_of}
-use Rattle.iss_serving.specs.Desks.{of_call, of_notice}
-use Rattle.iss_serving.specs.Links.{Link, Heard, unfinished, outcome, acknowledged, dropped, link_reading, heard_as}
+use Rattle.iss_session.specs.Desks.{of_call, of_notice}
+use Rattle.iss_session.specs.Links.{Link, Heard, unfinished, outcome, acknowledged, dropped, link_reading, heard_as}
 
 -- what is heard of a link once a take brought this
 abbrev pub heard_then : ℕ → Link → Option (List ℕ) → Bool → Heard

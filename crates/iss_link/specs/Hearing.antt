@@ -10,10 +10,10 @@ use Rattle.iss_edge.specs.Outer.{Outer, Adds}
 use Rattle.iss_http.specs.declared.answers.Answer.{Answer}
 use Rattle.iss_http.specs.Heard as came
 use Rattle.iss_jit.specs.Outcomes.{outcome_of}
-use Rattle.iss_serving.specs.Items.{is_piece}
-use Rattle.iss_serving.specs.Links.{Link, unfinished, link_reading, heard_as, piece_of, links_with, links_without, links_after, MayReadEarly}
-use Rattle.iss_serving.specs.Links as link
-use Rattle.iss_serving.specs.Hearings.{link_at}
+use Rattle.iss_session.specs.Items.{is_piece}
+use Rattle.iss_session.specs.Links.{Link, unfinished, link_reading, heard_as, piece_of, links_with, links_without, links_after, MayReadEarly}
+use Rattle.iss_session.specs.Links as link
+use Rattle.iss_session.specs.Hearings.{link_at}
 use Rattle.iss_link.specs.declared.heard.Heard.{Heard}
 use Rattle.iss_link.specs.Values.{LinksNow, heard_of}
 

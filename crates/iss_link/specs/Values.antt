@@ -5,11 +5,11 @@ use Rattle.iss_http.specs.declared.answers.Answer.{Answer}
 use Rattle.iss_http.specs.Answers.{IsReadAs}
 use Rattle.iss_http.specs.Heads.{is_empty}
 use Rattle.iss_http.specs.Heard as came
-use Rattle.iss_serving.specs.Desks as desk
-use Rattle.iss_serving.specs.Desks.{Subject, of_call, of_notice}
-use Rattle.iss_serving.specs.Links as link
-use Rattle.iss_serving.specs.Links.{Link}
-use Rattle.iss_serving.specs.Hearings.{link_at}
+use Rattle.iss_session.specs.Desks as desk
+use Rattle.iss_session.specs.Desks.{Subject, of_call, of_notice}
+use Rattle.iss_session.specs.Links as link
+use Rattle.iss_session.specs.Links.{Link}
+use Rattle.iss_session.specs.Hearings.{link_at}
 use Rattle.iss_link.specs.declared.watched.About.{About}
 use Rattle.iss_link.specs.declared.watched.About.TheVariants as about
 use Rattle.iss_link.specs.declared.gone.Gone.{Gone}

@@ -9,9 +9,9 @@ ghost use Rattle.iss_http.specs.Heard.{reading_of};
 ghost use Rattle.iss_jit.specs.Outcomes.{outcome_of};
 ghost use Rattle.iss_model.specs.declared.call.Opened.{Opened};
 ghost use Rattle.iss_model.specs.declared.input.Outcome.{Outcome};
-ghost use Rattle.iss_serving.specs.Desks.{of_call, of_notice};
-ghost use Rattle.iss_serving.specs.Links.{heard_as, outcome};
-ghost use Rattle.iss_serving.specs.Hearings.{link_at};
+ghost use Rattle.iss_session.specs.Desks.{of_call, of_notice};
+ghost use Rattle.iss_session.specs.Links.{heard_as, outcome};
+ghost use Rattle.iss_session.specs.Hearings.{link_at};
 ghost use Rattle.iss_link.specs.Values.{subject_of, heard_of};
 ghost use Rattle.iss_link.specs.Hearing.{Reads, Listens, got_in, channels_after};
 

@@ -2,7 +2,7 @@
 ghost use Rattle.std.specs.Prelude.{◌≡◌, ℕ, ◌≤◌, List};
 ghost use Rattle.iss_edge.specs.declared.outside.Channel.{Channel};
 ghost use Rattle.iss_edge.specs.Stretches.{GoesOn, with_levels};
-ghost use Rattle.iss_serving.specs.Links.{Heard};
+ghost use Rattle.iss_session.specs.Links.{Heard};
 ghost use Rattle.iss_link.specs.Hearing.{closing};
 ghost use Rattle.iss_link.specs.Causes.{UnfinishedOnlyAt, ConnectionOnlyAt, ApplicationExactly, RefusedExactly, AcknowledgedExactly, DroppedExactly};
 

@@ -2,7 +2,7 @@
 //!
 //! What is heard is said by the definitions of serving. An answer may come in any pieces, and many are awaited at once.
 //!
-//! It may cite `iss_edge`, `iss_channels`, `iss_model`, `iss_http`, `iss_jit` and `iss_serving`.
+//! It may cite `iss_edge`, `iss_channels`, `iss_model`, `iss_http`, `iss_jit` and `iss_session`.
 //! It must not cite the store: it knows channels, and not what stands.
 #![tactic(auto)]
 

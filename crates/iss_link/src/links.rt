@@ -2,7 +2,7 @@
 ghost use Rattle.std.specs.Prelude.{◌≡◌, ◌<◌, ◌^◌, ◌++◌, [], map, length, Some, IfOk, OnOk, OnErr, IsSome};
 ghost use Rattle.iss_edge.specs.World.{Later};
 ghost use Rattle.iss_edge.specs.Outer.{outer_of};
-ghost use Rattle.iss_serving.specs.Hearings.{link_at, links_of};
+ghost use Rattle.iss_session.specs.Hearings.{link_at, links_of};
 ghost use Rattle.iss_link.specs.Values.{gone_as, heard_of, state_on};
 ghost use Rattle.iss_link.specs.Hearing.{Listens, channels_after};
 

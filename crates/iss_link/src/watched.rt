@@ -29,7 +29,7 @@ pub(crate) struct Watched {
 }
 
 impl Model for Watched {
-    ghost use Rattle.iss_serving.specs.Links.{Link};
+    ghost use Rattle.iss_session.specs.Links.{Link};
     ghost use Rattle.iss_link.specs.Values.{subject_of, bytes_of, HasBegun};
 
     ghost Value = { Link };

@@ -11,8 +11,8 @@ use Rattle.iss_edge.proofs.Outers.{adds_then}
 use Rattle.iss_edge.proofs.StretchLemmas.{actions_of-append}
 use Rattle.iss_edge.proofs.Tolds.{told_then}
 use Rattle.iss_model.specs.declared.input.Record.{Record}
-use Rattle.iss_serving.specs.Sessions.{count}
-use Rattle.iss_serving.specs.Happenings.{closings, last_steps}
+use Rattle.iss_session.specs.Sessions.{count}
+use Rattle.iss_session.specs.Happenings.{closings, last_steps}
 use Rattle.iss_store.proofs.ServedTexts.{told_unchanged}
 use Rattle.iss_store.specs.Values.{StoreNow}
 use Rattle.iss_serve.specs.Closings.{open_channels}

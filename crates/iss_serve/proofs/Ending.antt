@@ -7,9 +7,9 @@ use Rattle.iss_edge.specs.World.{Told}
 use Rattle.iss_edge.proofs.Tolds.{told_map, told_then, told_self}
 use Rattle.iss_model.specs.declared.input.Record.{Record}
 use Rattle.iss_agreement.proofs.Records.{records_history}
-use Rattle.iss_serving.specs.Desks.{Task}
-use Rattle.iss_serving.specs.Sessions.{Session}
-use Rattle.iss_sessions.specs.Program.{program_readers}
+use Rattle.iss_session.specs.Desks.{Task}
+use Rattle.iss_session.specs.Sessions.{Session}
+use Rattle.iss_session_examples.specs.Program.{program_readers}
 use Rattle.iss_store.specs.Values.{StoreNow}
 use Rattle.iss_store.specs.Standing.{region_under, StandsFor, AreHistory}
 use Rattle.iss_store.specs.Serving.{tasks_pending, tasks_pending_on_book}

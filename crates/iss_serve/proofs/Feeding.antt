@@ -7,8 +7,8 @@ use Rattle.iss_channels.proofs.Changes.{others_same}
 use Rattle.iss_edge.specs.declared.outside.Channel.{Channel}
 use Rattle.iss_http.specs.declared.faults.FeedFault.{FeedFault}
 use Rattle.iss_http.specs.Requests.{request, answered, IsCause}
-use Rattle.iss_serving.specs.Sessions.{Reader}
-use Rattle.iss_serving.specs.Hearings.{is_reading, bytes_on, readers_with, readers_without}
+use Rattle.iss_session.specs.Sessions.{Reader}
+use Rattle.iss_session.specs.Hearings.{is_reading, bytes_on, readers_with, readers_without}
 use Rattle.iss_serve.specs.Clients.{HasRead}
 
 some_reads : (ch : Channel) (clients : List Reader) → is_some (find (λ r. r.ch.0 == ch.0) clients) ≡ is_reading ch clients

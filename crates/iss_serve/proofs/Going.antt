@@ -13,17 +13,17 @@ use Rattle.iss_edge.proofs.StretchLemmas.{sent_weaker}
 use Rattle.iss_journal.specs.Region.{Region}
 use Rattle.iss_model.specs.declared.input.Record.{Record}
 use Rattle.iss_model.specs.run.Runs.{Run}
-use Rattle.iss_serving.specs.Items.{Item, Happening, hears, judges, judging, is_answer_to, answers_of}
-use Rattle.iss_serving.specs.Desks.{Task, to_dial, to_send, to_reply, Desk, Gone, next_for, next_of_tasks, desk_change, FitsDesk}
-use Rattle.iss_serving.specs.Sessions.{Readers, Session, count, next_of}
-use Rattle.iss_serving.specs.Judgements.{judged_first}
-use Rattle.iss_serving.specs.Levels.{AreStillAt}
-use Rattle.iss_serving.specs.Happenings.{session_change, session_after, session_steps, last_steps, Fits, IsNext, IsComplete}
-use Rattle.iss_serving.specs.Sendings.{Sends}
-use Rattle.iss_serving.proofs.Compositions.{after_append, steps_append, fits_append, answers_append}
-use Rattle.iss_serving.proofs.DesksInSessions.{unanswerable, all_heard, answers_all_heard, with_desk, desk_in_session, desk_steps_in_session, desk_fits_session}
-use Rattle.iss_serving.proofs.Runs.{run_item}
-use Rattle.iss_serving.proofs.StillSteps.{steps_still, steps_sent, last_still}
+use Rattle.iss_session.specs.Items.{Item, Happening, hears, judges, judging, is_answer_to, answers_of}
+use Rattle.iss_session.specs.Desks.{Task, to_dial, to_send, to_reply, Desk, Gone, next_for, next_of_tasks, desk_change, FitsDesk}
+use Rattle.iss_session.specs.Sessions.{Readers, Session, count, next_of}
+use Rattle.iss_session.specs.Judgements.{judged_first}
+use Rattle.iss_session.specs.Levels.{AreStillAt}
+use Rattle.iss_session.specs.Happenings.{session_change, session_after, session_steps, last_steps, Fits, IsNext, IsComplete}
+use Rattle.iss_session.specs.Sendings.{Sends}
+use Rattle.iss_session.proofs.Compositions.{after_append, steps_append, fits_append, answers_append}
+use Rattle.iss_session.proofs.DesksInSessions.{unanswerable, all_heard, answers_all_heard, with_desk, desk_in_session, desk_steps_in_session, desk_fits_session}
+use Rattle.iss_session.proofs.Runs.{run_item}
+use Rattle.iss_session.proofs.StillSteps.{steps_still, steps_sent, last_still}
 use Rattle.iss_store.specs.Values.{StoreNow}
 use Rattle.iss_store.specs.Standing.{region_under, StandsFor}
 use Rattle.iss_store.specs.Goings as device

@@ -12,11 +12,11 @@ use Rattle.iss_edge.specs.World.{Told, Faults}
 use Rattle.iss_edge.specs.Channels.{Channels}
 use Rattle.iss_edge.proofs.Outers.{adds_then}
 use Rattle.iss_edge.proofs.Tolds.{told_map, told_then}
-use Rattle.iss_serving.specs.Desks.{to_reply, desk_with, waiters_without}
-use Rattle.iss_serving.specs.Links.{Link}
-use Rattle.iss_serving.specs.Sessions.{Queued}
-use Rattle.iss_serving.specs.Hearings.{is_reading, is_waiting, is_linked, link_at, readers_without, inputs_of}
-use Rattle.iss_serving.specs.Sendings.{Sends}
+use Rattle.iss_session.specs.Desks.{to_reply, desk_with, waiters_without}
+use Rattle.iss_session.specs.Links.{Link}
+use Rattle.iss_session.specs.Sessions.{Queued}
+use Rattle.iss_session.specs.Hearings.{is_reading, is_waiting, is_linked, link_at, readers_without, inputs_of}
+use Rattle.iss_session.specs.Sendings.{Sends}
 use Rattle.iss_link.specs.declared.heard.Heard.{Heard}
 use Rattle.iss_link.specs.Values.{LinksNow, heard_of, state_of, state_on}
 use Rattle.iss_link.specs.declared.heard.LinkState.{LinkState}

@@ -17,11 +17,11 @@ use Rattle.iss_model.specs.rules.Histories.{History, nothing_yet, history_keeper
 use Rattle.iss_model.specs.run.Sayings.{said_by, timed, reaction_to_record}
 use Rattle.iss_model.specs.run.Rooms.{judgement_within}
 use Rattle.iss_agreement.proofs.Records.{records_history, step_records}
-use Rattle.iss_serving.specs.Desks.{Task, Waiter, desk_with}
-use Rattle.iss_serving.specs.Sessions.{Session, Queued, tasks_of}
-use Rattle.iss_serving.specs.Judgements.{answer_tasks, session_with, judged_so, judged_input, judged_first}
-use Rattle.iss_serving.specs.Hearings.{queued_of}
-use Rattle.iss_sessions.specs.Program.{program_readers}
+use Rattle.iss_session.specs.Desks.{Task, Waiter, desk_with}
+use Rattle.iss_session.specs.Sessions.{Session, Queued, tasks_of}
+use Rattle.iss_session.specs.Judgements.{answer_tasks, session_with, judged_so, judged_input, judged_first}
+use Rattle.iss_session.specs.Hearings.{queued_of}
+use Rattle.iss_session_examples.specs.Program.{program_readers}
 use Rattle.iss_link.specs.declared.gone.Gone as link
 use Rattle.iss_link.specs.declared.gone.Gone.TheVariants.{Asked, Noted, Unreached}
 use Rattle.iss_store.specs.declared.fault.PlanFault.TheVariants as plan_fault

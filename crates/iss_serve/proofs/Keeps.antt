@@ -14,12 +14,12 @@ use Rattle.iss_model.specs.declared.input.Record.{Record}
 use Rattle.iss_model.specs.rules.Judging.{judge}
 use Rattle.iss_model.specs.rules.Histories.{history_keeper, history_of}
 use Rattle.iss_model.specs.run.Rooms.{judgement_within}
-use Rattle.iss_serving.specs.Desks.{Task, Waiter, to_reply, desk_with, waiters_without}
-use Rattle.iss_serving.specs.Sendings.{Sends}
+use Rattle.iss_session.specs.Desks.{Task, Waiter, to_reply, desk_with, waiters_without}
+use Rattle.iss_session.specs.Sendings.{Sends}
 use Rattle.iss_http.specs.Messages.{respond}
 use Rattle.iss_model.specs.texts.AnswerLines.{answer_text}
-use Rattle.iss_serving.specs.Sessions.{Queued}
-use Rattle.iss_serving.specs.Judgements.{status_of, answer_tasks}
+use Rattle.iss_session.specs.Sessions.{Queued}
+use Rattle.iss_session.specs.Judgements.{status_of, answer_tasks}
 use Rattle.iss_link.specs.declared.gone.Gone as link
 use Rattle.iss_store.specs.declared.fault.PlanFault.TheVariants as plan_fault
 use Rattle.iss_store.specs.declared.fault.StoreFault.{StoreFault}

@@ -4,8 +4,8 @@ use Rattle.std.specs.Prelude.{IsTrue}
 use Rattle.std.specs.List.{flat_map}
 use Rattle.std.proofs.lemmas.List.{drop_more}
 use Rattle.iss_model.specs.declared.call.CallId.{CallId}
-use Rattle.iss_serving.specs.Links.{Link}
-use Rattle.iss_serving.specs.Hearings.{links_of}
+use Rattle.iss_session.specs.Links.{Link}
+use Rattle.iss_session.specs.Hearings.{links_of}
 use Rattle.iss_link.specs.declared.gone.Gone as link
 use Rattle.iss_link.specs.Values.{gone_as}
 use Rattle.iss_model.specs.Forms.{is_stamp}

@@ -11,10 +11,10 @@ use Rattle.iss_model.specs.declared.input.Outcome.{Outcome}
 use Rattle.iss_model.proofs.Lists.{find_passes}
 use Rattle.iss_http.specs.Answers.{Reading, more, ended, garbled, whole}
 use Rattle.iss_jit.specs.Outcomes.{outcome_of}
-use Rattle.iss_serving.specs.Desks.{Subject, of_call, of_notice}
-use Rattle.iss_serving.specs.Hearings.{links_of}
-use Rattle.iss_serving.specs.Items.{same_channel}
-use Rattle.iss_serving.specs.Links.{Link, Heard, unfinished, outcome, acknowledged, dropped, heard_as, link_reading, piece_of, links_after, links_with, links_without}
+use Rattle.iss_session.specs.Desks.{Subject, of_call, of_notice}
+use Rattle.iss_session.specs.Hearings.{links_of}
+use Rattle.iss_session.specs.Items.{same_channel}
+use Rattle.iss_session.specs.Links.{Link, Heard, unfinished, outcome, acknowledged, dropped, heard_as, link_reading, piece_of, links_after, links_with, links_without}
 use Rattle.iss_link.specs.declared.gone.Gone as link
 use Rattle.iss_link.specs.declared.gone.Gone.TheVariants.{Asked, Noted, Unreached}
 use Rattle.iss_link.specs.Hearing.{Answers}

@@ -9,10 +9,10 @@ use Rattle.iss_http.specs.declared.faults.HttpFault.TheVariants.{Head, HeadLong,
 use Rattle.iss_http.specs.Requests as http
 use Rattle.iss_http.specs.Requests.{request, faulty, HasFault}
 use Rattle.iss_model.specs.declared.input.Input.{Input}
-use Rattle.iss_serving.specs.Desks.{to_reply}
-use Rattle.iss_serving.specs.Sessions.{Session, Reader, with_tasks}
-use Rattle.iss_serving.specs.Hearings.{bytes_on, readers_with, readers_without, request_early, after_request, after_line, fault_response}
-use Rattle.iss_sessions.specs.Program.{program_readers, line_as}
+use Rattle.iss_session.specs.Desks.{to_reply}
+use Rattle.iss_session.specs.Sessions.{Session, Reader, with_tasks}
+use Rattle.iss_session.specs.Hearings.{bytes_on, readers_with, readers_without, request_early, after_request, after_line, fault_response}
+use Rattle.iss_session_examples.specs.Program.{program_readers, line_as}
 use Rattle.iss_serve.specs.declared.requests.Request.{Request}
 use Rattle.iss_serve.specs.declared.requests.Request.TheVariants.{More, Says, Bad}
 use Rattle.iss_serve.specs.Requests.{requested, ReadsOn, SaysLine}

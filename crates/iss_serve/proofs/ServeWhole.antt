@@ -14,18 +14,18 @@ use Rattle.iss_model.specs.declared.input.Record.{Record}
 use Rattle.iss_model.specs.rules.Histories.{History, history_of}
 use Rattle.iss_model.specs.run.Runs.{Run}
 use Rattle.iss_agreement.proofs.Records.{records_history}
-use Rattle.iss_serving.specs.Items.{Happening, answers_of}
-use Rattle.iss_serving.specs.Sessions.{Session, count, session_of}
-use Rattle.iss_serving.specs.Happenings.{last_steps, closings, Fits, IsComplete}
-use Rattle.iss_serving.specs.Accepted.{session_records}
-use Rattle.iss_serving.specs.Turns.{waits_in}
-use Rattle.iss_serving.specs.Serving.{channel_actions, ServesPart, ServesAll}
-use Rattle.iss_serving.proofs.ServingLaws.{serves_part_sent, serves_all_sent}
-use Rattle.iss_serving.proofs.JudgedLines.{records_of_session}
-use Rattle.iss_serving.proofs.Closings.{run_closed, run_client_closed}
-use Rattle.iss_serving.proofs.Waits.{waits_within}
-use Rattle.iss_sessions.specs.Program.{program_readers}
-use Rattle.iss_sessions.proofs.ClientLines.{program_reads_events}
+use Rattle.iss_session.specs.Items.{Happening, answers_of}
+use Rattle.iss_session.specs.Sessions.{Session, count, session_of}
+use Rattle.iss_session.specs.Happenings.{last_steps, closings, Fits, IsComplete}
+use Rattle.iss_session.specs.Accepted.{session_records}
+use Rattle.iss_session.specs.Turns.{waits_in}
+use Rattle.iss_session.specs.Serving.{channel_actions, ServesPart, ServesAll}
+use Rattle.iss_session.proofs.ServingLaws.{serves_part_sent, serves_all_sent}
+use Rattle.iss_session.proofs.JudgedLines.{records_of_session}
+use Rattle.iss_session.proofs.Closings.{run_closed, run_client_closed}
+use Rattle.iss_session.proofs.Waits.{waits_within}
+use Rattle.iss_session_examples.specs.Program.{program_readers}
+use Rattle.iss_session_examples.proofs.ClientLines.{program_reads_events}
 use Rattle.iss_store.specs.Values.{StoreNow}
 use Rattle.iss_store.specs.Standing.{region_under, AreHistory, StandsFor, DeviceStandsFor}
 use Rattle.iss_store.specs.Goings.{channel_steps}

@@ -9,15 +9,15 @@ use Rattle.iss_journal.specs.Region.{Region}
 use Rattle.iss_model.specs.declared.call.CallId.{CallId}
 use Rattle.iss_model.specs.declared.input.Record.{Record}
 use Rattle.iss_agreement.proofs.Records.{records_history}
-use Rattle.iss_serving.specs.Items.{Item, hears}
-use Rattle.iss_serving.specs.Desks.{Desk, Gone, desk_with}
+use Rattle.iss_session.specs.Items.{Item, hears}
+use Rattle.iss_session.specs.Desks.{Desk, Gone, desk_with}
 use Rattle.iss_model.specs.run.Runs.{Run}
-use Rattle.iss_serving.specs.Sessions.{Readers, Session, Queued, count}
-use Rattle.iss_serving.specs.Happenings.{session_change, session_after, session_steps, IsNext}
-use Rattle.iss_serving.proofs.Runs.{run_item}
-use Rattle.iss_serving.specs.Sendings.{Sends}
-use Rattle.iss_serving.proofs.DesksInSessions.{with_desk}
-use Rattle.iss_sessions.specs.Program.{program_readers}
+use Rattle.iss_session.specs.Sessions.{Readers, Session, Queued, count}
+use Rattle.iss_session.specs.Happenings.{session_change, session_after, session_steps, IsNext}
+use Rattle.iss_session.proofs.Runs.{run_item}
+use Rattle.iss_session.specs.Sendings.{Sends}
+use Rattle.iss_session.proofs.DesksInSessions.{with_desk}
+use Rattle.iss_session_examples.specs.Program.{program_readers}
 use Rattle.iss_store.specs.Values.{StoreNow}
 use Rattle.iss_store.specs.Standing.{region_of, region_under, StandsFor}
 use Rattle.iss_store.specs.Goings as device

@@ -10,14 +10,14 @@ use Rattle.iss_http.specs.Requests.{request, IsHopelessRequest}
 use Rattle.iss_model.specs.declared.call.CallId.{CallId}
 use Rattle.iss_model.specs.declared.input.Record.{Record}
 use Rattle.iss_jit.specs.Outcomes.{outcome_of}
-use Rattle.iss_serving.specs.Items.{Item, Next, takes, is_piece, is_answer_to, IsTornEmit}
-use Rattle.iss_serving.specs.Desks.{to_reply, desk_with, waiters_without}
-use Rattle.iss_serving.specs.Links.{Link, Heard, unfinished, outcome, acknowledged, dropped, link_reading, heard_as, piece_of, links_after, MayReadEarly}
-use Rattle.iss_serving.specs.Sessions.{Session, Reader, Queued, next_of, next_idle}
-use Rattle.iss_serving.specs.Hearings.{Change, change_to, is_reading, is_waiting, bytes_on, link_at, readers_without, after_reading, after_waiting, after_link, after_answer, after_take, inputs_of, link_steps, request_early, after_request}
-use Rattle.iss_serving.specs.Happenings.{MayAnswerEarly, MayEndEarly, MayBeEarly, IsNext}
-use Rattle.iss_serving.specs.Sendings.{Sends}
-use Rattle.iss_sessions.specs.Program.{program_readers}
+use Rattle.iss_session.specs.Items.{Item, Next, takes, is_piece, is_answer_to, IsTornEmit}
+use Rattle.iss_session.specs.Desks.{to_reply, desk_with, waiters_without}
+use Rattle.iss_session.specs.Links.{Link, Heard, unfinished, outcome, acknowledged, dropped, link_reading, heard_as, piece_of, links_after, MayReadEarly}
+use Rattle.iss_session.specs.Sessions.{Session, Reader, Queued, next_of, next_idle}
+use Rattle.iss_session.specs.Hearings.{Change, change_to, is_reading, is_waiting, bytes_on, link_at, readers_without, after_reading, after_waiting, after_link, after_answer, after_take, inputs_of, link_steps, request_early, after_request}
+use Rattle.iss_session.specs.Happenings.{MayAnswerEarly, MayEndEarly, MayBeEarly, IsNext}
+use Rattle.iss_session.specs.Sendings.{Sends}
+use Rattle.iss_session_examples.specs.Program.{program_readers}
 use Rattle.iss_link.specs.Hearing.{Answers, closing}
 use Rattle.iss_store.specs.Values.{StoreNow}
 use Rattle.iss_serve.specs.declared.requests.Request.{Request}

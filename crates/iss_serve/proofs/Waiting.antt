@@ -15,10 +15,10 @@ use Rattle.iss_model.specs.declared.call.CallId.{CallId}
 use Rattle.iss_model.specs.declared.input.Input.TheVariants as input
 use Rattle.iss_model.specs.declared.input.Record.{Record}
 use Rattle.iss_model.specs.declared.limits.TheConstants.{LAST_STAMP}
-use Rattle.iss_serving.specs.Items.{Item, Next, waits, nothing, is_answer_to, IsTornEmit}
-use Rattle.iss_serving.specs.Sessions.{Session, Queued, Reader, unasked, wait_while, next_idle, next_of}
-use Rattle.iss_serving.specs.Hearings.{one_less, after_arrival}
-use Rattle.iss_serving.specs.Happenings.{IsNext}
+use Rattle.iss_session.specs.Items.{Item, Next, waits, nothing, is_answer_to, IsTornEmit}
+use Rattle.iss_session.specs.Sessions.{Session, Queued, Reader, unasked, wait_while, next_idle, next_of}
+use Rattle.iss_session.specs.Hearings.{one_less, after_arrival}
+use Rattle.iss_session.specs.Happenings.{IsNext}
 use Rattle.iss_store.specs.Values.{StoreNow}
 use Rattle.iss_serve.specs.Held.{HeldNow, Stage, idle, to_judge, arrived, answers_unreached, session_at}
 use Rattle.iss_serve.specs.Runs.{ServesOn, ServesSome}

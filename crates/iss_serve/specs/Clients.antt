@@ -2,7 +2,7 @@
 use Rattle.std.specs.Prelude.{◌≡◌, ℕ, List, ◌++◌, Option, option_map, Result, IfOk, IfErr, IfNone}
 use Rattle.iss_http.specs.declared.faults.FeedFault.{FeedFault}
 use Rattle.iss_http.specs.Requests.{request, answered, IsCause}
-use Rattle.iss_serving.specs.Sessions.{Reader}
+use Rattle.iss_session.specs.Sessions.{Reader}
 
 -- A client had some bytes, and told its request's body once that is whole, or why it is none; while it isn't whole the bytes are kept.
 pub record HasRead {V : Type 0} (text_of : V → List ℕ) (before : Reader) (piece : List ℕ) (told : Result (Option V) FeedFault) (after : Reader) : Type 0 where

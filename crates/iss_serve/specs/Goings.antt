@@ -7,9 +7,9 @@ use Rattle.iss_edge.specs.Outer.{Outer}
 use Rattle.iss_edge.specs.Stretches.{Step}
 use Rattle.iss_journal.specs.Region.{Region}
 use Rattle.iss_model.specs.declared.input.Record.{Record}
-use Rattle.iss_serving.specs.Items.{Happening, answers_of}
-use Rattle.iss_serving.specs.Sessions.{Readers, Session}
-use Rattle.iss_serving.specs.Happenings.{session_after, session_steps, last_steps, Fits, IsComplete}
+use Rattle.iss_session.specs.Items.{Happening, answers_of}
+use Rattle.iss_session.specs.Sessions.{Readers, Session}
+use Rattle.iss_session.specs.Happenings.{session_after, session_steps, last_steps, Fits, IsComplete}
 use Rattle.iss_store.specs.Goings as device
 
 -- it isn't a wait that failed

@@ -9,10 +9,10 @@ use Rattle.iss_model.specs.declared.input.Outcome.TheVariants.{Connection}
 use Rattle.iss_model.specs.declared.input.Record.{Record}
 use Rattle.iss_model.specs.Forms.{is_in_form, is_stamp}
 use Rattle.iss_model.specs.rules.Histories.{history_of}
-use Rattle.iss_serving.specs.Desks.{Subject, of_call, of_notice, Task, Waiter, desk_with}
-use Rattle.iss_serving.specs.Links.{Link, Heard, outcome, acknowledged}
-use Rattle.iss_serving.specs.Sessions.{Session, Queued, Reader, unasked}
-use Rattle.iss_serving.specs.Hearings.{is_reading, is_waiting, is_linked, links_of}
+use Rattle.iss_session.specs.Desks.{Subject, of_call, of_notice, Task, Waiter, desk_with}
+use Rattle.iss_session.specs.Links.{Link, Heard, outcome, acknowledged}
+use Rattle.iss_session.specs.Sessions.{Session, Queued, Reader, unasked}
+use Rattle.iss_session.specs.Hearings.{is_reading, is_waiting, is_linked, links_of}
 use Rattle.iss_link.specs.Values.{LinksNow}
 use Rattle.iss_link.specs.declared.gone.Gone as link
 use Rattle.iss_link.specs.declared.gone.Gone.TheVariants.{Asked, Noted, Unreached}

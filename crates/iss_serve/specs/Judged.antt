@@ -6,8 +6,8 @@ use Rattle.iss_model.specs.Inputs.{event_token}
 use Rattle.iss_model.specs.rules.Histories.{history_keeper, history_of}
 use Rattle.iss_model.specs.rules.Judging.{judge}
 use Rattle.iss_model.specs.run.Rooms.{judgement_within}
-use Rattle.iss_serving.specs.Judgements.{waiters_of}
-use Rattle.iss_serving.specs.Sessions.{Queued}
+use Rattle.iss_session.specs.Judgements.{waiters_of}
+use Rattle.iss_session.specs.Sessions.{Queued}
 use Rattle.iss_store.specs.Values.{StoreNow, Plan, room_of}
 use Rattle.iss_store.specs.Planning.{Plans}
 use Rattle.iss_store.specs.Standing.{StandsFor}

@@ -5,10 +5,10 @@ use Rattle.iss_http.specs.Requests.{request, IsHopelessRequest}
 use Rattle.iss_http.specs.Messages.{respond}
 use Rattle.iss_model.specs.declared.input.Input.{Input}
 use Rattle.iss_model.specs.Forms.{is_in_form}
-use Rattle.iss_serving.specs.Desks.{to_reply}
-use Rattle.iss_serving.specs.Sessions.{Session, Reader, with_tasks, with_queued}
-use Rattle.iss_serving.specs.Hearings.{bytes_on, request_early, after_request}
-use Rattle.iss_sessions.specs.Program.{program_readers}
+use Rattle.iss_session.specs.Desks.{to_reply}
+use Rattle.iss_session.specs.Sessions.{Session, Reader, with_tasks, with_queued}
+use Rattle.iss_session.specs.Hearings.{bytes_on, request_early, after_request}
+use Rattle.iss_session_examples.specs.Program.{program_readers}
 use Rattle.iss_serve.specs.declared.requests.Request.{Request}
 use Rattle.iss_serve.specs.declared.requests.Request.TheVariants.{More, Says, Bad}
 

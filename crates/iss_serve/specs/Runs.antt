@@ -3,8 +3,8 @@ use Rattle.std.specs.Prelude.{◌≡◌, ℕ, List}
 use Rattle.iss_edge.specs.Outer.{Outer}
 use Rattle.iss_model.specs.declared.input.Record.{Record}
 use Rattle.iss_model.specs.rules.Histories.{history_of}
-use Rattle.iss_serving.specs.Sessions.{Session, session_of}
-use Rattle.iss_sessions.specs.Program.{program_readers}
+use Rattle.iss_session.specs.Sessions.{Session, session_of}
+use Rattle.iss_session_examples.specs.Program.{program_readers}
 use Rattle.iss_store.specs.Values.{StoreNow, room_of}
 use Rattle.iss_store.specs.Standing.{StandsFor, AreHistory, region_under}
 use Rattle.iss_serve.specs.Held.{Stage, session_at}

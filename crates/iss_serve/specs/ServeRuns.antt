@@ -8,13 +8,13 @@ use Rattle.iss_edge.specs.Outer.{Outer}
 use Rattle.iss_edge.specs.World.{World, Faults, Later, Rose, sent_on}
 use Rattle.iss_edge.specs.Stretches.{Step, actions_of}
 use Rattle.iss_model.specs.declared.input.Record.{Record}
-use Rattle.iss_serving.specs.Items.{Item, Happening, hears, answers_of}
-use Rattle.iss_serving.specs.Sessions.{Session, session_of}
-use Rattle.iss_serving.specs.Happenings.{session_after, session_steps, last_steps, Fits, IsComplete}
-use Rattle.iss_serving.specs.Accepted.{session_records}
-use Rattle.iss_serving.specs.Openings.{left_open}
-use Rattle.iss_serving.specs.Turns.{waits_in}
-use Rattle.iss_sessions.specs.Program.{program_readers}
+use Rattle.iss_session.specs.Items.{Item, Happening, hears, answers_of}
+use Rattle.iss_session.specs.Sessions.{Session, session_of}
+use Rattle.iss_session.specs.Happenings.{session_after, session_steps, last_steps, Fits, IsComplete}
+use Rattle.iss_session.specs.Accepted.{session_records}
+use Rattle.iss_session.specs.Openings.{left_open}
+use Rattle.iss_session.specs.Turns.{waits_in}
+use Rattle.iss_session_examples.specs.Program.{program_readers}
 use Rattle.iss_store.specs.Standing.{AreHistory, DeviceStandsFor}
 use Rattle.iss_store.specs.Goings.{channel_steps}
 use Rattle.iss_store.specs.Opening.{AreOnDevice, ReadsAlone}

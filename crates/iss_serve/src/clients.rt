@@ -1,7 +1,7 @@
 //! Clients whose requests aren't whole yet.
 ghost use Rattle.std.specs.Prelude.{◌≡◌, [], ◌∷◌, ◌++◌, true, map, option_map, IfOk, IfErr, IfNone, OnOk};
 ghost use Rattle.iss_http.specs.Requests.{request, answered, IsCause};
-ghost use Rattle.iss_serving.specs.Hearings.{is_reading, bytes_on, readers_with, readers_without};
+ghost use Rattle.iss_session.specs.Hearings.{is_reading, bytes_on, readers_with, readers_without};
 
 use iss_channels::{ByChannel, OnChannel, Receives};
 use iss_edge::Channel;
@@ -17,7 +17,7 @@ pub(crate) struct Client {
 }
 
 impl Model for Client {
-    ghost use Rattle.iss_serving.specs.Sessions as session;
+    ghost use Rattle.iss_session.specs.Sessions as session;
 
     ghost Value = { session.Reader };
 
@@ -53,7 +53,7 @@ pub(crate) struct Clients {
 impl Model for Clients {
     ghost use Rattle.std.specs.Prelude.{List};
     ghost use Rattle.iss_channels.specs.Placed.{things_of};
-    ghost use Rattle.iss_serving.specs.Sessions as session;
+    ghost use Rattle.iss_session.specs.Sessions as session;
 
     ghost Value = { List session.Reader };
 

@@ -2,8 +2,8 @@
 ghost use Rattle.std.specs.Prelude.{◌≡◌, ◌<◌, ◌∷◌, List, [], true, IfOk, IfErr, OnErr, OnOk};
 ghost use Rattle.iss_edge.specs.World.{Told, Later};
 ghost use Rattle.iss_edge.specs.Outer.{outer_of};
-ghost use Rattle.iss_serving.specs.Judgements.{answer_tasks};
-ghost use Rattle.iss_serving.specs.Sessions as session;
+ghost use Rattle.iss_session.specs.Judgements.{answer_tasks};
+ghost use Rattle.iss_session.specs.Sessions as session;
 ghost use Rattle.iss_store.specs.Planning.{IsPlanOf};
 ghost use Rattle.iss_store.specs.Saying.{IsDurableOf};
 ghost use Rattle.iss_store.specs.Serving.{tasks_of_record};

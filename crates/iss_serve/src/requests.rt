@@ -2,8 +2,8 @@
 ghost use Rattle.std.specs.Prelude.{◌≡◌, true, IfOk};
 ghost use Rattle.iss_event.specs.declared.line.Mode.TheVariants.{Client};
 ghost use Rattle.iss_event.specs.Readings.{line_read};
-ghost use Rattle.iss_serving.specs.Hearings.{is_reading};
-ghost use Rattle.iss_sessions.specs.Program.{line_as};
+ghost use Rattle.iss_session.specs.Hearings.{is_reading};
+ghost use Rattle.iss_session_examples.specs.Program.{line_as};
 ghost use Rattle.iss_serve.specs.Requests.{ReadsOn, SaysLine, IsRequestInForm};
 
 use crate::clients::Clients;

@@ -3,7 +3,7 @@ ghost use Rattle.std.specs.Prelude.{◌≡◌, IfOk};
 ghost use Rattle.iss_event.specs.FormLines.{form_text};
 ghost use Rattle.iss_http.specs.Messages.{respond, IsStatus};
 ghost use Rattle.iss_model.specs.texts.AnswerLines.{http_fault_line};
-ghost use Rattle.iss_serving.specs.Hearings.{fault_status, fault_text, fault_response};
+ghost use Rattle.iss_session.specs.Hearings.{fault_status, fault_text, fault_response};
 
 use iss_event::{FormFault, form_line};
 use iss_http::{HttpFault, respond};

@@ -5,7 +5,7 @@ use Rattle.iss_model.specs.rules.Due.{DueItem, due_items, thing_entries}
 use Rattle.iss_model.specs.rules.Keeper.{Growth}
 use Rattle.iss_model.specs.rules.Stepping.{settle, step, own_entries}
 use Rattle.iss_model.specs.state.Cores.{CoreState, with_record, core_facts, core_keeper}
-use Rattle.iss_invariants.proofs.Kept.{entries_count}
+use Rattle.iss_state.proofs.invariants.Kept.{entries_count}
 
 due_count : (at : ℕ) (items : List DueItem) (g : Growth CoreState) → (fold (settle core_keeper at) g items).world.count ≡ g.world.count
 due_count at [] g = refl

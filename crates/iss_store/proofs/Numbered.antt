@@ -42,8 +42,8 @@ use Rattle.iss_model.specs.rules.Settings.{is_named_in, product_named}
 use Rattle.iss_model.specs.rules.StandIns.{Stand, allowed, over_limit, stand, uncovered}
 use Rattle.iss_model.specs.rules.Stepping.{after_due, authorization_ask, entries_of, increment_ask, load_entries, setting_entries, settle, step, unless_declined}
 use Rattle.iss_model.specs.state.Cores.{CoreState, after_entry, after_setting, call_after_close, core_facts, core_keeper, core_of, no_core, with_record}
-use Rattle.iss_invariants.proofs.Passing.{EachPasses, PassesMoves, both_pass, clearing_money_passes, declined_ask_passes, either_passes, funded_ask_passes, gateway_passes, hold_passes, one_passes, passing, post_passes, release_passes, where_passes}
-use Rattle.iss_invariants.proofs.Walk.{EachKind, walk}
+use Rattle.iss_state.proofs.invariants.Passing.{EachPasses, PassesMoves, both_pass, clearing_money_passes, declined_ask_passes, either_passes, funded_ask_passes, gateway_passes, hold_passes, one_passes, passing, post_passes, release_passes, where_passes}
+use Rattle.iss_state.proofs.invariants.Walk.{EachKind, walk}
 use Rattle.iss_core.specs.Views.{asked_openings}
 use Rattle.iss_link.specs.declared.gone.Gone as link
 use Rattle.iss_store.specs.Numbers.{AreNumbered, IsNumbered, is_from_one, is_numbered}

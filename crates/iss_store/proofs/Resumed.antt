@@ -11,10 +11,10 @@ use Rattle.iss_model.specs.declared.call.Notice.{Notice}
 use Rattle.iss_model.specs.rules.Activity.{CallNow, is_asked}
 use Rattle.iss_model.specs.state.Cores.{core_facts}
 use Rattle.iss_model.specs.run.Sayings.{Said, asked, noticed}
-use Rattle.iss_serving.specs.Items.{Item}
-use Rattle.iss_serving.specs.Desks.{Task, to_dial, to_send, to_reply, Waiter, Desk, desk_with, task_change, desk_change_by, desk_change, desk_after, Gone}
-use Rattle.iss_serving.specs.Sendings.{Sends}
-use Rattle.iss_serving.specs.Sessions.{tasks_of}
+use Rattle.iss_session.specs.Items.{Item}
+use Rattle.iss_session.specs.Desks.{Task, to_dial, to_send, to_reply, Waiter, Desk, desk_with, task_change, desk_change_by, desk_change, desk_after, Gone}
+use Rattle.iss_session.specs.Sendings.{Sends}
+use Rattle.iss_session.specs.Sessions.{tasks_of}
 use Rattle.iss_store.specs.Values.{StoreNow}
 use Rattle.iss_store.specs.Serving.{tasks_pending, waiters_after, SendsOn}
 use Rattle.iss_store.proofs.ServedTexts.{whole_desk}

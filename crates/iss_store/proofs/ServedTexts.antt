@@ -23,10 +23,10 @@ use Rattle.iss_model.specs.rules.Facts.{Facts}
 use Rattle.iss_model.specs.state.Cores.{core_facts}
 use Rattle.iss_model.specs.run.Sayings.{said_by, timed, asked, noticed}
 use Rattle.iss_model.specs.run.Runs.{said_first}
-use Rattle.iss_serving.specs.Desks.{Subject, Task, to_dial, to_reply, Waiter, waiters_without, desk_with, Gone}
-use Rattle.iss_serving.specs.Sendings.{Sends, gone_on}
-use Rattle.iss_serving.specs.Sessions.{tasks_of}
-use Rattle.iss_serving.proofs.SendingLaws.{sends_nothing, sends_then}
+use Rattle.iss_session.specs.Desks.{Subject, Task, to_dial, to_reply, Waiter, waiters_without, desk_with, Gone}
+use Rattle.iss_session.specs.Sendings.{Sends, gone_on}
+use Rattle.iss_session.specs.Sessions.{tasks_of}
+use Rattle.iss_session.proofs.SendingLaws.{sends_nothing, sends_then}
 use Rattle.iss_link.specs.declared.gone.Gone as link
 use Rattle.iss_link.specs.declared.gone.Gone.TheVariants.{Asked, Noted, Unreached}
 use Rattle.iss_link.specs.Values.{gone_as}

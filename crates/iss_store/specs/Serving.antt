@@ -10,9 +10,9 @@ use Rattle.iss_model.specs.run.Sayings.{said_by}
 use Rattle.iss_model.specs.run.Runs.{said_first}
 use Rattle.iss_model.specs.rules.Histories.{history_facts, history_of}
 use Rattle.iss_model.specs.state.Cores.{core_facts}
-use Rattle.iss_serving.specs.Desks.{Task, Waiter, waiters_without, Desk, desk_with, Gone}
-use Rattle.iss_serving.specs.Sendings.{Sends}
-use Rattle.iss_serving.specs.Sessions.{tasks_of}
+use Rattle.iss_session.specs.Desks.{Task, Waiter, waiters_without, Desk, desk_with, Gone}
+use Rattle.iss_session.specs.Sendings.{Sends}
+use Rattle.iss_session.specs.Sessions.{tasks_of}
 use Rattle.iss_link.specs.declared.gone.Gone as link
 use Rattle.iss_link.specs.declared.gone.Gone.TheVariants.{Asked, Noted, Unreached}
 use Rattle.iss_link.specs.Values.{gone_as}

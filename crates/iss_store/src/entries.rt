@@ -9,7 +9,7 @@ ghost use Rattle.iss_model.specs.texts.Wordings.{reply_line};
 ghost use Rattle.iss_http.specs.Messages.{respond};
 ghost use Rattle.iss_link.specs.declared.gone.Gone.{Gone};
 ghost use Rattle.iss_edge.specs.declared.outside.Channel.{Channel};
-ghost use Rattle.iss_serving.specs.Desks.{of_call, of_notice, to_dial, to_reply};
+ghost use Rattle.iss_session.specs.Desks.{of_call, of_notice, to_dial, to_reply};
 ghost use Rattle.iss_store.specs.Saying.{StaysGood};
 ghost use Rattle.iss_store.specs.Numbers.{is_from_one, is_numbered, AreNumbered};
 ghost use Rattle.iss_store.specs.Serving.{NotesSent, SendsSomeOf, SendsOn, CausesGone, tasks_by, all_gone, has_number, HaveNumbers};

@@ -3,14 +3,14 @@ ghost use Rattle.std.specs.Prelude.{◌≡◌, ℕ, List, [], ◌∷◌, Some, N
 ghost use Rattle.iss_edge.specs.World.{Told, Faults, Later, Rose};
 ghost use Rattle.iss_edge.specs.Outer.{outer_of};
 ghost use Rattle.iss_http.specs.Messages.{ask};
-ghost use Rattle.iss_serving.specs.Desks.{Subject, Task, Waiter, to_dial, to_reply, desk_with, waiters_without};
-ghost use Rattle.iss_serving.specs.Sendings.{Sends, gone_on};
+ghost use Rattle.iss_session.specs.Desks.{Subject, Task, Waiter, to_dial, to_reply, desk_with, waiters_without};
+ghost use Rattle.iss_session.specs.Sendings.{Sends, gone_on};
 ghost use Rattle.iss_store.specs.Saying.{StaysGood};
 
 use iss_edge::{Channel, Edge};
 
 /// Dials a channel and sends a text on it. `None` where it doesn't go out whole; a channel that was dialled is closed then.
-#[tactic(auto, using(iss_serving::proofs::ToldSendings::undialled_told, iss_serving::proofs::ToldSendings::sent_told, iss_serving::proofs::ToldSendings::torn_told, crate::proofs::StaysServed::told_sent_stays, crate::proofs::StaysServed::told_undialled_stays, crate::proofs::StaysServed::told_torn_stays, crate::proofs::ServedTexts::torn_link))]
+#[tactic(auto, using(iss_session::proofs::ToldSendings::undialled_told, iss_session::proofs::ToldSendings::sent_told, iss_session::proofs::ToldSendings::torn_told, crate::proofs::StaysServed::told_sent_stays, crate::proofs::StaysServed::told_undialled_stays, crate::proofs::StaysServed::told_torn_stays, crate::proofs::ServedTexts::torn_link))]
 pub(crate) fn send<E: Edge>(edge: &mut E, bytes: &[u8]) -> Option<Channel>
     ensures sends { (level : ℕ) → (subject : Subject) → (text : List ℕ) → (tasks : List Task) → (waiting : List Waiter) → bytes.now ≡ ask text
         → Told (Sends level (desk_with (to_dial subject text ∷ tasks) waiting) (desk_with tasks waiting) (gone_on subject result))
@@ -31,7 +31,7 @@ pub(crate) fn send<E: Edge>(edge: &mut E, bytes: &[u8]) -> Option<Channel>
 }
 
 /// Sends a client its response, and closes its channel.
-#[tactic(auto, using(iss_serving::proofs::ToldSendings::replied_told, iss_serving::proofs::ToldSendings::torn_reply_told, crate::proofs::StaysServed::told_replied_stays, crate::proofs::StaysServed::told_torn_reply_stays))]
+#[tactic(auto, using(iss_session::proofs::ToldSendings::replied_told, iss_session::proofs::ToldSendings::torn_reply_told, crate::proofs::StaysServed::told_replied_stays, crate::proofs::StaysServed::told_torn_reply_stays))]
 pub fn reply<E: Edge>(edge: &mut E, ch: Channel, text: &[u8])
     ensures sends { (level : ℕ) → (tasks : List Task) → (waiting : List Waiter)
         → Told (Sends level (desk_with (to_reply ch text.now ∷ tasks) waiting) (desk_with tasks (waiters_without ch waiting)) [])

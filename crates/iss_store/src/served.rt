@@ -1,8 +1,8 @@
 //! Clients that wait until their events are decided.
 ghost use Rattle.std.specs.Prelude.{◌≡◌, [], ◌∷◌, ◌++◌, map, IfOk, OnOk, OnErr, option_map};
-ghost use Rattle.iss_serving.specs.Desks.{waiters_without};
-ghost use Rattle.iss_serving.specs.Hearings.{is_waiting};
-ghost use Rattle.iss_serving.specs.Sessions.{waiter_for};
+ghost use Rattle.iss_session.specs.Desks.{waiters_without};
+ghost use Rattle.iss_session.specs.Hearings.{is_waiting};
+ghost use Rattle.iss_session.specs.Sessions.{waiter_for};
 ghost use Rattle.iss_store.specs.Serving.{waiters_after};
 
 use iss_channels::{ByChannel, OnChannel, Places};
@@ -37,7 +37,7 @@ pub struct Served {
 impl Model for Served {
     ghost use Rattle.std.specs.Prelude.{List, map};
     ghost use Rattle.iss_channels.specs.Placed.{things_of};
-    ghost use Rattle.iss_serving.specs.Desks.{Waiter};
+    ghost use Rattle.iss_session.specs.Desks.{Waiter};
     ghost use Rattle.iss_store.specs.Waiting.{waiter_of, AreKept};
 
     ghost Value = { List Waiter };

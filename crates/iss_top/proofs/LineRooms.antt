@@ -12,7 +12,7 @@ use Rattle.iss_model.specs.rules.Stepping.{own_entries, settle, step}
 use Rattle.iss_model.specs.state.Cores.{CoreState, with_record, core_facts, core_keeper}
 use Rattle.iss_model.specs.run.Sayings.{reaction, reaction_as}
 use Rattle.iss_model.specs.run.Transcripts.{sound, after_line}
-use Rattle.iss_invariants.proofs.Kept.{entries_count}
+use Rattle.iss_state.proofs.invariants.Kept.{entries_count}
 use Rattle.iss_event.specs.declared.line.Mode.TheVariants.{Lines}
 use Rattle.iss_event.specs.declared.line.Line.{Line}
 use Rattle.iss_event.specs.declared.line.FormFault.{FormFault}

@@ -1,7 +1,7 @@
 use Rattle.std.proofs.Common.{◌≡◌, List, ◌∷◌}
 use Rattle.iss_edge.specs.World.{Told, Later}
 use Rattle.iss_edge.specs.Outer.{outer_of}
-use Rattle.iss_serving.specs.Sessions.{Queued}
+use Rattle.iss_session.specs.Sessions.{Queued}
 use Rattle.iss_serve.specs.Held.{now_of, queued_as, to_judge, records_left}
 use Rattle.iss_serve.specs.Judged.{Judges}
 use Rattle.iss_serve.specs.Runs.{ServesOn}

@@ -3,7 +3,7 @@ use Rattle.iss_edge.specs.Outer.{outer_of}
 use Rattle.iss_edge.specs.World.{Told}
 use Rattle.iss_edge.proofs.Tolds.{later_self, later_then}
 use Rattle.iss_model.specs.declared.call.CallId.{CallId}
-use Rattle.iss_serving.specs.Sessions.{Queued}
+use Rattle.iss_session.specs.Sessions.{Queued}
 use Rattle.iss_store.specs.Numbers.{is_from_one}
 use Rattle.iss_serve.specs.Causes.{IsOfDisk}
 use Rattle.iss_serve.specs.Held.{now_of, queued_as, to_judge, answers_unreached}

@@ -1,7 +1,7 @@
 use Rattle.std.proofs.Common.{◌∷◌}
 use Rattle.iss_edge.specs.Outer.{outer_of}
 use Rattle.iss_edge.specs.World.{Told}
-use Rattle.iss_serving.specs.Judgements.{answer_tasks}
+use Rattle.iss_session.specs.Judgements.{answer_tasks}
 use Rattle.iss_serve.specs.Causes.{IsOfDisk}
 use Rattle.iss_serve.specs.Held.{now_of, queued_as, sending, to_judge}
 use Rattle.iss_serve.specs.Runs.{ServesSome}

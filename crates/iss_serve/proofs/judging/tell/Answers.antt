@@ -1,6 +1,6 @@
 use Rattle.iss_edge.specs.Outer.{outer_of}
 use Rattle.iss_edge.specs.World.{Told}
-use Rattle.iss_serving.specs.Judgements.{answer_tasks}
+use Rattle.iss_session.specs.Judgements.{answer_tasks}
 use Rattle.iss_serve.specs.Held.{now_of, sending}
 use Rattle.iss_serve.specs.Runs.{ServesSome}
 use Rattle.iss_serve.proofs.Causings.{anyway}

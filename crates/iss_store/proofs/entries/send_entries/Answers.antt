@@ -2,7 +2,7 @@ use Rattle.std.proofs.Common.{◌<◌, ◌+◌, List, length, drop, subst, arith
 use Rattle.std.specs.List.{flat_map}
 use Rattle.iss_edge.specs.Outer.{outer_of}
 use Rattle.iss_edge.proofs.Tolds.{later_then}
-use Rattle.iss_serving.specs.Desks.{Task}
+use Rattle.iss_session.specs.Desks.{Task}
 use Rattle.iss_store.specs.Serving.{SentUpTo, tasks_by}
 use Rattle.iss_store.proofs.StaysServed.{told_stays_then}
 use Rattle.iss_store.proofs.ServedTexts.{next_tasks, sent_to_next, sent_to_part}

@@ -2,8 +2,8 @@ use Rattle.std.proofs.Common.{◌≡◌, [], ◌∷◌, sym, ap, ◌∙◌, appe
 use Rattle.iss_edge.specs.Outer.{outer_of}
 use Rattle.iss_model.specs.texts.GatewayTexts.{notice_text}
 use Rattle.iss_http.specs.Messages.{ask}
-use Rattle.iss_serving.specs.Desks.{of_notice}
-use Rattle.iss_serving.specs.Sendings.{gone_on}
+use Rattle.iss_session.specs.Desks.{of_notice}
+use Rattle.iss_session.specs.Sendings.{gone_on}
 use Rattle.iss_link.specs.declared.gone.Gone.TheVariants.{Noted}
 use Rattle.iss_store.proofs.ServedTexts.{notes_text, notes_text_if, text_in_part_if, noted_one, none_unreached}
 use Rattle.iss_store.proofs.entries.send_notice.Goals as goal

@@ -2,8 +2,8 @@ use Rattle.std.proofs.Common.{◌≡◌, [], ◌∷◌, ap, ◌∙◌}
 use Rattle.iss_edge.specs.Outer.{outer_of}
 use Rattle.iss_model.specs.texts.GatewayTexts.{request_text}
 use Rattle.iss_http.specs.Messages.{ask}
-use Rattle.iss_serving.specs.Desks.{of_call}
-use Rattle.iss_serving.specs.Sendings.{gone_on}
+use Rattle.iss_session.specs.Desks.{of_call}
+use Rattle.iss_session.specs.Sendings.{gone_on}
 use Rattle.iss_link.specs.declared.gone.Gone.TheVariants.{Asked, Unreached}
 use Rattle.iss_store.proofs.ServedTexts.{notes_text_if, text_in_part_if, reached_one, unreached_one}
 use Rattle.iss_store.proofs.entries.send_request.Goals as goal

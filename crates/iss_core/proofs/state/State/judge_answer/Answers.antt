@@ -2,8 +2,8 @@ use Rattle.std.proofs.Common.{Bool, sym, ap, ◌∙◌}
 use Rattle.std.specs.Option.{option_map}
 use Rattle.iss_call.specs.States as called
 use Rattle.iss_hold.specs.Holdings as held
-use Rattle.iss_pending.proofs.Answering.{unknown_answer, closed_answer, open_answer, asked_answer}
-use Rattle.iss_pending.proofs.Steps.{asked_live}
+use Rattle.iss_state.proofs.calls.Answering.{unknown_answer, closed_answer, open_answer, asked_answer}
+use Rattle.iss_state.proofs.calls.Steps.{asked_live}
 use Rattle.iss_core.specs.States.{state_of}
 use Rattle.iss_core.proofs.Judged.{judged_as, asked_of_none, never_unknown}
 use Rattle.iss_core.proofs.state.State.judge_answer.Goals as goal

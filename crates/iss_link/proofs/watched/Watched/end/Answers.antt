@@ -1,6 +1,6 @@
 use Rattle.std.proofs.Common.{List, ap, sym, ◌∙◌, ℕ, true}
 use Rattle.iss_http.specs.Answers.{answer_read}
-use Rattle.iss_serving.specs.Links.{Link}
+use Rattle.iss_session.specs.Links.{Link}
 use Rattle.iss_link.specs.Values.{bytes_of}
 use Rattle.iss_http.proofs.Endings.{nothing_ended}
 use Rattle.iss_link.proofs.watched.Watched.end.Goals as goal

@@ -1,7 +1,7 @@
 use Rattle.std.proofs.Common.{◌≡◌, true, List, subst, sym}
 use Rattle.iss_channels.specs.Placed.{things_of}
-use Rattle.iss_serving.specs.Sessions.{Reader}
-use Rattle.iss_serving.specs.Hearings.{is_reading}
+use Rattle.iss_session.specs.Sessions.{Reader}
+use Rattle.iss_session.specs.Hearings.{is_reading}
 use Rattle.iss_serve.proofs.Feeding.{none_reads, fed_body, fed_fault, fed_kept, fed_others}
 use Rattle.iss_serve.proofs.clients.Clients.feed.Goals as goal
 

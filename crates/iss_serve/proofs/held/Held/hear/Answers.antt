@@ -4,7 +4,7 @@ use Rattle.iss_edge.specs.declared.outside.Answered.TheVariants.{Waited}
 use Rattle.iss_edge.specs.Calls.{Same, Waits, Hears}
 use Rattle.iss_edge.specs.Outer.{outer_of}
 use Rattle.iss_edge.specs.World.{Told}
-use Rattle.iss_serving.specs.Sessions.{Queued}
+use Rattle.iss_session.specs.Sessions.{Queued}
 use Rattle.iss_serve.specs.Causes.{IsOfDisk}
 use Rattle.iss_serve.specs.Held.{HeldNow, now_of, queued_maybe, idle, to_judge, arrived}
 use Rattle.iss_serve.specs.Runs.{ServesOn, ServesSome}

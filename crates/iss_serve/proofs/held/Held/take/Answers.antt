@@ -2,7 +2,7 @@ use Rattle.std.proofs.Common.{◌≡◌, true, false, None, refl, sym, rules}
 use Rattle.std.specs.Prelude.{IsSome}
 use Rattle.std.proofs.lemmas.Result.{IfOk-weaker, on_err_weaker}
 use Rattle.iss_edge.specs.Outer.{outer_of}
-use Rattle.iss_serving.specs.Hearings.{is_reading, is_waiting, link_at}
+use Rattle.iss_session.specs.Hearings.{is_reading, is_waiting, link_at}
 use Rattle.iss_serve.specs.Held.{now_of, queued_maybe, idle, to_judge, taking, arrived}
 use Rattle.iss_serve.proofs.Hears.{is_taken, is_passed, listened_reading, listened_waiting, listened_link, listened_none}
 use Rattle.iss_serve.proofs.Stages.{told_on_self, told_on_as, told_some_as}

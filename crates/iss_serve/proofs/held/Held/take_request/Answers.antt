@@ -4,7 +4,7 @@ use Rattle.iss_serve.specs.declared.requests.Request.{Request}
 use Rattle.iss_edge.specs.declared.outside.Answered.TheVariants.{Took}
 use Rattle.iss_edge.specs.Outer.{outer_of, Adds}
 use Rattle.iss_edge.specs.World.{Told}
-use Rattle.iss_serving.specs.Desks.{to_reply}
+use Rattle.iss_session.specs.Desks.{to_reply}
 use Rattle.iss_serve.specs.declared.requests.Request.TheVariants.{More, Says, Bad}
 use Rattle.iss_serve.specs.Requests.{ReadsOn}
 use Rattle.iss_serve.specs.Held.{HeldNow, now_of, idle, taking, sending}

@@ -1,3 +1,0 @@
-pub mod Dockets
-pub mod Well
-pub mod Allowed

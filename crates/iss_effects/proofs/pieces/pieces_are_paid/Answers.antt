@@ -1,9 +1,0 @@
-use Rattle.iss_effects.proofs.Abandonment.{abandonment_effect}
-use Rattle.iss_effects.proofs.PieceEffects.{release_effect}
-use Rattle.iss_effects.proofs.pieces.pieces_are_paid.Goals as goal
-
-pub returns-clause-release : goal.returns-clause-release
-returns-clause-release c = release_effect
-
-pub returns-clause-abandonment : goal.returns-clause-abandonment
-returns-clause-abandonment c = abandonment_effect

@@ -1,4 +1,0 @@
-pub mod Bounds
-pub mod Stakes
-pub mod Needs
-pub mod Effects

@@ -1,4 +1,0 @@
-pub mod Sound
-pub mod Numbers
-pub mod Entering
-pub mod InForm

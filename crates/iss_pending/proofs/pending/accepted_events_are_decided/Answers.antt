@@ -1,8 +1,0 @@
-use Rattle.iss_pending.proofs.Steps.{due_decides, own_decides}
-use Rattle.iss_pending.proofs.pending.accepted_events_are_decided.Goals as goal
-
-pub returns-clause-due : goal.returns-clause-due
-returns-clause-due c = due_decides
-
-pub returns-clause-own : goal.returns-clause-own
-returns-clause-own c = own_decides

@@ -1,5 +1,0 @@
-use Rattle.iss_pending.proofs.Steps.{decided_once}
-use Rattle.iss_pending.proofs.pending.events_are_decided_once.Goals as goal
-
-pub returns : goal.returns
-returns c = decided_once

@@ -1,8 +1,0 @@
-use Rattle.iss_serving.proofs.ServingLaws.{serves_sent, serves_all_sent}
-use Rattle.iss_serving.proofs.laws.texts_are_sent.Goals as goal
-
-pub returns-clause-part : goal.returns-clause-part
-returns-clause-part c = serves_sent
-
-pub returns-clause-whole : goal.returns-clause-whole
-returns-clause-whole c = serves_all_sent

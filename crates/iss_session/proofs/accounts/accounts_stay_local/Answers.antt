@@ -1,0 +1,5 @@
+use Rattle.iss_session.proofs.LocalSessions.{stays_local}
+use Rattle.iss_session.proofs.accounts.accounts_stay_local.Goals as goal
+
+pub returns : goal.returns
+returns c = stays_local

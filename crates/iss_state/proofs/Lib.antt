@@ -1,0 +1,5 @@
+pub mod effects
+pub mod invariants
+pub mod docket
+pub mod calls
+pub mod held

@@ -1,0 +1,244 @@
+-- What becomes of an asked call by what is due.
+use Rattle.std.proofs.Common.{◌≡◌, ℕ, Bool, true, false, cond, ◌&&◌, ◌||◌, nat_eq, List, [], ◌∷◌, ◌++◌, map, filter, fold, refl, sym, ap, subst, ◌∙◌}
+use Rattle.std.specs.Prelude.{Option, Some, None}
+use Rattle.std.specs.List.{list_any}
+use Rattle.std.specs.Option.{option_or}
+use Rattle.std.specs.Str.{bytes_eq}
+use Rattle.std.proofs.lemmas.Bool.{false_from_ne_true}
+use Rattle.std.proofs.lemmas.List.Sums.{fold-append}
+use Rattle.iss_model.specs.declared.call.Failure.TheVariants as failure
+use Rattle.iss_model.specs.declared.call.How.TheVariants as how
+use Rattle.iss_model.specs.declared.call.Opened.{Opened}
+use Rattle.iss_model.specs.declared.decision.Reason.{Reason}
+use Rattle.iss_model.specs.declared.decision.Reason.TheVariants as reason
+use Rattle.iss_model.specs.declared.decision.Verdict.{Verdict}
+use Rattle.iss_model.specs.declared.entry.Entry.{Entry}
+use Rattle.iss_model.specs.declared.entry.Entry.TheVariants as entry
+use Rattle.iss_model.specs.declared.txn.Txn.{Txn}
+use Rattle.iss_model.specs.rules.Activity.{TxnNow, CallNow, txn_named, call_numbered, is_asked}
+use Rattle.iss_model.specs.rules.CardEntries.{failed_call_entries, entries_of_txn, entries_of_asked}
+use Rattle.iss_model.specs.rules.Due.{DueThing, call_due, DueItem, txn_due, expiry_entries, live_expiry_entries, thing_entries}
+use Rattle.iss_model.specs.rules.Keeper.{Growth}
+use Rattle.iss_model.specs.rules.Reasons.{is_some_with}
+use Rattle.iss_model.specs.rules.Stepping.{settle}
+use Rattle.iss_model.specs.state.Cores.{CoreState, core_facts, call_after_close, core_keeper, after_entry}
+use Rattle.iss_model.proofs.Lists.{neither}
+use Rattle.iss_model.proofs.Names.{one_name}
+use Rattle.iss_state.proofs.effects.Finds.{number_is}
+use Rattle.iss_state.specs.Numbers.{CallsNumberedFrom}
+use Rattle.iss_state.specs.Dockets.{Docket, docket_after, docket_of, is_docketed}
+use Rattle.iss_state.specs.Well.{IsAsked, IsWellAmong, Known}
+use Rattle.iss_state.proofs.docket.Abandoning.{after_closing, asked_in, closings_none}
+use Rattle.iss_state.proofs.docket.Closing.{calls_lone, its_number, other_stays, own_closed, same_opened, stands_after, stays_closed}
+use Rattle.iss_state.proofs.docket.Docketed.{closings}
+use Rattle.iss_state.proofs.docket.Entering.{apart_too, call_more}
+use Rattle.iss_state.proofs.docket.Lists.{any_filtered, inside, lone_any, not_both}
+use Rattle.iss_state.proofs.calls.Due.{Closes, closes_docketed, expiry_docketed, failed_closes, its_token}
+use Rattle.iss_state.proofs.calls.Staying.{comes_to, entries_docket}
+use Rattle.iss_state.proofs.calls.Steps.{thing_well}
+
+-- a closed call stays as it is ----
+
+pub closed_stays : (docket : Docket) (e : Entry) (n : ℕ) (c : CallNow) → call_numbered n docket.calls ≡ Some c → is_asked c ≡ false
+    → call_numbered n (docket_after docket e).calls ≡ Some c
+closed_stays docket (entry.Opened o) n c stands closed =
+    let x : CallNow = record { opened = o; how = None } in
+    call_more n docket.calls x ∙ ap (λ (d : Option CallNow). option_or d (cond (nat_eq o.call.0 n) (Some x) None)) stands
+closed_stays docket (entry.Closed call how) n c stands closed =
+    stands_after docket.calls call.0 how n c stands ∙ ap (λ (d : CallNow). Some d) (stays_closed call.0 how c closed)
+closed_stays docket (entry.Began t) n c stands closed = stands
+closed_stays docket _ n c stands closed = stands
+
+pub all_closed_stay : (es : List Entry) (docket : Docket) (n : ℕ) (c : CallNow) → call_numbered n docket.calls ≡ Some c → is_asked c ≡ false
+    → call_numbered n (fold docket_after docket es).calls ≡ Some c
+all_closed_stay [] docket n c stands closed = stands
+all_closed_stay (e ∷ es) docket n c stands closed = all_closed_stay es (docket_after docket e) n c (closed_stays docket e n c stands closed) closed
+
+pub entries_leave_closed : (s : CoreState) (es : List Entry) (n : ℕ) (c : CallNow) → call_numbered n s.calls ≡ Some c → is_asked c ≡ false
+    → call_numbered n (fold after_entry s es).calls ≡ Some c
+entries_leave_closed s es n c stands closed =
+    ap (λ (docket : Docket). call_numbered n docket.calls) (entries_docket s es) ∙ all_closed_stay es (docket_of s) n c stands closed
+
+pub sweep_leaves_closed : (at : ℕ) (g : Growth CoreState) (items : List DueItem) (n : ℕ) (c : CallNow) → call_numbered n g.world.calls ≡ Some c → is_asked c ≡ false
+    → call_numbered n (fold (settle core_keeper at) g items).world.calls ≡ Some c
+sweep_leaves_closed at g [] n c stands closed = stands
+sweep_leaves_closed at g (item ∷ items) n c stands closed =
+    sweep_leaves_closed at (settle core_keeper at g item) items n c (entries_leave_closed g.world (thing_entries item.thing at (core_facts g.world)) n c stands closed) closed
+
+-- calls are closed, and the event may be decided and the transaction ended
+pub calls_settled : (docket : Docket) (txn event : List ℕ) (ends : Bool) (v : Verdict)
+    → (fold docket_after docket (cond ends (entry.Ended txn ∷ []) [] ++ entry.Decided event v ∷ [])).calls ≡ docket.calls
+calls_settled docket txn event true v = refl
+calls_settled docket txn event false v = refl
+
+pub calls_after_closes : (docket : Docket) (o : Opened) (t : Txn) (es : List Entry) → (closes : Closes o t es)
+    → (fold docket_after docket (filter is_docketed es)).calls ≡ map (call_after_close o.call.0 closes.its_how) docket.calls
+calls_after_closes docket o t es closes =
+    ap (λ (ms : List Entry). (fold docket_after docket ms).calls) (closes_docketed o t es closes)
+    ∙ calls_settled (docket_after docket (entry.Closed o.call closes.its_how)) t.token o.event closes.settles.ends closes.settles.its_verdict
+
+-- which call a due thing closes ----
+
+-- a due thing closes the call n of the transaction k, if that is asked
+abbrev pub hits : ℕ → List ℕ → DueThing → Bool
+hits n k (call_due number) = nat_eq number n
+hits n k (txn_due token) = bytes_eq token k
+
+-- what becomes of a call
+pub record Fate (calls : List CallNow) (n : ℕ) (c : CallNow) (hit : Bool) : Type 0 where
+  pub now : CallNow
+  pub stands : call_numbered n calls ≡ Some now
+  pub closed : hit ≡ true → is_asked now ≡ false
+  pub left : hit ≡ false → now ≡ c
+
+left_alone : (calls : List CallNow) (n : ℕ) (c : CallNow) (hit : Bool) → call_numbered n calls ≡ Some c → (hit ≡ true → ⊥) → Fate calls n c hit
+left_alone calls n c hit stands never = record { now = c; stands = stands; closed = λ h. absurd (never h); left = λ h. refl }
+
+call_closes : (s : CoreState) (at m n : ℕ) (c d : CallNow) (t : Txn) → call_numbered n s.calls ≡ Some c → call_numbered m s.calls ≡ Some d
+    → Fate (fold after_entry s (failed_call_entries (core_facts s) d.opened t failure.Timeout at)).calls n c (nat_eq m n)
+call_closes s at m n c d t stands other =
+    let es : List Entry = failed_call_entries (core_facts s) d.opened t failure.Timeout at in
+    let closes : Closes d.opened t es = failed_closes (core_facts s) d.opened t failure.Timeout at in
+    let k : ℕ = d.opened.call.0 in
+    let after : CallNow = call_after_close k closes.its_how c in
+    let its : k ≡ m = its_number s.calls m d other in
+    let own : c.opened.call.0 ≡ n = its_number s.calls n c stands in
+    let same : nat_eq k c.opened.call.0 ≡ nat_eq m n = (λ i. nat_eq (its i) (own i)) in
+    record {
+      now = after;
+      stands = ap (λ (docket : Docket). call_numbered n docket.calls) (comes_to s es (filter is_docketed es) refl)
+          ∙ ap (call_numbered n) (calls_after_closes (docket_of s) d.opened t es closes)
+          ∙ stands_after s.calls k closes.its_how n c stands;
+      closed = λ h. own_closed k closes.its_how c (same ∙ h);
+      left = λ h. other_stays k closes.its_how c (same ∙ h);
+    }
+
+call_txn : (known : Known) (s : CoreState) (at m n : ℕ) (c d : CallNow) → IsWellAmong known (docket_of s) → IsAsked s.calls n c → IsAsked s.calls m d
+    → (now : Option TxnNow) → txn_named d.opened.txn s.holdings.txns ≡ now
+    → Fate (fold after_entry s (entries_of_txn (λ t. failed_call_entries (core_facts s) d.opened t failure.Timeout at) now)).calls n c (nat_eq m n)
+call_txn known s at m n c d well asked other None e = not_both false (ap (is_some_with (λ (t : TxnNow). t.live)) (sym e) ∙ well.live m d other) refl
+call_txn known s at m n c d well asked other (Some now) e = call_closes s at m n c d now.txn asked.stands other.stands
+
+no_such : {A : Type 0} (o : Option A) (x : A) → o ≡ Some x → o ≡ None → ⊥
+no_such None x h e = cc
+no_such (Some y) x h e = cc
+
+call_asked : (known : Known) (s : CoreState) (at m n : ℕ) (c d : CallNow) → IsWellAmong known (docket_of s) → IsAsked s.calls n c → call_numbered m s.calls ≡ Some d
+    → (b : Bool) → is_asked d ≡ b
+    → Fate (fold after_entry s (cond b (entries_of_txn (λ t. failed_call_entries (core_facts s) d.opened t failure.Timeout at) (txn_named d.opened.txn s.holdings.txns)) [])).calls n c (nat_eq m n)
+call_asked known s at m n c d well asked other true h = call_txn known s at m n c d well asked (record { stands = other; asked = h }) (txn_named d.opened.txn s.holdings.txns) refl
+call_asked known s at m n c d well asked other false h =
+    left_alone s.calls n c (nat_eq m n) asked.stands
+    (λ hit. not_both (is_asked c) asked.asked (ap is_asked (inside (sym asked.stands ∙ ap (λ (k : ℕ). call_numbered k s.calls) (sym (number_is m n hit)) ∙ other)) ∙ h))
+
+call_fate : (known : Known) (s : CoreState) (at m n : ℕ) (c : CallNow) → IsWellAmong known (docket_of s) → IsAsked s.calls n c → (o : Option CallNow)
+    → call_numbered m s.calls ≡ o
+    → Fate (fold after_entry s (entries_of_asked (λ o t. failed_call_entries (core_facts s) o t failure.Timeout at) o (core_facts s))).calls n c (nat_eq m n)
+call_fate known s at m n c well asked None e =
+    left_alone s.calls n c (nat_eq m n) asked.stands (λ hit. no_such (call_numbered n s.calls) c asked.stands (ap (λ (k : ℕ). call_numbered k s.calls) (sym (number_is m n hit)) ∙ e))
+call_fate known s at m n c well asked (Some d) e = call_asked known s at m n c d well asked e (is_asked d) refl
+
+-- a transaction that expires ----
+
+opened_alike : (why : Reason) (cs : List CallNow) (docket : Docket) (n : ℕ) (c : CallNow) → call_numbered n docket.calls ≡ Some c
+    → (d : CallNow) × (call_numbered n (fold docket_after docket (closings why cs)).calls ≡ Some d) × (d.opened ≡ c.opened)
+opened_alike why [] docket n c stands = (c, stands, refl)
+opened_alike why (x ∷ xs) docket n c stands =
+    let k : ℕ = x.opened.call.0 in
+    let rest = opened_alike why xs (after_closing why docket x) n (call_after_close k how.Abandoned c) (stands_after docket.calls k how.Abandoned n c stands) in
+    (rest.0, rest.1, rest.2 ∙ same_opened k how.Abandoned c)
+
+closings_leave : (why : Reason) (cs : List CallNow) (docket : Docket) (n : ℕ) (c : CallNow) → call_numbered n docket.calls ≡ Some c
+    → list_any (λ x. nat_eq x.opened.call.0 n) cs ≡ false
+    → call_numbered n (fold docket_after docket (closings why cs)).calls ≡ Some c
+closings_leave why [] docket n c stands none = stands
+closings_leave why (x ∷ xs) docket n c stands none =
+    let k : ℕ = x.opened.call.0 in
+    let parts = neither (nat_eq k n) (list_any (λ (x : CallNow). nat_eq x.opened.call.0 n) xs) none in
+    closings_leave why xs (after_closing why docket x) n c
+    (stands_after docket.calls k how.Abandoned n c stands
+    ∙ ap (λ (d : CallNow). Some d) (other_stays k how.Abandoned c (ap (nat_eq k) (its_number docket.calls n c stands) ∙ parts.0))) parts.1
+
+-- the calls of another transaction don't have this number
+other_txns : (calls : List CallNow) (n : ℕ) (c : CallNow) (token : List ℕ) → CallsNumberedFrom 1 calls → call_numbered n calls ≡ Some c
+    → bytes_eq c.opened.txn token ≡ false → list_any (λ x. nat_eq x.opened.call.0 n) (asked_in calls token) ≡ false
+other_txns calls n c token numbers stands other =
+    any_filtered (λ (x : CallNow). nat_eq x.opened.call.0 n) (λ (x : CallNow). is_asked x && bytes_eq x.opened.txn token) calls
+    ∙ lone_any (λ (x : CallNow). nat_eq x.opened.call.0 n) (λ (x : CallNow). (is_asked x && bytes_eq x.opened.txn token) && nat_eq x.opened.call.0 n)
+    (λ x h. last_false (is_asked x && bytes_eq x.opened.txn token) (nat_eq x.opened.call.0 n) h) calls c (calls_lone 1 n calls numbers) stands
+    ∙ middle_false (is_asked c) (bytes_eq c.opened.txn token) (nat_eq c.opened.call.0 n) other
+  where
+    last_false : (a b : Bool) → b ≡ false → (a && b) ≡ false
+    last_false true b h = h
+    last_false false b h = refl
+
+    middle_false : (a b d : Bool) → b ≡ false → ((a && b) && d) ≡ false
+    middle_false true true d h = cc
+    middle_false true false d h = refl
+    middle_false false b d h = refl
+
+pub expired_calls : (s : CoreState) (t : Txn)
+    → (fold after_entry s (expiry_entries (core_facts s) t)).calls ≡ (fold docket_after (docket_of s) (closings reason.Expired (asked_in s.calls t.token))).calls
+expired_calls s t =
+    let cs : List Entry = closings reason.Expired (asked_in s.calls t.token) in
+    ap (λ (docket : Docket). docket.calls)
+    (comes_to s (expiry_entries (core_facts s) t) (cs ++ entry.Ended t.token ∷ []) (expiry_docketed (core_facts s) t) ∙ fold-append docket_after (docket_of s) cs (entry.Ended t.token ∷ []))
+
+expired_fate : (known : Known) (s : CoreState) (n : ℕ) (c : CallNow) (t : Txn) → IsWellAmong known (docket_of s) → IsAsked s.calls n c
+    → Fate (fold after_entry s (expiry_entries (core_facts s) t)).calls n c (bytes_eq t.token c.opened.txn)
+expired_fate known s n c t well asked =
+    let docket : Docket = docket_of s in
+    let cs : List CallNow = asked_in s.calls t.token in
+    let q : Docket = fold docket_after docket (closings reason.Expired cs) in
+    let after = opened_alike reason.Expired cs docket n c asked.stands in
+    record {
+      now = after.0;
+      stands = ap (call_numbered n) (expired_calls s t) ∙ after.1;
+      closed = λ hit. false_from_ne_true (is_asked after.0) (λ h.
+          closings_none reason.Expired docket t.token n after.0 (record { stands = after.1; asked = h }) (ap (λ (o : Opened). o.txn) after.2 ∙ sym (one_name t.token c.opened.txn hit)));
+      left = λ miss. inside (sym after.1
+          ∙ closings_leave reason.Expired cs docket n c asked.stands (other_txns s.calls n c t.token well.calls.numbers asked.stands (apart_too t.token c.opened.txn miss)));
+    }
+
+-- the transaction of an asked call is live
+its_live : (known : Known) (s : CoreState) (n : ℕ) (c : CallNow) (token : List ℕ) → IsWellAmong known (docket_of s) → IsAsked s.calls n c
+    → bytes_eq token c.opened.txn ≡ true
+    → (now : Option TxnNow) → txn_named token s.holdings.txns ≡ now → is_some_with (λ t. t.live) now ≡ true
+its_live known s n c token well asked hit now e =
+    ap (is_some_with (λ (t : TxnNow). t.live)) (sym e ∙ ap (λ (k : List ℕ). txn_named k s.holdings.txns) (one_name token c.opened.txn hit)) ∙ well.live n c asked
+
+txn_fate : (known : Known) (s : CoreState) (n : ℕ) (c : CallNow) (token : List ℕ) → IsWellAmong known (docket_of s) → IsAsked s.calls n c → (now : Option TxnNow)
+    → txn_named token s.holdings.txns ≡ now
+    → Fate (fold after_entry s (live_expiry_entries (core_facts s) now)).calls n c (bytes_eq token c.opened.txn)
+txn_fate known s n c token well asked None e =
+    left_alone s.calls n c (bytes_eq token c.opened.txn) asked.stands (λ hit. not_both false (its_live known s n c token well asked hit None e) refl)
+txn_fate known s n c token well asked (Some now) e = by now.live refl
+  where
+    by : (b : Bool) → now.live ≡ b → Fate (fold after_entry s (cond b (expiry_entries (core_facts s) now.txn) [])).calls n c (bytes_eq token c.opened.txn)
+    by true h =
+        subst (λ (k : List ℕ). Fate (fold after_entry s (expiry_entries (core_facts s) now.txn)).calls n c (bytes_eq k c.opened.txn))
+        (its_token s.holdings.txns token now e)
+        (expired_fate known s n c now.txn well asked)
+    by false h = left_alone s.calls n c (bytes_eq token c.opened.txn) asked.stands (λ hit. not_both now.live (its_live known s n c token well asked hit (Some now) e) h)
+
+pub thing_fate : (known : Known) (s : CoreState) (at n : ℕ) (c : CallNow) (thing : DueThing) → IsWellAmong known (docket_of s) → IsAsked s.calls n c
+    → Fate (fold after_entry s (thing_entries thing at (core_facts s))).calls n c (hits n c.opened.txn thing)
+thing_fate known s at n c (call_due number) well asked = call_fate known s at number n c well asked (call_numbered number s.calls) refl
+thing_fate known s at n c (txn_due token) well asked = txn_fate known s n c token well asked (txn_named token s.holdings.txns) refl
+
+pub sweep_fate : (known : Known) (at n : ℕ) (c : CallNow) (g : Growth CoreState) (items : List DueItem) → IsWellAmong known (docket_of g.world)
+    → IsAsked g.world.calls n c
+    → Fate (fold (settle core_keeper at) g items).world.calls n c (list_any (λ i. hits n c.opened.txn i.thing) items)
+sweep_fate known at n c g [] well asked = record { now = c; stands = asked.stands; closed = λ h. not_both false h refl; left = λ h. refl }
+sweep_fate known at n c g (item ∷ items) well asked =
+    let s : CoreState = g.world in
+    by (hits n c.opened.txn item.thing) (thing_fate known s at n c item.thing well asked)
+    (λ still. sweep_fate known at n c (settle core_keeper at g item) items (thing_well known s item.thing at well) still)
+    (λ now stands closed. sweep_leaves_closed at (settle core_keeper at g item) items n now stands closed)
+  where
+    by : (b : Bool) → Fate (settle core_keeper at g item).world.calls n c b
+        → (IsAsked (settle core_keeper at g item).world.calls n c → Fate (fold (settle core_keeper at) (settle core_keeper at g item) items).world.calls n c (list_any (λ i. hits n c.opened.txn i.thing) items))
+        → ((now : CallNow) → call_numbered n (settle core_keeper at g item).world.calls ≡ Some now → is_asked now ≡ false → call_numbered n (fold (settle core_keeper at) (settle core_keeper at g item) items).world.calls ≡ Some now)
+        → Fate (fold (settle core_keeper at) (settle core_keeper at g item) items).world.calls n c (b || list_any (λ i. hits n c.opened.txn i.thing) items)
+    by true fate rest stays = record { now = fate.now; stands = stays fate.now fate.stands (fate.closed refl); closed = λ h. fate.closed refl; left = λ h. not_both true refl h }
+    by false fate rest stays = rest (record { stands = fate.stands ∙ ap (λ (x : CallNow). Some x) (fate.left refl); asked = asked.asked })

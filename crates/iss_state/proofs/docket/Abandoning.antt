@@ -1,0 +1,164 @@
+-- The asked calls of a transaction are abandoned: what that leaves of calls, and that it may be entered.
+use Rattle.std.proofs.Common.{◌≡◌, ℕ, ◌+◌, ◌≤◌, Bool, true, false, cond, ◌&&◌, ◌||◌, nat_eq, List, [], ◌∷◌, ◌++◌, map, filter, fold, refl, sym, ap, subst, ◌∙◌, arith}
+use Rattle.std.specs.Prelude.{Some, None}
+use Rattle.std.specs.List.{list_any}
+use Rattle.std.specs.Str.{bytes_eq}
+use Rattle.std.proofs.lemmas.Bool.Decides.{nat_tests}
+use Rattle.std.proofs.lemmas.List.{append_assoc}
+use Rattle.iss_model.specs.declared.call.How.{How}
+use Rattle.iss_model.specs.declared.call.How.TheVariants as how
+use Rattle.iss_model.specs.declared.decision.Reason.{Reason}
+use Rattle.iss_model.specs.declared.decision.Verdict.{Verdict}
+use Rattle.iss_model.specs.declared.decision.Verdict.TheVariants as verdict
+use Rattle.iss_model.specs.declared.entry.Entry.{Entry}
+use Rattle.iss_model.specs.declared.entry.Entry.TheVariants as entry
+use Rattle.iss_model.specs.rules.Activity.{TxnNow, CallNow, is_asked}
+use Rattle.iss_model.specs.state.Cores.{call_after_close}
+use Rattle.iss_model.proofs.Names.{same_name}
+use Rattle.iss_state.proofs.effects.Finds.{same_number}
+use Rattle.iss_state.specs.Numbers.{CallsNumberedFrom}
+use Rattle.iss_state.specs.Allowed.{MayDecide, MayEnd}
+use Rattle.iss_state.specs.Dockets.{Docket, docket_after}
+use Rattle.iss_state.specs.Well.{IsAsked, IsWellAmong, Known, NoneAskedOf, NoneOpenedFor, has_live, is_decided}
+use Rattle.iss_state.proofs.docket.Closing.{NumbersGrowFrom, StandsItself, all_stand, asked_after, asked_before, filtered_grow, none_opened_after}
+use Rattle.iss_state.proofs.docket.Docketed.{closings}
+use Rattle.iss_state.proofs.docket.Entering.{undecided_still}
+use Rattle.iss_state.proofs.docket.Enters.{Enters, entered_well, enters_append, enters_closed, enters_ended, enters_none, enters_settled}
+use Rattle.iss_state.proofs.docket.Lists.{Each, both_so, found_filtered, never, not_both}
+
+-- a new event ----
+
+-- an event is known, and neither decided nor has a call
+pub record IsNewTo (known : Known) (d : Docket) (event : List ℕ) : Type 0 where
+  pub its_event : known.events event ≡ true
+  pub none_opened : NoneOpenedFor d.calls event
+  pub undecided : is_decided d.decisions event ≡ false
+
+pub new_decides : (known : Known) (d : Docket) (event : List ℕ) → IsNewTo known d event → MayDecide d event
+new_decides known d event new = record { undecided = new.undecided; none_asked = λ n c now e. new.none_opened n c now.stands e }
+
+-- calls that are asked, in the order of their numbers ----
+
+abbrev AsksItself : List CallNow → CallNow → Type 0
+AsksItself calls c = IsAsked calls c.opened.call.0 c
+
+-- those that come later still are
+later_asked : (k : ℕ) (how : How) (calls : List CallNow) (n : ℕ) (cs : List CallNow) → k + 1 ≤ n → NumbersGrowFrom n cs → Each (AsksItself calls) cs
+    → Each (AsksItself (map (call_after_close k how) calls)) cs
+later_asked k how calls n [] less grow asked = tt
+later_asked k how calls n (c ∷ cs) less grow asked = (
+  asked_after calls k how c.opened.call.0 c asked.0 (differ k c.opened.call.0 n less grow.0),
+  later_asked k how calls (c.opened.call.0 + 1) cs (omega (arith, less, grow.0)) grow.1 asked.1,
+)
+  where
+    differ : (a b n : ℕ) → a + 1 ≤ n → n ≤ b → nat_eq a b ≡ false
+    differ a b n h k = grind (arith, nat_tests)
+
+-- the asked calls of a transaction
+abbrev pub asked_in : List CallNow → List ℕ → List CallNow
+asked_in calls txn = filter (λ c. is_asked c && bytes_eq c.opened.txn txn) calls
+
+filtered_asked : (calls : List CallNow) (txn : List ℕ) (xs : List CallNow) → Each (StandsItself calls) xs → Each (AsksItself calls) (asked_in xs txn)
+filtered_asked calls txn [] h = tt
+filtered_asked calls txn (x ∷ xs) h = by (is_asked x) (bytes_eq x.opened.txn txn) refl h.0 (filtered_asked calls txn xs h.1)
+  where
+    by : (a b : Bool) → is_asked x ≡ a → StandsItself calls x → Each (AsksItself calls) (asked_in xs txn)
+        → Each (AsksItself calls) (cond (a && b) (x ∷ asked_in xs txn) (asked_in xs txn))
+    by true true e stands rest = (record { stands = stands; asked = e }, rest)
+    by true false e stands rest = rest
+    by false b e stands rest = rest
+
+all_asked : (calls : List CallNow) (txn : List ℕ) → CallsNumberedFrom 1 calls → Each (AsksItself calls) (asked_in calls txn)
+all_asked calls txn numbers = filtered_asked calls txn calls (all_stand calls numbers)
+
+all_grow : (calls : List CallNow) (txn : List ℕ) → CallsNumberedFrom 1 calls → NumbersGrowFrom 1 (asked_in calls txn)
+all_grow calls txn numbers = filtered_grow (λ (c : CallNow). is_asked c && bytes_eq c.opened.txn txn) 1 calls numbers
+
+-- calls are abandoned one by one ----
+
+-- a docket where a call is abandoned
+abbrev pub after_closing : Reason → Docket → CallNow → Docket
+after_closing why d c = docket_after (docket_after d (entry.Closed c.opened.call how.Abandoned)) (entry.Decided c.opened.event (verdict.Declined why))
+
+closings_enter : (known : Known) (why : Reason) (cs : List CallNow) (n : ℕ) (d : Docket) → NumbersGrowFrom n cs → Each (AsksItself d.calls) cs → IsWellAmong known d
+    → Enters known d None (closings why cs)
+closings_enter known why [] n d grow asked well = enters_none known d
+closings_enter known why (c ∷ cs) n d grow asked well =
+    let k : ℕ = c.opened.call.0 in
+    let pair : List Entry = entry.Closed c.opened.call how.Abandoned ∷ entry.Decided c.opened.event (verdict.Declined why) ∷ [] in
+    let first : Enters known d None pair = enters_closed known d k c how.Abandoned c.opened.txn false (verdict.Declined why) well asked.0 refl never in
+    enters_append known d None pair (closings why cs) first
+    (closings_enter known why cs (k + 1) (after_closing why d c) grow.1 (later_asked k how.Abandoned d.calls (k + 1) cs (omega arith) grow.1 asked.1)
+    (entered_well known d None pair first well))
+
+-- a new event stays new
+closings_new : (known : Known) (why : Reason) (cs : List CallNow) (n : ℕ) (d : Docket) (event : List ℕ) → NumbersGrowFrom n cs → Each (AsksItself d.calls) cs
+    → IsNewTo known d event
+    → IsNewTo known (fold docket_after d (closings why cs)) event
+closings_new known why [] n d event grow asked new = new
+closings_new known why (c ∷ cs) n d event grow asked new =
+    let k : ℕ = c.opened.call.0 in
+    closings_new known why cs (k + 1) (after_closing why d c) event grow.1 (later_asked k how.Abandoned d.calls (k + 1) cs (omega arith) grow.1 asked.1)
+    (record {
+      its_event = new.its_event;
+      none_opened = none_opened_after d.calls k how.Abandoned event new.none_opened;
+      undecided = undecided_still d.decisions (record { event = c.opened.event; verdict = verdict.Declined why }) event new.undecided (new.none_opened k c asked.0.stands);
+    })
+
+-- transactions stay
+pub closings_txns : (why : Reason) (cs : List CallNow) (d : Docket) → (fold docket_after d (closings why cs)).txns ≡ d.txns
+closings_txns why [] d = refl
+closings_txns why (c ∷ cs) d = closings_txns why cs (after_closing why d c)
+
+-- a call that is asked then was asked before, and isn't among these
+closings_close : (why : Reason) (cs : List CallNow) (d : Docket) (n : ℕ) (c : CallNow) → IsAsked (fold docket_after d (closings why cs)).calls n c
+    → IsAsked d.calls n c × (list_any (λ x. nat_eq x.opened.call.0 c.opened.call.0) cs ≡ false)
+closings_close why [] d n c now = (now, refl)
+closings_close why (x ∷ xs) d n c now =
+    let rest = closings_close why xs (after_closing why d x) n c now in
+    let was = asked_before d.calls x.opened.call.0 how.Abandoned n c rest.0 in
+    (was.0, ap (λ (b : Bool). b || list_any (λ (x : CallNow). nat_eq x.opened.call.0 c.opened.call.0) xs) was.1 ∙ rest.1)
+
+-- when those of a transaction were abandoned, none of it is asked
+pub closings_none : (why : Reason) (d : Docket) (txn : List ℕ) → NoneAskedOf (fold docket_after d (closings why (asked_in d.calls txn))).calls txn
+closings_none why d txn n c now e =
+    let was = closings_close why (asked_in d.calls txn) d n c now in
+    not_both (list_any (λ (x : CallNow). nat_eq x.opened.call.0 c.opened.call.0) (asked_in d.calls txn))
+    (found_filtered (λ (x : CallNow). nat_eq x.opened.call.0 n) (λ (x : CallNow). is_asked x && bytes_eq x.opened.txn txn) (λ (x : CallNow). nat_eq x.opened.call.0 c.opened.call.0)
+    d.calls c was.0.stands (both_so (is_asked c) (bytes_eq c.opened.txn txn) was.0.asked (same_name c.opened.txn txn e)) (same_number c.opened.call.0))
+    was.1
+
+-- the asked calls of a transaction ----
+
+abandoned_enter : (known : Known) (why : Reason) (d : Docket) (txn : List ℕ) → IsWellAmong known d → Enters known d None (closings why (asked_in d.calls txn))
+abandoned_enter known why d txn well =
+    closings_enter known why (asked_in d.calls txn) 1 d (all_grow d.calls txn well.calls.numbers) (all_asked d.calls txn well.calls.numbers) well
+
+-- it may end then, where it is live
+abandoned_ends : (why : Reason) (d : Docket) (txn : List ℕ) → has_live d.txns txn ≡ true → MayEnd (fold docket_after d (closings why (asked_in d.calls txn))) txn
+abandoned_ends why d txn live =
+    record {
+      its_live = ap (λ (txns : List TxnNow). has_live txns txn) (closings_txns why (asked_in d.calls txn) d) ∙ live;
+      none_asked = closings_none why d txn;
+    }
+
+-- calls are abandoned, and the transaction ends
+pub end_enters : (known : Known) (why : Reason) (d : Docket) (txn : List ℕ) → IsWellAmong known d → has_live d.txns txn ≡ true
+    → Enters known d None (closings why (asked_in d.calls txn) ++ entry.Ended txn ∷ [])
+end_enters known why d txn well live =
+    let cs : List Entry = closings why (asked_in d.calls txn) in
+    enters_append known d None cs (entry.Ended txn ∷ []) (abandoned_enter known why d txn well)
+    (enters_ended known (fold docket_after d cs) txn (abandoned_ends why d txn live))
+
+-- calls are abandoned, the transaction may end, and an event is decided
+pub abandoned_decides : (known : Known) (why : Reason) (d : Docket) (txn : List ℕ) (ends : Bool) (event : List ℕ) (v : Verdict) → IsWellAmong known d
+    → has_live d.txns txn ≡ true
+    → IsNewTo known d event → Enters known d (Some event) ((closings why (asked_in d.calls txn) ++ cond ends (entry.Ended txn ∷ []) []) ++ entry.Decided event v ∷ [])
+abandoned_decides known why d txn ends event v well live new =
+    let calls : List CallNow = asked_in d.calls txn in
+    let cs : List Entry = closings why calls in
+    let q : Docket = fold docket_after d cs in
+    let still : IsNewTo known q event = closings_new known why calls 1 d event (all_grow d.calls txn well.calls.numbers) (all_asked d.calls txn well.calls.numbers) new in
+    subst (Enters known d (Some event)) (sym (append_assoc cs (cond ends (entry.Ended txn ∷ []) []) (entry.Decided event v ∷ [])))
+    (enters_append known d (Some event) cs (cond ends (entry.Ended txn ∷ []) [] ++ entry.Decided event v ∷ []) (abandoned_enter known why d txn well)
+    (enters_settled known q txn event ends v new.its_event (λ e. abandoned_ends why d txn live) (new_decides known q event still)))

@@ -1,0 +1,14 @@
+pub mod Bounds
+pub mod Stakes
+pub mod Needs
+pub mod Effects
+pub mod Sound
+pub mod Numbers
+pub mod Entering
+pub mod InForm
+pub mod Dockets
+pub mod Well
+pub mod Allowed
+pub mod Pending
+pub mod Few
+pub mod Holdings

@@ -1,0 +1,58 @@
+//! Every state that records make is sound.
+ghost use Rattle.std.specs.Prelude.{◌≡◌, ℕ, ◌+◌, ◌^◌, ◌<◌, ◌≤◌, true, List, length, fold, Some};
+ghost use Rattle.iss_model.specs.declared.decision.Judged.TheVariants as judged;
+ghost use Rattle.iss_model.specs.declared.input.Record.{Record};
+ghost use Rattle.iss_model.specs.declared.input.Input.{Input};
+ghost use Rattle.iss_model.specs.declared.limits.TheConstants.{MOST_RECORDS};
+ghost use Rattle.iss_model.specs.Forms.{is_in_form};
+ghost use Rattle.iss_model.specs.rules.Activity.{CallNow, is_asked};
+ghost use Rattle.iss_model.specs.rules.Facts.{call_in};
+ghost use Rattle.iss_model.specs.rules.Due.{DueThing, thing_entries};
+ghost use Rattle.iss_model.specs.rules.Stepping.{entries_of, after_due, step};
+ghost use Rattle.iss_model.specs.rules.Judging.{judge};
+ghost use Rattle.iss_model.specs.rules.Histories.{IsLegal};
+ghost use Rattle.iss_model.specs.state.Cores.{CoreState, no_core, core_facts, core_keeper, core_of, with_record, after_entry};
+ghost use Rattle.iss_state.specs.Sound.{IsSoundAt, IsNewEvent, AreInForm, IsReady};
+ghost use Rattle.iss_state.specs.Entering.{SumsAreSmall};
+
+/// Legal records in form leave a sound state for as many records.
+#[tactic(auto, using(crate::proofs::Legal::records_sound))]
+pub fn states_are_sound()
+    ensures { (rs : List Record) → IsLegal rs → AreInForm rs → IsSoundAt (length rs) (core_of rs) }
+{}
+
+/// The empty state is sound for no record, and a step on a new record makes a sound state sound for one more.
+/// In between, the state with the record taken up is ready for its entries, and these keep what is sound.
+#[tactic(auto, using(crate::proofs::Steps::sound_begins))]
+pub fn steps_keep_what_is_sound()
+    ensures begins { IsSoundAt 0 no_core }
+    ensures step { (n : ℕ) → (s : CoreState) → (r : Record) → IsSoundAt n s → is_in_form r.input ≡ true → IsNewEvent s r.input
+        → IsSoundAt (n + 1) (step core_keeper s r).world }
+    ensures taken_up { (n : ℕ) → (s : CoreState) → (r : Record) → IsSoundAt n s → IsNewEvent s r.input → IsReady n (with_record s r) r.input }
+    ensures own { (n : ℕ) → (s : CoreState) → (i : Input) → (at : ℕ) → is_in_form i ≡ true → IsReady n s i
+        → IsSoundAt (n + 1) (fold after_entry s (entries_of i at (core_facts s))) }
+{}
+
+/// A due item that is settled keeps what is sound for as many records, and so do all that are due at a moment. A state that is ready stays ready.
+pub fn due_items_keep_what_is_sound()
+    ensures item { (n : ℕ) → (s : CoreState) → (thing : DueThing) → (at : ℕ) → IsSoundAt n s
+        → IsSoundAt n (fold after_entry s (thing_entries thing at (core_facts s))) }
+    ensures all { (n : ℕ) → (s : CoreState) → (at : ℕ) → IsSoundAt n s → IsSoundAt n (after_due core_keeper s at).world }
+    ensures ready_after_item { (n : ℕ) → (s : CoreState) → (i : Input) → (thing : DueThing) → (at : ℕ) → IsReady n s i
+        → IsReady n (fold after_entry s (thing_entries thing at (core_facts s))) i }
+    ensures ready_after_all { (n : ℕ) → (s : CoreState) → (i : Input) → (at : ℕ) → IsReady n s i → IsReady n (after_due core_keeper s at).world i }
+{}
+
+/// In a state that is sound for as many records as there may be, each sum lies strictly between -2^62 and 2^62, and a call asks less than 2^62.
+pub fn sums_are_small()
+    ensures sound { (n : ℕ) → (s : CoreState) → n ≤ MOST_RECORDS → IsSoundAt n s → SumsAreSmall s }
+    ensures records { (rs : List Record) → length rs ≤ MOST_RECORDS → IsLegal rs → AreInForm rs → SumsAreSmall (core_of rs) }
+    ensures asked { (n : ℕ) → (s : CoreState) → (number : ℕ) → (c : CallNow) → n ≤ MOST_RECORDS → IsSoundAt n s → call_in (core_facts s) number ≡ Some c
+        → is_asked c ≡ true → c.opened.amount < 2 ^ 62 }
+{}
+
+/// A record that is judged new brings no event that was accepted before. This is all that legality is needed for.
+#[tactic(auto, using(crate::proofs::NewEvents::judged_new))]
+pub fn new_records_bring_new_events()
+    ensures { (s : CoreState) → (r : Record) → judge core_keeper s r.input r.at ≡ judged.New r → IsNewEvent s r.input }
+{}
