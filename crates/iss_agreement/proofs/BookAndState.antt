@@ -34,9 +34,10 @@ use Rattle.iss_model.specs.rules.Facts.{Facts, txn_in, is_notice}
 use Rattle.iss_model.specs.rules.Asks.{Ask, ask_usage, txn_begun}
 use Rattle.iss_model.specs.rules.Reasons.{user_reason, card_reason, card_move_reason, user_move_reason, move_reason, product_reason, control_reason, put_control_reason, switch_reason, lacks_user, lacks_product, lacks_group}
 use Rattle.iss_model.specs.rules.CardReasons.{authorization_reason, first_ask, further_ask}
-use Rattle.iss_model.specs.rules.CardEntries.{funding_entries, authorization_entries, increment_entries, reversal_entries, clearing_entries, refund_entries, answer_entries}
+use Rattle.iss_acts.specs.Rows.{funding_entries, authorization_entries, increment_entries, reversal_entries, clearing_entries, refund_entries, answer_entries, unless_declined, acknowledgement_entries}
 use Rattle.iss_model.specs.rules.Due.{thing_entries}
-use Rattle.iss_model.specs.rules.Stepping.{unless_declined, setting_entries, load_entries, authorization_ask, increment_ask, acknowledgement_entries, entries_of}
+use Rattle.iss_model.specs.rules.Pieces.{setting_entries, load_entries}
+use Rattle.iss_model.specs.rules.Stepping.{authorization_ask, increment_ask, entries_of}
 use Rattle.iss_model.specs.rules.Histories.{History, nothing_yet, history_facts, history_keeper, history_of}
 use Rattle.iss_agreement.specs.Laws.{KeptBySteps}
 use Rattle.iss_model.proofs.Names.{its_name}

@@ -23,9 +23,9 @@ use Rattle.iss_model.specs.rules.Activity.{TxnNow, CallNow, is_asked}
 use Rattle.iss_model.specs.rules.Facts.{Facts, txn_in, call_in, asked_calls_of, next_notice}
 use Rattle.iss_model.specs.rules.Asks.{Ask, ask_usage}
 use Rattle.iss_model.specs.rules.StandIns.{Stand, allowed, over_limit, uncovered, stand}
-use Rattle.iss_model.specs.rules.Pieces.{post_entries, hold_entries, unhold_entries, Parts, use_return_entries, release_entries, abandoned_call_entries, abandoned_calls_entries, abandonment_entries, notice_after_abandonment, end_entries, declined_ask_entries, funded_ask_entries, failure_reason, stand_entries, stand_in_entries}
-use Rattle.iss_model.specs.rules.CardEntries.{gateway_ask_entries, funding_entries, increment_entries, reversal_entries, clearing_money_entries, last_clearing_entries, further_clearing_entries, clearing_entries, refund_entries, failed_call_entries, outcome_entries, entries_of_txn, entries_of_asked, answer_entries}
-use Rattle.iss_model.specs.rules.Due.{DueThing, call_due, txn_due, expiry_entries, live_expiry_entries, thing_entries}
+use Rattle.iss_model.specs.rules.Pieces.{post_entries, hold_entries, unhold_entries, Parts, use_return_entries, release_entries, abandoned_call_entries, abandoned_calls_entries, notice_after_abandonment, declined_ask_entries, funded_ask_entries, failure_reason, clearing_money_entries}
+use Rattle.iss_acts.specs.Rows.{abandonment_entries, end_entries, stand_entries, stand_in_entries, gateway_ask_entries, funding_entries, increment_entries, reversal_entries, last_clearing_entries, further_clearing_entries, clearing_entries, refund_entries, failed_call_entries, outcome_entries, entries_of_txn, entries_of_asked, answer_entries, expiry_entries, live_expiry_entries}
+use Rattle.iss_model.specs.rules.Due.{DueThing, call_due, txn_due, thing_entries}
 use Rattle.iss_model.proofs.Lists.{find_passes}
 use Rattle.iss_agreement.proofs.StayStanding.{true_le}
 use Rattle.iss_agreement.proofs.Standing.{Bounds, IsFit, AreFit}

@@ -17,9 +17,8 @@ use Rattle.iss_model.specs.rules.Facts.{Facts, next_notice}
 use Rattle.iss_model.specs.rules.Asks.{Ask, txn_begun, breach}
 use Rattle.iss_model.specs.rules.Reasons.{first_reason, is_some_with, user_is}
 use Rattle.iss_model.specs.rules.CardReasons.{is_in_currency, lacks_funds, control_breach, first_ask, further_ask, increment_reason, reversal_reason, clearing_reason, refund_reason}
-use Rattle.iss_model.specs.rules.Pieces.{only_where, only_gateway, Parts, parts_held, in_all, left_of, taken_to_clear, notice_entry, abandonment_entries, notice_after_abandonment}
-use Rattle.iss_model.specs.rules.CardEntries.{authorization_entries, increment_entries, reversal_entries, clearing_money_entries, last_clearing_entries, further_clearing_entries, clearing_entries, refund_entries}
-use Rattle.iss_model.specs.rules.Stepping.{unless_declined}
+use Rattle.iss_model.specs.rules.Pieces.{only_where, only_gateway, Parts, parts_held, in_all, left_of, taken_to_clear, notice_entry, notice_after_abandonment, clearing_money_entries}
+use Rattle.iss_acts.specs.Rows.{abandonment_entries, authorization_entries, increment_entries, reversal_entries, last_clearing_entries, further_clearing_entries, clearing_entries, refund_entries, unless_declined}
 use Rattle.iss_model.specs.state.Cores.{CoreState, core_facts}
 use Rattle.iss_hold.specs.declared.hold.Hold.{Hold}
 use Rattle.iss_hold.specs.Holdings.{parts_of, whole_of}

@@ -3,9 +3,8 @@ ghost use Rattle.std.specs.Prelude.{◌≡◌, ◌+◌, ◌<◌, ◌^◌, ◌++�
 ghost use Rattle.std.specs.List.{list_all};
 ghost use Rattle.iss_model.specs.Forms.{is_stamp};
 ghost use Rattle.iss_model.specs.rules.Facts.{call_in, next_notice};
-ghost use Rattle.iss_model.specs.rules.Pieces.{abandonment_entries, notice_after_abandonment};
-ghost use Rattle.iss_model.specs.rules.CardEntries.{answer_entries, outcome_entries, failed_call_entries};
-ghost use Rattle.iss_model.specs.rules.Due.{expiry_entries};
+ghost use Rattle.iss_acts.specs.Rows.{abandonment_entries, answer_entries, outcome_entries, failed_call_entries, expiry_entries};
+ghost use Rattle.iss_model.specs.rules.Pieces.{notice_after_abandonment};
 ghost use Rattle.iss_model.specs.state.Cores.{core_facts};
 ghost use Rattle.iss_core.specs.States.{state_of};
 ghost use Rattle.iss_core.specs.Cards.{IsHeld};

@@ -1,7 +1,8 @@
 //! The entries of each kind of input.
 ghost use Rattle.std.specs.Prelude.{◌≡◌, ℕ, ◌++◌, true, OnOk, IsTrue};
 ghost use Rattle.iss_model.specs.Forms.{is_in_form, is_stamp};
-ghost use Rattle.iss_model.specs.rules.Stepping.{entries_of, acknowledgement_entries};
+ghost use Rattle.iss_model.specs.rules.Stepping.{entries_of};
+ghost use Rattle.iss_acts.specs.Rows.{acknowledgement_entries};
 ghost use Rattle.iss_model.specs.state.Cores.{core_facts};
 ghost use Rattle.iss_core.specs.States.{state_of};
 ghost use Rattle.iss_core.specs.Order.{IsInOrder};

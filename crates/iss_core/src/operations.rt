@@ -7,7 +7,7 @@ ghost use Rattle.iss_model.specs.rules.Settings.{card_named, is_active_card};
 ghost use Rattle.iss_model.specs.rules.Asks.{is_authorization};
 ghost use Rattle.iss_model.specs.rules.Reasons.{is_some_with};
 ghost use Rattle.iss_model.specs.rules.CardReasons.{further_ask, increment_reason, is_pending, reversal_reason, clearing_reason};
-ghost use Rattle.iss_model.specs.rules.CardEntries.{refund_entries};
+ghost use Rattle.iss_acts.specs.Rows.{refund_entries};
 ghost use Rattle.iss_model.specs.state.Cores.{core_facts};
 ghost use Rattle.iss_hold.specs.Holdings.{now_of, parts_of, whole_of};
 ghost use Rattle.iss_core.specs.States.{state_of};

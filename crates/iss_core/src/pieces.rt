@@ -4,7 +4,7 @@ ghost use Rattle.iss_model.specs.declared.account.Account.TheVariants as account
 ghost use Rattle.iss_model.specs.declared.account.Part.TheVariants as part;
 ghost use Rattle.iss_model.specs.declared.entry.Entry.TheVariants as entry;
 ghost use Rattle.iss_model.specs.rules.Pieces.{only_gateway, only_where, notice_entry, void_entry, abandoned_call_entries, declined_ask_entries, funded_ask_entries, failure_reason};
-ghost use Rattle.iss_model.specs.rules.Stepping.{unless_declined};
+ghost use Rattle.iss_acts.specs.Rows.{unless_declined};
 ghost use Rattle.iss_core.specs.Asks.{ask_of};
 ghost use Rattle.iss_core.specs.Standing.{stood_entries};
 

@@ -2,8 +2,7 @@
 ghost use Rattle.std.specs.Prelude.{◌≡◌, ◌<◌, ◌^◌, ◌++◌, Some, OnOk, IsTrue};
 ghost use Rattle.iss_model.specs.Forms.{is_amount, is_stamp, is_hold_time};
 ghost use Rattle.iss_model.specs.rules.Settings.{card_named};
-ghost use Rattle.iss_model.specs.rules.CardEntries.{authorization_entries};
-ghost use Rattle.iss_model.specs.rules.Stepping.{unless_declined};
+ghost use Rattle.iss_acts.specs.Rows.{authorization_entries, unless_declined};
 ghost use Rattle.iss_model.specs.state.Cores.{core_facts};
 ghost use Rattle.iss_core.specs.States.{state_of};
 ghost use Rattle.iss_core.specs.Asks.{ask_of, ask_reason};

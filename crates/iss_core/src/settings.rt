@@ -1,7 +1,8 @@
 //! The entries of settings and loads.
 ghost use Rattle.std.specs.Prelude.{◌≡◌, ◌++◌, OnOk, IsTrue};
 ghost use Rattle.iss_model.specs.Forms.{is_amount};
-ghost use Rattle.iss_model.specs.rules.Stepping.{unless_declined, setting_entries, load_entries};
+ghost use Rattle.iss_acts.specs.Rows.{unless_declined};
+ghost use Rattle.iss_model.specs.rules.Pieces.{setting_entries, load_entries};
 ghost use Rattle.iss_model.specs.rules.Reasons.{load_reason};
 ghost use Rattle.iss_model.specs.state.Cores.{core_facts};
 ghost use Rattle.iss_core.specs.States.{state_of};

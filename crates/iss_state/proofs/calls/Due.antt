@@ -18,10 +18,10 @@ use Rattle.iss_model.specs.declared.input.Outcome.TheVariants as outcome
 use Rattle.iss_model.specs.declared.txn.Txn.{Txn}
 use Rattle.iss_model.specs.rules.Activity.{TxnNow, CallNow, txn_named, call_numbered, is_asked}
 use Rattle.iss_model.specs.rules.Asks.{call_ask}
-use Rattle.iss_model.specs.rules.CardEntries.{failed_call_entries, outcome_entries, entries_of_txn, entries_of_asked}
-use Rattle.iss_model.specs.rules.Due.{DueThing, call_due, txn_due, expiry_entries, live_expiry_entries, thing_entries}
+use Rattle.iss_acts.specs.Rows.{failed_call_entries, outcome_entries, entries_of_txn, entries_of_asked, expiry_entries, live_expiry_entries, end_entries, stand_in_entries}
+use Rattle.iss_model.specs.rules.Due.{DueThing, call_due, txn_due, thing_entries}
 use Rattle.iss_model.specs.rules.Facts.{Facts, asked_calls_of, next_notice}
-use Rattle.iss_model.specs.rules.Pieces.{only_where, only_gateway, parts_held, in_all, notice_entry, notice_after_abandonment, end_entries, declined_ask_entries, funded_ask_entries, stand_in_entries}
+use Rattle.iss_model.specs.rules.Pieces.{only_where, only_gateway, parts_held, in_all, notice_entry, notice_after_abandonment, declined_ask_entries, funded_ask_entries}
 use Rattle.iss_model.specs.rules.Reasons.{is_some_with}
 use Rattle.iss_model.specs.rules.StandIns.{stand}
 use Rattle.iss_model.specs.state.Cores.{CoreState, core_facts}

@@ -16,8 +16,8 @@ use Rattle.iss_model.specs.declared.entry.Entry.{Entry}
 use Rattle.iss_model.specs.declared.entry.Entry.TheVariants as entry
 use Rattle.iss_model.specs.declared.txn.Txn.{Txn}
 use Rattle.iss_model.specs.rules.Activity.{TxnNow, CallNow, txn_named, call_numbered, is_asked}
-use Rattle.iss_model.specs.rules.CardEntries.{failed_call_entries, entries_of_txn, entries_of_asked}
-use Rattle.iss_model.specs.rules.Due.{DueThing, call_due, DueItem, txn_due, expiry_entries, live_expiry_entries, thing_entries}
+use Rattle.iss_acts.specs.Rows.{failed_call_entries, entries_of_txn, entries_of_asked, expiry_entries, live_expiry_entries}
+use Rattle.iss_model.specs.rules.Due.{DueThing, call_due, DueItem, txn_due, thing_entries}
 use Rattle.iss_model.specs.rules.Keeper.{Growth}
 use Rattle.iss_model.specs.rules.Reasons.{is_some_with}
 use Rattle.iss_model.specs.rules.Stepping.{settle}

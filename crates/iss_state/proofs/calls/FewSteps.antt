@@ -15,15 +15,15 @@ use Rattle.iss_model.specs.declared.input.Record.{Record}
 use Rattle.iss_model.specs.declared.txn.Txn.{Txn}
 use Rattle.iss_model.specs.rules.Activity.{TxnNow, CallNow, is_asked}
 use Rattle.iss_model.specs.rules.Asks.{Ask}
-use Rattle.iss_model.specs.rules.CardEntries.{authorization_entries, increment_entries, reversal_entries, clearing_entries, owed_to_programme, refund_entries, failed_call_entries, outcome_entries, entries_of_txn, entries_of_asked}
+use Rattle.iss_acts.specs.Rows.{authorization_entries, increment_entries, reversal_entries, clearing_entries, refund_entries, failed_call_entries, outcome_entries, entries_of_txn, entries_of_asked, expiry_entries, live_expiry_entries, unless_declined}
+use Rattle.iss_model.specs.rules.Pieces.{owed_to_programme, user_account, parts_held, in_all, left_of, taken_to_clear, setting_entries, load_entries}
 use Rattle.iss_model.specs.rules.CardReasons.{authorization_reason, increment_reason, reversal_reason, clearing_reason, refund_reason}
-use Rattle.iss_model.specs.rules.Due.{DueThing, call_due, DueItem, txn_due, due_items, expiry_entries, live_expiry_entries, thing_entries}
+use Rattle.iss_model.specs.rules.Due.{DueThing, call_due, DueItem, txn_due, due_items, thing_entries}
 use Rattle.iss_model.specs.rules.Facts.{Facts, txn_in, call_in, asked_calls_of, next_notice, is_notice}
 use Rattle.iss_model.specs.rules.Histories.{IsLegal}
 use Rattle.iss_model.specs.rules.Keeper.{Growth}
-use Rattle.iss_model.specs.rules.Pieces.{user_account, parts_held, in_all, left_of, taken_to_clear}
 use Rattle.iss_model.specs.rules.Reasons.{load_reason}
-use Rattle.iss_model.specs.rules.Stepping.{unless_declined, setting_entries, load_entries, authorization_ask, increment_ask, entries_of, settle, after_due, step}
+use Rattle.iss_model.specs.rules.Stepping.{authorization_ask, increment_ask, entries_of, settle, after_due, step}
 use Rattle.iss_model.specs.state.Cores.{CoreState, no_core, with_record, core_facts, core_keeper, core_of, after_entry}
 use Rattle.iss_state.specs.Sound.{IsNewEvent}
 use Rattle.iss_state.proofs.invariants.Legal.{IsKept, legal_induction}

@@ -25,14 +25,14 @@ use Rattle.iss_model.specs.declared.txn.Txn.{Txn}
 use Rattle.iss_model.specs.Inputs.{event_token}
 use Rattle.iss_model.specs.rules.Activity.{TxnNow, CallNow, is_asked, txn_named}
 use Rattle.iss_model.specs.rules.Asks.{Ask, ask_usage, txn_begun, is_authorization}
-use Rattle.iss_model.specs.rules.CardEntries.{call_for, gateway_ask_entries, funding_entries, authorization_entries, increment_entries, reversal_entries, clearing_money_entries, last_clearing_entries, further_clearing_entries, clearing_entries, owed_to_programme, refund_entries, outcome_entries}
+use Rattle.iss_model.specs.rules.Pieces.{call_for, clearing_money_entries, owed_to_programme, only_where, only_gateway, post_entries, hold_entries, user_account, Parts, parts_held, in_all, left_of, taken_to_clear, release_entries, notice_after_abandonment, notice_entry, abandoned_calls_entries, setting_entries, load_entries}
+use Rattle.iss_acts.specs.Rows.{gateway_ask_entries, funding_entries, authorization_entries, increment_entries, reversal_entries, last_clearing_entries, further_clearing_entries, clearing_entries, refund_entries, outcome_entries, end_entries, stand_in_entries, unless_declined}
 use Rattle.iss_model.specs.rules.CardReasons.{authorization_reason, first_ask, further_ask, is_account_funded, increment_reason, is_in_currency, is_pending, reversal_reason, clearing_reason, refund_reason}
 use Rattle.iss_model.specs.rules.Facts.{Facts, txn_in, asked_calls_of, next_notice, is_notice}
-use Rattle.iss_model.specs.rules.Pieces.{only_where, only_gateway, post_entries, hold_entries, user_account, Parts, parts_held, in_all, left_of, taken_to_clear, release_entries, notice_after_abandonment, notice_entry, abandoned_calls_entries, end_entries, stand_in_entries}
 use Rattle.iss_model.specs.rules.Reasons.{user_reason, card_reason, user_is, move_reason, is_some_with, product_reason, group_reason, control_reason, set_reason, switch_reason, load_reason}
 use Rattle.iss_model.specs.rules.Settings.{card_named, product_named, is_active_user, is_named_in, is_active_card}
 use Rattle.iss_model.specs.rules.StandIns.{stand}
-use Rattle.iss_model.specs.rules.Stepping.{unless_declined, setting_entries, load_entries, authorization_ask, increment_ask, entries_of}
+use Rattle.iss_model.specs.rules.Stepping.{authorization_ask, increment_ask, entries_of}
 use Rattle.iss_model.specs.state.Cores.{CoreState, is_live, core_facts}
 use Rattle.iss_model.proofs.Names.{its_name, same_name}
 use Rattle.iss_state.specs.Numbers.{CallsNumberedFrom}

@@ -9,11 +9,12 @@ use Rattle.iss_model.specs.declared.input.Input.{Input}
 use Rattle.iss_model.specs.declared.input.Input.TheVariants as input
 use Rattle.iss_model.specs.declared.input.Outcome.{Outcome}
 use Rattle.iss_model.specs.Inputs.{event_token}
-use Rattle.iss_model.specs.rules.CardEntries.{answer_entries, clearing_entries, refund_entries, reversal_entries}
+use Rattle.iss_acts.specs.Rows.{answer_entries, clearing_entries, refund_entries, reversal_entries, acknowledgement_entries, unless_declined}
 use Rattle.iss_model.specs.rules.CardReasons.{clearing_reason, refund_reason, reversal_reason}
 use Rattle.iss_model.specs.rules.Facts.{Facts, txn_in}
 use Rattle.iss_model.specs.rules.Reasons.{card_reason, control_reason, group_reason, load_reason, move_reason, product_reason, set_reason, switch_reason, user_reason}
-use Rattle.iss_model.specs.rules.Stepping.{acknowledgement_entries, entries_of, load_entries, setting_entries, unless_declined}
+use Rattle.iss_model.specs.rules.Stepping.{entries_of}
+use Rattle.iss_model.specs.rules.Pieces.{load_entries, setting_entries}
 use Rattle.iss_state.specs.Needs.{setting_reason}
 
 -- A property of an input and its entries, shown for settings together and for each other kind by itself.
