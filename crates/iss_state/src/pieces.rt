@@ -16,7 +16,7 @@ ghost use Rattle.iss_state.specs.Effects.{Effect, Paid, PaidByAsk, HoldsParts};
 
 /// A release is paid by what it lets go, and an abandonment by what its calls ask, so an end costs nothing.
 /// An ask that is decided costs at most four times what was asked in money and twice in use, whoever decides it.
-#[tactic(auto, using(crate::proofs::Asks::end_paid, crate::proofs::Asks::declined_ask_paid, crate::proofs::Asks::funded_ask_paid, crate::proofs::Asks::stand_in_paid))]
+#[tactic(auto, using(crate::proofs::effects::Asks::end_paid, crate::proofs::effects::Asks::declined_ask_paid, crate::proofs::effects::Asks::funded_ask_paid, crate::proofs::effects::Asks::stand_in_paid))]
 pub fn pieces_are_paid()
     ensures release { (s : CoreState) → (t : Txn) → (parts : Parts) → (amount : ℕ) → IsOrderlyState s → Stands s t → HoldsParts s t parts → amount ≤ in_all parts
         → Effect s (release_entries t parts amount) (2 * amount) amount 0 amount }
