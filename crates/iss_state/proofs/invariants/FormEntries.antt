@@ -1,6 +1,6 @@
 -- What is due, and what an input in form makes, is in form on a state in form.
 use Rattle.std.specs.Prelude.{None, Option, Some, option_and_then, option_map}
-use Rattle.std.proofs.Common.{Bool, List, [], ap, ap₂, cond, false, filter, min, nat_eq, refl, true, ℕ, ◌&&◌, ◌+◌, ◌-◌, ◌||◌, ◌∷◌, ◌≡◌}
+use Rattle.std.proofs.Common.{Bool, List, [], ap, ap₂, cond, false, filter, min, nat_eq, refl, subst, sym, true, ℕ, ◌&&◌, ◌+◌, ◌-◌, ◌||◌, ◌∷◌, ◌≡◌}
 use Rattle.std.specs.List.{list_all}
 use Rattle.std.specs.Str.{bytes_eq}
 use Rattle.std.proofs.lemmas.Bool.{and_parts}
@@ -26,7 +26,8 @@ use Rattle.iss_model.specs.declared.txn.Txn.{Txn}
 use Rattle.iss_model.specs.Forms.{is_in_form, is_stamp}
 use Rattle.iss_model.specs.rules.Activity.{CallNow, TxnNow, call_numbered, is_asked, txn_named}
 use Rattle.iss_model.specs.rules.Asks.{Ask, ask_usage, call_ask, txn_begun}
-use Rattle.iss_acts.specs.Rows.{authorization_entries, clearing_entries, entries_of_asked, entries_of_txn, failed_call_entries, funding_entries, further_clearing_entries, gateway_ask_entries, increment_entries, last_clearing_entries, outcome_entries, refund_entries, reversal_entries, expiry_entries, live_expiry_entries, abandonment_entries, end_entries, stand_entries, stand_in_entries, unless_declined}
+use Rattle.iss_acts.proofs.Made.{thing_made}
+use Rattle.iss_acts.specs.Rows.{written_thing, authorization_entries, clearing_entries, entries_of_asked, entries_of_txn, failed_call_entries, funding_entries, further_clearing_entries, gateway_ask_entries, increment_entries, last_clearing_entries, outcome_entries, refund_entries, reversal_entries, expiry_entries, live_expiry_entries, abandonment_entries, end_entries, stand_entries, stand_in_entries, unless_declined}
 use Rattle.iss_model.specs.rules.Pieces.{call_for, owed_to_programme, Parts, abandoned_call_entries, abandoned_calls_entries, failure_reason, in_all, left_of, notice_entry, parts_held, taken_to_clear, user_account, void_entry, setting_entries}
 use Rattle.iss_model.specs.rules.CardReasons.{authorization_reason, clearing_reason, first_ask, further_ask, increment_reason, is_account_funded, refund_reason, reversal_reason}
 use Rattle.iss_model.specs.rules.Due.{DueThing, call_due, thing_entries, txn_due}
@@ -140,10 +141,13 @@ live_expiry_formed : (f : Facts) (o : Option TxnNow) → AreTimed f → ((now : 
 live_expiry_formed f None timed begun = passing refl
 live_expiry_formed f (Some now) timed begun = either_passes now.live (expiry_formed f now.txn timed (begun now refl)) (passing refl)
 
-things_formed : (f : Facts) (thing : DueThing) (at : ℕ) → AreTimed f → is_stamp at ≡ true → AreFormed (thing_entries thing at f)
-things_formed f (call_due number) at timed stamp =
+written_things_formed : (f : Facts) (thing : DueThing) (at : ℕ) → AreTimed f → is_stamp at ≡ true → AreFormed (written_thing thing at f)
+written_things_formed f (call_due number) at timed stamp =
     asked_formed (λ (o : Opened) (t : Txn). failed_call_entries f o t failure.Timeout at) number f timed (λ o t opened. failed_call_formed f o t failure.Timeout at opened stamp)
-things_formed f (txn_due token) at timed stamp = live_expiry_formed f (txn_named token f.txns) timed (λ now e. found_stamp f token now timed e)
+written_things_formed f (txn_due token) at timed stamp = live_expiry_formed f (txn_named token f.txns) timed (λ now e. found_stamp f token now timed e)
+
+things_formed : (f : Facts) (thing : DueThing) (at : ℕ) → AreTimed f → is_stamp at ≡ true → AreFormed (thing_entries thing at f)
+things_formed f thing at timed stamp = subst AreFormed (sym (thing_made f thing at)) (written_things_formed f thing at timed stamp)
 
 -- ---- own entries
 
