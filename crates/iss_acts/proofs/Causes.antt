@@ -100,7 +100,7 @@ module _ {f : Facts} {by : Cause} {at : ℕ} where
   unless_row (Some why) token its h = fresh (one_act its tt)
 
   set_row : (i : Input) (why : Option Reason) (token : List ℕ) → by ≡ ComesOf i → why ≡ setting_reason f i → is_of_event by token ≡ true → IsRow f by at (acts_unless why token (Sets i token ∷ []))
-  set_row i why token comes same its = unless_row why token its (λ none. fresh (one_act its (comes, sym same ∙ none)))
+  set_row i why token comes same its = unless_row why token its (λ none. fresh (one_act its (refl, comes, sym same ∙ none)))
 
   -- calls ----
 

@@ -101,7 +101,7 @@ setting_reason f _ = None
 
 -- Where an act comes from, at this stage of its row.
 abbrev pub IsFrom : Facts → Cause → ℕ → Stage → Act → Type 0
-IsFrom f by at g (Sets i event) = (by ≡ ComesOf i) × (setting_reason f i ≡ None)
+IsFrom f by at g (Sets i event) = (g ≡ Fresh) × (by ≡ ComesOf i) × (setting_reason f i ≡ None)
 IsFrom f by at g (Loads event user currency amount) = (g ≡ Fresh) × (by ≡ ComesOf (input.Load event user currency amount))
 IsFrom f by at g (Begins ask) = (g ≡ Fresh) × IsFirstAsk f by at ask
 IsFrom f by at g (Uses ask) = (g ≡ Fresh) × IsFurtherAsk f by at ask
