@@ -1,4 +1,4 @@
--- What reading gives was spelled so, and what is spelled so is given.
+-- A record that is read was spelled so, and a record that is spelled so is read.
 use Rattle.std.proofs.Common.{◌≡◌, ℕ, List, Option, Some, None, Result, Ok, Err, sym, ap, ◌∙◌}
 use Rattle.std.specs.Prelude.{IfOk, IfSome}
 use Rattle.iss_model.specs.declared.input.Record.{Record}

@@ -1,4 +1,4 @@
-//! What holds of the bytes of every record: each has one spelling, and what is spelled is read again.
+//! What holds of the bytes of every record in form: it has one spelling, which is read again.
 ghost use Rattle.std.specs.Prelude.{◌≡◌, ◌++◌, List, ℕ, [], Some, None, IsTrue};
 ghost use Rattle.iss_model.specs.declared.currency.Currency.{Currency};
 ghost use Rattle.iss_model.specs.declared.input.Record.{Record};
