@@ -17,7 +17,7 @@ use Rattle.iss_model.specs.declared.input.Record.{Record}
 use Rattle.iss_model.specs.Inputs.{contents, same_contents}
 use Rattle.iss_model.specs.texts.Spelling.{number_bytes, kind_number, field_bytes, has_spelling, spelling}
 use Rattle.iss_codec.proofs.TakenRecords.{begins_none}
-use Rattle.iss_codec.specs.Meanings.{AreSpelledAlike}
+use Rattle.iss_codec.specs.Meanings.{HaveSpellings, AreSpelledAlike}
 use Rattle.iss_codec.proofs.Cuts.{IsCut, pair_cut, number_cut, text_cut, flag_cut, currency_cut, funding_cut, window_cut, outcome_cut, optional_cut, moved_cut, association_cut, scope_cut}
 
 -- lists that come apart are equal only if their values are
@@ -146,9 +146,9 @@ alike_equal a b h k e =
     ap (λ (r : Record). r.input) (begins_none r s [] k h all).0
 
 -- and so inputs in form have the same contents exactly if they are spelled alike
-pub same_alike : (a b : Input) → IsTrue (has_spelling a) → IsTrue (has_spelling b) → IsTrue (same_contents a b) ↔ AreSpelledAlike a b
-same_alike a b h k =
+pub same_alike : (a b : Input) → HaveSpellings a b → IsTrue (same_contents a b) ↔ AreSpelledAlike a b
+same_alike a b both =
     let same = same_exactly a b in (
       λ c. (ap kind_number (same.0 c), ap field_bytes (same.0 c)),
-      λ alike. same.1 (alike_equal a b h k alike),
+      λ alike. same.1 (alike_equal a b both.0 both.1 alike),
     )
