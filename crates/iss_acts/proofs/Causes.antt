@@ -19,14 +19,15 @@ use Rattle.iss_model.specs.declared.txn.Txn.{Txn}
 use Rattle.iss_model.specs.rules.Activity.{CallNow, TxnNow, is_asked, txn_named}
 use Rattle.iss_model.specs.rules.Asks.{Ask, call_ask}
 use Rattle.iss_model.specs.rules.CardReasons.{authorization_reason, clearing_reason, further_ask, increment_reason, is_account_funded, refund_reason, reversal_reason}
-use Rattle.iss_model.specs.rules.Due.{DueThing, call_due, txn_due}
+use Rattle.iss_model.specs.rules.Due.{DueThing, call_due, txn_due, expiry_acts, live_expiry_acts, thing_acts}
 use Rattle.iss_model.specs.rules.Facts.{Facts, asked_calls_of, call_in, is_notice, next_notice, txn_in}
 use Rattle.iss_model.specs.rules.Pieces.{Parts, in_all, left_of, parts_held, taken_to_clear, taken_to_release}
 use Rattle.iss_model.specs.rules.Reasons.{card_reason, control_reason, group_reason, load_reason, move_reason, product_reason, set_reason, switch_reason, user_reason}
 use Rattle.iss_model.specs.rules.Settings.{is_named_in, product_named}
 use Rattle.iss_model.specs.rules.StandIns.{Stand, allowed, over_limit, stand, uncovered}
-use Rattle.iss_model.specs.rules.Stepping.{authorization_ask}
-use Rattle.iss_acts.specs.Acts.{Abandons, Act, Ends, LetsGo, Sets, acts_for_gateway, acts_of, acts_of_asked, acts_of_txn, acts_unless, acts_where, authorization_acts, clearing_acts, end_acts, expiry_acts, failed_acts, funding_acts, gateway_acts, increment_acts, live_expiry_acts, outcome_acts, refund_acts, reversal_acts, stand_acts, thing_acts}
+use Rattle.iss_model.specs.rules.Stepping.{authorization_ask, acts_of, acts_unless}
+use Rattle.iss_model.specs.rules.Acts.{Abandons, Act, Ends, LetsGo, Sets}
+use Rattle.iss_model.specs.rules.CardActs.{acts_for_gateway, acts_of_asked, acts_of_txn, acts_where, authorization_acts, clearing_acts, end_acts, failed_acts, funding_acts, gateway_acts, increment_acts, outcome_acts, refund_acts, reversal_acts, stand_acts}
 use Rattle.iss_acts.specs.Causes.{Cause, ComesOf, FallsDue, fails_call, is_of_event, lets_go, may_act, seeks_funding, settles_ask}
 use Rattle.iss_acts.specs.Sources.{AllMade, AreWithin, IsAskedCall, IsFirstAsk, IsFrom, IsFurtherAsk, IsOwnAsk, IsRow, IsSettledAsk, IsTxnOf}
 use Rattle.iss_acts.specs.Stages.{Fresh, Keeps, Leaves, Seeks, Stage, stage_after}

@@ -18,16 +18,17 @@ use Rattle.iss_model.specs.declared.setting.Product.{Product}
 use Rattle.iss_model.specs.declared.txn.Txn.{Txn}
 use Rattle.iss_model.specs.rules.Activity.{CallNow, TxnNow, is_asked}
 use Rattle.iss_model.specs.rules.Asks.{Ask, call_ask}
-use Rattle.iss_model.specs.rules.CardEntries.{authorization_entries, clearing_entries, clearing_money_entries, entries_of_asked, entries_of_txn, failed_call_entries, funding_entries, further_clearing_entries, gateway_ask_entries, increment_entries, last_clearing_entries, outcome_entries, owed_to_programme, refund_entries, reversal_entries}
+use Rattle.iss_acts.specs.Rows.{authorization_entries, clearing_entries, entries_of_asked, entries_of_txn, failed_call_entries, funding_entries, further_clearing_entries, gateway_ask_entries, increment_entries, last_clearing_entries, outcome_entries, refund_entries, reversal_entries, expiry_entries, live_expiry_entries, abandonment_entries, end_entries, stand_entries, stand_in_entries, unless_declined, written_thing, written_input}
+use Rattle.iss_model.specs.rules.Pieces.{clearing_money_entries, owed_to_programme, Parts, failure_reason, in_all, left_of, notice_after_abandonment, only_gateway, only_where, parts_held, post_entries, release_entries, taken_to_clear, user_account, load_entries}
 use Rattle.iss_model.specs.rules.CardReasons.{authorization_reason, clearing_reason, increment_reason, is_account_funded, refund_reason, reversal_reason}
-use Rattle.iss_model.specs.rules.Due.{DueThing, call_due, expiry_entries, live_expiry_entries, thing_entries, txn_due}
+use Rattle.iss_model.specs.rules.Due.{DueThing, call_due, txn_due, expiry_acts, live_expiry_acts, thing_acts}
 use Rattle.iss_model.specs.rules.Facts.{Facts, call_in, is_notice, next_notice, txn_in}
-use Rattle.iss_model.specs.rules.Pieces.{Parts, abandonment_entries, end_entries, failure_reason, in_all, left_of, notice_after_abandonment, only_gateway, only_where, parts_held, post_entries, release_entries, stand_entries, stand_in_entries, taken_to_clear, user_account}
 use Rattle.iss_model.specs.rules.Reasons.{card_reason, control_reason, group_reason, load_reason, move_reason, product_reason, set_reason, switch_reason, user_reason}
 use Rattle.iss_model.specs.rules.Settings.{is_named_in, product_named}
 use Rattle.iss_model.specs.rules.StandIns.{Stand, allowed, over_limit, stand, uncovered}
-use Rattle.iss_model.specs.rules.Stepping.{authorization_ask, entries_of, increment_ask, load_entries, unless_declined}
-use Rattle.iss_acts.specs.Acts.{Acknowledges, Act, Asks, Begins, Does, Ends, Funds, HoldsOwn, Loads, Refuses, Fails, StandsIn, Tells, TurnsDown, Uses, act_entries, acts_for_gateway, acts_of, acts_of_asked, acts_of_txn, acts_unless, acts_where, authorization_acts, captured, clearing_acts, end_acts, entries_of_acts, expired, expiry_acts, failed_acts, funding_acts, gateway_acts, increment_acts, live_expiry_acts, outcome_acts, refund_acts, refunded, reversal_acts, reversed, stand_acts, thing_acts}
+use Rattle.iss_model.specs.rules.Stepping.{authorization_ask, increment_ask, acts_of, acts_unless}
+use Rattle.iss_model.specs.rules.Acts.{Acknowledges, Act, Asks, Begins, Does, Ends, Funds, HoldsOwn, Loads, Refuses, Fails, StandsIn, Tells, TurnsDown, Uses, act_entries, captured, entries_of_acts, expired, refunded, reversed}
+use Rattle.iss_model.specs.rules.CardActs.{acts_for_gateway, acts_of_asked, acts_of_txn, acts_where, authorization_acts, clearing_acts, end_acts, failed_acts, funding_acts, gateway_acts, increment_acts, outcome_acts, refund_acts, reversal_acts, stand_acts}
 
 -- lists of acts ----
 
@@ -88,7 +89,7 @@ expiry_made f t =
     told : Act
     told = Tells (notice_after_abandonment (next_notice f) f t) expired t (in_all (parts_held f t)) (parts_held f t).g
 
-pub thing_made : (f : Facts) (thing : DueThing) (at : ℕ) → entries_of_acts (thing_acts thing at f) ≡ thing_entries thing at f
+pub thing_made : (f : Facts) (thing : DueThing) (at : ℕ) → entries_of_acts (thing_acts thing at f) ≡ written_thing thing at f
 thing_made f (call_due number) at =
     asked_made (λ (o : Opened) (t : Txn). failed_acts f o t failure.Timeout at) (λ (o : Opened) (t : Txn). failed_call_entries f o t failure.Timeout at)
     (λ o t. failed_made f o t failure.Timeout at) (call_in f number) f
@@ -220,7 +221,7 @@ refund_made f token amount (Some now) = by (is_account_funded now.txn.funding)
     by false = simp append_assoc
 
 -- the entries of an input are those of its acts
-pub input_made : (f : Facts) (i : Input) (at : ℕ) → entries_of_acts (acts_of i at f) ≡ entries_of i at f
+pub input_made : (f : Facts) (i : Input) (at : ℕ) → entries_of_acts (acts_of i at f) ≡ written_input i at f
 input_made f (input.User token user) at = unless_made (user_reason f user) token _ _ refl
 input_made f (input.Card token card user product active) at = unless_made (card_reason f card user product) token _ _ refl
 input_made f (input.Move token who) at = unless_made (move_reason f who) token _ _ refl

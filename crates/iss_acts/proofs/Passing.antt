@@ -10,13 +10,12 @@ use Rattle.iss_model.specs.declared.decision.Verdict.TheVariants as verdict
 use Rattle.iss_model.specs.declared.entry.Entry.{Entry}
 use Rattle.iss_model.specs.declared.txn.Txn.{Txn}
 use Rattle.iss_model.specs.rules.Asks.{Ask, ask_count, call_ask}
-use Rattle.iss_model.specs.rules.CardEntries.{call_for}
+use Rattle.iss_model.specs.rules.Pieces.{call_for, abandoned_calls_entries, declined_ask_entries, hold_entries, in_all, only_where, taken_to_clear, taken_to_release}
 use Rattle.iss_model.specs.declared.call.How.TheVariants as how
 use Rattle.iss_model.specs.declared.call.Opened.{Opened}
 use Rattle.iss_model.specs.rules.Activity.{CallNow}
 use Rattle.iss_model.specs.rules.CardReasons.{is_account_funded}
-use Rattle.iss_model.specs.rules.Pieces.{abandoned_calls_entries, declined_ask_entries, hold_entries, in_all, only_where, taken_to_clear, taken_to_release}
-use Rattle.iss_acts.specs.Acts.{Abandons, Acknowledges, Act, Asks, Begins, Clears, Declines, Does, Ends, Fails, Funds, GivesBack, HoldsOwn, LetsGo, Loads, Refuses, Sets, StandsIn, Tells, TurnsDown, Uses, act_entries}
+use Rattle.iss_model.specs.rules.Acts.{Abandons, Acknowledges, Act, Asks, Begins, Clears, Declines, Does, Ends, Fails, Funds, GivesBack, HoldsOwn, LetsGo, Loads, Refuses, Sets, StandsIn, Tells, TurnsDown, Uses, act_entries}
 use Rattle.iss_acts.specs.Items.{Acking, Beginning, Closing, Deciding, Ending, Freeing, FromGateway, FromNetwork, FromProgramme, Holding, Item, Loading, Opening, Paying, Setting, StandTelling, Standing, Telling, ToGateway, ToNetwork, ToProgramme, Using, Voiding, item_entry, has_item}
 
 -- each of these entries passes a test

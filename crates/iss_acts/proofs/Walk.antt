@@ -5,18 +5,17 @@ use Rattle.iss_model.specs.declared.entry.Entry.{Entry}
 use Rattle.iss_model.specs.declared.txn.Txn.{Txn}
 use Rattle.iss_model.specs.declared.input.Input.{Input}
 use Rattle.iss_model.specs.rules.Asks.{Ask}
-use Rattle.iss_model.specs.rules.Due.{DueThing, thing_entries}
+use Rattle.iss_model.specs.rules.Due.{DueThing, thing_entries, thing_acts}
 use Rattle.iss_model.specs.rules.Facts.{Facts}
 use Rattle.iss_model.specs.rules.Pieces.{Parts, parts_held}
-use Rattle.iss_model.specs.rules.Stepping.{entries_of}
-use Rattle.iss_acts.specs.Acts.{Act, act_entries, acts_of, entries_of_acts, thing_acts}
+use Rattle.iss_model.specs.rules.Stepping.{entries_of, acts_of}
+use Rattle.iss_model.specs.rules.Acts.{Act, act_entries, entries_of_acts}
 use Rattle.iss_acts.specs.Causes.{Cause, ComesOf, FallsDue}
 use Rattle.iss_acts.proofs.Causes.{input_row, thing_row}
 use Rattle.iss_acts.specs.Items.{Item, item_entry, has_item}
 use Rattle.iss_acts.specs.Sources.{AllMade, IsAskedCall, IsFurtherAsk, IsMade, IsRow, IsStart, IsTxnOf}
 use Rattle.iss_acts.specs.Stages.{Frees, Fresh, Keeps, Leaves, Over, Seeks, Stage, stage_after}
 use Rattle.iss_acts.proofs.Passing.{EachPasses, act_passes, both_pass, none_passes}
-use Rattle.iss_acts.proofs.Made.{input_made, thing_made}
 
 -- whatever stands ----
 
@@ -35,10 +34,10 @@ row_holds holds acts row = acts_hold holds row.first acts row.made
 
 -- holds of what is due, and of what an input makes
 pub due_holds : {P : List Entry → Type 0} (f : Facts) (thing : DueThing) (at : ℕ) → Holds f FallsDue at P → P (thing_entries thing at f)
-due_holds {P} f thing at holds = subst P (thing_made f thing at) (row_holds holds (thing_acts thing at f) (thing_row f thing at))
+due_holds f thing at holds = row_holds holds (thing_acts thing at f) (thing_row f thing at)
 
 pub own_holds : {P : List Entry → Type 0} (f : Facts) (i : Input) (at : ℕ) → Holds f (ComesOf i) at P → P (entries_of i at f)
-own_holds {P} f i at holds = subst P (input_made f i at) (row_holds holds (acts_of i at f) (input_row f i at))
+own_holds f i at holds = row_holds holds (acts_of i at f) (input_row f i at)
 
 -- a test that each item of each act passes
 pub each_item : {f : Facts} {by : Cause} {at : ℕ} {p : Entry → Bool} → ((g : Stage) (a : Act) → IsMade f by at g a → (x : Item) → has_item a x ≡ true → p (item_entry x) ≡ true) → Holds f by at (EachPasses p)
@@ -66,15 +65,15 @@ pub record FromStart {W : Type 0} (f : Facts) (P : Stage → W → List Entry �
 
 pub due_goes : {W : Type 0} {after : W → List Entry → W} {Known : Stage → W → Type 0} {P : Stage → W → List Entry → Type 0} (f : Facts) (thing : DueThing) (at : ℕ) (w : W)
     → Goes after f FallsDue at Known P → ((g : Stage) → IsStart f g → Known g w) → FromStart f P w (thing_entries thing at f)
-due_goes {P = P} f thing at w goes known =
+due_goes f thing at w goes known =
     let row : IsRow f FallsDue at (thing_acts thing at f) = thing_row f thing at in
-    record { first = row.first; starts = row.starts; holds = subst (P row.first w) (thing_made f thing at) (acts_go goes row.first w (thing_acts thing at f) row.made (known row.first row.starts)) }
+    record { first = row.first; starts = row.starts; holds = acts_go goes row.first w (thing_acts thing at f) row.made (known row.first row.starts) }
 
 pub own_goes : {W : Type 0} {after : W → List Entry → W} {Known : Stage → W → Type 0} {P : Stage → W → List Entry → Type 0} (f : Facts) (i : Input) (at : ℕ) (w : W)
     → Goes after f (ComesOf i) at Known P → ((g : Stage) → IsStart f g → Known g w) → FromStart f P w (entries_of i at f)
-own_goes {P = P} f i at w goes known =
+own_goes f i at w goes known =
     let row : IsRow f (ComesOf i) at (acts_of i at f) = input_row f i at in
-    record { first = row.first; starts = row.starts; holds = subst (P row.first w) (input_made f i at) (acts_go goes row.first w (acts_of i at f) row.made (known row.first row.starts)) }
+    record { first = row.first; starts = row.starts; holds = acts_go goes row.first w (acts_of i at f) row.made (known row.first row.starts) }
 
 -- what holds of an asked call and its transaction as they stand holds of them as they are called
 pub of_asked : {f : Facts} {o : Opened} {t : Txn} (P : Opened → Txn → Type 0) (asked : IsAskedCall f o t) → P asked.its.opened asked.now.txn → P o t

@@ -17,7 +17,7 @@ use Rattle.iss_model.specs.declared.input.Input.{Input}
 use Rattle.iss_model.specs.declared.txn.Txn.{Txn}
 use Rattle.iss_model.specs.rules.Asks.{usage_of}
 use Rattle.iss_model.specs.rules.Pieces.{notice_entry, user_account, void_entry}
-use Rattle.iss_acts.specs.Acts.{Abandons, Act, Asks, Begins, Clears, Declines, Does, Ends, Fails, Funds, GivesBack, HoldsOwn, LetsGo, Loads, News, Refuses, Sets, StandsIn, TurnsDown, news_method}
+use Rattle.iss_model.specs.rules.Acts.{Abandons, Act, Asks, Begins, Clears, Declines, Does, Ends, Fails, Funds, GivesBack, HoldsOwn, LetsGo, Loads, News, Refuses, Sets, StandsIn, TurnsDown, news_method}
 
 -- who pays whom for a transaction, other than its user
 pub data Payment : Type 0 where

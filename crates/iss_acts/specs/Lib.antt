@@ -1,4 +1,4 @@
-pub mod Acts
+pub mod Rows
 pub mod Causes
 pub mod Stages
 pub mod Sources

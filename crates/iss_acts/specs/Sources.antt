@@ -6,12 +6,11 @@ use Rattle.iss_model.specs.declared.input.Input.TheVariants as input
 use Rattle.iss_model.specs.declared.txn.Txn.{Txn}
 use Rattle.iss_model.specs.rules.Activity.{CallNow, TxnNow, is_asked}
 use Rattle.iss_model.specs.rules.Asks.{Ask, call_ask}
-use Rattle.iss_model.specs.rules.CardEntries.{owed_to_programme}
+use Rattle.iss_model.specs.rules.Pieces.{owed_to_programme, Parts, in_all, parts_held}
 use Rattle.iss_model.specs.rules.CardReasons.{authorization_reason, further_ask, increment_reason, is_account_funded}
 use Rattle.iss_model.specs.rules.Facts.{Facts, asked_calls_of, call_in, txn_in}
-use Rattle.iss_model.specs.rules.Pieces.{Parts, in_all, parts_held}
 use Rattle.iss_model.specs.rules.Stepping.{authorization_ask}
-use Rattle.iss_acts.specs.Acts.{Abandons, Act, Asks, Begins, Clears, Ends, Fails, Funds, GivesBack, HoldsOwn, LetsGo, Refuses, StandsIn, Tells, TurnsDown, Uses}
+use Rattle.iss_model.specs.rules.Acts.{Abandons, Act, Asks, Begins, Clears, Ends, Fails, Funds, GivesBack, HoldsOwn, LetsGo, Refuses, StandsIn, Tells, TurnsDown, Uses}
 use Rattle.iss_acts.specs.Causes.{Cause, ComesOf, may_act}
 use Rattle.iss_acts.specs.Stages.{Frees, Fresh, Keeps, Leaves, Seeks, Stage, stage_after}
 

@@ -2,7 +2,7 @@
 use Rattle.iss_model.specs.declared.txn.Txn.{Txn}
 use Rattle.iss_model.specs.rules.Asks.{Ask, call_ask}
 use Rattle.iss_model.specs.rules.Pieces.{Parts, left_of, taken_to_clear, taken_to_release}
-use Rattle.iss_acts.specs.Acts.{Abandons, Act, Begins, Clears, Fails, LetsGo, Uses}
+use Rattle.iss_model.specs.rules.Acts.{Abandons, Act, Begins, Clears, Fails, LetsGo, Uses}
 
 -- what the acts of a row have left so far
 pub data Stage : Type 0 where

@@ -34,9 +34,10 @@ use Rattle.iss_model.specs.rules.Facts.{Facts, txn_in, is_notice}
 use Rattle.iss_model.specs.rules.Asks.{Ask, ask_usage, txn_begun}
 use Rattle.iss_model.specs.rules.Reasons.{user_reason, card_reason, card_move_reason, user_move_reason, move_reason, product_reason, control_reason, put_control_reason, switch_reason, lacks_user, lacks_product, lacks_group}
 use Rattle.iss_model.specs.rules.CardReasons.{authorization_reason, first_ask, further_ask}
-use Rattle.iss_model.specs.rules.CardEntries.{funding_entries, authorization_entries, increment_entries, reversal_entries, clearing_entries, refund_entries, answer_entries}
-use Rattle.iss_model.specs.rules.Due.{thing_entries}
-use Rattle.iss_model.specs.rules.Stepping.{unless_declined, setting_entries, load_entries, authorization_ask, increment_ask, acknowledgement_entries, entries_of}
+use Rattle.iss_model.specs.rules.Pieces.{setting_entries, load_entries}
+use Rattle.iss_acts.specs.Rows.{funding_entries, authorization_entries, increment_entries, reversal_entries, clearing_entries, refund_entries, answer_entries, unless_declined, acknowledgement_entries, written_input, written_thing}
+use Rattle.iss_acts.proofs.Made.{input_made, thing_made}
+use Rattle.iss_model.specs.rules.Stepping.{authorization_ask, increment_ask}
 use Rattle.iss_model.specs.rules.Histories.{History, nothing_yet, history_facts, history_keeper, history_of}
 use Rattle.iss_agreement.specs.Laws.{KeptBySteps}
 use Rattle.iss_model.proofs.Names.{its_name}
@@ -212,7 +213,7 @@ fit-acknowledged f notice true h =
     fit-cons (bounds_of f) (entry.Acked notice) [] (true_le notice f.notices_made (and_parts (nat_le 1 notice) (nat_le notice f.notices_made) h).1) (fit-nil (bounds_of f))
 fit-acknowledged f notice false h = fit-nil (bounds_of f)
 
-pub fit-own : (f : Facts) (i : Input) (at : ℕ) → AreKnown (bounds_of f) f → Fit f (entries_of i at f)
+pub fit-own : (f : Facts) (i : Input) (at : ℕ) → AreKnown (bounds_of f) f → Fit f (written_input i at f)
 fit-own f (input.User token user) at all =
     fit-set f (input.User token user) token (user_reason f user) (λ none. (first_fails (is_some (user_named user f.users)) reason.Exists None none).0)
 fit-own f (input.Card token card user product active) at all =
@@ -264,8 +265,9 @@ book_kept =
     record {
       up = up_good;
       adds = λ h entries good fit. (enters h entries good fit).1;
-      due = λ h thing at good. fit-all (history_facts h) (thing_entries thing at (history_facts h)) (fit-thing (bounds_of (history_facts h)) (history_facts h) thing at (all_known h good));
-      own = λ h r good. fit-own (history_facts h) r.input r.at (all_known h good);
+      due = λ h thing at good. subst (Fit (history_facts h)) (sym (thing_made (history_facts h) thing at))
+          (fit-all (history_facts h) (written_thing thing at (history_facts h)) (fit-thing (bounds_of (history_facts h)) (history_facts h) thing at (all_known h good)));
+      own = λ h r good. subst (Fit (history_facts h)) (sym (input_made (history_facts h) r.input r.at)) (fit-own (history_facts h) r.input r.at (all_known h good));
     }
 
 pub nothing_good : IsGood nothing_yet

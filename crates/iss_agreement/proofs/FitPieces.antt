@@ -23,9 +23,9 @@ use Rattle.iss_model.specs.rules.Activity.{TxnNow, CallNow, is_asked}
 use Rattle.iss_model.specs.rules.Facts.{Facts, txn_in, call_in, asked_calls_of, next_notice}
 use Rattle.iss_model.specs.rules.Asks.{Ask, ask_usage}
 use Rattle.iss_model.specs.rules.StandIns.{Stand, allowed, over_limit, uncovered, stand}
-use Rattle.iss_model.specs.rules.Pieces.{post_entries, hold_entries, unhold_entries, Parts, use_return_entries, release_entries, abandoned_call_entries, abandoned_calls_entries, abandonment_entries, notice_after_abandonment, end_entries, declined_ask_entries, funded_ask_entries, failure_reason, stand_entries, stand_in_entries}
-use Rattle.iss_model.specs.rules.CardEntries.{gateway_ask_entries, funding_entries, increment_entries, reversal_entries, clearing_money_entries, last_clearing_entries, further_clearing_entries, clearing_entries, refund_entries, failed_call_entries, outcome_entries, entries_of_txn, entries_of_asked, answer_entries}
-use Rattle.iss_model.specs.rules.Due.{DueThing, call_due, txn_due, expiry_entries, live_expiry_entries, thing_entries}
+use Rattle.iss_model.specs.rules.Pieces.{post_entries, hold_entries, unhold_entries, Parts, use_return_entries, release_entries, abandoned_call_entries, abandoned_calls_entries, notice_after_abandonment, declined_ask_entries, funded_ask_entries, failure_reason, clearing_money_entries}
+use Rattle.iss_acts.specs.Rows.{abandonment_entries, end_entries, stand_entries, stand_in_entries, gateway_ask_entries, funding_entries, increment_entries, reversal_entries, last_clearing_entries, further_clearing_entries, clearing_entries, refund_entries, failed_call_entries, outcome_entries, entries_of_txn, entries_of_asked, answer_entries, expiry_entries, live_expiry_entries, written_thing}
+use Rattle.iss_model.specs.rules.Due.{DueThing, call_due, txn_due}
 use Rattle.iss_model.proofs.Lists.{find_passes}
 use Rattle.iss_agreement.proofs.StayStanding.{true_le}
 use Rattle.iss_agreement.proofs.Standing.{Bounds, IsFit, AreFit}
@@ -175,7 +175,7 @@ fit-expired_if_live : (b : Bounds) (f : Facts) (now : Option TxnNow) → AreKnow
 fit-expired_if_live b f None all known = fit-nil b
 fit-expired_if_live b f (Some now) all known = fit-if b now.live (expiry_entries f now.txn) [] (fit-expired b f now.txn all (known now refl)) (fit-nil b)
 
-pub fit-thing : (b : Bounds) (f : Facts) (thing : DueThing) (at : ℕ) → AreKnown b f → AreFit b (thing_entries thing at f)
+pub fit-thing : (b : Bounds) (f : Facts) (thing : DueThing) (at : ℕ) → AreKnown b f → AreFit b (written_thing thing at f)
 fit-thing b f (call_due number) at all =
     fit-of_asked b f (λ (o : Opened) (t : Txn). failed_call_entries f o t failure.Timeout at) all (λ o t within known. fit-failed b f o t failure.Timeout at all within known) (call_in f number) (λ c e. known_call b f number c all e)
 fit-thing b f (txn_due token) at all = fit-expired_if_live b f (txn_in f token) all (λ now e. known_txn b f token now all e)

@@ -18,8 +18,8 @@ use Rattle.iss_model.specs.rules.Activity.{TxnNow, CallNow}
 use Rattle.iss_model.specs.rules.Asks.{Ask}
 use Rattle.iss_model.specs.rules.CardReasons.{is_account_funded}
 use Rattle.iss_model.specs.rules.Facts.{Facts, next_notice, asked_calls_of}
-use Rattle.iss_model.specs.rules.Pieces.{only_where, only_gateway, post_entries, user_account, Parts, parts_held, in_all, left_of, taken_to_clear, release_entries, notice_entry, abandoned_calls_entries, abandonment_entries, notice_after_abandonment, end_entries, funded_ask_entries, set_stand_in_entries}
-use Rattle.iss_model.specs.rules.CardEntries.{reversal_entries, clearing_money_entries, clearing_entries, last_clearing_entries, further_clearing_entries, owed_to_programme, refund_entries}
+use Rattle.iss_model.specs.rules.Pieces.{only_where, only_gateway, post_entries, user_account, Parts, parts_held, in_all, left_of, taken_to_clear, release_entries, notice_entry, abandoned_calls_entries, notice_after_abandonment, funded_ask_entries, set_stand_in_entries, clearing_money_entries, owed_to_programme}
+use Rattle.iss_acts.specs.Rows.{abandonment_entries, end_entries, reversal_entries, clearing_entries, last_clearing_entries, further_clearing_entries, refund_entries}
 use Rattle.iss_chain.specs.Calls.{fund_money_entries, reversal_money_entries, end_money_entries, clearing_end_entries, refund_money_entries}
 use Rattle.iss_chain.specs.Among.{is_passed_over, AreMadeOf}
 

@@ -13,8 +13,7 @@ use Rattle.iss_model.specs.Sums.{part_key}
 use Rattle.iss_model.specs.state.Kept.{kept_at}
 use Rattle.iss_model.specs.rules.Activity.{TxnNow, txn_named}
 use Rattle.iss_model.specs.rules.Facts.{not_below}
-use Rattle.iss_model.specs.rules.Pieces.{post_entries, hold_entries, user_account, Parts, parts_held, in_all, left_of, taken_to_clear, release_entries}
-use Rattle.iss_model.specs.rules.CardEntries.{clearing_money_entries, owed_to_programme}
+use Rattle.iss_model.specs.rules.Pieces.{post_entries, hold_entries, user_account, Parts, parts_held, in_all, left_of, taken_to_clear, release_entries, clearing_money_entries, owed_to_programme}
 use Rattle.iss_chain.specs.Values.{ChainNow, chain_facts}
 use Rattle.iss_chain.specs.Calls.{load_money_entries, fund_money_entries, reversal_money_entries, end_money_entries, clearing_end_entries, refund_money_entries, entries_for, entries_of_fund, entries_of_reverse, entries_of_end, entries_of_clear, entries_of_refund}
 use Rattle.iss_chain.specs.Entering.{AreFit, IsTxn}

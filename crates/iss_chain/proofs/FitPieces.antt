@@ -19,8 +19,7 @@ use Rattle.iss_model.specs.rules.Activity.{TxnNow, txn_named}
 use Rattle.iss_model.specs.rules.Asks.{usage_of}
 use Rattle.iss_model.specs.rules.Facts.{not_below}
 use Rattle.iss_model.specs.rules.CardReasons.{is_account_funded}
-use Rattle.iss_model.specs.rules.Pieces.{only_where, only_gateway, post_entries, hold_entries, unhold_entries, user_account, Parts, in_all, taken_to_clear, left_of, taken_to_release, release_entries}
-use Rattle.iss_model.specs.rules.CardEntries.{clearing_money_entries}
+use Rattle.iss_model.specs.rules.Pieces.{only_where, only_gateway, post_entries, hold_entries, unhold_entries, user_account, Parts, in_all, taken_to_clear, left_of, taken_to_release, release_entries, clearing_money_entries}
 use Rattle.iss_model.proofs.Names.{its_name}
 use Rattle.iss_model.proofs.KeptSums.{kept_at-after_change}
 use Rattle.iss_hold.specs.Entries.{IsCovered}

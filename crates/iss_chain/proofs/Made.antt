@@ -11,8 +11,7 @@ use Rattle.iss_model.specs.state.Cores.{Holdings}
 use Rattle.iss_model.specs.rules.Facts.{not_below}
 use Rattle.iss_model.specs.rules.Reasons.{is_some_with}
 use Rattle.iss_model.specs.rules.CardReasons.{passes_cleared}
-use Rattle.iss_model.specs.rules.CardEntries.{owed_to_programme}
-use Rattle.iss_model.specs.rules.Pieces.{Parts, parts_held}
+use Rattle.iss_model.specs.rules.Pieces.{owed_to_programme, Parts, parts_held}
 use Rattle.iss_hold.specs.declared.hold.Hold.{Hold}
 use Rattle.iss_hold.specs.Holdings.{now_of, tokens, parts_of}
 use Rattle.iss_hold.specs.Indexes.{place_in}

@@ -13,8 +13,7 @@ use Rattle.iss_model.specs.declared.entry.Entry.TheVariants as entry
 use Rattle.iss_model.specs.Sums.{Change, changed_at, account_key, user_key}
 use Rattle.iss_model.specs.state.Kept.{Kept, IsSmall, AreSmall, kept_at, after_changes}
 use Rattle.iss_model.specs.rules.Asks.{usage_of}
-use Rattle.iss_model.specs.rules.Pieces.{only_where, only_gateway, post_entries, hold_entries, unhold_entries, user_account, Parts, in_all}
-use Rattle.iss_model.specs.rules.CardEntries.{clearing_money_entries}
+use Rattle.iss_model.specs.rules.Pieces.{only_where, only_gateway, post_entries, hold_entries, unhold_entries, user_account, Parts, in_all, clearing_money_entries}
 use Rattle.iss_model.specs.state.Cores.{begun_held_changes}
 use Rattle.iss_model.proofs.Names.{its_name}
 use Rattle.iss_model.proofs.KeptSums.{kept_at-after_changes}

@@ -8,8 +8,7 @@ use Rattle.iss_model.specs.declared.txn.Txn.{Txn}
 use Rattle.iss_model.specs.declared.entry.Entry.{Entry}
 use Rattle.iss_model.specs.declared.entry.Entry.TheVariants as entry
 use Rattle.iss_model.specs.rules.Activity.{TxnNow, txn_named}
-use Rattle.iss_model.specs.rules.Pieces.{only_where, only_gateway, post_entries, hold_entries, user_account, Parts, parts_held, in_all, left_of, taken_to_clear, release_entries}
-use Rattle.iss_model.specs.rules.CardEntries.{clearing_money_entries, owed_to_programme}
+use Rattle.iss_model.specs.rules.Pieces.{only_where, only_gateway, post_entries, hold_entries, user_account, Parts, parts_held, in_all, left_of, taken_to_clear, release_entries, clearing_money_entries, owed_to_programme}
 use Rattle.iss_chain.specs.Values.{ChainNow, chain_facts}
 
 -- money comes in from the programme

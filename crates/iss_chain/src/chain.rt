@@ -10,8 +10,7 @@ ghost use Rattle.iss_model.specs.rules.Facts.{balance_in, held_in, available_in}
 ghost use Rattle.iss_model.specs.rules.Reasons.{is_some_with};
 ghost use Rattle.iss_model.specs.rules.CardReasons.{passes_cleared};
 ghost use Rattle.iss_model.specs.rules.Due.{txn_due, is_quiet};
-ghost use Rattle.iss_model.specs.rules.Pieces.{parts_held};
-ghost use Rattle.iss_model.specs.rules.CardEntries.{owed_to_programme};
+ghost use Rattle.iss_model.specs.rules.Pieces.{parts_held, owed_to_programme};
 ghost use Rattle.iss_hold.specs.Holdings.{now_of, parts_of, whole_of};
 ghost use Rattle.iss_hold.specs.Expiries.{txns_due};
 ghost use Rattle.iss_chain.specs.Values.{no_chain, chain_after_entry, chain_facts, txn_state};

@@ -6,8 +6,7 @@ ghost use Rattle.std.specs.Prelude.{◌≡◌, ◌-◌, ◌≤◌, ◌<◌, ◌^
 ghost use Rattle.iss_model.specs.declared.account.Account.TheVariants as account;
 ghost use Rattle.iss_model.specs.declared.entry.Entry.TheVariants as entry;
 ghost use Rattle.iss_model.specs.rules.Asks.{usage_of};
-ghost use Rattle.iss_model.specs.rules.Pieces.{only_where, only_gateway, post_entries, hold_entries, unhold_entries, use_return_entries, user_account, release_entries, taken_to_clear};
-ghost use Rattle.iss_model.specs.rules.CardEntries.{clearing_money_entries};
+ghost use Rattle.iss_model.specs.rules.Pieces.{only_where, only_gateway, post_entries, hold_entries, unhold_entries, use_return_entries, user_account, release_entries, taken_to_clear, clearing_money_entries};
 ghost use Rattle.iss_hold.specs.Holdings.{now_of, parts_of, whole_of};
 ghost use Rattle.iss_chain.specs.Calls.{fund_money_entries, reversal_money_entries, end_money_entries, clearing_end_entries, refund_money_entries};
 

@@ -6,8 +6,7 @@ use Rattle.iss_model.specs.declared.decision.Verdict.TheVariants as verdict
 use Rattle.iss_model.specs.declared.entry.Entry.{Entry}
 use Rattle.iss_model.specs.declared.entry.Entry.TheVariants as entry
 use Rattle.iss_model.specs.rules.Facts.{Facts}
-use Rattle.iss_model.specs.rules.Pieces.{taken_to_clear}
-use Rattle.iss_model.specs.rules.CardEntries.{clearing_money_entries}
+use Rattle.iss_model.specs.rules.Pieces.{taken_to_clear, clearing_money_entries}
 use Rattle.iss_hold.specs.declared.hold.Hold.{Hold}
 use Rattle.iss_hold.specs.declared.hold.Taken.{Taken}
 use Rattle.iss_hold.specs.Holdings.{now_of, parts_of, without_parts}

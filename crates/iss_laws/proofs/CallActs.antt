@@ -20,7 +20,7 @@ use Rattle.iss_model.specs.rules.Activity.{CallNow}
 use Rattle.iss_model.specs.declared.decision.Reason.{Reason}
 use Rattle.iss_model.specs.rules.Pieces.{abandoned_call_entries, abandoned_calls_entries, user_account}
 use Rattle.iss_acts.specs.Causes.{may_act, Cause, ComesOf, FallsDue, seeks_funding}
-use Rattle.iss_acts.specs.Acts.{Abandons, Act, Asks, Fails, Funds, News, Refuses, act_entries, captured, expired, news_method, refunded, reversed}
+use Rattle.iss_model.specs.rules.Acts.{Abandons, Act, Asks, Fails, Funds, News, Refuses, act_entries, captured, expired, news_method, refunded, reversed}
 use Rattle.iss_acts.specs.Items.{Closing, FromGateway, FromNetwork, FromProgramme, Item, Opening, Paying, Payment, Telling, ToGateway, ToNetwork, ToProgramme, Voiding, item_entry, may_close, has_item, may_open_call, may_pay, may_void, payer}
 use Rattle.iss_acts.proofs.Passing.{EachPasses, act_passes, hold_passes}
 use Rattle.iss_acts.proofs.Walk.{Holds, each_item}

@@ -30,9 +30,10 @@ use Rattle.iss_model.specs.rules.Asks.{Ask, ask_given_back, call_ask}
 use Rattle.iss_model.specs.rules.CardReasons.{is_account_funded}
 use Rattle.iss_model.specs.rules.Facts.{Facts, txn_in, call_in, asked_calls_of, next_notice}
 use Rattle.iss_model.specs.rules.Histories.{History, history_facts, numbered_rows}
-use Rattle.iss_model.specs.rules.Pieces.{Parts, abandoned_call_entries, abandoned_calls_entries, declined_ask_entries, failure_reason, funded_ask_entries, hold_entries, in_all, notice_entry, post_entries, taken_to_clear, user_account, void_entry}
+use Rattle.iss_model.specs.rules.Pieces.{Parts, abandoned_call_entries, abandoned_calls_entries, declined_ask_entries, failure_reason, funded_ask_entries, hold_entries, in_all, notice_entry, post_entries, taken_to_clear, user_account, void_entry, refund_money_entries}
 use Rattle.iss_model.specs.rules.StandIns.{Stand, allowed, over_limit, uncovered, stand}
-use Rattle.iss_acts.specs.Acts.{Abandons, Act, Asks, Clears, Declines, Does, Ends, Fails, Funds, GivesBack, HoldsOwn, LetsGo, Loads, Refuses, Sets, StandsIn, TurnsDown, act_entries, acts_for_gateway, end_acts, entries_of_acts, failed_acts, refund_money_entries, stand_acts}
+use Rattle.iss_model.specs.rules.Acts.{Abandons, Act, Asks, Clears, Declines, Does, Ends, Fails, Funds, GivesBack, HoldsOwn, LetsGo, Loads, Refuses, Sets, StandsIn, TurnsDown, act_entries, entries_of_acts}
+use Rattle.iss_model.specs.rules.CardActs.{acts_for_gateway, end_acts, failed_acts, stand_acts}
 use Rattle.iss_acts.proofs.Made.{acts_append}
 use Rattle.iss_state.proofs.effects.Finds.{find-map}
 use Rattle.iss_state.proofs.docket.Closing.{its_number}

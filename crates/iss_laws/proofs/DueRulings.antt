@@ -1,7 +1,8 @@
 -- All that is due at a record's stamp rules what goes with the calls that it closes.
 use Rattle.std.proofs.Common.{nat_eq, ◌≡◌, ℕ, Bool, true, false, cond, ◌&&◌, nat_le, List, [], ◌∷◌, ◌++◌, map, filter, fold, refl, sym, ap, subst, ◌∙◌, append_assoc}
-use Rattle.iss_acts.specs.Acts.{Act, acts_of_asked, acts_of_txn, expiry_acts, failed_acts, live_expiry_acts, thing_acts}
-use Rattle.iss_acts.proofs.Made.{thing_made}
+use Rattle.iss_model.specs.rules.Acts.{Act}
+use Rattle.iss_model.specs.rules.CardActs.{acts_of_asked, acts_of_txn, failed_acts}
+use Rattle.iss_model.specs.rules.Due.{expiry_acts, live_expiry_acts, thing_acts, DueItem, DueThing, call_due, txn_due, due_call, due_txn, due_items, items_with, is_before, thing_entries}
 use Rattle.std.specs.Prelude.{Option, Some, None, option_map}
 use Rattle.std.specs.Str.{bytes_eq}
 use Rattle.std.proofs.lemmas.Bool.{and_parts}
@@ -15,7 +16,6 @@ use Rattle.iss_model.specs.declared.input.Input.{Input}
 use Rattle.iss_model.specs.declared.input.Record.{Record}
 use Rattle.iss_model.specs.declared.txn.Txn.{Txn}
 use Rattle.iss_model.specs.rules.Activity.{TxnNow, CallNow, txn_named, is_asked}
-use Rattle.iss_model.specs.rules.Due.{DueItem, DueThing, call_due, txn_due, due_call, due_txn, due_items, items_with, is_before, thing_entries}
 use Rattle.iss_model.specs.rules.Facts.{Facts, txn_in, call_in, asked_calls_of, next_notice}
 use Rattle.iss_model.specs.rules.Histories.{History, history_facts, history_keeper}
 use Rattle.iss_model.specs.rules.Keeper.{Growth}
@@ -230,7 +230,7 @@ thing_acts_rule r h i (call_due n) ready due =
 thing_acts_rule r h i (txn_due token) ready due = txn_rules r h i token ready due (txn_in (history_facts h) token) refl
 
 thing_rules : (r : Record) (h : History) (i : Input) (thing : DueThing) → IsReady h i → IsDueThing (history_facts h) r.at thing → Rules r h (thing_entries thing r.at (history_facts h)) []
-thing_rules r h i thing ready due = subst (λ (es : List Entry). Rules r h es []) (thing_made (history_facts h) thing r.at) (thing_acts_rule r h i thing ready due).rules
+thing_rules r h i thing ready due = (thing_acts_rule r h i thing ready due).rules
 
 -- all that is due ----
 

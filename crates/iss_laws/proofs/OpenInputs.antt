@@ -1,5 +1,5 @@
 -- What is due and what each kind of input makes opens no more use than it counts.
-use Rattle.iss_model.specs.rules.CardEntries.{call_for}
+use Rattle.iss_model.specs.rules.Pieces.{call_for, Parts, abandoned_calls_entries, hold_entries, notice_entry, parts_held, post_entries, release_entries, taken_to_clear, user_account, void_entry}
 use Rattle.std.proofs.Common.{◌≡◌, ℕ, pos, neg_ℤ, ◌+ℤ◌, ◌-◌, ◌≤◌, Bool, true, cond, List, [], ◌∷◌, ◌++◌, fold, refl, sym, ap, subst, ◌∙◌, arith}
 use Rattle.std.proofs.lemmas.Int.{ints}
 use Rattle.std.specs.Prelude.{◌≤ℤ◌, Option, Some, None, is_some, option_map}
@@ -22,7 +22,6 @@ use Rattle.iss_model.specs.rules.Asks.{Ask, ask_usage, call_ask}
 use Rattle.iss_model.specs.rules.CardReasons.{first_ask, txn_asked}
 use Rattle.iss_model.specs.rules.Due.{DueThing, thing_entries}
 use Rattle.iss_model.specs.rules.Facts.{Facts}
-use Rattle.iss_model.specs.rules.Pieces.{Parts, abandoned_calls_entries, hold_entries, notice_entry, parts_held, post_entries, release_entries, taken_to_clear, user_account, void_entry}
 use Rattle.iss_model.specs.rules.Reasons.{is_some_with}
 use Rattle.iss_model.specs.rules.Stepping.{entries_of}
 use Rattle.iss_model.specs.state.Cores.{CoreState, after_entry, core_facts, is_live}
@@ -38,7 +37,7 @@ use Rattle.iss_state.proofs.calls.Due.{its_token}
 use Rattle.iss_state.specs.Holdings.{BegunBy, IsHeldWell}
 use Rattle.iss_model.specs.declared.account.Account.TheVariants as account
 use Rattle.iss_model.specs.declared.account.Part.TheVariants as part
-use Rattle.iss_acts.specs.Acts.{Abandons, Act, Asks, Begins, Clears, Fails, Funds, GivesBack, HoldsOwn, LetsGo, Refuses, StandsIn, TurnsDown, Uses, act_entries}
+use Rattle.iss_model.specs.rules.Acts.{Abandons, Act, Asks, Begins, Clears, Fails, Funds, GivesBack, HoldsOwn, LetsGo, Refuses, StandsIn, TurnsDown, Uses, act_entries}
 use Rattle.iss_acts.specs.Causes.{Cause, ComesOf, FallsDue}
 use Rattle.iss_acts.specs.Sources.{IsAskedCall, IsFirstAsk, IsFurtherAsk, IsMade, IsStart, IsTxnOf}
 use Rattle.iss_acts.specs.Stages.{Frees, Fresh, Keeps, Seeks, Stage, stage_after}

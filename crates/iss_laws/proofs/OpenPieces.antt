@@ -19,9 +19,8 @@ use Rattle.iss_model.specs.declared.setting.Product.{Product}
 use Rattle.iss_model.specs.declared.txn.Txn.{Txn}
 use Rattle.iss_model.specs.rules.Activity.{TxnNow, CallNow, is_asked}
 use Rattle.iss_model.specs.rules.Asks.{Ask, ask_given_back, ask_usage, call_ask, is_authorization, usage_of}
-use Rattle.iss_model.specs.rules.CardEntries.{call_for, clearing_money_entries}
+use Rattle.iss_model.specs.rules.Pieces.{call_for, clearing_money_entries, Parts, abandoned_call_entries, abandoned_calls_entries, declined_ask_entries, funded_ask_entries, hold_entries, in_all, only_gateway, only_where, post_entries, release_entries, taken_to_clear, taken_to_release, unhold_entries, use_return_entries, user_account, void_entry}
 use Rattle.iss_model.specs.rules.Facts.{Facts, not_below}
-use Rattle.iss_model.specs.rules.Pieces.{Parts, abandoned_call_entries, abandoned_calls_entries, declined_ask_entries, funded_ask_entries, hold_entries, in_all, only_gateway, only_where, post_entries, release_entries, taken_to_clear, taken_to_release, unhold_entries, use_return_entries, user_account, void_entry}
 use Rattle.iss_model.specs.state.Cores.{CoreState, after_entry, call_after_close}
 use Rattle.iss_model.proofs.Names.{one_name}
 use Rattle.iss_state.specs.Stakes.{part_held}

@@ -17,7 +17,7 @@ use Rattle.iss_model.specs.rules.Asks.{Ask}
 use Rattle.iss_model.specs.rules.Facts.{Facts}
 use Rattle.iss_model.specs.rules.Stepping.{entries_of}
 use Rattle.iss_model.specs.state.Cores.{CoreState, after_entry, core_facts, is_live}
-use Rattle.iss_acts.specs.Acts.{Act, Asks, Begins, Fails, Uses, act_entries}
+use Rattle.iss_model.specs.rules.Acts.{Act, Asks, Begins, Fails, Uses, act_entries}
 use Rattle.iss_acts.specs.Causes.{Cause, ComesOf, fails_call, seeks_funding}
 use Rattle.iss_acts.specs.Sources.{IsFirstAsk, IsFurtherAsk, IsMade}
 use Rattle.iss_acts.specs.Stages.{Fresh, Seeks, Stage, stage_after}

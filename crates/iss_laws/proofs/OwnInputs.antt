@@ -24,13 +24,12 @@ use Rattle.iss_model.specs.declared.txn.Txn.{Txn}
 use Rattle.iss_model.specs.Sums.{user_key}
 use Rattle.iss_model.specs.rules.Activity.{TxnNow, CallNow, txn_named}
 use Rattle.iss_model.specs.rules.Asks.{Ask, ask_given_back, call_ask}
-use Rattle.iss_model.specs.rules.CardEntries.{owed_to_programme}
+use Rattle.iss_model.specs.rules.Pieces.{owed_to_programme, abandoned_calls_entries, declined_ask_entries, hold_entries, notice_entry, parts_held, post_entries, user_account, load_entries}
 use Rattle.iss_model.specs.rules.CardReasons.{is_account_funded}
 use Rattle.iss_model.specs.rules.Due.{DueThing, thing_entries}
 use Rattle.iss_model.specs.rules.Facts.{not_below}
-use Rattle.iss_model.specs.rules.Pieces.{abandoned_calls_entries, declined_ask_entries, hold_entries, notice_entry, parts_held, post_entries, user_account}
 use Rattle.iss_model.specs.rules.Reasons.{is_some_with}
-use Rattle.iss_model.specs.rules.Stepping.{entries_of, load_entries}
+use Rattle.iss_model.specs.rules.Stepping.{entries_of}
 use Rattle.iss_model.specs.state.Cores.{CoreState, after_entry, after_setting, core_facts, is_live, txn_after_end}
 use Rattle.iss_state.proofs.docket.Entering.{same_txn, txn_more}
 use Rattle.iss_state.specs.Pending.{HasTakenUp}
@@ -38,7 +37,7 @@ use Rattle.iss_state.proofs.calls.Due.{its_token}
 use Rattle.iss_state.specs.Holdings.{IsHeldWell, is_part_of, part_sum}
 use Rattle.std.proofs.lemmas.List.Sums.{fold-append}
 use Rattle.iss_model.specs.declared.account.Account.{Account}
-use Rattle.iss_acts.specs.Acts.{Abandons, Act, Begins, Clears, Fails, Funds, GivesBack, HoldsOwn, LetsGo, Loads, Refuses, StandsIn, TurnsDown, Uses, act_entries}
+use Rattle.iss_model.specs.rules.Acts.{Abandons, Act, Begins, Clears, Fails, Funds, GivesBack, HoldsOwn, LetsGo, Loads, Refuses, StandsIn, TurnsDown, Uses, act_entries}
 use Rattle.iss_acts.specs.Causes.{Cause, ComesOf, FallsDue}
 use Rattle.iss_acts.specs.Sources.{IsMade, IsStart, IsTxnOf}
 use Rattle.iss_acts.specs.Stages.{Fresh, Seeks, Stage, stage_after}

@@ -13,9 +13,8 @@ use Rattle.iss_model.specs.declared.entry.Entry.TheVariants as entry
 use Rattle.iss_model.specs.declared.txn.Txn.{Txn}
 use Rattle.iss_model.specs.Sums.{balance_changes, changed_at, user_key}
 use Rattle.iss_model.specs.rules.Asks.{usage_of}
-use Rattle.iss_model.specs.rules.CardEntries.{clearing_money_entries}
+use Rattle.iss_model.specs.rules.Pieces.{clearing_money_entries, Parts, hold_entries, in_all, only_where, post_entries, release_entries, taken_to_clear, taken_to_release, unhold_entries, user_account}
 use Rattle.iss_model.specs.rules.CardReasons.{is_account_funded}
-use Rattle.iss_model.specs.rules.Pieces.{Parts, hold_entries, in_all, only_where, post_entries, release_entries, taken_to_clear, taken_to_release, unhold_entries, user_account}
 use Rattle.iss_state.proofs.effects.Finds.{number_is}
 use Rattle.iss_laws.specs.UserBalances.{own_changes}
 use Rattle.iss_acts.specs.Sources.{AreWithin}

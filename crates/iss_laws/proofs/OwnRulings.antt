@@ -31,10 +31,10 @@ use Rattle.iss_model.specs.rules.Pieces.{Parts, parts_held, in_all, left_of, tak
 use Rattle.iss_model.specs.rules.Reasons.{user_reason, card_reason, move_reason, product_reason, group_reason, control_reason, set_reason, switch_reason, load_reason}
 use Rattle.iss_model.specs.rules.Settings.{card_named, product_named, is_named_in}
 use Rattle.iss_model.specs.rules.StandIns.{stand}
-use Rattle.iss_model.specs.rules.Stepping.{authorization_ask, increment_ask, entries_of}
+use Rattle.iss_model.specs.rules.Stepping.{authorization_ask, increment_ask, entries_of, acts_of, acts_unless}
 use Rattle.iss_model.proofs.Names.{one_name, same_name}
-use Rattle.iss_acts.specs.Acts.{Act, Acknowledges, Asks, Begins, Clears, Declines, Does, Ends, Funds, GivesBack, HoldsOwn, LetsGo, Loads, Refuses, Sets, Uses, acts_of, acts_unless, authorization_acts, clearing_acts, funding_acts, gateway_acts, increment_acts, outcome_acts, refund_acts, reversal_acts, stand_acts}
-use Rattle.iss_acts.proofs.Made.{input_made}
+use Rattle.iss_model.specs.rules.Acts.{Act, Acknowledges, Asks, Begins, Clears, Declines, Does, Ends, Funds, GivesBack, HoldsOwn, LetsGo, Loads, Refuses, Sets, Uses}
+use Rattle.iss_model.specs.rules.CardActs.{authorization_acts, clearing_acts, funding_acts, gateway_acts, increment_acts, outcome_acts, refund_acts, reversal_acts, stand_acts}
 use Rattle.iss_agreement.proofs.CoreOfBook.{core_shows}
 use Rattle.iss_state.proofs.effects.Finds.{found_passes, same_number}
 use Rattle.iss_state.proofs.docket.Closing.{StandsItself, its_number}
@@ -228,4 +228,4 @@ acts_rule r h ready settled input.Time is = no_act
 
 pub own_rules : (r : Record) (h : History) → IsReady h r.input → IsSettled (history_facts h) r.at → Rules r h (entries_of r.input r.at (history_facts h)) (own_rulings r.input r.at (history_facts h))
 own_rules r h ready settled =
-    subst (λ (es : List Entry). Rules r h es (own_rulings r.input r.at (history_facts h))) (input_made (history_facts h) r.input r.at) (acts_rule r h ready settled r.input refl).rules
+    (acts_rule r h ready settled r.input refl).rules

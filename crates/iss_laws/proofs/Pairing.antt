@@ -23,7 +23,7 @@ use Rattle.iss_model.specs.rules.Pieces.{abandoned_calls_entries, hold_entries, 
 use Rattle.iss_model.specs.rules.Stepping.{entries_of}
 use Rattle.iss_model.specs.state.Cores.{CoreState, core_facts}
 use Rattle.iss_model.proofs.Names.{same_name}
-use Rattle.iss_acts.specs.Acts.{Abandons, Act, Asks, Fails, Funds, act_entries}
+use Rattle.iss_model.specs.rules.Acts.{Abandons, Act, Asks, Fails, Funds, act_entries}
 use Rattle.iss_acts.specs.Causes.{Cause, ComesOf, FallsDue}
 use Rattle.iss_acts.specs.Sources.{IsAskedCall, IsFrom}
 use Rattle.iss_acts.specs.Stages.{Stage}

@@ -7,7 +7,8 @@ pub mod StandIns
 pub mod Reasons
 pub mod CardReasons
 pub mod Pieces
-pub mod CardEntries
+pub mod Acts
+pub mod CardActs
 pub mod Keeper
 pub mod Due
 pub mod Stepping

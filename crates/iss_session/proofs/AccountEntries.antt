@@ -23,10 +23,10 @@ use Rattle.iss_model.specs.rules.Activity.{TxnNow, CallNow, is_asked}
 use Rattle.iss_model.specs.rules.Facts.{Facts, txn_in, call_in}
 use Rattle.iss_model.specs.rules.Asks.{Ask, txn_begun}
 use Rattle.iss_model.specs.rules.CardReasons.{is_account_funded, txn_asked, first_ask, further_ask}
-use Rattle.iss_model.specs.rules.Pieces.{only_gateway, post_entries, hold_entries, unhold_entries, Parts, release_entries, abandoned_calls_entries, abandonment_entries, end_entries}
-use Rattle.iss_model.specs.rules.CardEntries.{funding_entries, authorization_entries, increment_entries, reversal_entries, clearing_money_entries, last_clearing_entries, clearing_entries, refund_entries, entries_of_asked}
-use Rattle.iss_model.specs.rules.Due.{DueThing, call_due, txn_due, live_expiry_entries, thing_entries}
-use Rattle.iss_model.specs.rules.Stepping.{unless_declined, setting_entries, load_entries, authorization_ask, increment_ask, entries_of}
+use Rattle.iss_model.specs.rules.Pieces.{only_gateway, post_entries, hold_entries, unhold_entries, Parts, release_entries, abandoned_calls_entries, clearing_money_entries, setting_entries, load_entries}
+use Rattle.iss_acts.specs.Rows.{abandonment_entries, end_entries, funding_entries, authorization_entries, increment_entries, reversal_entries, last_clearing_entries, clearing_entries, refund_entries, entries_of_asked, live_expiry_entries, unless_declined}
+use Rattle.iss_model.specs.rules.Due.{DueThing, call_due, txn_due, thing_entries}
+use Rattle.iss_model.specs.rules.Stepping.{authorization_ask, increment_ask, entries_of}
 use Rattle.iss_model.proofs.Lists.{find_passes}
 use Rattle.iss_session.specs.Accounts.{is_account_entry}
 

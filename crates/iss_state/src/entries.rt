@@ -24,7 +24,7 @@ pub fn entries_move_sums()
 {}
 
 /// A hold of more and an opening put what they hold or ask at stake; a hold of less and a closing take it from there; an end leaves it as it is.
-#[tactic(auto, using(crate::proofs::Effects::open_effect, crate::proofs::Effects::close_effect))]
+#[tactic(auto, using(crate::proofs::effects::Effects::open_effect, crate::proofs::effects::Effects::close_effect))]
 pub fn entries_move_what_is_at_stake()
     ensures more_held { (s : CoreState) → (t : Txn) → (p : Part) → (amount : ℕ) → IsOrderlyState s → Stands s t
         → Effect s (entry.Hold t.token t.user t.currency p (pos amount) ∷ []) amount 0 amount 0 }

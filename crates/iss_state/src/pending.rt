@@ -15,7 +15,7 @@ ghost use Rattle.iss_state.specs.Pending.{IsWell, AreAllowed, HasTakenUp, decide
 
 /// Legal records leave a core well: its calls, its transactions and its decisions. A step keeps it so where the event is new; and then an
 /// asked call's transaction stands and is live.
-#[tactic(auto, using(crate::proofs::Legal::nothing_well, crate::proofs::Legal::core_well))]
+#[tactic(auto, using(crate::proofs::calls::Legal::nothing_well, crate::proofs::calls::Legal::core_well))]
 pub fn calls_are_well()
     ensures begins { IsWell no_core }
     ensures records { (rs : List Record) → IsLegal rs → IsWell (core_of rs) }

@@ -7,7 +7,8 @@ ghost use Rattle.iss_model.specs.declared.decision.Reason.{Reason};
 ghost use Rattle.iss_model.specs.declared.txn.Txn.{Txn};
 ghost use Rattle.iss_model.specs.rules.Facts.{Facts, asked_calls_of};
 ghost use Rattle.iss_model.specs.rules.Asks.{Ask};
-ghost use Rattle.iss_model.specs.rules.Pieces.{Parts, in_all, release_entries, abandonment_entries, end_entries, declined_ask_entries, funded_ask_entries, stand_in_entries};
+ghost use Rattle.iss_model.specs.rules.Pieces.{Parts, in_all, release_entries, declined_ask_entries, funded_ask_entries};
+ghost use Rattle.iss_acts.specs.Rows.{abandonment_entries, end_entries, stand_in_entries};
 ghost use Rattle.iss_model.specs.state.Cores.{CoreState};
 ghost use Rattle.iss_state.specs.Stakes.{at_least_one, total_asked, IsOrderlyState};
 ghost use Rattle.iss_state.specs.Needs.{Stands};
@@ -15,7 +16,7 @@ ghost use Rattle.iss_state.specs.Effects.{Effect, Paid, PaidByAsk, HoldsParts};
 
 /// A release is paid by what it lets go, and an abandonment by what its calls ask, so an end costs nothing.
 /// An ask that is decided costs at most four times what was asked in money and twice in use, whoever decides it.
-#[tactic(auto, using(crate::proofs::Asks::end_paid, crate::proofs::Asks::declined_ask_paid, crate::proofs::Asks::funded_ask_paid, crate::proofs::Asks::stand_in_paid))]
+#[tactic(auto, using(crate::proofs::effects::Asks::end_paid, crate::proofs::effects::Asks::declined_ask_paid, crate::proofs::effects::Asks::funded_ask_paid, crate::proofs::effects::Asks::stand_in_paid))]
 pub fn pieces_are_paid()
     ensures release { (s : CoreState) → (t : Txn) → (parts : Parts) → (amount : ℕ) → IsOrderlyState s → Stands s t → HoldsParts s t parts → amount ≤ in_all parts
         → Effect s (release_entries t parts amount) (2 * amount) amount 0 amount }

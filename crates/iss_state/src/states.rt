@@ -16,14 +16,14 @@ ghost use Rattle.iss_state.specs.Sound.{IsSoundAt, IsNewEvent, AreInForm, IsRead
 ghost use Rattle.iss_state.specs.Entering.{SumsAreSmall};
 
 /// Legal records in form leave a sound state for as many records.
-#[tactic(auto, using(crate::proofs::Legal::records_sound))]
+#[tactic(auto, using(crate::proofs::invariants::Legal::records_sound))]
 pub fn states_are_sound()
     ensures { (rs : List Record) → IsLegal rs → AreInForm rs → IsSoundAt (length rs) (core_of rs) }
 {}
 
 /// The empty state is sound for no record, and a step on a new record makes a sound state sound for one more.
 /// In between, the state with the record taken up is ready for its entries, and these keep what is sound.
-#[tactic(auto, using(crate::proofs::Steps::sound_begins))]
+#[tactic(auto, using(crate::proofs::invariants::Steps::sound_begins))]
 pub fn steps_keep_what_is_sound()
     ensures begins { IsSoundAt 0 no_core }
     ensures step { (n : ℕ) → (s : CoreState) → (r : Record) → IsSoundAt n s → is_in_form r.input ≡ true → IsNewEvent s r.input
@@ -52,7 +52,7 @@ pub fn sums_are_small()
 {}
 
 /// A record that is judged new brings no event that was accepted before. This is all that legality is needed for.
-#[tactic(auto, using(crate::proofs::NewEvents::judged_new))]
+#[tactic(auto, using(crate::proofs::invariants::NewEvents::judged_new))]
 pub fn new_records_bring_new_events()
     ensures { (s : CoreState) → (r : Record) → judge core_keeper s r.input r.at ≡ judged.New r → IsNewEvent s r.input }
 {}

@@ -31,16 +31,16 @@ use Rattle.iss_model.specs.declared.setting.Product.{Product}
 use Rattle.iss_model.specs.declared.txn.Txn.{Txn}
 use Rattle.iss_model.specs.rules.Activity.{CallNow, TxnNow, is_asked}
 use Rattle.iss_model.specs.rules.Asks.{Ask, ask_usage, call_ask}
-use Rattle.iss_model.specs.rules.CardEntries.{authorization_entries, call_for, clearing_entries, entries_of_asked, entries_of_txn, failed_call_entries, funding_entries, further_clearing_entries, gateway_ask_entries, increment_entries, last_clearing_entries, outcome_entries, owed_to_programme, refund_entries, reversal_entries}
+use Rattle.iss_acts.specs.Rows.{authorization_entries, clearing_entries, entries_of_asked, entries_of_txn, failed_call_entries, funding_entries, further_clearing_entries, gateway_ask_entries, increment_entries, last_clearing_entries, outcome_entries, refund_entries, reversal_entries, expiry_entries, live_expiry_entries, abandonment_entries, end_entries, stand_entries, stand_in_entries, unless_declined}
+use Rattle.iss_model.specs.rules.Pieces.{call_for, owed_to_programme, Parts, abandoned_call_entries, abandoned_calls_entries, failure_reason, in_all, left_of, notice_after_abandonment, notice_entry, parts_held, taken_to_clear, user_account, void_entry, load_entries, setting_entries}
 use Rattle.iss_model.specs.rules.CardReasons.{authorization_reason, clearing_reason, increment_reason, is_account_funded, refund_reason, reversal_reason}
-use Rattle.iss_model.specs.rules.Due.{DueItem, DueThing, call_due, due_items, expiry_entries, live_expiry_entries, thing_entries, txn_due}
+use Rattle.iss_model.specs.rules.Due.{DueItem, DueThing, call_due, due_items, thing_entries, txn_due}
 use Rattle.iss_model.specs.rules.Facts.{Facts, asked_calls_of, call_in, is_notice, next_notice, txn_in}
 use Rattle.iss_model.specs.rules.Keeper.{Growth, Keeper}
-use Rattle.iss_model.specs.rules.Pieces.{Parts, abandoned_call_entries, abandoned_calls_entries, abandonment_entries, end_entries, failure_reason, in_all, left_of, notice_after_abandonment, notice_entry, parts_held, stand_entries, stand_in_entries, taken_to_clear, user_account, void_entry}
 use Rattle.iss_model.specs.rules.Reasons.{load_reason}
 use Rattle.iss_model.specs.rules.Settings.{is_named_in, product_named}
 use Rattle.iss_model.specs.rules.StandIns.{Stand, allowed, over_limit, stand, uncovered}
-use Rattle.iss_model.specs.rules.Stepping.{after_due, authorization_ask, entries_of, increment_ask, load_entries, setting_entries, settle, step, unless_declined}
+use Rattle.iss_model.specs.rules.Stepping.{after_due, authorization_ask, entries_of, increment_ask, settle, step}
 use Rattle.iss_model.specs.state.Cores.{CoreState, after_entry, after_setting, call_after_close, core_facts, core_keeper, core_of, no_core, with_record}
 use Rattle.iss_state.proofs.invariants.Passing.{EachPasses, PassesMoves, both_pass, clearing_money_passes, declined_ask_passes, either_passes, funded_ask_passes, gateway_passes, hold_passes, one_passes, passing, post_passes, release_passes, where_passes}
 use Rattle.iss_state.proofs.invariants.Walk.{EachKind, walk}

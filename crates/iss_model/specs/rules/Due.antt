@@ -1,14 +1,14 @@
 -- What falls due: a call that isn't answered by its deadline, and a transaction whose holds expire.
-use Rattle.std.specs.Prelude.{ℕ, ◌==◌, nat_le, nat_lt, Bool, true, false, ◌&&◌, ◌||◌, List, [], ◌∷◌, ◌++◌, filter, fold, map, Option, Some, None, if◌then◌else◌}
-use Rattle.iss_model.specs.declared.call.Method.TheVariants as method
+use Rattle.std.specs.Prelude.{ℕ, ◌==◌, List, [], ◌∷◌, ◌++◌, Option, Some, None, if◌then◌else◌, Bool, ◌&&◌, ◌||◌, nat_le, nat_lt, true, false, filter, fold, map}
 use Rattle.iss_model.specs.declared.call.Failure.TheVariants as failure
-use Rattle.iss_model.specs.declared.txn.Txn.{Txn}
 use Rattle.iss_model.specs.declared.decision.Reason.TheVariants as reason
 use Rattle.iss_model.specs.declared.entry.Entry.{Entry}
-use Rattle.iss_model.specs.rules.Activity.{TxnNow, CallNow, is_asked}
+use Rattle.iss_model.specs.declared.txn.Txn.{Txn}
+use Rattle.iss_model.specs.rules.Activity.{CallNow, TxnNow, is_asked}
+use Rattle.iss_model.specs.rules.Acts.{expired, Act, Tells, entries_of_acts}
+use Rattle.iss_model.specs.rules.CardActs.{acts_for_gateway, acts_where, end_acts, failed_acts, acts_of_asked}
 use Rattle.iss_model.specs.rules.Facts.{Facts, txn_in, call_in, next_notice}
-use Rattle.iss_model.specs.rules.Pieces.{only_where, only_gateway, parts_held, in_all, notice_entry, notice_after_abandonment, end_entries}
-use Rattle.iss_model.specs.rules.CardEntries.{failed_call_entries, entries_of_asked}
+use Rattle.iss_model.specs.rules.Pieces.{parts_held, in_all, notice_after_abandonment}
 
 -- what is due, by name: a call's number, or a transaction's token
 pub data DueThing : Type 0 where
@@ -53,20 +53,23 @@ abbrev pub is_quiet : List DueItem → Bool
 is_quiet [] = true
 is_quiet (item ∷ items) = false
 
--- a transaction expires: it ends, and the gateway is told what was let go
-abbrev pub expiry_entries : Facts → Txn → List Entry
-expiry_entries f t =
+-- a transaction expires
+abbrev pub expiry_acts : Facts → Txn → List Act
+expiry_acts f t =
     let parts = parts_held f t in
-    end_entries (next_notice f) f t parts reason.Expired
-    ++ only_gateway t (only_where (in_all parts)
-    (notice_entry (notice_after_abandonment (next_notice f) f t) method.Expiry t None (in_all parts) parts.g ∷ []))
+    end_acts (next_notice f) f t parts reason.Expired
+    ++ acts_for_gateway t (acts_where (in_all parts) (Tells (notice_after_abandonment (next_notice f) f t) expired t (in_all parts) parts.g ∷ []))
 
--- a transaction that an earlier item has ended is passed over
-abbrev pub live_expiry_entries : Facts → Option TxnNow → List Entry
-live_expiry_entries f None = []
-live_expiry_entries f (Some now) = if now.live then expiry_entries f now.txn else []
+-- an expiry, if the transaction is live
+abbrev pub live_expiry_acts : Facts → Option TxnNow → List Act
+live_expiry_acts f None = []
+live_expiry_acts f (Some now) = if now.live then expiry_acts f now.txn else []
 
--- what settling a due thing makes at a moment: an unanswered call has timed out, a transaction expires, and what an earlier item settled is passed over
+-- the acts of a due thing
+abbrev pub thing_acts : DueThing → ℕ → Facts → List Act
+thing_acts (call_due number) at f = acts_of_asked (λ o t. failed_acts f o t failure.Timeout at) (call_in f number) f
+thing_acts (txn_due token) at f = live_expiry_acts f (txn_in f token)
+
+-- what settling a due thing makes at a moment
 abbrev pub thing_entries : DueThing → ℕ → Facts → List Entry
-thing_entries (call_due number) at f = entries_of_asked (λ o t. failed_call_entries f o t failure.Timeout at) (call_in f number) f
-thing_entries (txn_due token) at f = live_expiry_entries f (txn_in f token)
+thing_entries thing at f = entries_of_acts (thing_acts thing at f)

@@ -1,28 +1,30 @@
--- The pieces that entries are made of: taking from a hold, release, abandonment, the end of a transaction, decline, standing in. What comes to nothing is left out.
-use Rattle.std.specs.Prelude.{ℕ, ◌+◌, ◌-◌, min, ◌==◌, pos, neg_ℤ, List, [], ◌∷◌, ◌++◌, length, Option, Some, None, if◌then◌else◌}
-use Rattle.iss_model.specs.declared.account.Account.{Account}
+-- The pieces of entries that acts are made of: posts, holds and what is taken of them, notices, declined and funded asks. What comes to nothing is left out.
+use Rattle.std.specs.Prelude.{ℕ, ◌+◌, ◌-◌, min, ◌==◌, pos, neg_ℤ, List, [], ◌∷◌, ◌++◌, length, Option, Some, None, if◌then◌else◌, ◌-ℤ◌}
 use Rattle.iss_model.specs.declared.account.Account.TheVariants as account
-use Rattle.iss_model.specs.declared.account.Part.{Part}
+use Rattle.iss_model.specs.declared.account.Account.{Account}
 use Rattle.iss_model.specs.declared.account.Part.TheVariants as part
+use Rattle.iss_model.specs.declared.account.Part.{Part}
 use Rattle.iss_model.specs.declared.call.CallId.{CallId}
-use Rattle.iss_model.specs.declared.call.Method.{Method}
-use Rattle.iss_model.specs.declared.call.Method.TheVariants as method
-use Rattle.iss_model.specs.declared.call.Opened.{Opened}
-use Rattle.iss_model.specs.declared.call.Failure.{Failure}
 use Rattle.iss_model.specs.declared.call.Failure.TheVariants as failure
+use Rattle.iss_model.specs.declared.call.Failure.{Failure}
 use Rattle.iss_model.specs.declared.call.How.TheVariants as how
+use Rattle.iss_model.specs.declared.call.Method.TheVariants as method
+use Rattle.iss_model.specs.declared.call.Method.{Method}
+use Rattle.iss_model.specs.declared.call.Opened.{Opened}
+use Rattle.iss_model.specs.declared.currency.Currency.{Currency}
+use Rattle.iss_model.specs.declared.decision.Reason.TheVariants as reason
+use Rattle.iss_model.specs.declared.decision.Reason.{Reason}
+use Rattle.iss_model.specs.declared.decision.Verdict.TheVariants as verdict
+use Rattle.iss_model.specs.declared.entry.Entry.TheVariants as entry
+use Rattle.iss_model.specs.declared.entry.Entry.{Entry}
+use Rattle.iss_model.specs.declared.input.Input.{Input}
+use Rattle.iss_model.specs.declared.setting.Product.{Product}
 use Rattle.iss_model.specs.declared.setting.Set.{Set}
 use Rattle.iss_model.specs.declared.txn.Txn.{Txn}
-use Rattle.iss_model.specs.declared.decision.Reason.{Reason}
-use Rattle.iss_model.specs.declared.decision.Reason.TheVariants as reason
-use Rattle.iss_model.specs.declared.decision.Verdict.TheVariants as verdict
-use Rattle.iss_model.specs.declared.entry.Entry.{Entry}
-use Rattle.iss_model.specs.declared.entry.Entry.TheVariants as entry
 use Rattle.iss_model.specs.rules.Activity.{CallNow}
-use Rattle.iss_model.specs.rules.Facts.{Facts, part_in, asked_calls_of}
 use Rattle.iss_model.specs.rules.Asks.{Ask, usage_of, call_ask, ask_given_back}
 use Rattle.iss_model.specs.rules.CardReasons.{is_account_funded}
-use Rattle.iss_model.specs.rules.StandIns.{Stand, allowed, over_limit, uncovered, stand}
+use Rattle.iss_model.specs.rules.Facts.{Facts, part_in, asked_calls_of, next_call, not_below}
 
 -- entries of an amount, where it isn't 0
 abbrev pub only_where : ℕ → List Entry → List Entry
@@ -94,6 +96,28 @@ release_entries t parts amount =
     ++ unhold_entries t part.S taken.s
     ++ use_return_entries t amount
 
+-- the method of a call for an ask
+abbrev pub ask_method : Ask → Method
+ask_method ask = if ask.is_first then method.Authorization else method.Incremental
+
+-- the call for an ask: the gateway has the product's time to answer
+abbrev pub call_for : Facts → Product → Ask → Opened
+call_for f product ask =
+    record {
+      call = record { 0 = next_call f };
+      event = ask.event;
+      txn = ask.txn.token;
+      method = ask_method ask;
+      card = ask.txn.card;
+      user = ask.txn.user;
+      currency = ask.txn.currency;
+      mcc = ask.txn.mcc;
+      mid = ask.txn.mid;
+      amount = ask.amount;
+      at = ask.at;
+      deadline = ask.at + product.timeout_ms;
+    }
+
 -- a notice of this number
 abbrev pub notice_entry : ℕ → Method → Txn → Option CallId → ℕ → ℕ → Entry
 notice_entry number method t call amount gateway =
@@ -126,18 +150,9 @@ abbrev pub abandoned_calls_entries : ℕ → Txn → Reason → List CallNow →
 abandoned_calls_entries number t why [] = []
 abandoned_calls_entries number t why (c ∷ cs) = abandoned_call_entries number t why c.opened ++ abandoned_calls_entries (number + 1) t why cs
 
--- the asked calls of a transaction are abandoned
-abbrev pub abandonment_entries : ℕ → Facts → Txn → Reason → List Entry
-abandonment_entries number f t why = abandoned_calls_entries number t why (asked_calls_of f t.token)
-
 -- the number of the next notice, when the asked calls of a transaction have been abandoned
 abbrev pub notice_after_abandonment : ℕ → Facts → Txn → ℕ
 notice_after_abandonment number f t = number + length (asked_calls_of f t.token)
-
--- a transaction ends: its asked calls are abandoned and all that it still holds is let go
-abbrev pub end_entries : ℕ → Facts → Txn → Parts → Reason → List Entry
-end_entries number f t parts why =
-    abandonment_entries number f t why ++ release_entries t parts (in_all parts) ++ entry.Ended t.token ∷ []
 
 -- an ask is declined: its use is given back, and with an authorisation its transaction ends
 abbrev pub declined_ask_entries : Ask → Reason → List Entry
@@ -170,12 +185,31 @@ set_stand_in_entries number ask at s =
     ∷ entry.Decided ask.event verdict.Approved
     ∷ []
 
--- what the sets say, as entries: the first notice has this number
-abbrev pub stand_entries : Stand → ℕ → Ask → Failure → ℕ → List Entry
-stand_entries (allowed s) number ask why at = set_stand_in_entries number ask at s
-stand_entries (over_limit s) number ask why at = declined_ask_entries ask (reason.StandInLimit s.name)
-stand_entries uncovered number ask why at = declined_ask_entries ask (failure_reason why)
+-- a clearing takes from the hold, the rest comes from the programme for a gateway product, and the network gets all of it;
+-- the rest counts as use at this stamp
+abbrev pub clearing_money_entries : Txn → Parts → ℕ → ℕ → List Entry
+clearing_money_entries t taken amount at =
+    let excess = amount - in_all taken in
+    unhold_entries t part.G taken.g ++ unhold_entries t part.P taken.p ++ unhold_entries t part.S taken.s
+    ++ only_gateway t (post_entries t (account.Programme t.currency) (user_account t) excess)
+    ++ post_entries t (user_account t) (account.Network t.currency) amount
+    ++ only_where excess (entry.Usage (usage_of t (pos excess) (pos 0) at) ∷ [])
 
--- the programme stands in for the gateway at a stamp, or the ask is declined
-abbrev pub stand_in_entries : ℕ → Facts → Ask → Failure → ℕ → List Entry
-stand_in_entries number f ask why at = stand_entries (stand f ask why at) number ask why at
+-- what the programme has paid for a transaction, hasn't got back and doesn't hold
+abbrev pub owed_to_programme : Facts → Txn → ℕ
+owed_to_programme f t = not_below (f.paid t.token -ℤ pos (parts_held f t).p)
+
+-- a refund's posts
+abbrev pub refund_money_entries : Txn → ℕ → ℕ → List Entry
+refund_money_entries t amount programme =
+    post_entries t (account.Network t.currency) (user_account t) amount
+    ++ only_gateway t (post_entries t (user_account t) (account.Programme t.currency) programme ++ post_entries t (user_account t) (account.Gateway t.currency) (amount - programme))
+
+-- a setting takes effect and is done
+abbrev pub setting_entries : Input → List ℕ → List Entry
+setting_entries i token = entry.Conf i ∷ entry.Decided token verdict.Done ∷ []
+
+-- a load moves money from the programme to the user
+abbrev pub load_entries : List ℕ → List ℕ → Currency → ℕ → List Entry
+load_entries token user currency amount =
+    entry.Post (account.Programme currency) (account.User user currency) amount None ∷ entry.Decided token verdict.Done ∷ []

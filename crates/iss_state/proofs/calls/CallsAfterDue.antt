@@ -10,8 +10,9 @@ use Rattle.iss_model.specs.declared.decision.Reason.{Reason}
 use Rattle.iss_model.specs.declared.decision.Reason.TheVariants as reason
 use Rattle.iss_model.specs.declared.entry.Entry.{Entry}
 use Rattle.iss_model.specs.rules.Activity.{TxnNow, CallNow, txn_named, call_numbered, is_asked}
-use Rattle.iss_model.specs.rules.CardEntries.{failed_call_entries, entries_of_txn, entries_of_asked}
-use Rattle.iss_model.specs.rules.Due.{DueThing, call_due, DueItem, txn_due, due_items, expiry_entries, live_expiry_entries, thing_entries}
+use Rattle.iss_acts.specs.Rows.{failed_call_entries, entries_of_txn, entries_of_asked, expiry_entries, live_expiry_entries, written_thing}
+use Rattle.iss_acts.proofs.Made.{thing_made}
+use Rattle.iss_model.specs.rules.Due.{DueThing, call_due, DueItem, txn_due, due_items, thing_entries}
 use Rattle.iss_model.specs.rules.Facts.{txn_in, call_in}
 use Rattle.iss_model.specs.rules.Keeper.{Growth}
 use Rattle.iss_model.specs.rules.Reasons.{is_some_with}
@@ -71,9 +72,13 @@ live_openings s (Some now) = by now.live
     by true = ap openings (expired_calls s now.txn) ∙ closings_openings reason.Expired (asked_in s.calls now.txn.token) (docket_of s)
     by false = refl
 
+written_openings : (s : CoreState) (at : ℕ) (thing : DueThing) → openings (fold after_entry s (written_thing thing at (core_facts s))).calls ≡ openings s.calls
+written_openings s at (call_due number) = asked_openings s at (call_numbered number s.calls)
+written_openings s at (txn_due token) = live_openings s (txn_named token s.holdings.txns)
+
 thing_openings : (s : CoreState) (at : ℕ) (thing : DueThing) → openings (fold after_entry s (thing_entries thing at (core_facts s))).calls ≡ openings s.calls
-thing_openings s at (call_due number) = asked_openings s at (call_numbered number s.calls)
-thing_openings s at (txn_due token) = live_openings s (txn_named token s.holdings.txns)
+thing_openings s at thing =
+    ap (λ (es : List Entry). openings (fold after_entry s es).calls) (thing_made (core_facts s) thing at) ∙ written_openings s at thing
 
 sweep_openings : (at : ℕ) (g : Growth CoreState) (items : List DueItem) → openings (fold (settle core_keeper at) g items).world.calls ≡ openings g.world.calls
 sweep_openings at g [] = refl

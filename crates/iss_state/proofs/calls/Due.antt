@@ -1,5 +1,5 @@
 -- What falls due may be entered, and accounts for each event as before.
-use Rattle.std.proofs.Common.{◌≡◌, ℕ, ◌+◌, Bool, true, false, cond, List, [], ◌∷◌, ◌++◌, filter, refl, ap, ◌∙◌}
+use Rattle.std.proofs.Common.{◌≡◌, ℕ, ◌+◌, Bool, true, false, cond, List, [], ◌∷◌, ◌++◌, filter, refl, sym, subst, ap, ◌∙◌}
 use Rattle.std.specs.Prelude.{Option, Some, None}
 use Rattle.std.specs.Str.{bytes_eq}
 use Rattle.iss_model.specs.declared.account.Account.TheVariants as account
@@ -18,10 +18,11 @@ use Rattle.iss_model.specs.declared.input.Outcome.TheVariants as outcome
 use Rattle.iss_model.specs.declared.txn.Txn.{Txn}
 use Rattle.iss_model.specs.rules.Activity.{TxnNow, CallNow, txn_named, call_numbered, is_asked}
 use Rattle.iss_model.specs.rules.Asks.{call_ask}
-use Rattle.iss_model.specs.rules.CardEntries.{failed_call_entries, outcome_entries, entries_of_txn, entries_of_asked}
-use Rattle.iss_model.specs.rules.Due.{DueThing, call_due, txn_due, expiry_entries, live_expiry_entries, thing_entries}
+use Rattle.iss_acts.specs.Rows.{failed_call_entries, outcome_entries, entries_of_txn, entries_of_asked, expiry_entries, live_expiry_entries, end_entries, stand_in_entries, written_thing}
+use Rattle.iss_acts.proofs.Made.{thing_made}
+use Rattle.iss_model.specs.rules.Due.{DueThing, call_due, txn_due, thing_entries}
 use Rattle.iss_model.specs.rules.Facts.{Facts, asked_calls_of, next_notice}
-use Rattle.iss_model.specs.rules.Pieces.{only_where, only_gateway, parts_held, in_all, notice_entry, notice_after_abandonment, end_entries, declined_ask_entries, funded_ask_entries, stand_in_entries}
+use Rattle.iss_model.specs.rules.Pieces.{only_where, only_gateway, parts_held, in_all, notice_entry, notice_after_abandonment, declined_ask_entries, funded_ask_entries}
 use Rattle.iss_model.specs.rules.Reasons.{is_some_with}
 use Rattle.iss_model.specs.rules.StandIns.{stand}
 use Rattle.iss_model.specs.state.Cores.{CoreState, core_facts}
@@ -135,8 +136,12 @@ expiry_enters known s token well (Some now) e = by now.live refl
         (end_enters known reason.Expired (docket_of s) now.txn.token well (found_live s.holdings.txns token now e live))
     by false live = enters_none known (docket_of s)
 
+written_enters : (known : Known) (s : CoreState) (thing : DueThing) (at : ℕ) → IsWellAmong known (docket_of s)
+    → Enters known (docket_of s) None (written_thing thing at (core_facts s))
+written_enters known s (call_due number) at well =
+    asked_enters known s (λ (o : Opened) (t : Txn). failed_call_entries (core_facts s) o t failure.Timeout at) number (λ o t. failed_closes (core_facts s) o t failure.Timeout at) well
+written_enters known s (txn_due token) at well = expiry_enters known s token well (txn_named token s.holdings.txns) refl
+
 pub thing_enters : (known : Known) (s : CoreState) (thing : DueThing) (at : ℕ) → IsWellAmong known (docket_of s)
     → Enters known (docket_of s) None (thing_entries thing at (core_facts s))
-thing_enters known s (call_due number) at well =
-    asked_enters known s (λ (o : Opened) (t : Txn). failed_call_entries (core_facts s) o t failure.Timeout at) number (λ o t. failed_closes (core_facts s) o t failure.Timeout at) well
-thing_enters known s (txn_due token) at well = expiry_enters known s token well (txn_named token s.holdings.txns) refl
+thing_enters known s thing at well = subst (Enters known (docket_of s) None) (sym (thing_made (core_facts s) thing at)) (written_enters known s thing at well)

@@ -16,8 +16,9 @@ use Rattle.iss_model.specs.declared.entry.Entry.{Entry}
 use Rattle.iss_model.specs.declared.entry.Entry.TheVariants as entry
 use Rattle.iss_model.specs.declared.txn.Txn.{Txn}
 use Rattle.iss_model.specs.rules.Activity.{TxnNow, CallNow, txn_named, call_numbered, is_asked}
-use Rattle.iss_model.specs.rules.CardEntries.{failed_call_entries, entries_of_txn, entries_of_asked}
-use Rattle.iss_model.specs.rules.Due.{DueThing, call_due, DueItem, txn_due, expiry_entries, live_expiry_entries, thing_entries}
+use Rattle.iss_acts.specs.Rows.{failed_call_entries, entries_of_txn, entries_of_asked, expiry_entries, live_expiry_entries, written_thing}
+use Rattle.iss_acts.proofs.Made.{thing_made}
+use Rattle.iss_model.specs.rules.Due.{DueThing, call_due, DueItem, txn_due, thing_entries}
 use Rattle.iss_model.specs.rules.Keeper.{Growth}
 use Rattle.iss_model.specs.rules.Reasons.{is_some_with}
 use Rattle.iss_model.specs.rules.Stepping.{settle}
@@ -221,10 +222,15 @@ txn_fate known s n c token well asked (Some now) e = by now.live refl
         (expired_fate known s n c now.txn well asked)
     by false h = left_alone s.calls n c (bytes_eq token c.opened.txn) asked.stands (λ hit. not_both now.live (its_live known s n c token well asked hit (Some now) e) h)
 
+written_fate : (known : Known) (s : CoreState) (at n : ℕ) (c : CallNow) (thing : DueThing) → IsWellAmong known (docket_of s) → IsAsked s.calls n c
+    → Fate (fold after_entry s (written_thing thing at (core_facts s))).calls n c (hits n c.opened.txn thing)
+written_fate known s at n c (call_due number) well asked = call_fate known s at number n c well asked (call_numbered number s.calls) refl
+written_fate known s at n c (txn_due token) well asked = txn_fate known s n c token well asked (txn_named token s.holdings.txns) refl
+
 pub thing_fate : (known : Known) (s : CoreState) (at n : ℕ) (c : CallNow) (thing : DueThing) → IsWellAmong known (docket_of s) → IsAsked s.calls n c
     → Fate (fold after_entry s (thing_entries thing at (core_facts s))).calls n c (hits n c.opened.txn thing)
-thing_fate known s at n c (call_due number) well asked = call_fate known s at number n c well asked (call_numbered number s.calls) refl
-thing_fate known s at n c (txn_due token) well asked = txn_fate known s n c token well asked (txn_named token s.holdings.txns) refl
+thing_fate known s at n c thing well asked =
+    subst (λ (es : List Entry). Fate (fold after_entry s es).calls n c (hits n c.opened.txn thing)) (sym (thing_made (core_facts s) thing at)) (written_fate known s at n c thing well asked)
 
 pub sweep_fate : (known : Known) (at n : ℕ) (c : CallNow) (g : Growth CoreState) (items : List DueItem) → IsWellAmong known (docket_of g.world)
     → IsAsked g.world.calls n c

@@ -21,10 +21,10 @@ use Rattle.iss_model.specs.declared.setting.Product.{Product}
 use Rattle.iss_model.specs.declared.txn.Txn.{Txn}
 use Rattle.iss_model.specs.rules.Activity.{CallNow}
 use Rattle.iss_model.specs.rules.Asks.{Ask, ask_given_back, call_ask}
-use Rattle.iss_model.specs.rules.CardEntries.{gateway_ask_entries, funding_entries, clearing_money_entries, failed_call_entries, outcome_entries}
+use Rattle.iss_acts.specs.Rows.{gateway_ask_entries, funding_entries, failed_call_entries, outcome_entries, end_entries, stand_entries}
+use Rattle.iss_model.specs.rules.Pieces.{clearing_money_entries, only_where, only_gateway, post_entries, hold_entries, unhold_entries, user_account, Parts, in_all, taken_to_release, use_return_entries, release_entries, abandoned_calls_entries, declined_ask_entries, funded_ask_entries, failure_reason}
 use Rattle.iss_model.specs.rules.CardReasons.{is_account_funded}
 use Rattle.iss_model.specs.rules.Facts.{Facts, asked_calls_of, next_notice}
-use Rattle.iss_model.specs.rules.Pieces.{only_where, only_gateway, post_entries, hold_entries, unhold_entries, user_account, Parts, in_all, taken_to_release, use_return_entries, release_entries, abandoned_calls_entries, end_entries, declined_ask_entries, funded_ask_entries, failure_reason, stand_entries}
 use Rattle.iss_model.specs.rules.Settings.{is_named_in, product_named}
 use Rattle.iss_model.specs.rules.StandIns.{Stand, allowed, over_limit, uncovered, stand}
 use Rattle.iss_state.proofs.calls.FewMoves.{Costs, brought_by, opened_by, taken_by}

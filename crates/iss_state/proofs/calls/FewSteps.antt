@@ -15,15 +15,16 @@ use Rattle.iss_model.specs.declared.input.Record.{Record}
 use Rattle.iss_model.specs.declared.txn.Txn.{Txn}
 use Rattle.iss_model.specs.rules.Activity.{TxnNow, CallNow, is_asked}
 use Rattle.iss_model.specs.rules.Asks.{Ask}
-use Rattle.iss_model.specs.rules.CardEntries.{authorization_entries, increment_entries, reversal_entries, clearing_entries, owed_to_programme, refund_entries, failed_call_entries, outcome_entries, entries_of_txn, entries_of_asked}
+use Rattle.iss_acts.specs.Rows.{authorization_entries, increment_entries, reversal_entries, clearing_entries, refund_entries, failed_call_entries, outcome_entries, entries_of_txn, entries_of_asked, expiry_entries, live_expiry_entries, unless_declined, written_thing}
+use Rattle.iss_acts.proofs.Made.{thing_made}
+use Rattle.iss_model.specs.rules.Pieces.{owed_to_programme, user_account, parts_held, in_all, left_of, taken_to_clear, setting_entries, load_entries}
 use Rattle.iss_model.specs.rules.CardReasons.{authorization_reason, increment_reason, reversal_reason, clearing_reason, refund_reason}
-use Rattle.iss_model.specs.rules.Due.{DueThing, call_due, DueItem, txn_due, due_items, expiry_entries, live_expiry_entries, thing_entries}
+use Rattle.iss_model.specs.rules.Due.{DueThing, call_due, DueItem, txn_due, due_items, thing_entries}
 use Rattle.iss_model.specs.rules.Facts.{Facts, txn_in, call_in, asked_calls_of, next_notice, is_notice}
 use Rattle.iss_model.specs.rules.Histories.{IsLegal}
 use Rattle.iss_model.specs.rules.Keeper.{Growth}
-use Rattle.iss_model.specs.rules.Pieces.{user_account, parts_held, in_all, left_of, taken_to_clear}
 use Rattle.iss_model.specs.rules.Reasons.{load_reason}
-use Rattle.iss_model.specs.rules.Stepping.{unless_declined, setting_entries, load_entries, authorization_ask, increment_ask, entries_of, settle, after_due, step}
+use Rattle.iss_model.specs.rules.Stepping.{authorization_ask, increment_ask, entries_of, settle, after_due, step}
 use Rattle.iss_model.specs.state.Cores.{CoreState, no_core, with_record, core_facts, core_keeper, core_of, after_entry}
 use Rattle.iss_state.specs.Sound.{IsNewEvent}
 use Rattle.iss_state.proofs.invariants.Legal.{IsKept, legal_induction}
@@ -59,10 +60,13 @@ live_costs : (f : Facts) (now : Option TxnNow) → Costs (live_expiry_entries f 
 live_costs f None = none_costs 0
 live_costs f (Some now) = costs_either now.live (expiry_costs f now.txn) (none_costs 0)
 
-thing_costs : (f : Facts) (thing : DueThing) (at : ℕ) → Costs (thing_entries thing at f) 0 0 0
-thing_costs f (call_due number) at =
+written_costs : (f : Facts) (thing : DueThing) (at : ℕ) → Costs (written_thing thing at f) 0 0 0
+written_costs f (call_due number) at =
     asked_costs (λ (o : Opened) (t : Txn). failed_call_entries f o t failure.Timeout at) (call_in f number) f (λ o t. failed_call_costs f o t failure.Timeout at)
-thing_costs f (txn_due token) at = live_costs f (txn_in f token)
+written_costs f (txn_due token) at = live_costs f (txn_in f token)
+
+thing_costs : (f : Facts) (thing : DueThing) (at : ℕ) → Costs (thing_entries thing at f) 0 0 0
+thing_costs f thing at = subst (λ (es : List Entry). Costs es 0 0 0) (sym (thing_made f thing at)) (written_costs f thing at)
 
 -- own entries ----
 

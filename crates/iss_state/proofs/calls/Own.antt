@@ -25,14 +25,15 @@ use Rattle.iss_model.specs.declared.txn.Txn.{Txn}
 use Rattle.iss_model.specs.Inputs.{event_token}
 use Rattle.iss_model.specs.rules.Activity.{TxnNow, CallNow, is_asked, txn_named}
 use Rattle.iss_model.specs.rules.Asks.{Ask, ask_usage, txn_begun, is_authorization}
-use Rattle.iss_model.specs.rules.CardEntries.{call_for, gateway_ask_entries, funding_entries, authorization_entries, increment_entries, reversal_entries, clearing_money_entries, last_clearing_entries, further_clearing_entries, clearing_entries, owed_to_programme, refund_entries, outcome_entries}
+use Rattle.iss_model.specs.rules.Pieces.{call_for, clearing_money_entries, owed_to_programme, only_where, only_gateway, post_entries, hold_entries, user_account, Parts, parts_held, in_all, left_of, taken_to_clear, release_entries, notice_after_abandonment, notice_entry, abandoned_calls_entries, setting_entries, load_entries}
+use Rattle.iss_acts.specs.Rows.{gateway_ask_entries, funding_entries, authorization_entries, increment_entries, reversal_entries, last_clearing_entries, further_clearing_entries, clearing_entries, refund_entries, outcome_entries, end_entries, stand_in_entries, unless_declined, written_input}
+use Rattle.iss_acts.proofs.Made.{input_made}
 use Rattle.iss_model.specs.rules.CardReasons.{authorization_reason, first_ask, further_ask, is_account_funded, increment_reason, is_in_currency, is_pending, reversal_reason, clearing_reason, refund_reason}
 use Rattle.iss_model.specs.rules.Facts.{Facts, txn_in, asked_calls_of, next_notice, is_notice}
-use Rattle.iss_model.specs.rules.Pieces.{only_where, only_gateway, post_entries, hold_entries, user_account, Parts, parts_held, in_all, left_of, taken_to_clear, release_entries, notice_after_abandonment, notice_entry, abandoned_calls_entries, end_entries, stand_in_entries}
 use Rattle.iss_model.specs.rules.Reasons.{user_reason, card_reason, user_is, move_reason, is_some_with, product_reason, group_reason, control_reason, set_reason, switch_reason, load_reason}
 use Rattle.iss_model.specs.rules.Settings.{card_named, product_named, is_active_user, is_named_in, is_active_card}
 use Rattle.iss_model.specs.rules.StandIns.{stand}
-use Rattle.iss_model.specs.rules.Stepping.{unless_declined, setting_entries, load_entries, authorization_ask, increment_ask, entries_of}
+use Rattle.iss_model.specs.rules.Stepping.{authorization_ask, increment_ask, entries_of}
 use Rattle.iss_model.specs.state.Cores.{CoreState, is_live, core_facts}
 use Rattle.iss_model.proofs.Names.{its_name, same_name}
 use Rattle.iss_state.specs.Numbers.{CallsNumberedFrom}
@@ -344,43 +345,47 @@ ack_enters : (s : CoreState) (notice : ℕ) (b : Bool) → Enters (known_of s) (
 ack_enters s notice true = enters_as (known_of s) (docket_of s) None (entry.Acked notice ∷ []) [] refl (enters_none (known_of s) (docket_of s))
 ack_enters s notice false = enters_none (known_of s) (docket_of s)
 
-pub own_enters : (s : CoreState) (i : Input) (at : ℕ) → IsWellAmong (known_of s) (docket_of s) → ((event : List ℕ) → event_token i ≡ Some event → IsNewOn s event)
-    → Enters (known_of s) (docket_of s) (event_token i) (entries_of i at (core_facts s))
-own_enters s (input.User token user) at well new = setting_enters s (user_reason (core_facts s) user) token _ (new token refl)
-own_enters s (input.Card token card user product active) at well new = setting_enters s (card_reason (core_facts s) card user product) token _ (new token refl)
-own_enters s (input.Move token who) at well new = setting_enters s (move_reason (core_facts s) who) token _ (new token refl)
-own_enters s (input.Product token product currency funding timeout_ms hold_ms) at well new = setting_enters s (product_reason (core_facts s) product) token _ (new token refl)
-own_enters s (input.Group token group mccs) at well new = setting_enters s (group_reason (core_facts s) group) token _ (new token refl)
-own_enters s (input.Control token control currency window amount_limit usage_limit association scope active) at well new =
+written_enters : (s : CoreState) (i : Input) (at : ℕ) → IsWellAmong (known_of s) (docket_of s) → ((event : List ℕ) → event_token i ≡ Some event → IsNewOn s event)
+    → Enters (known_of s) (docket_of s) (event_token i) (written_input i at (core_facts s))
+written_enters s (input.User token user) at well new = setting_enters s (user_reason (core_facts s) user) token _ (new token refl)
+written_enters s (input.Card token card user product active) at well new = setting_enters s (card_reason (core_facts s) card user product) token _ (new token refl)
+written_enters s (input.Move token who) at well new = setting_enters s (move_reason (core_facts s) who) token _ (new token refl)
+written_enters s (input.Product token product currency funding timeout_ms hold_ms) at well new = setting_enters s (product_reason (core_facts s) product) token _ (new token refl)
+written_enters s (input.Group token group mccs) at well new = setting_enters s (group_reason (core_facts s) group) token _ (new token refl)
+written_enters s (input.Control token control currency window amount_limit usage_limit association scope active) at well new =
     setting_enters s (control_reason (core_facts s) control currency window association scope) token _ (new token refl)
-own_enters s (input.Set token set product currency connection timeout application max day_limit active) at well new =
+written_enters s (input.Set token set product currency connection timeout application max day_limit active) at well new =
     setting_enters s (set_reason (core_facts s) set product currency) token _ (new token refl)
-own_enters s (input.Switch token product on) at well new = setting_enters s (switch_reason (core_facts s) product) token _ (new token refl)
-own_enters s (input.Load token user currency amount) at well new =
+written_enters s (input.Switch token product on) at well new = setting_enters s (switch_reason (core_facts s) product) token _ (new token refl)
+written_enters s (input.Load token user currency amount) at well new =
     unless_enters s (load_reason (core_facts s) user) token (load_entries token user currency amount) (new token refl) (λ none. decides s (load_entries token user currency amount) token verdict.Done refl (new token refl))
-own_enters s (input.Authorization token card currency amount mcc mid) at well new =
+written_enters s (input.Authorization token card currency amount mcc mid) at well new =
     let f : Facts = core_facts s in
     let ask : Option Ask = authorization_ask f token card currency amount mcc mid at in
     unless_enters s (authorization_reason f card currency ask) token (authorization_entries f ask) (new token refl)
     (authorization_enters s token card currency amount mcc mid at well (new token refl))
-own_enters s (input.Increment token txn currency amount) at well new =
+written_enters s (input.Increment token txn currency amount) at well new =
     let f : Facts = core_facts s in
     let ask : Option Ask = increment_ask f token txn amount at in
     unless_enters s (increment_reason f (txn_in f txn) currency ask) token (increment_entries f ask) (new token refl)
     (increment_enters s token txn currency amount at (txn_named txn s.holdings.txns) refl well (new token refl))
-own_enters s (input.Reversal token txn currency amount) at well new =
+written_enters s (input.Reversal token txn currency amount) at well new =
     let f : Facts = core_facts s in
     unless_enters s (reversal_reason (txn_in f txn) currency) token (reversal_entries f token amount (txn_in f txn)) (new token refl)
     (reversal_enters s token txn amount currency (txn_named txn s.holdings.txns) refl well (new token refl))
-own_enters s (input.Clearing token txn currency amount last) at well new =
+written_enters s (input.Clearing token txn currency amount last) at well new =
     let f : Facts = core_facts s in
     unless_enters s (clearing_reason (txn_in f txn) currency) token (clearing_entries f token amount last at (txn_in f txn)) (new token refl)
     (clearing_enters s token txn amount last at currency (txn_named txn s.holdings.txns) refl well (new token refl))
-own_enters s (input.Refund token txn currency amount) at well new =
+written_enters s (input.Refund token txn currency amount) at well new =
     let f : Facts = core_facts s in
     unless_enters s (refund_reason f (txn_in f txn) currency amount) token (refund_entries f token amount (txn_in f txn)) (new token refl)
     (refund_enters s token amount currency (txn_named txn s.holdings.txns) (new token refl))
-own_enters s (input.Answer call what) at well new =
+written_enters s (input.Answer call what) at well new =
     asked_enters (known_of s) s (λ (o : Opened) (t : Txn). outcome_entries what (core_facts s) o t at) call.0 (λ o t. outcome_closes what (core_facts s) o t at) well
-own_enters s (input.Ack notice) at well new = ack_enters s notice (is_notice (core_facts s) notice)
-own_enters s input.Time at well new = enters_none (known_of s) (docket_of s)
+written_enters s (input.Ack notice) at well new = ack_enters s notice (is_notice (core_facts s) notice)
+written_enters s input.Time at well new = enters_none (known_of s) (docket_of s)
+
+pub own_enters : (s : CoreState) (i : Input) (at : ℕ) → IsWellAmong (known_of s) (docket_of s) → ((event : List ℕ) → event_token i ≡ Some event → IsNewOn s event)
+    → Enters (known_of s) (docket_of s) (event_token i) (entries_of i at (core_facts s))
+own_enters s i at well new = subst (Enters (known_of s) (docket_of s) (event_token i)) (sym (input_made (core_facts s) i at)) (written_enters s i at well new)

@@ -19,10 +19,10 @@ use Rattle.iss_model.specs.declared.entry.Entry.TheVariants as entry
 use Rattle.iss_model.specs.declared.txn.Txn.{Txn}
 use Rattle.iss_model.specs.rules.Activity.{CallNow}
 use Rattle.iss_model.specs.rules.Asks.{Ask, usage_of}
-use Rattle.iss_model.specs.rules.CardEntries.{clearing_money_entries}
+use Rattle.iss_model.specs.rules.Pieces.{clearing_money_entries, only_where, only_gateway, post_entries, hold_entries, unhold_entries, user_account, Parts, in_all, taken_to_release, use_return_entries, release_entries, notice_entry, abandoned_calls_entries, declined_ask_entries, funded_ask_entries, failure_reason}
 use Rattle.iss_model.specs.rules.CardReasons.{is_account_funded}
 use Rattle.iss_model.specs.rules.Facts.{Facts, asked_calls_of}
-use Rattle.iss_model.specs.rules.Pieces.{only_where, only_gateway, post_entries, hold_entries, unhold_entries, user_account, Parts, in_all, taken_to_release, use_return_entries, release_entries, notice_entry, abandoned_calls_entries, end_entries, declined_ask_entries, funded_ask_entries, failure_reason, stand_entries}
+use Rattle.iss_acts.specs.Rows.{end_entries, stand_entries}
 use Rattle.iss_model.specs.rules.StandIns.{Stand, allowed, over_limit, uncovered}
 use Rattle.iss_state.specs.Dockets.{is_docketed}
 use Rattle.iss_state.proofs.docket.Lists.{never}

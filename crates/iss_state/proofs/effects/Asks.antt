@@ -18,7 +18,8 @@ use Rattle.iss_model.specs.declared.txn.Txn.{Txn}
 use Rattle.iss_model.specs.rules.Activity.{CallNow, call_numbered, is_asked}
 use Rattle.iss_model.specs.rules.Asks.{Ask, ask_count, ask_given_back}
 use Rattle.iss_model.specs.rules.Facts.{Facts, asked_calls_of}
-use Rattle.iss_model.specs.rules.Pieces.{Parts, abandonment_entries, declined_ask_entries, end_entries, failure_reason, funded_ask_entries, hold_entries, in_all, notice_entry, post_entries, release_entries, set_stand_in_entries, stand_entries, stand_in_entries, user_account}
+use Rattle.iss_model.specs.rules.Pieces.{Parts, declined_ask_entries, failure_reason, funded_ask_entries, hold_entries, in_all, notice_entry, post_entries, release_entries, set_stand_in_entries, user_account}
+use Rattle.iss_acts.specs.Rows.{abandonment_entries, end_entries, stand_entries, stand_in_entries}
 use Rattle.iss_model.specs.rules.StandIns.{Stand, allowed, over_limit, stand, uncovered}
 use Rattle.iss_model.specs.state.Cores.{CoreState, Holdings, after_entry}
 use Rattle.iss_state.specs.Effects.{Effect, HoldsParts, Paid, PaidByAsk}

@@ -19,9 +19,8 @@ use Rattle.iss_model.specs.declared.txn.Txn.{Txn}
 use Rattle.iss_model.specs.Sums.{part_key}
 use Rattle.iss_model.specs.rules.Activity.{CallNow}
 use Rattle.iss_model.specs.rules.Asks.{usage_of}
-use Rattle.iss_model.specs.rules.CardEntries.{clearing_money_entries}
+use Rattle.iss_model.specs.rules.Pieces.{clearing_money_entries, Parts, abandoned_calls_entries, in_all, left_of, only_gateway, only_where, parts_held, post_entries, release_entries, taken_to_clear, taken_to_release, unhold_entries, use_return_entries, user_account}
 use Rattle.iss_model.specs.rules.Facts.{not_below}
-use Rattle.iss_model.specs.rules.Pieces.{Parts, abandoned_calls_entries, in_all, left_of, only_gateway, only_where, parts_held, post_entries, release_entries, taken_to_clear, taken_to_release, unhold_entries, use_return_entries, user_account}
 use Rattle.iss_model.specs.state.Cores.{CoreState, after_entry, after_setting, core_facts}
 use Rattle.iss_model.specs.state.Kept.{Kept, after_changes}
 use Rattle.iss_model.proofs.Names.{its_name}

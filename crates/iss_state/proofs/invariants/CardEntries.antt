@@ -17,12 +17,11 @@ use Rattle.iss_model.specs.declared.setting.Product.{Product}
 use Rattle.iss_model.specs.declared.txn.Txn.{Txn}
 use Rattle.iss_model.specs.rules.Activity.{TxnNow}
 use Rattle.iss_model.specs.rules.Asks.{Ask, ask_count, ask_usage, usage_of}
-use Rattle.iss_model.specs.rules.CardEntries.{call_for, clearing_entries, clearing_money_entries, funding_entries, further_clearing_entries, gateway_ask_entries, last_clearing_entries, owed_to_programme, refund_entries, reversal_entries}
+use Rattle.iss_model.specs.rules.Pieces.{call_for, clearing_money_entries, owed_to_programme, Parts, hold_entries, in_all, left_of, notice_after_abandonment, notice_entry, only_gateway, only_where, parts_held, post_entries, release_entries, taken_to_clear, unhold_entries, user_account, load_entries}
+use Rattle.iss_acts.specs.Rows.{clearing_entries, funding_entries, further_clearing_entries, gateway_ask_entries, last_clearing_entries, refund_entries, reversal_entries, abandonment_entries, end_entries, stand_in_entries, unless_declined}
 use Rattle.iss_model.specs.rules.CardReasons.{is_account_funded}
 use Rattle.iss_model.specs.rules.Facts.{Facts, asked_calls_of, next_notice}
-use Rattle.iss_model.specs.rules.Pieces.{Parts, abandonment_entries, end_entries, hold_entries, in_all, left_of, notice_after_abandonment, notice_entry, only_gateway, only_where, parts_held, post_entries, release_entries, stand_in_entries, taken_to_clear, unhold_entries, user_account}
 use Rattle.iss_model.specs.rules.Settings.{is_named_in, product_named}
-use Rattle.iss_model.specs.rules.Stepping.{load_entries, unless_declined}
 use Rattle.iss_model.specs.state.Cores.{CoreState, after_entry, core_facts}
 use Rattle.iss_model.proofs.Names.{its_name}
 use Rattle.iss_state.specs.Effects.{Effect, HoldsParts, Paid, PaidByAsk}

@@ -19,11 +19,11 @@ use Rattle.iss_model.specs.declared.input.Outcome.TheVariants as outcome
 use Rattle.iss_model.specs.declared.txn.Txn.{Txn}
 use Rattle.iss_model.specs.rules.Activity.{CallNow, TxnNow, call_numbered, is_asked, txn_named}
 use Rattle.iss_model.specs.rules.Asks.{call_ask}
-use Rattle.iss_model.specs.rules.CardEntries.{answer_entries, entries_of_asked, entries_of_txn, failed_call_entries, outcome_entries}
+use Rattle.iss_acts.specs.Rows.{answer_entries, entries_of_asked, entries_of_txn, failed_call_entries, outcome_entries, expiry_entries, live_expiry_entries, end_entries, stand_in_entries}
 use Rattle.iss_model.specs.rules.CardReasons.{is_account_funded}
-use Rattle.iss_model.specs.rules.Due.{DueThing, call_due, expiry_entries, live_expiry_entries, thing_entries, txn_due}
+use Rattle.iss_model.specs.rules.Due.{DueThing, call_due, thing_entries, txn_due}
 use Rattle.iss_model.specs.rules.Facts.{Facts, next_notice}
-use Rattle.iss_model.specs.rules.Pieces.{declined_ask_entries, end_entries, funded_ask_entries, in_all, notice_after_abandonment, notice_entry, only_gateway, only_where, parts_held, stand_in_entries, void_entry}
+use Rattle.iss_model.specs.rules.Pieces.{declined_ask_entries, funded_ask_entries, in_all, notice_after_abandonment, notice_entry, only_gateway, only_where, parts_held, void_entry}
 use Rattle.iss_model.specs.state.Cores.{CoreState, after_entry, core_facts}
 use Rattle.iss_model.proofs.Names.{one_name}
 use Rattle.iss_state.specs.Effects.{HoldsParts, Paid}

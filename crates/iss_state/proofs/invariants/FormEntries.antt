@@ -26,15 +26,15 @@ use Rattle.iss_model.specs.declared.txn.Txn.{Txn}
 use Rattle.iss_model.specs.Forms.{is_in_form, is_stamp}
 use Rattle.iss_model.specs.rules.Activity.{CallNow, TxnNow, call_numbered, is_asked, txn_named}
 use Rattle.iss_model.specs.rules.Asks.{Ask, ask_usage, call_ask, txn_begun}
-use Rattle.iss_model.specs.rules.CardEntries.{authorization_entries, call_for, clearing_entries, entries_of_asked, entries_of_txn, failed_call_entries, funding_entries, further_clearing_entries, gateway_ask_entries, increment_entries, last_clearing_entries, outcome_entries, owed_to_programme, refund_entries, reversal_entries}
+use Rattle.iss_acts.specs.Rows.{authorization_entries, clearing_entries, entries_of_asked, entries_of_txn, failed_call_entries, funding_entries, further_clearing_entries, gateway_ask_entries, increment_entries, last_clearing_entries, outcome_entries, refund_entries, reversal_entries, expiry_entries, live_expiry_entries, abandonment_entries, end_entries, stand_entries, stand_in_entries, unless_declined}
+use Rattle.iss_model.specs.rules.Pieces.{call_for, owed_to_programme, Parts, abandoned_call_entries, abandoned_calls_entries, failure_reason, in_all, left_of, notice_entry, parts_held, taken_to_clear, user_account, void_entry, setting_entries}
 use Rattle.iss_model.specs.rules.CardReasons.{authorization_reason, clearing_reason, first_ask, further_ask, increment_reason, is_account_funded, refund_reason, reversal_reason}
-use Rattle.iss_model.specs.rules.Due.{DueThing, call_due, expiry_entries, live_expiry_entries, thing_entries, txn_due}
+use Rattle.iss_model.specs.rules.Due.{DueThing, call_due, thing_entries, txn_due}
 use Rattle.iss_model.specs.rules.Facts.{Facts, asked_calls_of, is_notice, next_notice}
-use Rattle.iss_model.specs.rules.Pieces.{Parts, abandoned_call_entries, abandoned_calls_entries, abandonment_entries, end_entries, failure_reason, in_all, left_of, notice_entry, parts_held, stand_entries, stand_in_entries, taken_to_clear, user_account, void_entry}
 use Rattle.iss_model.specs.rules.Reasons.{load_reason}
 use Rattle.iss_model.specs.rules.Settings.{card_named, is_named_in, product_named}
 use Rattle.iss_model.specs.rules.StandIns.{Stand, allowed, over_limit, stand, uncovered}
-use Rattle.iss_model.specs.rules.Stepping.{authorization_ask, entries_of, increment_ask, setting_entries, unless_declined}
+use Rattle.iss_model.specs.rules.Stepping.{authorization_ask, entries_of, increment_ask}
 use Rattle.iss_model.specs.state.Cores.{CoreState, core_facts}
 use Rattle.iss_model.proofs.Lists.{find_passes}
 use Rattle.iss_state.specs.InForm.{IsInForm, is_begun_at_stamp, is_entry_in_form, is_opened_at_stamp}

@@ -14,7 +14,8 @@ use Rattle.iss_model.specs.declared.txn.Txn.{Txn}
 use Rattle.iss_model.specs.rules.Activity.{CallNow}
 use Rattle.iss_model.specs.rules.Asks.{Ask}
 use Rattle.iss_model.specs.rules.Facts.{Facts, asked_calls_of}
-use Rattle.iss_model.specs.rules.Pieces.{Parts, abandoned_calls_entries, abandonment_entries, declined_ask_entries, end_entries, failure_reason, hold_entries, in_all, notice_after_abandonment, notice_entry, post_entries, release_entries, stand_entries, stand_in_entries, user_account}
+use Rattle.iss_model.specs.rules.Pieces.{Parts, abandoned_calls_entries, declined_ask_entries, failure_reason, hold_entries, in_all, notice_after_abandonment, notice_entry, post_entries, release_entries, user_account}
+use Rattle.iss_acts.specs.Rows.{abandonment_entries, end_entries, stand_entries, stand_in_entries}
 use Rattle.iss_model.specs.rules.StandIns.{Stand, allowed, over_limit, stand, uncovered}
 use Rattle.iss_state.proofs.effects.Regrouping.{four, three}
 use Rattle.iss_state.specs.Numbers.{AreNumberedFrom}

@@ -19,14 +19,14 @@ use Rattle.iss_model.specs.declared.setting.Product.{Product}
 use Rattle.iss_model.specs.declared.txn.Txn.{Txn}
 use Rattle.iss_model.specs.rules.Activity.{CallNow, TxnNow, is_asked}
 use Rattle.iss_model.specs.rules.Asks.{Ask, call_ask}
-use Rattle.iss_model.specs.rules.CardEntries.{authorization_entries, call_for, clearing_entries, clearing_money_entries, entries_of_asked, entries_of_txn, failed_call_entries, funding_entries, further_clearing_entries, gateway_ask_entries, increment_entries, last_clearing_entries, outcome_entries, owed_to_programme, refund_entries, reversal_entries}
+use Rattle.iss_acts.specs.Rows.{authorization_entries, clearing_entries, entries_of_asked, entries_of_txn, failed_call_entries, funding_entries, further_clearing_entries, gateway_ask_entries, increment_entries, last_clearing_entries, outcome_entries, refund_entries, reversal_entries, expiry_entries, live_expiry_entries, abandonment_entries, end_entries, stand_in_entries, unless_declined}
+use Rattle.iss_model.specs.rules.Pieces.{call_for, clearing_money_entries, owed_to_programme, Parts, declined_ask_entries, funded_ask_entries, hold_entries, in_all, left_of, notice_after_abandonment, notice_entry, only_gateway, only_where, parts_held, post_entries, release_entries, taken_to_clear, user_account, load_entries, setting_entries}
 use Rattle.iss_model.specs.rules.CardReasons.{authorization_reason, clearing_reason, increment_reason, is_account_funded, refund_reason, reversal_reason}
-use Rattle.iss_model.specs.rules.Due.{DueThing, call_due, expiry_entries, live_expiry_entries, thing_entries, txn_due}
+use Rattle.iss_model.specs.rules.Due.{DueThing, call_due, thing_entries, txn_due}
 use Rattle.iss_model.specs.rules.Facts.{Facts, asked_calls_of, call_in, is_notice, next_notice, txn_in}
-use Rattle.iss_model.specs.rules.Pieces.{Parts, abandonment_entries, declined_ask_entries, end_entries, funded_ask_entries, hold_entries, in_all, left_of, notice_after_abandonment, notice_entry, only_gateway, only_where, parts_held, post_entries, release_entries, stand_in_entries, taken_to_clear, user_account}
 use Rattle.iss_model.specs.rules.Reasons.{load_reason}
 use Rattle.iss_model.specs.rules.Settings.{is_named_in, product_named}
-use Rattle.iss_model.specs.rules.Stepping.{authorization_ask, entries_of, increment_ask, load_entries, setting_entries, unless_declined}
+use Rattle.iss_model.specs.rules.Stepping.{authorization_ask, entries_of, increment_ask}
 use Rattle.iss_state.proofs.effects.Regrouping.{five, four, three}
 use Rattle.iss_state.specs.Numbers.{AreNumberedFrom}
 use Rattle.iss_state.proofs.invariants.NoticePieces.{IsSilent, abandonment_then, end_then, none_numbered, notice_or_none, silent_moves, silent_then, stand_in_numbered}

@@ -18,12 +18,13 @@ use Rattle.iss_model.specs.declared.txn.Txn.{Txn}
 use Rattle.iss_model.specs.Forms.{is_amount, is_in_form, is_mcc}
 use Rattle.iss_model.specs.rules.Activity.{TxnNow, txn_named}
 use Rattle.iss_model.specs.rules.Asks.{Ask, ask_usage, txn_begun}
-use Rattle.iss_model.specs.rules.CardEntries.{authorization_entries, clearing_entries, funding_entries, increment_entries, refund_entries, reversal_entries}
+use Rattle.iss_acts.specs.Rows.{authorization_entries, clearing_entries, funding_entries, increment_entries, refund_entries, reversal_entries, unless_declined}
 use Rattle.iss_model.specs.rules.CardReasons.{authorization_reason, clearing_reason, first_ask, further_ask, increment_reason, refund_reason, reversal_reason, txn_asked}
 use Rattle.iss_model.specs.rules.Facts.{Facts, is_notice}
 use Rattle.iss_model.specs.rules.Reasons.{load_reason}
 use Rattle.iss_model.specs.rules.Settings.{card_named, is_named_in, product_named}
-use Rattle.iss_model.specs.rules.Stepping.{entries_of, load_entries, setting_entries, unless_declined}
+use Rattle.iss_model.specs.rules.Stepping.{entries_of}
+use Rattle.iss_model.specs.rules.Pieces.{load_entries, setting_entries}
 use Rattle.iss_model.specs.state.Cores.{CoreState, after_entry, core_facts, is_live}
 use Rattle.iss_model.proofs.Lists.{neither}
 use Rattle.iss_model.proofs.Names.{its_name}

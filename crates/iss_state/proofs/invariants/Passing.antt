@@ -15,9 +15,8 @@ use Rattle.iss_model.specs.declared.entry.Entry.{Entry}
 use Rattle.iss_model.specs.declared.entry.Entry.TheVariants as entry
 use Rattle.iss_model.specs.declared.txn.Txn.{Txn}
 use Rattle.iss_model.specs.rules.Asks.{Ask, ask_given_back, usage_of}
-use Rattle.iss_model.specs.rules.CardEntries.{clearing_money_entries}
+use Rattle.iss_model.specs.rules.Pieces.{clearing_money_entries, Parts, declined_ask_entries, funded_ask_entries, hold_entries, in_all, only_gateway, only_where, post_entries, release_entries, taken_to_release, unhold_entries, user_account}
 use Rattle.iss_model.specs.rules.CardReasons.{is_account_funded}
-use Rattle.iss_model.specs.rules.Pieces.{Parts, declined_ask_entries, funded_ask_entries, hold_entries, in_all, only_gateway, only_where, post_entries, release_entries, taken_to_release, unhold_entries, user_account}
 
 -- each of these entries passes a test
 pub record EachPasses (p : Entry → Bool) (es : List Entry) : Type 0 where

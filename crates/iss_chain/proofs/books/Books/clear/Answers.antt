@@ -1,7 +1,6 @@
 use Rattle.std.proofs.Common.{List, ◌++◌, length, sym, ap, subst, ◌∙◌}
 use Rattle.iss_model.specs.declared.entry.Entry.{Entry}
-use Rattle.iss_model.specs.rules.Pieces.{taken_to_clear}
-use Rattle.iss_model.specs.rules.CardEntries.{clearing_money_entries}
+use Rattle.iss_model.specs.rules.Pieces.{taken_to_clear, clearing_money_entries}
 use Rattle.iss_hold.specs.Holdings.{now_of, parts_of}
 use Rattle.iss_chain.specs.Calls.{clearing_end_entries}
 use Rattle.iss_chain.specs.Entering.{StaysSmall}

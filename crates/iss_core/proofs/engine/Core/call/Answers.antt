@@ -1,7 +1,6 @@
 use Rattle.std.proofs.Common.{ap}
-use Rattle.iss_model.specs.rules.Facts.{call_in}
+use Rattle.iss_model.specs.rules.Facts.{call_in, Facts}
 use Rattle.iss_call.specs.States as called
-use Rattle.iss_model.specs.rules.Facts.{Facts}
 use Rattle.iss_core.specs.States.{state_of}
 use Rattle.iss_core.proofs.OnBook.{told_by_state}
 use Rattle.iss_core.proofs.engine.Core.call.Goals as goal

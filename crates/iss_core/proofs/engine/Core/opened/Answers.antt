@@ -1,8 +1,7 @@
 use Rattle.std.proofs.Common.{ap}
 use Rattle.std.specs.Option.{option_map, option_copied}
 use Rattle.iss_model.specs.rules.Activity.{CallNow}
-use Rattle.iss_model.specs.rules.Facts.{call_in}
-use Rattle.iss_model.specs.rules.Facts.{Facts}
+use Rattle.iss_model.specs.rules.Facts.{call_in, Facts}
 use Rattle.iss_core.specs.States.{state_of}
 use Rattle.iss_core.proofs.OnBook.{told_by_state}
 use Rattle.iss_core.proofs.engine.Core.opened.Goals as goal

@@ -1,6 +1,5 @@
 use Rattle.std.proofs.Common.{ap}
-use Rattle.iss_model.specs.rules.Facts.{event_reply}
-use Rattle.iss_model.specs.rules.Facts.{Facts}
+use Rattle.iss_model.specs.rules.Facts.{event_reply, Facts}
 use Rattle.iss_core.specs.States.{state_of}
 use Rattle.iss_core.proofs.OnBook.{told_by_state}
 use Rattle.iss_core.proofs.engine.Core.reply.Goals as goal
