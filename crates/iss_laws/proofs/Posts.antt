@@ -1,5 +1,5 @@
 -- Each post of a book stays in one currency.
-use Rattle.std.proofs.Common.{◌≡◌, ℕ, Bool, ◌&&◌, List, [], ◌∷◌, fold, refl, ap, ap₂, ◌∙◌}
+use Rattle.std.proofs.Common.{ℕ, Bool, ◌&&◌, List, [], ◌∷◌, fold, refl, ap, ap₂, ◌∙◌}
 use Rattle.std.specs.List.{list_all}
 use Rattle.std.proofs.lemmas.List.Folds.{list_all-append}
 use Rattle.iss_model.specs.declared.input.Record.{Record}
