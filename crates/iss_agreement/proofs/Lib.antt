@@ -14,4 +14,5 @@ pub mod ReportedAccounts
 pub mod Since
 pub mod JudgedAgain
 pub mod Records
+pub mod StepSums
 pub mod RunLaws

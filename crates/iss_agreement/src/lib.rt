@@ -10,6 +10,6 @@ mod runs;
 
 pub use agreement::{
     a_core_is_told_its_transcript, controls_count_since_their_first_record,
-    core_answers_as_its_book, core_keeps_the_book, judging_is_stable,
+    core_answers_as_its_book, core_keeps_the_book, judging_is_stable, records_add_to_sums,
 };
 pub use runs::runs_are_told_their_transcript;

@@ -60,7 +60,7 @@ pub record Holdings : Type 0 where
   pub held : Kept
 
 -- what was cleared of each transaction, what was refunded of it, and what the programme has paid for it
-pub record TxnSums : Type 0 where
+pub record SumsByTxn : Type 0 where
   pub cleared : Kept
   pub refunded : Kept
   pub paid : Kept
@@ -83,7 +83,7 @@ pub record CoreState : Type 0 where
   pub stand_ins : StandIns
   pub balances : Kept
   pub holdings : Holdings
-  pub txn_sums : TxnSums
+  pub txn_sums : SumsByTxn
   pub calls : List CallNow
   pub outbox : Outbox
 
@@ -237,7 +237,7 @@ abbrev pub with_end : Holdings → List ℕ → Holdings
 with_end h token = record h { txns = map (txn_after_end token) h.txns }
 
 -- what a post changes of its transaction's sums
-abbrev pub with_post : TxnSums → Entry → TxnSums
+abbrev pub with_post : SumsByTxn → Entry → SumsByTxn
 with_post sums e =
     record {
       cleared = after_changes sums.cleared (txn_changes cleared_by e);
