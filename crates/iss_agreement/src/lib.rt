@@ -9,7 +9,7 @@ mod agreement;
 mod runs;
 
 pub use agreement::{
-    a_core_is_told_its_transcript, controls_count_since_their_first_record,
+    a_core_is_told_its_transcript, alike_cores_stay_alike, controls_count_since_their_first_record,
     core_answers_as_its_book, core_keeps_the_book, judging_is_stable,
 };
 pub use runs::runs_are_told_their_transcript;
