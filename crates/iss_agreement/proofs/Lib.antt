@@ -16,3 +16,4 @@ pub mod JudgedAgain
 pub mod Records
 pub mod StepSums
 pub mod RunLaws
+pub mod Likeness

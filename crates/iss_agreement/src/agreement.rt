@@ -21,10 +21,11 @@ ghost use Rattle.iss_model.specs.texts.BalanceLines.{accounts_of};
 ghost use Rattle.iss_model.specs.rules.Histories.{nothing_yet, time_of, events_of, history_facts, history_keeper, history_of};
 ghost use Rattle.iss_model.specs.rules.Stepping.{step};
 ghost use Rattle.iss_model.specs.rules.Judging.{judge};
-ghost use Rattle.iss_model.specs.state.Cores.{no_core, control_facts, core_facts, core_keeper, core_of};
+ghost use Rattle.iss_model.specs.state.Cores.{CoreState, no_core, control_facts, core_facts, core_keeper, core_of};
 ghost use Rattle.iss_model.specs.run.Transcripts.{Reading, transcript};
 ghost use Rattle.iss_agreement.specs.Shown.{shown_product, shown_state};
 ghost use Rattle.iss_agreement.specs.Laws.{rows_since, sum_among};
+ghost use Rattle.iss_agreement.specs.Likeness.{AreAlike};
 
 /// The state that is kept entry by entry is the one that the book shows by filters and sums over all its rows.
 /// Book and state tell the same facts, so a further record makes the same entries on both, and both judge an input alike.
@@ -37,6 +38,20 @@ pub fn core_keeps_the_book()
         → (step core_keeper (core_of rs) r).entries ≡ (step history_keeper (history_of rs) r).entries }
     ensures judged { (rs : List Record) → (i : Input) → (stamp : ℕ)
         → judge core_keeper (core_of rs) i stamp ≡ judge history_keeper (history_of rs) i stamp }
+{}
+
+/// Cores that are alike tell the same facts. So a record makes the same entries on both and leaves them alike, and both judge
+/// an input alike.
+#[tactic(auto, using(crate::proofs::Likeness::alike_itself, crate::proofs::Likeness::facts_alike, crate::proofs::Likeness::entries_same, crate::proofs::Likeness::worlds_alike, crate::proofs::Likeness::judged_same))]
+pub fn alike_cores_stay_alike()
+    ensures itself { (c : CoreState) → AreAlike c c }
+    ensures facts { (c d : CoreState) → AreAlike c d → core_facts c ≡ core_facts d }
+    ensures entries { (c d : CoreState) → (r : Record) → AreAlike c d
+        → (step core_keeper c r).entries ≡ (step core_keeper d r).entries }
+    ensures worlds { (c d : CoreState) → (r : Record) → AreAlike c d
+        → AreAlike (step core_keeper c r).world (step core_keeper d r).world }
+    ensures judged { (c d : CoreState) → (i : Input) → (stamp : ℕ) → AreAlike c d
+        → judge core_keeper c i stamp ≡ judge core_keeper d i stamp }
 {}
 
 /// Lines are told on a core what they are told on its book.

@@ -27,7 +27,7 @@ use Rattle.iss_model.specs.Inputs.{event_token}
 use Rattle.iss_model.specs.rules.Settings.{first_card_state, default_product, product_made}
 use Rattle.iss_model.specs.rules.Controls.{Group, ControlPut, control_put, control_replaced, set_put, set_replaced, ControlNow, counted_changes}
 use Rattle.iss_model.specs.rules.Activity.{TxnNow, CallNow, is_asked}
-use Rattle.iss_model.specs.rules.Facts.{Facts, Accepted, Decision}
+use Rattle.iss_model.specs.rules.Facts.{Facts, Accepted, Decision, verdict_in}
 use Rattle.iss_model.specs.rules.Keeper.{Keeper}
 use Rattle.iss_model.specs.rules.Stepping.{step}
 
@@ -308,7 +308,7 @@ core_facts s =
       now = s.now;
       count = s.count;
       accepted = s.accepted;
-      decisions = s.decisions;
+      decisions = verdict_in s.decisions;
       users = s.cardholders.users;
       cards = s.cardholders.cards;
       products = map (λ p. p.product) s.products;

@@ -173,7 +173,7 @@ pub record Costs (es : List Entry) (most up down : ℕ) : Type 0 where
   pub notices : sum_by brought_by es + down ≤ sum_by taken_by es + up
 
 -- records that cost so many calls and notices
-pub few_after : (n m most up : ℕ) (s : CoreState) (es : List Entry) → n + most ≤ m → 3 * n + up ≤ 3 * m → AreAllowed s es → Costs es most up 0 → HasFewNumbers n s
+pub few_after : (n m most up : ℕ) (s : CoreState) (es : List Entry) → n + most ≤ m → 4 * n + up ≤ 4 * m → AreAllowed s es → Costs es most up 0 → HasFewNumbers n s
     → HasFewNumbers m (fold after_entry s es)
 few_after n m most up s es calls notices allowed costs few =
     let move = all_move s es allowed in
