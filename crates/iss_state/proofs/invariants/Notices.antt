@@ -1,6 +1,6 @@
 -- Notices are numbered one by one, in what is due and in the entries of each input.
 use Rattle.std.specs.Prelude.{None, Option, Some}
-use Rattle.std.proofs.Common.{Bool, List, [], cond, false, min, nat_eq, refl, subst, true, ℕ, ◌&&◌, ◌++◌, ◌+◌, ◌-◌, ◌||◌, ◌∷◌}
+use Rattle.std.proofs.Common.{Bool, List, [], cond, false, min, nat_eq, refl, subst, sym, true, ℕ, ◌&&◌, ◌++◌, ◌+◌, ◌-◌, ◌||◌, ◌∷◌}
 use Rattle.iss_model.specs.declared.account.Account.TheVariants as account
 use Rattle.iss_model.specs.declared.account.Part.TheVariants as part
 use Rattle.iss_model.specs.declared.call.Failure.{Failure}
@@ -19,7 +19,8 @@ use Rattle.iss_model.specs.declared.setting.Product.{Product}
 use Rattle.iss_model.specs.declared.txn.Txn.{Txn}
 use Rattle.iss_model.specs.rules.Activity.{CallNow, TxnNow, is_asked}
 use Rattle.iss_model.specs.rules.Asks.{Ask, call_ask}
-use Rattle.iss_acts.specs.Rows.{authorization_entries, clearing_entries, entries_of_asked, entries_of_txn, failed_call_entries, funding_entries, further_clearing_entries, gateway_ask_entries, increment_entries, last_clearing_entries, outcome_entries, refund_entries, reversal_entries, expiry_entries, live_expiry_entries, abandonment_entries, end_entries, stand_in_entries, unless_declined}
+use Rattle.iss_acts.proofs.Made.{thing_made}
+use Rattle.iss_acts.specs.Rows.{written_thing, authorization_entries, clearing_entries, entries_of_asked, entries_of_txn, failed_call_entries, funding_entries, further_clearing_entries, gateway_ask_entries, increment_entries, last_clearing_entries, outcome_entries, refund_entries, reversal_entries, expiry_entries, live_expiry_entries, abandonment_entries, end_entries, stand_in_entries, unless_declined}
 use Rattle.iss_model.specs.rules.Pieces.{call_for, clearing_money_entries, owed_to_programme, Parts, declined_ask_entries, funded_ask_entries, hold_entries, in_all, left_of, notice_after_abandonment, notice_entry, only_gateway, only_where, parts_held, post_entries, release_entries, taken_to_clear, user_account, load_entries, setting_entries}
 use Rattle.iss_model.specs.rules.CardReasons.{authorization_reason, clearing_reason, increment_reason, is_account_funded, refund_reason, reversal_reason}
 use Rattle.iss_model.specs.rules.Due.{DueThing, call_due, thing_entries, txn_due}
@@ -80,9 +81,12 @@ live_expiry_numbered f (Some now) = by now.live
     by true = expiry_numbered f now.txn
     by false = tt
 
+written_thing_numbered : (f : Facts) (thing : DueThing) (at : ℕ) → AreNumberedFrom (next_notice f) (written_thing thing at f)
+written_thing_numbered f (call_due number) at = asked_numbered (next_notice f) (λ (o : Opened) (t : Txn). failed_call_entries f o t failure.Timeout at) (call_in f number) f (λ o t. failed_call_numbered f o t failure.Timeout at)
+written_thing_numbered f (txn_due token) at = live_expiry_numbered f (txn_in f token)
+
 pub thing_numbered : (f : Facts) (thing : DueThing) (at : ℕ) → AreNumberedFrom (next_notice f) (thing_entries thing at f)
-thing_numbered f (call_due number) at = asked_numbered (next_notice f) (λ (o : Opened) (t : Txn). failed_call_entries f o t failure.Timeout at) (call_in f number) f (λ o t. failed_call_numbered f o t failure.Timeout at)
-thing_numbered f (txn_due token) at = live_expiry_numbered f (txn_in f token)
+thing_numbered f thing at = subst (AreNumberedFrom (next_notice f)) (sym (thing_made f thing at)) (written_thing_numbered f thing at)
 
 -- ---- own entries
 
