@@ -1,5 +1,5 @@
 -- The acts of a due thing and of an input are a row: each has a cause that may act so, and comes of the facts.
-use Rattle.std.proofs.Common.{arith, Bool, List, [], ap, ap₂, cond, false, length, nat_eq, refl, subst, true, ℕ, ◌&&◌, ◌+◌, ◌-◌, ◌++◌, ◌<◌, ◌||◌, ◌∷◌, ◌∙◌, ◌≡◌, ◌≤◌, min, inl, inr}
+use Rattle.std.proofs.Common.{arith, Bool, List, [], ap, ap₂, cond, false, length, nat_eq, refl, subst, true, ℕ, ◌&&◌, ◌+◌, ◌-◌, ◌++◌, ◌||◌, ◌∷◌, ◌∙◌, ◌≡◌, ◌≤◌, min, inl, inr}
 use Rattle.std.specs.Prelude.{Option, Some, None, option_map}
 use Rattle.std.specs.Str.{bytes_eq}
 use Rattle.std.proofs.lemmas.Bool.Decides.{nat_tests}
