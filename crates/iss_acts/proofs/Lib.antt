@@ -3,3 +3,4 @@ pub mod Passing
 pub mod Causes
 pub mod Walk
 pub mod Stepping
+pub mod Begun

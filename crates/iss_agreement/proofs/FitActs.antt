@@ -1,6 +1,6 @@
 -- Acts make entries that fit: an act is made of what stands, and what it makes is new.
 use Rattle.std.proofs.Common.{◌≡◌, ℕ, ◌+◌, ◌≤◌, Bool, true, false, cond, ◌&&◌, ◌||◌, nat_le, List, [], ◌∷◌, ◌++◌, map, refl, sym, ap, subst, ◌∙◌, arith, ◌⊎◌, inl, inr}
-use Rattle.std.specs.Prelude.{Option, Some, None, is_some, is_none, option_map, option_and_then}
+use Rattle.std.specs.Prelude.{Option, Some, None, is_some, is_none}
 use Rattle.std.proofs.lemmas.Bool.{and_parts}
 use Rattle.iss_model.specs.declared.currency.Currency.{Currency}
 use Rattle.iss_model.specs.declared.decision.Reason.{Reason}
@@ -8,7 +8,6 @@ use Rattle.iss_model.specs.declared.decision.Reason.TheVariants as reason
 use Rattle.iss_model.specs.declared.decision.Verdict.TheVariants as verdict
 use Rattle.iss_model.specs.declared.setting.Moved.{Moved}
 use Rattle.iss_model.specs.declared.setting.Moved.TheVariants as moved
-use Rattle.iss_model.specs.declared.setting.Product.{Product}
 use Rattle.iss_model.specs.declared.setting.Card.{Card}
 use Rattle.iss_model.specs.declared.setting.CardState.{CardState}
 use Rattle.iss_model.specs.declared.setting.User.{User}
@@ -28,16 +27,16 @@ use Rattle.iss_model.specs.rules.Controls.{ControlNow, control_named}
 use Rattle.iss_model.specs.rules.Activity.{TxnNow}
 use Rattle.iss_model.specs.rules.Facts.{Facts, is_notice, next_call}
 use Rattle.iss_model.specs.rules.Acts.{Abandons, Acknowledges, Act, Asks, Begins, Clears, Declines, Does, Ends, Fails, Funds, GivesBack, HoldsOwn, LetsGo, Loads, Refuses, Sets, StandsIn, Tells, TurnsDown, Uses, act_entries, entries_of_acts}
-use Rattle.iss_model.specs.rules.Asks.{Ask, ask_usage, call_ask, txn_begun}
+use Rattle.iss_model.specs.rules.Asks.{Ask, ask_usage, call_ask}
 use Rattle.iss_model.specs.rules.Pieces.{taken_to_clear}
 use Rattle.iss_model.specs.rules.Reasons.{user_reason, card_reason, card_move_reason, user_move_reason, move_reason, product_reason, control_reason, put_control_reason, switch_reason, lacks_user, lacks_product, lacks_group}
-use Rattle.iss_model.specs.rules.CardReasons.{first_ask}
 use Rattle.iss_model.specs.rules.Stepping.{acts_of, acts_unless}
 use Rattle.iss_model.proofs.Names.{its_name}
 use Rattle.iss_model.proofs.Lists.{all_weaker}
 use Rattle.iss_acts.specs.Causes.{Cause}
-use Rattle.iss_acts.specs.Sources.{AllMade, IsFirstAsk, IsMade, IsRow}
+use Rattle.iss_acts.specs.Sources.{AllMade, IsMade, IsRow}
 use Rattle.iss_acts.specs.Stages.{Fresh, Over, Seeks, Stage, stage_after}
+use Rattle.iss_acts.proofs.Begun.{is_begun}
 use Rattle.iss_acts.proofs.Walk.{from_start, txn_of_ask, txn_of_call}
 use Rattle.iss_agreement.proofs.Standing.{Bounds, bounds_of, AreFit, IsSettable, Fit}
 use Rattle.iss_agreement.proofs.StayStanding.{true_le, both_true}
@@ -97,23 +96,6 @@ settable f (input.Switch token product on) event at own =
 settable f _ event at own = tt
 
 -- authorisations ----
-
--- an authorisation's transaction is of its own record
-begun_by : (f : Facts) (token : List ℕ) (currency : Currency) (amount mcc : ℕ) (mid : List ℕ) (at : ℕ) (c : Card) (product : Option Product) (x : Ask)
-    → option_map (first_ask token amount at) (option_map (λ product. txn_begun f c product token currency mcc mid at) product) ≡ Some x → x.txn.origin ≡ f.count
-begun_by f token currency amount mcc mid at c None x e = cc
-begun_by f token currency amount mcc mid at c (Some product) x e =
-    let one : first_ask token amount at (txn_begun f c product token currency mcc mid at) ≡ x = cc in
-    ap (λ (a : Ask). a.txn.origin) (sym one)
-
-ask_origin : (f : Facts) (token : List ℕ) (currency : Currency) (amount mcc : ℕ) (mid : List ℕ) (at : ℕ) (card : Option Card) (x : Ask)
-    → option_map (first_ask token amount at) (option_and_then (λ c. option_map (λ product. txn_begun f c product token currency mcc mid at) (product_named c.product f.products)) card) ≡ Some x
-    → x.txn.origin ≡ f.count
-ask_origin f token currency amount mcc mid at None x e = cc
-ask_origin f token currency amount mcc mid at (Some c) x e = begun_by f token currency amount mcc mid at c (product_named c.product f.products) x e
-
-first_origin : (f : Facts) (by : Cause) (at : ℕ) (ask : Ask) → IsFirstAsk f by at ask → ask.txn.origin ≡ f.count
-first_origin f by at ask first = ask_origin f first.token first.currency first.amount first.mcc first.mid at (card_named first.card f.cards) ask first.made
 
 -- the bounds with a transaction that begins
 abbrev with_begun : Facts → Txn → Bounds
@@ -182,7 +164,7 @@ module _ {f : Facts} (all : AreKnown (bounds_of f) f) {by : Cause} {at : ℕ} wh
   act_fits g (Begins ask) ys made later =
       subst (λ (g : Stage). FitAt f g (act_entries (Begins ask) ++ ys)) (sym made.from.0)
       (let t : Txn = ask.txn in
-      let origin : t.origin ≤ f.count = omega (arith, first_origin f by at ask made.from.1) in
+      let origin : t.origin ≤ f.count = omega (arith, ap (λ (ask : Ask). ask.txn.origin) (is_begun made.from.1).same) in
       let named : is_named_in (with_begun f t).txns t.token ≡ true = ap (λ (b : Bool). b || is_named_in (map (λ now. now.txn.token) f.txns) t.token) (its_name t.token) in
       (origin, fit-cons (with_begun f t) (entry.Usage (ask_usage ask)) ys origin (later (with_begun f t) (begun_known f t all) (record { origin = origin; named = named }))))
   act_fits g (Uses ask) ys made later =
