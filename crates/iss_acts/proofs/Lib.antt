@@ -4,3 +4,4 @@ pub mod Causes
 pub mod Walk
 pub mod Stepping
 pub mod Posts
+pub mod Begun

@@ -8,6 +8,7 @@ pub mod Entering
 pub mod StayStanding
 pub mod Fitting
 pub mod FitPieces
+pub mod FitActs
 pub mod BookAndState
 pub mod CoreOfBook
 pub mod ReportedAccounts
