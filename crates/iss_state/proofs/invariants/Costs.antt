@@ -241,7 +241,7 @@ module _ (by : Cause) (at : ℕ) (s : CoreState) (h : IsOrderlyState s) where
 
   pub act_spends : (g : Stage) (q : CoreState) (a : Act) → IsMade (core_facts s) by at g a → may_begin a ≡ false → IsKnown s g q → Spends by g q a
   act_spends g q (Begins ask) made none known = cc
-  act_spends g q (Sets i event) made none known = at_first q _ made.from.0 known (sets_spend i event made.from.2)
+  act_spends g q (Sets i event) made none known = at_first q _ made.from.2 known (sets_spend i event made.from.1)
   act_spends g q (Loads event user currency amount) made none known =
       at_first q _ made.from.0 known (spends (calm_effect s (act_entries (Loads event user currency amount)) h (tt, (tt, tt)) refl) (omega (arith, ap cause_money made.from.1)) (omega arith))
   act_spends g q (Uses ask) made none known = at_first q _ made.from.0 known (uses_spend ask made.from.1)

@@ -80,7 +80,7 @@ module _ (f : Facts) (by : Cause) (at : ℕ) (timed : AreTimed f) (stamp : is_st
   settled_stamp ask (inr own) = own_stamp ask own.0
 
   act_formed : (g : Stage) (a : Act) → IsMade f by at g a → AreFormed (act_entries a)
-  act_formed g (Sets i event) made = two_pass (form i made.from.1) (one_passes refl)
+  act_formed g (Sets i event) made = two_pass (form i made.from.0) (one_passes refl)
   act_formed g (Begins ask) made =
       let first = made.from.1 in
       two_pass (ap is_stamp (authorization_stamp f first.token first.card first.currency first.amount first.mcc first.mid at ask first.made) ∙ stamp) (one_passes (own_stamp ask (inl first)))
