@@ -1,5 +1,5 @@
 -- The acts of a due thing and of an input are a row: each has a cause that may act so, and comes of the facts.
-use Rattle.std.proofs.Common.{arith, Bool, List, [], ap, ap₂, cond, false, nat_eq, refl, subst, sym, true, ℕ, ◌&&◌, ◌+◌, ◌-◌, ◌++◌, ◌||◌, ◌∙◌, ◌∷◌, ◌≡◌, ◌≤◌, min, inl, inr}
+use Rattle.std.proofs.Common.{arith, Bool, List, [], ap, ap₂, cond, false, length, nat_eq, refl, subst, sym, true, ℕ, ◌&&◌, ◌+◌, ◌-◌, ◌++◌, ◌||◌, ◌∷◌, ◌∙◌, ◌≡◌, ◌≤◌, min, inl, inr}
 use Rattle.std.specs.Prelude.{Option, Some, None, option_map}
 use Rattle.std.specs.Str.{bytes_eq}
 use Rattle.std.proofs.lemmas.Bool.Decides.{nat_tests}
@@ -21,7 +21,7 @@ use Rattle.iss_model.specs.rules.Asks.{Ask, call_ask}
 use Rattle.iss_model.specs.rules.CardReasons.{authorization_reason, clearing_reason, first_ask, further_ask, increment_reason, is_account_funded, refund_reason, reversal_reason, txn_asked}
 use Rattle.iss_model.specs.rules.Due.{DueThing, call_due, txn_due, expiry_acts, live_expiry_acts, thing_acts}
 use Rattle.iss_model.specs.rules.Facts.{Facts, asked_calls_of, call_in, is_notice, next_notice, txn_in}
-use Rattle.iss_model.specs.rules.Pieces.{Parts, in_all, left_of, parts_held, taken_to_clear, taken_to_release}
+use Rattle.iss_model.specs.rules.Pieces.{Parts, in_all, left_of, notice_after_abandonment, parts_held, taken_to_clear, taken_to_release}
 use Rattle.iss_model.specs.rules.Reasons.{card_reason, control_reason, group_reason, load_reason, move_reason, product_reason, set_reason, switch_reason, user_reason}
 use Rattle.iss_model.specs.rules.Settings.{is_named_in, product_named}
 use Rattle.iss_model.specs.rules.StandIns.{Stand, allowed, over_limit, stand, uncovered}
@@ -29,7 +29,7 @@ use Rattle.iss_model.specs.rules.Stepping.{authorization_ask, acts_of, acts_unle
 use Rattle.iss_model.specs.rules.Acts.{Abandons, Act, Ends, LetsGo, Sets}
 use Rattle.iss_model.specs.rules.CardActs.{acts_for_gateway, acts_of_asked, acts_of_txn, acts_where, authorization_acts, clearing_acts, end_acts, failed_acts, funding_acts, gateway_acts, increment_acts, outcome_acts, refund_acts, reversal_acts, stand_acts}
 use Rattle.iss_acts.specs.Causes.{Cause, ComesOf, FallsDue, fails_call, is_of_event, lets_go, may_act, seeks_funding, settles_ask}
-use Rattle.iss_acts.specs.Sources.{AllMade, AreWithin, IsAskedCall, IsFirstAsk, IsFrom, IsFurtherAsk, IsOwnAsk, IsRow, IsSettledAsk, IsTxnOf, setting_reason}
+use Rattle.iss_acts.specs.Sources.{AllMade, AreWithin, IsAskedCall, IsFirstAsk, IsFrom, IsFurtherAsk, IsNewNotice, IsOwnAsk, IsRow, IsSettledAsk, IsTxnOf, setting_reason}
 use Rattle.iss_acts.specs.Stages.{Fresh, Keeps, Leaves, Seeks, Stage, stage_after}
 
 -- numbers and parts ----
@@ -54,6 +54,16 @@ no_less n m e = grind (arith, nat_tests)
 
 low : (a b : ℕ) → min a b ≤ b
 low a b = omega arith
+
+-- the next notice, and those after it, are beyond those that are made
+next_is_new : (f : Facts) → IsNewNotice f (next_notice f)
+next_is_new f = omega arith
+
+later_is_new : (f : Facts) (n : ℕ) → IsNewNotice f (next_notice f + n)
+later_is_new f n = omega arith
+
+after_abandonment : (f : Facts) (t : Txn) → IsNewNotice f (notice_after_abandonment (next_notice f) f t)
+after_abandonment f t = later_is_new f (length (asked_calls_of f t.token))
 
 -- acts in a row ----
 
@@ -99,20 +109,23 @@ module _ {f : Facts} {by : Cause} {at : ℕ} where
   unless_row None token its h = h refl
   unless_row (Some why) token its h = fresh (one_act its tt)
 
-  set_row : (i : Input) (why : Option Reason) (token : List ℕ) → by ≡ ComesOf i → why ≡ setting_reason f i → is_of_event by token ≡ true → IsRow f by at (acts_unless why token (Sets i token ∷ []))
-  set_row i why token comes same its = unless_row why token its (λ none. fresh (one_act its (comes, sym same ∙ none)))
+  set_row : (i : Input) (why : Option Reason) (token : List ℕ) → by ≡ ComesOf i → why ≡ setting_reason f i → is_of_event by token ≡ true → acts_of i at f ≡ acts_unless why token (Sets i token ∷ [])
+      → IsRow f by at (acts_unless why token (Sets i token ∷ []))
+  set_row i why token comes same its own =
+      unless_row why token its (λ none. fresh (one_act its (comes, sym same ∙ none, refl, own ∙ ap (λ (why : Option Reason). acts_unless why token (Sets i token ∷ [])) none)))
 
   -- calls ----
 
-  stood : (x : Stand) (number : ℕ) (ask : Ask) (why : Failure) (when : ℕ) → settles_ask by ≡ true → IsSettledAsk f by at ask → when ≡ at → AreMade f by at (Seeks ask) (stand_acts x number ask why when)
-  stood (allowed s) number ask why when settles from now = one_act settles (refl, from, now)
-  stood (over_limit s) number ask why when settles from now = one_act settles (refl, from)
-  stood uncovered number ask why when settles from now = one_act settles (refl, from)
+  stood : (x : Stand) (number : ℕ) (ask : Ask) (why : Failure) (when : ℕ) → settles_ask by ≡ true → IsSettledAsk f by at ask → when ≡ at → IsNewNotice f number
+      → AreMade f by at (Seeks ask) (stand_acts x number ask why when)
+  stood (allowed s) number ask why when settles from now new = one_act settles (refl, from, now, new)
+  stood (over_limit s) number ask why when settles from now new = one_act settles (refl, from)
+  stood uncovered number ask why when settles from now new = one_act settles (refl, from)
 
   failed : (o : Opened) (t : Txn) (why : Failure) → fails_call by why ≡ true → settles_ask by ≡ true → IsAskedCall f o t → AreMade f by at Fresh (failed_acts f o t why at)
   failed o t why fails settles asked =
-      first_act fails (refl, asked)
-      (stood (stand f (call_ask o t) why at) (next_notice f + 1) (call_ask o t) why at settles (inl (record { o = o; t = t; asked = asked; is = refl })) refl)
+      first_act fails (refl, asked, next_is_new f)
+      (stood (stand f (call_ask o t) why at) (next_notice f + 1) (call_ask o t) why at settles (inl (record { o = o; t = t; asked = asked; is = refl })) refl (later_is_new f 1))
 
   asked_row : (make : Opened → Txn → List Act) → ((o : Opened) (t : Txn) → IsAskedCall f o t → AreMade f by at Fresh (make o t)) → (number : ℕ) → IsRow f by at (acts_of_asked make (call_in f number) f)
   asked_row make each number = fresh (of_call (call_in f number) refl)
@@ -129,10 +142,10 @@ module _ {f : Facts} {by : Cause} {at : ℕ} where
   -- what a transaction holds is let go ----
 
   -- after its calls an amount is let go, and then the transaction ends or doesn't
-  freed : (number : ℕ) (t : Txn) (parts : Parts) (why : Reason) (amount : ℕ) {ends : List Act} → lets_go by ≡ true → IsTxnOf f t → AreWithin parts (parts_held f t) → amount ≤ in_all parts
+  freed : (number : ℕ) (t : Txn) (parts : Parts) (why : Reason) (amount : ℕ) {ends : List Act} → lets_go by ≡ true → IsTxnOf f t → AreWithin parts (parts_held f t) → amount ≤ in_all parts → IsNewNotice f number
       → AreMade f by at (Leaves t (left_of parts (taken_to_release parts amount))) ends
       → AreMade f by at (Keeps t parts) (Abandons number t why (asked_calls_of f t.token) parts ∷ LetsGo t parts amount ∷ ends)
-  freed number t parts why amount goes its within enough ends = first_act goes (refl, its, refl) (first_act goes (refl, its, within, enough) ends)
+  freed number t parts why amount goes its within enough new ends = first_act goes (refl, its, refl, new) (first_act goes (refl, its, within, enough) ends)
 
   ends : (t : Txn) (parts : Parts) (amount : ℕ) → lets_go by ≡ true → IsTxnOf f t → in_all parts ≤ amount → AreMade f by at (Leaves t (left_of parts (taken_to_release parts amount))) (Ends t ∷ [])
   ends t parts amount goes its all = one_act goes (record { parts = left_of parts (taken_to_release parts amount); here = refl; none = none parts.g parts.p parts.s amount all }, its)
@@ -140,8 +153,8 @@ module _ {f : Facts} {by : Cause} {at : ℕ} where
       none : (g p s n : ℕ) → g + p + s ≤ n → (g - min (n - min n p) g) + (p - min n p) + (s - min (n - min n p - min (n - min n p) g) s) ≡ 0
       none g p s n le = omega (arith, le)
 
-  ended : (number : ℕ) (t : Txn) (parts : Parts) (why : Reason) → lets_go by ≡ true → IsTxnOf f t → AreWithin parts (parts_held f t) → AreMade f by at (Keeps t parts) (end_acts number f t parts why)
-  ended number t parts why goes its within = freed number t parts why (in_all parts) goes its within (at_most (in_all parts)) (ends t parts (in_all parts) goes its (at_most (in_all parts)))
+  ended : (number : ℕ) (t : Txn) (parts : Parts) (why : Reason) → lets_go by ≡ true → IsTxnOf f t → AreWithin parts (parts_held f t) → IsNewNotice f number → AreMade f by at (Keeps t parts) (end_acts number f t parts why)
+  ended number t parts why goes its within new = freed number t parts why (in_all parts) goes its within (at_most (in_all parts)) new (ends t parts (in_all parts) goes its (at_most (in_all parts)))
 
   -- an ask seeks funding ----
 
@@ -152,7 +165,7 @@ module _ {f : Facts} {by : Cause} {at : ℕ} where
       of_product : is_account_funded ask.txn.funding ≡ false → (product : Option Product) → AreMade f by at (Seeks ask) (gateway_acts product f ask)
       of_product e None = no_act
       of_product e (Some product) =
-          either_acts (is_named_in f.switched product.name) (λ on. stood (stand f ask failure.Switch ask.at) (next_notice f) ask failure.Switch ask.at settles (inr (own, e)) now)
+          either_acts (is_named_in f.switched product.name) (λ on. stood (stand f ask failure.Switch ask.at) (next_notice f) ask failure.Switch ask.at settles (inr (own, e)) now (next_is_new f))
           (λ off. one_act seeks (refl, refl, own, e))
 
 -- what is due ----
@@ -160,8 +173,8 @@ module _ {f : Facts} {by : Cause} {at : ℕ} where
 expiry_row : (f : Facts) (at : ℕ) (t : Txn) → IsTxnOf f t → IsRow f FallsDue at (expiry_acts f t)
 expiry_row f at t its =
     keeping t its
-    (both_acts (ended (next_notice f) t (parts_held f t) reason.Expired refl its (as_they_are (parts_held f t)))
-    (λ g. for_gateway t (λ gateway. where_some (in_all (parts_held f t)) (one_act refl (its, gateway)))))
+    (both_acts (ended (next_notice f) t (parts_held f t) reason.Expired refl its (as_they_are (parts_held f t)) (next_is_new f))
+    (λ g. for_gateway t (λ gateway. where_some (in_all (parts_held f t)) (one_act refl (its, gateway, after_abandonment f t)))))
 
 pub thing_row : (f : Facts) (thing : DueThing) (at : ℕ) → IsRow f FallsDue at (thing_acts thing at f)
 thing_row f (call_due number) at = asked_row (λ (o : Opened) (t : Txn). failed_acts f o t failure.Timeout at) (λ o t asked. failed o t failure.Timeout refl refl asked) number
@@ -208,15 +221,15 @@ outcome_made f call outcome.Connection at o t asked = failed o t failure.Connect
 outcome_made f call outcome.Application at o t asked = failed o t failure.Application refl refl asked
 
 pub input_row : (f : Facts) (i : Input) (at : ℕ) → IsRow f (ComesOf i) at (acts_of i at f)
-input_row f (input.User token user) at = set_row _ (user_reason f user) token refl refl (its_name token)
-input_row f (input.Card token card user product active) at = set_row _ (card_reason f card user product) token refl refl (its_name token)
-input_row f (input.Move token who) at = set_row _ (move_reason f who) token refl refl (its_name token)
-input_row f (input.Product token product currency funding timeout_ms hold_ms) at = set_row _ (product_reason f product) token refl refl (its_name token)
-input_row f (input.Group token group mccs) at = set_row _ (group_reason f group) token refl refl (its_name token)
+input_row f (input.User token user) at = set_row _ (user_reason f user) token refl refl (its_name token) refl
+input_row f (input.Card token card user product active) at = set_row _ (card_reason f card user product) token refl refl (its_name token) refl
+input_row f (input.Move token who) at = set_row _ (move_reason f who) token refl refl (its_name token) refl
+input_row f (input.Product token product currency funding timeout_ms hold_ms) at = set_row _ (product_reason f product) token refl refl (its_name token) refl
+input_row f (input.Group token group mccs) at = set_row _ (group_reason f group) token refl refl (its_name token) refl
 input_row f (input.Control token control currency window amount_limit usage_limit association scope active) at =
-    set_row _ (control_reason f control currency window association scope) token refl refl (its_name token)
-input_row f (input.Set token set product currency connection timeout application max day_limit active) at = set_row _ (set_reason f set product currency) token refl refl (its_name token)
-input_row f (input.Switch token product on) at = set_row _ (switch_reason f product) token refl refl (its_name token)
+    set_row _ (control_reason f control currency window association scope) token refl refl (its_name token) refl
+input_row f (input.Set token set product currency connection timeout application max day_limit active) at = set_row _ (set_reason f set product currency) token refl refl (its_name token) refl
+input_row f (input.Switch token product on) at = set_row _ (switch_reason f product) token refl refl (its_name token) refl
 input_row f (input.Load token user currency amount) at = unless_row (load_reason f user) token (its_name token) (λ none. fresh (one_act (its_name token) (refl, refl)))
 input_row f (input.Authorization token card currency amount mcc mid) at = of_ask (authorization_ask f token card currency amount mcc mid at) refl
   where
@@ -253,9 +266,9 @@ input_row f (input.Reversal token txn currency amount) at = unless_row (reversal
         keeping t its
         (both_acts
         (both_acts
-        (freed (next_notice f) t held reason.Reversed amount_freed refl its (as_they_are held) (low amount (in_all held))
+        (freed (next_notice f) t held reason.Reversed amount_freed refl its (as_they_are held) (low amount (in_all held)) (next_is_new f)
         (either_acts (nat_eq amount_freed (in_all held)) (λ all. ends t held amount_freed refl its (no_less amount_freed (in_all held) all)) (λ some. no_act)))
-        (λ g. for_gateway t (λ gateway. where_some amount_freed (one_act refl (its, gateway)))))
+        (λ g. for_gateway t (λ gateway. where_some amount_freed (one_act refl (its, gateway, after_abandonment f t)))))
         (λ g. one_act (its_name token) tt))
 input_row f (input.Clearing token txn currency amount last) at = unless_row (clearing_reason (txn_in f txn) currency) token (its_name token) (λ none. of_now (txn_in f txn) refl)
   where
@@ -270,8 +283,8 @@ input_row f (input.Clearing token txn currency amount last) at = unless_row (cle
         (first_act (its_amount f txn now amount e) (refl, its, refl, refl)
         (both_acts
         (either_acts (now.live && (last || nat_eq (in_all rest) 0))
-        (λ over. both_acts (ended (next_notice f) t rest reason.Cleared refl its (as_left (parts_held f t) taken)) (λ g. for_gateway t (λ gateway. one_act refl (its, gateway))))
-        (λ goes_on. for_gateway t (λ gateway. one_act refl (its, gateway))))
+        (λ over. both_acts (ended (next_notice f) t rest reason.Cleared refl its (as_left (parts_held f t) taken) (next_is_new f)) (λ g. for_gateway t (λ gateway. one_act refl (its, gateway, after_abandonment f t))))
+        (λ goes_on. for_gateway t (λ gateway. one_act refl (its, gateway, next_is_new f))))
         (λ g. one_act (its_name token) tt)))
 input_row f (input.Refund token txn currency amount) at = unless_row (refund_reason f (txn_in f txn) currency amount) token (its_name token) (λ none. of_now (txn_in f txn) refl)
   where
@@ -279,7 +292,7 @@ input_row f (input.Refund token txn currency amount) at = unless_row (refund_rea
     of_now None e = fresh no_act
     of_now (Some now) e =
         let its : IsTxnOf f now.txn = record { token = txn; now = now; stands = e; same = refl } in
-        fresh (first_act (its_amount f txn now amount e) (its, refl, refl) (both_acts (for_gateway now.txn (λ gateway. one_act refl (its, gateway))) (λ g. one_act (its_name token) tt)))
+        fresh (first_act (its_amount f txn now amount e) (its, refl, refl) (both_acts (for_gateway now.txn (λ gateway. one_act refl (its, gateway, next_is_new f))) (λ g. one_act (its_name token) tt)))
 input_row f (input.Answer call what) at = asked_row (λ (o : Opened) (t : Txn). outcome_acts what f o t at) (outcome_made f call what at) call.0
-input_row f (input.Ack notice) at = fresh (either_acts (is_notice f notice) (λ known. one_act (same_number notice) tt) (λ unknown. no_act))
+input_row f (input.Ack notice) at = fresh (either_acts (is_notice f notice) (λ known. one_act (same_number notice) known) (λ unknown. no_act))
 input_row f input.Time at = fresh no_act

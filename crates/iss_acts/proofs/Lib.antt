@@ -4,3 +4,5 @@ pub mod Causes
 pub mod ByKind
 pub mod Walk
 pub mod Stepping
+pub mod Posts
+pub mod Begun

@@ -8,10 +8,13 @@ pub mod Entering
 pub mod StayStanding
 pub mod Fitting
 pub mod FitPieces
+pub mod FitActs
 pub mod BookAndState
 pub mod CoreOfBook
 pub mod ReportedAccounts
 pub mod Since
 pub mod JudgedAgain
 pub mod Records
+pub mod StepSums
 pub mod RunLaws
+pub mod Likeness

@@ -177,7 +177,7 @@ abbrev pub Costs : List Entry → ℕ → ℕ → ℕ → Type 0
 Costs es most up down = CostsBy opened_by brought_by taken_by es most up down
 
 -- records that cost so many calls and notices
-pub few_after : (n m most up : ℕ) (s : CoreState) (es : List Entry) → n + most ≤ m → 3 * n + up ≤ 3 * m → AreAllowed s es → Costs es most up 0 → HasFewNumbers n s
+pub few_after : (n m most up : ℕ) (s : CoreState) (es : List Entry) → n + most ≤ m → 4 * n + up ≤ 4 * m → AreAllowed s es → Costs es most up 0 → HasFewNumbers n s
     → HasFewNumbers m (fold after_entry s es)
 few_after n m most up s es calls notices allowed costs few =
     let move = all_move s es allowed in
