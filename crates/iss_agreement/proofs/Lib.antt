@@ -15,4 +15,4 @@ pub mod Since
 pub mod JudgedAgain
 pub mod Records
 pub mod RunLaws
-mod RoomLaws
+pub mod RoomLaws

@@ -1,9 +1,10 @@
 -- The room of a device: how much of it is free after the records that stand on it, and which record fits.
-use Rattle.std.specs.Prelude.{ℕ, ◌+◌, ◌-◌, ◌/◌, max, Bool, true, false, not, ◌&&◌, nat_le, List, [], fold, length, take, drop, Option, Some, None, option_map, if◌then◌else◌}
+use Rattle.std.specs.Prelude.{ℕ, ◌+◌, ◌-◌, ◌/◌, max, Bool, false, not, ◌&&◌, nat_le, nat_lt, List, [], fold, length, take, drop, Option, Some, None, option_map, if◌then◌else◌}
 use Rattle.iss_model.specs.declared.input.Record.{Record}
 use Rattle.iss_model.specs.declared.decision.Answer.TheVariants as answer
 use Rattle.iss_model.specs.declared.decision.Judged.{Judged}
 use Rattle.iss_model.specs.declared.decision.Judged.TheVariants as judged
+use Rattle.iss_model.specs.declared.limits.TheConstants.{MOST_RECORDS}
 use Rattle.iss_model.specs.texts.Spelling.{spelling}
 
 -- The room of a device: whether it is in two halves, its size in bytes, whether the second half is the current one, the point, which is the
@@ -63,10 +64,20 @@ needs_turn room rs r = room.halved && not (nat_le (need_of r) (free_in room rs))
 abbrev pub room_after : Room → List Record → Record → Room
 room_after room rs r = if needs_turn room rs r then record room { second = not room.second; point = length rs } else room
 
--- A record that doesn't fit is not made: its input is told how much is free, and how much it needs. Without a device every record fits.
+-- After as many records as there may be, no more is made: its input is told just that they are spent.
+abbrev pub unless_spent : ℕ → Judged → Judged
+unless_spent count made = if nat_lt count MOST_RECORDS then made else judged.Told answer.Spent
+
+-- what judging comes to after this many records
+abbrev pub judgement_after : ℕ → Judged → Judged
+judgement_after count (judged.Told a) = judged.Told a
+judgement_after count made = unless_spent count made
+
+-- One more record that doesn't fit is not made: its input is told how much is free, and how much it needs. Without a device every record fits.
 abbrev pub where_it_fits : Option Room → List Record → Record → Judged → Judged
-where_it_fits None rs r made = made
-where_it_fits (Some room) rs r made = if fits room rs r then made else judged.Told (answer.Full (most_free room rs) (need_of r))
+where_it_fits None rs r made = unless_spent (length rs) made
+where_it_fits (Some room) rs r made =
+    unless_spent (length rs) (if fits room rs r then made else judged.Told (answer.Full (most_free room rs) (need_of r)))
 
 -- what judging comes to in a room
 abbrev pub judgement_within : Option Room → List Record → Judged → Judged
