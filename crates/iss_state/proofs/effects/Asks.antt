@@ -33,19 +33,11 @@ use Rattle.iss_state.specs.Stakes.{IsOrderlyState, at_least_one, part_held}
 use Rattle.iss_state.proofs.effects.Abandonment.{abandonment_effect, abandonment_holdings, given_back_size, least_one, one_more}
 use Rattle.iss_state.proofs.effects.Effects.{and_then, calm_effect, close_effect, end_effect, no_effect, open_effect, stands_then, still_effect}
 use Rattle.iss_state.proofs.effects.Paid.{costs, paid_more}
-use Rattle.iss_state.proofs.effects.PieceEffects.{hold_effect, post_effect, release_effect, usage_effect, usage_fits}
+use Rattle.iss_state.proofs.effects.PieceEffects.{hold_effect, post_effect, usage_effect, usage_fits}
+use Rattle.iss_state.proofs.effects.Taking.{holds_then, release_effect}
 use Rattle.iss_state.proofs.effects.Regrouping.{three}
 
 -- ---- the end of a transaction
-
--- a transaction holds in one state what it holds in another with the same holdings
-pub holds_then : (s t : CoreState) (x : Txn) (parts : Parts) → t.holdings ≡ s.holdings → HoldsParts s x parts → HoldsParts t x parts
-holds_then s t x parts same h =
-    record {
-      of_gateway = subst (λ (k : Holdings). parts.g ≤ part_held k.parts x.token part.G) (sym same) h.of_gateway;
-      of_programme = subst (λ (k : Holdings). parts.p ≤ part_held k.parts x.token part.P) (sym same) h.of_programme;
-      of_user = subst (λ (k : Holdings). parts.s ≤ part_held k.parts x.token part.S) (sym same) h.of_user;
-    }
 
 -- an end is paid from what its transaction holds and its calls ask
 pub end_paid : (s : CoreState) (number : ℕ) (f : Facts) (t : Txn) (parts : Parts) (why : Reason) → IsOrderlyState s → Stands s t → HoldsParts s t parts → s.calls ≡ f.calls → Paid 0 0 s (entries_of_acts (end_acts number f t parts why))

@@ -26,7 +26,7 @@ use Rattle.iss_model.specs.rules.Acts.{Abandons, Act, Asks, Begins, Clears, Decl
 use Rattle.iss_model.specs.rules.Asks.{Ask, ask_count, call_ask}
 use Rattle.iss_model.specs.rules.Due.{DueThing, thing_entries}
 use Rattle.iss_model.specs.rules.Facts.{Facts, asked_calls_of}
-use Rattle.iss_model.specs.rules.Pieces.{Parts, call_for, hold_entries, left_of, only_gateway, parts_held, post_entries, taken_to_clear, user_account, void_entry}
+use Rattle.iss_model.specs.rules.Pieces.{Parts, call_for, hold_entries, in_all, left_of, only_gateway, parts_held, post_entries, taken_to_clear, user_account, void_entry}
 use Rattle.iss_model.specs.rules.Stepping.{entries_of}
 use Rattle.iss_model.specs.state.Cores.{CoreState, after_entry, call_after_close, core_facts}
 use Rattle.iss_model.proofs.Names.{one_name}
@@ -39,12 +39,12 @@ use Rattle.iss_state.specs.Effects.{Effect, HoldsParts, Paid, PaidByAsk, begins_
 use Rattle.iss_state.specs.Needs.{Stands, begun_txns}
 use Rattle.iss_state.specs.Stakes.{IsOrderlyState, at_least_one}
 use Rattle.iss_state.proofs.effects.Abandonment.{abandonment_effect, abandonment_holdings, least_one, one_more}
-use Rattle.iss_state.proofs.effects.Asks.{at_most_one, declined_ask_paid, funded_ask_paid, holds_then, set_stand_in_paid}
-use Rattle.iss_state.proofs.effects.Clearing.{TakenFromHold, clearing_money_taken}
+use Rattle.iss_state.proofs.effects.Asks.{at_most_one, declined_ask_paid, funded_ask_paid, set_stand_in_paid}
 use Rattle.iss_state.proofs.effects.Effects.{and_then, calm_effect, close_effect, end_effect, no_effect, open_effect, stands_then, still_effect}
 use Rattle.iss_state.proofs.effects.Finds.{find-map, found_passes, number_is}
 use Rattle.iss_state.proofs.effects.Paid.{costs, paid_more}
-use Rattle.iss_state.proofs.effects.PieceEffects.{hold_effect, only_gateway_effect, post_effect, release_effect, usage_effect}
+use Rattle.iss_state.proofs.effects.PieceEffects.{hold_effect, only_gateway_effect, post_effect, usage_effect}
+use Rattle.iss_state.proofs.effects.Taking.{Takes, clearing_takes, holds_then, release_effect}
 
 -- what is found ----
 
@@ -234,8 +234,9 @@ module _ (by : Cause) (at : ℕ) (s : CoreState) (h : IsOrderlyState s) where
       (spends (abandonment_effect q number (core_facts s) t why known.0 known.1 known.3) (omega arith) (omega arith))
 
   taken : (t : Txn) (parts : Parts) (amount when : ℕ) → IsTxnOf (core_facts s) t → parts ≡ parts_held (core_facts s) t
-      → TakenFromHold (2 * amount) amount s t (left_of parts (taken_to_clear parts amount)) (act_entries (Clears t parts amount when))
-  taken t parts amount when its same = clearing_money_taken s t parts amount when h (txn_stands s t its) (subst (HoldsParts s t) (sym same) (parts_are_held s t))
+      → Takes s t (act_entries (Clears t parts amount when)) (left_of parts (taken_to_clear parts amount))
+      (in_all (taken_to_clear parts amount) + (amount - in_all (taken_to_clear parts amount)) + amount) (amount - in_all (taken_to_clear parts amount)) (in_all (taken_to_clear parts amount))
+  taken t parts amount when its same = clearing_takes s t parts amount when h (txn_stands s t its) (subst (HoldsParts s t) (sym same) (parts_are_held s t))
 
   -- each act that begins no transaction ----
 
@@ -260,9 +261,9 @@ module _ (by : Cause) (at : ℕ) (s : CoreState) (h : IsOrderlyState s) where
       let k = known_at q made.from.0.here known in
       spends_at q _ made.from.0.here (spends (end_effect q t k.0 k.1) (omega arith) (omega arith))
   act_spends g q (Clears t parts amount when) made none known =
-      let p = (taken t parts amount when made.from.1 made.from.2).its in
+      let took = taken t parts amount when made.from.1 made.from.2 in
       let brought = clears_it by t.token amount made.cause in
-      at_first q _ made.from.0 known (spends p.effect (omega (arith, p.money, brought.0)) (omega (arith, p.usage, brought.1)))
+      at_first q _ made.from.0 known (spends took.effect (omega (arith, brought.0)) (omega (arith, brought.1)))
   act_spends g q (GivesBack t amount programme) made none known =
       at_first q _ made.from.2 known (gives_back_spends t amount programme made.from.0 (omega (arith, made.from.1)) (refunds_it by t.token amount made.cause))
   act_spends g q a made none known = spends (still_effect q (act_entries a) (orderly g q known) refl) (omega arith) (omega arith)
@@ -282,7 +283,7 @@ module _ (by : Cause) (at : ℕ) (s : CoreState) (h : IsOrderlyState s) where
   known_next g q (Clears t parts amount when) made none known =
       let took = taken t parts amount when made.from.1 made.from.2 in
       subst (λ (q : CoreState). IsKnown s (Keeps t (left_of parts (taken_to_clear parts amount))) (fold after_entry q (act_entries (Clears t parts amount when)))) (sym (known_at q made.from.0 known))
-      (took.its.effect.orderly, stands_then t took.its.effect (txn_stands s t made.from.1), took.holds, took.calls)
+      (took.effect.orderly, stands_then t took.effect (txn_stands s t made.from.1), took.holds, took.calls)
   known_next g q (Abandons number t why calls parts) made none known =
       let k = known_at q made.from.0 known in
       let e = (act_spends g q (Abandons number t why calls parts) made none known).effect in
