@@ -93,52 +93,6 @@ set_stand_in_paid s number ask at set h stands =
     subst (λ (es : List Entry). Paid (4 * ask.amount) (2 * ask.amount) s (entry.Stood set.name ask.txn.product ask.txn.user ask.amount at ∷ es)) (three xs ys last)
     (costs (4 * ask.amount) (2 * ask.amount) (and_then e0 (and_then e1 (and_then e2 e3))) (omega arith) (omega arith))
 
-turned_down : (s : CoreState) (ask : Ask) (why : Reason) → IsOrderlyState s → Stands s ask.txn → PaidByAsk ask.amount s (entries_of_acts (TurnsDown ask why ∷ []))
-turned_down s ask why h stands =
-    let p = declined_ask_paid s ask why h stands in
-    costs (4 * at_least_one ask.amount) (2 * at_least_one ask.amount) (and_then p.effect (no_effect (fold after_entry s (declined_ask_entries ask why)) p.effect.orderly))
-    (omega (arith, p.money)) (omega (arith, p.usage))
-
--- standing in is paid whatever the sets say
-pub stand_in_paid : (s : CoreState) (x : Stand) (number : ℕ) (ask : Ask) (why : Failure) (at : ℕ) → IsOrderlyState s → Stands s ask.txn
-    → PaidByAsk ask.amount s (entries_of_acts (stand_acts x number ask why at))
-stand_in_paid s (allowed set) number ask why at h stands =
-    let p = set_stand_in_paid s number ask at set h stands in
-    costs (4 * at_least_one ask.amount) (2 * at_least_one ask.amount) (and_then p.effect (no_effect (fold after_entry s (set_stand_in_entries number ask at set)) p.effect.orderly))
-    (omega (arith, p.money, least_one ask.amount)) (omega (arith, p.usage, least_one ask.amount))
-stand_in_paid s (over_limit set) number ask why at h stands = turned_down s ask (reason.StandInLimit set.name) h stands
-stand_in_paid s uncovered number ask why at h stands = turned_down s ask (failure_reason why) h stands
-
--- funding that is sought is paid whoever gives it
-funding_paid : (s : CoreState) (f : Facts) (ask : Ask) → IsOrderlyState s → Stands s ask.txn → length f.calls ≡ length s.calls → PaidByAsk ask.amount s (entries_of_acts (funding_acts f ask))
-funding_paid s f ask h stands same = by (is_account_funded ask.txn.funding) (product_named ask.txn.product f.products)
-  where
-    of_product : (product : Product) (b : Bool)
-        → PaidByAsk ask.amount s (entries_of_acts (cond b (stand_acts (stand f ask failure.Switch ask.at) (next_notice f) ask failure.Switch ask.at) (Asks f product ask ∷ [])))
-    of_product product true = stand_in_paid s (stand f ask failure.Switch ask.at) (next_notice f) ask failure.Switch ask.at h stands
-    of_product product false =
-        costs (4 * at_least_one ask.amount) (2 * at_least_one ask.amount) (open_effect s (call_for f product ask) h (ap (λ (n : ℕ). n + 1) same)) (omega arith) (omega arith)
-
-    by : (b : Bool) (product : Option Product) → PaidByAsk ask.amount s (entries_of_acts (cond b (HoldsOwn ask ∷ []) (gateway_acts product f ask)))
-    by true product =
-        let e1 = hold_effect s ask.txn part.S ask.amount h stands in
-        let e2 = still_effect (fold after_entry s (hold_entries ask.txn part.S ask.amount)) (entry.Decided ask.event verdict.Approved ∷ []) e1.orderly refl in
-        let both = and_then e1 e2 in
-        costs (4 * at_least_one ask.amount) (2 * at_least_one ask.amount)
-        (and_then both (no_effect (fold after_entry s (hold_entries ask.txn part.S ask.amount ++ entry.Decided ask.event verdict.Approved ∷ [])) both.orderly))
-        (omega (arith, least_one ask.amount)) (omega (arith, least_one ask.amount))
-    by false None = costs (4 * at_least_one ask.amount) (2 * at_least_one ask.amount) (no_effect s h) (omega arith) (omega arith)
-    by false (Some product) = of_product product (is_named_in f.switched product.name)
-
 pub at_most_one : (b : Bool) → nat_abs (cond b (pos 1) (pos 0)) ≤ 1
 at_most_one true = omega arith
 at_most_one false = omega arith
-
--- and with the use that is counted first
-pub asking_paid : (s : CoreState) (f : Facts) (ask : Ask) → IsOrderlyState s → Stands s ask.txn → length f.calls ≡ length s.calls
-    → Paid (4 * at_least_one ask.amount) (4 * at_least_one ask.amount) s (entries_of_acts (increment_acts f (Some ask)))
-asking_paid s f ask h stands same =
-    let used : List Entry = entry.Usage (ask_usage ask) ∷ [] in
-    let e1 = usage_effect s ask.txn (pos ask.amount) (ask_count ask) ask.at h stands in
-    let p = funding_paid (fold after_entry s used) f ask e1.orderly (stands_then ask.txn e1 stands) same in
-    costs (4 * at_least_one ask.amount) (4 * at_least_one ask.amount) (and_then e1 p.effect) (omega (arith, p.money)) (omega (arith, p.usage, at_most_one ask.is_first, one_more ask.amount))
