@@ -1,8 +1,9 @@
 //! What comes in: an input, and the record of one that was accepted.
 ghost use Rattle.std.specs.Prelude.{◌≡◌};
 ghost use Rattle.iss_model.specs.Inputs.{event_token};
+ghost use Rattle.iss_model.specs.rules.Controls.{control_of};
 
-use crate::{Association, CallId, Currency, Funding, Mccs, Moved, Scope, Token, Window};
+use crate::{Association, CallId, Control, Currency, Funding, Mccs, Moved, Scope, Token, Window};
 
 /// An accepted input with its stamp, in milliseconds since 1970.
 #[derive(Drop)]
@@ -153,7 +154,37 @@ impl Input {
             | Input::Refund { token, .. } => Some(*token),
             Input::Answer { .. } | Input::Ack { .. } | Input::Time => None,
         }
-    }}
+    }
+    /// The control that it sets, if it sets one.
+    pub fn control(&self) -> Option<Control>
+        ensures { result ≡ control_of self.now }
+    {
+        let Input::Control {
+            token: _,
+            control,
+            currency,
+            window,
+            amount_limit,
+            usage_limit,
+            association,
+            scope,
+            active,
+        } = self
+        else {
+            return None;
+        };
+        Some(Control {
+            name: *control,
+            currency: *currency,
+            window: *window,
+            amount_limit: *amount_limit,
+            usage_limit: *usage_limit,
+            association: *association,
+            scope: *scope,
+            active: *active,
+        })
+    }
+}
 
 /// A copy of an input is equal to it.
 #[tactic(auto, using(crate::proofs::Copies::copy_is))]
