@@ -48,20 +48,7 @@ impl State {
                 }
                 Ok(Judged::Told(Answer::Idle))
             }
-            Input::User { .. }
-            | Input::Card { .. }
-            | Input::Move { .. }
-            | Input::Product { .. }
-            | Input::Group { .. }
-            | Input::Control { .. }
-            | Input::Set { .. }
-            | Input::Switch { .. }
-            | Input::Load { .. }
-            | Input::Authorization { .. }
-            | Input::Increment { .. }
-            | Input::Reversal { .. }
-            | Input::Clearing { .. }
-            | Input::Refund { .. } => unreachable!(),
+            _ => unreachable!(),
         }
     }
 
