@@ -94,14 +94,14 @@ record IsFree (a : Act) : Type 0 where
   begins : may_begin a ≡ false
   opens : may_open_call a ≡ false
   voids : may_void a ≡ false
-  stands : may_tell_stand_in a ≡ false
+  stands_in : may_tell_stand_in a ≡ false
   tells : may_tell a ≡ false
 
 free_item : (a : Act) → IsFree a → (x : Item) → has_item a x ≡ true → is_free (item_entry x) ≡ true
 free_item a free (Beginning t) may = not_both (may_begin a) may free.begins
 free_item a free (Opening o) may = not_both (may_open_call a) may free.opens
 free_item a free (Voiding number t o) may = not_both (may_void a) may free.voids
-free_item a free (StandTelling number t amount) may = not_both (may_tell_stand_in a) may free.stands
+free_item a free (StandTelling number t amount) may = not_both (may_tell_stand_in a) may free.stands_in
 free_item a free (Telling number news t amount gateway) may = not_both (may_tell a) may free.tells
 free_item a free _ may = refl
 
@@ -122,7 +122,7 @@ act_costs (StandsIn number ask at set) =
 act_costs (Abandons number t why calls parts) = abandoned_costs number t why calls
 act_costs (Ends t) = more (none_costs 0)
 act_costs (Tells number news t amount gateway) = more (none_costs 0)
-act_costs a = free_act a (record { begins = refl; opens = refl; voids = refl; stands = refl; tells = refl })
+act_costs a = free_act a (record { begins = refl; opens = refl; voids = refl; stands_in = refl; tells = refl })
 
 -- acts in a row cost what each does
 pub acts_cost : (acts : List Act) {a b c : ℕ} → ActsCost acts a b c → Costs (entries_of_acts acts) a b c
