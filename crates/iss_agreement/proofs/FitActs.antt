@@ -158,8 +158,8 @@ module _ {f : Facts} (all : AreKnown (bounds_of f) f) {by : Cause} {at : ℕ} wh
   act_fits : (g : Stage) (a : Act) (ys : List Entry) → IsMade f by at g a → FitAt f (stage_after g a) ys → FitAt f g (act_entries a ++ ys)
   act_fits g (Declines event why) ys made later = over all g _ ys (λ b known sought. fit-one b _ tt) later
   act_fits g (Sets i event) ys made later =
-      subst (λ (g : Stage). FitAt f g (act_entries (Sets i event) ++ ys)) (sym made.from.0)
-      (settable f i event at made.from.1, fit-cons (bounds_of f) (entry.Decided event verdict.Done) ys tt (later (bounds_of f) all tt))
+      subst (λ (g : Stage). FitAt f g (act_entries (Sets i event) ++ ys)) (sym made.from.2)
+      (settable f i event at made.from.3, fit-cons (bounds_of f) (entry.Decided event verdict.Done) ys tt (later (bounds_of f) all tt))
   act_fits g (Loads event user currency amount) ys made later = over all g _ ys (λ b known sought. fit-cons b _ _ tt (fit-one b _ tt)) later
   act_fits g (Begins ask) ys made later =
       subst (λ (g : Stage). FitAt f g (act_entries (Begins ask) ++ ys)) (sym made.from.0)
@@ -182,7 +182,7 @@ module _ {f : Facts} (all : AreKnown (bounds_of f) f) {by : Cause} {at : ℕ} wh
         fit-cons b _ _ (known_call b f o t known made.from.1) (fit-one b _ (new_notice b f number known made.from.2)),
         known_txn b f t known (txn_of_call made.from.1),
       )) later
-  act_fits g (StandsIn number ask when s) ys made later = over all g _ ys (λ b known sought. fit-stood b number ask when s (new_notice b f number known made.from.2)) later
+  act_fits g (StandsIn number ask when s) ys made later = over all g _ ys (λ b known sought. fit-stood b number ask when s (new_notice b f number known made.from.3)) later
   act_fits g (TurnsDown ask why) ys made later = over all g _ ys (λ b known sought. fit-declined b ask why (subst (IsSought b) made.from.0 sought)) later
   act_fits g (Abandons number t why calls parts) ys made later =
       over all g _ ys (λ b known sought. fit-abandoned b number f t why calls known (new_notice b f number known made.from.3) (known_txn b f t known made.from.1) made.from.2) later
