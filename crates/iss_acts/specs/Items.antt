@@ -17,7 +17,7 @@ use Rattle.iss_model.specs.declared.input.Input.{Input}
 use Rattle.iss_model.specs.declared.txn.Txn.{Txn}
 use Rattle.iss_model.specs.rules.Asks.{usage_of}
 use Rattle.iss_model.specs.rules.Pieces.{notice_entry, user_account, void_entry}
-use Rattle.iss_model.specs.rules.Acts.{Abandons, Act, Asks, Begins, Clears, Declines, Does, Ends, Fails, Funds, GivesBack, HoldsOwn, LetsGo, Loads, News, Refuses, Sets, StandsIn, TurnsDown, news_method}
+use Rattle.iss_model.specs.rules.Acts.{Abandons, Act, Asks, Begins, Clears, Declines, Does, Ends, Fails, Funds, GivesBack, HoldsOwn, LetsGo, Loads, News, Refuses, Sets, StandsIn, Tells, TurnsDown, news_method}
 
 -- who pays whom for a transaction, other than its user
 pub data Payment : Type 0 where
@@ -157,6 +157,12 @@ may_void (Fails number o t why) = true
 may_void (Abandons number t why calls parts) = true
 may_void _ = false
 
+-- an act may tell the gateway something, other than that a call is void
+abbrev pub may_tell : Act → Bool
+may_tell (StandsIn number ask at set) = true
+may_tell (Tells number news t amount gateway) = true
+may_tell _ = false
+
 -- an act may load a user
 abbrev pub may_load : Act → Bool
 may_load (Loads event user currency amount) = true
@@ -174,4 +180,6 @@ has_item a (Freeing t x amount) = may_free a
 has_item a (Opening o) = may_open_call a
 has_item a (Closing call how) = may_close a how
 has_item a (Voiding number t o) = may_void a
+has_item a (StandTelling number t amount) = may_tell a
+has_item a (Telling number news t amount gateway) = may_tell a
 has_item a _ = true
