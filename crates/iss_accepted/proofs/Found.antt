@@ -10,10 +10,10 @@ use Rattle.iss_model.specs.declared.decision.Reply.{Reply}
 use Rattle.iss_model.specs.declared.decision.Verdict.{Verdict}
 use Rattle.iss_model.specs.declared.input.Input.{Input}
 use Rattle.iss_model.specs.Inputs.{event_token, is_event, is_text, same_contents}
-use Rattle.iss_model.specs.rules.Facts.{Accepted, Decision, reply_of_decision, event_reply}
+use Rattle.iss_model.specs.rules.Facts.{Accepted, Decision, reply_of_verdict, event_reply}
 use Rattle.iss_model.specs.rules.Judging.{event_answer, repeat_or_conflict}
 use Rattle.iss_accepted.specs.Values.{events_facts}
-use Rattle.iss_accepted.specs.Standing.{Standing, IsNamed, name_of, token_or_none, standing_named, decision_made, decisions_at, decision_named, reply_told, AreDecided}
+use Rattle.iss_accepted.specs.Standing.{Standing, IsNamed, name_of, token_or_none, standing_named, decision_made, decisions_at, decision_named, AreDecided}
 use Rattle.iss_accepted.specs.Kept.{events_now}
 
 -- the event of a standing
@@ -41,24 +41,28 @@ event_found token (s ∷ ss) named =
 abbrev pub verdict_of : List ℕ → Verdict → Decision
 verdict_of name v = record { event = name; verdict = v }
 
+-- the reply by a decision, or that there is none
+abbrev reply_by : Option Decision → Reply
+reply_by o = reply_of_verdict (option_map (λ (d : Decision). d.verdict) o)
+
 -- the reply to an event is by its verdict
-made_told : (name : List ℕ) (o : Option Verdict) → reply_of_decision (option_map (λ (v : Verdict). verdict_of name v) o) ≡ reply_told o
+made_told : (name : List ℕ) (o : Option Verdict) → reply_by (option_map (λ (v : Verdict). verdict_of name v) o) ≡ reply_of_verdict o
 made_told name None = refl
 made_told name (Some v) = refl
 
 -- what an event is told, by the standing of its token
 abbrev pub standing_answer : Input → List ℕ → Option Standing → Option Answer
 standing_answer i token None = None
-standing_answer i token (Some s) = cond (same_contents s.event.input i) (Some (answer.Repeat token (reply_told s.verdict))) (Some (answer.Conflict token s.event.number))
+standing_answer i token (Some s) = cond (same_contents s.event.input i) (Some (answer.Repeat token (reply_of_verdict s.verdict))) (Some (answer.Conflict token s.event.number))
 
 module _ (ss : List Standing) (places : List ℕ) (token : List ℕ) (named : AllByRecursion IsNamed ss) (decided : AreDecided ss places) where
-  pub reply_found : event_reply (events_facts (events_now ss places)) token ≡ option_map (λ (s : Standing). reply_told s.verdict) (standing_named token ss)
+  pub reply_found : event_reply (events_facts (events_now ss places)) token ≡ option_map (λ (s : Standing). reply_of_verdict s.verdict) (standing_named token ss)
   reply_found =
-      ap₂ (λ (o : Option Accepted) (d : Option Decision). option_map (λ (first : Accepted). reply_of_decision d) o) (event_found token ss named) (decided.found token)
+      ap₂ (λ (o : Option Accepted) (d : Option Decision). option_map (λ (first : Accepted). reply_by d) o) (event_found token ss named) (decided.found token)
       ∙ by (standing_named token ss)
     where
       by : (o : Option Standing)
-          → option_map (λ (first : Accepted). reply_of_decision (option_and_then decision_made o)) (option_map event_in o) ≡ option_map (λ (s : Standing). reply_told s.verdict) o
+          → option_map (λ (first : Accepted). reply_by (option_and_then decision_made o)) (option_map event_in o) ≡ option_map (λ (s : Standing). reply_of_verdict s.verdict) o
       by None = refl
       by (Some s) = ap (λ (r : Reply). Some r) (made_told (name_of s) s.verdict)
 
@@ -72,4 +76,4 @@ module _ (ss : List Standing) (places : List ℕ) (token : List ℕ) (named : Al
       by None e = refl
       by (Some s) e =
           ap (λ (r : Reply). cond (same_contents s.event.input i) (Some (answer.Repeat token r)) (Some (answer.Conflict token s.event.number)))
-          (ap reply_of_decision e ∙ made_told (name_of s) s.verdict)
+          (ap reply_by e ∙ made_told (name_of s) s.verdict)

@@ -18,7 +18,7 @@ use Rattle.iss_model.specs.Inputs.{event_token, is_event, same_contents}
 use Rattle.iss_model.specs.Forms.{is_stamp, is_in_form}
 use Rattle.iss_model.specs.Tokens.{is_token}
 use Rattle.iss_model.specs.texts.Spelling.{spelling, is_record, tokens_of, has_spelling}
-use Rattle.iss_model.specs.rules.Facts.{Accepted, Decision, event_reply}
+use Rattle.iss_model.specs.rules.Facts.{Accepted, Decision, reply_of_verdict, event_reply}
 use Rattle.iss_model.proofs.Names.{one_name, name-sym}
 use Rattle.iss_codec.specs.TakingRecords.{record_spelled}
 use Rattle.iss_codec.proofs.TakenRecords.{spelled_again}
@@ -27,7 +27,7 @@ use Rattle.iss_index.specs.Places.{place_of}
 use Rattle.iss_index.proofs.Placed.{found-within, found-named, none-named, found-names}
 use Rattle.iss_accepted.specs.declared.row.Row.{Row}
 use Rattle.iss_accepted.specs.Values.{EventsNow, events_facts, answer_in, token_answer}
-use Rattle.iss_accepted.specs.Standing.{Standing, IsNamed, name_of, standing_named, decision_made, decisions_at, decision_named, reply_told, AreDecided}
+use Rattle.iss_accepted.specs.Standing.{Standing, IsNamed, name_of, standing_named, decision_made, decisions_at, decision_named, AreDecided}
 use Rattle.iss_accepted.specs.Kept.{bytes_of, event_of, standing_of, standings_of, row_answer, events_now, IsSpelledIn, IsKept}
 use Rattle.iss_accepted.proofs.Decided.{decided_more, decisions_more, with_verdict, nothing_decided}
 use Rattle.iss_accepted.proofs.Found.{event_in, event_found, reply_found, answer_found, standing_answer}
@@ -150,7 +150,7 @@ module _ (bytes : List ℕ) (rows : List Row) (names : List (List ℕ)) (decided
 
   pub none_replied : None ≡ place_of token names → None ≡ event_reply (events_facts value) token
   none_replied is =
-      ap (option_map (λ (s : Standing). reply_told s.verdict)) (sym (nothing_named is))
+      ap (option_map (λ (s : Standing). reply_of_verdict s.verdict)) (sym (nothing_named is))
       ∙ sym (reply_found standing decided token named kept.verdicts)
       ∙ ap (λ (e : EventsNow). event_reply (events_facts e) token) view
 
@@ -185,10 +185,10 @@ module _ (bytes : List ℕ) (rows : List Row) (names : List (List ℕ)) (decided
     pub row_spelled : IsSpelledIn bytes row
     row_spelled = subst (IsSpelledIn bytes) (sym own) (all_at (IsSpelledIn bytes) rows place row kept.spelled within)
 
-    pub found_replied : (reply : Reply) → reply ≡ reply_told row.verdict → Some reply ≡ event_reply (events_facts value) token
+    pub found_replied : (reply : Reply) → reply ≡ reply_of_verdict row.verdict → Some reply ≡ event_reply (events_facts value) token
     found_replied reply told =
         ap (λ (r : Reply). Some r) told
-        ∙ ap (option_map (λ (s : Standing). reply_told s.verdict)) found_standing
+        ∙ ap (option_map (λ (s : Standing). reply_of_verdict s.verdict)) found_standing
         ∙ sym (reply_found standing decided token named kept.verdicts)
         ∙ ap (λ (e : EventsNow). event_reply (events_facts e) token) view
 
@@ -204,7 +204,7 @@ module _ (bytes : List ℕ) (rows : List Row) (names : List (List ℕ)) (decided
         ∙ ap (λ (e : EventsNow). answer_in (events_facts e) i) view
       where
         repeat : Answer
-        repeat = answer.Repeat token (reply_told row.verdict)
+        repeat = answer.Repeat token (reply_of_verdict row.verdict)
 
         conflict : Answer
         conflict = answer.Conflict token row.number

@@ -8,11 +8,11 @@ use Rattle.iss_model.specs.declared.input.Input.{Input}
 use Rattle.iss_model.specs.declared.input.Input.TheVariants as input
 use Rattle.iss_model.specs.declared.input.Record.{Record}
 use Rattle.iss_model.specs.texts.Spelling.{spelling, is_record}
-use Rattle.iss_model.specs.rules.Facts.{Accepted}
+use Rattle.iss_model.specs.rules.Facts.{Accepted, reply_of_verdict}
 use Rattle.iss_codec.specs.TakingRecords.{record_spelled}
 use Rattle.iss_accepted.specs.declared.row.Row.{Row}
 use Rattle.iss_accepted.specs.Values.{EventsNow}
-use Rattle.iss_accepted.specs.Standing.{Standing, IsNamed, name_of, decisions_at, reply_told, AreDecided}
+use Rattle.iss_accepted.specs.Standing.{Standing, IsNamed, name_of, decisions_at, AreDecided}
 
 -- the bytes of a row's record
 abbrev pub bytes_of : List ℕ → Row → List ℕ
@@ -50,7 +50,7 @@ pub record IsSpelledIn (bytes : List ℕ) (row : Row) : Type 0 where
 -- What an input is told by the row of its token: the reply again where the row's bytes spell it, and else the number of the row's record.
 abbrev pub row_answer : List ℕ → Row → List ℕ → Input → Answer
 row_answer bytes row token i =
-    if bytes_eq (bytes_of bytes row) (spelling (record { at = row.at; input = i })) then answer.Repeat token (reply_told row.verdict)
+    if bytes_eq (bytes_of bytes row) (spelling (record { at = row.at; input = i })) then answer.Repeat token (reply_of_verdict row.verdict)
     else answer.Conflict token row.number
 
 -- what the rows tell

@@ -4,8 +4,6 @@ use Rattle.std.specs.List.{filter_map, slice_get, AllByRecursion}
 use Rattle.std.specs.Option.{option_and_then}
 use Rattle.std.specs.Str.{bytes_eq}
 use Rattle.iss_model.specs.declared.decision.Verdict.{Verdict}
-use Rattle.iss_model.specs.declared.decision.Reply.{Reply}
-use Rattle.iss_model.specs.declared.decision.Reply.TheVariants.{Decided, Pending}
 use Rattle.iss_model.specs.Inputs.{event_token}
 use Rattle.iss_model.specs.rules.Facts.{Accepted, Decision}
 
@@ -42,11 +40,6 @@ decision_at ss place = option_and_then decision_made (slice_get ss place)
 -- the decisions of the events at these places
 abbrev pub decisions_at : List Standing → List ℕ → List Decision
 decisions_at ss places = filter_map (decision_at ss) places
-
--- a verdict as it is told, or that the event's call is open
-abbrev pub reply_told : Option Verdict → Reply
-reply_told None = Pending
-reply_told (Some verdict) = Decided verdict
 
 -- the decision of a name
 abbrev pub decision_named : List ℕ → List Decision → Option Decision

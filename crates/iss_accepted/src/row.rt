@@ -4,8 +4,8 @@ ghost use Rattle.std.specs.List.{list_all};
 ghost use Rattle.std.specs.Str.{bytes_eq};
 ghost use Rattle.std.specs.Vec.{vec_len, vec_capacity};
 ghost use Rattle.iss_model.specs.Tokens.{is_token};
+ghost use Rattle.iss_model.specs.rules.Facts.{reply_of_verdict};
 ghost use Rattle.iss_model.specs.texts.Spelling.{spelling, tokens_of};
-ghost use Rattle.iss_accepted.specs.Standing.{reply_told};
 ghost use Rattle.iss_accepted.specs.Kept.{row_answer};
 
 use iss_codec::put_record;
@@ -26,7 +26,7 @@ pub(crate) struct Row {
 impl Row {
     /// The verdict, or that the event's call is open.
     pub(crate) fn reply(&self) -> Reply
-        ensures { result ≡ reply_told self.now.verdict }
+        ensures { result ≡ reply_of_verdict self.now.verdict }
     {
         match self.verdict {
             None => Reply::Pending,

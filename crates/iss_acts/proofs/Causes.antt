@@ -1,5 +1,5 @@
 -- The acts of a due thing and of an input are a row: each has a cause that may act so, and comes of the facts.
-use Rattle.std.proofs.Common.{arith, Bool, List, [], ap, ap₂, cond, false, length, nat_eq, refl, subst, true, ℕ, ◌&&◌, ◌+◌, ◌-◌, ◌++◌, ◌||◌, ◌∷◌, ◌∙◌, ◌≡◌, ◌≤◌, min, inl, inr}
+use Rattle.std.proofs.Common.{arith, Bool, List, [], ap, ap₂, cond, false, length, nat_eq, refl, subst, sym, true, ℕ, ◌&&◌, ◌+◌, ◌-◌, ◌++◌, ◌||◌, ◌∷◌, ◌∙◌, ◌≡◌, ◌≤◌, min, inl, inr}
 use Rattle.std.specs.Prelude.{Option, Some, None, option_map}
 use Rattle.std.specs.Str.{bytes_eq}
 use Rattle.std.proofs.lemmas.Bool.Decides.{nat_tests}
@@ -18,7 +18,7 @@ use Rattle.iss_model.specs.declared.setting.Product.{Product}
 use Rattle.iss_model.specs.declared.txn.Txn.{Txn}
 use Rattle.iss_model.specs.rules.Activity.{CallNow, TxnNow, is_asked, txn_named}
 use Rattle.iss_model.specs.rules.Asks.{Ask, call_ask}
-use Rattle.iss_model.specs.rules.CardReasons.{authorization_reason, clearing_reason, further_ask, increment_reason, is_account_funded, refund_reason, reversal_reason}
+use Rattle.iss_model.specs.rules.CardReasons.{authorization_reason, clearing_reason, first_ask, further_ask, increment_reason, is_account_funded, refund_reason, reversal_reason, txn_asked}
 use Rattle.iss_model.specs.rules.Due.{DueThing, call_due, txn_due, expiry_acts, live_expiry_acts, thing_acts}
 use Rattle.iss_model.specs.rules.Facts.{Facts, asked_calls_of, call_in, is_notice, next_notice, txn_in}
 use Rattle.iss_model.specs.rules.Pieces.{Parts, in_all, left_of, notice_after_abandonment, parts_held, taken_to_clear, taken_to_release}
@@ -29,7 +29,7 @@ use Rattle.iss_model.specs.rules.Stepping.{authorization_ask, acts_of, acts_unle
 use Rattle.iss_model.specs.rules.Acts.{Abandons, Act, Ends, LetsGo, Sets}
 use Rattle.iss_model.specs.rules.CardActs.{acts_for_gateway, acts_of_asked, acts_of_txn, acts_where, authorization_acts, clearing_acts, end_acts, failed_acts, funding_acts, gateway_acts, increment_acts, outcome_acts, refund_acts, reversal_acts, stand_acts}
 use Rattle.iss_acts.specs.Causes.{Cause, ComesOf, FallsDue, fails_call, is_of_event, lets_go, may_act, seeks_funding, settles_ask}
-use Rattle.iss_acts.specs.Sources.{AllMade, AreWithin, IsAskedCall, IsFirstAsk, IsFrom, IsFurtherAsk, IsNewNotice, IsOwnAsk, IsRow, IsSettledAsk, IsTxnOf}
+use Rattle.iss_acts.specs.Sources.{AllMade, AreWithin, IsAskedCall, IsFirstAsk, IsFrom, IsFurtherAsk, IsNewNotice, IsOwnAsk, IsRow, IsSettledAsk, IsTxnOf, setting_reason}
 use Rattle.iss_acts.specs.Stages.{Fresh, Keeps, Leaves, Seeks, Stage, stage_after}
 
 -- numbers and parts ----
@@ -109,22 +109,21 @@ module _ {f : Facts} {by : Cause} {at : ℕ} where
   unless_row None token its h = h refl
   unless_row (Some why) token its h = fresh (one_act its tt)
 
-  set_row : (i : Input) (why : Option Reason) (token : List ℕ) → is_of_event by token ≡ true → acts_of i at f ≡ acts_unless why token (Sets i token ∷ [])
-      → IsRow f by at (acts_unless why token (Sets i token ∷ []))
-  set_row i why token its own = unless_row why token its (λ none. fresh (one_act its (refl, own ∙ ap (λ (why : Option Reason). acts_unless why token (Sets i token ∷ [])) none)))
+  set_row : (i : Input) (why : Option Reason) (token : List ℕ) → by ≡ ComesOf i → why ≡ setting_reason f i → is_of_event by token ≡ true → IsRow f by at (acts_unless why token (Sets i token ∷ []))
+  set_row i why token comes same its = unless_row why token its (λ none. fresh (one_act its (comes, sym same ∙ none, refl)))
 
   -- calls ----
 
-  stood : (x : Stand) (number : ℕ) (ask : Ask) (why : Failure) (when : ℕ) → settles_ask by ≡ true → IsSettledAsk f by at ask → IsNewNotice f number
+  stood : (x : Stand) (number : ℕ) (ask : Ask) (why : Failure) (when : ℕ) → settles_ask by ≡ true → IsSettledAsk f by at ask → when ≡ at → IsNewNotice f number
       → AreMade f by at (Seeks ask) (stand_acts x number ask why when)
-  stood (allowed s) number ask why when settles from new = one_act settles (refl, from, new)
-  stood (over_limit s) number ask why when settles from new = one_act settles (refl, from)
-  stood uncovered number ask why when settles from new = one_act settles (refl, from)
+  stood (allowed s) number ask why when settles from now new = one_act settles (refl, from, now, new)
+  stood (over_limit s) number ask why when settles from now new = one_act settles (refl, from)
+  stood uncovered number ask why when settles from now new = one_act settles (refl, from)
 
-  failed : (o : Opened) (t : Txn) (why : Failure) (when : ℕ) → fails_call by why ≡ true → settles_ask by ≡ true → IsAskedCall f o t → AreMade f by at Fresh (failed_acts f o t why when)
-  failed o t why when fails settles asked =
+  failed : (o : Opened) (t : Txn) (why : Failure) → fails_call by why ≡ true → settles_ask by ≡ true → IsAskedCall f o t → AreMade f by at Fresh (failed_acts f o t why at)
+  failed o t why fails settles asked =
       first_act fails (refl, asked, next_is_new f)
-      (stood (stand f (call_ask o t) why when) (next_notice f + 1) (call_ask o t) why when settles (inl (record { o = o; t = t; asked = asked; is = refl })) (later_is_new f 1))
+      (stood (stand f (call_ask o t) why at) (next_notice f + 1) (call_ask o t) why at settles (inl (record { o = o; t = t; asked = asked; is = refl })) refl (later_is_new f 1))
 
   asked_row : (make : Opened → Txn → List Act) → ((o : Opened) (t : Txn) → IsAskedCall f o t → AreMade f by at Fresh (make o t)) → (number : ℕ) → IsRow f by at (acts_of_asked make (call_in f number) f)
   asked_row make each number = fresh (of_call (call_in f number) refl)
@@ -157,14 +156,14 @@ module _ {f : Facts} {by : Cause} {at : ℕ} where
 
   -- an ask seeks funding ----
 
-  funding_made : (ask : Ask) → seeks_funding by ≡ true → settles_ask by ≡ true → IsOwnAsk f by at ask → AreMade f by at (Seeks ask) (funding_acts f ask)
-  funding_made ask seeks settles own =
+  funding_made : (ask : Ask) → seeks_funding by ≡ true → settles_ask by ≡ true → IsOwnAsk f by at ask → ask.at ≡ at → AreMade f by at (Seeks ask) (funding_acts f ask)
+  funding_made ask seeks settles own now =
       either_acts (is_account_funded ask.txn.funding) (λ e. one_act seeks (refl, own, e)) (λ e. of_product e (product_named ask.txn.product f.products))
     where
       of_product : is_account_funded ask.txn.funding ≡ false → (product : Option Product) → AreMade f by at (Seeks ask) (gateway_acts product f ask)
       of_product e None = no_act
       of_product e (Some product) =
-          either_acts (is_named_in f.switched product.name) (λ on. stood (stand f ask failure.Switch ask.at) (next_notice f) ask failure.Switch ask.at settles (inr (own, e)) (next_is_new f))
+          either_acts (is_named_in f.switched product.name) (λ on. stood (stand f ask failure.Switch ask.at) (next_notice f) ask failure.Switch ask.at settles (inr (own, e)) now (next_is_new f))
           (λ off. one_act seeks (refl, refl, own, e))
 
 -- what is due ----
@@ -176,7 +175,7 @@ expiry_row f at t its =
     (λ g. for_gateway t (λ gateway. where_some (in_all (parts_held f t)) (one_act refl (its, gateway, after_abandonment f t)))))
 
 pub thing_row : (f : Facts) (thing : DueThing) (at : ℕ) → IsRow f FallsDue at (thing_acts thing at f)
-thing_row f (call_due number) at = asked_row (λ (o : Opened) (t : Txn). failed_acts f o t failure.Timeout at) (λ o t asked. failed o t failure.Timeout at refl refl asked) number
+thing_row f (call_due number) at = asked_row (λ (o : Opened) (t : Txn). failed_acts f o t failure.Timeout at) (λ o t asked. failed o t failure.Timeout refl refl asked) number
 thing_row f (txn_due token) at = live (txn_in f token) refl
   where
     live : (now : Option TxnNow) → txn_in f token ≡ now → IsRow f FallsDue at (live_expiry_acts f now)
@@ -206,30 +205,37 @@ its_token txn (t ∷ ts) now e = by (bytes_eq t.txn.token txn) refl (its_token t
 its_amount : (f : Facts) (txn : List ℕ) (now : TxnNow) (amount : ℕ) → txn_in f txn ≡ Some now → (bytes_eq now.txn.token txn && nat_eq amount amount) ≡ true
 its_amount f txn now amount e = ap₂ (λ (a b : Bool). a && b) (its_token txn f.txns now e) (same_number amount)
 
+-- an authorisation asks at its own moment
+pub asked_at : (token : List ℕ) (amount at : ℕ) (t : Option Txn) (ask : Ask) → option_map (first_ask token amount at) t ≡ Some ask → ask.at ≡ at
+asked_at token amount at None ask e = cc
+asked_at token amount at (Some t) ask e =
+    let same : first_ask token amount at t ≡ ask = cc in
+    ap (λ (ask : Ask). ask.at) (sym same)
+
 outcome_made : (f : Facts) (call : CallId) (what : Outcome) (at : ℕ) (o : Opened) (t : Txn) → IsAskedCall f o t → AreMade f (ComesOf (input.Answer call what)) at Fresh (outcome_acts what f o t at)
 outcome_made f call outcome.Funded at o t asked = one_act refl (refl, asked)
 outcome_made f call outcome.Refused at o t asked = one_act refl (refl, asked)
-outcome_made f call outcome.Connection at o t asked = failed o t failure.Connection at refl refl asked
-outcome_made f call outcome.Application at o t asked = failed o t failure.Application at refl refl asked
+outcome_made f call outcome.Connection at o t asked = failed o t failure.Connection refl refl asked
+outcome_made f call outcome.Application at o t asked = failed o t failure.Application refl refl asked
 
 pub input_row : (f : Facts) (i : Input) (at : ℕ) → IsRow f (ComesOf i) at (acts_of i at f)
-input_row f (input.User token user) at = set_row _ (user_reason f user) token (its_name token) refl
-input_row f (input.Card token card user product active) at = set_row _ (card_reason f card user product) token (its_name token) refl
-input_row f (input.Move token who) at = set_row _ (move_reason f who) token (its_name token) refl
-input_row f (input.Product token product currency funding timeout_ms hold_ms) at = set_row _ (product_reason f product) token (its_name token) refl
-input_row f (input.Group token group mccs) at = set_row _ (group_reason f group) token (its_name token) refl
+input_row f (input.User token user) at = set_row _ (user_reason f user) token refl refl (its_name token)
+input_row f (input.Card token card user product active) at = set_row _ (card_reason f card user product) token refl refl (its_name token)
+input_row f (input.Move token who) at = set_row _ (move_reason f who) token refl refl (its_name token)
+input_row f (input.Product token product currency funding timeout_ms hold_ms) at = set_row _ (product_reason f product) token refl refl (its_name token)
+input_row f (input.Group token group mccs) at = set_row _ (group_reason f group) token refl refl (its_name token)
 input_row f (input.Control token control currency window amount_limit usage_limit association scope active) at =
-    set_row _ (control_reason f control currency window association scope) token (its_name token) refl
-input_row f (input.Set token set product currency connection timeout application max day_limit active) at = set_row _ (set_reason f set product currency) token (its_name token) refl
-input_row f (input.Switch token product on) at = set_row _ (switch_reason f product) token (its_name token) refl
-input_row f (input.Load token user currency amount) at = unless_row (load_reason f user) token (its_name token) (λ none. fresh (one_act (its_name token) tt))
+    set_row _ (control_reason f control currency window association scope) token refl refl (its_name token)
+input_row f (input.Set token set product currency connection timeout application max day_limit active) at = set_row _ (set_reason f set product currency) token refl refl (its_name token)
+input_row f (input.Switch token product on) at = set_row _ (switch_reason f product) token refl refl (its_name token)
+input_row f (input.Load token user currency amount) at = unless_row (load_reason f user) token (its_name token) (λ none. fresh (one_act (its_name token) (refl, refl)))
 input_row f (input.Authorization token card currency amount mcc mid) at = of_ask (authorization_ask f token card currency amount mcc mid at) refl
   where
     of_ask : (ask : Option Ask) → authorization_ask f token card currency amount mcc mid at ≡ ask
         → IsRow f (ComesOf (input.Authorization token card currency amount mcc mid)) at (acts_unless (authorization_reason f card currency ask) token (authorization_acts f ask))
     of_ask None e = unless_row (authorization_reason f card currency None) token (its_name token) (λ none. fresh no_act)
     of_ask (Some ask) e =
-        unless_row (authorization_reason f card currency (Some ask)) token (its_name token) (λ none. fresh (first_act refl (refl, first none) (funding_made ask refl refl (inl (first none)))))
+        unless_row (authorization_reason f card currency (Some ask)) token (its_name token) (λ none. fresh (first_act refl (refl, first none) (funding_made ask refl refl (inl (first none)) (asked_at token amount at (txn_asked f token card currency mcc mid at) ask e))))
       where
         first : authorization_reason f card currency (Some ask) ≡ None → IsFirstAsk f (ComesOf (input.Authorization token card currency amount mcc mid)) at ask
         first none = record { token = token; card = card; currency = currency; amount = amount; mcc = mcc; mid = mid; its_input = refl; made = e; none = none }
@@ -241,7 +247,7 @@ input_row f (input.Increment token txn currency amount) at = of_now (txn_in f tx
     of_now None e = unless_row (increment_reason f None currency None) token (its_name token) (λ none. fresh no_act)
     of_now (Some now) e =
         let ask : Ask = further_ask token amount at now.txn in
-        unless_row (increment_reason f (Some now) currency (Some ask)) token (its_name token) (λ none. fresh (first_act refl (refl, further none) (funding_made ask refl refl (inr (further none)))))
+        unless_row (increment_reason f (Some now) currency (Some ask)) token (its_name token) (λ none. fresh (first_act refl (refl, further none) (funding_made ask refl refl (inr (further none)) refl)))
       where
         further : increment_reason f (Some now) currency (Some (further_ask token amount at now.txn)) ≡ None
             → IsFurtherAsk f (ComesOf (input.Increment token txn currency amount)) at (further_ask token amount at now.txn)
@@ -272,7 +278,7 @@ input_row f (input.Clearing token txn currency amount last) at = unless_row (cle
         let taken : Parts = taken_to_clear (parts_held f t) amount in
         let rest : Parts = left_of (parts_held f t) taken in
         fresh
-        (first_act (its_amount f txn now amount e) (refl, its, refl)
+        (first_act (its_amount f txn now amount e) (refl, its, refl, refl)
         (both_acts
         (either_acts (now.live && (last || nat_eq (in_all rest) 0))
         (λ over. both_acts (ended (next_notice f) t rest reason.Cleared refl its (as_left (parts_held f t) taken) (next_is_new f)) (λ g. for_gateway t (λ gateway. one_act refl (its, gateway, after_abandonment f t))))
@@ -284,7 +290,7 @@ input_row f (input.Refund token txn currency amount) at = unless_row (refund_rea
     of_now None e = fresh no_act
     of_now (Some now) e =
         let its : IsTxnOf f now.txn = record { token = txn; now = now; stands = e; same = refl } in
-        fresh (first_act (its_amount f txn now amount e) (its, refl) (both_acts (for_gateway now.txn (λ gateway. one_act refl (its, gateway, next_is_new f))) (λ g. one_act (its_name token) tt)))
+        fresh (first_act (its_amount f txn now amount e) (its, refl, refl) (both_acts (for_gateway now.txn (λ gateway. one_act refl (its, gateway, next_is_new f))) (λ g. one_act (its_name token) tt)))
 input_row f (input.Answer call what) at = asked_row (λ (o : Opened) (t : Txn). outcome_acts what f o t at) (outcome_made f call what at) call.0
 input_row f (input.Ack notice) at = fresh (either_acts (is_notice f notice) (λ known. one_act (same_number notice) known) (λ unknown. no_act))
 input_row f input.Time at = fresh no_act

@@ -3,4 +3,5 @@ pub mod Passing
 pub mod Causes
 pub mod Walk
 pub mod Stepping
+pub mod Posts
 pub mod Begun

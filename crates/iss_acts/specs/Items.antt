@@ -157,9 +157,13 @@ may_void (Fails number o t why) = true
 may_void (Abandons number t why calls parts) = true
 may_void _ = false
 
--- an act may tell the gateway something, other than that a call is void
+-- an act may tell the gateway that a set stood in
+abbrev pub may_tell_stand_in : Act → Bool
+may_tell_stand_in (StandsIn number ask at set) = true
+may_tell_stand_in _ = false
+
+-- an act may tell the gateway news of a transaction
 abbrev pub may_tell : Act → Bool
-may_tell (StandsIn number ask at set) = true
 may_tell (Tells number news t amount gateway) = true
 may_tell _ = false
 
@@ -180,6 +184,6 @@ has_item a (Freeing t x amount) = may_free a
 has_item a (Opening o) = may_open_call a
 has_item a (Closing call how) = may_close a how
 has_item a (Voiding number t o) = may_void a
-has_item a (StandTelling number t amount) = may_tell a
+has_item a (StandTelling number t amount) = may_tell_stand_in a
 has_item a (Telling number news t amount gateway) = may_tell a
 has_item a _ = true

@@ -1,7 +1,9 @@
 -- Where each act comes from in the facts that it is made on, and how far its row has come there.
-use Rattle.std.specs.Prelude.{◌≡◌, ℕ, min, ◌≤◌, ◌<◌, true, false, List, [], ◌∷◌, Some, None, ◌⊎◌}
+use Rattle.std.specs.Prelude.{◌≡◌, ℕ, min, ◌≤◌, ◌<◌, true, false, List, [], ◌∷◌, Option, Some, None, ◌⊎◌}
 use Rattle.iss_model.specs.declared.call.Opened.{Opened}
 use Rattle.iss_model.specs.declared.currency.Currency.{Currency}
+use Rattle.iss_model.specs.declared.decision.Reason.{Reason}
+use Rattle.iss_model.specs.declared.input.Input.{Input}
 use Rattle.iss_model.specs.declared.input.Input.TheVariants as input
 use Rattle.iss_model.specs.declared.txn.Txn.{Txn}
 use Rattle.iss_model.specs.rules.Activity.{CallNow, TxnNow, is_asked}
@@ -9,8 +11,9 @@ use Rattle.iss_model.specs.rules.Asks.{Ask, call_ask}
 use Rattle.iss_model.specs.rules.Pieces.{owed_to_programme, Parts, in_all, parts_held}
 use Rattle.iss_model.specs.rules.CardReasons.{authorization_reason, further_ask, increment_reason, is_account_funded}
 use Rattle.iss_model.specs.rules.Facts.{Facts, asked_calls_of, call_in, is_notice, txn_in}
-use Rattle.iss_model.specs.rules.Stepping.{acts_of, authorization_ask}
-use Rattle.iss_model.specs.rules.Acts.{Abandons, Acknowledges, Act, Asks, Begins, Clears, Ends, Fails, Funds, GivesBack, HoldsOwn, LetsGo, Refuses, Sets, StandsIn, Tells, TurnsDown, Uses}
+use Rattle.iss_model.specs.rules.Reasons.{card_reason, control_reason, group_reason, move_reason, product_reason, set_reason, switch_reason, user_reason}
+use Rattle.iss_model.specs.rules.Stepping.{authorization_ask}
+use Rattle.iss_model.specs.rules.Acts.{Abandons, Acknowledges, Act, Asks, Begins, Clears, Ends, Fails, Funds, GivesBack, HoldsOwn, LetsGo, Loads, Refuses, Sets, StandsIn, Tells, TurnsDown, Uses}
 use Rattle.iss_acts.specs.Causes.{Cause, ComesOf, may_act}
 use Rattle.iss_acts.specs.Stages.{Frees, Fresh, Keeps, Leaves, Seeks, Stage, stage_after}
 
@@ -83,13 +86,27 @@ pub record HasNoneLeft (g : Stage) (t : Txn) : Type 0 where
   pub here : g ≡ Leaves t parts
   pub none : in_all parts ≡ 0
 
+-- why a setting is declined; an input that is no setting has no such reason
+abbrev pub setting_reason : Facts → Input → Option Reason
+setting_reason f (input.User token user) = user_reason f user
+setting_reason f (input.Card token card user product active) = card_reason f card user product
+setting_reason f (input.Move token who) = move_reason f who
+setting_reason f (input.Product token product currency funding timeout_ms hold_ms) = product_reason f product
+setting_reason f (input.Group token group mccs) = group_reason f group
+setting_reason f (input.Control token control currency window amount_limit usage_limit association scope active) =
+    control_reason f control currency window association scope
+setting_reason f (input.Set token set product currency connection timeout application max day_limit active) = set_reason f set product currency
+setting_reason f (input.Switch token product on) = switch_reason f product
+setting_reason f _ = None
+
 -- a notice of this number is beyond those that are made
 abbrev pub IsNewNotice : Facts → ℕ → Type 0
 IsNewNotice f number = f.notices_made < number
 
 -- Where an act comes from, at this stage of its row.
 abbrev pub IsFrom : Facts → Cause → ℕ → Stage → Act → Type 0
-IsFrom f by at g (Sets i event) = (g ≡ Fresh) × (acts_of i at f ≡ Sets i event ∷ [])
+IsFrom f by at g (Sets i event) = (by ≡ ComesOf i) × (setting_reason f i ≡ None) × (g ≡ Fresh)
+IsFrom f by at g (Loads event user currency amount) = (g ≡ Fresh) × (by ≡ ComesOf (input.Load event user currency amount))
 IsFrom f by at g (Begins ask) = (g ≡ Fresh) × IsFirstAsk f by at ask
 IsFrom f by at g (Uses ask) = (g ≡ Fresh) × IsFurtherAsk f by at ask
 IsFrom f by at g (HoldsOwn ask) = (g ≡ Seeks ask) × IsOwnAsk f by at ask × (is_account_funded ask.txn.funding ≡ true)
@@ -97,13 +114,13 @@ IsFrom f by at g (Asks h product ask) = (g ≡ Seeks ask) × (h ≡ f) × IsOwnA
 IsFrom f by at g (Funds o t) = (g ≡ Fresh) × IsAskedCall f o t
 IsFrom f by at g (Refuses o t) = (g ≡ Fresh) × IsAskedCall f o t
 IsFrom f by at g (Fails number o t why) = (g ≡ Fresh) × IsAskedCall f o t × IsNewNotice f number
-IsFrom f by at g (StandsIn number ask when set) = (g ≡ Seeks ask) × IsSettledAsk f by at ask × IsNewNotice f number
+IsFrom f by at g (StandsIn number ask when set) = (g ≡ Seeks ask) × IsSettledAsk f by at ask × (when ≡ at) × IsNewNotice f number
 IsFrom f by at g (TurnsDown ask why) = (g ≡ Seeks ask) × IsSettledAsk f by at ask
 IsFrom f by at g (Abandons number t why calls parts) = (g ≡ Keeps t parts) × IsTxnOf f t × (calls ≡ asked_calls_of f t.token) × IsNewNotice f number
 IsFrom f by at g (LetsGo t parts amount) = (g ≡ Frees t parts) × IsTxnOf f t × AreWithin parts (parts_held f t) × (amount ≤ in_all parts)
 IsFrom f by at g (Ends t) = HasNoneLeft g t × IsTxnOf f t
-IsFrom f by at g (Clears t parts amount when) = (g ≡ Fresh) × IsTxnOf f t × (parts ≡ parts_held f t)
-IsFrom f by at g (GivesBack t amount programme) = IsTxnOf f t × (programme ≡ min amount (owed_to_programme f t))
+IsFrom f by at g (Clears t parts amount when) = (g ≡ Fresh) × IsTxnOf f t × (parts ≡ parts_held f t) × (when ≡ at)
+IsFrom f by at g (GivesBack t amount programme) = IsTxnOf f t × (programme ≡ min amount (owed_to_programme f t)) × (g ≡ Fresh)
 IsFrom f by at g (Tells number news t amount gateway) = IsTxnOf f t × (is_account_funded t.funding ≡ false) × IsNewNotice f number
 IsFrom f by at g (Acknowledges notice) = is_notice f notice ≡ true
 IsFrom f by at g _ = Unit {0}

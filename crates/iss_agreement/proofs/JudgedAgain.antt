@@ -63,6 +63,13 @@ module _ {W : Type 0} (k : Keeper W) where
   pub clock_at : (w : W) (i : Input) (stamp : ℕ) (r : Record) → judge k w i stamp ≡ judged.Clock r → max stamp (k.facts w).now ≡ r.at
   clock_at w i stamp r h = ap (λ (x : Record). x.at) (clock_is w i stamp r h).0
 
+  -- what is judged new is the input itself, and a clock is a time
+  pub new_input : (w : W) (i : Input) (stamp : ℕ) (r : Record) → judge k w i stamp ≡ judged.New r → i ≡ r.input
+  new_input w i stamp r h = ap (λ (x : Record). x.input) (new_is w i stamp r h)
+
+  pub clock_input : (w : W) (i : Input) (stamp : ℕ) (r : Record) → judge k w i stamp ≡ judged.Clock r → input.Time ≡ r.input
+  clock_input w i stamp r h = ap (λ (x : Record). x.input) (clock_is w i stamp r h).0
+
   -- which isn't before the time
   pub not_before : (w : W) (stamp at : ℕ) → max stamp (k.facts w).now ≡ at → (k.facts w).now ≤ at
   not_before w stamp at e = grind (arith, nat_tests)

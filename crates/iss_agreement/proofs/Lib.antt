@@ -15,4 +15,6 @@ pub mod ReportedAccounts
 pub mod Since
 pub mod JudgedAgain
 pub mod Records
+pub mod StepSums
 pub mod RunLaws
+pub mod Likeness

@@ -20,12 +20,12 @@ use Rattle.iss_agreement.proofs.JudgedAgain.{new_at, clock_at, not_before, new_a
 use Rattle.iss_model.specs.run.Runs.{Run, dry_run, response, judgement_in, record_of_line, line_texts, run_after, accepted_records, transcript_of, RiseFrom}
 
 -- the record of an input that is new follows on what stands
-new_follows : (h : History) (i : Input) (stamp : ℕ) (r : Record) → judge history_keeper h i stamp ≡ judged.New r → Follows h r
+pub new_follows : (h : History) (i : Input) (stamp : ℕ) (r : Record) → judge history_keeper h i stamp ≡ judged.New r → Follows h r
 new_follows h i stamp r e =
     record { stamp = not_before history_keeper h stamp r.at (new_at history_keeper h i stamp r e); is_new = new_again history_keeper h i stamp r e }
 
 -- the time record before an answer follows on what stands
-clock_follows : (h : History) (i : Input) (stamp : ℕ) (r : Record) → judge history_keeper h i stamp ≡ judged.Clock r → Follows h r
+pub clock_follows : (h : History) (i : Input) (stamp : ℕ) (r : Record) → judge history_keeper h i stamp ≡ judged.Clock r → Follows h r
 clock_follows h i stamp r e =
     record { stamp = not_before history_keeper h stamp r.at (clock_at history_keeper h i stamp r e); is_new = clock_again history_keeper h i stamp r e }
 

@@ -1,8 +1,9 @@
 -- What a law between two keepers, and a law on every history, are.
-use Rattle.std.specs.Prelude.{◌≡◌, List, ℕ, nat_lt, filter}
+use Rattle.std.specs.Prelude.{◌≡◌, List, [], ◌∷◌, ℕ, ℤ, pos, ◌+ℤ◌, nat_lt, filter}
 use Rattle.iss_model.specs.declared.input.Record.{Record}
 use Rattle.iss_model.specs.declared.entry.Entry.{Entry}
 use Rattle.iss_model.specs.declared.entry.Row.{Row}
+use Rattle.iss_model.specs.Sums.{Change, changed_at}
 use Rattle.iss_model.specs.rules.Facts.{Facts}
 use Rattle.iss_model.specs.rules.Due.{DueThing, thing_entries}
 use Rattle.iss_model.specs.rules.Keeper.{Keeper}
@@ -24,3 +25,8 @@ pub record Shows {W V : Type 0} (m : Keeper W) (n : Keeper V) (show : W → V) (
 -- the rows of records later than this one
 abbrev pub rows_since : ℕ → List Row → List Row
 rows_since number rows = filter (λ row. nat_lt number row.number) rows
+
+-- what these entries change at a key, in all
+abbrev pub sum_among : (Entry → List Change) → List ℕ → List Entry → ℤ
+sum_among changes key [] = pos 0
+sum_among changes key (e ∷ es) = changed_at key (changes e) +ℤ sum_among changes key es

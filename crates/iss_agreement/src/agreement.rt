@@ -1,15 +1,16 @@
 //! Laws of the definitions: the state that a core keeps and the book of its records agree.
 //!
 //! Each law is the contract of a function with an empty body. It holds for every list of records, legal or not.
-ghost use Rattle.std.specs.Prelude.{◌≡◌, ℕ, List, [], ◌∷◌, ◌++◌, length, map};
+ghost use Rattle.std.specs.Prelude.{◌≡◌, ℕ, ◌+ℤ◌, List, [], ◌∷◌, ◌++◌, length, map};
 ghost use Rattle.std.specs.FinMap as finite;
 ghost use Rattle.iss_model.specs.declared.currency.Currency.{Currency};
 ghost use Rattle.iss_model.specs.declared.account.Account.{Account};
 ghost use Rattle.iss_model.specs.declared.account.Part.{Part};
+ghost use Rattle.iss_model.specs.declared.entry.Entry.{Entry};
 ghost use Rattle.iss_model.specs.declared.decision.Judged.TheVariants.{New, Clock};
 ghost use Rattle.iss_model.specs.declared.input.Input.{Input};
 ghost use Rattle.iss_model.specs.declared.input.Record.{Record};
-ghost use Rattle.iss_model.specs.Sums.{account_key, user_key, part_key, stood_key, sum_at};
+ghost use Rattle.iss_model.specs.Sums.{Change, account_key, balance_changes, user_key, part_key, stood_key, sum_at};
 ghost use Rattle.iss_model.specs.state.Kept.{kept_at};
 ghost use Rattle.iss_model.specs.rules.Settings.{users_of, cards_of, products_of};
 ghost use Rattle.iss_model.specs.rules.Controls.{ControlPut, groups_of, controls_of, sets_of, counted_changes};
@@ -20,10 +21,11 @@ ghost use Rattle.iss_model.specs.texts.BalanceLines.{accounts_of};
 ghost use Rattle.iss_model.specs.rules.Histories.{nothing_yet, time_of, events_of, history_facts, history_keeper, history_of};
 ghost use Rattle.iss_model.specs.rules.Stepping.{step};
 ghost use Rattle.iss_model.specs.rules.Judging.{judge};
-ghost use Rattle.iss_model.specs.state.Cores.{no_core, control_facts, core_facts, core_keeper, core_of};
+ghost use Rattle.iss_model.specs.state.Cores.{CoreState, no_core, control_facts, core_facts, core_keeper, core_of};
 ghost use Rattle.iss_model.specs.run.Transcripts.{Reading, transcript};
 ghost use Rattle.iss_agreement.specs.Shown.{shown_product, shown_state};
-ghost use Rattle.iss_agreement.specs.Laws.{rows_since};
+ghost use Rattle.iss_agreement.specs.Laws.{rows_since, sum_among};
+ghost use Rattle.iss_agreement.specs.Likeness.{AreAlike};
 
 /// The state that is kept entry by entry is the one that the book shows by filters and sums over all its rows.
 /// Book and state tell the same facts, so a further record makes the same entries on both, and both judge an input alike.
@@ -36,6 +38,20 @@ pub fn core_keeps_the_book()
         → (step core_keeper (core_of rs) r).entries ≡ (step history_keeper (history_of rs) r).entries }
     ensures judged { (rs : List Record) → (i : Input) → (stamp : ℕ)
         → judge core_keeper (core_of rs) i stamp ≡ judge history_keeper (history_of rs) i stamp }
+{}
+
+/// Cores that are alike tell the same facts. So a record makes the same entries on both and leaves them alike, and both judge
+/// an input alike.
+#[tactic(auto, using(crate::proofs::Likeness::alike_itself, crate::proofs::Likeness::facts_alike, crate::proofs::Likeness::entries_same, crate::proofs::Likeness::worlds_alike, crate::proofs::Likeness::judged_same))]
+pub fn alike_cores_stay_alike()
+    ensures itself { (c : CoreState) → AreAlike c c }
+    ensures facts { (c d : CoreState) → AreAlike c d → core_facts c ≡ core_facts d }
+    ensures entries { (c d : CoreState) → (r : Record) → AreAlike c d
+        → (step core_keeper c r).entries ≡ (step core_keeper d r).entries }
+    ensures worlds { (c d : CoreState) → (r : Record) → AreAlike c d
+        → AreAlike (step core_keeper c r).world (step core_keeper d r).world }
+    ensures judged { (c d : CoreState) → (i : Input) → (stamp : ℕ) → AreAlike c d
+        → judge core_keeper c i stamp ≡ judge core_keeper d i stamp }
 {}
 
 /// Lines are told on a core what they are told on its book.
@@ -53,6 +69,19 @@ pub fn controls_count_since_their_first_record()
     ensures times { (rs : List Record) → (put : ControlPut) → (key : List ℕ)
         → sum_at (counted_changes (λ row. row.count) (groups_of (history_of rs).rows) put) key (history_of rs).rows
         ≡ sum_at (counted_changes (λ row. row.count) (groups_of (history_of rs).rows) put) key (rows_since put.number (history_of rs).rows) }
+{}
+
+/// A further record adds to each sum of the book what its entries change there. So an account's balance grows by what the
+/// entries post to it, less what they post from it.
+#[tactic(auto, using(crate::proofs::StepSums::summed_more, crate::proofs::StepSums::balance_more))]
+pub fn records_add_to_sums()
+    ensures sums { (changes : Entry → List Change) → (key : List ℕ) → (rs : List Record) → (r : Record)
+        → sum_at changes key (history_of (rs ++ r ∷ [])).rows
+        ≡ sum_at changes key (history_of rs).rows +ℤ sum_among changes key (step history_keeper (history_of rs) r).entries }
+    ensures balance { (a : Account) → (rs : List Record) → (r : Record)
+        → balance_in (history_facts (history_of (rs ++ r ∷ []))) a
+        ≡ balance_in (history_facts (history_of rs)) a
+        +ℤ sum_among balance_changes (account_key a) (step history_keeper (history_of rs) r).entries }
 {}
 
 /// What a core answers to each question is what its book answers: each list by filters, each sum over all rows.

@@ -1,5 +1,5 @@
-//! The law that a core's state and the book of its records agree, and what holds of every run. Each law is the contract
-//! of a function with an empty body.
+//! The law that a core's state and the book of its records agree, that no rule tells apart cores that are alike, and what
+//! holds of every run. Each law is the contract of a function with an empty body.
 //!
 //! It may cite `iss_model`.
 //! It must not cite any body: its laws are of definitions.
@@ -9,7 +9,7 @@ mod agreement;
 mod runs;
 
 pub use agreement::{
-    a_core_is_told_its_transcript, controls_count_since_their_first_record,
-    core_answers_as_its_book, core_keeps_the_book, judging_is_stable,
+    a_core_is_told_its_transcript, alike_cores_stay_alike, controls_count_since_their_first_record,
+    core_answers_as_its_book, core_keeps_the_book, judging_is_stable, records_add_to_sums,
 };
 pub use runs::runs_are_told_their_transcript;

@@ -9,7 +9,7 @@ use Rattle.iss_model.specs.declared.txn.Txn.{Txn}
 use Rattle.iss_model.specs.declared.entry.Entry.TheVariants as entry
 use Rattle.iss_model.specs.Sums.{balance_changes}
 use Rattle.iss_model.specs.state.Kept.{Kept, after_changes}
-use Rattle.iss_model.specs.state.Cores.{Holdings, TxnSums, with_txn, with_end, with_post, is_live}
+use Rattle.iss_model.specs.state.Cores.{Holdings, SumsByTxn, with_txn, with_end, with_post, is_live}
 use Rattle.iss_hold.specs.Holdings.{tokens}
 use Rattle.iss_chain.specs.declared.sums.PostSums.{PostSums}
 use Rattle.iss_chain.specs.Values.{ChainNow, chain_after_entry}
@@ -29,7 +29,7 @@ pub begun : (ledger : Kept) (h g : Holdings) (t : Txn) (rows more : List (Option
 begun ledger h g t rows more paired e f =
     ap (λ (x : Holdings). chain_with ledger x more) e
     ∙ ap (λ (r : List (Option PostSums)). chain_with ledger (with_txn h t) r) f
-    ∙ ap (λ (sums : TxnSums). record { balances = ledger; holdings = with_txn h t; txn_sums = sums }) (sums_more h.txns (record { txn = t; live = is_live h.txns t.token }) rows paired)
+    ∙ ap (λ (sums : SumsByTxn). record { balances = ledger; holdings = with_txn h t; txn_sums = sums }) (sums_more h.txns (record { txn = t; live = is_live h.txns t.token }) rows paired)
 
 -- a transaction began in these books, and there is room for no more than its row
 pub begun_in : (b : Books) (g : Holdings) (t : Txn) → AreKept b → g ≡ with_txn b.holds t → chain_of (record b { holds = g }) ≡ chain_after_entry (chain_of b) (entry.Began t)
@@ -63,7 +63,7 @@ pub ended : (ledger : Kept) (h g : Holdings) (k : List ℕ) (rows : List (Option
     → chain_with ledger g rows ≡ chain_after_entry (chain_with ledger h rows) (entry.Ended k)
 ended ledger h g k rows e =
     ap (λ (x : Holdings). chain_with ledger x rows) e
-    ∙ ap (λ (sums : TxnSums). record { balances = ledger; holdings = with_end h k; txn_sums = sums }) (sums_ended h k rows)
+    ∙ ap (λ (sums : SumsByTxn). record { balances = ledger; holdings = with_end h k; txn_sums = sums }) (sums_ended h k rows)
 
 ended_count : (b : Books) (g : Holdings) (k : List ℕ) → g ≡ with_end b.holds k → length g.txns ≡ length b.holds.txns
 ended_count b g k e = ap (λ (x : Holdings). length x.txns) e ∙ ended_length k b.holds.txns
@@ -87,7 +87,7 @@ pub counted : (ledger : Kept) (h : Holdings) (rows : List (Option PostSums)) (i 
     → chain_with ledger h (set rows i (Some t)) ≡ record (chain_with ledger h rows) { txn_sums = with_post (txn_sums_of h.txns rows) (entry.Post from to amount (Some k)) }
 counted ledger h rows i k s t from to amount e f g =
     ap (λ (x : PostSums). chain_with ledger h (set rows i (Some x))) e
-    ∙ ap (λ (sums : TxnSums). record { balances = ledger; holdings = h; txn_sums = sums }) (sums_set h.txns rows i k s from to amount f g)
+    ∙ ap (λ (sums : SumsByTxn). record { balances = ledger; holdings = h; txn_sums = sums }) (sums_set h.txns rows i k s from to amount f g)
 
 -- a post for the transaction at a place was counted, over room for its row
 pub counted_in : (b : Books) (ledger : Kept) (room put : BTreeMap ℕ (Option PostSums)) (place : ℕ) (k : List ℕ) (s t : PostSums) (from to : Account) (amount : ℕ)

@@ -11,12 +11,12 @@ use Rattle.iss_model.specs.Sums.{part_key}
 use Rattle.iss_model.specs.state.Kept.{kept_at, AreSmall}
 use Rattle.iss_model.specs.rules.Activity.{txn_named}
 use Rattle.iss_model.specs.rules.Facts.{not_below}
-use Rattle.iss_model.specs.state.Cores.{Holdings, TxnSums}
+use Rattle.iss_model.specs.state.Cores.{Holdings, SumsByTxn}
 use Rattle.iss_hold.specs.Entries.{IsCovered}
 use Rattle.iss_chain.specs.Values.{ChainNow, chain_after_entry}
 
 -- what was cleared, refunded and paid of each transaction lies strictly between -2^62 and 2^62
-pub record AreSumsSmall (sums : TxnSums) : Type 0 where
+pub record AreSumsSmall (sums : SumsByTxn) : Type 0 where
   pub cleared : AreSmall sums.cleared
   pub refunded : AreSmall sums.refunded
   pub paid : AreSmall sums.paid

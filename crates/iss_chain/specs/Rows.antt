@@ -9,7 +9,7 @@ use Rattle.iss_model.specs.declared.account.Account.{Account}
 use Rattle.iss_model.specs.Sums.{Change, cleared_by, refunded_by, paid_by}
 use Rattle.iss_model.specs.state.Kept.{IsSmall, nothing_kept, after_changes}
 use Rattle.iss_model.specs.rules.Activity.{TxnNow}
-use Rattle.iss_model.specs.state.Cores.{TxnSums}
+use Rattle.iss_model.specs.state.Cores.{SumsByTxn}
 use Rattle.iss_hold.specs.Holdings.{tokens}
 use Rattle.iss_chain.specs.declared.sums.PostSums.{PostSums}
 use Rattle.iss_chain.specs.declared.books.Books.{Books}
@@ -47,7 +47,7 @@ row_changes sum (txn ∷ txns) (None ∷ rows) = row_changes sum txns rows
 row_changes sum (txn ∷ txns) (Some s ∷ rows) = record { key = txn; by = sum s } ∷ row_changes sum txns rows
 
 -- the sums by transaction
-abbrev pub txn_sums_of : List TxnNow → List (Option PostSums) → TxnSums
+abbrev pub txn_sums_of : List TxnNow → List (Option PostSums) → SumsByTxn
 txn_sums_of txns rows =
     record {
       cleared = after_changes nothing_kept (row_changes (λ s. s.cleared) (tokens txns) rows);

@@ -5,7 +5,7 @@ use Rattle.iss_model.specs.Sums.{balance_changes}
 use Rattle.iss_model.specs.state.Kept.{Kept, after_changes}
 use Rattle.iss_model.specs.rules.Activity.{TxnNow}
 use Rattle.iss_model.specs.rules.Facts.{Facts}
-use Rattle.iss_model.specs.state.Cores.{CoreState, Holdings, TxnSums, no_core, with_txn, with_hold, with_end, with_post, core_facts}
+use Rattle.iss_model.specs.state.Cores.{CoreState, Holdings, SumsByTxn, no_core, with_txn, with_hold, with_end, with_post, core_facts}
 use Rattle.iss_chain.specs.declared.state.TxnState.{TxnState}
 use Rattle.iss_chain.specs.declared.state.TxnState.TheVariants.{Unknown, Live, Ended}
 use Rattle.std.specs.Prelude.{Option, Some, None, if◌then◌else◌}
@@ -14,7 +14,7 @@ use Rattle.std.specs.Prelude.{Option, Some, None, if◌then◌else◌}
 pub record ChainNow : Type 0 where
   pub balances : Kept
   pub holdings : Holdings
-  pub txn_sums : TxnSums
+  pub txn_sums : SumsByTxn
 
 -- the part of a core's state that a chain keeps
 abbrev pub chain_part : CoreState → ChainNow

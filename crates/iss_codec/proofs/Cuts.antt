@@ -18,7 +18,7 @@ use Rattle.iss_codec.specs.Taking.{take_currency}
 use Rattle.iss_codec.proofs.TakenFields.{IsField}
 use Rattle.iss_codec.proofs.TakenParts.{currency_field, flag_field, funding_field, window_field, card_state_field, user_state_field, outcome_field}
 
--- where such lists stand at the start of equal lists, they are of one value, and what is after them is equal
+-- if two such lists begin equal lists, they are of one value, and what is after them is equal
 pub record IsCut {A : Type 0} (text : A → List ℕ) : Type 0 where
   pub cut : (a b : A) (x y : List ℕ) → text a ++ x ≡ text b ++ y → (a ≡ b) × (x ≡ y)
 

@@ -1,10 +1,11 @@
--- What reading gives was spelled so, and what is spelled so is given.
+-- A record that is read was spelled so, and a record that is spelled so is read.
 use Rattle.std.proofs.Common.{◌≡◌, ℕ, List, Option, Some, None, Result, Ok, Err, sym, ap, ◌∙◌}
 use Rattle.std.specs.Prelude.{IfOk, IfSome}
 use Rattle.iss_model.specs.declared.input.Record.{Record}
 use Rattle.iss_model.specs.texts.Spelling.{AreBytes}
 use Rattle.iss_codec.specs.TakingRecords.{record_spelled}
-use Rattle.iss_codec.proofs.TakenRecords.{spelled_takes, spelled_again, none_spelled}
+use Rattle.iss_codec.proofs.TakenRecords.{spelled_takes, spelled_again}
+use Rattle.iss_codec.proofs.TakenLaws.{none_read}
 use Rattle.iss_codec.specs.Meanings.{IsSpellingOf}
 
 pub is_found : {E : Type 0} (bytes : List ℕ) (result : Result (Option Record) E) → AreBytes bytes → IfOk result (λ found. found ≡ record_spelled bytes)
@@ -20,5 +21,5 @@ is_only bytes (Err e) h r so = tt
 
 pub is_none : {E : Type 0} (bytes : List ℕ) (result : Result (Option Record) E) → IfOk result (λ found. found ≡ record_spelled bytes)
     → IfOk result (λ found. found ≡ None → (r : Record) → IsSpellingOf r bytes → ⊥)
-is_none bytes (Ok found) h = λ none r so. none_spelled bytes r (sym h ∙ none) so.0 (sym so.1)
+is_none bytes (Ok found) h = λ none r so. none_read bytes r (sym h ∙ none) so
 is_none bytes (Err e) h = tt

@@ -17,10 +17,10 @@ use Rattle.iss_model.specs.declared.input.Record.{Record}
 use Rattle.iss_model.specs.Inputs.{contents, same_contents}
 use Rattle.iss_model.specs.texts.Spelling.{number_bytes, kind_number, field_bytes, has_spelling, spelling}
 use Rattle.iss_codec.proofs.TakenRecords.{begins_none}
-use Rattle.iss_codec.specs.Meanings.{AreSpelledAlike}
+use Rattle.iss_codec.specs.Meanings.{HaveSpellings, AreSpelledAlike}
 use Rattle.iss_codec.proofs.Cuts.{IsCut, pair_cut, number_cut, text_cut, flag_cut, currency_cut, funding_cut, window_cut, outcome_cut, optional_cut, moved_cut, association_cut, scope_cut}
 
--- lists that come apart are equal only where their values are
+-- lists that come apart are equal only if their values are
 alone : {A : Type 0} {f : A → List ℕ} → IsCut f → (a b : A) → f a ≡ f b → a ≡ b
 alone {f = f} c a b e = (c.cut a b [] [] (append-nil (f a) ∙ e ∙ sym (append-nil (f b)))).0
 
@@ -130,7 +130,7 @@ contents_tell (input.Answer c o) b e = answer_is c o b e
 contents_tell (input.Ack n) b e = ack_is n b e
 contents_tell input.Time b e = time_is b e
 
--- inputs have the same contents exactly where they are equal
+-- inputs have the same contents exactly if they are equal
 pub same_exactly : (a b : Input) → IsTrue (same_contents a b) ↔ (a ≡ b)
 same_exactly a b =
     let d = bytes_eq-Decides (contents a) (contents b) in
@@ -145,10 +145,10 @@ alike_equal a b h k e =
     let all : spelling s ≡ spelling r ++ [] = (λ i. e.0 i ∷ (number_bytes 8 0 ++ e.1 i)) ∙ sym (append-nil (spelling r)) in
     ap (λ (r : Record). r.input) (begins_none r s [] k h all).0
 
--- and so inputs in form have the same contents exactly where they are spelled alike
-pub same_alike : (a b : Input) → IsTrue (has_spelling a) → IsTrue (has_spelling b) → IsTrue (same_contents a b) ↔ AreSpelledAlike a b
-same_alike a b h k =
+-- and so inputs in form have the same contents exactly if they are spelled alike
+pub same_alike : (a b : Input) → HaveSpellings a b → IsTrue (same_contents a b) ↔ AreSpelledAlike a b
+same_alike a b both =
     let same = same_exactly a b in (
       λ c. (ap kind_number (same.0 c), ap field_bytes (same.0 c)),
-      λ alike. same.1 (alike_equal a b h k alike),
+      λ alike. same.1 (alike_equal a b both.0 both.1 alike),
     )

@@ -17,7 +17,7 @@ bytes_before n bytes h i =
       | inr le ↦ rw (get_or_past (take n bytes) i 0 (omega (arith, length-take n bytes))) (omega arith)
     ]
 
--- numbers below a limit have one spelling of so many bytes
+-- numbers below a limit have one spelling of `width` bytes
 pub record IsWide (width limit : ℕ) : Type 0 where
   pub size : (n : ℕ) → length (number_bytes width n) ≡ width
   pub again : (n : ℕ) (rest : List ℕ) → n < limit → number_from 0 width (number_bytes width n ++ rest) ≡ n

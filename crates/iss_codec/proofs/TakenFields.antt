@@ -9,7 +9,7 @@ use Rattle.iss_model.specs.texts.Spelling.{AreBytes, number_bytes}
 use Rattle.iss_codec.specs.Taking.{◌>>=◌, number_from, take_byte, take_bytes, take_number, take_formed, take_token, take_numbered}
 use Rattle.iss_codec.proofs.NumberBytes.{bytes_after, IsWide}
 
--- a step that gave a value, and the next one on it
+-- a step that returned a value, and the next step on it
 pub bind_some : {A B : Type 0} (r : Option A) (f : A → Option B) (y : B) → (r >>= f) ≡ Some y → (x : A) × (r ≡ Some x) × (f x ≡ Some y)
 bind_some None f y e = absurd cc
 bind_some (Some x) f y e = (x, refl, e)
@@ -19,7 +19,7 @@ pub passed : {A : Type 0} (b : Bool) (x y : A) → cond b (Some x) None ≡ Some
 passed true x y e = (refl, same_Some x y e)
 passed false x y e = absurd cc
 
--- a test that was not failed
+-- a test that didn't pass
 pub not_failed : {A : Type 0} (b : Bool) (x y : A) → cond b None (Some x) ≡ Some y → (b ≡ false) × (x ≡ y)
 not_failed true x y e = absurd cc
 not_failed false x y e = (refl, same_Some x y e)
@@ -29,7 +29,7 @@ pub either_way : {A P : Type 0} (b : Bool) (x y z : A) → (b ≡ true → x ≡
 either_way true x y z first other e = first refl e
 either_way false x y z first other e = other e
 
--- bytes are this text and then others
+-- bytes that are this text, and then others
 pub record IsSplit (bytes text rest : List ℕ) : Type 0 where
   pub parts : bytes ≡ text ++ rest
   pub fits : AreBytes rest
@@ -55,7 +55,7 @@ pub byte_again : (byte : ℕ) (rest : List ℕ) → take_byte (byte ∷ rest) �
 unfolding take_byte
 byte_again byte rest = refl
 
--- a field that its first byte tells: what comes after the byte is taken as the byte says
+-- a field that its first byte chooses: what comes after the byte is taken as the byte says
 pub by_byte : {A : Type 0} (by : ℕ → List ℕ → Option (A × List ℕ)) (text : A → List ℕ) (form : A → Bool)
     → ((byte : ℕ) (bytes : List ℕ) (x : A × List ℕ) → AreBytes bytes → by byte bytes ≡ Some x → IsSplit (byte ∷ bytes) (text x.0) x.1 × (form x.0 ≡ true))
     → (bytes : List ℕ) (x : A × List ℕ) → AreBytes bytes → (take_byte bytes >>= λ byte. by byte.0 byte.1) ≡ Some x
@@ -66,7 +66,7 @@ by_byte by text form others bytes x fits e =
     let b = others n.0.0 n.0.1 x a.fits n.2 in
     (record { parts = a.parts ∙ b.0.parts; fits = b.0.fits }, b.1)
 
--- so many bytes
+-- n bytes
 bytes_take : (n : ℕ) (bytes : List ℕ) (x : List ℕ × List ℕ) → AreBytes bytes → take_bytes n bytes ≡ Some x → IsSplit bytes x.0 x.1 × (length x.0 ≡ n)
 unfolding take_bytes
 bytes_take n bytes x fits e =
@@ -130,7 +130,7 @@ token_field =
       again = λ text rest h. rw (byte_again (length text) (text ++ rest), bytes_again text rest, h) refl;
     }
 
--- a thing by its number in one byte: the numbers are told apart
+-- a thing by its number in one byte, if no two things have the same number
 pub numbered : {A : Type 0} (number : A → ℕ) (of_number : ℕ → Option A) → ((x : A) → of_number (number x) ≡ Some x)
     → ((n : ℕ) (x : A) → of_number n ≡ Some x → n ≡ number x) → IsField (take_numbered of_number) (λ x. number x ∷ []) (λ x. true)
 unfolding take_numbered

@@ -158,7 +158,7 @@ flag_field =
 
 -- a limit that may be left out
 
--- a number below a limit, where there is one
+-- a number below a limit, if there is one
 abbrev pub is_below : ℕ → Option ℕ → Bool
 is_below most n = is_none_or (λ k. ltb k most) n
 

@@ -2,12 +2,12 @@
 ghost use Rattle.std.specs.Prelude.{◌≡◌, ◌↔◌, IsTrue};
 ghost use Rattle.iss_model.specs.declared.input.Input.{Input};
 ghost use Rattle.iss_model.specs.Inputs.{same_contents};
-ghost use Rattle.iss_model.specs.texts.Spelling.{has_spelling};
-ghost use Rattle.iss_codec.specs.Meanings.{AreSpelledAlike};
+ghost use Rattle.iss_codec.specs.Meanings.{HaveSpellings, AreSpelledAlike};
 
-/// Equality of contents is equality of inputs, and so equality of their spellings without the stamp.
+/// Two inputs have the same contents exactly if they are equal. If both are in form, they are equal exactly if they are spelled
+/// alike.
 #[tactic(auto, using(crate::proofs::EqualInputs::same_exactly, crate::proofs::EqualInputs::same_alike))]
 pub fn contents_are_their_spelling()
     ensures equal { (a b : Input) → IsTrue (same_contents a b) ↔ (a ≡ b) }
-    ensures alike { (a b : Input) → IsTrue (has_spelling a) → IsTrue (has_spelling b) → IsTrue (same_contents a b) ↔ AreSpelledAlike a b }
+    ensures alike { (a b : Input) → HaveSpellings a b → IsTrue (same_contents a b) ↔ AreSpelledAlike a b }
 {}

@@ -1,6 +1,7 @@
 //! The record that bytes spell.
 ghost use Rattle.std.specs.Prelude.{◌≡◌, IfOk, IfSome, Some, None};
 ghost use Rattle.iss_model.specs.declared.input.Record.{Record};
+ghost use Rattle.iss_codec.specs.Taking.{take_token};
 ghost use Rattle.iss_codec.specs.TakingRecords.{take_fields, take_record, record_spelled};
 ghost use Rattle.iss_codec.specs.Readers.{taken_field};
 ghost use Rattle.iss_codec.specs.Meanings.{IsSpellingOf};
@@ -9,14 +10,14 @@ use crate::reader::Reader;
 use iss_model::{Input, Record};
 use std::alloc::{AllocError, Global};
 
-/// The record that these bytes spell, all of them, or `None` exactly where they spell none.
+/// The record that these bytes spell, all of them, or `None` exactly if they spell none.
 pub fn decode(alloc: Global, bytes: &[u8]) -> Result<Option<Record>, AllocError>
     ensures exact { IfOk result (λ found. found ≡ record_spelled bytes.now) }
-    // What is read is spelled so, and in form.
+    // A record that is read is in form, and these bytes are its spelling.
     ensures found { IfOk result (λ found. IfSome found (λ r. IsSpellingOf r bytes.now)) }
-    // What is spelled so is read.
+    // A record that these bytes spell is read.
     ensures only { (r : Record) → IsSpellingOf r bytes.now → IfOk result (λ found. found ≡ Some r) }
-    // Where nothing is read, no record is spelled so.
+    // If nothing is read, these bytes spell no record.
     ensures none { IfOk result (λ found. found ≡ None → (r : Record) → IsSpellingOf r bytes.now → ⊥) }
 {
     record_spelled(alloc, bytes)
@@ -52,7 +53,7 @@ impl Reader<'_> {
 
     #[tactic(auto, unfolding(crate::specs::TakingRecords::take_fields))]
     fn take_fields(&mut self, alloc: Global, kind: u8) -> Result<Option<Input>, AllocError>
-        ensures { IfOk result (λ found. taken_field found self.new.bytes.now ≡ take_fields kind self.old.bytes.now) }
+        ensures { IfOk result (λ found. taken_field found self.new.bytes.now ≡ take_fields take_token kind self.old.bytes.now) }
     {
         Ok(match kind {
             1 => self.take_user(),

@@ -11,7 +11,7 @@ use crate::writing::{
 use iss_model::{Input, Numbered, Record};
 use std::alloc::{AllocError, Global};
 
-/// The one spelling of a record. `decode` reads it again where the record's fields are in form.
+/// The one spelling of a record. `decode` reads it again if the record is in form.
 pub fn encode(alloc: Global, r: &Record) -> Result<Vec<u8>, AllocError>
     ensures spelled { IfOk result (λ bytes. bytes.items ≡ spelling r.now) }
 {
@@ -20,11 +20,11 @@ pub fn encode(alloc: Global, r: &Record) -> Result<Vec<u8>, AllocError>
     Ok(out)
 }
 
-/// Adds the spelling of the record of that stamp and input to what was written before.
+/// Appends the spelling of the record with this stamp and this input.
 #[tactic(auto, unfolding(iss_model::specs::texts::Spelling::spelling))]
 pub fn put_record(out: &mut Vec<u8>, at: u64, input: &Input) -> Result<(), AllocError>
     ensures spelled { OnOk result (out.new.items ≡ out.old.items ++ spelling (record { at = at; input = input.now })) }
-    // Each name in it is a token, as its type says.
+    // Each name in the input is a token, as its type says.
     ensures tokens { OnOk result (IsTrue (list_all is_token (tokens_of input.now))) }
 {
     out.push(kind_number(input))?;

@@ -1,8 +1,8 @@
 //! Reading the codes of a merchant group.
-ghost use Rattle.std.specs.Prelude.{◌≡◌, IfOk, option_map};
+ghost use Rattle.std.specs.Prelude.{◌≡◌, IfOk};
 ghost use Rattle.iss_model.specs.Forms.{are_mccs, are_rising};
 ghost use Rattle.iss_codec.specs.Taking.{take_codes, take_mccs};
-ghost use Rattle.iss_codec.specs.Readers.{taken_field};
+ghost use Rattle.iss_codec.specs.Readers.{taken_field, taken_codes};
 
 use crate::reader::Reader;
 use iss_model::Mccs;
@@ -24,7 +24,7 @@ impl Reader<'_> {
     }
 
     fn take_codes(&mut self, alloc: Global, count: u16) -> Result<Option<Vec<u16>>, AllocError>
-        ensures { IfOk result (λ found. taken_field (option_map (λ codes. codes.items) found) self.new.bytes.now ≡ take_codes count self.old.bytes.now) }
+        ensures { IfOk result (λ found. taken_codes found self.new.bytes.now ≡ take_codes count self.old.bytes.now) }
     {
         let mut codes = Vec::new(alloc);
         for _ in 0..count {

@@ -1,6 +1,7 @@
 //! Reading the fields of each kind, in their order.
 ghost use Rattle.std.specs.Prelude.{◌≡◌, IfOk};
 ghost use Rattle.iss_model.specs.declared.input.Input.TheVariants as input;
+ghost use Rattle.iss_codec.specs.Taking.{take_token};
 ghost use Rattle.iss_codec.specs.TakingRecords.{take_user, take_card, take_move, take_product, take_group, take_control, take_set, take_switch, take_operation, take_authorization, take_clearing, take_answer, take_ack};
 ghost use Rattle.iss_codec.specs.Readers.{taken_field};
 
@@ -11,7 +12,7 @@ use std::alloc::{AllocError, Global};
 impl Reader<'_> {
     #[tactic(auto, unfolding(crate::specs::TakingRecords::take_user))]
     pub(crate) fn take_user(&mut self) -> Option<Input>
-        ensures { taken_field result self.new.bytes.now ≡ take_user self.old.bytes.now }
+        ensures { taken_field result self.new.bytes.now ≡ take_user take_token self.old.bytes.now }
     {
         Some(Input::User {
             token: self.take_token()?,
@@ -21,7 +22,7 @@ impl Reader<'_> {
 
     #[tactic(auto, unfolding(crate::specs::TakingRecords::take_card))]
     pub(crate) fn take_card(&mut self) -> Option<Input>
-        ensures { taken_field result self.new.bytes.now ≡ take_card self.old.bytes.now }
+        ensures { taken_field result self.new.bytes.now ≡ take_card take_token self.old.bytes.now }
     {
         Some(Input::Card {
             token: self.take_token()?,
@@ -34,7 +35,7 @@ impl Reader<'_> {
 
     #[tactic(auto, unfolding(crate::specs::TakingRecords::take_move))]
     pub(crate) fn take_move(&mut self) -> Option<Input>
-        ensures { taken_field result self.new.bytes.now ≡ take_move self.old.bytes.now }
+        ensures { taken_field result self.new.bytes.now ≡ take_move take_token self.old.bytes.now }
     {
         Some(Input::Move {
             token: self.take_token()?,
@@ -44,7 +45,7 @@ impl Reader<'_> {
 
     #[tactic(auto, unfolding(crate::specs::TakingRecords::take_product))]
     pub(crate) fn take_product(&mut self) -> Option<Input>
-        ensures { taken_field result self.new.bytes.now ≡ take_product self.old.bytes.now }
+        ensures { taken_field result self.new.bytes.now ≡ take_product take_token self.old.bytes.now }
     {
         Some(Input::Product {
             token: self.take_token()?,
@@ -58,7 +59,7 @@ impl Reader<'_> {
 
     #[tactic(auto, unfolding(crate::specs::TakingRecords::take_group))]
     pub(crate) fn take_group(&mut self, alloc: Global) -> Result<Option<Input>, AllocError>
-        ensures { IfOk result (λ found. taken_field found self.new.bytes.now ≡ take_group self.old.bytes.now) }
+        ensures { IfOk result (λ found. taken_field found self.new.bytes.now ≡ take_group take_token self.old.bytes.now) }
     {
         let Some(token) = self.take_token() else {
             return Ok(None);
@@ -74,7 +75,7 @@ impl Reader<'_> {
 
     #[tactic(auto, unfolding(crate::specs::TakingRecords::take_control))]
     pub(crate) fn take_control(&mut self) -> Option<Input>
-        ensures { taken_field result self.new.bytes.now ≡ take_control self.old.bytes.now }
+        ensures { taken_field result self.new.bytes.now ≡ take_control take_token self.old.bytes.now }
     {
         let token = self.take_token()?;
         let control = self.take_token()?;
@@ -96,7 +97,7 @@ impl Reader<'_> {
 
     #[tactic(auto, unfolding(crate::specs::TakingRecords::take_set))]
     pub(crate) fn take_set(&mut self) -> Option<Input>
-        ensures { taken_field result self.new.bytes.now ≡ take_set self.old.bytes.now }
+        ensures { taken_field result self.new.bytes.now ≡ take_set take_token self.old.bytes.now }
     {
         Some(Input::Set {
             token: self.take_token()?,
@@ -114,7 +115,7 @@ impl Reader<'_> {
 
     #[tactic(auto, unfolding(crate::specs::TakingRecords::take_switch))]
     pub(crate) fn take_switch(&mut self) -> Option<Input>
-        ensures { taken_field result self.new.bytes.now ≡ take_switch self.old.bytes.now }
+        ensures { taken_field result self.new.bytes.now ≡ take_switch take_token self.old.bytes.now }
     {
         Some(Input::Switch {
             token: self.take_token()?,
@@ -125,7 +126,7 @@ impl Reader<'_> {
 
     #[tactic(auto, unfolding(crate::specs::TakingRecords::take_operation))]
     pub(crate) fn take_load(&mut self) -> Option<Input>
-        ensures { taken_field result self.new.bytes.now ≡ take_operation input.Load self.old.bytes.now }
+        ensures { taken_field result self.new.bytes.now ≡ take_operation take_token input.Load self.old.bytes.now }
     {
         Some(Input::Load {
             token: self.take_token()?,
@@ -137,7 +138,7 @@ impl Reader<'_> {
 
     #[tactic(auto, unfolding(crate::specs::TakingRecords::take_authorization))]
     pub(crate) fn take_authorization(&mut self) -> Option<Input>
-        ensures { taken_field result self.new.bytes.now ≡ take_authorization self.old.bytes.now }
+        ensures { taken_field result self.new.bytes.now ≡ take_authorization take_token self.old.bytes.now }
     {
         Some(Input::Authorization {
             token: self.take_token()?,
@@ -151,7 +152,7 @@ impl Reader<'_> {
 
     #[tactic(auto, unfolding(crate::specs::TakingRecords::take_operation))]
     pub(crate) fn take_increment(&mut self) -> Option<Input>
-        ensures { taken_field result self.new.bytes.now ≡ take_operation input.Increment self.old.bytes.now }
+        ensures { taken_field result self.new.bytes.now ≡ take_operation take_token input.Increment self.old.bytes.now }
     {
         Some(Input::Increment {
             token: self.take_token()?,
@@ -163,7 +164,7 @@ impl Reader<'_> {
 
     #[tactic(auto, unfolding(crate::specs::TakingRecords::take_operation))]
     pub(crate) fn take_reversal(&mut self) -> Option<Input>
-        ensures { taken_field result self.new.bytes.now ≡ take_operation input.Reversal self.old.bytes.now }
+        ensures { taken_field result self.new.bytes.now ≡ take_operation take_token input.Reversal self.old.bytes.now }
     {
         Some(Input::Reversal {
             token: self.take_token()?,
@@ -175,7 +176,7 @@ impl Reader<'_> {
 
     #[tactic(auto, unfolding(crate::specs::TakingRecords::take_clearing))]
     pub(crate) fn take_clearing(&mut self) -> Option<Input>
-        ensures { taken_field result self.new.bytes.now ≡ take_clearing self.old.bytes.now }
+        ensures { taken_field result self.new.bytes.now ≡ take_clearing take_token self.old.bytes.now }
     {
         Some(Input::Clearing {
             token: self.take_token()?,
@@ -188,7 +189,7 @@ impl Reader<'_> {
 
     #[tactic(auto, unfolding(crate::specs::TakingRecords::take_operation))]
     pub(crate) fn take_refund(&mut self) -> Option<Input>
-        ensures { taken_field result self.new.bytes.now ≡ take_operation input.Refund self.old.bytes.now }
+        ensures { taken_field result self.new.bytes.now ≡ take_operation take_token input.Refund self.old.bytes.now }
     {
         Some(Input::Refund {
             token: self.take_token()?,

@@ -1,7 +1,7 @@
 //! Reading the parts of a move and of a control.
 ghost use Rattle.std.specs.Prelude.{◌≡◌};
 ghost use Rattle.iss_model.specs.Forms.{are_limits, may_count};
-ghost use Rattle.iss_codec.specs.Taking.{take_moved, take_association, take_scope, take_optional};
+ghost use Rattle.iss_codec.specs.Taking.{take_token, take_moved, take_association, take_scope, take_optional};
 ghost use Rattle.iss_codec.specs.TakingRecords.{take_limits};
 ghost use Rattle.iss_codec.specs.Readers.{taken_field};
 
@@ -12,7 +12,7 @@ use iss_model::{Association, Moved, Scope, Window};
 impl Reader<'_> {
     #[tactic(auto, unfolding(crate::specs::Taking::take_moved, crate::specs::Taking::take_moved_card, crate::specs::Taking::take_moved_user))]
     pub(crate) fn take_moved(&mut self) -> Option<Moved>
-        ensures { taken_field result self.new.bytes.now ≡ take_moved self.old.bytes.now }
+        ensures { taken_field result self.new.bytes.now ≡ take_moved take_token self.old.bytes.now }
     {
         match self.take_byte()? {
             1 => Some(Moved::Card(self.take_token()?, self.take_numbered()?)),
@@ -23,7 +23,7 @@ impl Reader<'_> {
 
     #[tactic(auto, unfolding(crate::specs::Taking::take_association, crate::specs::Taking::take_named))]
     pub(crate) fn take_association(&mut self) -> Option<Association>
-        ensures { taken_field result self.new.bytes.now ≡ take_association self.old.bytes.now }
+        ensures { taken_field result self.new.bytes.now ≡ take_association take_token self.old.bytes.now }
     {
         match self.take_byte()? {
             0 => Some(Association::Anybody),
@@ -35,7 +35,7 @@ impl Reader<'_> {
 
     #[tactic(auto, unfolding(crate::specs::Taking::take_scope, crate::specs::Taking::take_mcc_scope, crate::specs::Taking::take_named))]
     pub(crate) fn take_scope(&mut self) -> Option<Scope>
-        ensures { taken_field result self.new.bytes.now ≡ take_scope self.old.bytes.now }
+        ensures { taken_field result self.new.bytes.now ≡ take_scope take_token self.old.bytes.now }
     {
         match self.take_byte()? {
             0 => Some(Scope::All),

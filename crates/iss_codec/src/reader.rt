@@ -11,7 +11,7 @@ use iss_model::limits::{
 };
 use iss_model::{Currency, Numbered, Token};
 
-/// Bytes of which fields are taken. A field that isn't there may leave any of them.
+/// Bytes from which fields are taken. If a field isn't there, any of the bytes may be left.
 #[derive(Drop)]
 pub(crate) struct Reader<'a> {
     bytes: &'a [u8],

@@ -54,7 +54,7 @@ pub(crate) fn put_token(out: &mut Vec<u8>, token: &Token) -> Result<(), AllocErr
     out.extend_from_slice(text)
 }
 
-/// Two tokens, as an event begins: its own, and that of what it is about.
+/// The two tokens that an event begins with: its own, and that of what it is about.
 pub(crate) fn put_event(out: &mut Vec<u8>, token: &Token, about: &Token) -> Result<(), AllocError>
     ensures spelled { OnOk result (out.new.items ≡ out.old.items ++ (with_length token.now ++ with_length about.now)) }
     ensures token { OnOk result (IsTrue (is_token token.now)) }
@@ -188,7 +188,7 @@ fn put_codes(out: &mut Vec<u8>, codes: &[u16]) -> Result<(), AllocError>
     Ok(())
 }
 
-/// What every operation on a transaction begins with.
+/// The fields that every operation begins with: its token, whom or what it is about, and its amount.
 pub(crate) fn put_operation(
     out: &mut Vec<u8>,
     token: &Token,

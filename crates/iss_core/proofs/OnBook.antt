@@ -1,5 +1,5 @@
 -- What a core answers is what the book of its records answers.
-use Rattle.std.proofs.Common.{◌≡◌, ℕ, List, length, map, ap, ◌∙◌}
+use Rattle.std.proofs.Common.{◌≡◌, ℕ, List, [], ◌∷◌, ◌++◌, length, map, ap, subst, sym, ◌∙◌}
 use Rattle.std.specs.Prelude.{Result, Ok, Err, IfOk}
 use Rattle.std.specs.FinMap as finite
 use Rattle.iss_model.specs.declared.account.Account.{Account}
@@ -14,32 +14,39 @@ use Rattle.iss_model.specs.texts.BalanceLines.{accounts_of}
 use Rattle.iss_model.specs.rules.Stepping.{step}
 use Rattle.iss_model.specs.rules.Judging.{judge}
 use Rattle.iss_model.specs.rules.Histories.{time_of, history_facts, history_keeper, history_of}
-use Rattle.iss_model.specs.state.Cores.{CoreState, core_facts, core_keeper}
+use Rattle.iss_model.specs.state.Cores.{CoreState, core_facts, core_keeper, core_of, no_core}
 use Rattle.iss_agreement.proofs.Records.{records_history}
 use Rattle.iss_agreement.proofs.CoreOfBook.{facts_history, judge_history, entries_history, core_step}
 use Rattle.iss_agreement.proofs.ReportedAccounts.{accounts_history}
+use Rattle.iss_agreement.specs.Likeness.{AreAlike}
+use Rattle.iss_agreement.proofs.Likeness.{alike_itself, entries_same, facts_alike, judged_same, worlds_alike}
 use Rattle.iss_core.specs.Values.{CoreNow, StandsFor, Steps, StepsOnBook}
+
+-- the state without a record stands for none
+pub stands_at_first : (s : CoreState) → s ≡ no_core → AreAlike s (core_of [])
+stands_at_first s is = subst (λ (x : CoreState). AreAlike x no_core) (sym is) (alike_itself no_core)
 
 -- the facts that a core tells are those of the book
 pub facts_on_book : (c : CoreNow) (rs : List Record) → StandsFor c rs → core_facts c.state ≡ history_facts (history_of rs)
-facts_on_book c rs stands = ap core_facts stands ∙ facts_history rs
+facts_on_book c rs stands = facts_alike c.state (core_of rs) stands ∙ facts_history rs
 
 -- and so is each answer by the facts
 pub told_on_book : {A : Type 0} (c : CoreNow) (rs : List Record) (ask : Facts → A) (answer : A) → StandsFor c rs → answer ≡ ask (core_facts c.state) → answer ≡ ask (history_facts (history_of rs))
 told_on_book c rs ask answer stands e = e ∙ ap ask (facts_on_book c rs stands)
 
 pub judged_on_book : (c : CoreNow) (rs : List Record) (i : Input) (stamp : ℕ) (j : Judged) → StandsFor c rs → j ≡ judge core_keeper c.state i stamp → j ≡ judge history_keeper (history_of rs) i stamp
-judged_on_book c rs i stamp j stands e = e ∙ ap (λ (s : CoreState). judge core_keeper s i stamp) stands ∙ judge_history rs i stamp
+judged_on_book c rs i stamp j stands e = e ∙ judged_same c.state (core_of rs) i stamp stands ∙ judge_history rs i stamp
 
 pub accounts_on_book : (c : CoreNow) (rs : List Record) (accounts : List Account) → StandsFor c rs → map account_key accounts ≡ finite.keys c.state.balances
     → map account_key accounts ≡ map account_key (accounts_of (history_of rs).rows)
-accounts_on_book c rs accounts stands e = e ∙ ap (λ (s : CoreState). finite.keys s.balances) stands ∙ accounts_history rs
+accounts_on_book c rs accounts stands e = e ∙ ap (λ (s : CoreState). finite.keys s.balances) stands.rest ∙ accounts_history rs
 
 pub steps_on_book : (before after : CoreNow) (rs : List Record) (r : Record) (made : List Entry) → StandsFor before rs → Steps before after r made → StepsOnBook after rs r made
 steps_on_book before after rs r made stands steps =
     record {
-      stands = steps.state ∙ ap (λ (s : CoreState). (step core_keeper s r).world) stands ∙ core_step rs r;
-      entries = steps.entries ∙ ap (λ (s : CoreState). (step core_keeper s r).entries) stands ∙ entries_history rs r;
+      stands = subst (λ (s : CoreState). AreAlike s (core_of (rs ++ r ∷ []))) (sym steps.state)
+          (subst (λ (s : CoreState). AreAlike (step core_keeper before.state r).world s) (core_step rs r) (worlds_alike before.state (core_of rs) r stands));
+      entries = steps.entries ∙ entries_same before.state (core_of rs) r stands ∙ entries_history rs r;
     }
 
 -- how many records the book has, and their time

@@ -137,7 +137,7 @@ in_order i s up =
     far : (n : ℕ) → n < 1073741823 → n * 2000000000 < 2 ^ 62
     far n h = omega arith
 
-    left : (made asked live n : ℕ) → made + 2 * asked + live ≤ 3 * n → n < 1073741823 → made + asked + 2 < 2 ^ 32
+    left : (made asked live n : ℕ) → made + 2 * asked + live ≤ 4 * n → n < 1073741823 → made + asked + 2 < 2 ^ 32
     left made asked live n h room = omega arith
 
     fewer : (calls n : ℕ) → calls ≤ n → n < 1073741823 → calls + 1 < 2 ^ 32

@@ -17,12 +17,13 @@ use Rattle.iss_model.specs.rules.Facts.{Facts, next_notice}
 use Rattle.iss_model.specs.rules.Asks.{Ask, txn_begun, breach}
 use Rattle.iss_model.specs.rules.Reasons.{first_reason, is_some_with, user_is}
 use Rattle.iss_model.specs.rules.CardReasons.{is_in_currency, lacks_funds, control_breach, first_ask, further_ask, increment_reason, reversal_reason, clearing_reason, refund_reason}
-use Rattle.iss_model.specs.rules.Pieces.{only_where, only_gateway, Parts, parts_held, in_all, left_of, taken_to_clear, notice_entry, notice_after_abandonment, clearing_money_entries}
-use Rattle.iss_acts.specs.Rows.{abandonment_entries, authorization_entries, increment_entries, reversal_entries, last_clearing_entries, further_clearing_entries, clearing_entries, refund_entries, unless_declined}
+use Rattle.iss_model.specs.rules.Pieces.{Parts, parts_held, in_all}
+use Rattle.iss_model.specs.rules.Acts.{Act}
+use Rattle.iss_model.specs.rules.CardActs.{after_clearing_acts, authorization_acts, cleared_acts, clearing_acts, increment_acts, refund_acts, reversal_acts}
+use Rattle.iss_model.specs.rules.Stepping.{acts_unless}
 use Rattle.iss_model.specs.state.Cores.{CoreState, core_facts}
 use Rattle.iss_hold.specs.declared.hold.Hold.{Hold}
-use Rattle.iss_hold.specs.Holdings.{parts_of, whole_of}
-use Rattle.iss_chain.specs.Calls.{reversal_money_entries}
+use Rattle.iss_hold.specs.Holdings.{now_of, parts_of, whole_of}
 use Rattle.iss_core.specs.declared.purchases.Purchase.{Purchase}
 use Rattle.iss_core.specs.declared.operations.Operation.{Operation}
 
@@ -49,51 +50,38 @@ purchase_reason f currency known ask =
     ∷ []
     )
 
--- the entries of a purchase on a card
-abbrev pub purchase_entries : Facts → Purchase → Option Card → List Entry
-purchase_entries f p known =
+-- the acts of a purchase on a card
+abbrev pub purchase_acts : Facts → Purchase → Option Card → List Act
+purchase_acts f p known =
     let ask = card_ask f p known in
-    unless_declined (purchase_reason f p.currency known ask) p.token (authorization_entries f ask)
+    acts_unless (purchase_reason f p.currency known ask) p.token (authorization_acts f ask)
 
--- the entries of what follows a purchase, on its transaction
-abbrev pub increment_on : Facts → Operation → Option TxnNow → List Entry
+-- the acts of an increment of a transaction
+abbrev pub increment_on : Facts → Operation → Option TxnNow → List Act
 increment_on f o known =
     let ask = option_map (λ now. further_ask o.token o.amount o.at now.txn) known in
-    unless_declined (increment_reason f known o.currency ask) o.token (increment_entries f ask)
+    acts_unless (increment_reason f known o.currency ask) o.token (increment_acts f ask)
 
-abbrev pub reversal_on : Facts → Operation → Option TxnNow → List Entry
-reversal_on f o known =
-    unless_declined (reversal_reason known o.currency) o.token (reversal_entries f o.token o.amount known)
+-- the acts of its reversal
+abbrev pub reversal_on : Facts → Operation → Option TxnNow → List Act
+reversal_on f o known = acts_unless (reversal_reason known o.currency) o.token (reversal_acts f o.token o.amount known)
 
-abbrev pub clearing_on : Facts → Operation → Option TxnNow → List Entry
-clearing_on f o known =
-    unless_declined (clearing_reason known o.currency) o.token (clearing_entries f o.token o.amount o.last o.at known)
+-- the acts of its clearing
+abbrev pub clearing_on : Facts → Operation → Option TxnNow → List Act
+clearing_on f o known = acts_unless (clearing_reason known o.currency) o.token (clearing_acts f o.token o.amount o.last o.at known)
 
-abbrev pub refund_on : Facts → Operation → Option TxnNow → List Entry
-refund_on f o known =
-    unless_declined (refund_reason f known o.currency o.amount) o.token (refund_entries f o.token o.amount known)
+-- the acts of its refund
+abbrev pub refund_on : Facts → Operation → Option TxnNow → List Act
+refund_on f o known = acts_unless (refund_reason f known o.currency o.amount) o.token (refund_acts f o.token o.amount known)
 
--- a reversal that isn't declined, of a transaction that holds these parts
-abbrev pub reversed_entries : Facts → List ℕ → ℕ → Txn → Parts → List Entry
-reversed_entries f token amount t parts =
-    let freed = min amount (in_all parts) in
-    abandonment_entries (next_notice f) f t reason.Reversed
-    ++ reversal_money_entries t parts amount
-    ++ only_gateway t (only_where freed (notice_entry (notice_after_abandonment (next_notice f) f t) method.Reversal t None freed (min (freed - parts.p) parts.g) ∷ []))
-    ++ entry.Decided token verdict.Done ∷ []
+-- the acts of a clearing that isn't declined, of a transaction with this hold
+abbrev pub cleared_on : Facts → Operation → Hold → List Act
+cleared_on f o hold = cleared_acts f o.token o.amount o.last o.at (now_of hold) (parts_of hold)
 
--- the end of a transaction with a clearing that leaves these parts, and its notice
-abbrev pub capture_entries : Facts → TxnNow → Parts → ℕ → Bool → List Entry
-capture_entries f now rest amount last =
-    if now.live && (last || in_all rest == 0) then last_clearing_entries f now.txn rest amount else further_clearing_entries f now.txn amount
-
--- a clearing that isn't declined, of a transaction that holds these parts
-abbrev pub cleared_entries : Facts → Operation → TxnNow → Parts → List Entry
-cleared_entries f o now parts =
-    let taken = taken_to_clear parts o.amount in
-    clearing_money_entries now.txn taken o.amount o.at
-    ++ capture_entries f now (left_of parts taken) o.amount o.last
-    ++ entry.Decided o.token verdict.Done ∷ []
+-- the acts that follow on a clearing's money, which leaves this hold
+abbrev pub captured_on : Facts → Hold → ℕ → Bool → List Act
+captured_on f rest amount last =
+    after_clearing_acts f rest.txn (parts_of rest) amount (rest.live && (last || in_all (parts_of rest) == 0))
 
 -- a hold has what its transaction holds, and that is small
 pub record IsHeld (s : CoreState) (hold : Hold) : Type 0 where

@@ -9,15 +9,16 @@ use Rattle.iss_model.specs.rules.Stepping.{step}
 use Rattle.iss_model.specs.rules.Judging.{judge}
 use Rattle.iss_model.specs.rules.Histories.{history_keeper, history_of}
 use Rattle.iss_model.specs.state.Cores.{CoreState, core_keeper, core_of}
+use Rattle.iss_agreement.specs.Likeness.{AreAlike}
 
 -- the instance of a core's device, and what stands
 pub record CoreNow : Type 0 where
   pub instance : ℕ
   pub state : CoreState
 
--- a core stands for these records: its state is the one that they make
+-- a core stands for these records: its state is like the one that they make
 abbrev pub StandsFor : CoreNow → List Record → Type 0
-StandsFor c rs = c.state ≡ core_of rs
+StandsFor c rs = AreAlike c.state (core_of rs)
 
 -- a record is next on a core: judged by itself, its input is new
 abbrev pub IsNext : CoreNow → Record → Type 0

@@ -2,9 +2,11 @@
 ghost use Rattle.std.specs.Prelude.{◌≡◌, ◌+◌, ◌<◌, ◌^◌, ◌++◌, true, nat_lt, length, IfSome, IfOk, OnOk, IsTrue};
 ghost use Rattle.std.specs.List.{list_all};
 ghost use Rattle.iss_model.specs.Forms.{is_stamp};
-ghost use Rattle.iss_model.specs.rules.Facts.{call_in, next_notice};
-ghost use Rattle.iss_acts.specs.Rows.{abandonment_entries, answer_entries, outcome_entries, failed_call_entries, expiry_entries};
-ghost use Rattle.iss_model.specs.rules.Pieces.{notice_after_abandonment};
+ghost use Rattle.iss_model.specs.rules.Facts.{asked_calls_of, call_in, next_notice};
+ghost use Rattle.iss_model.specs.rules.Acts.{entries_of_acts};
+ghost use Rattle.iss_model.specs.rules.CardActs.{answer_acts, failed_acts, outcome_acts};
+ghost use Rattle.iss_model.specs.rules.Due.{expiry_acts};
+ghost use Rattle.iss_model.specs.rules.Pieces.{abandoned_calls_entries, notice_after_abandonment};
 ghost use Rattle.iss_model.specs.state.Cores.{core_facts};
 ghost use Rattle.iss_core.specs.States.{state_of};
 ghost use Rattle.iss_core.specs.Cards.{IsHeld};
@@ -32,7 +34,7 @@ impl State {
     ) -> Result<(), AllocError>
         requires order { IsInOrder (state_of self.now) }
         requires stamp { IsTrue (is_stamp at) }
-        ensures { OnOk result (out.new.items ≡ out.old.items ++ answer_entries call outcome at (core_facts (state_of self.now))) }
+        ensures { OnOk result (out.new.items ≡ out.old.items ++ entries_of_acts (answer_acts call outcome at (core_facts (state_of self.now)))) }
     {
         match self.asked(call) {
             None => Ok(()),
@@ -65,7 +67,7 @@ impl State {
         requires order { IsInOrder (state_of self.now) }
         requires amount { opened.now.amount < 2 ^ 62 }
         requires stamp { IsTrue (is_stamp at) }
-        ensures { OnOk result (out.new.items ≡ out.old.items ++ outcome_entries outcome (core_facts (state_of self.now)) opened.now txn.now at) }
+        ensures { OnOk result (out.new.items ≡ out.old.items ++ entries_of_acts (outcome_acts outcome (core_facts (state_of self.now)) opened.now txn.now at)) }
     {
         match outcome {
             Outcome::Funded => {
@@ -93,7 +95,7 @@ impl State {
         requires order { IsInOrder (state_of self.now) }
         requires amount { opened.now.amount < 2 ^ 62 }
         requires stamp { IsTrue (is_stamp at) }
-        ensures { OnOk result (out.new.items ≡ out.old.items ++ failed_call_entries (core_facts (state_of self.now)) opened.now txn.now failure at) }
+        ensures { OnOk result (out.new.items ≡ out.old.items ++ entries_of_acts (failed_acts (core_facts (state_of self.now)) opened.now txn.now failure at)) }
     {
         let number = self.next_notice();
         out.push(Entry::Closed(opened.call, How::Failed(failure)))?;
@@ -110,7 +112,7 @@ impl State {
     ) -> Result<(), AllocError>
         requires order { IsInOrder (state_of self.now) }
         requires held { IsHeld (state_of self.now) hold.now }
-        ensures { OnOk result (out.new.items ≡ out.old.items ++ expiry_entries (core_facts (state_of self.now)) hold.now.txn) }
+        ensures { OnOk result (out.new.items ≡ out.old.items ++ entries_of_acts (expiry_acts (core_facts (state_of self.now)) hold.now.txn)) }
     {
         let txn = &hold.txn;
         let number = self.put_abandonment(alloc, out, self.next_notice(), txn, &Reason::Expired)?;
@@ -129,7 +131,7 @@ impl State {
     ) -> Result<u32, AllocError>
         requires order { IsInOrder (state_of self.now) }
         requires next { number ≡ next_notice (core_facts (state_of self.now)) }
-        ensures entries { OnOk result (out.new.items ≡ out.old.items ++ abandonment_entries number (core_facts (state_of self.now)) txn.now why.now) }
+        ensures entries { OnOk result (out.new.items ≡ out.old.items ++ abandoned_calls_entries number txn.now why.now (asked_calls_of (core_facts (state_of self.now)) txn.now.token)) }
         ensures next { IfOk result (λ n. n ≡ notice_after_abandonment number (core_facts (state_of self.now)) txn.now) }
     {
         let asked = self.calls.asked_of(alloc, &txn.token)?;

@@ -4,7 +4,9 @@ ghost use Rattle.iss_model.specs.declared.entry.Entry.TheVariants as entry;
 ghost use Rattle.iss_model.specs.Forms.{is_amount, is_stamp, is_timeout};
 ghost use Rattle.iss_model.specs.rules.Asks.{ask_usage, ask_given_back, call_ask, usage_of, breach};
 ghost use Rattle.iss_model.specs.rules.CardReasons.{lacks_funds};
-ghost use Rattle.iss_acts.specs.Rows.{stand_in_entries, gateway_ask_entries, funding_entries};
+ghost use Rattle.iss_model.specs.rules.Acts.{entries_of_acts};
+ghost use Rattle.iss_model.specs.rules.CardActs.{funding_acts, gateway_acts, stand_acts};
+ghost use Rattle.iss_model.specs.rules.StandIns.{stand};
 ghost use Rattle.iss_model.specs.rules.Facts.{next_notice};
 ghost use Rattle.iss_model.specs.rules.Pieces.{ask_method, call_for};
 ghost use Rattle.iss_model.specs.rules.Settings.{product_named};
@@ -152,7 +154,7 @@ impl State {
         requires order { IsInOrder (state_of self.now) }
         requires amount { IsTrue (is_amount ask.now.amount) }
         requires stamp { IsTrue (is_stamp ask.now.at) }
-        ensures { OnOk result (out.new.items ≡ out.old.items ++ funding_entries (core_facts (state_of self.now)) (ask_of ask.now)) }
+        ensures { OnOk result (out.new.items ≡ out.old.items ++ entries_of_acts (funding_acts (core_facts (state_of self.now)) (ask_of ask.now))) }
     {
         match ask.txn.funding {
             Funding::Account => {
@@ -169,7 +171,8 @@ impl State {
         requires amount { IsTrue (is_amount ask.now.amount) }
         requires stamp { IsTrue (is_stamp ask.now.at) }
         ensures { OnOk result (out.new.items ≡ out.old.items
-            ++ gateway_ask_entries (product_named ask.now.txn.product (core_facts (state_of self.now)).products) (core_facts (state_of self.now)) (ask_of ask.now)) }
+            ++ entries_of_acts
+            (gateway_acts (product_named ask.now.txn.product (core_facts (state_of self.now)).products) (core_facts (state_of self.now)) (ask_of ask.now))) }
     {
         match self.product(&ask.txn.product) {
             None => Ok(()),
@@ -219,7 +222,8 @@ impl State {
         requires amount { ask.now.amount < 2 ^ 62 }
         requires stamp { IsTrue (is_stamp at) }
         ensures { OnOk result (out.new.items ≡ out.old.items
-            ++ stand_in_entries number (core_facts (state_of self.now)) (ask_of ask.now) failure at) }
+            ++ entries_of_acts
+            (stand_acts (stand (core_facts (state_of self.now)) (ask_of ask.now) failure at) number (ask_of ask.now) failure at)) }
     {
         let txn = &ask.txn;
         match self

@@ -14,7 +14,7 @@ use std::alloc::{AllocError, Global};
 use std::marker::Model;
 
 /// The decision engine of one instance. Contracts see its instance and the state that the model keeps in place of the
-/// book; a core *stands for* records where its state is the one that they make, and each call then also answers as the
+/// book; a core *stands for* records if its state is like the one that they make, and each call then also answers as the
 /// book of these records does.
 #[derive(Drop)]
 pub struct Core {

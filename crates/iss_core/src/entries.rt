@@ -1,8 +1,8 @@
 //! The entries of each kind of input.
 ghost use Rattle.std.specs.Prelude.{◌≡◌, ℕ, ◌++◌, true, OnOk, IsTrue};
 ghost use Rattle.iss_model.specs.Forms.{is_in_form, is_stamp};
-ghost use Rattle.iss_model.specs.rules.Stepping.{entries_of};
-ghost use Rattle.iss_acts.specs.Rows.{acknowledgement_entries};
+ghost use Rattle.iss_model.specs.rules.Acts.{entries_of_acts};
+ghost use Rattle.iss_model.specs.rules.Stepping.{acknowledgement_acts, entries_of};
 ghost use Rattle.iss_model.specs.state.Cores.{core_facts};
 ghost use Rattle.iss_core.specs.States.{state_of};
 ghost use Rattle.iss_core.specs.Order.{IsInOrder};
@@ -205,7 +205,7 @@ impl State {
 
     /// A notice is acknowledged; one that was never made isn't.
     fn put_acknowledgement(&self, out: &mut Vec<Entry>, notice: u32) -> Result<(), AllocError>
-        ensures { OnOk result (out.new.items ≡ out.old.items ++ acknowledgement_entries (core_facts (state_of self.now)) notice) }
+        ensures { OnOk result (out.new.items ≡ out.old.items ++ entries_of_acts (acknowledgement_acts (core_facts (state_of self.now)) notice)) }
     {
         if notice == 0 || notice > self.notices.made() {
             return Ok(());

@@ -7,12 +7,13 @@ ghost use Rattle.iss_model.specs.rules.Settings.{card_named, is_active_card};
 ghost use Rattle.iss_model.specs.rules.Asks.{is_authorization};
 ghost use Rattle.iss_model.specs.rules.Reasons.{is_some_with};
 ghost use Rattle.iss_model.specs.rules.CardReasons.{further_ask, increment_reason, is_pending, reversal_reason, clearing_reason};
-ghost use Rattle.iss_acts.specs.Rows.{refund_entries};
+ghost use Rattle.iss_model.specs.rules.Acts.{entries_of_acts};
+ghost use Rattle.iss_model.specs.rules.CardActs.{refund_acts, reversed_acts};
 ghost use Rattle.iss_model.specs.state.Cores.{core_facts};
 ghost use Rattle.iss_hold.specs.Holdings.{now_of, parts_of, whole_of};
 ghost use Rattle.iss_core.specs.States.{state_of};
 ghost use Rattle.iss_core.specs.Asks.{ask_of};
-ghost use Rattle.iss_core.specs.Cards.{increment_on, reversal_on, clearing_on, refund_on, reversed_entries, capture_entries, cleared_entries};
+ghost use Rattle.iss_core.specs.Cards.{increment_on, reversal_on, clearing_on, cleared_on, captured_on, refund_on};
 ghost use Rattle.iss_core.specs.Order.{IsInOrder};
 
 use crate::asks::Ask;
@@ -65,7 +66,7 @@ impl State {
         requires amount { IsTrue (is_amount operation.now.amount) }
         requires stamp { IsTrue (is_stamp operation.now.at) }
         ensures { OnOk result (out.new.items ≡ out.old.items
-            ++ increment_on (core_facts (state_of self.now)) operation.now (txn_in (core_facts (state_of self.now)) operation.now.txn)) }
+            ++ entries_of_acts (increment_on (core_facts (state_of self.now)) operation.now (txn_in (core_facts (state_of self.now)) operation.now.txn))) }
     {
         match self.hold(&operation.txn) {
             None => put_declined(out, &operation.token, Reason::TxnUnknown),
@@ -85,7 +86,7 @@ impl State {
         requires amount { IsTrue (is_amount operation.now.amount) }
         requires stamp { IsTrue (is_stamp operation.now.at) }
         ensures { OnOk result (out.new.items ≡ out.old.items
-            ++ increment_on (core_facts (state_of self.now)) operation.now (Some (now_of hold.now))) }
+            ++ entries_of_acts (increment_on (core_facts (state_of self.now)) operation.now (Some (now_of hold.now)))) }
     {
         let ask = operation.ask(&hold.txn);
         if let Some(why) = self.increment_reason(alloc, operation, hold, &ask)? {
@@ -152,7 +153,7 @@ impl State {
     ) -> Result<(), AllocError>
         requires order { IsInOrder (state_of self.now) }
         ensures { OnOk result (out.new.items ≡ out.old.items
-            ++ reversal_on (core_facts (state_of self.now)) operation.now (txn_in (core_facts (state_of self.now)) operation.now.txn)) }
+            ++ entries_of_acts (reversal_on (core_facts (state_of self.now)) operation.now (txn_in (core_facts (state_of self.now)) operation.now.txn))) }
     {
         let Some(hold) = self.hold(&operation.txn) else {
             return put_declined(out, &operation.token, Reason::TxnUnknown);
@@ -173,7 +174,7 @@ impl State {
         requires order { IsInOrder (state_of self.now) }
         requires small { whole_of hold.now < 2 ^ 62 }
         ensures { OnOk result (out.new.items ≡ out.old.items
-            ++ reversed_entries (core_facts (state_of self.now)) operation.now.token operation.now.amount hold.now.txn (parts_of hold.now)) }
+            ++ entries_of_acts (reversed_acts (core_facts (state_of self.now)) operation.now.token operation.now.amount hold.now.txn (parts_of hold.now))) }
     {
         let txn = &hold.txn;
         let number = self.put_abandonment(alloc, out, self.next_notice(), txn, &Reason::Reversed)?;
@@ -195,7 +196,7 @@ impl State {
         requires order { IsInOrder (state_of self.now) }
         requires amount { IsTrue (is_amount operation.now.amount) }
         ensures { OnOk result (out.new.items ≡ out.old.items
-            ++ clearing_on (core_facts (state_of self.now)) operation.now (txn_in (core_facts (state_of self.now)) operation.now.txn)) }
+            ++ entries_of_acts (clearing_on (core_facts (state_of self.now)) operation.now (txn_in (core_facts (state_of self.now)) operation.now.txn))) }
     {
         let Some(hold) = self.hold(&operation.txn) else {
             return put_declined(out, &operation.token, Reason::TxnUnknown);
@@ -217,7 +218,7 @@ impl State {
         requires small { whole_of hold.now < 2 ^ 62 }
         requires amount { IsTrue (is_amount operation.now.amount) }
         ensures { OnOk result (out.new.items ≡ out.old.items
-            ++ cleared_entries (core_facts (state_of self.now)) operation.now (now_of hold.now) (parts_of hold.now)) }
+            ++ entries_of_acts (cleared_on (core_facts (state_of self.now)) operation.now hold.now)) }
     {
         let amount = operation.amount;
         pieces::clear(out, hold, amount, operation.at)?;
@@ -238,7 +239,7 @@ impl State {
         requires order { IsInOrder (state_of self.now) }
         requires small { whole_of rest.now < 2 ^ 62 }
         ensures { OnOk result (out.new.items ≡ out.old.items
-            ++ capture_entries (core_facts (state_of self.now)) (now_of rest.now) (parts_of rest.now) amount last) }
+            ++ entries_of_acts (captured_on (core_facts (state_of self.now)) rest.now amount last)) }
     {
         let txn = &rest.txn;
         let number = self.next_notice();
@@ -258,7 +259,7 @@ impl State {
     ) -> Result<(), AllocError>
         requires order { IsInOrder (state_of self.now) }
         ensures { OnOk result (out.new.items ≡ out.old.items
-            ++ refund_on (core_facts (state_of self.now)) operation.now (txn_in (core_facts (state_of self.now)) operation.now.txn)) }
+            ++ entries_of_acts (refund_on (core_facts (state_of self.now)) operation.now (txn_in (core_facts (state_of self.now)) operation.now.txn))) }
     {
         let Some(hold) = self.hold(&operation.txn) else {
             return put_declined(out, &operation.token, Reason::TxnUnknown);
@@ -281,7 +282,7 @@ impl State {
         requires order { IsInOrder (state_of self.now) }
         requires known { txn_in (core_facts (state_of self.now)) operation.now.txn ≡ Some (now_of hold.now) }
         ensures { OnOk result (out.new.items ≡ out.old.items
-            ++ refund_entries (core_facts (state_of self.now)) operation.now.token operation.now.amount (Some (now_of hold.now))) }
+            ++ entries_of_acts (refund_acts (core_facts (state_of self.now)) operation.now.token operation.now.amount (Some (now_of hold.now)))) }
     {
         let txn = &hold.txn;
         let amount = operation.amount;

@@ -4,7 +4,7 @@ ghost use Rattle.iss_model.specs.declared.account.Account.TheVariants as account
 ghost use Rattle.iss_model.specs.declared.account.Part.TheVariants as part;
 ghost use Rattle.iss_model.specs.declared.entry.Entry.TheVariants as entry;
 ghost use Rattle.iss_model.specs.rules.Pieces.{only_gateway, only_where, notice_entry, void_entry, abandoned_call_entries, declined_ask_entries, funded_ask_entries, failure_reason};
-ghost use Rattle.iss_acts.specs.Rows.{unless_declined};
+ghost use Rattle.iss_model.specs.rules.Acts.{Declines, act_entries};
 ghost use Rattle.iss_core.specs.Asks.{ask_of};
 ghost use Rattle.iss_core.specs.Standing.{stood_entries};
 
@@ -31,7 +31,7 @@ pub(crate) fn put_declined(
     event: &Token,
     why: Reason,
 ) -> Result<(), AllocError>
-    ensures { OnOk result (out.new.items ≡ out.old.items ++ unless_declined (Some why) event.now []) }
+    ensures { OnOk result (out.new.items ≡ out.old.items ++ act_entries (Declines event.now why)) }
 {
     put_decided(out, event, Verdict::Declined(why))
 }

@@ -2,11 +2,13 @@
 ghost use Rattle.std.specs.Prelude.{◌≡◌, ◌<◌, ◌^◌, ◌++◌, Some, OnOk, IsTrue};
 ghost use Rattle.iss_model.specs.Forms.{is_amount, is_stamp, is_hold_time};
 ghost use Rattle.iss_model.specs.rules.Settings.{card_named};
-ghost use Rattle.iss_acts.specs.Rows.{authorization_entries, unless_declined};
+ghost use Rattle.iss_model.specs.rules.Acts.{entries_of_acts};
+ghost use Rattle.iss_model.specs.rules.CardActs.{authorization_acts};
+ghost use Rattle.iss_model.specs.rules.Stepping.{acts_unless};
 ghost use Rattle.iss_model.specs.state.Cores.{core_facts};
 ghost use Rattle.iss_core.specs.States.{state_of};
 ghost use Rattle.iss_core.specs.Asks.{ask_of, ask_reason};
-ghost use Rattle.iss_core.specs.Cards.{purchase_ask, purchase_entries};
+ghost use Rattle.iss_core.specs.Cards.{purchase_acts, purchase_ask};
 ghost use Rattle.iss_core.specs.Order.{IsInOrder};
 
 use crate::asks::Ask;
@@ -42,7 +44,7 @@ impl State {
         requires amount { IsTrue (is_amount purchase.now.amount) }
         requires stamp { IsTrue (is_stamp purchase.now.at) }
         ensures { OnOk result (out.new.items ≡ out.old.items
-            ++ purchase_entries (core_facts (state_of self.now)) purchase.now (card_named purchase.now.card (core_facts (state_of self.now)).cards)) }
+            ++ entries_of_acts (purchase_acts (core_facts (state_of self.now)) purchase.now (card_named purchase.now.card (core_facts (state_of self.now)).cards))) }
     {
         match self.cards.card(&purchase.card) {
             None => put_declined(out, &purchase.token, Reason::CardUnknown),
@@ -61,7 +63,7 @@ impl State {
         requires amount { IsTrue (is_amount purchase.now.amount) }
         requires stamp { IsTrue (is_stamp purchase.now.at) }
         ensures { OnOk result (out.new.items ≡ out.old.items
-            ++ purchase_entries (core_facts (state_of self.now)) purchase.now (Some card.now)) }
+            ++ entries_of_acts (purchase_acts (core_facts (state_of self.now)) purchase.now (Some card.now))) }
     {
         if !is_active_card(card.state) {
             return put_declined(out, &purchase.token, Reason::CardState);
@@ -111,8 +113,8 @@ impl State {
         requires order { IsInOrder (state_of self.now) }
         requires amount { IsTrue (is_amount ask.now.amount) }
         requires stamp { IsTrue (is_stamp ask.now.at) }
-        ensures { OnOk result (out.new.items ≡ out.old.items ++ unless_declined (ask_reason (core_facts (state_of self.now)) (ask_of ask.now)) ask.now.event
-            (authorization_entries (core_facts (state_of self.now)) (Some (ask_of ask.now)))) }
+        ensures { OnOk result (out.new.items ≡ out.old.items ++ entries_of_acts (acts_unless (ask_reason (core_facts (state_of self.now)) (ask_of ask.now)) ask.now.event
+            (authorization_acts (core_facts (state_of self.now)) (Some (ask_of ask.now))))) }
     {
         if let Some(why) = self.ask_reason(ask) {
             return put_declined(out, &ask.event, why);

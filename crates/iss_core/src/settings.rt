@@ -1,8 +1,8 @@
 //! The entries of settings and loads.
-ghost use Rattle.std.specs.Prelude.{◌≡◌, ◌++◌, OnOk, IsTrue};
+ghost use Rattle.std.specs.Prelude.{◌≡◌, [], ◌∷◌, ◌++◌, OnOk, IsTrue};
 ghost use Rattle.iss_model.specs.Forms.{is_amount};
-ghost use Rattle.iss_acts.specs.Rows.{unless_declined};
-ghost use Rattle.iss_model.specs.rules.Pieces.{setting_entries, load_entries};
+ghost use Rattle.iss_model.specs.rules.Acts.{Loads, Sets, entries_of_acts};
+ghost use Rattle.iss_model.specs.rules.Stepping.{acts_unless};
 ghost use Rattle.iss_model.specs.rules.Reasons.{load_reason};
 ghost use Rattle.iss_model.specs.state.Cores.{core_facts};
 ghost use Rattle.iss_core.specs.States.{state_of};
@@ -19,7 +19,7 @@ pub(crate) fn put_setting(
     token: &Token,
     input: &Input,
 ) -> Result<(), AllocError>
-    ensures { OnOk result (out.new.items ≡ out.old.items ++ unless_declined why token.now (setting_entries input.now token.now)) }
+    ensures { OnOk result (out.new.items ≡ out.old.items ++ entries_of_acts (acts_unless why token.now (Sets input.now token.now ∷ []))) }
 {
     match why {
         Some(why) => put_declined(out, token, why),
@@ -41,7 +41,7 @@ impl State {
         amount: u64,
     ) -> Result<(), AllocError>
         ensures { OnOk result (out.new.items ≡ out.old.items
-            ++ unless_declined (load_reason (core_facts (state_of self.now)) user.now) token.now (load_entries token.now user.now currency amount)) }
+            ++ entries_of_acts (acts_unless (load_reason (core_facts (state_of self.now)) user.now) token.now (Loads token.now user.now currency amount ∷ []))) }
     {
         if let Some(why) = self.load_reason(user) {
             return put_declined(out, token, why);

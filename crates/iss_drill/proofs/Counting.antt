@@ -1,58 +1,19 @@
 -- What is counted of a record's entries is what it adds to the rows of the book.
-use Rattle.std.proofs.Common.{◌≡◌, ℕ, suc, ◌+◌, ◌<◌, ◌≤◌, Bool, true, false, cond, List, [], ◌∷◌, ◌++◌, length, take, filter, fold, get_or, refl, sym, ap, subst, ◌∙◌, append_assoc, append-nil, arith, length-append}
+use Rattle.std.proofs.Common.{◌≡◌, ℕ, suc, ◌+◌, ◌<◌, ◌≤◌, Bool, true, false, cond, List, [], ◌∷◌, ◌++◌, length, take, filter, get_or, refl, sym, ap, subst, ◌∙◌, arith, length-append}
 use Rattle.std.specs.Prelude.{◌^◌}
-use Rattle.std.proofs.lemmas.List.{map-append, take_more, length-take}
+use Rattle.std.proofs.lemmas.List.{take_more, length-take}
 use Rattle.std.proofs.lemmas.List.Elements.{filter-append}
 use Rattle.std.proofs.lemmas.List.Sums.{length-filter, count_by-le-length}
 use Rattle.iss_model.specs.declared.entry.Entry.{Entry}
 use Rattle.iss_model.specs.declared.entry.Row.{Row}
 use Rattle.iss_model.specs.declared.input.Record.{Record}
-use Rattle.iss_model.specs.rules.Due.{DueItem, due_items, thing_entries}
-use Rattle.iss_model.specs.rules.Facts.{Facts}
-use Rattle.iss_model.specs.rules.Histories.{History, history_facts, history_keeper, numbered_rows}
-use Rattle.iss_model.specs.rules.Keeper.{Growth, grow}
-use Rattle.iss_model.specs.rules.Stepping.{own_entries, settle, step}
+use Rattle.iss_model.specs.rules.Histories.{History, history_keeper, numbered_rows}
+use Rattle.iss_model.specs.rules.Stepping.{step}
+use Rattle.iss_agreement.proofs.Records.{step_rows}
 use Rattle.iss_drill.specs.declared.tally.Tally.{Tally}
 use Rattle.iss_drill.specs.Drills.{rows_with, is_approval, is_decline, is_notice_made}
 use Rattle.iss_drill.specs.Tallies.{among, Counts, Room}
 use Rattle.iss_drill.specs.Giving.{TellsAnswer}
-
--- ---- rows
-
--- the rows of a growth are those that stood, and its entries with their record's number
-record HasGrown (rows : List Row) (n : ℕ) (g : Growth History) : Type 0 where
-  all : g.world.rows ≡ rows ++ numbered_rows n g.entries
-  number : length g.world.records ≡ n
-
-numbered-append : (n : ℕ) (xs ys : List Entry) → numbered_rows n (xs ++ ys) ≡ numbered_rows n xs ++ numbered_rows n ys
-numbered-append n xs ys = map-append {A = Entry} {B = Row} (λ (e : Entry). record { number = n; entry = e }) xs ys
-
-grown_more : (rows : List Row) (n : ℕ) (g : Growth History) (make : Facts → List Entry) → HasGrown rows n g → HasGrown rows n (grow history_keeper g make)
-grown_more rows n g make grown =
-    let es : List Entry = make (history_facts g.world) in
-    record {
-      all =
-          ap (λ (all : List Row). all ++ numbered_rows (length g.world.records) es) grown.all
-          ∙ ap (λ (k : ℕ). (rows ++ numbered_rows n g.entries) ++ numbered_rows k es) grown.number
-          ∙ append_assoc rows (numbered_rows n g.entries) (numbered_rows n es)
-          ∙ ap (λ (more : List Row). rows ++ more) (sym (numbered-append n g.entries es));
-      number = grown.number;
-    }
-
-settled_more : (rows : List Row) (n at : ℕ) (g : Growth History) (items : List DueItem) → HasGrown rows n g → HasGrown rows n (fold (settle history_keeper at) g items)
-settled_more rows n at g [] grown = grown
-settled_more rows n at g (item ∷ items) grown =
-    settled_more rows n at (settle history_keeper at g item) items (grown_more rows n g (thing_entries item.thing at) grown)
-
--- a step puts its entries behind the rows, with the number of its record
-pub step_rows : (h : History) (r : Record) → (step history_keeper h r).world.rows ≡ h.rows ++ numbered_rows (length (h.records ++ r ∷ [])) (step history_keeper h r).entries
-unfolding step
-step_rows h r =
-    let taken : History = record h { records = h.records ++ r ∷ [] } in
-    let n : ℕ = length taken.records in
-    let begun : HasGrown h.rows n (record { world = taken; entries = [] }) = record { all = sym (append-nil h.rows); number = refl } in
-    let due : Growth History = fold (settle history_keeper r.at) (record { world = taken; entries = [] }) (due_items (history_facts taken) r.at) in
-    (grown_more h.rows n due (own_entries r) (settled_more h.rows n r.at (record { world = taken; entries = [] }) (due_items (history_facts taken) r.at) begun)).all
 
 -- ---- counted
 

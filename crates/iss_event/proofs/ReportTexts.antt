@@ -8,7 +8,8 @@ use Rattle.iss_model.specs.Amounts.{amount_text}
 use Rattle.iss_model.specs.rules.Facts.{Facts}
 use Rattle.iss_model.specs.texts.Wordings.{line_of}
 use Rattle.iss_model.specs.texts.BalanceLines.{sheet_members, account_line, count_line}
-use Rattle.iss_event.specs.ReportLines.{balance_members, balance_text, counts_text, IsShown, AreCounts, account_piece, account_currency, counts_piece}
+use Rattle.iss_model.specs.Sums.{account_currency}
+use Rattle.iss_event.specs.ReportLines.{balance_members, balance_text, counts_text, IsShown, AreCounts, account_piece, counts_piece}
 use Rattle.iss_event.proofs.Lines.{four, quoted}
 
 -- pieces in a row

@@ -1,6 +1,5 @@
 -- The lines of a report, from their numbers.
 use Rattle.std.specs.Prelude.{◌≡◌, ℕ, ℤ, List, [], ◌∷◌, ◌++◌, length, filter, codes, decimal}
-use Rattle.iss_model.specs.declared.currency.Currency.{Currency}
 use Rattle.iss_model.specs.declared.account.Account.{Account}
 use Rattle.iss_model.specs.declared.account.Account.TheVariants as account
 use Rattle.iss_model.specs.Currencies.{currency_code}
@@ -59,13 +58,6 @@ account_piece (account.Gateway currency) balance held = start_piece (codes "gate
 account_piece (account.Network currency) balance held = start_piece (codes "network") balance (currency_code currency) ++ codes "\"}\n"
 account_piece (account.Programme currency) balance held = start_piece (codes "programme") balance (currency_code currency) ++ codes "\"}\n"
 account_piece (account.User user currency) balance held = start_piece (codes "user") balance (currency_code currency) ++ holder_piece held user
-
--- the currency of an account
-abbrev pub account_currency : Account → Currency
-account_currency (account.Gateway currency) = currency
-account_currency (account.Network currency) = currency
-account_currency (account.Programme currency) = currency
-account_currency (account.User user currency) = currency
 
 -- the pieces of the line of counts
 abbrev pub counts_piece : ℕ → ℕ → ℕ → List ℕ

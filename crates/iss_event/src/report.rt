@@ -2,11 +2,11 @@
 ghost use Rattle.std.specs.Prelude.{◌≡◌, ◌++◌, IfOk, OnOk, codes, decimal};
 ghost use Rattle.iss_model.specs.rules.Facts.{Facts};
 ghost use Rattle.iss_model.specs.texts.BalanceLines.{account_line, count_line};
-ghost use Rattle.iss_event.specs.ReportLines.{balance_text, counts_text, IsShown, AreCounts, start_piece, holder_piece, account_piece, account_currency, counts_piece};
+ghost use Rattle.iss_event.specs.ReportLines.{balance_text, counts_text, IsShown, AreCounts, start_piece, holder_piece, account_piece, counts_piece};
 
 use crate::writing::{put_between, put_number};
 use iss_amount::{code, write};
-use iss_model::{Account, Currency};
+use iss_model::Account;
 use itoa::Buffer;
 use std::alloc::{AllocError, Global};
 
@@ -22,7 +22,7 @@ pub fn balance_line(
     ensures of_facts { (f : Facts) → IsShown f account.now balance held
         → IfOk result (λ line. line.items ≡ account_line f account.now) }
 {
-    let currency = account_currency(account);
+    let currency = account.currency();
     let balance = write(alloc, balance, currency)?;
     let held = write(alloc, held, currency)?;
     let mut line = Vec::new(alloc);
@@ -45,17 +45,6 @@ pub fn count_line(
     let mut line = Vec::new(alloc);
     put_counts(&mut line, calls, notices, records)?;
     Ok(line)
-}
-
-fn account_currency(account: &Account) -> Currency
-    ensures { result ≡ account_currency account.now }
-{
-    match account {
-        Account::Gateway(currency)
-        | Account::Network(currency)
-        | Account::Programme(currency)
-        | Account::User(_, currency) => *currency,
-    }
 }
 
 /// Adds the line of an account, with its amounts as texts.

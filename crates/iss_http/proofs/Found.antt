@@ -8,7 +8,7 @@ use Rattle.httparse.specs.Spans.{header_bytes, name_and_value, AreFieldsAt, IsRe
 use Rattle.iss_http.specs.Heads as own
 use Rattle.iss_http.specs.Heads.{Header, request_head}
 use Rattle.iss_http.specs.Requests.{IsHopelessRequest}
-use Rattle.iss_http.specs.Spans.{part_of, header_at, headers_at, request_at}
+use Rattle.iss_http.specs.Spans.{part_of, header_at, headers_at, request_head_at}
 use Rattle.iss_http.proofs.Sections.{is_there}
 use Rattle.iss_http.proofs.Headers.{header_in}
 use Rattle.iss_http.proofs.RequestHeads.{head_read}
@@ -41,7 +41,7 @@ abbrev head_with : List ℕ → List ℕ → List Header → ℕ → own.Request
 head_with method target headers size = record { method = method; target = target; headers = headers; size = size }
 
 pub request_whole : (buf : List ℕ) (headers : List HeaderSpan) (r : RequestSpans) → length headers ≡ 64 → IsRequestWithin buf headers r → IsRequestOf buf headers r
-    → (r.headers ≤ length headers) × (request_head buf ≡ Some (request_at buf headers r))
+    → (r.headers ≤ length headers) × (request_head buf ≡ Some (request_head_at buf headers r))
 request_whole buf headers r room within of =
     let h = of.0 in
     let at = of.1 in

@@ -6,7 +6,7 @@ use Rattle.httparse.specs.Grammar.{print_response, HasNoResponse, status_code}
 use Rattle.httparse.specs.Spans.{IsResponseWithin, IsResponseOf, ResponseOverflows}
 use Rattle.iss_http.specs.Heads.{Header, ResponseHead, response_head}
 use Rattle.iss_http.specs.Answers.{IsHopelessAnswer}
-use Rattle.iss_http.specs.Spans.{headers_at, response_at}
+use Rattle.iss_http.specs.Spans.{headers_at, response_head_at}
 use Rattle.iss_http.proofs.Headers.{header_in}
 use Rattle.iss_http.proofs.Found.{headers_shown, few_shown, none_there}
 use Rattle.iss_http.proofs.ResponseHeads.{response_read}
@@ -16,7 +16,7 @@ abbrev head_with : ℕ → List Header → ℕ → ResponseHead
 head_with status headers size = record { status = status; headers = headers; size = size }
 
 pub response_whole : (buf : List ℕ) (headers : List HeaderSpan) (r : ResponseSpans) → length headers ≡ 64 → IsResponseWithin buf headers r → IsResponseOf buf headers r
-    → (r.headers ≤ length headers) × (response_head buf ≡ Some (response_at buf headers r))
+    → (r.headers ≤ length headers) × (response_head buf ≡ Some (response_head_at buf headers r))
 response_whole buf headers r room within of =
     let h = of.0 in
     let at = of.1 in

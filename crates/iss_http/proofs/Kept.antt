@@ -13,7 +13,7 @@ use Rattle.iss_http.specs.declared.faults.FeedFault.TheVariants.{Http, OutOfMemo
 use Rattle.iss_http.specs.Heads.{RequestHead, request_head}
 use Rattle.iss_http.specs.Lengths.{has, content_length}
 use Rattle.iss_http.specs.Requests as asks
-use Rattle.iss_http.specs.Requests.{Request, more, body, faulty, request, answered, told, IsHopelessRequest, HasFault, IsCause}
+use Rattle.iss_http.specs.Requests.{Request, more, body, faulty, request_at, answered, told, IsHopelessRequest, HasFaultAs, IsCauseAs}
 use Rattle.iss_http.proofs.Sections.{is_there}
 use Rattle.iss_http.proofs.RequestHeads.{head_read}
 use Rattle.iss_http.proofs.RequestsBack.{head_back}
@@ -43,14 +43,14 @@ sized_cut Absent k rest room = refl
 sized_cut Bad k rest room = refl
 sized_cut (Good n) k rest room = body_cut n k rest room
 
-headed_cut : (bytes : List ℕ) (h : RequestHead) → h.size ≤ 8192 → asks.headed (take 24576 bytes) h ≡ asks.headed bytes h
+headed_cut : (path bytes : List ℕ) (h : RequestHead) → h.size ≤ 8192 → asks.headed path (take 24576 bytes) h ≡ asks.headed path bytes h
 unfolding asks.headed
-headed_cut bytes h small =
+headed_cut path bytes h small =
     let k = 24576 - h.size in
     let total : 24576 ≡ h.size + k = omega (arith, small) in
     let rest : drop h.size (take 24576 bytes) ≡ take k (drop h.size bytes) = ap (λ (n : ℕ). drop h.size (take n bytes)) total ∙ drop-take h.size k bytes in
     let same = ap (λ (xs : List ℕ). asks.sized_body xs (content_length h.headers)) rest ∙ sized_cut (content_length h.headers) k (drop h.size bytes) (omega (arith, small)) in
-    ap (asks.headed_with h) same
+    ap (asks.headed_with path h) same
 
 -- a head is no longer than the bytes that it is read from
 pub small_head : (buf : List ℕ) (h : RequestHead) → request_head buf ≡ Some h → h.size ≤ length buf
@@ -65,15 +65,14 @@ small_head buf h is =
     size_of None = 0
     size_of (Some h) = h.size
 
-pub request_cut : (bytes : List ℕ) → request (take 24576 bytes) ≡ request bytes
-unfolding request
-request_cut bytes =
-    ap (λ (front : List ℕ). asks.read_by (take 24576 bytes) (request_head front)) (take-take 8192 24576 bytes (omega arith))
+pub request_cut : (path bytes : List ℕ) → request_at path (take 24576 bytes) ≡ request_at path bytes
+request_cut path bytes =
+    ap (λ (front : List ℕ). asks.read_by path (take 24576 bytes) (request_head front)) (take-take 8192 24576 bytes (omega arith))
     ∙ by bytes (request_head (take 8192 bytes)) refl
   where
-    by : (bytes : List ℕ) (o : Option RequestHead) → request_head (take 8192 bytes) ≡ o → asks.read_by (take 24576 bytes) o ≡ asks.read_by bytes o
+    by : (bytes : List ℕ) (o : Option RequestHead) → request_head (take 8192 bytes) ≡ o → asks.read_by path (take 24576 bytes) o ≡ asks.read_by path bytes o
     by bytes None is = ap (λ (t : Bool). if t then faulty HeadLong else more) (within_cut 8192 24576 bytes (omega arith))
-    by bytes (Some h) is = headed_cut bytes h (omega (arith, small_head (take 8192 bytes) h is, length-take 8192 bytes))
+    by bytes (Some h) is = headed_cut path bytes h (omega (arith, small_head (take 8192 bytes) h is, length-take 8192 bytes))
 
 pub hopeless_cut : (n : ℕ) (bytes : List ℕ) → IsHopelessRequest (take n bytes) → IsHopelessRequest bytes
 unfolding IsHopelessRequest
@@ -102,9 +101,9 @@ sized_short Absent rest e = absurd (false≢true e)
 sized_short Bad rest e = absurd (false≢true e)
 sized_short (Good n) rest e = body_short n rest e
 
-with_more : (h : RequestHead) (sized : Request) → is_more (asks.headed_with h sized) ≡ true → is_more sized ≡ true
-with_more h sized e =
-    by (not (bytes_eq h.method (codes "POST"))) (not (bytes_eq h.target (codes "/events")))
+with_more : (path : List ℕ) (h : RequestHead) (sized : Request) → is_more (asks.headed_with path h sized) ≡ true → is_more sized ≡ true
+with_more path h sized e =
+    by (not (bytes_eq h.method (codes "POST"))) (not (bytes_eq h.target path))
     (has (codes "transfer-encoding") h.headers || has (codes "content-encoding") h.headers) sized e
   where
     by : (a b c : Bool) (sized : Request) → is_more (if a then faulty Method else if b then faulty Path else if c then faulty Coding else sized) ≡ true → is_more sized ≡ true
@@ -113,27 +112,26 @@ with_more h sized e =
     by false false true sized e = absurd (false≢true e)
     by false false false sized e = e
 
-head_short : (bytes : List ℕ) (h : RequestHead) → is_more (asks.headed bytes h) ≡ true → length (drop h.size bytes) < 16384
+head_short : (path bytes : List ℕ) (h : RequestHead) → is_more (asks.headed path bytes h) ≡ true → length (drop h.size bytes) < 16384
 unfolding asks.headed
-head_short bytes h e =
-    sized_short (content_length h.headers) (drop h.size bytes) (with_more h (asks.sized_body (drop h.size bytes) (content_length h.headers)) e)
+head_short path bytes h e =
+    sized_short (content_length h.headers) (drop h.size bytes) (with_more path h (asks.sized_body (drop h.size bytes) (content_length h.headers)) e)
 
-pub more_short : (bytes : List ℕ) → request bytes ≡ more → take 24576 bytes ≡ bytes
-unfolding request
-more_short bytes e = take_all 24576 bytes (by (request_head (take 8192 bytes)) refl (ap is_more e))
+pub more_short : (path bytes : List ℕ) → request_at path bytes ≡ more → take 24576 bytes ≡ bytes
+more_short path bytes e = take_all 24576 bytes (by (request_head (take 8192 bytes)) refl (ap is_more e))
   where
     early : (t : Bool) → nat_le 8192 (length bytes) ≡ t → is_more (if t then faulty HeadLong else more) ≡ true → length bytes ≤ 24576
     early true et e = absurd (false≢true e)
     early false et e = omega (arith, leb-false 8192 (length bytes) et)
 
-    by : (o : Option RequestHead) → request_head (take 8192 bytes) ≡ o → is_more (asks.read_by bytes o) ≡ true → length bytes ≤ 24576
+    by : (o : Option RequestHead) → request_head (take 8192 bytes) ≡ o → is_more (asks.read_by path bytes o) ≡ true → length bytes ≤ 24576
     by None is e = early (nat_le 8192 (length bytes)) refl e
     by (Some h) is e =
-        omega (arith, head_short bytes h e, length-drop h.size bytes, small_head (take 8192 bytes) h is, length-take 8192 bytes)
+        omega (arith, head_short path bytes h e, length-drop h.size bytes, small_head (take 8192 bytes) h is, length-take 8192 bytes)
 
 -- what waits for more when only the longest is looked at is looked at whole
-pub more_whole : (bytes : List ℕ) → request (take 24576 bytes) ≡ more → take 24576 bytes ≡ bytes
-more_whole bytes e = more_short bytes (sym (request_cut bytes) ∙ e)
+pub more_whole : (path bytes : List ℕ) → request_at path (take 24576 bytes) ≡ more → take 24576 bytes ≡ bytes
+more_whole path bytes e = more_short path bytes (sym (request_cut path bytes) ∙ e)
 
 -- a whole head has no bad head for its fault
 abbrev is_head : Request → Bool
@@ -142,10 +140,10 @@ is_head (faulty f) = false
 is_head (body text) = false
 is_head more = false
 
-never_head : (bytes : List ℕ) (h : RequestHead) → is_head (asks.headed bytes h) ≡ false
+never_head : (path bytes : List ℕ) (h : RequestHead) → is_head (asks.headed path bytes h) ≡ false
 unfolding asks.headed
-never_head bytes h =
-    by (not (bytes_eq h.method (codes "POST"))) (not (bytes_eq h.target (codes "/events")))
+never_head path bytes h =
+    by (not (bytes_eq h.method (codes "POST"))) (not (bytes_eq h.target path))
     (has (codes "transfer-encoding") h.headers || has (codes "content-encoding") h.headers)
     (asks.sized_body (drop h.size bytes) (content_length h.headers)) (sized (content_length h.headers) (drop h.size bytes))
   where
@@ -165,47 +163,46 @@ never_head bytes h =
     by false false true r e = refl
     by false false false r e = e
 
-pub whole_request : (bytes : List ℕ) (h : RequestHead) → request_head (take 8192 bytes) ≡ Some h → request bytes ≡ asks.headed bytes h
-unfolding request
-whole_request bytes h e = ap (asks.read_by bytes) e
+pub whole_request : (path bytes : List ℕ) (h : RequestHead) → request_head (take 8192 bytes) ≡ Some h → request_at path bytes ≡ asks.headed path bytes h
+whole_request path bytes h e = ap (asks.read_by path bytes) e
 
-pub whole_fault : {A : Type 0} (text : A → List ℕ) (bytes : List ℕ) (h : RequestHead) (r : Result (Option A) HttpFault)
-    → request_head (take 8192 bytes) ≡ Some h → told text r ≡ asks.headed bytes h → IfErr r (HasFault bytes)
-whole_fault text bytes h (Ok said) is e = tt
-whole_fault text bytes h (Err Head) is e = absurd (false≢true (sym (never_head bytes h) ∙ ap is_head (sym e)))
-whole_fault text bytes h (Err HeadLong) is e = whole_request bytes h is ∙ sym e
-whole_fault text bytes h (Err Method) is e = whole_request bytes h is ∙ sym e
-whole_fault text bytes h (Err Path) is e = whole_request bytes h is ∙ sym e
-whole_fault text bytes h (Err Coding) is e = whole_request bytes h is ∙ sym e
-whole_fault text bytes h (Err NoLength) is e = whole_request bytes h is ∙ sym e
-whole_fault text bytes h (Err BodyLong) is e = whole_request bytes h is ∙ sym e
+pub whole_fault : {A : Type 0} (text : A → List ℕ) (path bytes : List ℕ) (h : RequestHead) (r : Result (Option A) HttpFault)
+    → request_head (take 8192 bytes) ≡ Some h → told text r ≡ asks.headed path bytes h → IfErr r (HasFaultAs (request_at path) bytes)
+whole_fault text path bytes h (Ok said) is e = tt
+whole_fault text path bytes h (Err Head) is e = absurd (false≢true (sym (never_head path bytes h) ∙ ap is_head (sym e)))
+whole_fault text path bytes h (Err HeadLong) is e = whole_request path bytes h is ∙ sym e
+whole_fault text path bytes h (Err Method) is e = whole_request path bytes h is ∙ sym e
+whole_fault text path bytes h (Err Path) is e = whole_request path bytes h is ∙ sym e
+whole_fault text path bytes h (Err Coding) is e = whole_request path bytes h is ∙ sym e
+whole_fault text path bytes h (Err NoLength) is e = whole_request path bytes h is ∙ sym e
+whole_fault text path bytes h (Err BodyLong) is e = whole_request path bytes h is ∙ sym e
 
 -- a fault of what is kept is one of all that came
-pub cause_kept : (bytes : List ℕ) (f : FeedFault) → IsCause (take 24576 bytes) f → IsCause bytes f
-cause_kept bytes OutOfMemory e = tt
-cause_kept bytes (Http Head) e = hopeless_cut 24576 bytes e
-cause_kept bytes (Http HeadLong) e = sym (request_cut bytes) ∙ e
-cause_kept bytes (Http Method) e = sym (request_cut bytes) ∙ e
-cause_kept bytes (Http Path) e = sym (request_cut bytes) ∙ e
-cause_kept bytes (Http Coding) e = sym (request_cut bytes) ∙ e
-cause_kept bytes (Http NoLength) e = sym (request_cut bytes) ∙ e
-cause_kept bytes (Http BodyLong) e = sym (request_cut bytes) ∙ e
+pub cause_kept : (path bytes : List ℕ) (f : FeedFault) → IsCauseAs (request_at path) (take 24576 bytes) f → IsCauseAs (request_at path) bytes f
+cause_kept path bytes OutOfMemory e = tt
+cause_kept path bytes (Http Head) e = hopeless_cut 24576 bytes e
+cause_kept path bytes (Http HeadLong) e = sym (request_cut path bytes) ∙ e
+cause_kept path bytes (Http Method) e = sym (request_cut path bytes) ∙ e
+cause_kept path bytes (Http Path) e = sym (request_cut path bytes) ∙ e
+cause_kept path bytes (Http Coding) e = sym (request_cut path bytes) ∙ e
+cause_kept path bytes (Http NoLength) e = sym (request_cut path bytes) ∙ e
+cause_kept path bytes (Http BodyLong) e = sym (request_cut path bytes) ∙ e
 
 -- what is read of the bytes that are kept is what is read of all that came
-pub body_fed : {E : Type 0} (seen bytes joined : List ℕ) (r : Result (Option (Vec ℕ Global)) E) → seen ≡ bytes → bytes ≡ take 24576 joined
-    → IfOk r (λ said. request seen ≡ answered (option_map (λ text. text.items) said))
-    → IfOk r (λ said. request joined ≡ answered (option_map (λ text. text.items) said))
-body_fed seen bytes joined (Ok said) same kept e = sym (ap request (same ∙ kept) ∙ request_cut joined) ∙ e
-body_fed seen bytes joined (Err f) same kept e = tt
+pub body_fed : {E : Type 0} (path seen bytes joined : List ℕ) (r : Result (Option (Vec ℕ Global)) E) → seen ≡ bytes → bytes ≡ take 24576 joined
+    → IfOk r (λ said. request_at path seen ≡ answered (option_map (λ text. text.items) said))
+    → IfOk r (λ said. request_at path joined ≡ answered (option_map (λ text. text.items) said))
+body_fed path seen bytes joined (Ok said) same kept e = sym (ap (request_at path) (same ∙ kept) ∙ request_cut path joined) ∙ e
+body_fed path seen bytes joined (Err f) same kept e = tt
 
-pub cause_fed : {A : Type 0} (seen bytes joined : List ℕ) (r : Result A FeedFault) → seen ≡ bytes → bytes ≡ take 24576 joined
-    → IfErr r (IsCause seen) → IfErr r (IsCause joined)
-cause_fed seen bytes joined (Ok said) same kept e = tt
-cause_fed seen bytes joined (Err f) same kept e = cause_kept joined f (subst (λ (xs : List ℕ). IsCause xs f) (same ∙ kept) e)
+pub cause_fed : {A : Type 0} (path seen bytes joined : List ℕ) (r : Result A FeedFault) → seen ≡ bytes → bytes ≡ take 24576 joined
+    → IfErr r (IsCauseAs (request_at path) seen) → IfErr r (IsCauseAs (request_at path) joined)
+cause_fed path seen bytes joined (Ok said) same kept e = tt
+cause_fed path seen bytes joined (Err f) same kept e = cause_kept path joined f (subst (λ (xs : List ℕ). IsCauseAs (request_at path) xs f) (same ∙ kept) e)
 
-pub more_kept : {E : Type 0} (seen bytes joined : List ℕ) (r : Result (Option (Vec ℕ Global)) E) → seen ≡ bytes → bytes ≡ take 24576 joined
-    → IfOk r (λ said. request seen ≡ answered (option_map (λ text. text.items) said))
+pub more_kept : {E : Type 0} (path seen bytes joined : List ℕ) (r : Result (Option (Vec ℕ Global)) E) → seen ≡ bytes → bytes ≡ take 24576 joined
+    → IfOk r (λ said. request_at path seen ≡ answered (option_map (λ text. text.items) said))
     → IfOk r (λ said. IfNone said (bytes ≡ joined))
-more_kept seen bytes joined (Ok None) same kept e = kept ∙ more_whole joined (sym (ap request (same ∙ kept)) ∙ e)
-more_kept seen bytes joined (Ok (Some text)) same kept e = tt
-more_kept seen bytes joined (Err f) same kept e = tt
+more_kept path seen bytes joined (Ok None) same kept e = kept ∙ more_whole path joined (sym (ap (request_at path) (same ∙ kept)) ∙ e)
+more_kept path seen bytes joined (Ok (Some text)) same kept e = tt
+more_kept path seen bytes joined (Err f) same kept e = tt

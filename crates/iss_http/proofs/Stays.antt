@@ -11,7 +11,7 @@ use Rattle.iss_http.specs.declared.faults.HttpFault.TheVariants.{HeadLong, Metho
 use Rattle.iss_http.specs.Heads.{RequestHead, ResponseHead, request_head, response_head}
 use Rattle.iss_http.specs.Lengths.{has, content_length}
 use Rattle.iss_http.specs.Requests as asks
-use Rattle.iss_http.specs.Requests.{Request, body, faulty, request, IsHopelessRequest}
+use Rattle.iss_http.specs.Requests.{Request, body, faulty, request, request_at, IsHopelessRequest}
 use Rattle.iss_http.specs.Answers as answers
 use Rattle.iss_http.specs.Answers.{Reading, garbled, whole, unless_over, answer_read, IsHopelessAnswer}
 use Rattle.iss_http.proofs.Sections.{is_there}
@@ -88,9 +88,9 @@ sized_later Absent bytes rest = inr refl
 sized_later Bad bytes rest = inr refl
 sized_later (Good n) bytes rest = body_later n bytes rest
 
-with_later : (h : RequestHead) (now later : Request) → IsLater now later → IsLater (asks.headed_with h now) (asks.headed_with h later)
-with_later h now later same =
-    by (not (bytes_eq h.method (codes "POST"))) (not (bytes_eq h.target (codes "/events")))
+with_later : (path : List ℕ) (h : RequestHead) (now later : Request) → IsLater now later → IsLater (asks.headed_with path h now) (asks.headed_with path h later)
+with_later path h now later same =
+    by (not (bytes_eq h.method (codes "POST"))) (not (bytes_eq h.target path))
     (has (codes "transfer-encoding") h.headers || has (codes "content-encoding") h.headers)
   where
     by : (a b c : Bool)
@@ -101,32 +101,35 @@ with_later h now later same =
     by false false true = inr refl
     by false false false = same
 
-headed_later : (bytes rest : List ℕ) (h : RequestHead) → h.size ≤ length bytes → IsLater (asks.headed bytes h) (asks.headed (bytes ++ rest) h)
+headed_later : (path bytes rest : List ℕ) (h : RequestHead) → h.size ≤ length bytes → IsLater (asks.headed path bytes h) (asks.headed path (bytes ++ rest) h)
 unfolding asks.headed
-headed_later bytes rest h fits =
+headed_later path bytes rest h fits =
     let size = content_length h.headers in
     let now = asks.sized_body (drop h.size bytes) size in
-    subst (λ (xs : List ℕ). IsLater (asks.headed_with h now) (asks.headed_with h (asks.sized_body xs size))) (sym (drop-append-le h.size bytes rest fits))
-    (with_later h now (asks.sized_body (drop h.size bytes ++ rest) size) (sized_later size (drop h.size bytes) rest))
+    subst (λ (xs : List ℕ). IsLater (asks.headed_with path h now) (asks.headed_with path h (asks.sized_body xs size))) (sym (drop-append-le h.size bytes rest fits))
+    (with_later path h now (asks.sized_body (drop h.size bytes ++ rest) size) (sized_later size (drop h.size bytes) rest))
 
-long_later : (bytes rest : List ℕ) → request_head (take 8192 bytes) ≡ None → (t : Bool) → nat_le 8192 (length bytes) ≡ t
-    → IsLater (if t then faulty HeadLong else asks.more) (asks.read_by (bytes ++ rest) (request_head (take 8192 (bytes ++ rest))))
-long_later bytes rest none false et = inl refl
-long_later bytes rest none true et =
+long_later : (path bytes rest : List ℕ) → request_head (take 8192 bytes) ≡ None → (t : Bool) → nat_le 8192 (length bytes) ≡ t
+    → IsLater (if t then faulty HeadLong else asks.more) (request_at path (bytes ++ rest))
+long_later path bytes rest none false et = inl refl
+long_later path bytes rest none true et =
     let long = leb-true 8192 (length bytes) et in
-    inr (ap (asks.read_by (bytes ++ rest)) (ap request_head (take-append-le 8192 bytes rest long) ∙ none)
+    inr (ap (asks.read_by path (bytes ++ rest)) (ap request_head (take-append-le 8192 bytes rest long) ∙ none)
     ∙ ap (λ (t : Bool). if t then faulty HeadLong else asks.more) (le-leb 8192 (length (bytes ++ rest)) (omega (arith, long, length-append bytes rest))))
+
+-- to any path
+pub later_at : (path bytes rest : List ℕ) → IsLater (request_at path bytes) (request_at path (bytes ++ rest))
+later_at path bytes rest = by (request_head (take 8192 bytes)) refl
+  where
+    by : (o : Option RequestHead) → request_head (take 8192 bytes) ≡ o → IsLater (asks.read_by path bytes o) (request_at path (bytes ++ rest))
+    by None is = long_later path bytes rest is (nat_le 8192 (length bytes)) refl
+    by (Some h) is =
+        subst (λ (o : Option RequestHead). IsLater (asks.headed path bytes h) (asks.read_by path (bytes ++ rest) o)) (sym (front_head bytes rest h is))
+        (headed_later path bytes rest h (omega (arith, requests.small_head (take 8192 bytes) h is, length-take 8192 bytes)))
 
 pub request_later : (bytes rest : List ℕ) → IsLater (request bytes) (request (bytes ++ rest))
 unfolding request
-request_later bytes rest = by (request_head (take 8192 bytes)) refl
-  where
-    by : (o : Option RequestHead) → request_head (take 8192 bytes) ≡ o
-        → IsLater (asks.read_by bytes o) (asks.read_by (bytes ++ rest) (request_head (take 8192 (bytes ++ rest))))
-    by None is = long_later bytes rest is (nat_le 8192 (length bytes)) refl
-    by (Some h) is =
-        subst (λ (o : Option RequestHead). IsLater (asks.headed bytes h) (asks.read_by (bytes ++ rest) o)) (sym (front_head bytes rest h is))
-        (headed_later bytes rest h (omega (arith, requests.small_head (take 8192 bytes) h is, length-take 8192 bytes)))
+request_later bytes rest = later_at (codes "/events") bytes rest
 
 -- Answers.
 
@@ -210,9 +213,12 @@ no_front bytes none = by (request_head (take 8192 bytes)) refl
     by (Some h) is =
         absurd (false≢true (ap is_there (sym (none []) ∙ ap request_head (behind_front bytes) ∙ head_stays (take 8192 bytes) (drop 8192 bytes ++ []) h is)))
 
+pub waits_at : (path bytes : List ℕ) → IsHopelessRequest bytes → request_at path bytes ≡ (if nat_le 8192 (length bytes) then faulty HeadLong else asks.more)
+waits_at path bytes none = ap (asks.read_by path bytes) (no_front bytes none)
+
 pub hopeless_waits : (bytes : List ℕ) → IsHopelessRequest bytes → request bytes ≡ (if nat_le 8192 (length bytes) then faulty HeadLong else asks.more)
 unfolding request
-hopeless_waits bytes none = ap (asks.read_by bytes) (no_front bytes none)
+hopeless_waits bytes none = waits_at (codes "/events") bytes none
 
 no_response : (bytes : List ℕ) → IsHopelessAnswer bytes → response_head (take 8192 bytes) ≡ None
 unfolding IsHopelessAnswer

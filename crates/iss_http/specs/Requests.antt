@@ -26,26 +26,30 @@ sized_body rest Absent = faulty NoLength
 sized_body rest Bad = faulty NoLength
 sized_body rest (Good size) = body_within rest size
 
--- a POST on the one path, with no coding, is what its body is
-abbrev pub headed_with : RequestHead → Request → Request
-headed_with h sized =
+-- a POST to this path, with no coding, is what its body is
+abbrev pub headed_with : List ℕ → RequestHead → Request → Request
+headed_with path h sized =
     if not (bytes_eq h.method (codes "POST")) then faulty Method
-    else if not (bytes_eq h.target (codes "/events")) then faulty Path
+    else if not (bytes_eq h.target path) then faulty Path
     else if has (codes "transfer-encoding") h.headers || has (codes "content-encoding") h.headers then faulty Coding
     else sized
 
--- a request whose head came whole
-unfoldable pub headed : List ℕ → RequestHead → Request
-headed bytes h = headed_with h (sized_body (drop h.size bytes) (content_length h.headers))
+-- a request to this path whose head came whole
+unfoldable pub headed : List ℕ → List ℕ → RequestHead → Request
+headed path bytes h = headed_with path h (sized_body (drop h.size bytes) (content_length h.headers))
 
 -- by the head, if there is one in the first 8192 bytes
-abbrev pub read_by : List ℕ → Option RequestHead → Request
-read_by bytes None = if nat_le 8192 (length bytes) then faulty HeadLong else more
-read_by bytes (Some h) = headed bytes h
+abbrev pub read_by : List ℕ → List ℕ → Option RequestHead → Request
+read_by path bytes None = if nat_le 8192 (length bytes) then faulty HeadLong else more
+read_by path bytes (Some h) = headed path bytes h
 
--- what the bytes are, where a bad head is told as late as may be
+-- what the bytes are as a request to this path, where a bad head is told as late as may be
+abbrev pub request_at : List ℕ → List ℕ → Request
+request_at path bytes = read_by path bytes (request_head (take 8192 bytes))
+
+-- what the bytes are as a client's request, which goes to the path of events
 unfoldable pub request : List ℕ → Request
-request bytes = read_by bytes (request_head (take 8192 bytes))
+request bytes = request_at (codes "/events") bytes
 
 -- whatever comes behind them, the bytes begin with no head
 unfoldable pub IsHopelessRequest : List ℕ → Type 0
@@ -61,12 +65,20 @@ abbrev pub told : {A : Type 0} → (A → List ℕ) → Result (Option A) HttpFa
 told text (Ok said) = answered (option_map text said)
 told text (Err f) = faulty f
 
--- the bytes have this fault; a bad head is told only where no bytes behind them mend it
-abbrev pub HasFault : List ℕ → HttpFault → Type 0
-HasFault bytes Head = IsHopelessRequest bytes
-HasFault bytes f = request bytes ≡ faulty f
+-- the bytes, read so, have this fault; a bad head is told only where no bytes behind them mend it
+abbrev pub HasFaultAs : (List ℕ → Request) → List ℕ → HttpFault → Type 0
+HasFaultAs read bytes Head = IsHopelessRequest bytes
+HasFaultAs read bytes f = read bytes ≡ faulty f
 
--- the bytes have the fault that is told
+-- the bytes, read so, have the fault that is told
+abbrev pub IsCauseAs : (List ℕ → Request) → List ℕ → FeedFault → Type 0
+IsCauseAs read bytes (Http f) = HasFaultAs read bytes f
+IsCauseAs read bytes OutOfMemory = ⊤
+
+-- a client's request has this fault
+abbrev pub HasFault : List ℕ → HttpFault → Type 0
+HasFault bytes f = HasFaultAs request bytes f
+
+-- a client's request has the fault that is told
 abbrev pub IsCause : List ℕ → FeedFault → Type 0
-IsCause bytes (Http f) = HasFault bytes f
-IsCause bytes OutOfMemory = ⊤
+IsCause bytes f = IsCauseAs request bytes f

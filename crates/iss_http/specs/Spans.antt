@@ -32,24 +32,24 @@ request_from bytes headers r = record {
 }
 
 -- the head that the spans cover, with as many headers as there are
-abbrev pub request_at : List ℕ → List HeaderSpan → RequestSpans → RequestHead
-request_at bytes headers r = request_from bytes (take r.headers headers) r
+abbrev pub request_head_at : List ℕ → List HeaderSpan → RequestSpans → RequestHead
+request_head_at bytes headers r = request_from bytes (take r.headers headers) r
 
 -- the same for a response
 abbrev pub response_from : List ℕ → List HeaderSpan → ResponseSpans → ResponseHead
 response_from bytes headers r = record { status = r.code; headers = headers_at bytes headers; size = r.len }
 
-abbrev pub response_at : List ℕ → List HeaderSpan → ResponseSpans → ResponseHead
-response_at bytes headers r = response_from bytes (take r.headers headers) r
+abbrev pub response_head_at : List ℕ → List HeaderSpan → ResponseSpans → ResponseHead
+response_head_at bytes headers r = response_from bytes (take r.headers headers) r
 
 -- what is found is the head that the bytes begin with, whose headers are in the list, or that there is none yet, or none whatever comes
 abbrev pub IsRequestFound : List ℕ → List HeaderSpan → Found RequestSpans → Type 0
-IsRequestFound bytes headers (Whole r) = (r.headers ≤ length headers) × (request_head bytes ≡ Some (request_at bytes headers r))
+IsRequestFound bytes headers (Whole r) = (r.headers ≤ length headers) × (request_head bytes ≡ Some (request_head_at bytes headers r))
 IsRequestFound bytes headers Part = request_head bytes ≡ None
 IsRequestFound bytes headers Hopeless = IsHopelessRequest bytes
 
 -- the same for a response
 abbrev pub IsResponseFound : List ℕ → List HeaderSpan → Found ResponseSpans → Type 0
-IsResponseFound bytes headers (Whole r) = (r.headers ≤ length headers) × (response_head bytes ≡ Some (response_at bytes headers r))
+IsResponseFound bytes headers (Whole r) = (r.headers ≤ length headers) × (response_head bytes ≡ Some (response_head_at bytes headers r))
 IsResponseFound bytes headers Part = response_head bytes ≡ None
 IsResponseFound bytes headers Hopeless = IsHopelessAnswer bytes

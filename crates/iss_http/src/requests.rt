@@ -1,6 +1,6 @@
 //! A client's request, read in any pieces.
 ghost use Rattle.std.specs.Prelude.{◌≡◌, ◌≤◌, ◌++◌, [], length, option_map, IfOk, IfErr, IfNone};
-ghost use Rattle.iss_http.specs.Requests.{request, answered, told, headed, sized_body, HasFault, IsCause};
+ghost use Rattle.iss_http.specs.Requests.{request, request_at, answered, told, headed, sized_body, HasFaultAs, IsCause, IsCauseAs};
 ghost use Rattle.iss_http.specs.Spans.{request_from};
 
 use crate::faults::{FeedFault, HttpFault};
@@ -13,8 +13,8 @@ use httparse::spans::{HeaderSpan, RequestSpans};
 use std::alloc::{AllocError, Global};
 use std::marker::Model;
 
-/// The one path.
-const PATH: &str = "/events";
+/// The path of a client's requests.
+const EVENTS: &str = "/events";
 
 /// Reads one request, whose bytes come in any pieces. A contract sees the bytes that came so far.
 #[derive(Drop)]
@@ -47,6 +47,7 @@ impl Reader {
     /// `None` where the bytes that came aren't yet a request. A fault is the first that they have, in the order of
     /// `HttpFault`; `Head` comes in place of `None` or `HeadLong`, and only where no bytes behind them make a head. However
     /// much comes, at most 24576 bytes are kept. After another answer than `None` the reader isn't fed again.
+    #[tactic(auto, unfolding(crate::specs::Requests::request))]
     pub fn feed(&mut self, alloc: Global, piece: &[u8]) -> Result<Option<Vec<u8>>, FeedFault>
         ensures body { IfOk result
             (λ said. request (self.old ++ piece.now) ≡ answered (option_map (λ text. text.items) said)) }
@@ -54,36 +55,37 @@ impl Reader {
         ensures kept { IfOk result (λ said. IfNone said (self.new ≡ self.old ++ piece.now)) }
         ensures bounded { length self.new ≤ 24576 }
     {
-        feed_bytes(&mut self.bytes, alloc, piece)
+        feed_bytes(EVENTS, &mut self.bytes, alloc, piece)
     }
 }
 
-/// Keeps a piece, and reads what is kept.
+/// Keeps a piece, and reads what is kept as a request to a path.
 fn feed_bytes(
+    path: &str,
     bytes: &mut Vec<u8>,
     alloc: Global,
     piece: &[u8],
 ) -> Result<Option<Vec<u8>>, FeedFault>
     requires { length bytes.old.items ≤ 24576 }
     ensures body { IfOk result
-        (λ said. request (bytes.old.items ++ piece.now) ≡ answered (option_map (λ text. text.items) said)) }
-    ensures fault { IfErr result (IsCause (bytes.old.items ++ piece.now)) }
+        (λ said. request_at path.now (bytes.old.items ++ piece.now) ≡ answered (option_map (λ text. text.items) said)) }
+    ensures fault { IfErr result (IsCauseAs (request_at path.now) (bytes.old.items ++ piece.now)) }
     ensures kept { IfOk result (λ said. IfNone said (bytes.new.items ≡ bytes.old.items ++ piece.now)) }
     ensures bounded { length bytes.new.items ≤ 24576 }
 {
     let Ok(()) = keep(bytes, piece, MOST_REQUEST) else {
         return Err(FeedFault::OutOfMemory);
     };
-    body_in(alloc, bytes)
+    body_in(path, alloc, bytes)
 }
 
-/// The body of the request that the bytes are, if they are a whole one.
-fn body_in(alloc: Global, bytes: &[u8]) -> Result<Option<Vec<u8>>, FeedFault>
+/// The body of the request to a path that the bytes are, if they are a whole one.
+fn body_in(path: &str, alloc: Global, bytes: &[u8]) -> Result<Option<Vec<u8>>, FeedFault>
     ensures body { IfOk result
-        (λ said. request bytes.now ≡ answered (option_map (λ text. text.items) said)) }
-    ensures fault { IfErr result (IsCause bytes.now) }
+        (λ said. request_at path.now bytes.now ≡ answered (option_map (λ text. text.items) said)) }
+    ensures fault { IfErr result (IsCauseAs (request_at path.now) bytes.now) }
 {
-    match body_of(bytes) {
+    match body_of(path, bytes) {
         Ok(Some(body)) => match body.to_vec(alloc) {
             Ok(body) => Ok(Some(body)),
             Err(_) => Err(FeedFault::OutOfMemory),
@@ -93,16 +95,16 @@ fn body_in(alloc: Global, bytes: &[u8]) -> Result<Option<Vec<u8>>, FeedFault>
     }
 }
 
-/// Where the body of the request lies, if the bytes are a whole one.
-#[tactic(auto, unfolding(crate::specs::Requests::request))]
-fn body_of(bytes: &[u8]) -> Result<Option<&[u8]>, HttpFault>
-    ensures body { IfOk result (λ said. request bytes.now ≡ answered (option_map (λ text. text.now) said)) }
-    ensures fault { IfErr result (HasFault bytes.now) }
+/// Where the body of the request to a path lies, if the bytes are a whole one.
+fn body_of<'b>(path: &str, bytes: &'b [u8]) -> Result<Option<&'b [u8]>, HttpFault>
+    ensures body { IfOk result
+        (λ said. request_at path.now bytes.now ≡ answered (option_map (λ text. text.now) said)) }
+    ensures fault { IfErr result (HasFaultAs (request_at path.now) bytes.now) }
 {
     let mut headers = no_headers();
     let start = front(bytes);
     match find_request(start, &mut headers) {
-        Found::Whole(head) => body_behind(bytes, start, head, &headers[..head.headers]),
+        Found::Whole(head) => body_behind(path, bytes, start, head, &headers[..head.headers]),
         Found::Part if bytes.len() >= MOST_HEAD => Err(HttpFault::HeadLong),
         Found::Part => Ok(None),
         Found::Hopeless => Err(HttpFault::Head),
@@ -112,17 +114,19 @@ fn body_of(bytes: &[u8]) -> Result<Option<&[u8]>, HttpFault>
 /// What the bytes are by their head, whose parts lie in `start`.
 #[tactic(auto, unfolding(crate::specs::Requests::headed))]
 fn body_behind<'b>(
+    path: &str,
     bytes: &'b [u8],
     start: &[u8],
     head: RequestSpans,
     headers: &[HeaderSpan],
 ) -> Result<Option<&'b [u8]>, HttpFault>
-    ensures { told (λ text. text.now) result ≡ headed bytes.now (request_from start.now headers.now head) }
+    ensures { told (λ text. text.now) result
+        ≡ headed path.now bytes.now (request_from start.now headers.now head) }
 {
     if part(start, head.method) != Method::POST.as_str().as_bytes() {
         return Err(HttpFault::Method);
     }
-    if part(start, head.path) != PATH.as_bytes() {
+    if part(start, head.path) != path.as_bytes() {
         return Err(HttpFault::Path);
     }
     if has_header(start, headers, "transfer-encoding")

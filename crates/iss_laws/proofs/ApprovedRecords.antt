@@ -28,7 +28,7 @@ use Rattle.iss_model.specs.rules.Asks.{Ask, call_ask}
 use Rattle.iss_model.specs.rules.CardReasons.{is_account_funded, authorization_reason, increment_reason, first_ask, further_ask, txn_asked}
 use Rattle.iss_model.specs.rules.Activity.{TxnNow}
 use Rattle.iss_model.specs.rules.Due.{due_items}
-use Rattle.iss_model.specs.rules.Facts.{Accepted, Decision, Facts, decision_of, reply_in, reply_of_decision, txn_in}
+use Rattle.iss_model.specs.rules.Facts.{Accepted, Decision, Facts, decision_of, reply_in, reply_of_verdict, txn_in, verdict_in}
 use Rattle.iss_model.specs.rules.Histories.{Follows, History, IsLegal, IsLegalAfter, history_facts, history_keeper, history_of, numbered_rows}
 use Rattle.iss_model.specs.rules.Reasons.{is_some_with}
 use Rattle.iss_model.specs.rules.Settings.{is_named_in}
@@ -245,16 +245,16 @@ none_decided test event (d ∷ ds) h = by (bytes_eq d.event event) (none_decided
     by false rest h = rest h
 
 reply_approves : (event : List ℕ) (ds : List Decision) → decided_times ds event ≤ 1
-    → is_approved (reply_of_decision (find (λ d. bytes_eq d.event event) ds)) ≡ list_any (decision_approves event) ds
+    → is_approved (reply_of_verdict (verdict_in ds event)) ≡ list_any (decision_approves event) ds
 reply_approves event [] h = refl
 reply_approves event (d ∷ ds) h = by (bytes_eq d.event event) (reply_approves event ds) h
   where
     none : (n : ℕ) → suc n ≤ 1 → n ≡ 0
     none n h = omega (arith, h)
 
-    by : (b : Bool) → (decided_times ds event ≤ 1 → is_approved (reply_of_decision (find (λ d. bytes_eq d.event event) ds)) ≡ list_any (decision_approves event) ds)
+    by : (b : Bool) → (decided_times ds event ≤ 1 → is_approved (reply_of_verdict (verdict_in ds event)) ≡ list_any (decision_approves event) ds)
         → length (cond b (d ∷ filter (λ (d : Decision). bytes_eq d.event event) ds) (filter (λ (d : Decision). bytes_eq d.event event) ds)) ≤ 1
-        → is_approved (reply_of_decision (cond b (Some d) (find (λ d. bytes_eq d.event event) ds))) ≡ ((b && is_approval d.verdict) || list_any (decision_approves event) ds)
+        → is_approved (reply_of_verdict (option_map (λ (d : Decision). d.verdict) (cond b (Some d) (find (λ d. bytes_eq d.event event) ds)))) ≡ ((b && is_approval d.verdict) || list_any (decision_approves event) ds)
     by true rest h =
         sym (or_false (is_approval d.verdict))
         ∙ ap (λ (b : Bool). is_approval d.verdict || b) (sym (none_decided is_approval event ds (none (decided_times ds event) h)))
@@ -365,17 +365,20 @@ module _ (all before : List Record) (r : Record) (rs : List Record) (token : Lis
   abbrev rows_of_all : List Row
   rows_of_all = (history_of all).rows
 
+  abbrev decisions_of_all : List Decision
+  decisions_of_all = filter_map (λ (row : Row). decision_of row.entry) rows_of_all
+
   abbrev turn : Facts
   turn = facts_at_turn before r rows_of_all
 
   known_now : is_accepted (core_of (before ++ r ∷ [])).accepted token ≡ true
   known_now = accepted_next before r token (accepted_with_record (core_of before) r token its_token)
 
-  decided_at_most_once : decided_times (history_facts (history_of all)).decisions token ≤ 1
+  decided_at_most_once : decided_times decisions_of_all token ≤ 1
   decided_at_most_once =
       let known : is_accepted (core_of all).accepted token ≡ true =
       ap (λ (rs : List Record). is_accepted (core_of rs).accepted token) (is ∙ sym (append_assoc before (r ∷ []) rs)) ∙ accepted_rest (before ++ r ∷ []) rs token known_now in
-      less (decided_times (core_of all).decisions token) (asked_times (core_of all).calls token) (decided_times (history_facts (history_of all)).decisions token)
+      less (decided_times (core_of all).decisions token) (asked_times (core_of all).calls token) (decided_times decisions_of_all token)
       (decided_once (core_of all) token (core_well all legal_all) known) (ap (λ (s : CoreState). decided_times s.decisions token) (sym (core_history all)))
     where
       less : (n m k : ℕ) → n + m ≡ 1 → k ≡ n → k ≤ 1
@@ -398,7 +401,7 @@ module _ (all before : List Record) (r : Record) (rs : List Record) (token : Lis
   approved_is =
       let h : History = history_of before in
       let test : Row → Bool = λ row. decides_so is_approval token row.entry in
-      reply_approves token (history_facts (history_of all)).decisions decided_at_most_once
+      reply_approves token decisions_of_all decided_at_most_once
       ∙ row_decisions is_approval token rows_of_all
       ∙ any_row is_approval
       ∙ ap (λ (b : Bool). b || list_any test (later_rows h (r ∷ rs))) (none_before before token legal (new_event before r after.0 token its_token))
@@ -424,13 +427,13 @@ module _ (all before : List Record) (r : Record) (rs : List Record) (token : Lis
       (legal_rules before r legal after.0 ∙ ap₂ (λ (b : History) (es : List Entry). rulings_due b r es) (sym its.book) (sym its.entries) ∙ ap (λ (rs : List Ruling). closed ++ rs) own)
       ∙ list_any-append (rules_so no_approval token) closed (decided_as token (verdict.Declined why) ∷ [])
       ∙ or_true (list_any (rules_so no_approval token) closed) _ last in
-      let there : list_any (λ d. bytes_eq d.event token && no_approval d.verdict) (history_facts (history_of all)).decisions ≡ true =
+      let there : list_any (λ d. bytes_eq d.event token && no_approval d.verdict) decisions_of_all ≡ true =
       row_decisions no_approval token rows_of_all ∙ any_row no_approval
       ∙ or_true (list_any test h.rows) _
       (list_any-append test (numbered_rows (length h.records + 1) es) (later_rows (step history_keeper h r).world rs)
       ∙ ap (λ (b : Bool). b || list_any test (later_rows (step history_keeper h r).world rs)) made) in
-      reply_approves token (history_facts (history_of all)).decisions decided_at_most_once
-      ∙ declined_once token why (history_facts (history_of all)).decisions decided_at_most_once there
+      reply_approves token decisions_of_all decided_at_most_once
+      ∙ declined_once token why decisions_of_all decided_at_most_once there
 
   ask_right : (why : Option Reason) (ask : Option Ask) → own_rulings r.input r.at turn ≡ ask_rulings turn token why ask → IsOf token ask
       → is_approved (reply_in (history_facts (history_of all)) token) ≡ is_to_be_approved turn why ask (records_pay_for token before (r ∷ rs) rows_of_all)

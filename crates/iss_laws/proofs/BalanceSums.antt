@@ -16,11 +16,12 @@ use Rattle.iss_model.specs.declared.entry.Entry.{Entry}
 use Rattle.iss_model.specs.declared.entry.Entry.TheVariants as entry
 use Rattle.iss_model.specs.declared.input.Record.{Record}
 use Rattle.iss_model.specs.Currencies.{iso_number, same_currency}
-use Rattle.iss_model.specs.Sums.{changed_at, account_key, balance_changes}
+use Rattle.iss_model.specs.Sums.{changed_at, account_currency, account_key, balance_changes}
 use Rattle.iss_model.specs.rules.Facts.{balance_in}
 use Rattle.iss_model.specs.rules.Histories.{History, history_facts, history_of}
 use Rattle.iss_model.specs.texts.BalanceLines.{posted_accounts, is_reported_before, accounts_with, accounts_with_once, accounts_of}
-use Rattle.iss_laws.specs.Balances.{currency_of, stays, in_currency, BalancesAddUp}
+use Rattle.iss_acts.specs.Posts.{posts_within_one_currency}
+use Rattle.iss_laws.specs.Balances.{in_currency, BalancesAddUp}
 use Rattle.iss_laws.proofs.Posts.{posts_stay}
 
 -- ---- the currency of an account is the last number of its key
@@ -35,14 +36,14 @@ last_behind [] n = refl
 last_behind (x ∷ []) n = refl
 last_behind (x ∷ y ∷ xs) n = last_behind (y ∷ xs) n
 
-last_of_key : (a : Account) → last_of (account_key a) ≡ iso_number (currency_of a)
+last_of_key : (a : Account) → last_of (account_key a) ≡ iso_number (account_currency a)
 last_of_key (account.User user c) = last_behind (4 ∷ user) (iso_number c)
 last_of_key (account.Gateway c) = refl
 last_of_key (account.Programme c) = refl
 last_of_key (account.Network c) = refl
 
 -- accounts of one key are of one currency
-same_key_currency : (x a : Account) (c : Currency) → bytes_eq (account_key x) (account_key a) ≡ true → same_currency (currency_of x) c ≡ same_currency (currency_of a) c
+same_key_currency : (x a : Account) (c : Currency) → bytes_eq (account_key x) (account_key a) ≡ true → same_currency (account_currency x) c ≡ same_currency (account_currency a) c
 same_key_currency x a c e =
     let keys = (bytes_eq-Decides (account_key x) (account_key a)).0 e in
     ap (λ n. nat_eq n (iso_number c)) (sym (last_of_key x) ∙ ap last_of keys ∙ last_of_key a)
@@ -142,7 +143,7 @@ all_once (x ∷ xs) accounts most =
 
 abbrev sum_over : (Account → ℤ) → Currency → List Account → ℤ
 sum_over f c [] = pos 0
-sum_over f c (a ∷ accounts) = cond (same_currency (currency_of a) c) (f a) (pos 0) +ℤ sum_over f c accounts
+sum_over f c (a ∷ accounts) = cond (same_currency (account_currency a) c) (f a) (pos 0) +ℤ sum_over f c accounts
 
 -- what rows change at a key
 abbrev rows_sum : List ℕ → List Row → ℤ
@@ -163,7 +164,7 @@ filtered false f c a accounts z more = more z ∙ ap (λ s. z +ℤ s) (sym (zero
 
 over_filter : (f : Account → ℤ) (c : Currency) (accounts : List Account) (z : ℤ) → fold (λ sum a. sum +ℤ f a) z (in_currency c accounts) ≡ z +ℤ sum_over f c accounts
 over_filter f c [] z = sym (zero_last z)
-over_filter f c (a ∷ accounts) z = filtered (same_currency (currency_of a) c) f c a accounts z (over_filter f c accounts)
+over_filter f c (a ∷ accounts) z = filtered (same_currency (account_currency a) c) f c a accounts z (over_filter f c accounts)
 
 rows_over : (key : List ℕ) (rows : List Row) (z : ℤ) → fold (λ sum row. sum +ℤ changed_at key (balance_changes row.entry)) z rows ≡ z +ℤ rows_sum key rows
 rows_over key [] z = sym (zero_last z)
@@ -182,7 +183,7 @@ both_parts false x y = refl
 over_sum : (f g : Account → ℤ) (c : Currency) (accounts : List Account) → sum_over (λ a. f a +ℤ g a) c accounts ≡ sum_over f c accounts +ℤ sum_over g c accounts
 over_sum f g c [] = refl
 over_sum f g c (a ∷ accounts) =
-    let p = same_currency (currency_of a) c in
+    let p = same_currency (account_currency a) c in
     ap (λ s. cond p (f a +ℤ g a) (pos 0) +ℤ s) (over_sum f g c accounts)
     ∙ ap (λ t. t +ℤ (sum_over f c accounts +ℤ sum_over g c accounts)) (both_parts p (f a) (g a))
     ∙ shuffled (cond p (f a) (pos 0)) (cond p (g a) (pos 0)) (sum_over f c accounts) (sum_over g c accounts)
@@ -193,7 +194,7 @@ nothing_in false = refl
 
 over_nothing : (c : Currency) (accounts : List Account) → sum_over (λ a. pos 0) c accounts ≡ pos 0
 over_nothing c [] = refl
-over_nothing c (a ∷ accounts) = ap (λ t. t +ℤ sum_over (λ a. pos 0) c accounts) (nothing_in (same_currency (currency_of a) c)) ∙ zero_first _ ∙ over_nothing c accounts
+over_nothing c (a ∷ accounts) = ap (λ t. t +ℤ sum_over (λ a. pos 0) c accounts) (nothing_in (same_currency (account_currency a) c)) ∙ zero_first _ ∙ over_nothing c accounts
 
 -- an amount at the accounts of one key
 abbrev at_key : List ℕ → ℤ → Account → ℤ
@@ -206,7 +207,7 @@ none_at false p v s n h more = ap (λ t. t +ℤ s) (nothing_in p) ∙ zero_first
 over_none : (key : List ℕ) (v : ℤ) (c : Currency) (accounts : List Account) → times key accounts ≡ 0 → sum_over (at_key key v) c accounts ≡ pos 0
 over_none key v c [] h = refl
 over_none key v c (a ∷ accounts) h =
-    none_at (bytes_eq key (account_key a)) (same_currency (currency_of a) c) v (sum_over (at_key key v) c accounts) (times key accounts) h (over_none key v c accounts)
+    none_at (bytes_eq key (account_key a)) (same_currency (account_currency a) c) v (sum_over (at_key key v) c accounts) (times key accounts) h (over_none key v c accounts)
 
 one_at : (b p q : Bool) (v s : ℤ) (n : ℕ) → cond b (suc n) n ≡ 1 → (b ≡ true → q ≡ p) → (n ≡ 0 → s ≡ pos 0) → (n ≡ 1 → s ≡ cond q v (pos 0))
     → cond p (cond b v (pos 0)) (pos 0) +ℤ s ≡ cond q v (pos 0)
@@ -215,10 +216,10 @@ one_at false p q v s n h same none one = ap (λ t. t +ℤ s) (nothing_in p) ∙ 
 
 -- an account that stands there once has its amount in its currency's sum, and no other's
 over_once : (x : Account) (v : ℤ) (c : Currency) (accounts : List Account) → times (account_key x) accounts ≡ 1
-    → sum_over (at_key (account_key x) v) c accounts ≡ cond (same_currency (currency_of x) c) v (pos 0)
+    → sum_over (at_key (account_key x) v) c accounts ≡ cond (same_currency (account_currency x) c) v (pos 0)
 over_once x v c [] h = absurd cc
 over_once x v c (a ∷ accounts) h =
-    one_at (bytes_eq (account_key x) (account_key a)) (same_currency (currency_of a) c) (same_currency (currency_of x) c) v
+    one_at (bytes_eq (account_key x) (account_key a)) (same_currency (account_currency a) c) (same_currency (account_currency x) c) v
     (sum_over (at_key (account_key x) v) c accounts) (times (account_key x) accounts) h
     (same_key_currency x a c) (over_none (account_key x) v c accounts) (over_once x v c accounts)
 
@@ -230,7 +231,7 @@ taken_and_given true true n e = cancels n
 taken_and_given false false n e = refl
 taken_and_given _ _ n e = absurd cc
 
-post_over : (from to : Account) (n : ℕ) (c : Currency) (accounts : List Account) → same_currency (currency_of from) (currency_of to) ≡ true
+post_over : (from to : Account) (n : ℕ) (c : Currency) (accounts : List Account) → same_currency (account_currency from) (account_currency to) ≡ true
     → times (account_key from) accounts ≡ 1 → times (account_key to) accounts ≡ 1
     → sum_over (λ a. at_key (account_key to) (pos n) a +ℤ (at_key (account_key from) (neg_ℤ (pos n)) a +ℤ pos 0)) c accounts ≡ pos 0
 post_over from to n c accounts stays once_from once_to =
@@ -241,10 +242,10 @@ post_over from to n c accounts stays once_from once_to =
     ∙ ap (λ t. sum_over (at_key (account_key from) (neg_ℤ (pos n))) c accounts +ℤ t) (over_nothing c accounts)
     ∙ zero_last (sum_over (at_key (account_key from) (neg_ℤ (pos n))) c accounts)
     ∙ over_once from (neg_ℤ (pos n)) c accounts once_from)
-    ∙ ap (λ t. t +ℤ cond (same_currency (currency_of from) c) (neg_ℤ (pos n)) (pos 0)) (over_once to (pos n) c accounts once_to)
-    ∙ taken_and_given (same_currency (currency_of to) c) (same_currency (currency_of from) c) n one
+    ∙ ap (λ t. t +ℤ cond (same_currency (account_currency from) c) (neg_ℤ (pos n)) (pos 0)) (over_once to (pos n) c accounts once_to)
+    ∙ taken_and_given (same_currency (account_currency to) c) (same_currency (account_currency from) c) n one
 
-entry_over : (e : Entry) (c : Currency) (accounts : List Account) → stays e ≡ true → Once accounts (posted_accounts e)
+entry_over : (e : Entry) (c : Currency) (accounts : List Account) → posts_within_one_currency e ≡ true → Once accounts (posted_accounts e)
     → sum_over (λ a. changed_at (account_key a) (balance_changes e)) c accounts ≡ pos 0
 entry_over (entry.Post from to n txn) c accounts stays once = post_over from to n c accounts stays once.0 once.1.0
 entry_over _ c accounts stays once = over_nothing c accounts
@@ -255,11 +256,11 @@ once_append : (accounts xs ys : List Account) → Once accounts (xs ++ ys) → O
 once_append accounts [] ys h = (tt, h)
 once_append accounts (x ∷ xs) ys h = let p = once_append accounts xs ys h.1 in ((h.0, p.0), p.1)
 
-rows_over_accounts : (rows : List Row) (c : Currency) (accounts : List Account) → list_all (λ row. stays row.entry) rows ≡ true
+rows_over_accounts : (rows : List Row) (c : Currency) (accounts : List Account) → list_all (λ row. posts_within_one_currency row.entry) rows ≡ true
     → Once accounts (flat_map (λ row. posted_accounts row.entry) rows) → sum_over (λ a. rows_sum (account_key a) rows) c accounts ≡ pos 0
 rows_over_accounts [] c accounts stay once = over_nothing c accounts
 rows_over_accounts (row ∷ rows) c accounts stay once =
-    let p = and_parts (stays row.entry) (list_all (λ row. stays row.entry) rows) stay in
+    let p = and_parts (posts_within_one_currency row.entry) (list_all (λ row. posts_within_one_currency row.entry) rows) stay in
     let q = once_append accounts (posted_accounts row.entry) (flat_map (λ row. posted_accounts row.entry) rows)
     (subst (Once accounts) (flat_map-cons (λ row. posted_accounts row.entry) row rows) once) in
     over_sum (λ a. changed_at (account_key a) (balance_changes row.entry)) (λ a. rows_sum (account_key a) rows) c accounts
@@ -270,10 +271,10 @@ rows_over_accounts (row ∷ rows) c accounts stay once =
 same_sums : (f g : Account → ℤ) (c : Currency) (accounts : List Account) → ((a : Account) → f a ≡ g a) → sum_over f c accounts ≡ sum_over g c accounts
 same_sums f g c [] same = refl
 same_sums f g c (a ∷ accounts) same =
-    ap (λ v. cond (same_currency (currency_of a) c) v (pos 0) +ℤ sum_over f c accounts) (same a)
-    ∙ ap (λ t. cond (same_currency (currency_of a) c) (g a) (pos 0) +ℤ t) (same_sums f g c accounts same)
+    ap (λ v. cond (same_currency (account_currency a) c) v (pos 0) +ℤ sum_over f c accounts) (same a)
+    ∙ ap (λ t. cond (same_currency (account_currency a) c) (g a) (pos 0) +ℤ t) (same_sums f g c accounts same)
 
-book_adds_up : (h : History) → list_all (λ row. stays row.entry) h.rows ≡ true → BalancesAddUp h
+book_adds_up : (h : History) → list_all (λ row. posts_within_one_currency row.entry) h.rows ≡ true → BalancesAddUp h
 book_adds_up h stay c =
     let accounts = accounts_of h.rows in
     over_filter (λ a. balance_in (history_facts h) a) c accounts (pos 0)

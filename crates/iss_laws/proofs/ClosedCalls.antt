@@ -30,7 +30,7 @@ use Rattle.iss_model.specs.rules.Asks.{Ask, ask_given_back, call_ask}
 use Rattle.iss_model.specs.rules.CardReasons.{is_account_funded}
 use Rattle.iss_model.specs.rules.Facts.{Facts, txn_in, call_in, asked_calls_of, next_notice}
 use Rattle.iss_model.specs.rules.Histories.{History, history_facts, numbered_rows}
-use Rattle.iss_model.specs.rules.Pieces.{Parts, abandoned_call_entries, abandoned_calls_entries, declined_ask_entries, failure_reason, funded_ask_entries, hold_entries, in_all, notice_entry, post_entries, taken_to_clear, user_account, void_entry, refund_money_entries}
+use Rattle.iss_model.specs.rules.Pieces.{Parts, abandoned_call_entries, abandoned_calls_entries, declined_ask_entries, failure_reason, funded_ask_entries, hold_entries, in_all, notice_entry, post_entries, taken_to_clear, user_account, void_entry, give_back_entries}
 use Rattle.iss_model.specs.rules.StandIns.{Stand, allowed, over_limit, uncovered, stand}
 use Rattle.iss_model.specs.rules.Acts.{Abandons, Act, Asks, Clears, Declines, Does, Ends, Fails, Funds, GivesBack, HoldsOwn, LetsGo, Loads, Refuses, Sets, StandsIn, TurnsDown, act_entries, entries_of_acts}
 use Rattle.iss_model.specs.rules.CardActs.{acts_for_gateway, end_acts, failed_acts, stand_acts}
@@ -199,7 +199,7 @@ act_alone (TurnsDown ask why) none = declined_alone ask why
 act_alone (LetsGo t parts amount) none = silent_alone (release_silent t parts amount)
 act_alone (Clears t parts amount at) none = silent_alone (clearing_silent t (taken_to_clear parts amount) amount at)
 act_alone (GivesBack t amount programme) none =
-    silent_alone {es = refund_money_entries t amount programme}
+    silent_alone {es = give_back_entries t amount programme}
     (both_silent (post_silent t (account.Network t.currency) (user_account t) amount)
     (gateway_silent t {es = post_entries t (user_account t) (account.Programme t.currency) programme ++ post_entries t (user_account t) (account.Gateway t.currency) (amount - programme)}
     (both_silent (post_silent t (user_account t) (account.Programme t.currency) programme) (post_silent t (user_account t) (account.Gateway t.currency) (amount - programme)))))

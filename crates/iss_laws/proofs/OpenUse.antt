@@ -36,7 +36,8 @@ use Rattle.iss_state.proofs.docket.Entering.{same_txn, txn_more}
 use Rattle.iss_state.proofs.docket.Lists.{Each}
 use Rattle.iss_state.specs.Holdings.{HoldsNothing}
 use Rattle.iss_state.proofs.held.Changes.{begun_sum, txn_ended}
-use Rattle.iss_laws.proofs.Rows.{among_summed, sum_among}
+use Rattle.iss_agreement.specs.Laws.{sum_among}
+use Rattle.iss_agreement.proofs.StepSums.{among_summed}
 
 -- how use is counted at a key ----
 

@@ -18,7 +18,8 @@ use Rattle.iss_model.specs.rules.CardReasons.{is_account_funded}
 use Rattle.iss_state.proofs.effects.Finds.{number_is}
 use Rattle.iss_laws.specs.UserBalances.{own_changes}
 use Rattle.iss_acts.specs.Sources.{AreWithin}
-use Rattle.iss_laws.proofs.Rows.{among_summed, sum_among}
+use Rattle.iss_agreement.specs.Laws.{sum_among}
+use Rattle.iss_agreement.proofs.StepSums.{among_summed}
 
 -- what entries add to a user's balance, by the user's key, and to what the user owns ----
 

@@ -14,12 +14,11 @@ use Rattle.iss_model.specs.rules.Histories.{Follows, History, IsLegal, IsLegalAf
 use Rattle.iss_model.specs.rules.Stepping.{step}
 use Rattle.iss_model.proofs.Lists.{all_weaker}
 use Rattle.iss_agreement.proofs.BookAndState.{history_good}
-use Rattle.iss_agreement.proofs.Records.{records_history, step_records}
+use Rattle.iss_agreement.proofs.Records.{records_history, step_grows, step_records}
 use Rattle.iss_agreement.proofs.Standing.{bounds_of, is_row_standing, is_standing}
 use Rattle.iss_state.proofs.effects.Finds.{same_number}
 use Rattle.iss_laws.specs.Rulings.{Ruling, rulings_due, rulings_of}
 use Rattle.iss_laws.proofs.Ruled.{rulings_append}
-use Rattle.iss_laws.proofs.Rows.{step_grows}
 use Rattle.iss_laws.proofs.StepRulings.{legal_rules}
 use Rattle.iss_laws.specs.Decisions.{DecidesByTheRules, book_after, entries_in, in_a_row, rulings_made, rulings_wanted}
 

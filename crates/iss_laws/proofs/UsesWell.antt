@@ -39,7 +39,9 @@ use Rattle.iss_laws.specs.Uses.{counts_txn_well, counts_well, has_counted_well, 
 use Rattle.iss_laws.proofs.HoldsWell.{is_not_negative}
 use Rattle.iss_laws.proofs.OpenInputs.{CountsOn, input_uses, thing_uses}
 use Rattle.iss_laws.proofs.OpenUse.{Counting, IsCounting, Pays, is_usage, open_use, used}
-use Rattle.iss_laws.proofs.Rows.{among_summed, longer, next_summed}
+use Rattle.iss_agreement.proofs.Records.{history_more}
+use Rattle.iss_agreement.proofs.StepSums.{among_summed}
+use Rattle.iss_laws.proofs.Rows.{next_summed}
 use Rattle.iss_laws.proofs.Windows.{window_grows, window_is, window_nat}
 
 -- a step ----
@@ -163,7 +165,7 @@ counted_from before (r ∷ rs) legal h =
     let early : (core_of before).now ≤ r.at = subst (λ (f : Facts). f.now ≤ r.at) (sym (facts_history before)) legal.0.stamp in
     let next : IsCounted more (core_of more) = subst (IsCounted more) (core_step before r) (counted_step before r early new h) in
     subst (λ (xs : List Record). IsCounted xs (core_of xs)) (append_assoc before (r ∷ []) rs)
-    (counted_from more rs (subst (λ (h : History). IsLegalAfter h rs) (sym (longer before r)) legal.1) next)
+    (counted_from more rs (subst (λ (h : History). IsLegalAfter h rs) (sym (history_more before r)) legal.1) next)
 
 no_transactions : (k : Counting) → pos (open_use k no_core) ≤ℤ pos 0
 no_transactions k = none

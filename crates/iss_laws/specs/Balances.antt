@@ -1,35 +1,22 @@
 -- Money is moved between accounts, and never made or lost.
-use Rattle.std.specs.Prelude.{◌≡◌, ℤ, pos, ◌+ℤ◌, Bool, true, List, filter, fold}
+use Rattle.std.specs.Prelude.{◌≡◌, ℤ, pos, ◌+ℤ◌, true, List, filter, fold}
 use Rattle.std.specs.List.{list_all}
 use Rattle.iss_model.specs.declared.currency.Currency.{Currency}
 use Rattle.iss_model.specs.declared.account.Account.{Account}
-use Rattle.iss_model.specs.declared.account.Account.TheVariants as account
-use Rattle.iss_model.specs.declared.entry.Entry.{Entry}
-use Rattle.iss_model.specs.declared.entry.Entry.TheVariants as entry
 use Rattle.iss_model.specs.Currencies.{same_currency}
+use Rattle.iss_model.specs.Sums.{account_currency}
 use Rattle.iss_model.specs.rules.Facts.{Facts, balance_in}
 use Rattle.iss_model.specs.rules.Histories.{History, history_facts}
 use Rattle.iss_model.specs.texts.BalanceLines.{accounts_of}
-
--- the currency of an account
-abbrev pub currency_of : Account → Currency
-currency_of (account.User user currency) = currency
-currency_of (account.Gateway currency) = currency
-currency_of (account.Programme currency) = currency
-currency_of (account.Network currency) = currency
-
--- a post moves money between accounts of one currency
-abbrev pub stays : Entry → Bool
-stays (entry.Post from to amount txn) = same_currency (currency_of from) (currency_of to)
-stays _ = true
+use Rattle.iss_acts.specs.Posts.{posts_within_one_currency}
 
 -- each post of a book stays in one currency
 abbrev pub PostsStay : History → Type 0
-PostsStay h = list_all (λ row. stays row.entry) h.rows ≡ true
+PostsStay h = list_all (λ row. posts_within_one_currency row.entry) h.rows ≡ true
 
 -- the accounts of one currency
 abbrev pub in_currency : Currency → List Account → List Account
-in_currency c accounts = filter (λ a. same_currency (currency_of a) c) accounts
+in_currency c accounts = filter (λ a. same_currency (account_currency a) c) accounts
 
 -- the balances of these accounts in all
 abbrev pub balances_in_all : Facts → List Account → ℤ

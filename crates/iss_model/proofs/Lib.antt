@@ -3,3 +3,4 @@ pub mod TokenOrder
 pub mod Names
 pub mod KeptSums
 pub mod Lists
+pub mod Accounts

@@ -87,16 +87,24 @@ outcome_number outcome.Refused = 2
 outcome_number outcome.Connection = 3
 outcome_number outcome.Application = 4
 
+-- who is moved, and to which state, with the token as `token_bytes` spells it
+abbrev pub spelled_moved : (List ℕ → List ℕ) → Moved → List ℕ
+spelled_moved token_bytes (moved.Card card to) = 1 ∷ token_bytes card ++ card_state_number to ∷ []
+spelled_moved token_bytes (moved.User user to) = 2 ∷ token_bytes user ++ user_state_number to ∷ []
+
 -- who is moved, and to which state
 abbrev pub moved_contents : Moved → List ℕ
-moved_contents (moved.Card card to) = 1 ∷ with_length card ++ card_state_number to ∷ []
-moved_contents (moved.User user to) = 2 ∷ with_length user ++ user_state_number to ∷ []
+moved_contents who = spelled_moved with_length who
+
+-- whose purchases a control counts, with the token as `token_bytes` spells it
+abbrev pub spelled_association : (List ℕ → List ℕ) → Association → List ℕ
+spelled_association token_bytes association.Anybody = 0 ∷ []
+spelled_association token_bytes (association.User user) = 1 ∷ token_bytes user
+spelled_association token_bytes (association.Product product) = 2 ∷ token_bytes product
 
 -- whose purchases a control counts
 abbrev pub association_contents : Association → List ℕ
-association_contents association.Anybody = 0 ∷ []
-association_contents (association.User user) = 1 ∷ with_length user
-association_contents (association.Product product) = 2 ∷ with_length product
+association_contents association = spelled_association with_length association
 
 -- at which merchants a control counts
 abbrev pub scope_contents : Scope → List ℕ

@@ -6,6 +6,7 @@ pub mod Calendar
 pub mod Sums
 pub mod Inputs
 pub mod Numbers
+pub mod Numbering
 pub mod Forms
 pub mod rules
 pub mod state

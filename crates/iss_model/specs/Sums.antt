@@ -27,6 +27,13 @@ changed_at key (c ∷ cs) = (if bytes_eq c.key key then c.by else pos 0) +ℤ ch
 abbrev pub sum_at : (Entry → List Change) → List ℕ → List Row → ℤ
 sum_at changes key rows = fold (λ sum row. sum +ℤ changed_at key (changes row.entry)) (pos 0) rows
 
+-- the currency of an account
+abbrev pub account_currency : Account → Currency
+account_currency (account.Gateway currency) = currency
+account_currency (account.Network currency) = currency
+account_currency (account.Programme currency) = currency
+account_currency (account.User user currency) = currency
+
 -- no token has a byte 0, so two accounts have one key only where they are one account
 abbrev pub account_key : Account → List ℕ
 account_key (account.Gateway currency) = 1 ∷ 0 ∷ iso_number currency ∷ []

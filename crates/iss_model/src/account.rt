@@ -1,4 +1,7 @@
 //! The accounts that posts move money between, and the parts of a hold.
+ghost use Rattle.std.specs.Prelude.{◌≡◌};
+ghost use Rattle.iss_model.specs.Sums.{account_currency};
+
 use crate::{Currency, Token};
 
 /// An account of the ledger, in one currency.
@@ -12,6 +15,20 @@ pub enum Account {
     Programme(Currency),
     /// What is owed to the card network.
     Network(Currency),
+}
+
+impl Account {
+    /// The currency of its balance.
+    pub fn currency(&self) -> Currency
+        ensures { result ≡ account_currency self.now }
+    {
+        match self {
+            Account::User(_, currency)
+            | Account::Gateway(currency)
+            | Account::Programme(currency)
+            | Account::Network(currency) => *currency,
+        }
+    }
 }
 
 /// A part of a hold, by who funds it.

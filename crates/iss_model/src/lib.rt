@@ -9,6 +9,7 @@
 
 mod account;
 mod call;
+mod counted;
 mod currency;
 mod decision;
 mod entry;
@@ -18,12 +19,14 @@ mod mccs;
 mod named;
 mod numbered;
 mod setting;
+mod state;
 mod token;
 mod txn;
 mod words;
 
 pub use account::{Account, Part};
 pub use call::{CallId, CallState, Failure, How, Method, Notice, Opened};
+pub use counted::{Counter, Span, Stood};
 pub use currency::Currency;
 pub use decision::{Answer, Judged, Reason, Reply, Verdict};
 pub use entry::{Entry, Row};
@@ -34,6 +37,10 @@ pub use numbered::Numbered;
 pub use setting::{
     Association, Card, CardState, Control, Funding, Moved, Product, Scope, Set, User, UserState,
     Window,
+};
+pub use state::{
+    Carried, CarriedList, CounterList, NoticeList, Saldo, SaldoList, Seen, SeenList, State,
+    StoodList, TxnSums,
 };
 pub use token::Token;
 pub use txn::{Txn, UsageRow, Used};

@@ -14,7 +14,7 @@ use Rattle.iss_texts.specs.declared.row.Texts.{Texts}
 use Rattle.iss_texts.specs.TextRows.{Gains, HasNone, HasAll}
 use Rattle.iss_texts.proofs.Rows.{gains_then, gained_all}
 use Rattle.iss_report.specs.Reported.{AreWhole}
-use Rattle.iss_report.proofs.Accounts.{same_accounts}
+use Rattle.iss_model.proofs.Accounts.{same_accounts}
 
 -- the lines of the first of some things, and of one more
 pub lines_more : {X : Type 0} (f : X → List ℕ) (xs : List X) (i : ℕ) (x : X) (a b c : Texts) → i < length xs → x ≡ get_or xs i x → Gains (map f (take i xs)) a b → Gains (f x ∷ []) b c → Gains (map f (take (i + 1) xs)) a c

@@ -18,7 +18,7 @@ use Rattle.iss_model.specs.rules.Pieces.{abandoned_calls_entries}
 use Rattle.iss_model.specs.rules.Stepping.{entries_of}
 use Rattle.iss_model.proofs.Lists.{find_passes}
 use Rattle.iss_acts.specs.Causes.{Cause, ComesOf, FallsDue}
-use Rattle.iss_acts.specs.Items.{Beginning, Item, Opening, StandTelling, Telling, Voiding, has_item, item_entry, may_begin, may_open_call, may_tell, may_void}
+use Rattle.iss_acts.specs.Items.{Beginning, Item, Opening, StandTelling, Telling, Voiding, has_item, item_entry, may_begin, may_open_call, may_tell, may_tell_stand_in, may_void}
 use Rattle.iss_acts.specs.Sources.{IsAskedCall, IsMade, IsOwnAsk, IsSettledAsk, IsTxnOf}
 use Rattle.iss_acts.specs.Stages.{Stage}
 use Rattle.iss_acts.proofs.Begun.{is_begun}
@@ -80,8 +80,8 @@ due_asks ask (inr more) = let none = more.its_input in cc
 -- and what they make
 
 -- an act that begins no transaction, asks the gateway nothing and tells it nothing
-quiet : (a : Act) → may_begin a ≡ false → may_open_call a ≡ false → may_void a ≡ false → may_tell a ≡ false → AreAccounts (act_entries a)
-quiet a begins asks voids tells = act_passes a each
+quiet : (a : Act) → may_begin a ≡ false → may_open_call a ≡ false → may_void a ≡ false → may_tell a ≡ false → may_tell_stand_in a ≡ false → AreAccounts (act_entries a)
+quiet a begins asks voids tells stands = act_passes a each
   where
     each : (x : Item) → has_item a x ≡ true → is_account_entry (item_entry x) ≡ true
     each (Beginning t) may = cc
@@ -107,7 +107,7 @@ module _ {f : Facts} {by : Cause} {at : ℕ} (facts : AccountFacts f) (own : Are
       subst (λ (calls : List CallNow). AreAccounts (abandoned_calls_entries number t why calls))
       (sym (made.from.2 ∙ ap (filter (λ c. is_asked c && bytes_eq c.opened.txn t.token)) facts.calls)) none_passes
   act_accounts g (Tells number news t amount gateway) made = let funded = its_txn facts made.from.0 in let none = made.from.1 in cc
-  act_accounts g a made = quiet a refl refl refl refl
+  act_accounts g a made = quiet a refl refl refl refl refl
 
   accounts_hold : Holds f by at (EachPasses is_account_entry)
   accounts_hold = record { none = none_passes; then = both_pass; act = act_accounts }

@@ -10,7 +10,6 @@ pub mod FormStates
 pub mod FormEntries
 pub mod OwnEntries
 pub mod Steps
-pub mod NoticePieces
 pub mod Notices
 pub mod Calls
 pub mod Legal

@@ -7,11 +7,10 @@ use Rattle.iss_model.specs.state.Cores.{CoreState}
 abbrev pub notices_in_sight : CoreState → ℕ
 notices_in_sight s = s.outbox.made + 2 * length (filter is_asked s.calls) + length (filter (λ t. t.live) s.holdings.txns)
 
--- So many records can have made so few calls and notices: each opens one call at most, and brings three notices in sight at most,
--- as an authorisation does with its call and its transaction.
+-- Records have made few calls and notices: each record opens one call at most, and brings four notices in sight at most.
 pub record HasFewNumbers (records : ℕ) (s : CoreState) : Type 0 where
   pub calls : length s.calls ≤ records
-  pub notices : notices_in_sight s ≤ 3 * records
+  pub notices : notices_in_sight s ≤ 4 * records
 
 -- a later state has no fewer calls, and made no fewer notices
 pub record HasNoFewer (s later : CoreState) : Type 0 where

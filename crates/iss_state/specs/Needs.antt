@@ -15,6 +15,7 @@ use Rattle.iss_model.specs.rules.Facts.{Facts}
 use Rattle.iss_model.specs.rules.Reasons.{card_reason, control_reason, group_reason, move_reason, product_reason, set_reason, switch_reason, user_reason}
 use Rattle.iss_model.specs.rules.Settings.{is_named_in}
 use Rattle.iss_model.specs.state.Cores.{CoreState, after_entry, core_facts}
+pub use Rattle.iss_acts.specs.Sources.{setting_reason}
 use Rattle.iss_state.specs.Stakes.{part_held, txn_tokens}
 
 -- the transactions of a state as they began, in their order
@@ -58,19 +59,6 @@ PostNeeds s (Some token) = is_named_in (txn_tokens s.holdings.txns) token ≡ tr
 pub record BeginNeeds (s : CoreState) (t : Txn) : Type 0 where
   pub unknown : is_named_in (txn_tokens s.holdings.txns) t.token ≡ false
   pub later : list_all (λ x. nat_lt x.origin t.origin) (begun_txns s) ≡ true
-
--- why a setting is declined; an input that is no setting has no such reason
-abbrev pub setting_reason : Facts → Input → Option Reason
-setting_reason f (input.User token user) = user_reason f user
-setting_reason f (input.Card token card user product active) = card_reason f card user product
-setting_reason f (input.Move token who) = move_reason f who
-setting_reason f (input.Product token product currency funding timeout_ms hold_ms) = product_reason f product
-setting_reason f (input.Group token group mccs) = group_reason f group
-setting_reason f (input.Control token control currency window amount_limit usage_limit association scope active) =
-    control_reason f control currency window association scope
-setting_reason f (input.Set token set product currency connection timeout application max day_limit active) = set_reason f set product currency
-setting_reason f (input.Switch token product on) = switch_reason f product
-setting_reason f _ = None
 
 -- What an entry needs of the state that it is entered into, but for how far sums reach and for the number of a notice.
 abbrev pub Fits : CoreState → Entry → Type 0

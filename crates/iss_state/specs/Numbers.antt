@@ -1,7 +1,9 @@
 -- How notices and calls are numbered.
 use Rattle.std.specs.Prelude.{List, [], ℕ, ◌+◌, ◌∷◌, ◌≡◌}
+use Rattle.iss_model.specs.declared.call.Notice.{Notice}
 use Rattle.iss_model.specs.declared.entry.Entry.{Entry}
 use Rattle.iss_model.specs.declared.entry.Entry.TheVariants as entry
+use Rattle.iss_model.specs.Numbering.{NumberedFrom}
 use Rattle.iss_model.specs.rules.Activity.{CallNow}
 
 -- the notices among entries have the numbers from this one on, one by one
@@ -12,5 +14,8 @@ AreNumberedFrom n (e ∷ es) = AreNumberedFrom n es
 
 -- calls have the numbers from this one on, in their order
 abbrev pub CallsNumberedFrom : ℕ → List CallNow → Type 0
-CallsNumberedFrom n [] = Unit {0}
-CallsNumberedFrom n (c ∷ cs) = (c.opened.call.0 ≡ n) × CallsNumberedFrom (n + 1) cs
+CallsNumberedFrom n calls = NumberedFrom (λ (c : CallNow). c.opened.call.0) n calls
+
+-- notices have the numbers from this one on, in their order
+abbrev pub NoticesNumberedFrom : ℕ → List Notice → Type 0
+NoticesNumberedFrom n notices = NumberedFrom (λ (notice : Notice). notice.number) n notices

@@ -11,7 +11,7 @@ ghost use Rattle.iss_state.specs.Sound.{IsNewEvent};
 ghost use Rattle.iss_state.specs.Pending.{IsWell, HasTakenUp};
 ghost use Rattle.iss_state.specs.Few.{HasFewNumbers, HasNoFewer};
 
-/// Records open one call each at most, and bring three notices each in sight at most: what is due opens no call and makes no
+/// Records open one call each at most, and bring four notices each in sight at most: what is due opens no call and makes no
 /// notice that wasn't in sight. Entries lose no call, and no notice that was made.
 pub fn few_numbers_are_given()
     ensures begins { HasFewNumbers 0 no_core }

@@ -27,7 +27,7 @@ pub record AreHistory (rs : List Record) : Type 0 where
   pub legal : IsLegal rs
   pub spelled : IsTrue (list_all is_record rs)
 
--- A store stands for these records: they are a history, its core's state is the one that they make, and they end at its gate.
+-- A store stands for these records: they are a history, its core's state is like the one that they make, and they end at its gate.
 pub record StandsFor (s : StoreNow) (rs : List Record) : Type 0 where
   pub history : AreHistory rs
   pub core : cores.StandsFor s.core rs

@@ -20,7 +20,7 @@ use Rattle.iss_model.specs.declared.txn.Txn.{Txn}
 use Rattle.iss_model.specs.rules.Activity.{CallNow}
 use Rattle.iss_model.specs.rules.Asks.{Ask, call_ask, ask_usage}
 use Rattle.iss_model.specs.rules.Facts.{Facts}
-use Rattle.iss_model.specs.rules.Pieces.{hold_entries, Parts, taken_to_clear, release_entries, notice_entry, void_entry, declined_ask_entries, funded_ask_entries, call_for, clearing_money_entries, abandoned_calls_entries, set_stand_in_entries, load_entries, setting_entries, refund_money_entries}
+use Rattle.iss_model.specs.rules.Pieces.{hold_entries, Parts, taken_to_clear, release_entries, notice_entry, void_entry, declined_ask_entries, funded_ask_entries, call_for, clearing_money_entries, abandoned_calls_entries, set_stand_in_entries, load_entries, setting_entries, give_back_entries}
 
 -- what a notice tells of a transaction, other than that a call is void or that a set stood in
 pub data News : Type 0 where
@@ -97,7 +97,7 @@ act_entries (Abandons number t why calls parts) = abandoned_calls_entries number
 act_entries (LetsGo t parts amount) = release_entries t parts amount
 act_entries (Ends t) = entry.Ended t.token ∷ []
 act_entries (Clears t parts amount at) = clearing_money_entries t (taken_to_clear parts amount) amount at
-act_entries (GivesBack t amount programme) = refund_money_entries t amount programme
+act_entries (GivesBack t amount programme) = give_back_entries t amount programme
 act_entries (Tells number news t amount gateway) = notice_entry number (news_method news) t None amount gateway ∷ []
 act_entries (Does event) = entry.Decided event verdict.Done ∷ []
 act_entries (Acknowledges notice) = entry.Acked notice ∷ []

@@ -1,6 +1,7 @@
 -- The acts of card events and of the gateway's answers, if they aren't declined.
 use Rattle.std.specs.Prelude.{ℕ, ◌+◌, ◌-◌, min, ◌==◌, List, [], ◌∷◌, ◌++◌, Option, Some, None, if◌then◌else◌, Bool, ◌&&◌, ◌||◌}
 use Rattle.iss_model.specs.declared.call.Failure.TheVariants as failure
+use Rattle.iss_model.specs.declared.call.CallId.{CallId}
 use Rattle.iss_model.specs.declared.call.Failure.{Failure}
 use Rattle.iss_model.specs.declared.call.Opened.{Opened}
 use Rattle.iss_model.specs.declared.decision.Reason.TheVariants as reason
@@ -13,7 +14,7 @@ use Rattle.iss_model.specs.rules.Activity.{CallNow, TxnNow, is_asked}
 use Rattle.iss_model.specs.rules.Acts.{reversed, captured, refunded, Act, Begins, Uses, HoldsOwn, Asks, Funds, Refuses, Fails, StandsIn, TurnsDown, Abandons, LetsGo, Ends, Clears, GivesBack, Tells, Does}
 use Rattle.iss_model.specs.rules.Asks.{Ask, call_ask}
 use Rattle.iss_model.specs.rules.CardReasons.{is_account_funded}
-use Rattle.iss_model.specs.rules.Facts.{Facts, asked_calls_of, txn_in, next_notice}
+use Rattle.iss_model.specs.rules.Facts.{call_in, Facts, asked_calls_of, txn_in, next_notice}
 use Rattle.iss_model.specs.rules.Pieces.{Parts, parts_held, in_all, left_of, taken_to_clear, notice_after_abandonment, owed_to_programme, failure_reason}
 use Rattle.iss_model.specs.rules.Settings.{product_named, is_named_in}
 use Rattle.iss_model.specs.rules.StandIns.{Stand, allowed, over_limit, uncovered, stand}
@@ -79,12 +80,9 @@ abbrev pub increment_acts : Facts → Option Ask → List Act
 increment_acts f None = []
 increment_acts f (Some ask) = Uses ask ∷ funding_acts f ask
 
--- a reversal
-abbrev pub reversal_acts : Facts → List ℕ → ℕ → Option TxnNow → List Act
-reversal_acts f token amount None = []
-reversal_acts f token amount (Some now) =
-    let t = now.txn in
-    let parts = parts_held f t in
+-- a transaction that holds these parts is reversed by an amount
+abbrev pub reversed_acts : Facts → List ℕ → ℕ → Txn → Parts → List Act
+reversed_acts f token amount t parts =
     let freed = min amount (in_all parts) in
     let gateway = min (freed - parts.p) parts.g in
     Abandons (next_notice f) t reason.Reversed (asked_calls_of f t.token) parts
@@ -93,20 +91,27 @@ reversal_acts f token amount (Some now) =
     ++ acts_for_gateway t (acts_where freed (Tells (notice_after_abandonment (next_notice f) f t) reversed t freed gateway ∷ []))
     ++ Does token ∷ []
 
+-- a reversal, of a transaction that is known
+abbrev pub reversal_acts : Facts → List ℕ → ℕ → Option TxnNow → List Act
+reversal_acts f token amount None = []
+reversal_acts f token amount (Some now) = reversed_acts f token amount now.txn (parts_held f now.txn)
+
 -- what follows on a clearing's money: the transaction ends, or goes on
 abbrev pub after_clearing_acts : Facts → Txn → Parts → ℕ → Bool → List Act
 after_clearing_acts f t rest amount ends =
     if ends then end_acts (next_notice f) f t rest reason.Cleared ++ acts_for_gateway t (Tells (notice_after_abandonment (next_notice f) f t) captured t amount rest.g ∷ [])
     else acts_for_gateway t (Tells (next_notice f) captured t amount 0 ∷ [])
 
--- a clearing
+-- a transaction that holds these parts is cleared by an amount: it ends if it is live, and this is its last clearing or leaves nothing held
+abbrev pub cleared_acts : Facts → List ℕ → ℕ → Bool → ℕ → TxnNow → Parts → List Act
+cleared_acts f token amount last at now parts =
+    let rest = left_of parts (taken_to_clear parts amount) in
+    Clears now.txn parts amount at ∷ after_clearing_acts f now.txn rest amount (now.live && (last || in_all rest == 0)) ++ Does token ∷ []
+
+-- a clearing, of a transaction that is known
 abbrev pub clearing_acts : Facts → List ℕ → ℕ → Bool → ℕ → Option TxnNow → List Act
 clearing_acts f token amount last at None = []
-clearing_acts f token amount last at (Some now) =
-    let t = now.txn in
-    let parts = parts_held f t in
-    let rest = left_of parts (taken_to_clear parts amount) in
-    Clears t parts amount at ∷ after_clearing_acts f t rest amount (now.live && (last || in_all rest == 0)) ++ Does token ∷ []
+clearing_acts f token amount last at (Some now) = cleared_acts f token amount last at now (parts_held f now.txn)
 
 -- a refund
 abbrev pub refund_acts : Facts → List ℕ → ℕ → Option TxnNow → List Act
@@ -115,3 +120,7 @@ refund_acts f token amount (Some now) =
     let t = now.txn in
     let programme = min amount (owed_to_programme f t) in
     GivesBack t amount programme ∷ acts_for_gateway t (Tells (next_notice f) refunded t amount (amount - programme) ∷ []) ++ Does token ∷ []
+
+-- the gateway's answer to a call
+abbrev pub answer_acts : CallId → Outcome → ℕ → Facts → List Act
+answer_acts call what at f = acts_of_asked (λ o t. outcome_acts what f o t at) (call_in f call.0) f

@@ -37,7 +37,7 @@ pub record Facts : Type 0 where
   pub now : ℕ
   pub count : ℕ
   pub accepted : List Accepted
-  pub decisions : List Decision
+  pub decisions : List ℕ → Option Verdict
   pub users : List User
   pub cards : List Card
   pub products : List Product
@@ -62,18 +62,22 @@ abbrev pub decision_of : Entry → Option Decision
 decision_of (entry.Decided event verdict) = Some (record { event = event; verdict = verdict })
 decision_of _ = None
 
+-- how an event was decided first, if it is decided
+abbrev pub verdict_in : List Decision → List ℕ → Option Verdict
+verdict_in ds event = option_map (λ d. d.verdict) (find (λ d. bytes_eq d.event event) ds)
+
 -- the first record of an event
 abbrev pub event_in : Facts → List ℕ → Option Accepted
 event_in f token = find (λ a. is_event token a.input) f.accepted
 
 -- what is told of an event that was decided, or not yet
-abbrev pub reply_of_decision : Option Decision → Reply
-reply_of_decision None = Pending
-reply_of_decision (Some d) = Decided d.verdict
+abbrev pub reply_of_verdict : Option Verdict → Reply
+reply_of_verdict None = Pending
+reply_of_verdict (Some v) = Decided v
 
 -- an event's verdict, or that its call is still open
 abbrev pub reply_in : Facts → List ℕ → Reply
-reply_in f token = reply_of_decision (find (λ d. bytes_eq d.event token) f.decisions)
+reply_in f token = reply_of_verdict (f.decisions token)
 
 -- what is told of an event, where it stands
 abbrev pub event_reply : Facts → List ℕ → Option Reply

@@ -10,7 +10,7 @@ use Rattle.iss_model.specs.Inputs.{event_token}
 use Rattle.iss_model.specs.rules.Settings.{users_of, cards_of, products_of, switched_of}
 use Rattle.iss_model.specs.rules.Controls.{groups_of, controls_of, sets_of}
 use Rattle.iss_model.specs.rules.Activity.{txns_of, calls_of, notices_of, pending_of}
-use Rattle.iss_model.specs.rules.Facts.{Facts, Accepted, decision_of}
+use Rattle.iss_model.specs.rules.Facts.{Facts, Accepted, decision_of, verdict_in}
 use Rattle.iss_model.specs.rules.Keeper.{Keeper}
 use Rattle.iss_model.specs.rules.Stepping.{step}
 use Rattle.iss_model.specs.rules.Judging.{judge}
@@ -44,7 +44,7 @@ history_facts h =
       now = time_of h.records;
       count = length h.records;
       accepted = events_of h.records;
-      decisions = filter_map (λ row. decision_of row.entry) h.rows;
+      decisions = verdict_in (filter_map (λ row. decision_of row.entry) h.rows);
       users = users_of h.rows;
       cards = cards_of h.rows;
       products = products_of h.rows;

@@ -200,8 +200,8 @@ abbrev pub owed_to_programme : Facts → Txn → ℕ
 owed_to_programme f t = not_below (f.paid t.token -ℤ pos (parts_held f t).p)
 
 -- a refund's posts
-abbrev pub refund_money_entries : Txn → ℕ → ℕ → List Entry
-refund_money_entries t amount programme =
+abbrev pub give_back_entries : Txn → ℕ → ℕ → List Entry
+give_back_entries t amount programme =
     post_entries t (account.Network t.currency) (user_account t) amount
     ++ only_gateway t (post_entries t (user_account t) (account.Programme t.currency) programme ++ post_entries t (user_account t) (account.Gateway t.currency) (amount - programme))
 

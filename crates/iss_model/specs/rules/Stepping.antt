@@ -8,7 +8,7 @@ use Rattle.iss_model.specs.declared.input.Input.{Input}
 use Rattle.iss_model.specs.declared.input.Record.{Record}
 use Rattle.iss_model.specs.rules.Acts.{Act, Declines, Sets, Loads, Acknowledges, entries_of_acts}
 use Rattle.iss_model.specs.rules.Asks.{Ask}
-use Rattle.iss_model.specs.rules.CardActs.{outcome_acts, acts_of_asked, authorization_acts, increment_acts, reversal_acts, clearing_acts, refund_acts}
+use Rattle.iss_model.specs.rules.CardActs.{answer_acts, authorization_acts, increment_acts, reversal_acts, clearing_acts, refund_acts}
 use Rattle.iss_model.specs.rules.CardReasons.{txn_asked, first_ask, further_ask, authorization_reason, increment_reason, reversal_reason, clearing_reason, refund_reason}
 use Rattle.iss_model.specs.rules.Due.{DueItem, due_items, thing_entries}
 use Rattle.iss_model.specs.rules.Facts.{Facts, txn_in, call_in, is_notice}
@@ -28,6 +28,10 @@ increment_ask f token txn amount at = option_map (λ now. further_ask token amou
 abbrev pub acts_unless : Option Reason → List ℕ → List Act → List Act
 acts_unless (Some why) token acts = Declines token why ∷ []
 acts_unless None token acts = acts
+
+-- a notice is acknowledged; one that was never made isn't
+abbrev pub acknowledgement_acts : Facts → ℕ → List Act
+acknowledgement_acts f notice = if is_notice f notice then Acknowledges notice ∷ [] else []
 
 -- the acts of an input at a moment
 abbrev pub acts_of : Input → ℕ → Facts → List Act
@@ -58,8 +62,8 @@ acts_of (input.Clearing token txn currency amount last) at f =
     acts_unless (clearing_reason (txn_in f txn) currency) token (clearing_acts f token amount last at (txn_in f txn))
 acts_of (input.Refund token txn currency amount) at f =
     acts_unless (refund_reason f (txn_in f txn) currency amount) token (refund_acts f token amount (txn_in f txn))
-acts_of (input.Answer call what) at f = acts_of_asked (λ o t. outcome_acts what f o t at) (call_in f call.0) f
-acts_of (input.Ack notice) at f = if is_notice f notice then Acknowledges notice ∷ [] else []
+acts_of (input.Answer call what) at f = answer_acts call what at f
+acts_of (input.Ack notice) at f = acknowledgement_acts f notice
 acts_of input.Time at f = []
 
 -- the entries of an input at a moment

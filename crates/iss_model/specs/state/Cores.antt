@@ -27,7 +27,7 @@ use Rattle.iss_model.specs.Inputs.{event_token}
 use Rattle.iss_model.specs.rules.Settings.{first_card_state, default_product, product_made}
 use Rattle.iss_model.specs.rules.Controls.{Group, ControlPut, control_put, control_replaced, set_put, set_replaced, ControlNow, counted_changes}
 use Rattle.iss_model.specs.rules.Activity.{TxnNow, CallNow, is_asked}
-use Rattle.iss_model.specs.rules.Facts.{Facts, Accepted, Decision}
+use Rattle.iss_model.specs.rules.Facts.{Facts, Accepted, Decision, verdict_in}
 use Rattle.iss_model.specs.rules.Keeper.{Keeper}
 use Rattle.iss_model.specs.rules.Stepping.{step}
 
@@ -60,7 +60,7 @@ pub record Holdings : Type 0 where
   pub held : Kept
 
 -- what was cleared of each transaction, what was refunded of it, and what the programme has paid for it
-pub record TxnSums : Type 0 where
+pub record SumsByTxn : Type 0 where
   pub cleared : Kept
   pub refunded : Kept
   pub paid : Kept
@@ -83,7 +83,7 @@ pub record CoreState : Type 0 where
   pub stand_ins : StandIns
   pub balances : Kept
   pub holdings : Holdings
-  pub txn_sums : TxnSums
+  pub txn_sums : SumsByTxn
   pub calls : List CallNow
   pub outbox : Outbox
 
@@ -237,7 +237,7 @@ abbrev pub with_end : Holdings → List ℕ → Holdings
 with_end h token = record h { txns = map (txn_after_end token) h.txns }
 
 -- what a post changes of its transaction's sums
-abbrev pub with_post : TxnSums → Entry → TxnSums
+abbrev pub with_post : SumsByTxn → Entry → SumsByTxn
 with_post sums e =
     record {
       cleared = after_changes sums.cleared (txn_changes cleared_by e);
@@ -308,7 +308,7 @@ core_facts s =
       now = s.now;
       count = s.count;
       accepted = s.accepted;
-      decisions = s.decisions;
+      decisions = verdict_in s.decisions;
       users = s.cardholders.users;
       cards = s.cardholders.cards;
       products = map (λ p. p.product) s.products;

@@ -1,4 +1,5 @@
 -- The bytes of a record: its kind, its stamp, and its fields in a row. All numbers are big-endian.
+-- How a token is spelled is a parameter of what holds tokens, so that a table can stand in for their texts.
 use Rattle.std.specs.Prelude.{ℕ, Bool, ◌&&◌, List, [], ◌∷◌, ◌++◌, length, get_or, ◌<◌, Option, Some, None}
 use Rattle.std.specs.Int.{bytes_high_first}
 use Rattle.std.specs.List.{list_all, flat_map}
@@ -15,13 +16,13 @@ use Rattle.iss_model.specs.declared.input.Record.{Record}
 use Rattle.iss_model.specs.Tokens.{is_token}
 use Rattle.iss_model.specs.Currencies.{iso_number}
 use Rattle.iss_model.specs.Forms.{is_stamp, is_in_form}
-use Rattle.iss_model.specs.Inputs.{with_length, flag_contents, funding_number, window_number, outcome_number, moved_contents, association_contents}
+use Rattle.iss_model.specs.Inputs.{with_length, flag_contents, funding_number, window_number, outcome_number, spelled_moved, spelled_association}
 
 -- each of these numbers is a byte
 abbrev pub AreBytes : List ℕ → Type 0
 AreBytes bytes = (i : ℕ) → get_or bytes i 0 < 256
 
--- a number in so many bytes, the highest first
+-- a number in `width` bytes, the highest first
 unfoldable pub number_bytes : ℕ → ℕ → List ℕ
 number_bytes width n = bytes_high_first width n
 
@@ -45,13 +46,6 @@ limit_bytes width (Some limit) = 1 ∷ number_bytes width limit
 -- the limits of a control
 abbrev pub limits_bytes : Option ℕ → Option ℕ → List ℕ
 limits_bytes amount_limit usage_limit = limit_bytes 8 amount_limit ++ limit_bytes 4 usage_limit
-
--- at which merchants a control counts
-abbrev pub scope_bytes : Scope → List ℕ
-scope_bytes scope.All = 0 ∷ []
-scope_bytes (scope.Mcc mcc) = 1 ∷ mcc_bytes mcc
-scope_bytes (scope.Group group) = 2 ∷ with_length group
-scope_bytes (scope.Mid mid) = 3 ∷ with_length mid
 
 -- the codes of a group, after their count
 abbrev pub mccs_bytes : List ℕ → List ℕ
@@ -77,39 +71,64 @@ kind_number (input.Answer call outcome) = 15
 kind_number (input.Ack notice) = 16
 kind_number input.Time = 17
 
--- what an operation on a transaction has in its bytes
+-- The spelling of what holds tokens, with each token as `token_bytes` spells it.
+module _ (token_bytes : List ℕ → List ℕ) where
+  -- at which merchants a control counts
+  abbrev pub spelled_scope : Scope → List ℕ
+  spelled_scope scope.All = 0 ∷ []
+  spelled_scope (scope.Mcc mcc) = 1 ∷ mcc_bytes mcc
+  spelled_scope (scope.Group group) = 2 ∷ token_bytes group
+  spelled_scope (scope.Mid mid) = 3 ∷ token_bytes mid
+
+  -- an operation's token, whom or what it is about, and its amount
+  abbrev pub spelled_operation : List ℕ → List ℕ → Currency → ℕ → List ℕ
+  spelled_operation token about currency amount = token_bytes token ++ token_bytes about ++ currency_bytes currency ++ amount_bytes amount
+
+  -- the fields of an input, one after the other
+  abbrev pub spelled_fields : Input → List ℕ
+  spelled_fields (input.User token user) = token_bytes token ++ token_bytes user
+  spelled_fields (input.Card token card user product active) =
+      token_bytes token ++ token_bytes card ++ token_bytes user ++ token_bytes product ++ flag_contents active
+  spelled_fields (input.Move token who) = token_bytes token ++ spelled_moved token_bytes who
+  spelled_fields (input.Product token product currency funding timeout_ms hold_ms) =
+      token_bytes token ++ token_bytes product ++ currency_bytes currency ++ (funding_number funding ∷ []) ++ number_bytes 4 timeout_ms
+      ++ number_bytes 4 hold_ms
+  spelled_fields (input.Group token group mccs) = token_bytes token ++ token_bytes group ++ mccs_bytes mccs
+  spelled_fields (input.Control token control currency window amount_limit usage_limit association scope active) =
+      token_bytes token ++ token_bytes control ++ currency_bytes currency ++ (window_number window ∷ []) ++ limits_bytes amount_limit usage_limit
+      ++ spelled_association token_bytes association ++ spelled_scope scope ++ flag_contents active
+  spelled_fields (input.Set token set product currency connection timeout application max day_limit active) =
+      token_bytes token ++ token_bytes set ++ token_bytes product ++ currency_bytes currency ++ flag_contents connection ++ flag_contents timeout ++ flag_contents application
+      ++ amount_bytes max ++ amount_bytes day_limit ++ flag_contents active
+  spelled_fields (input.Switch token product on) = token_bytes token ++ token_bytes product ++ flag_contents on
+  spelled_fields (input.Load token user currency amount) = spelled_operation token user currency amount
+  spelled_fields (input.Authorization token card currency amount mcc mid) =
+      spelled_operation token card currency amount ++ mcc_bytes mcc ++ token_bytes mid
+  spelled_fields (input.Increment token txn currency amount) = spelled_operation token txn currency amount
+  spelled_fields (input.Reversal token txn currency amount) = spelled_operation token txn currency amount
+  spelled_fields (input.Clearing token txn currency amount last) = spelled_operation token txn currency amount ++ flag_contents last
+  spelled_fields (input.Refund token txn currency amount) = spelled_operation token txn currency amount
+  spelled_fields (input.Answer call outcome) = number_bytes 4 call.0 ++ outcome_number outcome ∷ []
+  spelled_fields (input.Ack notice) = number_bytes 4 notice
+  spelled_fields input.Time = []
+
+  -- an input after its kind and this stamp
+  abbrev pub spelled_input : ℕ → Input → List ℕ
+  spelled_input at i = kind_number i ∷ (number_bytes 8 at ++ spelled_fields i)
+
+-- at which merchants a control counts, each token after its length
+abbrev pub scope_bytes : Scope → List ℕ
+scope_bytes scope = spelled_scope with_length scope
+
+-- an operation's token, whom or what it is about, and its amount, each token after its length
 abbrev pub operation_bytes : List ℕ → List ℕ → Currency → ℕ → List ℕ
-operation_bytes token txn currency amount = with_length token ++ with_length txn ++ currency_bytes currency ++ amount_bytes amount
+operation_bytes token about currency amount = spelled_operation with_length token about currency amount
 
--- the fields of an input, one after the other
+-- the fields of an input, one after the other, each token after its length
 unfoldable pub field_bytes : Input → List ℕ
-field_bytes (input.User token user) = with_length token ++ with_length user
-field_bytes (input.Card token card user product active) =
-    with_length token ++ with_length card ++ with_length user ++ with_length product ++ flag_contents active
-field_bytes (input.Move token who) = with_length token ++ moved_contents who
-field_bytes (input.Product token product currency funding timeout_ms hold_ms) =
-    with_length token ++ with_length product ++ currency_bytes currency ++ (funding_number funding ∷ []) ++ number_bytes 4 timeout_ms
-    ++ number_bytes 4 hold_ms
-field_bytes (input.Group token group mccs) = with_length token ++ with_length group ++ mccs_bytes mccs
-field_bytes (input.Control token control currency window amount_limit usage_limit association scope active) =
-    with_length token ++ with_length control ++ currency_bytes currency ++ (window_number window ∷ []) ++ limits_bytes amount_limit usage_limit
-    ++ association_contents association ++ scope_bytes scope ++ flag_contents active
-field_bytes (input.Set token set product currency connection timeout application max day_limit active) =
-    with_length token ++ with_length set ++ with_length product ++ currency_bytes currency ++ flag_contents connection ++ flag_contents timeout ++ flag_contents application
-    ++ amount_bytes max ++ amount_bytes day_limit ++ flag_contents active
-field_bytes (input.Switch token product on) = with_length token ++ with_length product ++ flag_contents on
-field_bytes (input.Load token user currency amount) = operation_bytes token user currency amount
-field_bytes (input.Authorization token card currency amount mcc mid) =
-    operation_bytes token card currency amount ++ mcc_bytes mcc ++ with_length mid
-field_bytes (input.Increment token txn currency amount) = operation_bytes token txn currency amount
-field_bytes (input.Reversal token txn currency amount) = operation_bytes token txn currency amount
-field_bytes (input.Clearing token txn currency amount last) = operation_bytes token txn currency amount ++ flag_contents last
-field_bytes (input.Refund token txn currency amount) = operation_bytes token txn currency amount
-field_bytes (input.Answer call outcome) = number_bytes 4 call.0 ++ outcome_number outcome ∷ []
-field_bytes (input.Ack notice) = number_bytes 4 notice
-field_bytes input.Time = []
+field_bytes i = spelled_fields with_length i
 
--- an input after its kind and this stamp
+-- an input after its kind and this stamp, each token after its length
 abbrev pub input_bytes : ℕ → Input → List ℕ
 input_bytes at i = kind_number i ∷ (number_bytes 8 at ++ field_bytes i)
 
@@ -122,13 +141,13 @@ abbrev pub moved_token : Moved → List ℕ
 moved_token (moved.Card card to) = card
 moved_token (moved.User user to) = user
 
--- the token that an association names, where it names one
+-- the token that an association names, if it names one
 abbrev pub association_tokens : Association → List (List ℕ)
 association_tokens association.Anybody = []
 association_tokens (association.User user) = user ∷ []
 association_tokens (association.Product product) = product ∷ []
 
--- the token that a scope names, where it names one
+-- the token that a scope names, if it names one
 abbrev pub scope_tokens : Scope → List (List ℕ)
 scope_tokens scope.All = []
 scope_tokens (scope.Mcc mcc) = []
@@ -156,9 +175,13 @@ tokens_of (input.Answer call outcome) = []
 tokens_of (input.Ack notice) = []
 tokens_of input.Time = []
 
--- each field of an input is of its form, and each name a token
+-- each field of an input is of its form, and each of its tokens passes this test
+abbrev pub has_fields : (List ℕ → Bool) → Input → Bool
+has_fields is_name i = is_in_form i && list_all is_name (tokens_of i)
+
+-- each field of an input is of its form, and each name is a token
 abbrev pub has_spelling : Input → Bool
-has_spelling i = is_in_form i && list_all is_token (tokens_of i)
+has_spelling i = has_fields is_token i
 
 -- what is spelled: a record of a stamp and an input in form
 abbrev pub is_record : Record → Bool

@@ -1,79 +1,65 @@
 -- What is told of calls after all that is due: unknown ones stay unknown, closed ones closed, and asked ones are asked until a deadline or an expiry.
-use Rattle.std.proofs.Common.{◌≡◌, ℕ, ◌<◌, Bool, true, false, not, cond, ◌&&◌, ◌||◌, nat_eq, nat_le, nat_lt, List, [], ◌∷◌, map, filter, fold, refl, sym, ap, ◌∙◌, arith}
-use Rattle.std.specs.Prelude.{Option, Some, None, option_map, find}
+use Rattle.std.proofs.Common.{◌≡◌, ℕ, ◌<◌, Bool, true, false, not, ◌&&◌, ◌||◌, nat_eq, nat_le, nat_lt, List, [], ◌∷◌, map, fold, refl, sym, ap, ◌∙◌, arith}
+use Rattle.std.specs.Prelude.{Some, None, option_map, find}
+use Rattle.std.specs.List.{list_all}
+use Rattle.std.proofs.lemmas.Bool.{and_parts}
 use Rattle.std.proofs.lemmas.Bool.Decides.{nat_tests}
-use Rattle.iss_model.specs.declared.call.Failure.TheVariants as failure
-use Rattle.iss_model.specs.declared.call.How.{How}
-use Rattle.iss_model.specs.declared.call.How.TheVariants as how
 use Rattle.iss_model.specs.declared.call.Opened.{Opened}
-use Rattle.iss_model.specs.declared.decision.Reason.{Reason}
-use Rattle.iss_model.specs.declared.decision.Reason.TheVariants as reason
 use Rattle.iss_model.specs.declared.entry.Entry.{Entry}
-use Rattle.iss_model.specs.rules.Activity.{TxnNow, CallNow, txn_named, call_numbered, is_asked}
-use Rattle.iss_acts.specs.Rows.{failed_call_entries, entries_of_txn, entries_of_asked, expiry_entries, live_expiry_entries}
-use Rattle.iss_model.specs.rules.Due.{DueThing, call_due, DueItem, txn_due, due_items, thing_entries}
+use Rattle.iss_model.specs.declared.entry.Entry.TheVariants as entry
+use Rattle.iss_model.specs.rules.Activity.{TxnNow, CallNow, call_numbered, is_asked}
+use Rattle.iss_model.specs.rules.Acts.{Act, Asks}
+use Rattle.iss_model.specs.rules.Due.{DueThing, DueItem, due_items, thing_entries}
 use Rattle.iss_model.specs.rules.Facts.{txn_in, call_in}
 use Rattle.iss_model.specs.rules.Keeper.{Growth}
 use Rattle.iss_model.specs.rules.Reasons.{is_some_with}
 use Rattle.iss_model.specs.rules.Stepping.{settle, after_due}
 use Rattle.iss_model.specs.state.Cores.{CoreState, core_facts, call_after_close, core_keeper, after_entry}
 use Rattle.iss_model.proofs.Lists.{map-alike, map-map}
+use Rattle.iss_acts.specs.Causes.{FallsDue, may_act}
+use Rattle.iss_acts.specs.Items.{Item, Opening, has_item, item_entry}
+use Rattle.iss_acts.proofs.Walk.{due_holds, each_item}
+use Rattle.iss_state.proofs.effects.Effects.{setting_calls}
 use Rattle.iss_state.proofs.effects.Finds.{find-map}
-use Rattle.iss_state.specs.Dockets.{Docket, docket_after, docket_of, is_docketed}
-use Rattle.iss_state.proofs.docket.Abandoning.{after_closing, asked_in}
 use Rattle.iss_state.proofs.docket.Closing.{same_opened}
-use Rattle.iss_state.proofs.docket.Docketed.{closings}
 use Rattle.iss_state.proofs.docket.Lists.{none_mapped}
 use Rattle.iss_state.specs.Pending.{IsWell, known_of}
-use Rattle.iss_state.proofs.calls.Due.{failed_closes}
 use Rattle.iss_state.proofs.calls.DueHits.{after_due_fate}
-use Rattle.iss_state.proofs.calls.Fates.{Fate, calls_after_closes, expired_calls, sweep_leaves_closed}
-use Rattle.iss_state.proofs.calls.Staying.{comes_to}
+use Rattle.iss_state.proofs.calls.Fates.{Fate, sweep_leaves_closed}
 
 -- what is due opens no call ----
 
 abbrev pub openings : List CallNow → List Opened
 openings calls = map (λ c. c.opened) calls
 
-closed_openings : (k : ℕ) (how : How) (calls : List CallNow) → openings (map (call_after_close k how) calls) ≡ openings calls
-closed_openings k how calls = map-map (call_after_close k how) (λ (c : CallNow). c.opened) calls ∙ map-alike (λ (c : CallNow). (call_after_close k how c).opened) (λ (c : CallNow). c.opened) (same_opened k how) calls
+-- an entry opens no call
+abbrev opens_none : Entry → Bool
+opens_none (entry.Opened o) = false
+opens_none _ = true
 
-closings_openings : (why : Reason) (cs : List CallNow) (docket : Docket) → openings (fold docket_after docket (closings why cs)).calls ≡ openings docket.calls
-closings_openings why [] docket = refl
-closings_openings why (x ∷ xs) docket =
-    closings_openings why xs (after_closing why docket x)
-    ∙ closed_openings x.opened.call.0 how.Abandoned docket.calls
+due_opens_none : (a : Act) → may_act FallsDue a ≡ true → (x : Item) → has_item a x ≡ true → opens_none (item_entry x) ≡ true
+due_opens_none (Asks f product ask) cause x may = cc
+due_opens_none _ cause (Opening o) may = cc
+due_opens_none _ cause _ may = refl
 
-txn_openings : (s : CoreState) (at : ℕ) (d : CallNow) (now : Option TxnNow)
-    → openings (fold after_entry s (entries_of_txn (λ t. failed_call_entries (core_facts s) d.opened t failure.Timeout at) now)).calls ≡ openings s.calls
-txn_openings s at d None = refl
-txn_openings s at d (Some now) =
-    let es : List Entry = failed_call_entries (core_facts s) d.opened now.txn failure.Timeout at in
-    ap (λ (docket : Docket). openings docket.calls) (comes_to s es (filter is_docketed es) refl)
-    ∙ ap openings (calls_after_closes (docket_of s) d.opened now.txn es (failed_closes (core_facts s) d.opened now.txn failure.Timeout at))
-    ∙ closed_openings d.opened.call.0 (failed_closes (core_facts s) d.opened now.txn failure.Timeout at).its_how s.calls
+entry_openings : (s : CoreState) (e : Entry) → opens_none e ≡ true → openings (after_entry s e).calls ≡ openings s.calls
+entry_openings s (entry.Conf i) none = ap openings (setting_calls s i)
+entry_openings s (entry.Opened o) none = cc
+entry_openings s (entry.Closed call how) none =
+    map-map (call_after_close call.0 how) (λ (c : CallNow). c.opened) s.calls
+    ∙ map-alike (λ (c : CallNow). (call_after_close call.0 how c).opened) (λ (c : CallNow). c.opened) (same_opened call.0 how) s.calls
+entry_openings s (entry.Began t) none = refl
+entry_openings s _ none = refl
 
-asked_openings : (s : CoreState) (at : ℕ) (o : Option CallNow)
-    → openings (fold after_entry s (entries_of_asked (λ o t. failed_call_entries (core_facts s) o t failure.Timeout at) o (core_facts s))).calls ≡ openings s.calls
-asked_openings s at None = refl
-asked_openings s at (Some d) = by (is_asked d)
-  where
-    by : (b : Bool)
-        → openings (fold after_entry s (cond b (entries_of_txn (λ t. failed_call_entries (core_facts s) d.opened t failure.Timeout at) (txn_named d.opened.txn s.holdings.txns)) [])).calls ≡ openings s.calls
-    by true = txn_openings s at d (txn_named d.opened.txn s.holdings.txns)
-    by false = refl
-
-live_openings : (s : CoreState) (now : Option TxnNow) → openings (fold after_entry s (live_expiry_entries (core_facts s) now)).calls ≡ openings s.calls
-live_openings s None = refl
-live_openings s (Some now) = by now.live
-  where
-    by : (b : Bool) → openings (fold after_entry s (cond b (expiry_entries (core_facts s) now.txn) [])).calls ≡ openings s.calls
-    by true = ap openings (expired_calls s now.txn) ∙ closings_openings reason.Expired (asked_in s.calls now.txn.token) (docket_of s)
-    by false = refl
+entries_openings : (s : CoreState) (es : List Entry) → list_all opens_none es ≡ true → openings (fold after_entry s es).calls ≡ openings s.calls
+entries_openings s [] none = refl
+entries_openings s (e ∷ es) none =
+    let parts = and_parts (opens_none e) (list_all opens_none es) none in
+    entries_openings (after_entry s e) es parts.1 ∙ entry_openings s e parts.0
 
 thing_openings : (s : CoreState) (at : ℕ) (thing : DueThing) → openings (fold after_entry s (thing_entries thing at (core_facts s))).calls ≡ openings s.calls
-thing_openings s at (call_due number) = asked_openings s at (call_numbered number s.calls)
-thing_openings s at (txn_due token) = live_openings s (txn_named token s.holdings.txns)
+thing_openings s at thing =
+    entries_openings s (thing_entries thing at (core_facts s)) (due_holds (core_facts s) thing at (each_item (λ g a made. due_opens_none a made.cause))).all
 
 sweep_openings : (at : ℕ) (g : Growth CoreState) (items : List DueItem) → openings (fold (settle core_keeper at) g items).world.calls ≡ openings g.world.calls
 sweep_openings at g [] = refl

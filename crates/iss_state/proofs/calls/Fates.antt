@@ -1,39 +1,45 @@
 -- What becomes of an asked call by what is due.
-use Rattle.std.proofs.Common.{◌≡◌, ℕ, Bool, true, false, cond, ◌&&◌, ◌||◌, nat_eq, List, [], ◌∷◌, ◌++◌, map, filter, fold, refl, sym, ap, subst, ◌∙◌}
+use Rattle.std.proofs.Common.{◌≡◌, ℕ, ◌+◌, Bool, true, false, cond, ◌&&◌, ◌||◌, nat_eq, List, [], ◌∷◌, ◌++◌, fold, refl, sym, ap, subst, ◌∙◌}
 use Rattle.std.specs.Prelude.{Option, Some, None}
 use Rattle.std.specs.List.{list_any}
 use Rattle.std.specs.Option.{option_or}
 use Rattle.std.specs.Str.{bytes_eq}
 use Rattle.std.proofs.lemmas.Bool.{false_from_ne_true}
 use Rattle.std.proofs.lemmas.List.Sums.{fold-append}
+use Rattle.iss_model.specs.declared.call.Failure.{Failure}
 use Rattle.iss_model.specs.declared.call.Failure.TheVariants as failure
+use Rattle.iss_model.specs.declared.call.How.{How}
 use Rattle.iss_model.specs.declared.call.How.TheVariants as how
 use Rattle.iss_model.specs.declared.call.Opened.{Opened}
 use Rattle.iss_model.specs.declared.decision.Reason.{Reason}
 use Rattle.iss_model.specs.declared.decision.Reason.TheVariants as reason
-use Rattle.iss_model.specs.declared.decision.Verdict.{Verdict}
+use Rattle.iss_model.specs.declared.decision.Verdict.TheVariants as verdict
 use Rattle.iss_model.specs.declared.entry.Entry.{Entry}
 use Rattle.iss_model.specs.declared.entry.Entry.TheVariants as entry
 use Rattle.iss_model.specs.declared.txn.Txn.{Txn}
-use Rattle.iss_model.specs.rules.Activity.{TxnNow, CallNow, txn_named, call_numbered, is_asked}
-use Rattle.iss_acts.specs.Rows.{failed_call_entries, entries_of_txn, entries_of_asked, expiry_entries, live_expiry_entries}
-use Rattle.iss_model.specs.rules.Due.{DueThing, call_due, DueItem, txn_due, thing_entries}
+use Rattle.iss_model.specs.rules.Activity.{CallNow, call_numbered, is_asked}
+use Rattle.iss_model.specs.rules.Acts.{Act, entries_of_acts}
+use Rattle.iss_model.specs.rules.Asks.{Ask, call_ask}
+use Rattle.iss_model.specs.rules.CardActs.{failed_acts, stand_acts}
+use Rattle.iss_model.specs.rules.Due.{DueThing, call_due, DueItem, expiry_acts, thing_acts, txn_due, thing_entries}
+use Rattle.iss_model.specs.rules.Facts.{Facts, next_notice}
+use Rattle.iss_model.specs.rules.Pieces.{failure_reason}
+use Rattle.iss_model.specs.rules.StandIns.{Stand, allowed, over_limit, stand, uncovered}
 use Rattle.iss_model.specs.rules.Keeper.{Growth}
-use Rattle.iss_model.specs.rules.Reasons.{is_some_with}
 use Rattle.iss_model.specs.rules.Stepping.{settle}
 use Rattle.iss_model.specs.state.Cores.{CoreState, core_facts, call_after_close, core_keeper, after_entry}
 use Rattle.iss_model.proofs.Lists.{neither}
 use Rattle.iss_model.proofs.Names.{one_name}
 use Rattle.iss_state.proofs.effects.Finds.{number_is}
 use Rattle.iss_state.specs.Numbers.{CallsNumberedFrom}
-use Rattle.iss_state.specs.Dockets.{Docket, docket_after, docket_of, is_docketed}
-use Rattle.iss_state.specs.Well.{IsAsked, IsWellAmong, Known}
+use Rattle.iss_state.specs.Dockets.{Docket, docket_after, docket_of}
+use Rattle.iss_state.specs.Well.{IsAsked, IsWellAmong, Known, has_live}
 use Rattle.iss_state.proofs.docket.Abandoning.{after_closing, asked_in, closings_none}
 use Rattle.iss_state.proofs.docket.Closing.{calls_lone, its_number, other_stays, own_closed, same_opened, stands_after, stays_closed}
-use Rattle.iss_state.proofs.docket.Docketed.{closings}
+use Rattle.iss_state.proofs.docket.Docketed.{acts_docketed, closings, docketed_by, turned_down}
 use Rattle.iss_state.proofs.docket.Entering.{apart_too, call_more}
 use Rattle.iss_state.proofs.docket.Lists.{any_filtered, inside, lone_any, not_both}
-use Rattle.iss_state.proofs.calls.Due.{Closes, closes_docketed, expiry_docketed, failed_closes, its_token}
+use Rattle.iss_state.proofs.calls.Due.{expiry_docketed, its_token, of_asked, of_expired}
 use Rattle.iss_state.proofs.calls.Staying.{comes_to, entries_docket}
 use Rattle.iss_state.proofs.calls.Steps.{thing_well}
 
@@ -65,17 +71,20 @@ sweep_leaves_closed at g [] n c stands closed = stands
 sweep_leaves_closed at g (item ∷ items) n c stands closed =
     sweep_leaves_closed at (settle core_keeper at g item) items n c (entries_leave_closed g.world (thing_entries item.thing at (core_facts g.world)) n c stands closed) closed
 
--- calls are closed, and the event may be decided and the transaction ended
-pub calls_settled : (docket : Docket) (txn event : List ℕ) (ends : Bool) (v : Verdict)
-    → (fold docket_after docket (cond ends (entry.Ended txn ∷ []) [] ++ entry.Decided event v ∷ [])).calls ≡ docket.calls
-calls_settled docket txn event true v = refl
-calls_settled docket txn event false v = refl
+-- a call is closed ----
 
-pub calls_after_closes : (docket : Docket) (o : Opened) (t : Txn) (es : List Entry) → (closes : Closes o t es)
-    → (fold docket_after docket (filter is_docketed es)).calls ≡ map (call_after_close o.call.0 closes.its_how) docket.calls
-calls_after_closes docket o t es closes =
-    ap (λ (ms : List Entry). (fold docket_after docket ms).calls) (closes_docketed o t es closes)
-    ∙ calls_settled (docket_after docket (entry.Closed o.call closes.its_how)) t.token o.event closes.settles.ends closes.settles.its_verdict
+turned_calls : (docket : Docket) (ask : Ask) (why : Reason) → (fold docket_after docket (turned_down ask why ++ [])).calls ≡ docket.calls
+turned_calls docket ask why = by ask.is_first
+  where
+    by : (b : Bool) → (fold docket_after docket ((cond b (entry.Ended ask.txn.token ∷ []) [] ++ entry.Decided ask.event (verdict.Declined why) ∷ []) ++ [])).calls ≡ docket.calls
+    by true = refl
+    by false = refl
+
+-- what sets say of an ask leaves the calls as they are
+stood_calls : (docket : Docket) (x : Stand) (number : ℕ) (ask : Ask) (why : Failure) (at : ℕ) → (fold docket_after docket (docketed_by (stand_acts x number ask why at))).calls ≡ docket.calls
+stood_calls docket (allowed set) number ask why at = refl
+stood_calls docket (over_limit set) number ask why at = turned_calls docket ask (reason.StandInLimit set.name)
+stood_calls docket uncovered number ask why at = turned_calls docket ask (failure_reason why)
 
 -- which call a due thing closes ----
 
@@ -91,52 +100,28 @@ pub record Fate (calls : List CallNow) (n : ℕ) (c : CallNow) (hit : Bool) : Ty
   pub closed : hit ≡ true → is_asked now ≡ false
   pub left : hit ≡ false → now ≡ c
 
-left_alone : (calls : List CallNow) (n : ℕ) (c : CallNow) (hit : Bool) → call_numbered n calls ≡ Some c → (hit ≡ true → ⊥) → Fate calls n c hit
-left_alone calls n c hit stands never = record { now = c; stands = stands; closed = λ h. absurd (never h); left = λ h. refl }
+-- as acts leave it on the docket
+abbrev FateBy : CoreState → ℕ → CallNow → Bool → List Act → Type 0
+FateBy s n c hit acts = Fate (fold docket_after (docket_of s) (docketed_by acts)).calls n c hit
+
+left_alone : (s : CoreState) (n : ℕ) (c : CallNow) (hit : Bool) → call_numbered n s.calls ≡ Some c → (hit ≡ true → ⊥) → FateBy s n c hit []
+left_alone s n c hit stands never = record { now = c; stands = stands; closed = λ h. absurd (never h); left = λ h. refl }
 
 call_closes : (s : CoreState) (at m n : ℕ) (c d : CallNow) (t : Txn) → call_numbered n s.calls ≡ Some c → call_numbered m s.calls ≡ Some d
-    → Fate (fold after_entry s (failed_call_entries (core_facts s) d.opened t failure.Timeout at)).calls n c (nat_eq m n)
+    → FateBy s n c (nat_eq m n) (failed_acts (core_facts s) d.opened t failure.Timeout at)
 call_closes s at m n c d t stands other =
-    let es : List Entry = failed_call_entries (core_facts s) d.opened t failure.Timeout at in
-    let closes : Closes d.opened t es = failed_closes (core_facts s) d.opened t failure.Timeout at in
+    let f : Facts = core_facts s in
     let k : ℕ = d.opened.call.0 in
-    let after : CallNow = call_after_close k closes.its_how c in
-    let its : k ≡ m = its_number s.calls m d other in
-    let own : c.opened.call.0 ≡ n = its_number s.calls n c stands in
-    let same : nat_eq k c.opened.call.0 ≡ nat_eq m n = (λ i. nat_eq (its i) (own i)) in
+    let w : How = how.Failed failure.Timeout in
+    let ask : Ask = call_ask d.opened t in
+    let same : nat_eq k c.opened.call.0 ≡ nat_eq m n = (λ i. nat_eq (its_number s.calls m d other i) (its_number s.calls n c stands i)) in
     record {
-      now = after;
-      stands = ap (λ (docket : Docket). call_numbered n docket.calls) (comes_to s es (filter is_docketed es) refl)
-          ∙ ap (call_numbered n) (calls_after_closes (docket_of s) d.opened t es closes)
-          ∙ stands_after s.calls k closes.its_how n c stands;
-      closed = λ h. own_closed k closes.its_how c (same ∙ h);
-      left = λ h. other_stays k closes.its_how c (same ∙ h);
+      now = call_after_close k w c;
+      stands = ap (call_numbered n) (stood_calls (docket_after (docket_of s) (entry.Closed d.opened.call w)) (stand f ask failure.Timeout at) (next_notice f + 1) ask failure.Timeout at)
+          ∙ stands_after s.calls k w n c stands;
+      closed = λ h. own_closed k w c (same ∙ h);
+      left = λ h. other_stays k w c (same ∙ h);
     }
-
-call_txn : (known : Known) (s : CoreState) (at m n : ℕ) (c d : CallNow) → IsWellAmong known (docket_of s) → IsAsked s.calls n c → IsAsked s.calls m d
-    → (now : Option TxnNow) → txn_named d.opened.txn s.holdings.txns ≡ now
-    → Fate (fold after_entry s (entries_of_txn (λ t. failed_call_entries (core_facts s) d.opened t failure.Timeout at) now)).calls n c (nat_eq m n)
-call_txn known s at m n c d well asked other None e = not_both false (ap (is_some_with (λ (t : TxnNow). t.live)) (sym e) ∙ well.live m d other) refl
-call_txn known s at m n c d well asked other (Some now) e = call_closes s at m n c d now.txn asked.stands other.stands
-
-no_such : {A : Type 0} (o : Option A) (x : A) → o ≡ Some x → o ≡ None → ⊥
-no_such None x h e = cc
-no_such (Some y) x h e = cc
-
-call_asked : (known : Known) (s : CoreState) (at m n : ℕ) (c d : CallNow) → IsWellAmong known (docket_of s) → IsAsked s.calls n c → call_numbered m s.calls ≡ Some d
-    → (b : Bool) → is_asked d ≡ b
-    → Fate (fold after_entry s (cond b (entries_of_txn (λ t. failed_call_entries (core_facts s) d.opened t failure.Timeout at) (txn_named d.opened.txn s.holdings.txns)) [])).calls n c (nat_eq m n)
-call_asked known s at m n c d well asked other true h = call_txn known s at m n c d well asked (record { stands = other; asked = h }) (txn_named d.opened.txn s.holdings.txns) refl
-call_asked known s at m n c d well asked other false h =
-    left_alone s.calls n c (nat_eq m n) asked.stands
-    (λ hit. not_both (is_asked c) asked.asked (ap is_asked (inside (sym asked.stands ∙ ap (λ (k : ℕ). call_numbered k s.calls) (sym (number_is m n hit)) ∙ other)) ∙ h))
-
-call_fate : (known : Known) (s : CoreState) (at m n : ℕ) (c : CallNow) → IsWellAmong known (docket_of s) → IsAsked s.calls n c → (o : Option CallNow)
-    → call_numbered m s.calls ≡ o
-    → Fate (fold after_entry s (entries_of_asked (λ o t. failed_call_entries (core_facts s) o t failure.Timeout at) o (core_facts s))).calls n c (nat_eq m n)
-call_fate known s at m n c well asked None e =
-    left_alone s.calls n c (nat_eq m n) asked.stands (λ hit. no_such (call_numbered n s.calls) c asked.stands (ap (λ (k : ℕ). call_numbered k s.calls) (sym (number_is m n hit)) ∙ e))
-call_fate known s at m n c well asked (Some d) e = call_asked known s at m n c d well asked e (is_asked d) refl
 
 -- a transaction that expires ----
 
@@ -177,54 +162,42 @@ other_txns calls n c token numbers stands other =
     middle_false true false d h = refl
     middle_false false b d h = refl
 
-pub expired_calls : (s : CoreState) (t : Txn)
-    → (fold after_entry s (expiry_entries (core_facts s) t)).calls ≡ (fold docket_after (docket_of s) (closings reason.Expired (asked_in s.calls t.token))).calls
-expired_calls s t =
-    let cs : List Entry = closings reason.Expired (asked_in s.calls t.token) in
-    ap (λ (docket : Docket). docket.calls)
-    (comes_to s (expiry_entries (core_facts s) t) (cs ++ entry.Ended t.token ∷ []) (expiry_docketed (core_facts s) t) ∙ fold-append docket_after (docket_of s) cs (entry.Ended t.token ∷ []))
-
 expired_fate : (known : Known) (s : CoreState) (n : ℕ) (c : CallNow) (t : Txn) → IsWellAmong known (docket_of s) → IsAsked s.calls n c
-    → Fate (fold after_entry s (expiry_entries (core_facts s) t)).calls n c (bytes_eq t.token c.opened.txn)
+    → FateBy s n c (bytes_eq t.token c.opened.txn) (expiry_acts (core_facts s) t)
 expired_fate known s n c t well asked =
     let docket : Docket = docket_of s in
     let cs : List CallNow = asked_in s.calls t.token in
-    let q : Docket = fold docket_after docket (closings reason.Expired cs) in
     let after = opened_alike reason.Expired cs docket n c asked.stands in
+    let calls = ap (λ (es : List Entry). (fold docket_after docket es).calls) (expiry_docketed (core_facts s) t)
+        ∙ ap (λ (docket : Docket). docket.calls) (fold-append docket_after docket (closings reason.Expired cs) (entry.Ended t.token ∷ [])) in
     record {
       now = after.0;
-      stands = ap (call_numbered n) (expired_calls s t) ∙ after.1;
+      stands = ap (call_numbered n) calls ∙ after.1;
       closed = λ hit. false_from_ne_true (is_asked after.0) (λ h.
           closings_none reason.Expired docket t.token n after.0 (record { stands = after.1; asked = h }) (ap (λ (o : Opened). o.txn) after.2 ∙ sym (one_name t.token c.opened.txn hit)));
       left = λ miss. inside (sym after.1
           ∙ closings_leave reason.Expired cs docket n c asked.stands (other_txns s.calls n c t.token well.calls.numbers asked.stands (apart_too t.token c.opened.txn miss)));
     }
 
--- the transaction of an asked call is live
-its_live : (known : Known) (s : CoreState) (n : ℕ) (c : CallNow) (token : List ℕ) → IsWellAmong known (docket_of s) → IsAsked s.calls n c
-    → bytes_eq token c.opened.txn ≡ true
-    → (now : Option TxnNow) → txn_named token s.holdings.txns ≡ now → is_some_with (λ t. t.live) now ≡ true
-its_live known s n c token well asked hit now e =
-    ap (is_some_with (λ (t : TxnNow). t.live)) (sym e ∙ ap (λ (k : List ℕ). txn_named k s.holdings.txns) (one_name token c.opened.txn hit)) ∙ well.live n c asked
-
-txn_fate : (known : Known) (s : CoreState) (n : ℕ) (c : CallNow) (token : List ℕ) → IsWellAmong known (docket_of s) → IsAsked s.calls n c → (now : Option TxnNow)
-    → txn_named token s.holdings.txns ≡ now
-    → Fate (fold after_entry s (live_expiry_entries (core_facts s) now)).calls n c (bytes_eq token c.opened.txn)
-txn_fate known s n c token well asked None e =
-    left_alone s.calls n c (bytes_eq token c.opened.txn) asked.stands (λ hit. not_both false (its_live known s n c token well asked hit None e) refl)
-txn_fate known s n c token well asked (Some now) e = by now.live refl
-  where
-    by : (b : Bool) → now.live ≡ b → Fate (fold after_entry s (cond b (expiry_entries (core_facts s) now.txn) [])).calls n c (bytes_eq token c.opened.txn)
-    by true h =
-        subst (λ (k : List ℕ). Fate (fold after_entry s (expiry_entries (core_facts s) now.txn)).calls n c (bytes_eq k c.opened.txn))
-        (its_token s.holdings.txns token now e)
-        (expired_fate known s n c now.txn well asked)
-    by false h = left_alone s.calls n c (bytes_eq token c.opened.txn) asked.stands (λ hit. not_both now.live (its_live known s n c token well asked hit (Some now) e) h)
+acts_fate : (known : Known) (s : CoreState) (at n : ℕ) (c : CallNow) (thing : DueThing) → IsWellAmong known (docket_of s) → IsAsked s.calls n c
+    → FateBy s n c (hits n c.opened.txn thing) (thing_acts thing at (core_facts s))
+acts_fate known s at n c (call_due number) well asked =
+    of_asked (FateBy s n c (nat_eq number n)) s (λ o t. failed_acts (core_facts s) o t failure.Timeout at) number
+    (λ none. left_alone s n c (nat_eq number n) asked.stands (λ hit. none c (subst (λ (m : ℕ). IsAsked s.calls m c) (sym (number_is number n hit)) asked) (well.live n c asked)))
+    (λ d t other stands. call_closes s at number n c d t.txn asked.stands other.stands)
+acts_fate known s at n c (txn_due token) well asked =
+    of_expired (FateBy s n c (bytes_eq token c.opened.txn)) s token
+    (λ dead. left_alone s n c (bytes_eq token c.opened.txn) asked.stands
+    (λ hit. not_both (has_live s.holdings.txns token) (ap (has_live s.holdings.txns) (one_name token c.opened.txn hit) ∙ well.live n c asked) dead))
+    (λ t stands live.
+        subst (λ (k : List ℕ). FateBy s n c (bytes_eq k c.opened.txn) (expiry_acts (core_facts s) t.txn)) (its_token s.holdings.txns token t stands)
+        (expired_fate known s n c t.txn well asked))
 
 pub thing_fate : (known : Known) (s : CoreState) (at n : ℕ) (c : CallNow) (thing : DueThing) → IsWellAmong known (docket_of s) → IsAsked s.calls n c
     → Fate (fold after_entry s (thing_entries thing at (core_facts s))).calls n c (hits n c.opened.txn thing)
-thing_fate known s at n c (call_due number) well asked = call_fate known s at number n c well asked (call_numbered number s.calls) refl
-thing_fate known s at n c (txn_due token) well asked = txn_fate known s n c token well asked (txn_named token s.holdings.txns) refl
+thing_fate known s at n c thing well asked =
+    let acts : List Act = thing_acts thing at (core_facts s) in
+    subst (λ (docket : Docket). Fate docket.calls n c (hits n c.opened.txn thing)) (sym (comes_to s (entries_of_acts acts) (docketed_by acts) (acts_docketed acts))) (acts_fate known s at n c thing well asked)
 
 pub sweep_fate : (known : Known) (at n : ℕ) (c : CallNow) (g : Growth CoreState) (items : List DueItem) → IsWellAmong known (docket_of g.world)
     → IsAsked g.world.calls n c

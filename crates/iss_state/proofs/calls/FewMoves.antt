@@ -167,13 +167,17 @@ all_move s (e ∷ es) allowed =
       notices = omega (arith, sum_by-cons brought_by e es, sum_by-cons taken_by e es, first.notices, rest.notices);
     }
 
--- What entries cost: they open so many calls at most, bring so many notices in sight, and take so many more from it than they bring.
-pub record Costs (es : List Entry) (most up down : ℕ) : Type 0 where
-  pub calls : sum_by opened_by es ≤ most
-  pub notices : sum_by brought_by es + down ≤ sum_by taken_by es + up
+-- What a list costs: it opens this many calls at most, brings this many notices in sight, and takes that many more from it than it brings.
+pub record CostsBy {A : Type 0} (opened brought taken : A → ℕ) (xs : List A) (most up down : ℕ) : Type 0 where
+  pub calls : sum_by opened xs ≤ most
+  pub notices : sum_by brought xs + down ≤ sum_by taken xs + up
+
+-- what entries cost
+abbrev pub Costs : List Entry → ℕ → ℕ → ℕ → Type 0
+Costs es most up down = CostsBy opened_by brought_by taken_by es most up down
 
 -- records that cost so many calls and notices
-pub few_after : (n m most up : ℕ) (s : CoreState) (es : List Entry) → n + most ≤ m → 3 * n + up ≤ 3 * m → AreAllowed s es → Costs es most up 0 → HasFewNumbers n s
+pub few_after : (n m most up : ℕ) (s : CoreState) (es : List Entry) → n + most ≤ m → 4 * n + up ≤ 4 * m → AreAllowed s es → Costs es most up 0 → HasFewNumbers n s
     → HasFewNumbers m (fold after_entry s es)
 few_after n m most up s es calls notices allowed costs few =
     let move = all_move s es allowed in

@@ -1,145 +1,165 @@
 -- What is due makes no more notices than were in sight, and a record's own entries bring three at most.
-use Rattle.std.proofs.Common.{ℕ, ◌+◌, ◌-◌, ◌≤◌, min, Bool, ◌&&◌, ◌||◌, nat_eq, List, [], ◌∷◌, fold, refl, arith, length, subst, sym}
+use Rattle.std.proofs.Common.{ℕ, ◌+◌, ◌≤◌, min, Bool, ◌&&◌, ◌||◌, nat_eq, List, [], ◌∷◌, fold, arith, length, subst, sym}
 use Rattle.std.specs.Prelude.{Option, Some, None}
 use Rattle.std.proofs.lemmas.List.{length-append}
-use Rattle.iss_model.specs.declared.account.Account.TheVariants as account
+use Rattle.iss_model.specs.declared.call.Failure.{Failure}
 use Rattle.iss_model.specs.declared.call.Failure.TheVariants as failure
-use Rattle.iss_model.specs.declared.call.Notice.{Notice}
 use Rattle.iss_model.specs.declared.call.Opened.{Opened}
 use Rattle.iss_model.specs.declared.decision.Reason.{Reason}
 use Rattle.iss_model.specs.declared.decision.Reason.TheVariants as reason
-use Rattle.iss_model.specs.declared.entry.Entry.{Entry}
-use Rattle.iss_model.specs.declared.entry.Entry.TheVariants as entry
 use Rattle.iss_model.specs.declared.input.Input.{Input}
+use Rattle.iss_model.specs.declared.input.Input.TheVariants as input
+use Rattle.iss_model.specs.declared.input.Outcome.{Outcome}
+use Rattle.iss_model.specs.declared.input.Outcome.TheVariants as outcome
 use Rattle.iss_model.specs.declared.input.Record.{Record}
+use Rattle.iss_model.specs.declared.setting.Product.{Product}
 use Rattle.iss_model.specs.declared.txn.Txn.{Txn}
 use Rattle.iss_model.specs.rules.Activity.{TxnNow, CallNow, is_asked}
-use Rattle.iss_model.specs.rules.Asks.{Ask}
-use Rattle.iss_acts.specs.Rows.{authorization_entries, increment_entries, reversal_entries, clearing_entries, refund_entries, failed_call_entries, outcome_entries, entries_of_txn, entries_of_asked, expiry_entries, live_expiry_entries, unless_declined}
-use Rattle.iss_model.specs.rules.Pieces.{owed_to_programme, user_account, parts_held, in_all, left_of, taken_to_clear, setting_entries, load_entries}
-use Rattle.iss_model.specs.rules.CardReasons.{authorization_reason, increment_reason, reversal_reason, clearing_reason, refund_reason}
-use Rattle.iss_model.specs.rules.Due.{DueThing, call_due, DueItem, txn_due, due_items, thing_entries}
-use Rattle.iss_model.specs.rules.Facts.{Facts, txn_in, call_in, asked_calls_of, next_notice, is_notice}
+use Rattle.iss_model.specs.rules.Acts.{Acknowledges, Act, Sets}
+use Rattle.iss_model.specs.rules.Asks.{Ask, call_ask}
+use Rattle.iss_model.specs.rules.CardActs.{acts_for_gateway, acts_of_asked, acts_of_txn, acts_where, authorization_acts, clearing_acts, end_acts, failed_acts, funding_acts, gateway_acts, increment_acts, outcome_acts, refund_acts, reversal_acts, stand_acts}
+use Rattle.iss_model.specs.rules.Pieces.{Parts, parts_held, in_all, left_of, taken_to_clear}
+use Rattle.iss_model.specs.rules.CardReasons.{is_account_funded, authorization_reason, increment_reason, reversal_reason, clearing_reason, refund_reason}
+use Rattle.iss_model.specs.rules.Due.{DueThing, call_due, DueItem, live_expiry_acts, thing_acts, txn_due, due_items, thing_entries}
+use Rattle.iss_model.specs.rules.Facts.{Facts, txn_in, call_in, next_notice, is_notice}
 use Rattle.iss_model.specs.rules.Histories.{IsLegal}
 use Rattle.iss_model.specs.rules.Keeper.{Growth}
-use Rattle.iss_model.specs.rules.Reasons.{load_reason}
-use Rattle.iss_model.specs.rules.Stepping.{authorization_ask, increment_ask, entries_of, settle, after_due, step}
+use Rattle.iss_model.specs.rules.Reasons.{card_reason, control_reason, group_reason, load_reason, move_reason, product_reason, set_reason, switch_reason, user_reason}
+use Rattle.iss_model.specs.rules.Settings.{is_named_in, product_named}
+use Rattle.iss_model.specs.rules.StandIns.{Stand, allowed, over_limit, stand, uncovered}
+use Rattle.iss_model.specs.rules.Stepping.{acts_of, acts_unless, authorization_ask, increment_ask, entries_of, settle, after_due, step}
 use Rattle.iss_model.specs.state.Cores.{CoreState, no_core, with_record, core_facts, core_keeper, core_of, after_entry}
 use Rattle.iss_state.specs.Sound.{IsNewEvent}
 use Rattle.iss_state.proofs.invariants.Legal.{IsKept, legal_induction}
-use Rattle.iss_state.proofs.invariants.Walk.{EachKind, walk}
 use Rattle.iss_state.specs.Few.{HasFewNumbers}
 use Rattle.iss_state.specs.Pending.{HasTakenUp, IsWell}
-use Rattle.iss_state.proofs.calls.FewCosts.{abandoned_costs, clearing_money_costs, comes_to, costs_either, end_costs, failed_call_costs, free, funding_costs, gateway_costs, more, none_costs, outcome_costs, post_costs, release_costs, then, where_costs}
-use Rattle.iss_state.proofs.calls.FewMoves.{Costs, few_after}
+use Rattle.iss_state.proofs.calls.FewCosts.{ActsCost, acts_cost, comes_to, costs_either, more, none_costs, then}
+use Rattle.iss_state.proofs.calls.FewMoves.{few_after}
 use Rattle.iss_state.proofs.calls.Legal.{nothing_well}
 use Rattle.iss_state.proofs.calls.Steps.{due_allowed, own_allowed, ready_settled, ready_taken, step_well}
 
--- what is due ----
+-- rows of acts ----
 
-txn_costs : (make : Txn → List Entry) (now : Option TxnNow) → ((t : Txn) → Costs (make t) 0 0 0) → Costs (entries_of_txn make now) 0 0 0
-txn_costs make None each = none_costs 0
-txn_costs make (Some now) each = each now.txn
+-- a notice, if there is one
+told : (t : Txn) {acts : List Act} {n : ℕ} → ActsCost acts 0 n 0 → ActsCost (acts_for_gateway t acts) 0 n 0
+told t {n = n} h = costs_either (is_account_funded t.funding) (none_costs n) h
 
-asked_costs : (make : Opened → Txn → List Entry) (o : Option CallNow) (f : Facts) → ((o : Opened) (t : Txn) → Costs (make o t) 0 0 0) → Costs (entries_of_asked make o f) 0 0 0
+some : (amount : ℕ) {acts : List Act} {n : ℕ} → ActsCost acts 0 n 0 → ActsCost (acts_where amount acts) 0 n 0
+some amount {n = n} h = costs_either (nat_eq amount 0) (none_costs n) h
+
+-- the programme's standing in has a notice
+stand_costs : (x : Stand) (number : ℕ) (ask : Ask) (why : Failure) (at : ℕ) → ActsCost (stand_acts x number ask why at) 0 1 0
+stand_costs (allowed set) number ask why at = more (none_costs 0)
+stand_costs (over_limit set) number ask why at = record { calls = omega arith; notices = omega arith }
+stand_costs uncovered number ask why at = record { calls = omega arith; notices = omega arith }
+
+-- a call that fails has two notices at most
+failed_costs : (f : Facts) (o : Opened) (t : Txn) (why : Failure) (at : ℕ) → ActsCost (failed_acts f o t why at) 0 0 0
+failed_costs f o t why at = comes_to 0 0 0 (more (stand_costs (stand f (call_ask o t) why at) (next_notice f + 1) (call_ask o t) why at)) (omega arith) (omega arith)
+
+outcome_costs : (what : Outcome) (f : Facts) (o : Opened) (t : Txn) (at : ℕ) → ActsCost (outcome_acts what f o t at) 0 0 0
+outcome_costs outcome.Funded f o t at = more (none_costs 0)
+outcome_costs outcome.Refused f o t at = more (none_costs 0)
+outcome_costs outcome.Connection f o t at = failed_costs f o t failure.Connection at
+outcome_costs outcome.Application f o t at = failed_costs f o t failure.Application at
+
+asked_costs : (make : Opened → Txn → List Act) (c : Option CallNow) (f : Facts) → ((o : Opened) (t : Txn) → ActsCost (make o t) 0 0 0) → ActsCost (acts_of_asked make c f) 0 0 0
 asked_costs make None f each = none_costs 0
-asked_costs make (Some c) f each = costs_either (is_asked c) (txn_costs (make c.opened) (txn_in f c.opened.txn) (each c.opened)) (none_costs 0)
+asked_costs make (Some c) f each = costs_either (is_asked c) (of_txn (txn_in f c.opened.txn)) (none_costs 0)
+  where
+    of_txn : (now : Option TxnNow) → ActsCost (acts_of_txn (make c.opened) now) 0 0 0
+    of_txn None = none_costs 0
+    of_txn (Some now) = each c.opened now.txn
 
--- one notice
-one : {n : Notice} → Costs (entry.Notice n ∷ []) 0 1 0
-one = record { calls = omega arith; notices = omega arith }
+-- a transaction that ends leaves one notice, which may be that of its expiry
+end_costs : (number : ℕ) (f : Facts) (t : Txn) (parts : Parts) (why : Reason) → ActsCost (end_acts number f t parts why) 0 0 1
+end_costs number f t parts why = more (more (more (none_costs 0)))
 
--- the notice of an expiry is the one that its transaction leaves
-expiry_costs : (f : Facts) (t : Txn) → Costs (expiry_entries f t) 0 0 0
-expiry_costs f t =
-    let parts = parts_held f t in
-    comes_to 0 0 0 (then (end_costs (next_notice f) f t parts reason.Expired) (gateway_costs t (where_costs (in_all parts) one))) (omega arith) (omega arith)
-
-live_costs : (f : Facts) (now : Option TxnNow) → Costs (live_expiry_entries f now) 0 0 0
+live_costs : (f : Facts) (now : Option TxnNow) → ActsCost (live_expiry_acts f now) 0 0 0
 live_costs f None = none_costs 0
-live_costs f (Some now) = costs_either now.live (expiry_costs f now.txn) (none_costs 0)
+live_costs f (Some now) =
+    costs_either now.live
+    (comes_to 0 0 0 (then (end_costs (next_notice f) f now.txn (parts_held f now.txn) reason.Expired) (told now.txn (some (in_all (parts_held f now.txn)) (more (none_costs 0))))) (omega arith) (omega arith))
+    (none_costs 0)
 
-thing_costs : (f : Facts) (thing : DueThing) (at : ℕ) → Costs (thing_entries thing at f) 0 0 0
-thing_costs f (call_due number) at =
-    asked_costs (λ (o : Opened) (t : Txn). failed_call_entries f o t failure.Timeout at) (call_in f number) f (λ o t. failed_call_costs f o t failure.Timeout at)
+thing_costs : (f : Facts) (thing : DueThing) (at : ℕ) → ActsCost (thing_acts thing at f) 0 0 0
+thing_costs f (call_due number) at = asked_costs (λ o t. failed_acts f o t failure.Timeout at) (call_in f number) f (λ o t. failed_costs f o t failure.Timeout at)
 thing_costs f (txn_due token) at = live_costs f (txn_in f token)
 
--- own entries ----
-
-unless_costs : (why : Option Reason) (token : List ℕ) (es : List Entry) → Costs es 1 3 0 → Costs (unless_declined why token es) 1 3 0
-unless_costs None token es k = k
-unless_costs (Some why) token es k = record { calls = omega arith; notices = omega arith }
+-- an ask may open a call, of which two notices may come
+funding_costs : (f : Facts) (ask : Ask) → ActsCost (funding_acts f ask) 1 2 0
+funding_costs f ask = costs_either (is_account_funded ask.txn.funding) (record { calls = omega arith; notices = omega arith }) (by (product_named ask.txn.product f.products))
+  where
+    by : (product : Option Product) → ActsCost (gateway_acts product f ask) 1 2 0
+    by None = record { calls = omega arith; notices = omega arith }
+    by (Some product) =
+        costs_either (is_named_in f.switched product.name)
+        (comes_to 1 2 0 (stand_costs (stand f ask failure.Switch ask.at) (next_notice f) ask failure.Switch ask.at) (omega arith) (omega arith)) (more (none_costs 0))
 
 -- a transaction that begins may leave a notice
-authorization_costs : (f : Facts) (o : Option Ask) → Costs (authorization_entries f o) 1 3 0
+authorization_costs : (f : Facts) (ask : Option Ask) → ActsCost (authorization_acts f ask) 1 3 0
 authorization_costs f None = record { calls = omega arith; notices = omega arith }
-authorization_costs f (Some ask) = more (more (funding_costs f ask))
+authorization_costs f (Some ask) = more (funding_costs f ask)
 
-increment_costs : (f : Facts) (o : Option Ask) → Costs (increment_entries f o) 1 3 0
+increment_costs : (f : Facts) (ask : Option Ask) → ActsCost (increment_acts f ask) 1 3 0
 increment_costs f None = record { calls = omega arith; notices = omega arith }
 increment_costs f (Some ask) = comes_to 1 3 0 (more (funding_costs f ask)) (omega arith) (omega arith)
 
-reversal_costs : (f : Facts) (token : List ℕ) (amount : ℕ) (o : Option TxnNow) → Costs (reversal_entries f token amount o) 0 1 0
+reversal_costs : (f : Facts) (token : List ℕ) (amount : ℕ) (now : Option TxnNow) → ActsCost (reversal_acts f token amount now) 0 1 0
 reversal_costs f token amount None = none_costs 1
 reversal_costs f token amount (Some now) =
-    let t = now.txn in
-    let parts = parts_held f t in
-    let freed = min amount (in_all parts) in
-    then (then (then (then (abandoned_costs (next_notice f) t reason.Reversed (asked_calls_of f t.token)) (release_costs t parts freed))
-    (costs_either (nat_eq freed (in_all parts)) {xs = entry.Ended t.token ∷ []} (free refl refl) (none_costs 0)))
-    (gateway_costs t (where_costs freed one))) (free refl refl)
+    let freed = min amount (in_all (parts_held f now.txn)) in
+    more (more (then (then (costs_either (nat_eq freed (in_all (parts_held f now.txn))) (comes_to 0 0 0 (more (none_costs 0)) (omega arith) (omega arith)) (none_costs 0))
+    (told now.txn (some freed (more (none_costs 0))))) (more (none_costs 0))))
 
 -- the notice of a last clearing is the one that its transaction leaves
-clearing_costs : (f : Facts) (token : List ℕ) (amount : ℕ) (last : Bool) (at : ℕ) (o : Option TxnNow) → Costs (clearing_entries f token amount last at o) 0 1 0
+clearing_costs : (f : Facts) (token : List ℕ) (amount : ℕ) (last : Bool) (at : ℕ) (now : Option TxnNow) → ActsCost (clearing_acts f token amount last at now) 0 1 0
 clearing_costs f token amount last at None = none_costs 1
 clearing_costs f token amount last at (Some now) =
-    let t = now.txn in
-    let taken = taken_to_clear (parts_held f t) amount in
-    let rest = left_of (parts_held f t) taken in
-    then (then (clearing_money_costs t taken amount at)
-    (costs_either (now.live && (last || nat_eq (in_all rest) 0))
-    (comes_to 0 1 0 (then (end_costs (next_notice f) f t rest reason.Cleared) (gateway_costs t one)) (omega arith) (omega arith))
-    (gateway_costs t one))) (free refl refl)
+    let rest = left_of (parts_held f now.txn) (taken_to_clear (parts_held f now.txn) amount) in
+    more (then (costs_either (now.live && (last || nat_eq (in_all rest) 0))
+    (comes_to 0 1 0 (then (end_costs (next_notice f) f now.txn rest reason.Cleared) (told now.txn (more (none_costs 0)))) (omega arith) (omega arith))
+    (told now.txn (more (none_costs 0)))) (more (none_costs 0)))
 
-refund_costs : (f : Facts) (token : List ℕ) (amount : ℕ) (o : Option TxnNow) → Costs (refund_entries f token amount o) 0 1 0
+refund_costs : (f : Facts) (token : List ℕ) (amount : ℕ) (now : Option TxnNow) → ActsCost (refund_acts f token amount now) 0 1 0
 refund_costs f token amount None = none_costs 1
-refund_costs f token amount (Some now) =
-    let t = now.txn in
-    let programme = min amount (owed_to_programme f t) in
-    then (then (post_costs t (account.Network t.currency) (user_account t) amount)
-    (gateway_costs t (then (then (post_costs t (user_account t) (account.Programme t.currency) programme) (post_costs t (user_account t) (account.Gateway t.currency) (amount - programme))) one)))
-    (free refl refl)
+refund_costs f token amount (Some now) = more (then (told now.txn (more (none_costs 0))) (more (none_costs 0)))
 
--- all kinds ----
+-- all inputs ----
 
-little : {es : List Entry} {n : ℕ} → Costs es 0 n 0 → n ≤ 3 → Costs es 1 3 0
+unless_costs : (why : Option Reason) (token : List ℕ) (acts : List Act) → ActsCost acts 1 3 0 → ActsCost (acts_unless why token acts) 1 3 0
+unless_costs None token acts h = h
+unless_costs (Some why) token acts h = record { calls = omega arith; notices = omega arith }
+
+little : {acts : List Act} {n : ℕ} → ActsCost acts 0 n 0 → n ≤ 3 → ActsCost acts 1 3 0
 little h le = comes_to 1 3 0 h (omega arith) (omega (arith, le))
 
-kinds_cost : (f : Facts) (at : ℕ) → EachKind (λ i es. Costs es 1 3 0) f at
-kinds_cost f at =
-    record {
-      setting = λ i token why named same. unless_costs why token (setting_entries i token) (little (free refl refl) (omega arith));
-      load = λ token user currency amount. unless_costs (load_reason f user) token (load_entries token user currency amount) (little (free refl refl) (omega arith));
-      authorization = λ token card currency amount mcc mid.
-          let ask = authorization_ask f token card currency amount mcc mid at in
-          unless_costs (authorization_reason f card currency ask) token (authorization_entries f ask) (authorization_costs f ask);
-      increment = λ token txn currency amount.
-          let ask = increment_ask f token txn amount at in
-          unless_costs (increment_reason f (txn_in f txn) currency ask) token (increment_entries f ask) (increment_costs f ask);
-      reversal = λ token txn currency amount.
-          unless_costs (reversal_reason (txn_in f txn) currency) token (reversal_entries f token amount (txn_in f txn)) (little (reversal_costs f token amount (txn_in f txn)) (omega arith));
-      clearing = λ token txn currency amount last.
-          unless_costs (clearing_reason (txn_in f txn) currency) token (clearing_entries f token amount last at (txn_in f txn)) (little (clearing_costs f token amount last at (txn_in f txn)) (omega arith));
-      refund = λ token txn currency amount.
-          unless_costs (refund_reason f (txn_in f txn) currency amount) token (refund_entries f token amount (txn_in f txn)) (little (refund_costs f token amount (txn_in f txn)) (omega arith));
-      answer = λ call what.
-          little (asked_costs (λ (o : Opened) (t : Txn). outcome_entries what f o t at) (call_in f call.0) f (λ o t. outcome_costs what f o t at)) (omega arith);
-      acknowledgement = λ notice. little (costs_either (is_notice f notice) {xs = entry.Acked notice ∷ []} (free refl refl) (none_costs 0)) (omega arith);
-      time = little (none_costs 0) (omega arith);
-    }
+set_costs : (why : Option Reason) (i : Input) (token : List ℕ) → ActsCost (acts_unless why token (Sets i token ∷ [])) 1 3 0
+set_costs why i token = unless_costs why token (Sets i token ∷ []) (little (more (none_costs 0)) (omega arith))
 
-own_costs : (f : Facts) (i : Input) (at : ℕ) → Costs (entries_of i at f) 1 3 0
-own_costs f i at = walk (kinds_cost f at) i
+input_costs : (f : Facts) (i : Input) (at : ℕ) → ActsCost (acts_of i at f) 1 3 0
+input_costs f (input.User token user) at = set_costs (user_reason f user) _ token
+input_costs f (input.Card token card user product active) at = set_costs (card_reason f card user product) _ token
+input_costs f (input.Move token who) at = set_costs (move_reason f who) _ token
+input_costs f (input.Product token product currency funding timeout_ms hold_ms) at = set_costs (product_reason f product) _ token
+input_costs f (input.Group token group mccs) at = set_costs (group_reason f group) _ token
+input_costs f (input.Control token control currency window amount_limit usage_limit association scope active) at = set_costs (control_reason f control currency window association scope) _ token
+input_costs f (input.Set token set product currency connection timeout application max day_limit active) at = set_costs (set_reason f set product currency) _ token
+input_costs f (input.Switch token product on) at = set_costs (switch_reason f product) _ token
+input_costs f (input.Load token user currency amount) at = unless_costs (load_reason f user) token _ (little (more (none_costs 0)) (omega arith))
+input_costs f (input.Authorization token card currency amount mcc mid) at =
+    let ask = authorization_ask f token card currency amount mcc mid at in
+    unless_costs (authorization_reason f card currency ask) token (authorization_acts f ask) (authorization_costs f ask)
+input_costs f (input.Increment token txn currency amount) at =
+    let ask = increment_ask f token txn amount at in
+    unless_costs (increment_reason f (txn_in f txn) currency ask) token (increment_acts f ask) (increment_costs f ask)
+input_costs f (input.Reversal token txn currency amount) at = unless_costs (reversal_reason (txn_in f txn) currency) token _ (little (reversal_costs f token amount (txn_in f txn)) (omega arith))
+input_costs f (input.Clearing token txn currency amount last) at =
+    unless_costs (clearing_reason (txn_in f txn) currency) token _ (little (clearing_costs f token amount last at (txn_in f txn)) (omega arith))
+input_costs f (input.Refund token txn currency amount) at = unless_costs (refund_reason f (txn_in f txn) currency amount) token _ (little (refund_costs f token amount (txn_in f txn)) (omega arith))
+input_costs f (input.Answer call what) at = little (asked_costs (λ o t. outcome_acts what f o t at) (call_in f call.0) f (λ o t. outcome_costs what f o t at)) (omega arith)
+input_costs f (input.Ack notice) at = little (costs_either (is_notice f notice) {xs = Acknowledges notice ∷ []} (more (none_costs 0)) (none_costs 0)) (omega arith)
+input_costs f input.Time at = little (none_costs 0) (omega arith)
 
 -- steps ----
 
@@ -152,11 +172,11 @@ few_taken n s r few = record { calls = few.calls; notices = few.notices }
 pub few_due : (n : ℕ) (s : CoreState) (i : Input) (thing : DueThing) (at : ℕ) → HasTakenUp s i → HasFewNumbers n s
     → HasFewNumbers n (fold after_entry s (thing_entries thing at (core_facts s)))
 few_due n s i thing at ready few =
-    few_after n n 0 0 s (thing_entries thing at (core_facts s)) (omega arith) (omega arith) (due_allowed s i thing at ready) (thing_costs (core_facts s) thing at) few
+    few_after n n 0 0 s (thing_entries thing at (core_facts s)) (omega arith) (omega arith) (due_allowed s i thing at ready) (acts_cost (thing_acts thing at (core_facts s)) (thing_costs (core_facts s) thing at)) few
 
 pub few_own : (n : ℕ) (s : CoreState) (i : Input) (at : ℕ) → HasTakenUp s i → HasFewNumbers n s → HasFewNumbers (n + 1) (fold after_entry s (entries_of i at (core_facts s)))
 few_own n s i at ready few =
-    few_after n (n + 1) 1 3 s (entries_of i at (core_facts s)) (omega arith) (omega arith) (own_allowed s i at ready) (own_costs (core_facts s) i at) few
+    few_after n (n + 1) 1 3 s (entries_of i at (core_facts s)) (omega arith) (omega arith) (own_allowed s i at ready) (acts_cost (acts_of i at (core_facts s)) (input_costs (core_facts s) i at)) few
 
 all_due : (at : ℕ) (g : Growth CoreState) (items : List DueItem) (n : ℕ) (i : Input) → HasTakenUp g.world i → HasFewNumbers n g.world
     → HasTakenUp (fold (settle core_keeper at) g items).world i × HasFewNumbers n (fold (settle core_keeper at) g items).world

@@ -1,14 +1,12 @@
 -- The asked calls of a transaction are abandoned: what that leaves of calls, and that it may be entered.
-use Rattle.std.proofs.Common.{◌≡◌, ℕ, ◌+◌, ◌≤◌, Bool, true, false, cond, ◌&&◌, ◌||◌, nat_eq, List, [], ◌∷◌, ◌++◌, map, filter, fold, refl, sym, ap, subst, ◌∙◌, arith}
-use Rattle.std.specs.Prelude.{Some, None}
+use Rattle.std.proofs.Common.{◌≡◌, ℕ, ◌+◌, ◌≤◌, Bool, true, false, cond, ◌&&◌, ◌||◌, nat_eq, List, [], ◌∷◌, ◌++◌, map, filter, fold, refl, ap, ◌∙◌, arith}
+use Rattle.std.specs.Prelude.{Option, None}
 use Rattle.std.specs.List.{list_any}
 use Rattle.std.specs.Str.{bytes_eq}
 use Rattle.std.proofs.lemmas.Bool.Decides.{nat_tests}
-use Rattle.std.proofs.lemmas.List.{append_assoc}
 use Rattle.iss_model.specs.declared.call.How.{How}
 use Rattle.iss_model.specs.declared.call.How.TheVariants as how
 use Rattle.iss_model.specs.declared.decision.Reason.{Reason}
-use Rattle.iss_model.specs.declared.decision.Verdict.{Verdict}
 use Rattle.iss_model.specs.declared.decision.Verdict.TheVariants as verdict
 use Rattle.iss_model.specs.declared.entry.Entry.{Entry}
 use Rattle.iss_model.specs.declared.entry.Entry.TheVariants as entry
@@ -23,7 +21,7 @@ use Rattle.iss_state.specs.Well.{IsAsked, IsWellAmong, Known, NoneAskedOf, NoneO
 use Rattle.iss_state.proofs.docket.Closing.{NumbersGrowFrom, StandsItself, all_stand, asked_after, asked_before, filtered_grow, none_opened_after}
 use Rattle.iss_state.proofs.docket.Docketed.{closings}
 use Rattle.iss_state.proofs.docket.Entering.{undecided_still}
-use Rattle.iss_state.proofs.docket.Enters.{Enters, entered_well, enters_append, enters_closed, enters_ended, enters_none, enters_settled}
+use Rattle.iss_state.proofs.docket.Enters.{Enters, entered_well, enters_append, enters_closed, enters_none}
 use Rattle.iss_state.proofs.docket.Lists.{Each, both_so, found_filtered, never, not_both}
 
 -- a new event ----
@@ -142,23 +140,12 @@ abandoned_ends why d txn live =
       none_asked = closings_none why d txn;
     }
 
--- calls are abandoned, and the transaction ends
-pub end_enters : (known : Known) (why : Reason) (d : Docket) (txn : List ℕ) → IsWellAmong known d → has_live d.txns txn ≡ true
-    → Enters known d None (closings why (asked_in d.calls txn) ++ entry.Ended txn ∷ [])
-end_enters known why d txn well live =
-    let cs : List Entry = closings why (asked_in d.calls txn) in
-    enters_append known d None cs (entry.Ended txn ∷ []) (abandoned_enter known why d txn well)
-    (enters_ended known (fold docket_after d cs) txn (abandoned_ends why d txn live))
-
--- calls are abandoned, the transaction may end, and an event is decided
-pub abandoned_decides : (known : Known) (why : Reason) (d : Docket) (txn : List ℕ) (ends : Bool) (event : List ℕ) (v : Verdict) → IsWellAmong known d
-    → has_live d.txns txn ≡ true
-    → IsNewTo known d event → Enters known d (Some event) ((closings why (asked_in d.calls txn) ++ cond ends (entry.Ended txn ∷ []) []) ++ entry.Decided event v ∷ [])
-abandoned_decides known why d txn ends event v well live new =
+-- Calls are abandoned, and others follow when the transaction may end and a new event is still new.
+pub abandoned_then : (known : Known) (why : Reason) (d : Docket) (txn : List ℕ) (own : Option (List ℕ)) (es : List Entry) → IsWellAmong known d → has_live d.txns txn ≡ true
+    → ((q : Docket) → MayEnd q txn → ((event : List ℕ) → IsNewTo known d event → IsNewTo known q event) → Enters known q own es)
+    → Enters known d own (closings why (asked_in d.calls txn) ++ es)
+abandoned_then known why d txn own es well live rest =
     let calls : List CallNow = asked_in d.calls txn in
-    let cs : List Entry = closings why calls in
-    let q : Docket = fold docket_after d cs in
-    let still : IsNewTo known q event = closings_new known why calls 1 d event (all_grow d.calls txn well.calls.numbers) (all_asked d.calls txn well.calls.numbers) new in
-    subst (Enters known d (Some event)) (sym (append_assoc cs (cond ends (entry.Ended txn ∷ []) []) (entry.Decided event v ∷ [])))
-    (enters_append known d (Some event) cs (cond ends (entry.Ended txn ∷ []) [] ++ entry.Decided event v ∷ []) (abandoned_enter known why d txn well)
-    (enters_settled known q txn event ends v new.its_event (λ e. abandoned_ends why d txn live) (new_decides known q event still)))
+    enters_append known d own (closings why calls) es (abandoned_enter known why d txn well)
+    (rest (fold docket_after d (closings why calls)) (abandoned_ends why d txn live)
+    (λ event new. closings_new known why calls 1 d event (all_grow d.calls txn well.calls.numbers) (all_asked d.calls txn well.calls.numbers) new))

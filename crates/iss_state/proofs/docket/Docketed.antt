@@ -1,31 +1,27 @@
--- What the pieces of a step put on a docket.
-use Rattle.std.proofs.Common.{◌≡◌, ℕ, ◌+◌, ◌-◌, Bool, true, false, cond, nat_eq, List, [], ◌∷◌, ◌++◌, filter, refl, ap, ◌∙◌}
-use Rattle.std.specs.Prelude.{pos, None}
-use Rattle.std.proofs.lemmas.List.{append-nil}
+-- What acts put on a docket.
+use Rattle.std.proofs.Common.{◌≡◌, ℕ, ◌+◌, ◌-◌, Bool, true, false, cond, nat_eq, List, [], ◌∷◌, ◌++◌, filter, refl, ap, ap₂, ◌∙◌}
+use Rattle.std.specs.Prelude.{pos, None, flat_map}
+use Rattle.std.proofs.lemmas.Grind.{flat_map-append}
 use Rattle.std.proofs.lemmas.List.Elements.{filter-append}
 use Rattle.iss_model.specs.declared.account.Account.{Account}
 use Rattle.iss_model.specs.declared.account.Account.TheVariants as account
 use Rattle.iss_model.specs.declared.account.Part.{Part}
 use Rattle.iss_model.specs.declared.account.Part.TheVariants as part
-use Rattle.iss_model.specs.declared.call.Failure.{Failure}
 use Rattle.iss_model.specs.declared.call.How.TheVariants as how
 use Rattle.iss_model.specs.declared.call.Method.TheVariants as method
 use Rattle.iss_model.specs.declared.decision.Reason.{Reason}
 use Rattle.iss_model.specs.declared.decision.Reason.TheVariants as reason
-use Rattle.iss_model.specs.declared.decision.Verdict.{Verdict}
 use Rattle.iss_model.specs.declared.decision.Verdict.TheVariants as verdict
 use Rattle.iss_model.specs.declared.entry.Entry.{Entry}
 use Rattle.iss_model.specs.declared.entry.Entry.TheVariants as entry
 use Rattle.iss_model.specs.declared.txn.Txn.{Txn}
 use Rattle.iss_model.specs.rules.Activity.{CallNow}
-use Rattle.iss_model.specs.rules.Asks.{Ask, usage_of}
-use Rattle.iss_model.specs.rules.Pieces.{clearing_money_entries, only_where, only_gateway, post_entries, hold_entries, unhold_entries, user_account, Parts, in_all, taken_to_release, use_return_entries, release_entries, notice_entry, abandoned_calls_entries, declined_ask_entries, funded_ask_entries, failure_reason}
+use Rattle.iss_model.specs.rules.Acts.{Abandons, Act, Asks, Begins, Clears, Declines, Does, Ends, Fails, Funds, GivesBack, HoldsOwn, LetsGo, Loads, Refuses, Sets, StandsIn, TurnsDown, act_entries, entries_of_acts}
+use Rattle.iss_model.specs.rules.CardActs.{acts_for_gateway, acts_where}
+use Rattle.iss_model.specs.rules.Asks.{Ask, call_ask, usage_of}
+use Rattle.iss_model.specs.rules.Pieces.{clearing_money_entries, only_where, only_gateway, post_entries, hold_entries, unhold_entries, user_account, Parts, in_all, taken_to_clear, taken_to_release, call_for, use_return_entries, release_entries, notice_entry, abandoned_calls_entries, declined_ask_entries, funded_ask_entries}
 use Rattle.iss_model.specs.rules.CardReasons.{is_account_funded}
-use Rattle.iss_model.specs.rules.Facts.{Facts, asked_calls_of}
-use Rattle.iss_acts.specs.Rows.{end_entries, stand_entries}
-use Rattle.iss_model.specs.rules.StandIns.{Stand, allowed, over_limit, uncovered}
 use Rattle.iss_state.specs.Dockets.{is_docketed}
-use Rattle.iss_state.proofs.docket.Lists.{never}
 
 -- entries of which nothing is docketed ----
 
@@ -75,15 +71,9 @@ clearing_silent t taken n at =
     (post_silent t (user_account t) (account.Network t.currency) n))
     (where_silent excess {es = entry.Usage (usage_of t (pos excess) (pos 0) at) ∷ []} (silent refl))
 
--- what is silent before others and after them
+-- what is silent before others
 pub silent_first : (xs ys : List Entry) → AreSilent xs → filter is_docketed (xs ++ ys) ≡ filter is_docketed ys
 silent_first xs ys h = filter-append is_docketed xs ys ∙ ap (λ (zs : List Entry). zs ++ filter is_docketed ys) h.none
-
-pub silent_last : (xs ys : List Entry) → AreSilent ys → filter is_docketed (xs ++ ys) ≡ filter is_docketed xs
-silent_last xs ys h = filter-append is_docketed xs ys ∙ ap (λ (zs : List Entry). filter is_docketed xs ++ zs) h.none ∙ append-nil (filter is_docketed xs)
-
-pub docketed_both : (xs ys us vs : List Entry) → filter is_docketed xs ≡ us → filter is_docketed ys ≡ vs → filter is_docketed (xs ++ ys) ≡ us ++ vs
-docketed_both xs ys us vs h k = filter-append is_docketed xs ys ∙ ap (λ (zs : List Entry). zs ++ filter is_docketed ys) h ∙ ap (λ (zs : List Entry). us ++ zs) k
 
 -- calls that are abandoned ----
 
@@ -97,51 +87,84 @@ abandoned_docketed number t why [] = refl
 abandoned_docketed number t why (c ∷ cs) =
     ap (λ (es : List Entry). entry.Closed c.opened.call how.Abandoned ∷ entry.Decided c.opened.event (verdict.Declined why) ∷ es) (abandoned_docketed (number + 1) t why cs)
 
-pub end_docketed : (number : ℕ) (f : Facts) (t : Txn) (parts : Parts) (why : Reason)
-    → filter is_docketed (end_entries number f t parts why) ≡ closings why (asked_calls_of f t.token) ++ entry.Ended t.token ∷ []
-end_docketed number f t parts why =
-    let calls : List CallNow = asked_calls_of f t.token in
-    docketed_both (abandoned_calls_entries number t why calls ++ release_entries t parts (in_all parts)) (entry.Ended t.token ∷ []) (closings why calls) (entry.Ended t.token ∷ [])
-    (silent_last (abandoned_calls_entries number t why calls) (release_entries t parts (in_all parts)) (release_silent t parts (in_all parts)) ∙ abandoned_docketed number t why calls) refl
+-- acts ----
 
--- asks that are settled ----
+-- an ask is declined, and with an authorisation its transaction ends
+abbrev pub turned_down : Ask → Reason → List Entry
+turned_down ask why = cond ask.is_first (entry.Ended ask.txn.token ∷ []) [] ++ entry.Decided ask.event (verdict.Declined why) ∷ []
 
--- entries decide an ask, and may end its transaction where it is the first one
-pub record Settles (ask : Ask) (es : List Entry) : Type 0 where
-  pub its_verdict : Verdict
-  pub ends : Bool
-  pub docketed : filter is_docketed es ≡ cond ends (entry.Ended ask.txn.token ∷ []) [] ++ entry.Decided ask.event its_verdict ∷ []
-  pub first : ends ≡ true → ask.is_first ≡ true
+-- what an act puts on a docket
+abbrev pub docketed : Act → List Entry
+docketed (Declines event why) = entry.Decided event (verdict.Declined why) ∷ []
+docketed (Sets i event) = entry.Decided event verdict.Done ∷ []
+docketed (Loads event user currency amount) = entry.Decided event verdict.Done ∷ []
+docketed (Begins ask) = entry.Began ask.txn ∷ []
+docketed (HoldsOwn ask) = entry.Decided ask.event verdict.Approved ∷ []
+docketed (Asks f product ask) = entry.Opened (call_for f product ask) ∷ []
+docketed (Funds o t) = entry.Closed o.call how.Funded ∷ entry.Decided o.event verdict.Approved ∷ []
+docketed (Refuses o t) = entry.Closed o.call how.Refused ∷ turned_down (call_ask o t) reason.GatewayDeclined
+docketed (Fails number o t why) = entry.Closed o.call (how.Failed why) ∷ []
+docketed (StandsIn number ask at set) = entry.Decided ask.event verdict.Approved ∷ []
+docketed (TurnsDown ask why) = turned_down ask why
+docketed (Abandons number t why calls parts) = closings why calls
+docketed (Ends t) = entry.Ended t.token ∷ []
+docketed (Does event) = entry.Decided event verdict.Done ∷ []
+docketed _ = []
 
-pub declined_settles : (ask : Ask) (why : Reason) → Settles ask (declined_ask_entries ask why)
-declined_settles ask why =
-    record { its_verdict = verdict.Declined why; ends = ask.is_first; docketed = by ask.is_first; first = λ e. e }
+-- what acts in a row put there
+abbrev pub docketed_by : List Act → List Entry
+docketed_by acts = flat_map docketed acts
+
+funded_docketed : (ask : Ask) (from : Account) (p : Part) → filter is_docketed (funded_ask_entries ask from p) ≡ entry.Decided ask.event verdict.Approved ∷ []
+funded_docketed ask from p =
+    silent_first (post_entries ask.txn from (user_account ask.txn) ask.amount ++ hold_entries ask.txn p ask.amount) (entry.Decided ask.event verdict.Approved ∷ [])
+    (both_silent (post_silent ask.txn from (user_account ask.txn) ask.amount) (hold_silent ask.txn p ask.amount))
+
+turned_docketed : (ask : Ask) (why : Reason) → filter is_docketed (declined_ask_entries ask why) ≡ turned_down ask why
+turned_docketed ask why = by ask.is_first
   where
     by : (b : Bool) → filter is_docketed (cond b (entry.Ended ask.txn.token ∷ []) [] ++ entry.Decided ask.event (verdict.Declined why) ∷ [])
         ≡ cond b (entry.Ended ask.txn.token ∷ []) [] ++ entry.Decided ask.event (verdict.Declined why) ∷ []
     by true = refl
     by false = refl
 
-pub funded_settles : (ask : Ask) (from : Account) (p : Part) → Settles ask (funded_ask_entries ask from p)
-funded_settles ask from p =
-    record {
-      its_verdict = verdict.Approved;
-      ends = false;
-      docketed = silent_first (post_entries ask.txn from (user_account ask.txn) ask.amount ++ hold_entries ask.txn p ask.amount) (entry.Decided ask.event verdict.Approved ∷ [])
-          (both_silent (post_silent ask.txn from (user_account ask.txn) ask.amount) (hold_silent ask.txn p ask.amount));
-      first = never;
-    }
+act_docketed : (a : Act) → filter is_docketed (act_entries a) ≡ docketed a
+act_docketed (HoldsOwn ask) = silent_first (hold_entries ask.txn part.S ask.amount) (entry.Decided ask.event verdict.Approved ∷ []) (hold_silent ask.txn part.S ask.amount)
+act_docketed (Funds o t) = ap (λ (es : List Entry). entry.Closed o.call how.Funded ∷ es) (funded_docketed (call_ask o t) (account.Gateway t.currency) part.G)
+act_docketed (Refuses o t) = ap (λ (es : List Entry). entry.Closed o.call how.Refused ∷ es) (turned_docketed (call_ask o t) reason.GatewayDeclined)
+act_docketed (StandsIn number ask at set) =
+    silent_first (post_entries ask.txn (account.Programme ask.txn.currency) (user_account ask.txn) ask.amount ++ hold_entries ask.txn part.P ask.amount)
+    (notice_entry number method.StandIn ask.txn None ask.amount 0 ∷ entry.Decided ask.event verdict.Approved ∷ [])
+    (both_silent (post_silent ask.txn (account.Programme ask.txn.currency) (user_account ask.txn) ask.amount) (hold_silent ask.txn part.P ask.amount))
+act_docketed (TurnsDown ask why) = turned_docketed ask why
+act_docketed (Abandons number t why calls parts) = abandoned_docketed number t why calls
+act_docketed (LetsGo t parts amount) = (release_silent t parts amount).none
+act_docketed (Clears t parts amount at) = (clearing_silent t (taken_to_clear parts amount) amount at).none
+act_docketed (GivesBack t amount programme) =
+    (both_silent (post_silent t (account.Network t.currency) (user_account t) amount)
+    (gateway_silent t (both_silent (post_silent t (user_account t) (account.Programme t.currency) programme) (post_silent t (user_account t) (account.Gateway t.currency) (amount - programme))))).none
+act_docketed _ = refl
 
-pub stand_settles : (s : Stand) (number : ℕ) (ask : Ask) (why : Failure) (at : ℕ) → Settles ask (stand_entries s number ask why at)
-stand_settles (allowed s) number ask why at =
-    let stood : Entry = entry.Stood s.name ask.txn.product ask.txn.user ask.amount at in
-    record {
-      its_verdict = verdict.Approved;
-      ends = false;
-      docketed = silent_first (stood ∷ post_entries ask.txn (account.Programme ask.txn.currency) (user_account ask.txn) ask.amount ++ hold_entries ask.txn part.P ask.amount)
-          (notice_entry number method.StandIn ask.txn None ask.amount 0 ∷ entry.Decided ask.event verdict.Approved ∷ [])
-          (both_silent (both_silent {xs = stood ∷ []} (silent refl) (post_silent ask.txn (account.Programme ask.txn.currency) (user_account ask.txn) ask.amount)) (hold_silent ask.txn part.P ask.amount));
-      first = never;
-    }
-stand_settles (over_limit s) number ask why at = declined_settles ask (reason.StandInLimit s.name)
-stand_settles uncovered number ask why at = declined_settles ask (failure_reason why)
+-- what is docketed of acts in a row
+pub acts_docketed : (acts : List Act) → filter is_docketed (entries_of_acts acts) ≡ docketed_by acts
+acts_docketed [] = refl
+acts_docketed (a ∷ acts) = filter-append is_docketed (act_entries a) (entries_of_acts acts) ∙ ap₂ (λ (xs ys : List Entry). xs ++ ys) (act_docketed a) (acts_docketed acts)
+
+-- what the gateway is told puts nothing there
+pub told_docketed : (t : Txn) (acts : List Act) → docketed_by acts ≡ [] → docketed_by (acts_for_gateway t acts) ≡ []
+told_docketed t acts h = by (is_account_funded t.funding)
+  where
+    by : (b : Bool) → docketed_by (cond b [] acts) ≡ []
+    by true = refl
+    by false = h
+
+pub some_docketed : (n : ℕ) (acts : List Act) → docketed_by acts ≡ [] → docketed_by (acts_where n acts) ≡ []
+some_docketed n acts h = by (nat_eq n 0)
+  where
+    by : (b : Bool) → docketed_by (cond b [] acts) ≡ []
+    by true = refl
+    by false = h
+
+-- an event is done after that
+pub done_docketed : (event : List ℕ) (news : List Act) → docketed_by news ≡ [] → docketed_by (news ++ Does event ∷ []) ≡ entry.Decided event verdict.Done ∷ []
+done_docketed event news h = flat_map-append docketed news (Does event ∷ []) ∙ ap (λ (es : List Entry). es ++ entry.Decided event verdict.Done ∷ []) h

@@ -1,8 +1,6 @@
 -- What is known of holdings at each stage of a row of acts, and that the entries of each act find there what they need.
-use Rattle.std.proofs.Common.{Bool, List, [], ap, cond, fold, not, refl, subst, sym, true, false, ℕ, ◌++◌, ◌∙◌, ◌∷◌, ◌≡◌, ◌≤◌, ◌&&◌, nat_eq, ◌-◌, inl, inr}
-use Rattle.std.proofs.lemmas.Bool.{not-false}
-use Rattle.std.specs.Prelude.{None, Option, Some}
-use Rattle.std.specs.Str.{bytes_eq}
+use Rattle.std.proofs.Common.{List, [], ap, fold, not, refl, subst, sym, false, ℕ, ◌++◌, ◌∙◌, ◌∷◌, ◌≡◌, ◌≤◌, ◌-◌, inl, inr}
+use Rattle.std.specs.Prelude.{None, Some}
 use Rattle.iss_model.specs.declared.account.Account.TheVariants as account
 use Rattle.iss_model.specs.declared.account.Part.TheVariants as part
 use Rattle.iss_model.specs.declared.call.How.TheVariants as how
@@ -10,34 +8,32 @@ use Rattle.iss_model.specs.declared.call.How.{How}
 use Rattle.iss_model.specs.declared.call.Method.TheVariants as method
 use Rattle.iss_model.specs.declared.call.Opened.{Opened}
 use Rattle.iss_model.specs.declared.decision.Reason.TheVariants as reason
-use Rattle.iss_model.specs.declared.decision.Reason.{Reason}
 use Rattle.iss_model.specs.declared.decision.Verdict.TheVariants as verdict
 use Rattle.iss_model.specs.declared.entry.Entry.TheVariants as entry
 use Rattle.iss_model.specs.declared.entry.Entry.{Entry}
 use Rattle.iss_model.specs.declared.input.Input.{Input}
 use Rattle.iss_model.specs.declared.txn.Txn.{Txn}
-use Rattle.iss_model.specs.rules.Activity.{CallNow, TxnNow, is_asked, txn_named}
-use Rattle.iss_model.specs.rules.Asks.{Ask, call_ask, is_authorization}
-use Rattle.iss_model.specs.rules.CardReasons.{is_account_funded, is_pending}
-use Rattle.iss_model.specs.rules.Facts.{Facts}
+use Rattle.iss_model.specs.rules.Activity.{TxnNow, txn_named}
+use Rattle.iss_model.specs.rules.Asks.{Ask, call_ask}
+use Rattle.iss_model.specs.rules.CardReasons.{is_account_funded}
 use Rattle.iss_model.specs.rules.Pieces.{Parts, abandoned_calls_entries, hold_entries, notice_entry, parts_held, post_entries, user_account}
 use Rattle.iss_model.specs.rules.Reasons.{is_some_with}
 use Rattle.iss_model.specs.state.Cores.{CoreState, after_entry, core_facts}
-use Rattle.iss_model.proofs.Names.{same_name}
 use Rattle.iss_model.specs.rules.Acts.{Abandons, Act, Asks, Begins, Clears, Ends, Fails, Funds, GivesBack, HoldsOwn, LetsGo, Refuses, StandsIn, TurnsDown, Uses, act_entries}
 use Rattle.iss_acts.specs.Causes.{Cause, ComesOf}
 use Rattle.iss_acts.specs.Sources.{IsAskedCall, IsFirstAsk, IsFurtherAsk, IsMade, IsSettledAsk, IsStart}
 use Rattle.iss_acts.specs.Stages.{Frees, Fresh, Keeps, Leaves, Over, Seeks, Stage, stage_after}
 use Rattle.iss_acts.proofs.Walk.{Goes, from_start, of_asked}
 use Rattle.iss_state.proofs.invariants.Passing.{both_pass, gateway_passes, passing}
-use Rattle.iss_state.proofs.docket.Lists.{both_so, found_filtered, never, not_both}
+use Rattle.iss_state.proofs.docket.Lists.{never}
 use Rattle.iss_state.specs.Dockets.{docket_after, docket_of}
 use Rattle.iss_state.specs.Well.{IsWellAmong, Known, has_live}
-use Rattle.iss_state.proofs.calls.Due.{found_live, its_token}
+use Rattle.iss_state.proofs.calls.Due.{its_token}
+use Rattle.iss_state.proofs.calls.Own.{begun_may, first_method, raised_may}
 use Rattle.iss_state.specs.Pending.{HasTakenUp}
 use Rattle.iss_state.specs.Holdings.{AllKeepHeld, IsHeldWell, is_part_of}
-use Rattle.iss_state.proofs.held.Asks.{MaySettle, asked_gateway, closed_settles, declined_keeps, first_method, funded_keeps, hold_keeps, paid_keeps}
-use Rattle.iss_state.proofs.held.Begun.{authorization_stamp, begun_live, begun_stands, first_unnamed, not_live}
+use Rattle.iss_state.proofs.held.Asks.{MaySettle, asked_gateway, closed_settles, declined_keeps, funded_keeps, hold_keeps, paid_keeps}
+use Rattle.iss_state.proofs.held.Begun.{authorization_stamp, begun_stands, first_unnamed, not_live}
 use Rattle.iss_state.proofs.held.Changes.{begun_sum, keep_append}
 use Rattle.iss_state.proofs.held.Pieces.{HoldsJust, abandoned_calm, calm_keep, calm_leaves, clearing_leaves, its_parts, nothing_left, post_calm, release_leaves}
 
@@ -56,10 +52,6 @@ IsKnown s (Keeps t parts) q = HoldsJust q.holdings.parts t.token parts
 IsKnown s (Frees t parts) q = HoldsJust q.holdings.parts t.token parts
 IsKnown s (Leaves t parts) q = HoldsJust q.holdings.parts t.token parts
 IsKnown s Over q = Unit {0}
-
-first_fails : (b : Bool) (why : Reason) (rest : Option Reason) → cond b (Some why) rest ≡ None → (b ≡ false) × (rest ≡ None)
-first_fails true why rest h = cc
-first_fails false why rest h = (refl, h)
 
 -- the gateway pays the transaction of an asked call, and that of an ask which is settled without its answer
 pub call_of_gateway : {o : Opened} {t : Txn} (s : CoreState) → IsHeldWell s → IsAskedCall (core_facts s) o t → is_account_funded t.funding ≡ false
@@ -82,11 +74,7 @@ module _ (by : Cause) (at : ℕ) (s : CoreState) (ready : IsReadyFor by s) (earl
   begun_settles ask first =
       record {
         its = λ p. ap (is_some_with (λ (t : TxnNow). is_part_of p t.txn.funding)) (begun_stands s.holdings.txns ask.txn none);
-        may = record {
-          its_live = begun_live s.holdings.txns ask.txn none;
-          none_pending = λ n c now same first.
-              not_both (has_live s.holdings.txns ask.txn.token) (ap (has_live s.holdings.txns) (sym same) ∙ ready.well.live n c now) dead;
-        };
+        may = begun_may ready.known (docket_of s) ask.txn ready.well none;
         nothing = λ first p. begun_sum s.holdings.parts ask.txn _ ∙ ready.held.ended ask.txn.token dead p;
       }
     where
@@ -98,21 +86,11 @@ module _ (by : Cause) (at : ℕ) (s : CoreState) (ready : IsReadyFor by s) (earl
 
   raised_settles : (ask : Ask) → IsFurtherAsk (core_facts s) by at ask → IsKnown s (Seeks ask) (fold after_entry s (act_entries (Uses ask)))
   raised_settles ask more =
-      let f : Facts = core_facts s in
       let now : TxnNow = more.now in
-      let second = first_fails (not now.live) reason.TxnClosed _ more.none in
-      let third = first_fails (is_pending f now.txn) reason.TxnPending _ second.1 in
       subst (λ (ask : Ask). IsKnown s (Seeks ask) (fold after_entry s (act_entries (Uses ask)))) (sym more.made)
       (record {
         its = λ p. ap (is_some_with (λ (t : TxnNow). is_part_of p t.txn.funding)) (ap (λ (k : List ℕ). txn_named k s.holdings.txns) (its_token s.holdings.txns more.txn now more.stands) ∙ more.stands);
-        may = record {
-          its_live = found_live s.holdings.txns more.txn now more.stands (not-false now.live second.0);
-          none_pending = λ n c asked same first.
-              not_both (is_pending f now.txn)
-              (found_filtered (λ (x : CallNow). nat_eq x.opened.call.0 n) (λ (x : CallNow). is_asked x && bytes_eq x.opened.txn now.txn.token) (λ (x : CallNow). is_authorization x.opened.method)
-              s.calls c asked.stands (both_so (is_asked c) (bytes_eq c.opened.txn now.txn.token) asked.asked (same_name c.opened.txn now.txn.token same)) first)
-              third.0;
-        };
+        may = raised_may more.currency (Some ask) s more.txn now more.stands more.none;
         nothing = never;
       })
 

@@ -5,14 +5,13 @@ use Rattle.iss_model.specs.declared.account.Account.{Account}
 use Rattle.iss_model.specs.declared.account.Part.{Part}
 use Rattle.iss_model.specs.declared.account.Part.TheVariants as part
 use Rattle.iss_model.specs.declared.call.How.{How}
-use Rattle.iss_model.specs.declared.call.Method.TheVariants as method
 use Rattle.iss_model.specs.declared.decision.Reason.{Reason}
 use Rattle.iss_model.specs.declared.decision.Verdict.TheVariants as verdict
 use Rattle.iss_model.specs.declared.entry.Entry.{Entry}
 use Rattle.iss_model.specs.declared.entry.Entry.TheVariants as entry
 use Rattle.iss_model.specs.declared.txn.Txn.{Txn}
 use Rattle.iss_model.specs.rules.Activity.{TxnNow, CallNow, txn_named}
-use Rattle.iss_model.specs.rules.Asks.{Ask, ask_given_back, call_ask, is_authorization}
+use Rattle.iss_model.specs.rules.Asks.{Ask, ask_given_back, call_ask}
 use Rattle.iss_model.specs.rules.CardReasons.{is_account_funded}
 use Rattle.iss_model.specs.rules.Pieces.{declined_ask_entries, funded_ask_entries, hold_entries, post_entries, user_account}
 use Rattle.iss_model.specs.rules.Reasons.{is_some_with}
@@ -68,12 +67,6 @@ declined_keeps s ask why settles =
     by : (b : Bool) → ask.is_first ≡ b → AllKeepHeld (after_entry s (entry.Usage (ask_given_back ask))) (cond b (entry.Ended ask.txn.token ∷ []) [])
     by true e = (settles.nothing e, tt)
     by false e = tt
-
--- funding is sought ----
-
-pub first_method : (b : Bool) → is_authorization (cond b method.Authorization method.Incremental) ≡ true → b ≡ true
-first_method true h = refl
-first_method false h = h
 
 -- a call is closed ----
 

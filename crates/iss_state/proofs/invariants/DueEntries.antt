@@ -1,6 +1,6 @@
 -- What is due, and what is answered, is paid from what was at stake.
 use Rattle.std.specs.Prelude.{None, Option, Some, option_map}
-use Rattle.std.proofs.Common.{Bool, List, [], ap, arith, cond, false, find, fold, nat_eq, refl, true, ℕ, ◌*◌, ◌+◌, ◌∙◌, ◌∷◌, ◌≡◌}
+use Rattle.std.proofs.Common.{Bool, List, [], ap, arith, cond, false, find, fold, nat_eq, refl, subst, sym, true, ℕ, ◌*◌, ◌+◌, ◌∙◌, ◌∷◌, ◌≡◌}
 use Rattle.std.specs.List.{list_all}
 use Rattle.std.specs.Str.{bytes_eq}
 use Rattle.iss_model.specs.declared.account.Account.TheVariants as account
@@ -19,7 +19,8 @@ use Rattle.iss_model.specs.declared.input.Outcome.TheVariants as outcome
 use Rattle.iss_model.specs.declared.txn.Txn.{Txn}
 use Rattle.iss_model.specs.rules.Activity.{CallNow, TxnNow, call_numbered, is_asked, txn_named}
 use Rattle.iss_model.specs.rules.Asks.{call_ask}
-use Rattle.iss_acts.specs.Rows.{answer_entries, entries_of_asked, entries_of_txn, failed_call_entries, outcome_entries, expiry_entries, live_expiry_entries, end_entries, stand_in_entries}
+use Rattle.iss_acts.proofs.Made.{thing_made}
+use Rattle.iss_acts.specs.Rows.{answer_entries, written_thing, entries_of_asked, entries_of_txn, failed_call_entries, outcome_entries, expiry_entries, live_expiry_entries, end_entries, stand_in_entries}
 use Rattle.iss_model.specs.rules.CardReasons.{is_account_funded}
 use Rattle.iss_model.specs.rules.Due.{DueThing, call_due, thing_entries, txn_due}
 use Rattle.iss_model.specs.rules.Facts.{Facts, next_notice}
@@ -126,9 +127,12 @@ live_expiry_paid s (Some now) h stands = by now.live
     by true = expiry_paid s now.txn h (stands now refl)
     by false = nothing_paid s h
 
--- what is due is paid from what was at stake
-pub thing_paid : (s : CoreState) (thing : DueThing) (at : ℕ) → IsOrderlyState s → Paid 0 0 s (thing_entries thing at (core_facts s))
-thing_paid s (call_due number) at h =
+written_thing_paid : (s : CoreState) (thing : DueThing) (at : ℕ) → IsOrderlyState s → Paid 0 0 s (written_thing thing at (core_facts s))
+written_thing_paid s (call_due number) at h =
     asked_paid s (λ (o : Opened) (t : Txn). failed_call_entries (core_facts s) o t failure.Timeout at) (call_numbered number s.calls) h
     (λ c e asked t stands. failed_call_paid s (core_facts s) c t failure.Timeout at h stands (found_itself number s.calls c e) asked)
-thing_paid s (txn_due token) at h = live_expiry_paid s (txn_named token s.holdings.txns) h (found_stands s token)
+written_thing_paid s (txn_due token) at h = live_expiry_paid s (txn_named token s.holdings.txns) h (found_stands s token)
+
+-- what is due is paid from what was at stake
+pub thing_paid : (s : CoreState) (thing : DueThing) (at : ℕ) → IsOrderlyState s → Paid 0 0 s (thing_entries thing at (core_facts s))
+thing_paid s thing at h = subst (Paid 0 0 s) (sym (thing_made (core_facts s) thing at)) (written_thing_paid s thing at h)

@@ -1,6 +1,7 @@
--- Notices are numbered one by one, in what is due and in the entries of each input.
+-- The notices that acts make are numbered one by one, from the next number on.
 use Rattle.std.specs.Prelude.{None, Option, Some}
-use Rattle.std.proofs.Common.{Bool, List, [], cond, false, min, nat_eq, refl, subst, true, ℕ, ◌&&◌, ◌++◌, ◌+◌, ◌-◌, ◌||◌, ◌∷◌}
+use Rattle.std.proofs.Common.{Bool, List, [], append_assoc, arith, cond, false, length, min, nat_eq, not, refl, subst, suc, sym, true, ℕ, ◌&&◌, ◌++◌, ◌+◌, ◌-◌, ◌||◌, ◌∷◌, ◌≡◌}
+use Rattle.std.specs.List.{list_all}
 use Rattle.iss_model.specs.declared.account.Account.TheVariants as account
 use Rattle.iss_model.specs.declared.account.Part.TheVariants as part
 use Rattle.iss_model.specs.declared.call.Failure.{Failure}
@@ -13,195 +14,254 @@ use Rattle.iss_model.specs.declared.decision.Verdict.TheVariants as verdict
 use Rattle.iss_model.specs.declared.entry.Entry.{Entry}
 use Rattle.iss_model.specs.declared.entry.Entry.TheVariants as entry
 use Rattle.iss_model.specs.declared.input.Input.{Input}
+use Rattle.iss_model.specs.declared.input.Input.TheVariants as input
 use Rattle.iss_model.specs.declared.input.Outcome.{Outcome}
 use Rattle.iss_model.specs.declared.input.Outcome.TheVariants as outcome
 use Rattle.iss_model.specs.declared.setting.Product.{Product}
+use Rattle.iss_model.specs.declared.setting.Set.{Set}
 use Rattle.iss_model.specs.declared.txn.Txn.{Txn}
 use Rattle.iss_model.specs.rules.Activity.{CallNow, TxnNow, is_asked}
+use Rattle.iss_model.specs.rules.Acts.{Abandons, Acknowledges, Act, Asks, Clears, Does, Ends, Fails, GivesBack, HoldsOwn, LetsGo, News, StandsIn, Tells, act_entries, captured, entries_of_acts, expired, refunded, reversed}
 use Rattle.iss_model.specs.rules.Asks.{Ask, call_ask}
-use Rattle.iss_acts.specs.Rows.{authorization_entries, clearing_entries, entries_of_asked, entries_of_txn, failed_call_entries, funding_entries, further_clearing_entries, gateway_ask_entries, increment_entries, last_clearing_entries, outcome_entries, refund_entries, reversal_entries, expiry_entries, live_expiry_entries, abandonment_entries, end_entries, stand_in_entries, unless_declined}
-use Rattle.iss_model.specs.rules.Pieces.{call_for, clearing_money_entries, owed_to_programme, Parts, declined_ask_entries, funded_ask_entries, hold_entries, in_all, left_of, notice_after_abandonment, notice_entry, only_gateway, only_where, parts_held, post_entries, release_entries, taken_to_clear, user_account, load_entries, setting_entries}
+use Rattle.iss_model.specs.rules.CardActs.{acts_for_gateway, acts_of_asked, acts_of_txn, acts_where, after_clearing_acts, authorization_acts, clearing_acts, end_acts, failed_acts, funding_acts, gateway_acts, increment_acts, outcome_acts, refund_acts, reversal_acts, stand_acts}
 use Rattle.iss_model.specs.rules.CardReasons.{authorization_reason, clearing_reason, increment_reason, is_account_funded, refund_reason, reversal_reason}
-use Rattle.iss_model.specs.rules.Due.{DueThing, call_due, thing_entries, txn_due}
+use Rattle.iss_model.specs.rules.Due.{DueThing, call_due, expiry_acts, live_expiry_acts, thing_acts, thing_entries, txn_due}
 use Rattle.iss_model.specs.rules.Facts.{Facts, asked_calls_of, call_in, is_notice, next_notice, txn_in}
-use Rattle.iss_model.specs.rules.Reasons.{load_reason}
+use Rattle.iss_model.specs.rules.Pieces.{Parts, abandoned_calls_entries, hold_entries, in_all, left_of, notice_after_abandonment, notice_entry, owed_to_programme, parts_held, post_entries, taken_to_clear, user_account}
+use Rattle.iss_model.specs.rules.Reasons.{card_reason, control_reason, group_reason, load_reason, move_reason, product_reason, set_reason, switch_reason, user_reason}
 use Rattle.iss_model.specs.rules.Settings.{is_named_in, product_named}
-use Rattle.iss_model.specs.rules.Stepping.{authorization_ask, entries_of, increment_ask}
-use Rattle.iss_state.proofs.effects.Regrouping.{five, four, three}
+use Rattle.iss_model.specs.rules.StandIns.{Stand, allowed, over_limit, stand, uncovered}
+use Rattle.iss_model.specs.rules.Stepping.{acts_of, acts_unless, authorization_ask, entries_of, increment_ask}
+use Rattle.iss_acts.specs.Items.{Item, StandTelling, Telling, Voiding, has_item, item_entry, may_tell, may_tell_stand_in, may_void}
+use Rattle.iss_acts.proofs.Passing.{EachPasses, act_passes, both_pass, one_passes, where_passes}
 use Rattle.iss_state.specs.Numbers.{AreNumberedFrom}
-use Rattle.iss_state.proofs.invariants.NoticePieces.{IsSilent, abandonment_then, end_then, none_numbered, notice_or_none, silent_moves, silent_then, stand_in_numbered}
-use Rattle.iss_state.proofs.invariants.Passing.{clearing_money_passes, declined_ask_passes, either_passes, funded_ask_passes, hold_passes, passing, post_passes, release_passes}
-use Rattle.iss_state.proofs.invariants.Walk.{EachKind, walk}
 
--- ---- calls that end
+-- entries without a notice ----
 
-failed_call_numbered : (f : Facts) (o : Opened) (t : Txn) (why : Failure) (at : ℕ) → AreNumberedFrom (next_notice f) (failed_call_entries f o t why at)
-failed_call_numbered f o t why at = (refl, stand_in_numbered (next_notice f + 1) f (call_ask o t) why at)
+abbrev is_silent : Entry → Bool
+is_silent (entry.Notice notice) = false
+is_silent _ = true
 
-outcome_numbered : (what : Outcome) (f : Facts) (o : Opened) (t : Txn) (at : ℕ) → AreNumberedFrom (next_notice f) (outcome_entries what f o t at)
-outcome_numbered outcome.Funded f o t at =
-    none_numbered (next_notice f) (funded_ask_entries (call_ask o t) (account.Gateway t.currency) part.G) (funded_ask_passes silent_moves (call_ask o t) (account.Gateway t.currency) part.G)
-outcome_numbered outcome.Refused f o t at =
-    none_numbered (next_notice f) (declined_ask_entries (call_ask o t) reason.GatewayDeclined) (declined_ask_passes silent_moves (call_ask o t) reason.GatewayDeclined refl)
-outcome_numbered outcome.Connection f o t at = failed_call_numbered f o t failure.Connection at
-outcome_numbered outcome.Application f o t at = failed_call_numbered f o t failure.Application at
+-- an act makes no notice
+abbrev is_silent_act : Act → Bool
+is_silent_act a = not (may_void a || may_tell_stand_in a || may_tell a)
 
-txn_numbered : (n : ℕ) (make : Txn → List Entry) (o : Option TxnNow) → ((t : Txn) → AreNumberedFrom n (make t)) → AreNumberedFrom n (entries_of_txn make o)
-txn_numbered n make None each = tt
-txn_numbered n make (Some now) each = each now.txn
-
-asked_numbered : (n : ℕ) (make : Opened → Txn → List Entry) (o : Option CallNow) (f : Facts) → ((o : Opened) (t : Txn) → AreNumberedFrom n (make o t)) → AreNumberedFrom n (entries_of_asked make o f)
-asked_numbered n make None f each = tt
-asked_numbered n make (Some c) f each = by (is_asked c)
+silent_item : (a : Act) → is_silent_act a ≡ true → (x : Item) → has_item a x ≡ true → is_silent (item_entry x) ≡ true
+silent_item a h (Voiding number t o) may = none (may_void a) (may_tell_stand_in a) (may_tell a) may h
   where
-    by : (b : Bool) → AreNumberedFrom n (cond b (entries_of_txn (make c.opened) (txn_in f c.opened.txn)) [])
-    by true = txn_numbered n (make c.opened) (txn_in f c.opened.txn) (each c.opened)
-    by false = tt
-
--- ---- what is due
-
-expiry_numbered : (f : Facts) (t : Txn) → AreNumberedFrom (next_notice f) (expiry_entries f t)
-expiry_numbered f t =
-    let parts = parts_held f t in
-    let n = notice_after_abandonment (next_notice f) f t in
-    let notice = notice_entry n method.Expiry t None (in_all parts) parts.g in
-    end_then (next_notice f) f t parts reason.Expired (only_gateway t (only_where (in_all parts) (notice ∷ []))) (by (is_account_funded t.funding) (nat_eq (in_all parts) 0))
+    none : (b c d : Bool) → b ≡ true → not (b || c || d) ≡ true → false ≡ true
+    none true c d e h = h
+    none false c d e h = e
+silent_item a h (StandTelling number t amount) may = none (may_void a) (may_tell_stand_in a) (may_tell a) may h
   where
-    by : (b c : Bool) → AreNumberedFrom (notice_after_abandonment (next_notice f) f t) (cond b [] (cond c [] (notice_entry (notice_after_abandonment (next_notice f) f t) method.Expiry t None (in_all (parts_held f t)) (parts_held f t).g ∷ [])))
-    by true c = tt
-    by false true = tt
-    by false false = (refl, tt)
-
-live_expiry_numbered : (f : Facts) (o : Option TxnNow) → AreNumberedFrom (next_notice f) (live_expiry_entries f o)
-live_expiry_numbered f None = tt
-live_expiry_numbered f (Some now) = by now.live
+    none : (b c d : Bool) → c ≡ true → not (b || c || d) ≡ true → false ≡ true
+    none true c d e h = h
+    none false true d e h = h
+    none false false d e h = e
+silent_item a h (Telling number news t amount gateway) may = none (may_void a) (may_tell_stand_in a) (may_tell a) may h
   where
-    by : (b : Bool) → AreNumberedFrom (next_notice f) (cond b (expiry_entries f now.txn) [])
-    by true = expiry_numbered f now.txn
+    none : (b c d : Bool) → d ≡ true → not (b || c || d) ≡ true → false ≡ true
+    none b c false e h = e
+    none true c true e h = h
+    none false true true e h = h
+    none false false true e h = h
+silent_item a h _ may = refl
+
+-- if no notice goes before, the numbers go on
+silent_then : (n : ℕ) (xs ys : List Entry) → EachPasses is_silent xs → AreNumberedFrom n ys → AreNumberedFrom n (xs ++ ys)
+silent_then n xs ys h k = go_on xs h.all
+  where
+    go_on : (xs : List Entry) → list_all is_silent xs ≡ true → AreNumberedFrom n (xs ++ ys)
+    go_on [] h = k
+    go_on (entry.Notice notice ∷ es) h = cc
+    go_on (_ ∷ es) h = go_on es h
+
+-- the numbers of acts ----
+
+-- the first notice of an act has this number
+abbrev IsNumbered : ℕ → Act → Type 0
+IsNumbered n (Fails number o t why) = number ≡ n
+IsNumbered n (StandsIn number ask at set) = number ≡ n
+IsNumbered n (Abandons number t why calls parts) = number ≡ n
+IsNumbered n (Tells number news t amount gateway) = number ≡ n
+IsNumbered n _ = Unit {0}
+
+-- the next number after an act's notices
+abbrev number_after : ℕ → Act → ℕ
+number_after n (Fails number o t why) = n + 1
+number_after n (StandsIn number ask at set) = n + 1
+number_after n (Abandons number t why calls parts) = n + length calls
+number_after n (Tells number news t amount gateway) = n + 1
+number_after n _ = n
+
+-- acts have the numbers from this one on
+abbrev AreInTurn : ℕ → List Act → Type 0
+AreInTurn n [] = Unit {0}
+AreInTurn n (a ∷ acts) = IsNumbered n a × AreInTurn (number_after n a) acts
+
+abandoned_then : (n : ℕ) (t : Txn) (why : Reason) (cs : List CallNow) (ys : List Entry) → AreNumberedFrom (n + length cs) ys → AreNumberedFrom n (abandoned_calls_entries n t why cs ++ ys)
+abandoned_then n t why [] ys k = let same : n + 0 ≡ n = omega arith in subst (λ (m : ℕ). AreNumberedFrom m ys) same k
+abandoned_then n t why (c ∷ cs) ys k =
+    let same : n + suc (length cs) ≡ (n + 1) + length cs = omega arith in
+    (refl, abandoned_then (n + 1) t why cs ys (subst (λ (m : ℕ). AreNumberedFrom m ys) same k))
+
+stood_then : (n : ℕ) (ask : Ask) (at : ℕ) (set : Set) (ys : List Entry) → AreNumberedFrom (n + 1) ys → AreNumberedFrom n (act_entries (StandsIn n ask at set) ++ ys)
+stood_then n ask at set ys k =
+    let money : List Entry = post_entries ask.txn (account.Programme ask.txn.currency) (user_account ask.txn) ask.amount ++ hold_entries ask.txn part.P ask.amount in
+    let told : List Entry = notice_entry n method.StandIn ask.txn None ask.amount 0 ∷ entry.Decided ask.event verdict.Approved ∷ [] in
+    subst (AreNumberedFrom n) (sym (append_assoc money told ys))
+    (silent_then n money (told ++ ys) (both_pass (where_passes ask.amount (one_passes refl)) (where_passes ask.amount (one_passes refl))) (refl, k))
+
+act_then : (n : ℕ) (a : Act) (ys : List Entry) → IsNumbered n a → AreNumberedFrom (number_after n a) ys → AreNumberedFrom n (act_entries a ++ ys)
+act_then n (Fails number o t why) ys e k = (e, k)
+act_then n (StandsIn number ask at set) ys e k = subst (λ (m : ℕ). AreNumberedFrom n (act_entries (StandsIn m ask at set) ++ ys)) (sym e) (stood_then n ask at set ys k)
+act_then n (Abandons number t why calls parts) ys e k = subst (λ (m : ℕ). AreNumberedFrom n (abandoned_calls_entries m t why calls ++ ys)) (sym e) (abandoned_then n t why calls ys k)
+act_then n (Tells number news t amount gateway) ys e k = (e, k)
+act_then n a ys e k = silent_then n (act_entries a) ys (act_passes a (silent_item a refl)) k
+
+in_turn : (n : ℕ) (acts : List Act) → AreInTurn n acts → AreNumberedFrom n (entries_of_acts acts)
+in_turn n [] h = tt
+in_turn n (a ∷ acts) h = act_then n a (entries_of_acts acts) h.0 (in_turn (number_after n a) acts h.1)
+
+-- rows of acts ----
+
+does_then : (n : ℕ) (acts : List Act) (token : List ℕ) → AreInTurn n acts → AreInTurn n (acts ++ Does token ∷ [])
+does_then n [] token h = (tt, tt)
+does_then n (a ∷ acts) token h = (h.0, does_then (number_after n a) acts token h.1)
+
+told_turn : (n : ℕ) (b c : Bool) (news : News) (t : Txn) (amount gateway : ℕ) → AreInTurn n (cond b [] (cond c [] (Tells n news t amount gateway ∷ [])))
+told_turn n true c news t amount gateway = tt
+told_turn n false true news t amount gateway = tt
+told_turn n false false news t amount gateway = (refl, tt)
+
+stand_turn : (x : Stand) (n : ℕ) (ask : Ask) (why : Failure) (at : ℕ) → AreInTurn n (stand_acts x n ask why at)
+stand_turn (allowed set) n ask why at = (refl, tt)
+stand_turn (over_limit set) n ask why at = (tt, tt)
+stand_turn uncovered n ask why at = (tt, tt)
+
+failed_turn : (f : Facts) (o : Opened) (t : Txn) (why : Failure) (at : ℕ) → AreInTurn (next_notice f) (failed_acts f o t why at)
+failed_turn f o t why at = (refl, stand_turn (stand f (call_ask o t) why at) (next_notice f + 1) (call_ask o t) why at)
+
+outcome_turn : (what : Outcome) (f : Facts) (o : Opened) (t : Txn) (at : ℕ) → AreInTurn (next_notice f) (outcome_acts what f o t at)
+outcome_turn outcome.Funded f o t at = (tt, tt)
+outcome_turn outcome.Refused f o t at = (tt, tt)
+outcome_turn outcome.Connection f o t at = failed_turn f o t failure.Connection at
+outcome_turn outcome.Application f o t at = failed_turn f o t failure.Application at
+
+asked_turn : (n : ℕ) (make : Opened → Txn → List Act) → ((o : Opened) (t : Txn) → AreInTurn n (make o t)) → (c : Option CallNow) (f : Facts) → AreInTurn n (acts_of_asked make c f)
+asked_turn n make each None f = tt
+asked_turn n make each (Some c) f = by (is_asked c) (txn_in f c.opened.txn)
+  where
+    by : (b : Bool) (now : Option TxnNow) → AreInTurn n (cond b (acts_of_txn (make c.opened) now) [])
+    by true None = tt
+    by true (Some now) = each c.opened now.txn
+    by false now = tt
+
+live_expiry_turn : (f : Facts) (now : Option TxnNow) → AreInTurn (next_notice f) (live_expiry_acts f now)
+live_expiry_turn f None = tt
+live_expiry_turn f (Some now) = by now.live
+  where
+    by : (b : Bool) → AreInTurn (next_notice f) (cond b (expiry_acts f now.txn) [])
+    by true = (refl, (tt, (tt, told_turn (notice_after_abandonment (next_notice f) f now.txn) (is_account_funded now.txn.funding) (nat_eq (in_all (parts_held f now.txn)) 0) expired now.txn _ _)))
     by false = tt
 
 pub thing_numbered : (f : Facts) (thing : DueThing) (at : ℕ) → AreNumberedFrom (next_notice f) (thing_entries thing at f)
-thing_numbered f (call_due number) at = asked_numbered (next_notice f) (λ (o : Opened) (t : Txn). failed_call_entries f o t failure.Timeout at) (call_in f number) f (λ o t. failed_call_numbered f o t failure.Timeout at)
-thing_numbered f (txn_due token) at = live_expiry_numbered f (txn_in f token)
-
--- ---- own entries
-
-unless_numbered : (n : ℕ) (why : Option Reason) (token : List ℕ) (es : List Entry) → AreNumberedFrom n es → AreNumberedFrom n (unless_declined why token es)
-unless_numbered n None token es k = k
-unless_numbered n (Some why) token es k = tt
-
-gateway_ask_numbered : (f : Facts) (product : Option Product) (ask : Ask) → AreNumberedFrom (next_notice f) (gateway_ask_entries product f ask)
-gateway_ask_numbered f None ask = tt
-gateway_ask_numbered f (Some product) ask = by (is_named_in f.switched product.name)
+thing_numbered f thing at = in_turn (next_notice f) (thing_acts thing at f) (turn thing)
   where
-    by : (b : Bool) → AreNumberedFrom (next_notice f) (cond b (stand_in_entries (next_notice f) f ask failure.Switch ask.at) (entry.Opened (call_for f product ask) ∷ []))
-    by true = stand_in_numbered (next_notice f) f ask failure.Switch ask.at
+    turn : (thing : DueThing) → AreInTurn (next_notice f) (thing_acts thing at f)
+    turn (call_due number) = asked_turn (next_notice f) (λ (o : Opened) (t : Txn). failed_acts f o t failure.Timeout at) (λ o t. failed_turn f o t failure.Timeout at) (call_in f number) f
+    turn (txn_due token) = live_expiry_turn f (txn_in f token)
+
+unless_turn : (n : ℕ) (why : Option Reason) (token : List ℕ) (acts : List Act) → AreInTurn n acts → AreInTurn n (acts_unless why token acts)
+unless_turn n None token acts h = h
+unless_turn n (Some why) token acts h = (tt, tt)
+
+funding_turn : (f : Facts) (ask : Ask) → AreInTurn (next_notice f) (funding_acts f ask)
+funding_turn f ask = by (is_account_funded ask.txn.funding) (product_named ask.txn.product f.products)
+  where
+    of_product : (product : Product) (b : Bool) → AreInTurn (next_notice f) (cond b (stand_acts (stand f ask failure.Switch ask.at) (next_notice f) ask failure.Switch ask.at) (Asks f product ask ∷ []))
+    of_product product true = stand_turn (stand f ask failure.Switch ask.at) (next_notice f) ask failure.Switch ask.at
+    of_product product false = (tt, tt)
+
+    by : (b : Bool) (product : Option Product) → AreInTurn (next_notice f) (cond b (HoldsOwn ask ∷ []) (gateway_acts product f ask))
+    by true product = (tt, tt)
+    by false None = tt
+    by false (Some product) = of_product product (is_named_in f.switched product.name)
+
+authorization_turn : (f : Facts) (ask : Option Ask) → AreInTurn (next_notice f) (authorization_acts f ask)
+authorization_turn f None = tt
+authorization_turn f (Some ask) = (tt, funding_turn f ask)
+
+increment_turn : (f : Facts) (ask : Option Ask) → AreInTurn (next_notice f) (increment_acts f ask)
+increment_turn f None = tt
+increment_turn f (Some ask) = (tt, funding_turn f ask)
+
+reversal_turn : (f : Facts) (token : List ℕ) (amount : ℕ) (now : Option TxnNow) → AreInTurn (next_notice f) (reversal_acts f token amount now)
+reversal_turn f token amount None = tt
+reversal_turn f token amount (Some now) =
+    does_then (next_notice f)
+    (Abandons (next_notice f) now.txn reason.Reversed (asked_calls_of f now.txn.token) (parts_held f now.txn) ∷ LetsGo now.txn (parts_held f now.txn) freed
+    ∷ cond (nat_eq freed (in_all (parts_held f now.txn))) (Ends now.txn ∷ []) []
+    ++ acts_for_gateway now.txn (acts_where freed (Tells number reversed now.txn freed (min (freed - (parts_held f now.txn).p) (parts_held f now.txn).g) ∷ [])))
+    token (refl, (tt, by (nat_eq freed (in_all (parts_held f now.txn)))))
+  where
+    freed : ℕ
+    freed = min amount (in_all (parts_held f now.txn))
+
+    number : ℕ
+    number = notice_after_abandonment (next_notice f) f now.txn
+
+    told : (gateway : ℕ) → AreInTurn number (acts_for_gateway now.txn (acts_where freed (Tells number reversed now.txn freed gateway ∷ [])))
+    told gateway = told_turn number (is_account_funded now.txn.funding) (nat_eq freed 0) reversed now.txn freed gateway
+
+    by : (b : Bool) → AreInTurn number (cond b (Ends now.txn ∷ []) [] ++ acts_for_gateway now.txn (acts_where freed (Tells number reversed now.txn freed (min (freed - (parts_held f now.txn).p) (parts_held f now.txn).g) ∷ [])))
+    by true = (tt, told _)
+    by false = told _
+
+after_clearing_turn : (f : Facts) (t : Txn) (rest : Parts) (amount : ℕ) (ends : Bool) → AreInTurn (next_notice f) (after_clearing_acts f t rest amount ends)
+after_clearing_turn f t rest amount true = (refl, (tt, (tt, told_turn (notice_after_abandonment (next_notice f) f t) (is_account_funded t.funding) false captured t amount rest.g)))
+after_clearing_turn f t rest amount false = told_turn (next_notice f) (is_account_funded t.funding) false captured t amount 0
+
+clearing_turn : (f : Facts) (token : List ℕ) (amount : ℕ) (last : Bool) (at : ℕ) (now : Option TxnNow) → AreInTurn (next_notice f) (clearing_acts f token amount last at now)
+clearing_turn f token amount last at None = tt
+clearing_turn f token amount last at (Some now) =
+    let rest = left_of (parts_held f now.txn) (taken_to_clear (parts_held f now.txn) amount) in
+    let ends = now.live && (last || nat_eq (in_all rest) 0) in
+    does_then (next_notice f) (Clears now.txn (parts_held f now.txn) amount at ∷ after_clearing_acts f now.txn rest amount ends) token (tt, after_clearing_turn f now.txn rest amount ends)
+
+refund_turn : (f : Facts) (token : List ℕ) (amount : ℕ) (now : Option TxnNow) → AreInTurn (next_notice f) (refund_acts f token amount now)
+refund_turn f token amount None = tt
+refund_turn f token amount (Some now) =
+    let programme = min amount (owed_to_programme f now.txn) in
+    does_then (next_notice f) (GivesBack now.txn amount programme ∷ acts_for_gateway now.txn (Tells (next_notice f) refunded now.txn amount (amount - programme) ∷ [])) token
+    (tt, told_turn (next_notice f) (is_account_funded now.txn.funding) false refunded now.txn amount (amount - programme))
+
+own_turn : (f : Facts) (i : Input) (at : ℕ) → AreInTurn (next_notice f) (acts_of i at f)
+own_turn f (input.User token user) at = unless_turn _ (user_reason f user) token _ (tt, tt)
+own_turn f (input.Card token card user product active) at = unless_turn _ (card_reason f card user product) token _ (tt, tt)
+own_turn f (input.Move token who) at = unless_turn _ (move_reason f who) token _ (tt, tt)
+own_turn f (input.Product token product currency funding timeout_ms hold_ms) at = unless_turn _ (product_reason f product) token _ (tt, tt)
+own_turn f (input.Group token group mccs) at = unless_turn _ (group_reason f group) token _ (tt, tt)
+own_turn f (input.Control token control currency window amount_limit usage_limit association scope active) at = unless_turn _ (control_reason f control currency window association scope) token _ (tt, tt)
+own_turn f (input.Set token set product currency connection timeout application max day_limit active) at = unless_turn _ (set_reason f set product currency) token _ (tt, tt)
+own_turn f (input.Switch token product on) at = unless_turn _ (switch_reason f product) token _ (tt, tt)
+own_turn f (input.Load token user currency amount) at = unless_turn _ (load_reason f user) token _ (tt, tt)
+own_turn f (input.Authorization token card currency amount mcc mid) at =
+    let ask = authorization_ask f token card currency amount mcc mid at in
+    unless_turn _ (authorization_reason f card currency ask) token _ (authorization_turn f ask)
+own_turn f (input.Increment token txn currency amount) at =
+    let ask = increment_ask f token txn amount at in
+    unless_turn _ (increment_reason f (txn_in f txn) currency ask) token _ (increment_turn f ask)
+own_turn f (input.Reversal token txn currency amount) at = unless_turn _ (reversal_reason (txn_in f txn) currency) token _ (reversal_turn f token amount (txn_in f txn))
+own_turn f (input.Clearing token txn currency amount last) at = unless_turn _ (clearing_reason (txn_in f txn) currency) token _ (clearing_turn f token amount last at (txn_in f txn))
+own_turn f (input.Refund token txn currency amount) at = unless_turn _ (refund_reason f (txn_in f txn) currency amount) token _ (refund_turn f token amount (txn_in f txn))
+own_turn f (input.Answer call what) at = asked_turn _ (λ (o : Opened) (t : Txn). outcome_acts what f o t at) (λ o t. outcome_turn what f o t at) (call_in f call.0) f
+own_turn f (input.Ack notice) at = by (is_notice f notice)
+  where
+    by : (b : Bool) → AreInTurn (next_notice f) (cond b (Acknowledges notice ∷ []) [])
+    by true = (tt, tt)
     by false = tt
-
-funding_numbered : (f : Facts) (ask : Ask) → AreNumberedFrom (next_notice f) (funding_entries f ask)
-funding_numbered f ask = by (is_account_funded ask.txn.funding)
-  where
-    by : (b : Bool) → AreNumberedFrom (next_notice f) (cond b (hold_entries ask.txn part.S ask.amount ++ entry.Decided ask.event verdict.Approved ∷ []) (gateway_ask_entries (product_named ask.txn.product f.products) f ask))
-    by true = silent_then (next_notice f) (hold_entries ask.txn part.S ask.amount) (entry.Decided ask.event verdict.Approved ∷ []) (hold_passes silent_moves ask.txn part.S ask.amount) tt
-    by false = gateway_ask_numbered f (product_named ask.txn.product f.products) ask
-
-authorization_numbered : (f : Facts) (o : Option Ask) → AreNumberedFrom (next_notice f) (authorization_entries f o)
-authorization_numbered f None = tt
-authorization_numbered f (Some ask) = funding_numbered f ask
-
-increment_numbered : (f : Facts) (o : Option Ask) → AreNumberedFrom (next_notice f) (increment_entries f o)
-increment_numbered f None = tt
-increment_numbered f (Some ask) = funding_numbered f ask
-
-reversal_numbered : (f : Facts) (token : List ℕ) (amount : ℕ) (o : Option TxnNow) → AreNumberedFrom (next_notice f) (reversal_entries f token amount o)
-reversal_numbered f token amount None = tt
-reversal_numbered f token amount (Some now) =
-    let t = now.txn in
-    let parts = parts_held f t in
-    let freed = min amount (in_all parts) in
-    let n = notice_after_abandonment (next_notice f) f t in
-    let xs = abandonment_entries (next_notice f) f t reason.Reversed in
-    let ys = release_entries t parts freed in
-    let zs : List Entry = cond (nat_eq freed (in_all parts)) (entry.Ended t.token ∷ []) [] in
-    let notice = notice_entry n method.Reversal t None freed (min (freed - parts.p) parts.g) in
-    let last : List Entry = entry.Decided token verdict.Done ∷ [] in
-    subst (AreNumberedFrom (next_notice f)) (five xs ys zs (only_gateway t (only_where freed (notice ∷ []))) last)
-    (abandonment_then (next_notice f) t reason.Reversed (asked_calls_of f t.token) (ys ++ (zs ++ (only_gateway t (only_where freed (notice ∷ [])) ++ last)))
-    (silent_then n ys (zs ++ (only_gateway t (only_where freed (notice ∷ [])) ++ last)) (release_passes silent_moves t parts freed refl)
-    (silent_then n zs (only_gateway t (only_where freed (notice ∷ [])) ++ last) (either_passes (nat_eq freed (in_all parts)) (passing refl) (passing refl))
-    (notice_or_none n (is_account_funded t.funding) (nat_eq freed 0) notice last (refl, tt) (passing refl)))))
-
-clearing_numbered : (f : Facts) (token : List ℕ) (amount : ℕ) (last : Bool) (at : ℕ) (o : Option TxnNow) → AreNumberedFrom (next_notice f) (clearing_entries f token amount last at o)
-clearing_numbered f token amount last at None = tt
-clearing_numbered f token amount last at (Some now) =
-    let taken = taken_to_clear (parts_held f now.txn) amount in
-    let rest = left_of (parts_held f now.txn) taken in
-    let xs = clearing_money_entries now.txn taken amount at in
-    let b = now.live && (last || nat_eq (in_all rest) 0) in
-    subst (AreNumberedFrom (next_notice f)) (three xs (cond b (last_clearing_entries f now.txn rest amount) (further_clearing_entries f now.txn amount)) (entry.Decided token verdict.Done ∷ []))
-    (silent_then (next_notice f) xs (cond b (last_clearing_entries f now.txn rest amount) (further_clearing_entries f now.txn amount) ++ entry.Decided token verdict.Done ∷ []) (clearing_money_passes silent_moves now.txn taken amount at refl) (by now.txn rest b))
-  where
-    by : (t : Txn) (rest : Parts) (b : Bool) → AreNumberedFrom (next_notice f) (cond b (last_clearing_entries f t rest amount) (further_clearing_entries f t amount) ++ entry.Decided token verdict.Done ∷ [])
-    by t rest true =
-        let n = notice_after_abandonment (next_notice f) f t in
-        let xs = end_entries (next_notice f) f t rest reason.Cleared in
-        let notice = notice_entry n method.Capture t None amount rest.g in
-        let done : List Entry = entry.Decided token verdict.Done ∷ [] in
-        subst (AreNumberedFrom (next_notice f)) (three xs (only_gateway t (notice ∷ [])) done)
-        (end_then (next_notice f) f t rest reason.Cleared (only_gateway t (notice ∷ []) ++ done) (notice_or_none n (is_account_funded t.funding) false notice done (refl, tt) (passing refl)))
-    by t rest false = notice_or_none (next_notice f) (is_account_funded t.funding) false (notice_entry (next_notice f) method.Capture t None amount 0) (entry.Decided token verdict.Done ∷ []) (refl, tt) (passing refl)
-
--- posts and a notice, where they are made at all, and then no notice
-posts_and_notice : (n : ℕ) (b : Bool) (xs ys : List Entry) (notice : Entry) (done : List Entry) → IsSilent xs → IsSilent ys → IsSilent done → AreNumberedFrom n (notice ∷ done)
-    → AreNumberedFrom n (cond b [] (xs ++ ys ++ notice ∷ []) ++ done)
-posts_and_notice n true xs ys notice done hx hy hd k = none_numbered n done hd
-posts_and_notice n false xs ys notice done hx hy hd k =
-    subst (AreNumberedFrom n) (four xs ys (notice ∷ []) done) (silent_then n xs (ys ++ (notice ∷ done)) hx (silent_then n ys (notice ∷ done) hy k))
-
-refund_numbered : (f : Facts) (token : List ℕ) (amount : ℕ) (o : Option TxnNow) → AreNumberedFrom (next_notice f) (refund_entries f token amount o)
-refund_numbered f token amount None = tt
-refund_numbered f token amount (Some now) =
-    let t = now.txn in
-    let n = next_notice f in
-    let programme = min amount (owed_to_programme f t) in
-    let gateway = amount - programme in
-    let xs = post_entries t (account.Network t.currency) (user_account t) amount in
-    let ya = post_entries t (user_account t) (account.Programme t.currency) programme in
-    let yb = post_entries t (user_account t) (account.Gateway t.currency) gateway in
-    let notice = notice_entry n method.Refund t None amount gateway in
-    let done : List Entry = entry.Decided token verdict.Done ∷ [] in
-    subst (AreNumberedFrom n) (three xs (only_gateway t (ya ++ yb ++ notice ∷ [])) done)
-    (silent_then n xs (only_gateway t (ya ++ yb ++ notice ∷ []) ++ done) (post_passes silent_moves t (account.Network t.currency) (user_account t) amount)
-    (posts_and_notice n (is_account_funded t.funding) ya yb notice done (post_passes silent_moves t (user_account t) (account.Programme t.currency) programme)
-    (post_passes silent_moves t (user_account t) (account.Gateway t.currency) gateway) (passing refl) (refl, tt)))
-
--- ---- all kinds
-
-acknowledgement_numbered : (n notice : ℕ) (b : Bool) → AreNumberedFrom n (cond b (entry.Acked notice ∷ []) [])
-acknowledgement_numbered n notice true = tt
-acknowledgement_numbered n notice false = tt
-
-kinds_numbered : (f : Facts) (at : ℕ) → EachKind (λ i es. AreNumberedFrom (next_notice f) es) f at
-kinds_numbered f at =
-    record {
-      setting = λ i token why named same. unless_numbered (next_notice f) why token (setting_entries i token) tt;
-      load = λ token user currency amount. unless_numbered (next_notice f) (load_reason f user) token (load_entries token user currency amount) tt;
-      authorization = λ token card currency amount mcc mid.
-          let ask = authorization_ask f token card currency amount mcc mid at in
-          unless_numbered (next_notice f) (authorization_reason f card currency ask) token (authorization_entries f ask) (authorization_numbered f ask);
-      increment = λ token txn currency amount.
-          let ask = increment_ask f token txn amount at in
-          unless_numbered (next_notice f) (increment_reason f (txn_in f txn) currency ask) token (increment_entries f ask) (increment_numbered f ask);
-      reversal = λ token txn currency amount.
-          unless_numbered (next_notice f) (reversal_reason (txn_in f txn) currency) token (reversal_entries f token amount (txn_in f txn)) (reversal_numbered f token amount (txn_in f txn));
-      clearing = λ token txn currency amount last.
-          unless_numbered (next_notice f) (clearing_reason (txn_in f txn) currency) token (clearing_entries f token amount last at (txn_in f txn)) (clearing_numbered f token amount last at (txn_in f txn));
-      refund = λ token txn currency amount.
-          unless_numbered (next_notice f) (refund_reason f (txn_in f txn) currency amount) token (refund_entries f token amount (txn_in f txn)) (refund_numbered f token amount (txn_in f txn));
-      answer = λ call what. asked_numbered (next_notice f) (λ (o : Opened) (t : Txn). outcome_entries what f o t at) (call_in f call.0) f (λ o t. outcome_numbered what f o t at);
-      acknowledgement = λ notice. acknowledgement_numbered (next_notice f) notice (is_notice f notice);
-      time = tt;
-    }
+own_turn f input.Time at = tt
 
 pub own_numbered : (f : Facts) (i : Input) (at : ℕ) → AreNumberedFrom (next_notice f) (entries_of i at f)
-own_numbered f i at = walk (kinds_numbered f at) i
+own_numbered f i at = in_turn (next_notice f) (acts_of i at f) (own_turn f i at)

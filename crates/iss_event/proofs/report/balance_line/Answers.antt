@@ -1,6 +1,7 @@
 use Rattle.std.proofs.Common.{rules, ◌≡◌, List, ℕ, ap, ◌∙◌}
 use Rattle.iss_model.specs.Amounts.{amount_text}
-use Rattle.iss_event.specs.ReportLines.{account_piece, account_currency, balance_text}
+use Rattle.iss_model.specs.Sums.{account_currency}
+use Rattle.iss_event.specs.ReportLines.{account_piece, balance_text}
 use Rattle.iss_event.proofs.ReportTexts.{whole, account_text, account_as}
 use Rattle.iss_event.proofs.report.balance_line.Goals as goal
 

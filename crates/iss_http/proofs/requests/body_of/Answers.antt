@@ -6,7 +6,7 @@ use Rattle.iss_http.proofs.requests.body_of.Goals as goal
 
 pub returns-in-Whole-clause-fault : goal.returns-in-Whole-clause-fault
 returns-in-Whole-clause-fault c =
-    whole_fault {A = Bor (List ℕ)} (λ text. text.now) c.args.bytes.now _ c.body_behind.result
+    whole_fault {A = Bor (List ℕ)} (λ text. text.now) c.args.path.now c.args.bytes.now _ c.body_behind.result
     (ap request_head (sym c.front-start.ensures) ∙ c.in-Whole.ensures.1) c.body_behind.ensures
 
 pub returns-in-Hopeless-clause-fault : goal.returns-in-Hopeless-clause-fault

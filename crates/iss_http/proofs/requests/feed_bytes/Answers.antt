@@ -4,12 +4,12 @@ use Rattle.iss_http.proofs.requests.feed_bytes.Goals as goal
 
 pub returns-clause-body : goal.returns-clause-body
 returns-clause-body c =
-    body_fed _ _ (c.args.bytes.now.items ++ c.args.piece.now) c.body_in.result c.deref.ensures.value c.in-Ok.ensures.kept c.body_in.ensures.body
+    body_fed c.args.path.now _ _ (c.args.bytes.now.items ++ c.args.piece.now) c.body_in.result c.deref.ensures.value c.in-Ok.ensures.kept c.body_in.ensures.body
 
 pub returns-clause-fault : goal.returns-clause-fault
 returns-clause-fault c =
-    cause_fed _ _ (c.args.bytes.now.items ++ c.args.piece.now) c.body_in.result c.deref.ensures.value c.in-Ok.ensures.kept c.body_in.ensures.fault
+    cause_fed c.args.path.now _ _ (c.args.bytes.now.items ++ c.args.piece.now) c.body_in.result c.deref.ensures.value c.in-Ok.ensures.kept c.body_in.ensures.fault
 
 pub returns-clause-kept : goal.returns-clause-kept
 returns-clause-kept c =
-    more_kept _ _ (c.args.bytes.now.items ++ c.args.piece.now) c.body_in.result c.deref.ensures.value c.in-Ok.ensures.kept c.body_in.ensures.body
+    more_kept c.args.path.now _ _ (c.args.bytes.now.items ++ c.args.piece.now) c.body_in.result c.deref.ensures.value c.in-Ok.ensures.kept c.body_in.ensures.body
