@@ -19,14 +19,14 @@ use Rattle.iss_model.specs.rules.Asks.{Ask, call_ask}
 use Rattle.iss_model.specs.rules.CardActs.{acts_for_gateway, acts_of_asked, acts_of_txn, acts_where, authorization_acts, clearing_acts, end_acts, failed_acts, funding_acts, gateway_acts, outcome_acts, refund_acts, reversal_acts, stand_acts}
 use Rattle.iss_model.specs.rules.Pieces.{Parts, parts_held, in_all, left_of, taken_to_clear}
 use Rattle.iss_model.specs.rules.CardReasons.{further_ask, is_account_funded}
-use Rattle.iss_model.specs.rules.Due.{DueThing, call_due, DueItem, live_expiry_acts, thing_acts, txn_due, due_items, thing_entries}
+use Rattle.iss_model.specs.rules.Due.{DueThing, call_due, live_expiry_acts, thing_acts, txn_due, thing_entries}
 use Rattle.iss_model.specs.rules.Facts.{Facts, txn_in, call_in, next_notice, is_notice}
 use Rattle.iss_model.specs.rules.Histories.{IsLegal}
-use Rattle.iss_model.specs.rules.Keeper.{Growth}
 use Rattle.iss_model.specs.rules.Settings.{is_named_in, product_named}
 use Rattle.iss_model.specs.rules.StandIns.{Stand, allowed, over_limit, stand, uncovered}
-use Rattle.iss_model.specs.rules.Stepping.{acts_of, entries_of, settle, after_due, step}
+use Rattle.iss_model.specs.rules.Stepping.{acts_of, entries_of, after_due, step}
 use Rattle.iss_model.specs.state.Cores.{CoreState, no_core, with_record, core_facts, core_keeper, core_of, after_entry}
+use Rattle.iss_acts.proofs.Stepping.{due_stays}
 use Rattle.iss_acts.proofs.ByKind.{EachKind, walk}
 use Rattle.iss_state.specs.Sound.{IsNewEvent}
 use Rattle.iss_state.proofs.invariants.Legal.{IsKept, legal_induction}
@@ -155,17 +155,11 @@ pub few_own : (n : ℕ) (s : CoreState) (i : Input) (at : ℕ) → HasTakenUp s 
 few_own n s i at ready few =
     few_after n (n + 1) 1 3 s (entries_of i at (core_facts s)) (omega arith) (omega arith) (own_allowed s i at ready) (acts_cost (acts_of i at (core_facts s)) (walk (kinds_cost (core_facts s) at) i)) few
 
-all_due : (at : ℕ) (g : Growth CoreState) (items : List DueItem) (n : ℕ) (i : Input) → HasTakenUp g.world i → HasFewNumbers n g.world
-    → HasTakenUp (fold (settle core_keeper at) g items).world i × HasFewNumbers n (fold (settle core_keeper at) g items).world
-all_due at g [] n i ready few = (ready, few)
-all_due at g (item ∷ items) n i ready few =
-    all_due at (settle core_keeper at g item) items n i (ready_settled g.world i item.thing at ready) (few_due n g.world i item.thing at ready few)
-
 pub few_step : (n : ℕ) (s : CoreState) (r : Record) → IsWell s → IsNewEvent s r.input → HasFewNumbers n s → HasFewNumbers (n + 1) (step core_keeper s r).world
 unfolding step
 few_step n s r well new few =
     let up : CoreState = with_record s r in
-    let due = all_due r.at (record { world = up; entries = [] }) (due_items (core_facts up) r.at) n r.input (ready_taken s r well new) (few_taken n s r few) in
+    let due = due_stays (λ s. HasTakenUp s r.input × HasFewNumbers n s) r.at (λ s thing h. (ready_settled s r.input thing r.at h.0, few_due n s r.input thing r.at h.0 h.1)) up (ready_taken s r well new, few_taken n s r few) in
     few_own n (after_due core_keeper up r.at).world r.input r.at due.0 due.1
 
 -- every legal list of records ----
