@@ -1,39 +1,30 @@
 -- Ends of transactions and asks are paid by what was at stake.
-use Rattle.std.specs.Prelude.{None, Option, Some}
-use Rattle.std.proofs.Common.{Bool, List, [], ap, arith, cond, false, fold, length, nat_abs, neg_ℤ, pos, refl, subst, sym, true, ℕ, ◌*◌, ◌++◌, ◌+◌, ◌∷◌, ◌≡◌, ◌≤◌}
+use Rattle.std.specs.Prelude.{None}
+use Rattle.std.proofs.Common.{Bool, List, [], arith, cond, false, fold, nat_abs, neg_ℤ, pos, refl, subst, true, ℕ, ◌*◌, ◌∷◌, ◌≡◌, ◌≤◌}
 use Rattle.iss_model.specs.declared.account.Account.{Account}
 use Rattle.iss_model.specs.declared.account.Account.TheVariants as account
 use Rattle.iss_model.specs.declared.account.Part.{Part}
 use Rattle.iss_model.specs.declared.account.Part.TheVariants as part
-use Rattle.iss_model.specs.declared.call.Failure.{Failure}
-use Rattle.iss_model.specs.declared.call.How.{How}
 use Rattle.iss_model.specs.declared.call.Method.TheVariants as method
 use Rattle.iss_model.specs.declared.decision.Reason.{Reason}
-use Rattle.iss_model.specs.declared.decision.Reason.TheVariants as reason
 use Rattle.iss_model.specs.declared.decision.Verdict.TheVariants as verdict
 use Rattle.iss_model.specs.declared.entry.Entry.{Entry}
 use Rattle.iss_model.specs.declared.entry.Entry.TheVariants as entry
 use Rattle.iss_model.specs.declared.setting.Set.{Set}
 use Rattle.iss_model.specs.declared.txn.Txn.{Txn}
-use Rattle.iss_model.specs.rules.Activity.{CallNow, call_numbered, is_asked}
-use Rattle.iss_model.specs.rules.Asks.{Ask, ask_count, ask_given_back, ask_usage}
-use Rattle.iss_model.specs.rules.Facts.{Facts, asked_calls_of, next_notice}
-use Rattle.iss_model.specs.rules.Pieces.{Parts, abandoned_calls_entries, call_for, declined_ask_entries, failure_reason, funded_ask_entries, hold_entries, in_all, notice_entry, post_entries, release_entries, set_stand_in_entries, user_account}
-use Rattle.iss_model.specs.rules.Acts.{Asks, HoldsOwn, TurnsDown, entries_of_acts}
-use Rattle.iss_model.specs.rules.CardActs.{end_acts, funding_acts, gateway_acts, increment_acts, stand_acts}
-use Rattle.iss_model.specs.rules.CardReasons.{is_account_funded}
-use Rattle.iss_model.specs.rules.Settings.{is_named_in, product_named}
-use Rattle.iss_model.specs.declared.setting.Product.{Product}
-use Rattle.iss_model.specs.declared.call.Failure.TheVariants as failure
-use Rattle.iss_model.specs.rules.StandIns.{Stand, allowed, over_limit, stand, uncovered}
-use Rattle.iss_model.specs.state.Cores.{CoreState, Holdings, after_entry}
-use Rattle.iss_state.specs.Effects.{Effect, HoldsParts, Paid, PaidByAsk}
+use Rattle.iss_model.specs.rules.Asks.{Ask, ask_count, ask_given_back}
+use Rattle.iss_model.specs.rules.Facts.{Facts, asked_calls_of}
+use Rattle.iss_model.specs.rules.Pieces.{Parts, abandoned_calls_entries, declined_ask_entries, funded_ask_entries, hold_entries, in_all, notice_entry, post_entries, release_entries, set_stand_in_entries, user_account}
+use Rattle.iss_model.specs.rules.Acts.{entries_of_acts}
+use Rattle.iss_model.specs.rules.CardActs.{end_acts}
+use Rattle.iss_model.specs.state.Cores.{CoreState, after_entry}
+use Rattle.iss_state.specs.Effects.{Effect, HoldsParts, Paid}
 use Rattle.iss_state.specs.Needs.{Stands}
-use Rattle.iss_state.specs.Stakes.{IsOrderlyState, at_least_one, part_held}
-use Rattle.iss_state.proofs.effects.Abandonment.{abandonment_effect, abandonment_holdings, given_back_size, least_one, one_more}
-use Rattle.iss_state.proofs.effects.Effects.{and_then, calm_effect, close_effect, end_effect, no_effect, open_effect, stands_then, still_effect}
-use Rattle.iss_state.proofs.effects.Paid.{costs, paid_more}
-use Rattle.iss_state.proofs.effects.PieceEffects.{hold_effect, post_effect, usage_effect, usage_fits}
+use Rattle.iss_state.specs.Stakes.{IsOrderlyState, at_least_one}
+use Rattle.iss_state.proofs.effects.Abandonment.{abandonment_effect, abandonment_holdings, given_back_size}
+use Rattle.iss_state.proofs.effects.Effects.{and_then, calm_effect, end_effect, no_effect, stands_then, still_effect}
+use Rattle.iss_state.proofs.effects.Paid.{costs}
+use Rattle.iss_state.proofs.effects.PieceEffects.{hold_effect, post_effect, usage_fits}
 use Rattle.iss_state.proofs.effects.Taking.{holds_then, release_effect}
 use Rattle.iss_state.proofs.effects.Regrouping.{three}
 

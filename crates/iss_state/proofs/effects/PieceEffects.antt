@@ -1,27 +1,24 @@
 -- Effects of the pieces that entries are made of.
 use Rattle.std.specs.Prelude.{Some}
-use Rattle.std.proofs.Common.{Bool, List, [], ap, arith, cond, false, fold, min, nat_abs, nat_eq, neg_ℤ, pos, refl, subst, true, ℕ, ℤ, ◌*◌, ◌+◌, ◌-◌, ◌∙◌, ◌∷◌, ◌≡◌, ◌≤◌}
+use Rattle.std.proofs.Common.{Bool, List, [], arith, cond, false, fold, nat_abs, nat_eq, neg_ℤ, pos, refl, true, ℕ, ℤ, ◌+◌, ◌∷◌, ◌≡◌, ◌≤◌}
 use Rattle.std.specs.List.{list_all}
 use Rattle.std.specs.Str.{bytes_eq}
 use Rattle.iss_model.specs.declared.account.Account.{Account}
-use Rattle.iss_model.specs.declared.account.Account.TheVariants as account
 use Rattle.iss_model.specs.declared.account.Part.{Part}
-use Rattle.iss_model.specs.declared.account.Part.TheVariants as part
 use Rattle.iss_model.specs.declared.entry.Entry.{Entry}
 use Rattle.iss_model.specs.declared.entry.Entry.TheVariants as entry
 use Rattle.iss_model.specs.declared.txn.Txn.{Txn}
 use Rattle.iss_model.specs.Sums.{part_key}
 use Rattle.iss_model.specs.rules.Asks.{usage_of}
 use Rattle.iss_model.specs.rules.CardReasons.{is_account_funded}
-use Rattle.iss_model.specs.rules.Pieces.{Parts, hold_entries, in_all, only_gateway, only_where, post_entries, release_entries, taken_to_release, unhold_entries, use_return_entries, user_account}
-use Rattle.iss_model.specs.state.Cores.{CoreState, Holdings, after_entry}
-use Rattle.iss_state.specs.Effects.{Effect, HoldsParts}
+use Rattle.iss_model.specs.rules.Pieces.{hold_entries, only_gateway, only_where, post_entries, unhold_entries, use_return_entries}
+use Rattle.iss_model.specs.state.Cores.{CoreState, after_entry}
+use Rattle.iss_state.specs.Effects.{Effect}
 use Rattle.iss_state.specs.Needs.{Stands, UsageNeeds}
 use Rattle.iss_state.specs.Stakes.{IsOrderlyState, part_held}
-use Rattle.iss_state.proofs.effects.Effects.{all_calm_holdings, and_then, calm_effect, comes_to, down_size, is_calm, less_held_effect, more_held_effect, no_effect, stands_is_named, stands_then}
+use Rattle.iss_state.proofs.effects.Effects.{calm_effect, comes_to, down_size, is_calm, less_held_effect, more_held_effect, no_effect, stands_is_named}
 use Rattle.iss_state.proofs.effects.Finds.{number_is}
 use Rattle.iss_state.proofs.effects.Parts.{part_less, part_same}
-use Rattle.iss_state.proofs.effects.Regrouping.{six}
 
 -- ---- what is left out where it comes to nothing
 

@@ -1,5 +1,5 @@
 -- What a release and a clearing take from what their transaction holds.
-use Rattle.std.proofs.Common.{Bool, List, [], ap, arith, fold, min, neg_ℤ, pos, refl, subst, sym, true, ℕ, ◌*◌, ◌++◌, ◌+◌, ◌-◌, ◌∙◌, ◌∷◌, ◌≡◌, ◌≤◌, nat_eq}
+use Rattle.std.proofs.Common.{List, [], ap, arith, fold, min, neg_ℤ, pos, refl, subst, sym, true, ℕ, ◌*◌, ◌++◌, ◌+◌, ◌-◌, ◌∙◌, ◌∷◌, ◌≡◌, ◌≤◌, nat_eq}
 use Rattle.std.specs.List.{list_all}
 use Rattle.std.proofs.lemmas.List.Sums.{fold-append}
 use Rattle.iss_model.specs.declared.account.Account.{Account}

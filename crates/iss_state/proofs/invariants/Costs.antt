@@ -1,9 +1,8 @@
 -- What acts cost, by what is known at each stage of their row, and so what is due and each input.
-use Rattle.std.specs.Prelude.{None, Option, Some, option_map}
-use Rattle.std.proofs.Common.{Bool, List, [], ap, arith, cond, false, find, fold, length, map, min, nat_abs, nat_eq, pos, refl, subst, sym, true, ℕ, ◌*◌, ◌++◌, ◌+◌, ◌-◌, ◌∙◌, ◌∷◌, ◌≡◌, ◌≤◌}
+use Rattle.std.specs.Prelude.{None, Some, option_map}
+use Rattle.std.proofs.Common.{List, [], ap, arith, false, find, fold, length, nat_eq, pos, refl, subst, sym, true, ℕ, ◌*◌, ◌++◌, ◌+◌, ◌-◌, ◌∙◌, ◌∷◌, ◌≡◌, ◌≤◌}
 use Rattle.std.specs.Str.{bytes_eq}
 use Rattle.std.proofs.lemmas.Bool.{and_parts}
-use Rattle.std.proofs.lemmas.Bool.Decides.{nat_tests}
 use Rattle.std.proofs.lemmas.List.{length-map}
 use Rattle.iss_model.specs.declared.account.Account.TheVariants as account
 use Rattle.iss_model.specs.declared.account.Part.TheVariants as part
@@ -22,11 +21,11 @@ use Rattle.iss_model.specs.declared.setting.Product.{Product}
 use Rattle.iss_model.specs.declared.setting.Set.{Set}
 use Rattle.iss_model.specs.declared.txn.Txn.{Txn}
 use Rattle.iss_model.specs.rules.Activity.{CallNow, TxnNow, call_numbered, txn_named}
-use Rattle.iss_model.specs.rules.Acts.{Abandons, Act, Asks, Begins, Clears, Declines, Ends, Fails, Funds, GivesBack, HoldsOwn, LetsGo, Loads, Refuses, Sets, StandsIn, TurnsDown, Uses, act_entries}
+use Rattle.iss_model.specs.rules.Acts.{Abandons, Act, Asks, Begins, Clears, Ends, Fails, Funds, GivesBack, HoldsOwn, LetsGo, Loads, Refuses, Sets, StandsIn, TurnsDown, Uses, act_entries}
 use Rattle.iss_model.specs.rules.Asks.{Ask, ask_count, call_ask}
 use Rattle.iss_model.specs.rules.Due.{DueThing, thing_entries}
 use Rattle.iss_model.specs.rules.Facts.{Facts, asked_calls_of}
-use Rattle.iss_model.specs.rules.Pieces.{Parts, call_for, hold_entries, in_all, left_of, only_gateway, parts_held, post_entries, taken_to_clear, user_account, void_entry}
+use Rattle.iss_model.specs.rules.Pieces.{Parts, call_for, hold_entries, in_all, left_of, parts_held, post_entries, taken_to_clear, user_account, void_entry}
 use Rattle.iss_model.specs.rules.Stepping.{entries_of}
 use Rattle.iss_model.specs.state.Cores.{CoreState, after_entry, call_after_close, core_facts}
 use Rattle.iss_model.proofs.Names.{one_name}

@@ -1,6 +1,6 @@
 -- The notices that acts make are numbered one by one, from the next number on.
 use Rattle.std.specs.Prelude.{None, Option, Some}
-use Rattle.std.proofs.Common.{Bool, List, [], append_assoc, arith, cond, false, length, min, nat_eq, not, refl, subst, suc, sym, true, ℕ, ◌&&◌, ◌++◌, ◌+◌, ◌-◌, ◌||◌, ◌∷◌, ◌≡◌}
+use Rattle.std.proofs.Common.{Bool, List, [], append_assoc, arith, cond, false, length, min, nat_eq, refl, subst, suc, sym, true, ℕ, ◌&&◌, ◌++◌, ◌+◌, ◌-◌, ◌||◌, ◌∷◌, ◌≡◌}
 use Rattle.std.specs.List.{list_all}
 use Rattle.iss_model.specs.declared.account.Account.TheVariants as account
 use Rattle.iss_model.specs.declared.account.Part.TheVariants as part
@@ -14,7 +14,6 @@ use Rattle.iss_model.specs.declared.decision.Verdict.TheVariants as verdict
 use Rattle.iss_model.specs.declared.entry.Entry.{Entry}
 use Rattle.iss_model.specs.declared.entry.Entry.TheVariants as entry
 use Rattle.iss_model.specs.declared.input.Input.{Input}
-use Rattle.iss_model.specs.declared.input.Input.TheVariants as input
 use Rattle.iss_model.specs.declared.input.Outcome.{Outcome}
 use Rattle.iss_model.specs.declared.input.Outcome.TheVariants as outcome
 use Rattle.iss_model.specs.declared.setting.Product.{Product}
@@ -23,15 +22,14 @@ use Rattle.iss_model.specs.declared.txn.Txn.{Txn}
 use Rattle.iss_model.specs.rules.Activity.{CallNow, TxnNow, is_asked}
 use Rattle.iss_model.specs.rules.Acts.{Abandons, Acknowledges, Act, Asks, Clears, Does, Ends, Fails, GivesBack, HoldsOwn, LetsGo, News, StandsIn, Tells, act_entries, captured, entries_of_acts, expired, refunded, reversed}
 use Rattle.iss_model.specs.rules.Asks.{Ask, call_ask}
-use Rattle.iss_model.specs.rules.CardActs.{acts_for_gateway, acts_of_asked, acts_of_txn, acts_where, after_clearing_acts, authorization_acts, clearing_acts, end_acts, failed_acts, funding_acts, gateway_acts, increment_acts, outcome_acts, refund_acts, reversal_acts, stand_acts}
-use Rattle.iss_model.specs.rules.CardReasons.{further_ask, authorization_reason, clearing_reason, increment_reason, is_account_funded, refund_reason, reversal_reason}
+use Rattle.iss_model.specs.rules.CardActs.{acts_for_gateway, acts_of_asked, acts_of_txn, acts_where, after_clearing_acts, authorization_acts, clearing_acts, failed_acts, funding_acts, gateway_acts, outcome_acts, refund_acts, reversal_acts, stand_acts}
+use Rattle.iss_model.specs.rules.CardReasons.{further_ask, is_account_funded}
 use Rattle.iss_model.specs.rules.Due.{DueThing, call_due, expiry_acts, live_expiry_acts, thing_acts, thing_entries, txn_due}
 use Rattle.iss_model.specs.rules.Facts.{Facts, asked_calls_of, call_in, is_notice, next_notice, txn_in}
 use Rattle.iss_model.specs.rules.Pieces.{Parts, abandoned_calls_entries, hold_entries, in_all, left_of, notice_after_abandonment, notice_entry, owed_to_programme, parts_held, post_entries, taken_to_clear, user_account}
-use Rattle.iss_model.specs.rules.Reasons.{card_reason, control_reason, group_reason, load_reason, move_reason, product_reason, set_reason, switch_reason, user_reason}
 use Rattle.iss_model.specs.rules.Settings.{is_named_in, product_named}
 use Rattle.iss_model.specs.rules.StandIns.{Stand, allowed, over_limit, stand, uncovered}
-use Rattle.iss_model.specs.rules.Stepping.{acts_of, acts_unless, authorization_ask, entries_of, increment_ask}
+use Rattle.iss_model.specs.rules.Stepping.{acts_of, entries_of}
 use Rattle.iss_model.proofs.Lists.{neither}
 use Rattle.iss_acts.specs.Items.{Item, StandTelling, Telling, Voiding, has_item, item_entry, may_tell, may_tell_stand_in, may_void}
 use Rattle.iss_acts.proofs.ByKind.{EachKind, walk}

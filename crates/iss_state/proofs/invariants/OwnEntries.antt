@@ -1,27 +1,22 @@
 -- A record's own entries are paid by what a record brings, so they can be entered.
-use Rattle.std.specs.Prelude.{None, Option, Some, option_and_then, option_map}
+use Rattle.std.specs.Prelude.{None, Some}
 use Rattle.std.proofs.Common.{Bool, List, [], ap, arith, cond, find, fold, map, nat_le, nat_lt, pos, refl, subst, suc, sym, true, false, zero, ℕ, ◌*◌, ◌++◌, ◌+◌, ◌∙◌, ◌∷◌, ◌≡◌, ◌≤◌}
 use Rattle.std.specs.List.{list_all}
 use Rattle.std.specs.Str.{bytes_eq}
 use Rattle.std.proofs.lemmas.Bool.{and_parts}
 use Rattle.std.proofs.lemmas.Bool.Decides.{nat_tests}
-use Rattle.iss_model.specs.declared.currency.Currency.{Currency}
 use Rattle.iss_model.specs.declared.entry.Entry.{Entry}
 use Rattle.iss_model.specs.declared.entry.Entry.TheVariants as entry
 use Rattle.iss_model.specs.declared.input.Input.{Input}
 use Rattle.iss_model.specs.declared.input.Input.TheVariants as input
 use Rattle.iss_model.specs.declared.limits.TheConstants.{GREATEST_AMOUNT, LEAST_AMOUNT}
-use Rattle.iss_model.specs.declared.setting.Card.{Card}
-use Rattle.iss_model.specs.declared.setting.Product.{Product}
 use Rattle.iss_model.specs.declared.txn.Txn.{Txn}
 use Rattle.iss_model.specs.Forms.{is_amount, is_in_form, is_mcc}
 use Rattle.iss_model.specs.Inputs.{event_token}
 use Rattle.iss_model.specs.rules.Activity.{TxnNow}
 use Rattle.iss_model.specs.rules.Acts.{Act, Begins, act_entries}
-use Rattle.iss_model.specs.rules.Asks.{Ask, ask_count, ask_usage, txn_begun}
-use Rattle.iss_model.specs.rules.CardReasons.{first_ask}
-use Rattle.iss_model.specs.rules.Facts.{Facts}
-use Rattle.iss_model.specs.rules.Settings.{card_named, is_named_in, product_named}
+use Rattle.iss_model.specs.rules.Asks.{Ask, ask_count, ask_usage}
+use Rattle.iss_model.specs.rules.Settings.{is_named_in}
 use Rattle.iss_model.specs.rules.Stepping.{entries_of}
 use Rattle.iss_model.specs.state.Cores.{CoreState, after_entry, core_facts, is_live}
 use Rattle.iss_model.proofs.Lists.{neither}
@@ -35,7 +30,7 @@ use Rattle.iss_state.specs.Costs.{IsPayable, input_money, input_use, money_left,
 use Rattle.iss_state.specs.Effects.{Paid, PaidByAsk}
 use Rattle.iss_state.specs.Needs.{Stands, begun_txns}
 use Rattle.iss_state.specs.Sound.{IsReady, IsSoundAt, is_accepted, reach_of, record_reach}
-use Rattle.iss_state.specs.Stakes.{IsOrderlyState, at_least_one, txn_tokens}
+use Rattle.iss_state.specs.Stakes.{at_least_one, txn_tokens}
 use Rattle.iss_state.proofs.effects.Abandonment.{one_more}
 use Rattle.iss_state.proofs.effects.Asks.{at_most_one}
 use Rattle.iss_state.proofs.effects.Effects.{and_then, no_effect, stands_then}
