@@ -1,6 +1,6 @@
 -- Ends of transactions and asks are paid by what was at stake.
 use Rattle.std.specs.Prelude.{None}
-use Rattle.std.proofs.Common.{Bool, List, [], arith, cond, false, fold, nat_abs, neg_ℤ, pos, refl, subst, true, ℕ, ◌*◌, ◌++◌, ◌∷◌, ◌≡◌, ◌≤◌}
+use Rattle.std.proofs.Common.{Bool, List, [], arith, cond, false, fold, nat_abs, neg_ℤ, pos, refl, true, ℕ, ◌*◌, ◌++◌, ◌∷◌, ◌≡◌, ◌≤◌}
 use Rattle.iss_model.specs.declared.account.Account.{Account}
 use Rattle.iss_model.specs.declared.account.Account.TheVariants as account
 use Rattle.iss_model.specs.declared.account.Part.{Part}

@@ -1,11 +1,8 @@
 -- How entries are paid.
-use Rattle.std.proofs.Common.{List, [], arith, fold, refl, true, ℕ, ◌*◌, ◌++◌, ◌+◌, ◌≡◌, ◌≤◌}
-use Rattle.std.specs.List.{list_all}
+use Rattle.std.proofs.Common.{List, arith, ℕ, ◌*◌, ◌+◌, ◌≤◌}
 use Rattle.iss_model.specs.declared.entry.Entry.{Entry}
-use Rattle.iss_model.specs.state.Cores.{CoreState, after_entry}
+use Rattle.iss_model.specs.state.Cores.{CoreState}
 use Rattle.iss_state.specs.Effects.{Effect, Paid}
-use Rattle.iss_state.specs.Stakes.{IsOrderlyState}
-use Rattle.iss_state.proofs.effects.Effects.{and_then, is_still, still_effect}
 
 -- an effect that is paid
 pub costs : {s : CoreState} {es : List Entry} {m u a b : ℕ} (k l : ℕ) → Effect s es m u a b → m + 2 * a ≤ 2 * b + k → u + a ≤ b + l → Paid k l s es
