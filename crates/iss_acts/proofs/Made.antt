@@ -18,6 +18,7 @@ use Rattle.iss_model.specs.declared.setting.Product.{Product}
 use Rattle.iss_model.specs.declared.txn.Txn.{Txn}
 use Rattle.iss_model.specs.rules.Activity.{CallNow, TxnNow, is_asked}
 use Rattle.iss_model.specs.rules.Asks.{Ask, call_ask}
+use Rattle.iss_acts.proofs.Walk.{acts_append}
 use Rattle.iss_acts.specs.Rows.{authorization_entries, clearing_entries, entries_of_asked, entries_of_txn, failed_call_entries, funding_entries, further_clearing_entries, gateway_ask_entries, increment_entries, last_clearing_entries, outcome_entries, refund_entries, reversal_entries, expiry_entries, live_expiry_entries, abandonment_entries, end_entries, stand_entries, stand_in_entries, unless_declined, written_thing, written_input}
 use Rattle.iss_model.specs.rules.Pieces.{clearing_money_entries, owed_to_programme, Parts, failure_reason, in_all, left_of, notice_after_abandonment, only_gateway, only_where, parts_held, post_entries, release_entries, taken_to_clear, user_account, load_entries}
 use Rattle.iss_model.specs.rules.CardReasons.{authorization_reason, clearing_reason, increment_reason, is_account_funded, refund_reason, reversal_reason}
@@ -31,10 +32,6 @@ use Rattle.iss_model.specs.rules.Acts.{Acknowledges, Act, Asks, Begins, Does, En
 use Rattle.iss_model.specs.rules.CardActs.{acts_for_gateway, acts_of_asked, acts_of_txn, acts_where, authorization_acts, clearing_acts, end_acts, failed_acts, funding_acts, gateway_acts, increment_acts, outcome_acts, refund_acts, reversal_acts, stand_acts}
 
 -- lists of acts ----
-
-pub acts_append : (xs ys : List Act) → entries_of_acts (xs ++ ys) ≡ entries_of_acts xs ++ entries_of_acts ys
-acts_append [] ys = refl
-acts_append (x ∷ xs) ys = ap (λ (es : List Entry). act_entries x ++ es) (acts_append xs ys) ∙ sym (append_assoc (act_entries x) (entries_of_acts xs) (entries_of_acts ys))
 
 one_act : (a : Act) → entries_of_acts (a ∷ []) ≡ act_entries a
 one_act a = append-nil (act_entries a)
