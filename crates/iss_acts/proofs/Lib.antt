@@ -1,6 +1,7 @@
 pub mod Made
 pub mod Passing
 pub mod Causes
+pub mod ByKind
 pub mod Walk
 pub mod Stepping
 pub mod Posts

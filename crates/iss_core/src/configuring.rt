@@ -60,26 +60,9 @@ impl State {
                 group,
                 mccs,
             } => self.put_group(alloc, group, mccs.as_slice()),
-            Input::Control {
-                token: _,
-                control,
-                currency,
-                window,
-                amount_limit,
-                usage_limit,
-                association,
-                scope,
-                active,
-            } => {
-                let control = Control {
-                    name: *control,
-                    currency: *currency,
-                    window: *window,
-                    amount_limit: *amount_limit,
-                    usage_limit: *usage_limit,
-                    association: *association,
-                    scope: *scope,
-                    active: *active,
+            Input::Control { .. } => {
+                let Some(control) = input.control() else {
+                    unreachable!()
                 };
                 self.put_control(&control)
             }

@@ -12,7 +12,7 @@ use crate::operations::Operation;
 use crate::purchases::Purchase;
 use crate::settings::put_setting;
 use crate::state::State;
-use iss_model::{Control, Entry, Input, Record};
+use iss_model::{Entry, Input, Record};
 use std::alloc::{AllocError, Global};
 
 impl State {
@@ -156,26 +156,9 @@ impl State {
             Input::Group { token, group, .. } => {
                 put_setting(out, self.group_reason(group), token, input)
             }
-            Input::Control {
-                token,
-                control,
-                currency,
-                window,
-                amount_limit,
-                usage_limit,
-                association,
-                scope,
-                active,
-            } => {
-                let control = Control {
-                    name: *control,
-                    currency: *currency,
-                    window: *window,
-                    amount_limit: *amount_limit,
-                    usage_limit: *usage_limit,
-                    association: *association,
-                    scope: *scope,
-                    active: *active,
+            Input::Control { token, .. } => {
+                let Some(control) = input.control() else {
+                    unreachable!()
                 };
                 put_setting(out, self.control_reason(&control), token, input)
             }

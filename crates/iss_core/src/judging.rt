@@ -48,20 +48,7 @@ impl State {
                 }
                 Ok(Judged::Told(Answer::Idle))
             }
-            Input::User { .. }
-            | Input::Card { .. }
-            | Input::Move { .. }
-            | Input::Product { .. }
-            | Input::Group { .. }
-            | Input::Control { .. }
-            | Input::Set { .. }
-            | Input::Switch { .. }
-            | Input::Load { .. }
-            | Input::Authorization { .. }
-            | Input::Increment { .. }
-            | Input::Reversal { .. }
-            | Input::Clearing { .. }
-            | Input::Refund { .. } => unreachable!(),
+            _ => unreachable!(),
         }
     }
 
@@ -132,6 +119,7 @@ fn is_in_time(at: u64, deadline: u64, expires: u64) -> bool
     at < deadline && at < expires
 }
 
+#[tactic(auto, using(iss_model::proofs::Copies::copy_is))]
 fn new(input: &Input, at: u64) -> Result<Judged, AllocError>
     ensures { IfOk result (λ j. j ≡ judged.New (record { at = at; input = input.now })) }
 {

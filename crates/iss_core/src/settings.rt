@@ -13,6 +13,7 @@ use iss_model::{Account, Currency, Entry, Input, Reason, Token, Verdict};
 use std::alloc::AllocError;
 
 /// A setting is declined with a reason, or takes effect and is done.
+#[tactic(auto, using(iss_model::proofs::Copies::copy_is))]
 pub(crate) fn put_setting(
     out: &mut Vec<Entry>,
     why: Option<Reason>,

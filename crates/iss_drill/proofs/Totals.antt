@@ -5,6 +5,7 @@ use Rattle.iss_model.specs.declared.currency.Currency.TheVariants.{Usd}
 use Rattle.iss_model.specs.declared.account.Account.TheVariants as account
 use Rattle.iss_model.specs.rules.Facts.{balance_in}
 use Rattle.iss_model.specs.rules.Histories.{History, history_facts, history_of}
+use Rattle.iss_model.specs.run.Rooms.{one_journal}
 use Rattle.iss_model.specs.run.Runs.{Run, run_after}
 use Rattle.iss_model.specs.state.Cores.{CoreState, core_facts}
 use Rattle.iss_model.specs.texts.DrillLines.{DrillTotals, drill_line}
@@ -21,7 +22,7 @@ use Rattle.iss_drill.specs.Giving.{HasGiven}
 pub begun : (n : ℕ) (s : StoreNow) → StandsFor s [] → s.place.to ≡ 1048576 + 512 * n → HasGiven (drill_run n) [] no_tally s
 begun n s stands to =
     record {
-      stands = record { stands = stands; history = refl; room = ap (λ (size : ℕ). Some (record { size = size })) to };
+      stands = record { stands = stands; history = refl; room = ap (λ (size : ℕ). Some (one_journal size)) to };
       approved = refl;
       declined = refl;
       notices = refl;

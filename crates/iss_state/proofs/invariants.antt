@@ -1,5 +1,4 @@
-pub mod DueEntries
-pub mod CardEntries
+pub mod Costs
 pub mod Kept
 pub mod Sound
 pub mod Settled

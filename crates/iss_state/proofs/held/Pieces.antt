@@ -25,7 +25,7 @@ use Rattle.iss_model.specs.state.Cores.{CoreState, after_entry, after_setting, c
 use Rattle.iss_model.specs.state.Kept.{Kept, after_changes}
 use Rattle.iss_model.proofs.Names.{its_name}
 use Rattle.iss_state.proofs.effects.Finds.{number_is}
-use Rattle.iss_state.proofs.invariants.Passing.{EachPasses, gateway_passes, one_passes, passing, where_passes}
+use Rattle.iss_acts.proofs.Passing.{EachPasses, gateway_passes, one_passes, passing, where_passes}
 use Rattle.iss_state.specs.Dockets.{Docket, docket_of}
 use Rattle.iss_state.proofs.docket.Docketed.{AreSilent}
 use Rattle.iss_state.proofs.calls.Staying.{comes_to}

@@ -6,4 +6,4 @@ pub returns-clause-release : goal.returns-clause-release
 returns-clause-release c = release_effect
 
 pub returns-clause-abandonment : goal.returns-clause-abandonment
-returns-clause-abandonment c = abandonment_effect
+returns-clause-abandonment c = λ s number f t why parts. abandonment_effect s number f t why
