@@ -206,7 +206,7 @@ its_amount : (f : Facts) (txn : List ℕ) (now : TxnNow) (amount : ℕ) → txn_
 its_amount f txn now amount e = ap₂ (λ (a b : Bool). a && b) (its_token txn f.txns now e) (same_number amount)
 
 -- an authorisation asks at its own moment
-pub asked_at : (token : List ℕ) (amount at : ℕ) (t : Option Txn) (ask : Ask) → option_map (first_ask token amount at) t ≡ Some ask → ask.at ≡ at
+asked_at : (token : List ℕ) (amount at : ℕ) (t : Option Txn) (ask : Ask) → option_map (first_ask token amount at) t ≡ Some ask → ask.at ≡ at
 asked_at token amount at None ask e = cc
 asked_at token amount at (Some t) ask e =
     let same : first_ask token amount at t ≡ ask = cc in

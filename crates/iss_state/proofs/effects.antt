@@ -10,4 +10,4 @@ pub mod PieceEffects
 pub mod Abandonment
 pub mod Paid
 pub mod Asks
-pub mod Clearing
+pub mod Taking

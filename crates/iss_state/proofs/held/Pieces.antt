@@ -24,6 +24,7 @@ use Rattle.iss_model.specs.rules.Facts.{not_below}
 use Rattle.iss_model.specs.state.Cores.{CoreState, after_entry, after_setting, core_facts}
 use Rattle.iss_model.specs.state.Kept.{Kept, after_changes}
 use Rattle.iss_model.proofs.Names.{its_name}
+pub use Rattle.iss_state.proofs.effects.Taking.{amount_of, without}
 use Rattle.iss_state.proofs.effects.Finds.{number_is}
 use Rattle.iss_acts.proofs.Passing.{EachPasses, gateway_passes, one_passes, passing, where_passes}
 use Rattle.iss_state.specs.Dockets.{Docket, docket_of}
@@ -133,17 +134,6 @@ pub then_calm : (s : CoreState) (xs ys : List Entry) (token : List ℕ) (amounts
 then_calm s xs ys token amounts first calm = then_leaves s xs ys token amounts amounts first (calm_leaves (fold after_entry s xs) ys token amounts calm first.just)
 
 -- letting go ----
-
--- parts without an amount of one of them
-abbrev pub without : Part → ℕ → Parts → Parts
-without part.G n x = record { g = x.g - n; p = x.p; s = x.s }
-without part.P n x = record { g = x.g; p = x.p - n; s = x.s }
-without part.S n x = record { g = x.g; p = x.p; s = x.s - n }
-
-abbrev pub amount_of : Part → Parts → ℕ
-amount_of part.G x = x.g
-amount_of part.P x = x.p
-amount_of part.S x = x.s
 
 less_there : (z : ℤ) (a n : ℕ) → n ≤ a → z ≡ pos a → z +ℤ neg_ℤ (pos n) ≡ pos (a - n)
 less_there z a n le e = omega (arith, ints, le, e)
