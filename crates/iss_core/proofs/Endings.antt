@@ -100,3 +100,15 @@ reversed_so f token amount t parts old first second third calls money told =
 
     regrouped : (old a b c d e : List Entry) → (((old ++ a) ++ (b ++ c)) ++ d) ++ e ≡ old ++ (a ++ (b ++ ((c ++ d) ++ e)))
     regrouped old a b c d e = simp append_assoc
+
+-- the same, by numbers that were found
+pub reversed_from : (f : Facts) (token : List ℕ) (amount : ℕ) (t : Txn) (parts : Parts) (start number whole freed gateway : ℕ) (old first second third : List Entry)
+    → start ≡ next_notice f → number ≡ notice_after_abandonment start f t → whole ≡ in_all parts → freed ≡ min amount whole → gateway ≡ min (freed - parts.p) parts.g
+    → first ≡ old ++ abandoned_calls_entries start t reason.Reversed (asked_calls_of f t.token) → second ≡ first ++ reversal_money_entries t parts amount
+    → third ≡ second ++ only_gateway t (only_where freed (notice_entry number method.Reversal t None freed gateway ∷ []))
+    → third ++ entry.Decided token verdict.Done ∷ [] ≡ old ++ entries_of_acts (reversed_acts f token amount t parts)
+reversed_from f token amount t parts start number whole freed gateway old first second third starts next all let_go part calls money told =
+    let as_held : freed ≡ min amount (in_all parts) = let_go ∙ ap (λ (n : ℕ). min amount n) all in
+    reversed_so f token amount t parts old first second third (calls ∙ ap (λ (s : ℕ). old ++ abandoned_calls_entries s t reason.Reversed (asked_calls_of f t.token)) starts) money
+    (told ∙ ap₂ (λ (n g : ℕ). second ++ only_gateway t (only_where freed (notice_entry n method.Reversal t None freed g ∷ []))) (next ∙ ap (λ (s : ℕ). notice_after_abandonment s f t) starts) part
+    ∙ ap (λ (n : ℕ). second ++ only_gateway t (only_where n (notice_entry (notice_after_abandonment (next_notice f) f t) method.Reversal t None n (min (n - parts.p) parts.g) ∷ []))) as_held)
