@@ -43,7 +43,7 @@ abbrev pub after_actions : Disk → List Action → Disk
 after_actions d [] = d
 after_actions d (action ∷ actions) = after_actions (after_action d action) actions
 
--- A place is settled where no write touched it since the last sync that succeeded, and the last write that did succeeded.
+-- A place is settled if no write touched it since the last sync that succeeded, and the last write that did succeeded.
 abbrev pub is_settled : Disk → ℕ → Bool
 is_settled d place = not (d.touched place) && not (d.failed place)
 

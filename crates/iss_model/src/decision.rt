@@ -28,7 +28,7 @@ pub enum Reason {
     GatewayTimeout,
     GatewayApplication,
     GatewaySwitch,
-    /// The Commando Mode set that didn't allow so much.
+    /// The Commando Mode set that didn't allow the amount.
     StandInLimit(Token),
     Reversed,
     Cleared,
@@ -72,7 +72,7 @@ pub enum Answer {
     Spent,
 }
 
-/// What judging an input gives.
+/// What judging an input returns.
 #[derive(Drop)]
 pub enum Judged {
     /// The input's own record.

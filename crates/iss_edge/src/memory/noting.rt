@@ -118,7 +118,7 @@ pub(crate) fn send(
     Ok(())
 }
 
-/// Notes in the trace that a channel was closed. Where there is no memory for it, the heard list isn't told any more.
+/// Notes in the trace that a channel was closed. If an allocation fails, nothing is noted in the heard list any more.
 pub(crate) fn note_close(trace: &mut Vec<Action>, heard: &mut Heard, ch: Channel)
     ensures noted { IsTrue heard.new.whole → trace.new.items ≡ trace.old.items ++ Close ch ∷ [] }
     ensures closed { (trace.new.items ≡ trace.old.items ++ Close ch ∷ []) ⊎ (trace.new.items ≡ trace.old.items) }

@@ -1,4 +1,4 @@
--- Whether an input makes a record, and what it is told where it makes none.
+-- Whether an input makes a record, and its answer if it makes none.
 use Rattle.std.specs.Prelude.{ℕ, max, Bool, true, false, ◌||◌, ◌==◌, List, Option, Some, None, if◌then◌else◌}
 use Rattle.std.specs.List.{list_any}
 use Rattle.iss_model.specs.declared.call.CallId.{CallId}
@@ -16,7 +16,7 @@ use Rattle.iss_model.specs.rules.Due.{due_items, is_quiet}
 use Rattle.iss_model.specs.rules.Keeper.{Keeper}
 use Rattle.iss_model.specs.rules.Stepping.{after_due}
 
--- an event that stands is a repeat where all its fields are the same, and else in conflict with its first record
+-- an event that stands is a repeat if all its fields are the same, and else in conflict with its first record
 abbrev pub repeat_or_conflict : Facts → Input → List ℕ → Option Accepted → Option Answer
 repeat_or_conflict f i token None = None
 repeat_or_conflict f i token (Some first) =
@@ -65,7 +65,7 @@ abbrev pub is_ack : Input → Bool
 is_ack (input.Ack notice) = true
 is_ack _ = false
 
--- An input that isn't refused is new. One that is refused is told so; where something is due, a time record goes before its answer.
+-- An input that isn't refused is new. One that is refused is answered; if something is due, a time record goes before its answer.
 abbrev pub judgement_as : Option Answer → Bool → Input → ℕ → Judged
 judgement_as None quiet i at = judged.New (record { at = at; input = i })
 judgement_as (Some a) quiet i at =

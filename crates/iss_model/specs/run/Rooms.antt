@@ -85,13 +85,13 @@ judgement_within room rs (judged.New r) = where_it_fits room rs r (judged.New r)
 judgement_within room rs (judged.Clock r) = where_it_fits room rs r (judged.Clock r)
 judgement_within room rs (judged.Told a) = judged.Told a
 
--- the record that is made, where one is
+-- the record that is made, if one is
 abbrev pub record_made : Judged → Option Record
 record_made (judged.New r) = Some r
 record_made (judged.Clock r) = Some r
 record_made (judged.Told a) = None
 
--- the room after the record that was made, where one was
+-- the room after the record that was made, if one was
 abbrev pub room_left : Option Room → List Record → Option Record → Option Room
 room_left room rs None = room
 room_left room rs (Some r) = option_map (λ room. room_after room rs r) room

@@ -26,7 +26,7 @@ pub record Response : Type 0 where
   pub run : Run
   pub texts : List Text
 
--- an input is judged at its stamp, and makes its record only where that fits
+-- an input is judged at its stamp, and makes its record only if that fits
 abbrev pub judgement_in : Run → Input → ℕ → Judged
 judgement_in s i stamp = judgement_within s.room s.history.records (judge history_keeper s.history i stamp)
 
@@ -44,7 +44,7 @@ abbrev pub response : Run → Reading → Response
 response s (sound i at) = let stamp = unwrap_or at 0 in response_as s i stamp (judgement_in s i stamp)
 response s (faulty text) = record { run = s; texts = at_level (length s.history.records) (text ∷ []) }
 
--- the record that a line makes, where it makes one
+-- the record that a line makes, if it makes one
 abbrev pub record_of_line : Run → Reading → Option Record
 record_of_line s (sound i at) = record_made (judgement_in s i (unwrap_or at 0))
 record_of_line s (faulty text) = None
@@ -64,7 +64,7 @@ abbrev pub accepted_records : Run → List Reading → List Record
 accepted_records s [] = []
 accepted_records s (line ∷ lines) = option_to_list (record_of_line s line) ++ accepted_records (response s line).run lines
 
--- what a run says before its first line: the requests of the calls that are asked, and then the notices that aren't acknowledged, each by number
+-- what a run sends before its first line, each by number: the requests of the calls that are asked, then the pending notices
 abbrev pub said_first : Facts → List Said
 said_first f = map (λ call. asked call.opened) (filter is_asked f.calls) ++ map noticed f.pending
 

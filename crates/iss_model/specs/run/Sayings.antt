@@ -1,4 +1,4 @@
--- What is said of an input: each thing that an entry of its record sends out, and its answer where it isn't new.
+-- What is said of an input: each thing that an entry of its record sends out, and its answer if it isn't new.
 use Rattle.std.specs.Prelude.{ℕ, List, [], ◌∷◌, ◌++◌}
 use Rattle.std.specs.List.{flat_map}
 use Rattle.iss_model.specs.declared.call.Opened.{Opened}

@@ -10,7 +10,7 @@ use Rattle.iss_model.specs.texts.AnswerLines.{answer_text, acked_line, time_line
 use Rattle.iss_model.specs.rules.Keeper.{Keeper}
 use Rattle.iss_model.specs.run.Sayings.{Said, decided, asked, noticed, acked, timed, answered, said_by, Reaction, reaction}
 
--- a line as it was read: an input with the stamp that it gives, or the text of its fault
+-- a line as it was read: an input with its stamp, or the text of its fault
 pub data Reading : Type 0 where
   sound : Input → Option ℕ → Reading
   faulty : List ℕ → Reading
