@@ -44,7 +44,7 @@ abbrev pub end_entries : ℕ → Facts → Txn → Parts → Reason → List Ent
 end_entries number f t parts why =
     abandonment_entries number f t why ++ release_entries t parts (in_all parts) ++ entry.Ended t.token ∷ []
 
--- what the sets say, as entries: the first notice has this number
+-- what the sets decide, as entries: the first notice has this number
 abbrev pub stand_entries : Stand → ℕ → Ask → Failure → ℕ → List Entry
 stand_entries (allowed s) number ask why at = set_stand_in_entries number ask at s
 stand_entries (over_limit s) number ask why at = declined_ask_entries ask (reason.StandInLimit s.name)
@@ -54,7 +54,7 @@ stand_entries uncovered number ask why at = declined_ask_entries ask (failure_re
 abbrev pub stand_in_entries : ℕ → Facts → Ask → Failure → ℕ → List Entry
 stand_in_entries number f ask why at = stand_entries (stand f ask why at) number ask why at
 
--- the gateway is asked, save where the product's switch is on: then the programme stands in
+-- the gateway is asked, save while the product's switch is on: then the programme stands in
 abbrev pub gateway_ask_entries : Option Product → Facts → Ask → List Entry
 gateway_ask_entries None f ask = []
 gateway_ask_entries (Some product) f ask =
@@ -101,7 +101,7 @@ last_clearing_entries f t rest amount =
 abbrev pub further_clearing_entries : Facts → Txn → ℕ → List Entry
 further_clearing_entries f t amount = only_gateway t (notice_entry (next_notice f) method.Capture t None amount 0 ∷ [])
 
--- a clearing ends a live transaction where it is the last one, or nothing is held after it
+-- a clearing ends a live transaction if it is the last one, or nothing is held after it
 abbrev pub clearing_entries : Facts → List ℕ → ℕ → Bool → ℕ → Option TxnNow → List Entry
 clearing_entries f token amount last at None = []
 clearing_entries f token amount last at (Some now) =
@@ -113,7 +113,7 @@ clearing_entries f token amount last at (Some now) =
     ++ (if now.live && (last || in_all rest == 0) then last_clearing_entries f t rest amount else further_clearing_entries f t amount)
     ++ entry.Decided token verdict.Done ∷ []
 
--- a refund comes back from the network; for a gateway product the programme gets first what it is owed, and the gateway the rest
+-- a refund comes back from the network; for a gateway product the programme first receives what it is owed, and the gateway the rest
 abbrev pub refund_entries : Facts → List ℕ → ℕ → Option TxnNow → List Entry
 refund_entries f token amount None = []
 refund_entries f token amount (Some now) =
@@ -144,7 +144,7 @@ outcome_entries outcome.Refused f o t at =
 outcome_entries outcome.Connection f o t at = failed_call_entries f o t failure.Connection at
 outcome_entries outcome.Application f o t at = failed_call_entries f o t failure.Application at
 
--- entries for a transaction, where it is known
+-- entries for a transaction, if it is known
 abbrev pub entries_of_txn : (Txn → List Entry) → Option TxnNow → List Entry
 entries_of_txn make None = []
 entries_of_txn make (Some now) = make now.txn
@@ -166,7 +166,7 @@ expiry_entries f t =
     ++ only_gateway t (only_where (in_all parts)
     (notice_entry (notice_after_abandonment (next_notice f) f t) method.Expiry t None (in_all parts) parts.g ∷ []))
 
--- a transaction that an earlier item has ended is passed over
+-- a transaction that an earlier item has ended makes nothing
 abbrev pub live_expiry_entries : Facts → Option TxnNow → List Entry
 live_expiry_entries f None = []
 live_expiry_entries f (Some now) = if now.live then expiry_entries f now.txn else []
@@ -175,7 +175,7 @@ live_expiry_entries f (Some now) = if now.live then expiry_entries f now.txn els
 abbrev pub acknowledgement_entries : Facts → ℕ → List Entry
 acknowledgement_entries f notice = if is_notice f notice then entry.Acked notice ∷ [] else []
 
--- what settling a due thing makes at a moment: an unanswered call has timed out, a transaction expires, and what an earlier item settled is passed over
+-- what a due thing makes at a moment: an unanswered call has timed out, a transaction expires, and what is settled makes nothing
 abbrev pub written_thing : DueThing → ℕ → Facts → List Entry
 written_thing (call_due number) at f = entries_of_asked (λ o t. failed_call_entries f o t failure.Timeout at) (call_in f number) f
 written_thing (txn_due token) at f = live_expiry_entries f (txn_in f token)
