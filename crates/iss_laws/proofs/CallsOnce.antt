@@ -156,7 +156,7 @@ void_alike n (entry.Closed call how) hows closed voided few less rest = by (nat_
     by false b e few = none_more voided _ (rest (few_more closed few))
 void_alike n _ hows closed voided few less rest = none_more voided _ (rest (few_more closed few))
 
--- where a number is closed once at most, it is closed as void as its first closing says
+-- if a number is closed once at most, it is closed as void as its first closing says
 void_times : (n : ℕ) (rows : List Row) → times (closes n) rows ≤ 1 → times (closes_void n) rows ≡ one_of (is_void (how_closed n rows))
 void_times n [] few = refl
 void_times n (row ∷ rows) few =

@@ -53,7 +53,7 @@ is_linked ch links = list_any (λ l. same_channel l.ch ch) links
 abbrev pub is_listened_to : Session → Channel → Bool
 is_listened_to s ch = is_reading ch s.readers || is_waiting ch s.desk.waiting || is_linked ch s.links
 
--- What a wait brought. A channel that is ready and that nobody listens to is passed over; a time later than the last stamp counts as that.
+-- What a wait brought. A channel that is ready and that nobody listens to changes nothing; a time later than the last stamp counts as that.
 abbrev pub after_arrival : Session → Option Arrival → Session
 after_arrival s None = record s { turns = 0 }
 after_arrival s (Some (Client ch)) = record s { readers = s.readers ++ record { ch = ch; bytes = [] } ∷ [] }
@@ -131,21 +131,21 @@ after_reading read s ch (Some (b ∷ piece)) early =
     let bytes = bytes_on ch s.readers ++ b ∷ piece in
     change_to (after_request read s ch bytes (request_early early (request bytes))) []
 
--- What a take brought on the channel of a client that waits. Bytes and an end are passed over; one that fails is closed, and waits no longer.
+-- What a take brought on the channel of a client that waits. Bytes and an end are ignored; one that fails is closed, and waits no longer.
 abbrev pub after_waiting : Session → Channel → Option (List ℕ) → Change
 after_waiting s ch None = change_to (record s { desk = desk_with s.desk.tasks (waiters_without ch s.desk.waiting) }) (close_steps s ch)
 after_waiting s ch (Some piece) = change_to s []
 
 -- Answers of the gateway
 
--- what is to be judged once a link heard this
+-- what is to be judged after a link heard this
 abbrev pub inputs_of : Heard → List Queued
 inputs_of unfinished = []
 inputs_of (outcome call o) = unasked (input.Answer call o) ∷ []
 inputs_of (acknowledged n) = unasked (input.Ack n) ∷ []
 inputs_of (dropped n) = []
 
--- a link is closed once its answer was heard
+-- a link is closed after its answer was heard
 abbrev pub link_steps : Session → Channel → Heard → List Step
 link_steps s ch unfinished = []
 link_steps s ch _ = close_steps s ch
@@ -195,7 +195,7 @@ abbrev pub after_desk : Session → DeskChange → Change
 after_desk s d =
     change_to (record s { links = s.links ++ flat_map links_of d.gone; queue = s.queue ++ flat_map queued_of d.gone; desk = d.desk }) d.steps
 
--- an answer of the outside is for the first text, where there is one, and else for a wait or a take
+-- an answer of the outside is for the first text, if there is one, and else for a wait or a take
 abbrev pub after_item : Readers → Session → Item → List Task → Change
 after_item read s item [] = after_hearing read s item item.answer
 after_item read s item (task ∷ tasks) = after_desk s (desk_change (count s) s.desk item)
