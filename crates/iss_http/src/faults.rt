@@ -19,7 +19,7 @@ pub enum HttpFault {
     BodyLong,
 }
 
-/// Why a reader gives no body.
+/// Why a reader returns no body.
 #[derive(Clone, Copy, PartialEq, Eq, Debug)]
 pub enum FeedFault {
     /// The bytes that came are no request that is taken.

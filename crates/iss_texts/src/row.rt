@@ -16,7 +16,7 @@ use iss_jit::{put_notice, put_request};
 use iss_model::{Answer, Entry, Notice, Opened, Reply};
 use std::alloc::{AllocError, Global};
 
-/// Texts in a row, and the places where they end. Each is a line, with its line feed. Where an allocation fails a part of
+/// Texts in a row, and the places where they end. Each is a line, with its line feed. If an allocation fails, a part of
 /// one may be there.
 #[derive(Drop)]
 pub struct Texts {
