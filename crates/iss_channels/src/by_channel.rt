@@ -55,7 +55,7 @@ impl<T: OnChannel + Drop> ByChannel<T> {
         ensures placed { ArePlaced self.new }
     {
         let place = self.next;
-        // So many never come: a place counts for want of memory here.
+        // There are never 2^64 things: a missing place counts as a failed allocation.
         let Some(next) = place.checked_add(1) else {
             return Err(AllocError);
         };

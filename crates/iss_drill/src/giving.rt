@@ -119,7 +119,7 @@ fn keep<E: Edge>(
     }
 }
 
-/// Tells an input that isn't new its answer once the time is taken up.
+/// Sends an input that isn't new its answer, after the time is taken up.
 fn tell_left<E: Edge>(
     alloc: Global,
     store: &Store,

@@ -79,7 +79,7 @@ fn fresh_store(alloc: Global, size: u32) -> Result<(Store, Quiet), AllocError>
     Ok((store, device))
 }
 
-/// Makes a device one of instance 0 that stands for no records, and opens it. It fails for want of memory alone, as the device does.
+/// Makes a device one of instance 0 that stands for no records, and opens it. It fails only if an allocation does.
 fn format_and_open<E: Edge>(alloc: Global, edge: &mut E) -> Result<Store, AllocError>
     requires least { 17 ≤ E.extent edge.old }
     requires most { E.extent edge.old ≤ 2 ^ 32 }

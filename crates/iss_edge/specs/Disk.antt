@@ -24,7 +24,7 @@ pub record Disk : Type 0 where
 abbrev pub disk_at_rest : List ℕ → Disk
 disk_at_rest bytes = record { bytes = bytes; touched = λ place. false; failed = λ place. false }
 
--- the device once this was done
+-- the device after this was done
 abbrev pub after_action : Disk → Action → Disk
 after_action d (Write at bytes ok) =
     record {

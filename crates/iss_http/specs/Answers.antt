@@ -14,7 +14,7 @@ pub data Reading : Type 0 where
 abbrev pub unless_over : Bool → Reading
 unless_over over = if over then ended else more
 
--- a body of this length, once it came
+-- a body of this length, after it came
 abbrev pub body_within : ℕ → List ℕ → Bool → ℕ → Reading
 body_within status rest over size =
     if nat_lt 16384 size then garbled else if nat_le size (length rest) then whole status (take size rest) else unless_over over

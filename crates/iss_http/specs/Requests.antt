@@ -15,7 +15,7 @@ pub data Request : Type 0 where
   body : List ℕ → Request
   faulty : HttpFault → Request
 
--- a body of this length, once it came
+-- a body of this length, after it came
 abbrev pub body_within : List ℕ → ℕ → Request
 body_within rest size =
     if nat_lt 16384 size then faulty BodyLong else if nat_le size (length rest) then body (take size rest) else more

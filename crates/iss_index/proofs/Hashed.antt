@@ -126,7 +126,7 @@ free_has tag names q s free =
     never true a = refl
     never false a = refl
 
--- the slot of the last name, which has it where the tag is its own
+-- the slot of the last name, which has it if the tag is its own
 last_has : (tag : ℕ) (names : List (List ℕ)) (k q : List ℕ) (own place : ℕ) → place ≡ length names
     → slot_has tag (names ++ k ∷ []) q (record { tag = own; rank = place + 1 }) ≡ ((own == tag) && bytes_eq k q)
 last_has tag names k q own place is =

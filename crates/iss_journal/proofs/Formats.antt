@@ -76,7 +76,7 @@ first_gate instance start syncs (suc zero) image least is =
 first_gate instance start syncs (suc (suc byte)) image least is =
     inl (unformatted (suc (suc byte)) (tail_of instance ++ drop 16 (drop 1 start)) image is (λ one. omega (arith, one)))
 
--- the bytes once the tail stands after a closed first byte
+-- the bytes after the tail stands after a closed first byte
 abbrev closed_first : ℕ → List ℕ → List ℕ
 closed_first instance start = splice 1 (tail_of instance) (splice 0 (0 ∷ []) start)
 

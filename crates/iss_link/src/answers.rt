@@ -92,7 +92,7 @@ fn take<E: Edge>(edge: &mut E, ch: Channel, buffer: &mut [u8]) -> Option<usize>
     }
 }
 
-/// What a channel's bytes are once a take brought these, or failed, which ends them.
+/// What a channel's bytes are after a take brought these, or failed, which ends them.
 fn read(
     links: &mut ByChannel<Watched>,
     alloc: Global,

@@ -20,7 +20,7 @@ pub(crate) enum About {
     Notice(u32),
 }
 
-/// A channel on which an answer is awaited, with its bytes so far. Room for these is made once the first of them come.
+/// A channel on which an answer is awaited, with its bytes so far. Room for these is made when the first of them come.
 #[derive(Drop)]
 pub(crate) struct Watched {
     pub(crate) ch: Channel,

@@ -205,7 +205,7 @@ pub(crate) fn arrive(
     ensures heard { IfOk result (λ arrives. heard.new.items ≡ heard.old.items ++ Waited (Some arrives) ∷ []) }
     ensures unheard { OnErr result (heard.new.items ≡ heard.old.items) }
 {
-    // With room for the answer, nothing can fail once the item was passed.
+    // With room for the answer, nothing can fail after the item was passed.
     heard.reserve(1)?;
     let arrives = network.wait()?;
     heard.push(Answered::Waited(Some(arrives)))?;
@@ -225,7 +225,7 @@ pub(crate) fn open_channel(
     ensures unnoted { IfNone result (trace.new.items ≡ trace.old.items) }
     ensures unheard { IfNone result (heard.new.items ≡ heard.old.items) }
 {
-    // With room in both lists, nothing can fail once the channel is open.
+    // With room in both lists, nothing can fail after the channel is open.
     trace.reserve(1).ok()?;
     heard.reserve(1).ok()?;
     let ch = network.dial()?;

@@ -84,7 +84,7 @@ fn note(
     Ok(())
 }
 
-/// Notes in the trace an emit that fails once its first bytes went out.
+/// Notes in the trace an emit that fails after its first bytes went out.
 pub(crate) fn send_prefix(
     alloc: Global,
     trace: &mut Vec<Action>,
@@ -111,7 +111,7 @@ pub(crate) fn send(
     ensures unsent { OnErr result (trace.new.items ≡ trace.old.items) }
     ensures unheard { OnErr result (heard.new.items ≡ heard.old.items) }
 {
-    // With room for the answer, nothing can fail once the action is noted.
+    // With room for the answer, nothing can fail after the action is noted.
     heard.reserve(1)?;
     note(alloc, trace, ch, bytes, true)?;
     heard.push(Answered::Emitted { ch, ok: true })?;
