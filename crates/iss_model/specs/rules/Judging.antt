@@ -27,7 +27,7 @@ repeat_or_conflict f i token (Some first) =
 abbrev pub event_answer : Facts → Input → List ℕ → Option Answer
 event_answer f i token = repeat_or_conflict f i token (event_in f token)
 
--- what an input with this token is told; one without a token is no event, and told nothing by it
+-- the answer to an input with this token; an input without one is no event, and has no answer by it
 abbrev pub token_answer : Facts → Input → Option (List ℕ) → Option Answer
 token_answer f i None = None
 token_answer f i (Some token) = event_answer f i token
@@ -53,7 +53,7 @@ notice_answer f notice =
 abbrev pub time_answer : Bool → Option Answer
 time_answer quiet = if quiet then Some answer.Idle else None
 
--- What an input is told that is not new. An acknowledgement is judged by what stands before anything due, all else by what stands after it.
+-- The answer to an input that is not new. An acknowledgement is judged by what stands before anything due, all else by what stands after it.
 abbrev pub refusal : Bool → Facts → Facts → Input → Option Answer
 refusal quiet before after (input.Answer call outcome) = call_answer call (call_in after call.0)
 refusal quiet before after (input.Ack notice) = notice_answer before notice

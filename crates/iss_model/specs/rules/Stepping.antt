@@ -24,7 +24,7 @@ authorization_ask f token card currency amount mcc mid at =
 abbrev pub increment_ask : Facts → List ℕ → List ℕ → ℕ → ℕ → Option Ask
 increment_ask f token txn amount at = option_map (λ now. further_ask token amount at now.txn) (txn_in f txn)
 
--- an event is declined if there is a reason, and else acts so
+-- an event is declined if there is a reason, and else makes these acts
 abbrev pub acts_unless : Option Reason → List ℕ → List Act → List Act
 acts_unless (Some why) token acts = Declines token why ∷ []
 acts_unless None token acts = acts

@@ -1,4 +1,4 @@
--- A run on a device: what it is told to write, line by line, while history and room move on. Without a device it is a dry run.
+-- A run on a device: the texts that it writes, line by line, while history and room move on. Without a device it is a dry run.
 use Rattle.std.specs.Prelude.{ℕ, ◌≤◌, List, [], ◌∷◌, ◌++◌, length, map, filter, Option, None, unwrap_or, option_to_list}
 use Rattle.iss_model.specs.declared.input.Input.{Input}
 use Rattle.iss_model.specs.declared.input.Record.{Record}
@@ -21,7 +21,7 @@ pub record Run : Type 0 where
 abbrev pub dry_run : Run
 dry_run = record { instance = 0; room = None; history = nothing_yet }
 
--- what stands after a line, and the texts that it is told
+-- what stands after a line, and the texts that are written for it
 pub record Response : Type 0 where
   pub run : Run
   pub texts : List Text

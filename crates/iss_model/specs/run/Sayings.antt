@@ -34,7 +34,7 @@ said_by (entry.Notice notice) = noticed notice ∷ []
 said_by (entry.Acked notice) = acked notice ∷ []
 said_by _ = []
 
--- a time that was taken is told so after what it made
+-- a time that was taken is answered after what it made
 abbrev pub said_of_time : Input → List Said
 said_of_time input.Time = timed ∷ []
 said_of_time _ = []

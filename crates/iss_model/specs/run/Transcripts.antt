@@ -1,4 +1,4 @@
--- What a run is told to write: for each line its texts, on what stood before it.
+-- What a run writes: for each line its texts, on what stood before it.
 use Rattle.std.specs.Prelude.{ℕ, List, [], ◌∷◌, ◌++◌, map, Option, unwrap_or}
 use Rattle.std.specs.List.{flat_map}
 use Rattle.iss_model.specs.declared.input.Input.{Input}
@@ -20,7 +20,7 @@ pub record Text : Type 0 where
   pub level : ℕ
   pub bytes : List ℕ
 
--- what stands after a line, and the texts that it is told
+-- what stands after a line, and the texts that are written for it
 pub record LineReply (W : Type 0) : Type 0 where
   pub world : W
   pub texts : List Text
