@@ -70,7 +70,7 @@ verdict_in ds event = option_map (λ d. d.verdict) (find (λ d. bytes_eq d.event
 abbrev pub event_in : Facts → List ℕ → Option Accepted
 event_in f token = find (λ a. is_event token a.input) f.accepted
 
--- what is told of an event that was decided, or not yet
+-- the reply to an event that was decided, or not yet
 abbrev pub reply_of_verdict : Option Verdict → Reply
 reply_of_verdict None = Pending
 reply_of_verdict (Some v) = Decided v

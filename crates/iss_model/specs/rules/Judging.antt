@@ -23,7 +23,7 @@ repeat_or_conflict f i token (Some first) =
     if same_contents first.input i then Some (answer.Repeat token (reply_in f token))
     else Some (answer.Conflict token first.number)
 
--- what an event is told, by the first record of its token
+-- the answer to an event, by the first record of its token
 abbrev pub event_answer : Facts → Input → List ℕ → Option Answer
 event_answer f i token = repeat_or_conflict f i token (event_in f token)
 
@@ -32,7 +32,7 @@ abbrev pub token_answer : Facts → Input → Option (List ℕ) → Option Answe
 token_answer f i None = None
 token_answer f i (Some token) = event_answer f i token
 
--- a call that is closed is told how
+-- the answer about a call that is closed: how it was
 abbrev pub late_answer : CallId → Option How → Option Answer
 late_answer call None = None
 late_answer call (Some how) = Some (answer.Late call how)

@@ -30,7 +30,7 @@ pub record Response : Type 0 where
 abbrev pub judgement_in : Run → Input → ℕ → Judged
 judgement_in s i stamp = judgement_within s.room s.history.records (judge history_keeper s.history i stamp)
 
--- what an input is told that was judged so
+-- what stands after an input with this judgement, and what is said of it
 abbrev pub response_as : Run → Input → ℕ → Judged → Response
 response_as s i stamp j =
     let r = reaction_as history_keeper s.history i stamp j in
@@ -39,7 +39,7 @@ response_as s i stamp j =
       texts = at_level (length r.world.records) (map (said_text_at s.instance) r.said);
     }
 
--- a line: its fault alone, or what its input is told
+-- a line: its fault alone, or what is said of its input
 abbrev pub response : Run → Reading → Response
 response s (sound i at) = let stamp = unwrap_or at 0 in response_as s i stamp (judgement_in s i stamp)
 response s (faulty text) = record { run = s; texts = at_level (length s.history.records) (text ∷ []) }
@@ -72,7 +72,7 @@ said_first f = map (λ call. asked call.opened) (filter is_asked f.calls) ++ map
 abbrev pub first_texts : Run → List Text
 first_texts s = at_level (length s.history.records) (map (said_text_at s.instance) (said_first (history_facts s.history)))
 
--- all that a run is told to write
+-- all that a run writes
 unfoldable pub transcript_of : Run → List Reading → List Text
 transcript_of s lines = first_texts s ++ line_texts s lines
 

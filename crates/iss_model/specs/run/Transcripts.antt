@@ -50,7 +50,7 @@ entry_texts e = map said_text (said_by e)
 abbrev pub reply_by_reaction : {W : Type 0} → Keeper W → Reaction W → LineReply W
 reply_by_reaction k r = record { world = r.world; texts = at_level (k.facts r.world).count (map said_text r.said) }
 
--- a line told on what stands: its fault, or what is said of its input
+-- the texts of a line on what stands: its fault, or what is said of its input
 abbrev pub after_line : {W : Type 0} → Keeper W → W → Reading → LineReply W
 after_line k w (sound i at) = reply_by_reaction k (reaction k w i (unwrap_or at 0))
 after_line k w (faulty text) = record { world = w; texts = at_level (k.facts w).count (text ∷ []) }

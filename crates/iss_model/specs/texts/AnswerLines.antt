@@ -1,4 +1,4 @@
--- What an input is told that makes no record, as a line.
+-- The answer to an input that makes no record, as a line.
 use Rattle.std.specs.Prelude.{ℕ, List, [], ◌∷◌, codes}
 use Rattle.iss_model.specs.declared.call.Failure.TheVariants as failure
 use Rattle.iss_model.specs.declared.call.How.{How}
