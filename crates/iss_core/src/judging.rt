@@ -69,7 +69,7 @@ impl State {
         Ok(Judged::Told(answer))
     }
 
-    /// An answer to a call that was never opened, or is closed, is told so. One to a call that is asked is new until the
+    /// The answer to a call that was never opened, or is closed, is refused. One to a call that is asked is new until the
     /// call's deadline and its transaction's expiry; from then on it comes too late.
     fn judge_answer(&self, call: CallId, outcome: Outcome, at: u64) -> Result<Judged, AllocError>
         requires { IsWell (state_of self.now) }
@@ -98,7 +98,7 @@ impl State {
         }))
     }
 
-    /// What an acknowledgement is told of a notice that was never made, or is acknowledged.
+    /// The answer to an acknowledgement of a notice that was never made, or is acknowledged.
     fn notice_answer(&self, notice: u32) -> Option<Answer>
         ensures { result ≡ notice_answer (facts_of self.now) notice }
     {

@@ -44,7 +44,7 @@ own_event i y =
 abbrev pub is_again : ℕ → Bool
 is_again i = drawn i % 8 == 7 && nat_lt 1 i
 
--- the input of an event: its own, or that of the event before it; before the first one it is a time, which isn't given
+-- the input of an event: its own, or that of the event before it; before the first one it is a time, which isn't taken
 unfoldable pub event_input : ℕ → Input
 event_input zero = input.Time
 event_input (suc i) = if is_again (suc i) then event_input i else own_event (suc i) (drawn (suc i))

@@ -48,7 +48,7 @@ pub record TellsAnswer (is_repeat : Bool) (before after : Tally) : Type 0 where
   pub lines : after.lines ≡ before.lines
   pub repeats : after.repeats ≡ before.repeats + one_if is_repeat
 
--- an input was taken at a stamp that is judged so: its entries and its repeat were counted, and the store stands at what then stands
+-- an input of this judgement was taken at a stamp: its entries and its repeat were counted, and the store stands at what then stands
 pub record Takes (run : Run) (i : Input) (at : ℕ) (j : Judged) (before after : Tally) (s : StoreNow) (opened : Option CallId) : Type 0 where
   pub middle : Tally
   pub counts : Counts (entries_as run.history j) before middle

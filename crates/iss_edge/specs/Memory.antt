@@ -62,7 +62,7 @@ is_client_number ch = nat_le 1 ch && nat_le ch 1000000
 abbrev pub is_dialled_number : ℕ → ℕ → Bool
 is_dialled_number dials ch = nat_lt 1000000 ch && nat_lt ch (dials + 1000001)
 
--- clients are to come on numbers of theirs, each on one that was none of these and that no client before it came on
+-- clients are to come on numbers of theirs, each on one that is not known and that no client before it came on
 abbrev pub are_to_come : List ℕ → List Script → Bool
 are_to_come known [] = true
 are_to_come known (Client ch ∷ items) =

@@ -45,7 +45,7 @@ by_user a b = ordering_then (slice_cmp nat_cmp a.0 b.0) (nat_cmp a.1 b.1)
 abbrev pub by_expiry : (ℕ × ℕ) → (ℕ × ℕ) → Ordering
 by_expiry a b = ordering_then (nat_cmp a.0 b.0) (nat_cmp a.1 b.1)
 
--- the tree's own order begins with the last expiry, so that a new one, which is mostly the last, is soon found its place
+-- the tree's own order begins with the last expiry, so the place of a new one, which is mostly the last, is soon found
 abbrev pub by_later : Reverse (ℕ × ℕ) → Reverse (ℕ × ℕ) → Ordering
 by_later a b = by_expiry b.0 a.0
 

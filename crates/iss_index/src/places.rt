@@ -15,7 +15,7 @@ use std::collections::BTreeMap;
 const LOAD: usize = 5;
 /// How many times as many groups there are then.
 const GROWTH: usize = 4;
-/// How many groups the first names are given.
+/// How many groups the first names have.
 const FIRST_GROUPS: usize = 16;
 
 /// The places of names in a list that stands elsewhere.

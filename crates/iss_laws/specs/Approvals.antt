@@ -52,7 +52,7 @@ abbrev pub is_paid_at_once : Facts → Ask → Bool
 is_paid_at_once f ask =
     is_account_funded ask.txn.funding || is_named_in f.switched ask.txn.product && stands_in (stand f ask failure.Switch ask.at)
 
--- a call that a record closes so is paid: the record is the answer that funds it, or it failed and a set stands in
+-- a call that a record closes in this way is paid: the record is the answer that funds it, or it failed and a set stands in
 abbrev pub is_paid_closing : Record → Facts → Opened → Txn → How → Bool
 is_paid_closing r f o t how.Funded = is_answer o.call.0 outcome.Funded r.input
 is_paid_closing r f o t how.Refused = false
@@ -107,7 +107,7 @@ is_approved_rightly h before r rs (input.Increment token txn currency amount) =
     (is_to_be_approved f (increment_reason f (txn_in f txn) currency ask) ask (records_pay_for token before (r ∷ rs) h.rows))
 is_approved_rightly h before r rs _ = true
 
--- so is each of them
+-- each of them is like that
 abbrev pub are_approved_rightly : History → List Record → List Record → Bool
 are_approved_rightly h before [] = true
 are_approved_rightly h before (r ∷ rs) =

@@ -17,7 +17,7 @@ pub record IsPayable (txns : List TxnNow) (o : Opened) : Type 0 where
   pub of_currency : its.txn.currency ≡ o.currency
   pub asks : (o.amount == 0) ≡ false
 
--- each call of a state is so
+-- each call of a state is like that
 abbrev pub ArePayable : CoreState → Type 0
 ArePayable s = (n : ℕ) (c : CallNow) → call_numbered n s.calls ≡ Some c → IsPayable s.holdings.txns c.opened
 

@@ -126,7 +126,7 @@ abbrev pub is_answer : ℕ → Outcome → Input → Bool
 is_answer number outcome (input.Answer call other) = call.0 == number && outcome_number other == outcome_number outcome
 is_answer number outcome _ = false
 
--- a record lets a call fail so: by its deadline, which has come, or by the answer that the record is; that a switch is on closes no call
+-- how a record lets a call fail: by its deadline, which has come, or by the answer that the record is; a switch that is on closes no call
 abbrev pub may_fail : Record → Opened → Failure → Bool
 may_fail r o failure.Timeout = nat_le o.deadline r.at
 may_fail r o failure.Connection = is_answer o.call.0 outcome.Connection r.input

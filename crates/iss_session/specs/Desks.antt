@@ -61,7 +61,7 @@ abbrev pub next_of_tasks : List Task → Next
 next_of_tasks [] = nothing
 next_of_tasks (task ∷ tasks) = next_for task
 
--- what becomes of a text that doesn't go out: its call isn't reached; a notice waits for the next run, and nobody is told
+-- what becomes of a text that doesn't go out: its call isn't reached; a notice waits for the next run, and nothing is sent
 abbrev pub gone_unsent : Subject → List Gone
 gone_unsent (of_call o) = unreached o.call ∷ []
 gone_unsent (of_notice n) = []

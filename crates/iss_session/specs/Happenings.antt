@@ -22,7 +22,7 @@ abbrev pub MayAnswerEarly : Session → Channel → Option (List ℕ) → Bool �
 MayAnswerEarly s ch (Some (b ∷ piece)) true = is_reading ch s.readers ≡ true → IsHopelessRequest (bytes_on ch s.readers ++ b ∷ piece)
 MayAnswerEarly s ch _ _ = Unit {0}
 
--- and so may the gateway's
+-- so may the gateway's bytes
 abbrev pub MayEndEarly : Option Link → Option (List ℕ) → Bool → Type 0
 MayEndEarly None got early = Unit {0}
 MayEndEarly (Some link) got early = MayReadEarly link got early

@@ -115,7 +115,7 @@ after_request read s ch bytes (body text) = after_line (record s { readers = rea
 after_request read s ch bytes (faulty fault) =
     with_tasks (record s { readers = readers_without ch s.readers }) (to_reply ch (fault_response fault) ∷ [])
 
--- bytes that no head begins with may be told so at once
+-- bytes that no head begins with may be refused at once
 abbrev pub request_early : Bool → Request → Request
 request_early early r = if early then faulty Head else r
 

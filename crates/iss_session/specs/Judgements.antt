@@ -24,7 +24,7 @@ status_of (Full free need) = 507
 status_of Spent = 507
 status_of _ = 200
 
--- the client is told why its event isn't new; what the gateway or the clock gave is told to nobody
+-- the client receives why its event isn't new; what the gateway or the clock brought is answered to nobody
 abbrev pub answer_tasks : Option Channel → Answer → List Task
 answer_tasks None a = []
 answer_tasks (Some ch) a = to_reply ch (respond (status_of a) (answer_text a)) ∷ []

@@ -1,4 +1,4 @@
--- An ask: an authorisation or increment as it wants money, the use that it adds, and the control that it breaches.
+-- An ask: an authorisation or increment as it asks for money, the use that it adds, and the control that it breaches.
 use Rattle.std.specs.Prelude.{ℕ, ◌+◌, ℤ, pos, neg_ℤ, ◌+ℤ◌, Bool, true, false, ◌&&◌, ◌||◌, List, find, Option, Some, None, option_map, int_lt, if◌then◌else◌}
 use Rattle.iss_model.specs.declared.call.Method.{Method}
 use Rattle.iss_model.specs.declared.call.Method.TheVariants as method
