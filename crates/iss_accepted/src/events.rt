@@ -59,7 +59,7 @@ impl Events {
         self.names.find(event).is_some()
     }
 
-    /// What is told of an event that is accepted.
+    /// The reply to an event that is accepted.
     pub fn reply(&self, event: &Token) -> Option<Reply>
         ensures { result ≡ event_reply (events_facts self.now) event.now }
     {

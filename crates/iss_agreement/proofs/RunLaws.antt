@@ -105,11 +105,11 @@ no_room rs (Some r) = refl
 abbrev dry_after : History → Run
 dry_after h = record { instance = 0; room = None; history = h }
 
--- what a line is told that was judged so
+-- the texts of a line with this judgement
 abbrev line_said : History → Input → ℕ → Judged → List Text
 line_said h i stamp j = at_level (length (reaction_as history_keeper h i stamp j).world.records) (map (said_text_at 0) (reaction_as history_keeper h i stamp j).said)
 
--- the same, and what the lines after it are told in this room
+-- the same, and the texts of the lines after it in this room
 abbrev line_on : History → Input → ℕ → List Reading → Judged → Option Room → List Text
 line_on h i stamp lines j room =
     line_said h i stamp j ++ line_texts (record { instance = 0; room = room; history = (reaction_as history_keeper h i stamp j).world }) lines

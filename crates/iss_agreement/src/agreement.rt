@@ -54,7 +54,7 @@ pub fn alike_cores_stay_alike()
         → judge core_keeper c i stamp ≡ judge core_keeper d i stamp }
 {}
 
-/// Lines are told on a core what they are told on its book.
+/// The texts of lines on a core are those on its book.
 #[tactic(auto, using(crate::proofs::CoreOfBook::core_transcript))]
 pub fn a_core_is_told_its_transcript()
     ensures { (lines : List Reading) → transcript core_keeper no_core lines ≡ transcript history_keeper nothing_yet lines }

@@ -270,7 +270,7 @@ notice_about user number method txn call amount gateway =
 abbrev pub notice : ℕ → Method → String → Option CallId → ℕ → ℕ → List Said
 notice number method txn call amount gateway = notice_about "u1" number method txn call amount gateway
 
--- the event stands with the same contents, and is told its reply again
+-- the event stands with the same contents, and gets the same reply
 abbrev pub repeat_reply : String → Reply → List Said
 repeat_reply token reply = answered (answer.Repeat (codes token) reply) ∷ []
 

@@ -50,7 +50,7 @@ some_answer a b i at h =
     ap (λ (t : Bool). cond (false || t) (judged.Told a) (judged.Clock (record { at = at; input = input.Time }))) h
     ∙ sym (ap (λ (t : Bool). cond (false || t) (judged.Told b) (judged.Clock (record { at = at; input = input.Time }))) h)
 
--- an event that stands is told something, on whatever facts
+-- an event that stands has an answer, on whatever facts
 either_answer : (f g : Facts) (i : Input) (token : List ℕ) (o : Option Accepted) (at : ℕ) → is_ack i ≡ false
     → judgement_as (repeat_or_conflict f i token o) false i at ≡ judgement_as (repeat_or_conflict g i token o) false i at
 either_answer f g i token None at h = refl
@@ -82,7 +82,7 @@ event_judged s i token at named =
 
 -- ---- what is no event
 
--- an acknowledgement is told its answer, or is new
+-- an acknowledgement has its answer, or is new
 pub ack_told : (s : CoreState) (notice : ℕ) (a : Answer) (at : ℕ) → Some a ≡ notice_answer (core_facts s) notice → judged.Told a ≡ judgement_at core_keeper s (input.Ack notice) at
 ack_told s notice a at e =
     sym (whatever (is_quiet (due_items (core_facts s) at)))

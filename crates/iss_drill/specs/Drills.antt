@@ -69,12 +69,12 @@ tells_repeat_as h i stamp (judged.New r) = false
 tells_repeat_as h i stamp (judged.Clock r) = tells_repeat (judge history_keeper (step history_keeper h r).world i stamp)
 tells_repeat_as h i stamp (judged.Told a) = is_repeat a
 
--- a line is told a repeat
+-- a line's answer is a repeat
 abbrev pub is_told_repeat : Run → Reading → Bool
 is_told_repeat s (sound i at) = let stamp = unwrap_or at 0 in tells_repeat_as s.history i stamp (judgement_in s i stamp)
 is_told_repeat s (faulty text) = false
 
--- how many of these lines are told a repeat
+-- how many of these lines have a repeat as their answer
 abbrev pub repeats_among : Run → List Reading → ℕ
 repeats_among s [] = 0
 repeats_among s (line ∷ lines) = (if is_told_repeat s line then 1 else 0) + repeats_among (response s line).run lines

@@ -65,12 +65,12 @@ abbrev pub told : {A : Type 0} → (A → List ℕ) → Result (Option A) HttpFa
 told text (Ok said) = answered (option_map text said)
 told text (Err f) = faulty f
 
--- the bytes, read so, have this fault; a bad head is told only if no bytes after them mend it
+-- the bytes, read in this way, have this fault; a bad head is told only if no bytes after them mend it
 abbrev pub HasFaultAs : (List ℕ → Request) → List ℕ → HttpFault → Type 0
 HasFaultAs read bytes Head = IsHopelessRequest bytes
 HasFaultAs read bytes f = read bytes ≡ faulty f
 
--- the bytes, read so, have the fault that is told
+-- the bytes, read in this way, have the fault that is told
 abbrev pub IsCauseAs : (List ℕ → Request) → List ℕ → FeedFault → Type 0
 IsCauseAs read bytes (Http f) = HasFaultAs read bytes f
 IsCauseAs read bytes OutOfMemory = ⊤

@@ -38,7 +38,7 @@ use Rattle.iss_laws.proofs.Rows.{entries_of_next, next_number, next_rows, next_t
 
 -- over all records ----
 
--- each row is told so
+-- each row that names a call voids it
 abbrev are_told : List Row → Bool
 are_told rows = list_all (λ row. names_what_it_voids row.entry) rows
 

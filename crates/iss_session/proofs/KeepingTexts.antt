@@ -149,7 +149,7 @@ client_waits n (Some ch) (Some token) rest s t event waiting queue h =
     ∙ mapped_second waiter_channel n s.desk.waiting (record { event = token; ch = ch } ∷ []) (alone n ch y)))
     (λ o. queues (ap (λ (qs : List Queued). is_among n (client_channels qs)) queue ∙ or_rest (ch.0 == n) (is_among n (client_channels rest)) o h))
 
--- a client that is told an answer has a text that is to go out
+-- a client that receives an answer has a text that is to go out
 client_told : (n : ℕ) (client : Option Channel) (a : Answer) (rest : List Queued) (t : Session) → t.desk.tasks ≡ answer_tasks client a → t.queue ≡ rest
     → is_among n (and_client client (client_channels rest)) ≡ true → IsHeld n t
 client_told n None a rest t tasks queue h = queues (ap (λ (qs : List Queued). is_among n (client_channels qs)) queue ∙ h)

@@ -103,7 +103,7 @@ abbrev pub bytes_on : Channel → List Reader → List ℕ
 bytes_on ch [] = []
 bytes_on ch (r ∷ readers) = if same_channel r.ch ch then r.bytes else bytes_on ch readers
 
--- a client's line is to be judged, or its fault is told
+-- a client's line is to be judged, or its fault is sent
 abbrev pub after_line : Session → Channel → Result Input (List ℕ) → Session
 after_line s ch (Ok i) = with_queued s (record { input = i; client = Some ch })
 after_line s ch (Err line) = with_tasks s (to_reply ch (respond 400 line) ∷ [])

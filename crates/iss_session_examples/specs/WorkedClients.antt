@@ -63,7 +63,7 @@ another_path =
       records = 0;
     }
 
--- no head begins with a space, and that is told at once
+-- no head begins with a space, and that is answered at once
 abbrev pub space_before_the_head : WorkedSession
 space_before_the_head =
     record {

@@ -41,7 +41,7 @@ impl Texts {
         self.ends.clear();
     }
 
-    /// Adds what is told of a line with a fault of form.
+    /// Adds the text of a line with a fault of form.
     #[tactic(auto, using(crate::proofs::Rows::one_more))]
     pub fn put_form(&mut self, fault: &FormFault) -> Result<(), AllocError>
         ensures { OnOk result (Gains (form_text fault.now ∷ []) self.old self.new) }
@@ -50,7 +50,7 @@ impl Texts {
         self.end()
     }
 
-    /// Adds what an input is told that isn't new.
+    /// Adds the answer to an input that isn't new.
     #[tactic(auto, using(crate::proofs::Rows::one_more))]
     pub fn put_told(&mut self, answer: &Answer) -> Result<(), AllocError>
         ensures { OnOk result (Gains (answer_text answer.now ∷ []) self.old self.new) }
