@@ -220,7 +220,7 @@ all_from : {A : Type 0} (q : A → Bool) (xs : List A) → Each (λ x. q x ≡ t
 all_from q [] h = refl
 all_from q (x ∷ xs) h = both_so (q x) (list_all q xs) h.0 (all_from q xs h.1)
 
--- a call as it stands in rows: how it was closed they say
+-- a call as it stands in rows: they hold how it was closed
 record IsNow (rows : List Row) (calls : List CallNow) (c : CallNow) : Type 0 where
   stands : call_numbered c.opened.call.0 calls ≡ Some c
   closed : how_closed c.opened.call.0 rows ≡ c.how
