@@ -52,7 +52,7 @@ impl State {
         }
     }
 
-    /// An input that has no answer is new. One that has goes with it, after a time record if something is due.
+    /// An input that has no answer is new. One that has an answer receives it, after a time record if something is due.
     fn judged(&self, answer: Option<Answer>, input: &Input, at: u64) -> Result<Judged, AllocError>
         requires { is_ack input.now ≡ false }
         ensures { IfOk result (λ j. j ≡ judgement_as answer (is_quiet (due_items (facts_of self.now) at)) input.now at) }

@@ -49,7 +49,7 @@ impl AnswerReader {
         })
     }
 
-    /// Takes the next bytes, and returns the answer after it is whole; what comes after it is ignored.
+    /// Takes the next bytes, and returns the answer when it is whole; what comes after it is ignored.
     ///
     /// `None` if the bytes that came aren't yet an answer. `Garbled` comes if they never become one that is taken;
     /// for a bad head it may come as soon as no bytes after them mend it. However much comes, at most 24577 bytes are

@@ -24,7 +24,7 @@ is_funded how.Refused = false
 is_funded (how.Failed why) = false
 is_funded how.Abandoned = false
 
--- 1 if a test holds, and 0 elsewhere
+-- 1 if a test holds, and else 0
 abbrev pub one_where : Bool → ℕ
 one_where b = if b then 1 else 0
 

@@ -5,7 +5,7 @@ use Rattle.iss_model.specs.rules.Activity.{CallNow, TxnNow, call_numbered, is_as
 use Rattle.iss_model.specs.rules.Reasons.{is_some_with}
 use Rattle.iss_model.specs.state.Cores.{CoreState}
 
--- 1 if a call of this number is asked, and 0 elsewhere
+-- 1 if a call of this number is asked, and else 0
 abbrev pub asked_at : List CallNow → ℕ → ℕ
 asked_at calls number = if is_some_with is_asked (call_numbered number calls) then 1 else 0
 
