@@ -49,7 +49,7 @@ use Rattle.iss_state.proofs.effects.Taking.{Takes, clearing_takes, holds_then, r
 -- what is found ----
 
 -- a transaction that is found by a token stands
-pub found_stands : (s : CoreState) (token : List ℕ) (now : TxnNow) → txn_named token s.holdings.txns ≡ Some now → Stands s now.txn
+found_stands : (s : CoreState) (token : List ℕ) (now : TxnNow) → txn_named token s.holdings.txns ≡ Some now → Stands s now.txn
 found_stands s token now e =
     ap (λ (k : List ℕ). find (λ (x : Txn). bytes_eq x.token k) (begun_txns s)) (one_name now.txn.token token (found_passes (λ (t : TxnNow). bytes_eq t.txn.token token) s.holdings.txns now e))
     ∙ find-map (λ (x : Txn). bytes_eq x.token token) (λ (t : TxnNow). bytes_eq t.txn.token token) (λ (t : TxnNow). t.txn) (λ t. refl) s.holdings.txns
