@@ -1,10 +1,10 @@
 //! The accepted events.
-ghost use Rattle.std.specs.Prelude.{◌≡◌, [], ◌∷◌, ◌++◌, List, ℕ, Some, None, IsTrue, IsSome, IfOk, OnOk, OnErr, is_some, find, if◌then◌else◌};
+ghost use Rattle.std.specs.Prelude.{◌≡◌, Some, None, IsTrue, IsSome, IfOk, OnOk, OnErr, is_some, find};
 ghost use Rattle.std.specs.Str.{bytes_eq};
 ghost use Rattle.iss_model.specs.Forms.{is_stamp, is_in_form};
-ghost use Rattle.iss_model.specs.Inputs.{event_token, is_event};
+ghost use Rattle.iss_model.specs.Inputs.{is_event};
 ghost use Rattle.iss_model.specs.rules.Facts.{event_reply};
-ghost use Rattle.iss_accepted.specs.Values.{no_events, events_facts, answer_in};
+ghost use Rattle.iss_accepted.specs.Values.{IsUnknown, no_events, events_facts, answer_in, with_decision, with_input};
 
 use crate::row::{Row, push};
 use iss_codec::put_record;
@@ -90,11 +90,8 @@ impl Events {
     pub fn add(&mut self, number: u32, at: u64, input: &Input) -> Result<(), AllocError>
         requires form { IsTrue (is_in_form input.now) }
         requires stamp { IsTrue (is_stamp at) }
-        requires new { (token : List ℕ) → event_token input.now ≡ Some token → find (λ a. is_event token a.input) self.old.accepted ≡ None }
-        ensures added { OnOk result (self.new ≡ record self.old {
-          accepted = self.old.accepted
-              ++ (if is_some (event_token input.now) then record { number = number; at = at; input = input.now } ∷ [] else []);
-        }) }
+        requires new { IsUnknown self.old input.now }
+        ensures added { OnOk result (self.new ≡ with_input self.old number at input.now) }
         ensures refused { OnErr result (self.new ≡ self.old) }
     {
         let Some(token) = input.event() else {
@@ -123,7 +120,7 @@ impl Events {
     pub fn decide(&mut self, event: &Token, verdict: Verdict) -> Result<(), AllocError>
         requires accepted { IsSome (find (λ a. is_event event.now a.input) self.old.accepted) }
         requires undecided { find (λ d. bytes_eq d.event event.now) self.old.decisions ≡ None }
-        ensures decided { OnOk result (self.new ≡ record self.old { decisions = self.old.decisions ++ record { event = event.now; verdict = verdict } ∷ [] }) }
+        ensures decided { OnOk result (self.new ≡ with_decision self.old event.now verdict) }
         ensures refused { OnErr result (self.new ≡ self.old) }
     {
         let Some(place) = self.names.find_last(event) else {

@@ -1,13 +1,18 @@
 -- What the sets decide of an amount that the gateway didn't decide.
-use Rattle.std.specs.Prelude.{ℕ, ℤ, pos, ◌+ℤ◌, int_le, Bool, ◌&&◌, nat_le, List, find, Option, Some, None, if◌then◌else◌}
+use Rattle.std.specs.Prelude.{◌≡◌, ℕ, ℤ, pos, ◌+ℤ◌, int_le, Bool, ◌&&◌, nat_le, List, find, Option, Some, None, if◌then◌else◌}
 use Rattle.std.specs.Str.{bytes_eq}
 use Rattle.iss_model.specs.declared.call.Failure.{Failure}
 use Rattle.iss_model.specs.declared.setting.Set.{Set}
 use Rattle.iss_model.specs.Sums.{stood_key}
+use Rattle.iss_model.specs.rules.Asks.{Ask}
 use Rattle.iss_model.specs.rules.StandIns as rule
 use Rattle.iss_model.specs.rules.StandIns.{covers_failure}
 use Rattle.iss_commando.specs.declared.stand.Stand.{Stand}
 use Rattle.iss_commando.specs.declared.stand.Stand.TheVariants.{Yes, Limit, No}
+
+-- what holds if an ask is of this product and user, and for this amount
+abbrev pub IfAsks : Ask → List ℕ → List ℕ → ℕ → Type 0 → Type 0
+IfAsks ask product user amount Holds = ask.txn.product ≡ product → ask.txn.user ≡ user → ask.amount ≡ amount → Holds
 
 -- an active set of the product that covers the failure
 abbrev pub is_for : List ℕ → Failure → Set → Bool

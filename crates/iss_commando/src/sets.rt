@@ -13,7 +13,7 @@ ghost use Rattle.iss_model.specs.state.Kept.{nothing_kept, kept_at, AreSmall};
 ghost use Rattle.iss_model.specs.state.Cores.{with_set, set_after_put};
 ghost use Rattle.iss_commando.specs.Trees.{after_stood};
 ghost use Rattle.iss_commando.specs.Puts.{is_fixed};
-ghost use Rattle.iss_commando.specs.Stands.{is_for, stand_on, stand_named};
+ghost use Rattle.iss_commando.specs.Stands.{IfAsks, is_for, stand_on, stand_named};
 
 use crate::day::DayKey;
 use crate::stand::{Stand, is_for, stand_by};
@@ -135,8 +135,7 @@ impl Sets {
         requires { IsTrue (is_stamp at) }
         ensures answer { result ≡ stand_named (stand_on self.now.sets (kept_at self.now.stood) product.now user.now amount failure at) }
         ensures by_rule { (f : Facts) → (ask : Ask) → f.sets ≡ self.now.sets → f.stood ≡ kept_at self.now.stood
-            → ask.txn.product ≡ product.now → ask.txn.user ≡ user.now → ask.amount ≡ amount
-            → result ≡ stand_named (stand f ask failure at) }
+            → IfAsks ask product.now user.now amount (result ≡ stand_named (stand f ask failure at)) }
     {
         let Some(set) = deciding(&self.sets, product, failure) else {
             return Stand::No;

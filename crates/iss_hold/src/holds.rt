@@ -8,12 +8,12 @@ ghost use Rattle.iss_model.specs.state.Kept.{nothing_kept, kept_at};
 ghost use Rattle.iss_model.specs.rules.Activity.{txn_named};
 ghost use Rattle.iss_model.specs.rules.Facts.{not_below};
 ghost use Rattle.iss_model.specs.rules.Due.{txn_due, is_quiet};
-ghost use Rattle.iss_model.specs.rules.Pieces.{hold_entries, unhold_entries, in_all, taken_to_clear, taken_to_release};
+ghost use Rattle.iss_model.specs.rules.Pieces.{hold_entries, unhold_entries};
 ghost use Rattle.iss_model.specs.state.Cores.{with_txn, with_end};
 ghost use Rattle.iss_hold.specs.Bounds.{AreLow};
 ghost use Rattle.iss_hold.specs.Holdings.{now_of, tokens, parts_of, whole_of};
 ghost use Rattle.iss_hold.specs.Indexes.{place_in};
-ghost use Rattle.iss_hold.specs.Entries.{live_now, after_holds, change_entries, IsCovered, parts_in, clearing_unhold_entries, release_unhold_entries};
+ghost use Rattle.iss_hold.specs.Entries.{live_now, after_holds, change_entries, IsCovered, parts_in, cleared_parts, released_parts, taken_in_all, clearing_unhold_entries, release_unhold_entries};
 ghost use Rattle.iss_hold.specs.Expiries.{txns_due};
 
 use crate::hold::{Hold, Taken};
@@ -167,9 +167,8 @@ impl Holds {
     /// user's own.
     pub fn take_clear(&mut self, txn: &Token, amount: u64) -> Taken
         requires { IsSome (txn_named txn.now self.old.txns) }
-        ensures holdings { self.new ≡ after_holds self.old txn.now (clearing_unhold_entries (taken_to_clear (parts_in self.old txn.now) amount)) }
-        ensures taken { let taken = taken_to_clear (parts_in self.old txn.now) amount in
-            result ≡ record { g = taken.g; p = taken.p; s = taken.s; rest = amount - in_all taken } }
+        ensures holdings { self.new ≡ after_holds self.old txn.now (clearing_unhold_entries (cleared_parts self.old txn.now amount)) }
+        ensures taken { result ≡ taken_in_all (cleared_parts self.old txn.now amount) amount }
     {
         let (place, hold) = self.table.hold_of(txn);
         let taken = hold.taken_to_clear(amount);
@@ -182,9 +181,8 @@ impl Holds {
     /// user's own.
     pub fn take_release(&mut self, txn: &Token, amount: u64) -> Taken
         requires { IsSome (txn_named txn.now self.old.txns) }
-        ensures holdings { self.new ≡ after_holds self.old txn.now (release_unhold_entries (taken_to_release (parts_in self.old txn.now) amount)) }
-        ensures taken { let taken = taken_to_release (parts_in self.old txn.now) amount in
-            result ≡ record { g = taken.g; p = taken.p; s = taken.s; rest = amount - in_all taken } }
+        ensures holdings { self.new ≡ after_holds self.old txn.now (release_unhold_entries (released_parts self.old txn.now amount)) }
+        ensures taken { result ≡ taken_in_all (released_parts self.old txn.now amount) amount }
     {
         let (place, hold) = self.table.hold_of(txn);
         let taken = hold.taken_to_release(amount);

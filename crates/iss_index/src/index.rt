@@ -1,7 +1,7 @@
 //! A list of named things, each found by its name.
-ghost use Rattle.std.specs.Prelude.{◌≡◌, [], ◌∷◌, ◌++◌, None, IfSome, map, find, option_map, OnOk, OnErr};
+ghost use Rattle.std.specs.Prelude.{◌≡◌, [], ◌∷◌, ◌++◌, None, map, find, option_map, OnOk, OnErr};
 ghost use Rattle.std.specs.Str.{bytes_eq};
-ghost use Rattle.iss_index.specs.Places.{changed_at};
+ghost use Rattle.iss_index.specs.Places.{MakesThis, changed_at};
 
 use crate::Names;
 use iss_model::{Named, Token};
@@ -63,7 +63,7 @@ impl<T: Named + Drop> Index<T> {
     /// each thing of that name.
     pub fn set(&mut self, thing: T)
         ensures placed { self.new ≡ changed_at T.name_of (T.name_of thing) (λ t. thing) self.old }
-        ensures changed { (change : T → T) → IfSome (find (λ t. bytes_eq (T.name_of t) (T.name_of thing)) self.old) (λ t. change t ≡ thing)
+        ensures changed { (change : T → T) → MakesThis T.name_of change thing self.old
             → self.new ≡ changed_at T.name_of (T.name_of thing) change self.old }
     {
         let Some(place) = self.names.find(thing.name()) else {

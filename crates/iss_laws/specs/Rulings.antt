@@ -1,6 +1,6 @@
 -- What a record rules: it decides events, or asks the gateway about one. What the rules have it rule: of each event whose call it closes,
 -- and then of its own.
-use Rattle.std.specs.Prelude.{ℕ, Bool, false, ◌&&◌, ◌==◌, nat_le, List, [], ◌∷◌, ◌++◌, Option, Some, None, option_map, option_and_then, if◌then◌else◌}
+use Rattle.std.specs.Prelude.{◌≡◌, ℕ, Bool, false, ◌&&◌, ◌==◌, nat_le, List, [], ◌∷◌, ◌++◌, Option, Some, None, option_map, option_and_then, if◌then◌else◌}
 use Rattle.std.specs.List.{filter_map, cons_option}
 use Rattle.std.specs.Str.{bytes_eq}
 use Rattle.iss_model.specs.declared.call.Failure.{Failure}
@@ -24,12 +24,13 @@ use Rattle.iss_model.specs.Inputs.{event_token, outcome_number}
 use Rattle.iss_model.specs.rules.Asks.{Ask, call_ask}
 use Rattle.iss_model.specs.rules.CardReasons.{is_account_funded, authorization_reason, increment_reason, reversal_reason, clearing_reason, refund_reason}
 use Rattle.iss_model.specs.rules.Facts.{Facts, txn_in, call_in}
-use Rattle.iss_model.specs.rules.Histories.{History, history_facts, history_keeper}
+use Rattle.iss_model.specs.rules.Histories.{History, history_facts, history_keeper, history_of}
 use Rattle.iss_model.specs.rules.Pieces.{failure_reason}
 use Rattle.iss_model.specs.rules.Reasons.{user_reason, card_reason, move_reason, product_reason, group_reason, control_reason, set_reason, switch_reason, load_reason}
 use Rattle.iss_model.specs.rules.Settings.{is_named_in}
 use Rattle.iss_model.specs.rules.StandIns.{Stand, allowed, over_limit, uncovered, stand}
 use Rattle.iss_model.specs.rules.Stepping.{authorization_ask, increment_ask, after_due}
+use Rattle.iss_agreement.specs.Stepped.{book_entries}
 
 -- an event is decided, or the gateway is asked about it
 pub data Ruling : Type 0 where
@@ -179,3 +180,7 @@ abbrev pub rulings_due : History → Record → List Entry → List Ruling
 rulings_due before r entries =
     let up = history_keeper.take_up before r in
     closing_rulings r up entries ++ own_rulings r.input r.at (history_facts (after_due history_keeper up r.at).world)
+
+-- a further record on the book of these rules as the rules have it
+abbrev pub RulesAsDue : List Record → Record → Type 0
+RulesAsDue rs r = rulings_of (book_entries rs r) ≡ rulings_due (history_of rs) r (book_entries rs r)
