@@ -227,8 +227,8 @@ input_made f (input.Card token card user product active) at = unless_made (card_
 input_made f (input.Move token who) at = unless_made (move_reason f who) token _ _ refl
 input_made f (input.Product token product currency funding timeout_ms hold_ms) at = unless_made (product_reason f product) token _ _ refl
 input_made f (input.Group token group mccs) at = unless_made (group_reason f group) token _ _ refl
-input_made f (input.Control token control currency window amount_limit usage_limit association scope active) at =
-    unless_made (control_reason f control currency window association scope) token _ _ refl
+input_made f (input.Control token control currency window amount_limit usage_limit association scope offset active) at =
+    unless_made (control_reason f control currency window association scope offset) token _ _ refl
 input_made f (input.Set token set product currency connection timeout application max day_limit active) at = unless_made (set_reason f set product currency) token _ _ refl
 input_made f (input.Switch token product on) at = unless_made (switch_reason f product) token _ _ refl
 input_made f (input.Load token user currency amount) at = unless_made (load_reason f user) token (Loads token user currency amount ∷ []) (load_entries token user currency amount) refl

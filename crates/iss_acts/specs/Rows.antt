@@ -191,9 +191,9 @@ written_input (input.Product token product currency funding timeout_ms hold_ms) 
     (setting_entries (input.Product token product currency funding timeout_ms hold_ms) token)
 written_input (input.Group token group mccs) at f =
     unless_declined (group_reason f group) token (setting_entries (input.Group token group mccs) token)
-written_input (input.Control token control currency window amount_limit usage_limit association scope active) at f =
-    unless_declined (control_reason f control currency window association scope) token
-    (setting_entries (input.Control token control currency window amount_limit usage_limit association scope active) token)
+written_input (input.Control token control currency window amount_limit usage_limit association scope offset active) at f =
+    unless_declined (control_reason f control currency window association scope offset) token
+    (setting_entries (input.Control token control currency window amount_limit usage_limit association scope offset active) token)
 written_input (input.Set token set product currency connection timeout application max day_limit active) at f =
     unless_declined (set_reason f set product currency) token
     (setting_entries (input.Set token set product currency connection timeout application max day_limit active) token)

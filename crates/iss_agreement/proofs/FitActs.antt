@@ -89,8 +89,8 @@ settable f (input.Card token card user product active) event at own = new_card_n
 settable f (input.Move token who) event at own = settable_move f token who (not_declined (move_reason f who) token _ _ event own)
 settable f (input.Product token product currency funding timeout_ms hold_ms) event at own =
     (first_fails (is_some (product_named product f.products)) reason.Exists _ (not_declined (product_reason f product) token _ _ event own)).0
-settable f (input.Control token control currency window amount_limit usage_limit association scope active) event at own =
-    known_scope (control_named control f.controls) f currency window association scope (not_declined (control_reason f control currency window association scope) token _ _ event own)
+settable f (input.Control token control currency window amount_limit usage_limit association scope offset active) event at own =
+    known_scope (control_named control f.controls) f currency window association scope (not_declined (control_reason f control currency window association scope offset) token _ _ event own)
 settable f (input.Switch token product on) event at own =
     is_there (product_named product f.products) (first_fails (is_none (product_named product f.products)) reason.ProductUnknown None (not_declined (switch_reason f product) token _ _ event own)).0
 settable f _ event at own = tt

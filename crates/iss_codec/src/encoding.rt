@@ -6,7 +6,7 @@ ghost use Rattle.iss_model.specs.texts.Spelling.{spelling, field_bytes, kind_num
 
 use crate::writing::{
     put_association, put_currency, put_event, put_flag, put_limits, put_low_u32, put_mccs,
-    put_moved, put_operation, put_scope, put_token, put_u16, put_u32, put_u64,
+    put_moved, put_offset, put_operation, put_scope, put_token, put_u16, put_u32, put_u64,
 };
 use iss_model::{Input, Numbered, Record};
 use std::alloc::{AllocError, Global};
@@ -41,7 +41,8 @@ fn kind_number(input: &Input) -> u8
         Input::Move { .. } => 3,
         Input::Product { .. } => 4,
         Input::Group { .. } => 5,
-        Input::Control { .. } => 6,
+        Input::Control { offset: 0, .. } => 6,
+        Input::Control { .. } => 18,
         Input::Set { .. } => 7,
         Input::Switch { .. } => 8,
         Input::Load { .. } => 9,
@@ -106,6 +107,7 @@ fn put_fields(out: &mut Vec<u8>, input: &Input) -> Result<(), AllocError>
             usage_limit,
             association,
             scope,
+            offset,
             active,
         } => {
             put_event(out, token, control)?;
@@ -114,7 +116,8 @@ fn put_fields(out: &mut Vec<u8>, input: &Input) -> Result<(), AllocError>
             put_limits(out, *amount_limit, *usage_limit)?;
             put_association(out, association)?;
             put_scope(out, scope)?;
-            put_flag(out, *active)
+            put_flag(out, *active)?;
+            put_offset(out, *offset)
         }
         Input::Set {
             token,

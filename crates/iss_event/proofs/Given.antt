@@ -213,7 +213,7 @@ abbrev ControlOf : (Input → Type 0) → Type 0
 ControlOf P =
     (token control : List ℕ) (currency : Currency) (window : Window) (amount_limit usage_limit : Option ℕ) (association : Association) (scope : Scope) (active : Bool)
     → are_limits window amount_limit usage_limit ≡ true → is_scope scope ≡ true
-    → P (input.Control token control currency window amount_limit usage_limit association scope active)
+    → P (input.Control token control currency window amount_limit usage_limit association scope offset active)
 
 of_controlled : (P : Input → Type 0) (token control : List ℕ) (currency : Currency) (window : Window) (l : Result (Option ℕ × Option ℕ) Name) (o : Result Association Name) (s : Result Scope Name) (a : Flag)
     → IfOk l (λ limits. are_limits window limits.0 limits.1 ≡ true) → IfOk s (λ scope. is_scope scope ≡ true) → ControlOf P

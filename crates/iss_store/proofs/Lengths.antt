@@ -117,7 +117,7 @@ fields_length (input.Group token group mccs) f h =
     let p = two_names token group h in
     let two = more 37 37 (with_length token) (with_length group) (name_length token p.0) (name_length group p.1) in
     omega (arith, more 74 2002 (with_length token ++ with_length group) (mccs_bytes mccs) two (group_length mccs f))
-fields_length (input.Control token control currency window amount_limit usage_limit association scope active) f h =
+fields_length (input.Control token control currency window amount_limit usage_limit association scope offset active) f h =
     let p = and_parts (is_token token) (list_all is_token (control ∷ association_tokens association ++ scope_tokens scope)) h in
     let q = and_parts (is_token control) (list_all is_token (association_tokens association ++ scope_tokens scope)) p.1 in
     let r = and_parts (list_all is_token (association_tokens association)) (list_all is_token (scope_tokens scope)) (sym (list_all-append is_token (association_tokens association) (scope_tokens scope)) ∙ q.1) in

@@ -42,8 +42,8 @@ written_walk {P} {f} each (input.Move token who) = each.setting (input.Move toke
 written_walk {P} {f} each (input.Product token product currency funding timeout_ms hold_ms) =
     each.setting (input.Product token product currency funding timeout_ms hold_ms) token (product_reason f product) refl refl
 written_walk {P} {f} each (input.Group token group mccs) = each.setting (input.Group token group mccs) token (group_reason f group) refl refl
-written_walk {P} {f} each (input.Control token control currency window amount_limit usage_limit association scope active) =
-    each.setting (input.Control token control currency window amount_limit usage_limit association scope active) token (control_reason f control currency window association scope) refl refl
+written_walk {P} {f} each (input.Control token control currency window amount_limit usage_limit association scope offset active) =
+    each.setting (input.Control token control currency window amount_limit usage_limit association scope offset active) token (control_reason f control currency window association scope offset) refl refl
 written_walk {P} {f} each (input.Set token set product currency connection timeout application max day_limit active) =
     each.setting (input.Set token set product currency connection timeout application max day_limit active) token (set_reason f set product currency) refl refl
 written_walk {P} {f} each (input.Switch token product on) = each.setting (input.Switch token product on) token (switch_reason f product) refl refl
