@@ -1,5 +1,5 @@
 -- Acts make entries that fit: an act is made of what stands, and what it makes is new.
-use Rattle.std.proofs.Common.{◌≡◌, ℕ, ◌+◌, ◌≤◌, Bool, true, false, cond, ◌&&◌, ◌||◌, nat_le, List, [], ◌∷◌, ◌++◌, map, refl, sym, ap, subst, ◌∙◌, arith, ◌⊎◌, inl, inr}
+use Rattle.std.proofs.Common.{◌≡◌, ℕ, ℤ, ◌+◌, ◌≤◌, Bool, true, false, cond, ◌&&◌, ◌||◌, nat_le, List, [], ◌∷◌, ◌++◌, map, refl, sym, ap, subst, ◌∙◌, arith, ◌⊎◌, inl, inr}
 use Rattle.std.specs.Prelude.{Option, Some, None, is_some, is_none}
 use Rattle.std.proofs.lemmas.Bool.{and_parts}
 use Rattle.iss_model.specs.declared.currency.Currency.{Currency}
@@ -70,10 +70,10 @@ settable_move : (f : Facts) (token : List ℕ) (who : Moved) → move_reason f w
 settable_move f token (moved.Card card to) none = moved_card (card_named card f.cards) to none
 settable_move f token (moved.User user to) none = moved_user (user_named user f.users) to none
 
-known_scope : (o : Option ControlNow) (f : Facts) (currency : Currency) (window : Window) (association : Association) (s : Scope) → put_control_reason o f currency window association s ≡ None
+known_scope : (o : Option ControlNow) (f : Facts) (currency : Currency) (window : Window) (association : Association) (s : Scope) (offset : ℤ) → put_control_reason o f currency window association s offset ≡ None
     → (is_some o ≡ true) ⊎ (lacks_group f s ≡ false)
-known_scope (Some c) f currency window association s none = inl refl
-known_scope None f currency window association s none =
+known_scope (Some c) f currency window association s offset none = inl refl
+known_scope None f currency window association s offset none =
     let first = first_fails (lacks_user f association) reason.UserUnknown _ none in
     let second = first_fails (lacks_product f association) reason.ProductUnknown _ first.1 in
     inr (first_fails (lacks_group f s) reason.GroupUnknown _ second.1).0
@@ -90,7 +90,7 @@ settable f (input.Move token who) event at own = settable_move f token who (not_
 settable f (input.Product token product currency funding timeout_ms hold_ms) event at own =
     (first_fails (is_some (product_named product f.products)) reason.Exists _ (not_declined (product_reason f product) token _ _ event own)).0
 settable f (input.Control token control currency window amount_limit usage_limit association scope offset active) event at own =
-    known_scope (control_named control f.controls) f currency window association scope (not_declined (control_reason f control currency window association scope offset) token _ _ event own)
+    known_scope (control_named control f.controls) f currency window association scope offset (not_declined (control_reason f control currency window association scope offset) token _ _ event own)
 settable f (input.Switch token product on) event at own =
     is_there (product_named product f.products) (first_fails (is_none (product_named product f.products)) reason.ProductUnknown None (not_declined (switch_reason f product) token _ _ event own)).0
 settable f _ event at own = tt

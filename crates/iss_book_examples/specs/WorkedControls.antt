@@ -102,7 +102,7 @@ group_of_merchants =
           ∷ step (card_of "default") (done_reply "t2")
           ∷ step (load "t3" Usd 50000) (done_reply "t3")
           ∷ step (input.Group (codes "t5") (codes "food") (5411 ∷ 5812 ∷ [])) (done_reply "t5")
-          ∷ step (input.Control (codes "t6") (codes "v2") Usd window.Lifetime None (Some 1) association.Anybody (scope.Group (codes "food")) true) (done_reply "t6")
+          ∷ step (input.Control (codes "t6") (codes "v2") Usd window.Lifetime None (Some 1) association.Anybody (scope.Group (codes "food")) (pos 0) true) (done_reply "t6")
           ∷ step (purchase "a1" 100) (approved_reply "a1")
           ∷ step (purchase "a2" 100) (declined_reply "a2" (reason.Control (codes "v2")))
           ∷ step (purchase_at 5542 "a3" 100) (approved_reply "a3")

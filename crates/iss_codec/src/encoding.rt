@@ -5,8 +5,8 @@ ghost use Rattle.iss_model.specs.Tokens.{is_token};
 ghost use Rattle.iss_model.specs.texts.Spelling.{spelling, field_bytes, kind_number, tokens_of};
 
 use crate::writing::{
-    put_association, put_currency, put_event, put_flag, put_limits, put_low_u32, put_mccs,
-    put_moved, put_offset, put_operation, put_scope, put_token, put_u16, put_u32, put_u64,
+    put_activity, put_association, put_currency, put_event, put_flag, put_limits, put_low_u32, put_mccs,
+    put_moved, put_operation, put_scope, put_token, put_u16, put_u32, put_u64,
 };
 use iss_model::{Input, Numbered, Record};
 use std::alloc::{AllocError, Global};
@@ -116,8 +116,7 @@ fn put_fields(out: &mut Vec<u8>, input: &Input) -> Result<(), AllocError>
             put_limits(out, *amount_limit, *usage_limit)?;
             put_association(out, association)?;
             put_scope(out, scope)?;
-            put_flag(out, *active)?;
-            put_offset(out, *offset)
+            put_activity(out, *active, *offset)
         }
         Input::Set {
             token,

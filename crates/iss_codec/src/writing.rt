@@ -76,8 +76,16 @@ pub(crate) fn put_currency(out: &mut Vec<u8>, currency: Currency) -> Result<(), 
     put_u16(out, currency.number())
 }
 
+/// Whether a control is active, and the offset of its clock from UTC.
+pub(crate) fn put_activity(out: &mut Vec<u8>, active: bool, offset: i16) -> Result<(), AllocError>
+    ensures { OnOk result (out.new.items ≡ out.old.items ++ (flag_contents active ++ offset_bytes offset)) }
+{
+    put_flag(out, active)?;
+    put_offset(out, offset)
+}
+
 /// The offset of a control's clock from UTC: nothing for UTC itself.
-pub(crate) fn put_offset(out: &mut Vec<u8>, offset: i16) -> Result<(), AllocError>
+fn put_offset(out: &mut Vec<u8>, offset: i16) -> Result<(), AllocError>
     ensures { OnOk result (out.new.items ≡ out.old.items ++ offset_bytes offset) }
 {
     if offset == 0 {

@@ -130,9 +130,11 @@ fields_length (input.Control token control currency window amount_limit usage_li
     let six = more 91 38 (names ++ currency_bytes currency ++ (window_number window ∷ []) ++ limits) (association_contents association) five (association_length association r.0) in
     let seven =
     more 129 38 (names ++ currency_bytes currency ++ (window_number window ∷ []) ++ limits ++ association_contents association) (scope_bytes scope) six (scope_length scope r.1) in
+    let eight =
+    more 167 1 (names ++ currency_bytes currency ++ (window_number window ∷ []) ++ limits ++ association_contents association ++ scope_bytes scope) (flag_contents active) seven (flag_length active) in
     omega (
       arith,
-      more 167 1 (names ++ currency_bytes currency ++ (window_number window ∷ []) ++ limits ++ association_contents association ++ scope_bytes scope) (flag_contents active) seven (flag_length active),
+      more 168 2 (names ++ currency_bytes currency ++ (window_number window ∷ []) ++ limits ++ association_contents association ++ scope_bytes scope ++ flag_contents active) (offset_bytes offset) eight (offset_length offset),
     )
 fields_length (input.Set token set product currency connection timeout application max day_limit active) f h =
     let p = three_names token set product h in
