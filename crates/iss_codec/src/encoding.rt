@@ -5,8 +5,8 @@ ghost use Rattle.iss_model.specs.Tokens.{is_token};
 ghost use Rattle.iss_model.specs.texts.Spelling.{spelling, field_bytes, kind_number, tokens_of};
 
 use crate::writing::{
-    put_activity, put_association, put_currency, put_event, put_flag, put_limits, put_low_u32, put_mccs,
-    put_moved, put_operation, put_scope, put_token, put_u16, put_u32, put_u64,
+    put_activity, put_association, put_coverage, put_currency, put_event, put_flag, put_low_u32,
+    put_mccs, put_moved, put_operation, put_scope, put_terms, put_token, put_u16, put_u32, put_u64,
 };
 use iss_model::{Input, Numbered, Record};
 use std::alloc::{AllocError, Global};
@@ -111,9 +111,7 @@ fn put_fields(out: &mut Vec<u8>, input: &Input) -> Result<(), AllocError>
             active,
         } => {
             put_event(out, token, control)?;
-            put_currency(out, *currency)?;
-            out.push(window.number())?;
-            put_limits(out, *amount_limit, *usage_limit)?;
+            put_terms(out, *currency, *window, *amount_limit, *usage_limit)?;
             put_association(out, association)?;
             put_scope(out, scope)?;
             put_activity(out, *active, *offset)
@@ -133,9 +131,7 @@ fn put_fields(out: &mut Vec<u8>, input: &Input) -> Result<(), AllocError>
             put_event(out, token, set)?;
             put_token(out, product)?;
             put_currency(out, *currency)?;
-            put_flag(out, *connection)?;
-            put_flag(out, *timeout)?;
-            put_flag(out, *application)?;
+            put_coverage(out, *connection, *timeout, *application)?;
             put_u64(out, *max)?;
             put_u64(out, *day_limit)?;
             put_flag(out, *active)

@@ -1,11 +1,11 @@
 -- The month of a civil date.
-use Rattle.std.proofs.Common.{◌≡◌, ℕ, zero, suc, ◌+◌, ◌-◌, ◌<◌, ◌≤◌, nat_le, length, filter, refl, ap, ◌∙◌, arith, ℤ, pos, negsuc, ◌+ℤ◌, ◌*ℤ◌, ◌≤ℤ◌, unsigned_abs, FitsSigned, w16}
+use Rattle.std.proofs.Common.{◌≡◌, ℕ, zero, suc, ◌+◌, ◌-◌, ◌<◌, ◌≤◌, nat_le, length, filter, refl, ap, ◌∙◌, arith, ℤ, pos, negsuc, ◌+ℤ◌, ◌*ℤ◌, ◌≤ℤ◌, FitsSigned, w16}
 use Rattle.std.proofs.lemmas.Bool.Decides.{nat_tests}
 use Rattle.jiff_core.specs.Calendar.{days_of_months, days_in_month, days_from_civil, day_count, days_of_years, IsCivilDate}
 use Rattle.jiff_core.proofs.CalendarLemmas.{days_of_months_table, days_of_months_more, days_from_civil-day_count, day_count-epoch, day_count-next_year, day_count-lt_year, day_of_year_bound}
 use Rattle.jiff_core.proofs.MarchLemmas.{leap_day, days_in_year-leap_day}
 use Rattle.jiff_core.proofs.SignedLemmas.{signed_arith}
-use Rattle.iss_model.specs.Calendar.{days_before_year, year_of_day, month_starts, month_in_year, month_number, month_of, day_at}
+use Rattle.iss_model.specs.Calendar.{at_least_0, days_before_year, year_of_day, month_starts, month_in_year, month_number, month_of, day_at}
 use Rattle.iss_time.specs.declared.windows.TheConstants.{FIRST_DAY}
 use Rattle.iss_time.specs.CivilMonths.{HasMonthOfDate}
 use Rattle.iss_time.proofs.Years.{next_year, days_before, year_of}
@@ -109,9 +109,9 @@ day_count-1969 : day_count (pos 1969) 1 1 ≡ 4371588
 day_count-1969 = omega (arith, day_count-epoch, day_count-next_year (pos 1969) (pos 1970) (omega (arith, signed_arith)) refl)
 
 -- the place of a day shortly before 1970, from the year 0 on
-place_before : (n : ℕ) → n ≤ 29 → unsigned_abs (negsuc n +ℤ pos 719528) ≡ 719527 - n
+place_before : (n : ℕ) → n ≤ 29 → at_least_0 (negsuc n +ℤ pos 719528) ≡ 719527 - n
 place_before n le =
-    let there : negsuc n +ℤ pos 719528 ≡ pos (719527 - n) = omega (arith, signed_arith) in ap unsigned_abs there
+    let there : negsuc n +ℤ pos 719528 ≡ pos (719527 - n) = omega (arith, signed_arith) in ap at_least_0 there
 
 -- a date from the end of 1969 on has the number of its month
 pub month_of_date : (year day : ℤ) (m d : ℕ) → IsCivilDate year m d → days_from_civil year m d ≡ day → FIRST_DAY ≤ℤ day → month_of day ≡ pos 12 *ℤ year +ℤ pos m
@@ -127,7 +127,7 @@ month_of_date (pos y) (negsuc n) m d date e low =
     let few : n ≤ 29 = omega (arith, signed_arith) in
     let count : 4371953 ≡ suc n + day_count (pos y) m d = omega (arith, signed_arith, rw e at (days_from_civil-day_count (pos y) m d)) in
     let first : 1 ≤ d = date.2.0 in
-    month_of_place (unsigned_abs (negsuc n +ℤ pos 719528)) y m d date (omega (arith, place_before n few, counted y m d, days_before y))
+    month_of_place (at_least_0 (negsuc n +ℤ pos 719528)) y m d date (omega (arith, place_before n few, counted y m d, days_before y))
 
 -- the day of a stamp at an offset of two bytes
 day_late : (at : ℕ) (offset : ℤ) → FitsSigned w16 offset → FIRST_DAY ≤ℤ day_at at offset
