@@ -141,6 +141,11 @@ abbrev pub amount_control : Window → ℕ → Input
 amount_control window limit =
     input.Control (codes "t4") (codes "v1") Usd window (Some limit) None association.Anybody scope.All (pos 0) true
 
+-- the same control by a clock that is so many minutes ahead of UTC
+abbrev pub local_control : Window → ℤ → Input
+local_control window offset =
+    input.Control (codes "t4") (codes "v1") Usd window (Some 10000) None association.Anybody scope.All offset true
+
 -- the set s1 of product g: up to 100.00 a purchase and a day where the gateway can't be reached
 abbrev pub connection_set : Input
 connection_set = input.Set (codes "t5") (codes "s1") (codes "g") Usd true false false 10000 10000 true

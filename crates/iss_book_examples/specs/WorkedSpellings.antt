@@ -1,5 +1,5 @@
 -- Records and their bytes, in base 16.
-use Rattle.std.specs.Prelude.{◌≡◌, ℕ, true, List, [], ◌∷◌, codes, Some, None}
+use Rattle.std.specs.Prelude.{◌≡◌, ℕ, pos, true, List, [], ◌∷◌, codes, Some, None}
 use Prim.Native.String.{String}
 use Rattle.iss_model.specs.declared.currency.Currency.TheVariants.{Usd, Eur}
 use Rattle.iss_model.specs.declared.setting.Window.TheVariants as window

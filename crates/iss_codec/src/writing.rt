@@ -2,10 +2,10 @@
 ghost use Rattle.std.specs.Prelude.{◌≡◌, ◌++◌, ◌∷◌, [], IsTrue, OnOk};
 ghost use Rattle.std.specs.List.{flat_map, list_all};
 ghost use Rattle.iss_model.specs.Tokens.{is_token};
-ghost use Rattle.iss_model.specs.Inputs.{with_length, flag_contents, window_number, moved_contents, association_contents};
+ghost use Rattle.iss_model.specs.Inputs.{with_length, flag_contents, moved_contents, association_contents};
 ghost use Rattle.iss_model.specs.texts.Spelling.{number_bytes, currency_bytes, mcc_bytes, limit_bytes, limits_bytes, offset_bytes, scope_bytes, mccs_bytes, operation_bytes, moved_token, association_tokens, scope_tokens};
 
-use iss_model::{Association, Currency, Mccs, Moved, Numbered, Scope, Token, Window};
+use iss_model::{Association, Currency, Mccs, Moved, Numbered, Scope, Token};
 use std::alloc::AllocError;
 
 #[tactic(auto, unfolding(iss_model::specs::texts::Spelling::number_bytes))]
@@ -76,45 +76,8 @@ pub(crate) fn put_currency(out: &mut Vec<u8>, currency: Currency) -> Result<(), 
     put_u16(out, currency.number())
 }
 
-/// The currency and window of a control, and its limits.
-pub(crate) fn put_terms(
-    out: &mut Vec<u8>,
-    currency: Currency,
-    window: Window,
-    amount_limit: Option<u64>,
-    usage_limit: Option<u32>,
-) -> Result<(), AllocError>
-    ensures { OnOk result (out.new.items ≡ out.old.items ++ (currency_bytes currency ++ (window_number window ∷ []) ++ limits_bytes amount_limit usage_limit)) }
-{
-    put_currency(out, currency)?;
-    out.push(window.number())?;
-    put_limits(out, amount_limit, usage_limit)
-}
-
-/// Which failures a Commando Mode set covers.
-pub(crate) fn put_coverage(
-    out: &mut Vec<u8>,
-    connection: bool,
-    timeout: bool,
-    application: bool,
-) -> Result<(), AllocError>
-    ensures { OnOk result (out.new.items ≡ out.old.items ++ (flag_contents connection ++ flag_contents timeout ++ flag_contents application)) }
-{
-    put_flag(out, connection)?;
-    put_flag(out, timeout)?;
-    put_flag(out, application)
-}
-
-/// Whether a control is active, and the offset of its clock from UTC.
-pub(crate) fn put_activity(out: &mut Vec<u8>, active: bool, offset: i16) -> Result<(), AllocError>
-    ensures { OnOk result (out.new.items ≡ out.old.items ++ (flag_contents active ++ offset_bytes offset)) }
-{
-    put_flag(out, active)?;
-    put_offset(out, offset)
-}
-
 /// The offset of a control's clock from UTC: nothing for UTC itself.
-fn put_offset(out: &mut Vec<u8>, offset: i16) -> Result<(), AllocError>
+pub(crate) fn put_offset(out: &mut Vec<u8>, offset: i16) -> Result<(), AllocError>
     ensures { OnOk result (out.new.items ≡ out.old.items ++ offset_bytes offset) }
 {
     if offset == 0 {

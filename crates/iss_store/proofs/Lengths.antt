@@ -1,6 +1,7 @@
 -- A record's spelling has 1 to 8192 bytes.
-use Rattle.std.proofs.Common.{◌≡◌, ℕ, ◌+◌, ◌*◌, ◌≤◌, Bool, true, false, ◌&&◌, List, [], ◌∷◌, ◌++◌, length, refl, sym, subst, ◌∙◌, arith, length-append}
+use Rattle.std.proofs.Common.{◌≡◌, ℕ, ℤ, ◌+◌, ◌*◌, ◌≤◌, Bool, true, false, cond, ◌&&◌, List, [], ◌∷◌, ◌++◌, length, refl, sym, subst, ◌∙◌, arith, length-append}
 use Rattle.std.specs.Prelude.{Option, Some, None, nat_le}
+use Rattle.std.specs.Int.{w16, cast_unsigned}
 use Rattle.std.specs.List.{list_all, flat_map}
 use Rattle.std.proofs.lemmas.Bool.{and_parts}
 use Rattle.std.proofs.lemmas.Bool.Decides.{nat_tests}
@@ -20,7 +21,7 @@ use Rattle.iss_model.specs.Currencies.{iso_number}
 use Rattle.iss_model.specs.Tokens.{is_token, is_token_byte}
 use Rattle.iss_model.specs.Forms.{are_mccs, are_rising, is_in_form, is_stamp}
 use Rattle.iss_model.specs.Inputs.{with_length, flag_contents, moved_contents, association_contents, card_state_number, user_state_number, funding_number, window_number, outcome_number}
-use Rattle.iss_model.specs.texts.Spelling.{number_bytes, currency_bytes, amount_bytes, mcc_bytes, mccs_bytes, limits_bytes, scope_bytes, operation_bytes, field_bytes, spelling, tokens_of, moved_token, association_tokens, scope_tokens, is_record}
+use Rattle.iss_model.specs.texts.Spelling.{number_bytes, currency_bytes, amount_bytes, mcc_bytes, mccs_bytes, limits_bytes, is_utc, offset_bytes, scope_bytes, operation_bytes, field_bytes, spelling, tokens_of, moved_token, association_tokens, scope_tokens, is_record}
 use Rattle.iss_codec.proofs.NumberBytes.{wide_2, wide_4, wide_8}
 use Rattle.iss_journal.specs.Region.{IsBody}
 
@@ -49,6 +50,13 @@ group_length codes h =
 flag_length : (b : Bool) → length (flag_contents b) ≤ 1
 flag_length true = omega arith
 flag_length false = omega arith
+
+offset_length : (offset : ℤ) → length (offset_bytes offset) ≤ 2
+offset_length offset = by (is_utc offset)
+  where
+    by : (b : Bool) → length (cond b [] (number_bytes 2 (cast_unsigned w16 offset))) ≤ 2
+    by true = omega arith
+    by false = omega (arith, wide_2.size (cast_unsigned w16 offset))
 
 limit_length : (amount usage : Option ℕ) → length (limits_bytes amount usage) ≤ 14
 limit_length None None = omega arith

@@ -86,27 +86,31 @@ two_tests false false false h = (let wrong : false ≡ true = h refl in cc)
 by_less : (m n : ℕ) → nat_cmp m n ≡ cond (nat_lt m n) Less (cond (nat_lt n m) Greater Equal)
 by_less m n = two_tests (nat_lt m n) (m == n) (nat_lt n m) (λ h. grind (arith, nat_tests))
 
+not_both : (m n : ℕ) → nat_lt m n ≡ true → nat_lt n m ≡ false
+not_both m n h = grind (arith, nat_tests)
+
+first_tells : (less more : Bool) → (less ≡ true → more ≡ false)
+    → ordering_then (cond more Less (cond less Greater Equal)) (cond less Less (cond more Greater Equal)) ≡ cond more Less (cond less Greater Equal)
+first_tells true true h = (let wrong : true ≡ false = h refl in cc)
+first_tells true false h = refl
+first_tells false true h = refl
+first_tells false false h = refl
+
+-- what is behind is equal where the zeros are as many
+settled : (m n : ℕ) → ordering_then (nat_cmp n m) (ordering_then (nat_cmp m n) Equal) ≡ nat_cmp n m
+settled m n =
+    ap (λ (r : Ordering). ordering_then (nat_cmp n m) r) (ended (nat_cmp m n) ∙ by_less m n)
+    ∙ ap (λ (r : Ordering). ordering_then r (cond (nat_lt m n) Less (cond (nat_lt n m) Greater Equal))) (by_less n m)
+    ∙ first_tells (nat_lt m n) (nat_lt n m) (not_both m n) ∙ sym (by_less n m)
+
 pub int_keys : (m n : ℤ) → slice_cmp nat_cmp (int_key m) (int_key n) ≡ int_cmp m n
 int_keys (pos m) (pos n) = ended (nat_cmp m n) ∙ by_less m n
 int_keys (pos m) (negsuc n) = refl
 int_keys (negsuc m) (pos n) = refl
 int_keys (negsuc m) (negsuc n) =
     zeros (suc m) (suc n) (0 ∷ m ∷ []) (0 ∷ n ∷ []) ∙ ap (λ (r : Ordering). ordering_then r (slice_cmp nat_cmp (0 ∷ m ∷ []) (0 ∷ n ∷ []))) (next_down n m)
-    ∙ settled ∙ by_less n m
+    ∙ settled m n ∙ by_less n m
   where
-    -- the places behind are equal where the zeros are as many
-    settled : ordering_then (nat_cmp n m) (ordering_then (nat_cmp m n) Equal) ≡ nat_cmp n m
-    settled = ap (λ (r : Ordering). ordering_then (nat_cmp n m) r) (ended (nat_cmp m n) ∙ by_less m n) ∙ ap (λ (r : Ordering). ordering_then r (cond (nat_lt m n) Less (cond (nat_lt n m) Greater Equal))) (by_less n m) ∙ either (nat_lt m n) (nat_lt n m) (both_not m n) ∙ sym (by_less n m)
-
-    both_not : (m n : ℕ) → nat_lt m n ≡ true → nat_lt n m ≡ false
-    both_not m n h = grind (arith, nat_tests)
-
-    either : (less more : Bool) → (less ≡ true → more ≡ false) → ordering_then (cond more Less (cond less Greater Equal)) (cond less Less (cond more Greater Equal)) ≡ cond more Less (cond less Greater Equal)
-    either true true h = (let wrong : true ≡ false = h refl in cc)
-    either true false h = refl
-    either false true h = refl
-    either false false h = refl
-
     next_down : (n m : ℕ) → nat_cmp (suc n) (suc m) ≡ nat_cmp n m
     next_down n m =
         ap₂ (λ (l e : Bool). cond l Less (cond e Equal Greater)) (grind (arith, nat_tests)) (grind (arith, nat_tests))
