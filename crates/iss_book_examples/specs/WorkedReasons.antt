@@ -132,6 +132,7 @@ one_control =
         usage_limit = None;
         association = association.Anybody;
         scope = scope.All;
+        offset = pos 0;
         active = true;
       };
       amounts = λ key. pos 0;
