@@ -1,6 +1,5 @@
 pub mod Finds
 pub mod FoundByName
-pub mod Regrouping
 pub mod Reach
 pub mod Parts
 pub mod TransactionsHeld
@@ -10,4 +9,4 @@ pub mod PieceEffects
 pub mod Abandonment
 pub mod Paid
 pub mod Asks
-pub mod Clearing
+pub mod Taking

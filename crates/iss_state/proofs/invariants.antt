@@ -3,8 +3,6 @@ pub mod Kept
 pub mod Sound
 pub mod Settled
 pub mod NewEvents
-pub mod Walk
-pub mod Passing
 pub mod FormStates
 pub mod FormEntries
 pub mod OwnEntries

@@ -1,9 +1,7 @@
 -- What lists of entries do to a state, and how it is paid.
-use Rattle.std.specs.Prelude.{Bool, List, false, fold, true, ℕ, ◌*◌, ◌+◌, ◌≡◌, ◌≤◌}
+use Rattle.std.specs.Prelude.{List, fold, ℕ, ◌*◌, ◌+◌, ◌≡◌, ◌≤◌}
 use Rattle.iss_model.specs.declared.account.Part.TheVariants as part
 use Rattle.iss_model.specs.declared.entry.Entry.{Entry}
-use Rattle.iss_model.specs.declared.input.Input.{Input}
-use Rattle.iss_model.specs.declared.input.Input.TheVariants as input
 use Rattle.iss_model.specs.declared.txn.Txn.{Txn}
 use Rattle.iss_model.specs.rules.Pieces.{Parts}
 use Rattle.iss_model.specs.state.Cores.{CoreState, after_entry}
@@ -33,27 +31,6 @@ pub record Paid (more_money more_use : ℕ) (s : CoreState) (es : List Entry) : 
 -- Entries are paid by what a closed call of an amount took from what was at stake: four times the amount in money, and twice in use.
 abbrev pub PaidByAsk : ℕ → CoreState → List Entry → Type 0
 PaidByAsk amount s es = Paid (4 * at_least_one amount) (2 * at_least_one amount) s es
-
--- How much money an input costs beyond what was at stake: a load its amount, a clearing and a refund twice theirs, and an ask four times.
-abbrev pub input_money : Input → ℕ
-input_money (input.Load token user currency amount) = amount
-input_money (input.Authorization token card currency amount mcc mid) = 4 * at_least_one amount
-input_money (input.Increment token txn currency amount) = 4 * at_least_one amount
-input_money (input.Clearing token txn currency amount last) = 2 * amount
-input_money (input.Refund token txn currency amount) = 2 * amount
-input_money _ = 0
-
--- how much use it costs: an ask four times its amount, and a clearing its amount once
-abbrev pub input_use : Input → ℕ
-input_use (input.Authorization token card currency amount mcc mid) = 4 * at_least_one amount
-input_use (input.Increment token txn currency amount) = 4 * at_least_one amount
-input_use (input.Clearing token txn currency amount last) = amount
-input_use _ = 0
-
--- an input begins no transaction
-abbrev pub begins_none : Input → Bool
-begins_none (input.Authorization token card currency amount mcc mid) = false
-begins_none _ = true
 
 -- a transaction holds at least these parts
 pub record HoldsParts (s : CoreState) (t : Txn) (parts : Parts) : Type 0 where

@@ -40,7 +40,7 @@ use Rattle.iss_state.proofs.docket.Closing.{calls_lone, its_number, other_stays,
 use Rattle.iss_state.proofs.docket.Docketed.{acts_docketed, closings, docketed_by, turned_down}
 use Rattle.iss_state.proofs.docket.Entering.{apart_too, call_more}
 use Rattle.iss_state.proofs.docket.Lists.{any_filtered, inside, lone_any, not_both}
-use Rattle.iss_state.proofs.calls.Due.{expiry_docketed, its_token, of_asked, of_expired}
+use Rattle.iss_state.proofs.calls.Due.{expiry_docketed, its_token, if_asked, if_expired}
 use Rattle.iss_state.proofs.calls.Staying.{comes_to, entries_docket}
 use Rattle.iss_state.proofs.calls.Steps.{thing_well}
 
@@ -177,11 +177,11 @@ expired_fate known s n c t well asked =
 acts_fate : (known : Known) (s : CoreState) (at n : ℕ) (c : CallNow) (thing : DueThing) → IsWellAmong known (docket_of s) → IsAsked s.calls n c
     → FateBy s n c (hits n c.opened.txn thing) (thing_acts thing at (core_facts s))
 acts_fate known s at n c (call_due number) well asked =
-    of_asked (FateBy s n c (nat_eq number n)) s (λ o t. failed_acts (core_facts s) o t failure.Timeout at) number
+    if_asked (FateBy s n c (nat_eq number n)) s (λ o t. failed_acts (core_facts s) o t failure.Timeout at) number
     (λ none. left_alone s n c (nat_eq number n) asked.stands (λ hit. none c (subst (λ (m : ℕ). IsAsked s.calls m c) (sym (number_is number n hit)) asked) (well.live n c asked)))
     (λ d t other stands. call_closes s at number n c d t.txn asked.stands other.stands)
 acts_fate known s at n c (txn_due token) well asked =
-    of_expired (FateBy s n c (bytes_eq token c.opened.txn)) s token
+    if_expired (FateBy s n c (bytes_eq token c.opened.txn)) s token
     (λ dead. left_alone s n c (bytes_eq token c.opened.txn) asked.stands
     (λ hit. not_both (has_live s.holdings.txns token) (ap (has_live s.holdings.txns) (one_name token c.opened.txn hit) ∙ well.live n c asked) dead))
     (λ t stands live.

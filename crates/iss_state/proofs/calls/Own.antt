@@ -1,4 +1,4 @@
--- A record's own entries may be entered where its event is new, and account for it.
+-- A record's own entries may be entered if its event is new, and account for it.
 use Rattle.std.proofs.Common.{◌≡◌, ℕ, ◌+◌, min, Bool, true, false, not, cond, ◌&&◌, ◌||◌, nat_eq, List, [], ◌∷◌, ◌++◌, length, refl, sym, ap, subst, ◌∙◌}
 use Rattle.std.specs.Prelude.{Option, Some, None, is_some, is_none, option_map, option_and_then}
 use Rattle.std.specs.List.{list_any}
@@ -43,7 +43,7 @@ use Rattle.iss_state.proofs.docket.Enters.{Enters, enters_append, enters_began, 
 use Rattle.iss_state.proofs.docket.Lists.{both_so, found_filtered, never, not_both}
 use Rattle.iss_state.specs.Pending.{known_of}
 use Rattle.iss_state.specs.Holdings.{MayHold}
-use Rattle.iss_state.proofs.calls.Due.{acts_enter, found_live, its_token, of_asked, outcome_enters}
+use Rattle.iss_state.proofs.calls.Due.{acts_enter, found_live, its_token, if_asked, outcome_enters}
 use Rattle.iss_state.proofs.held.Begun.{begun_live, not_live}
 
 -- an ask seeks funding ----
@@ -286,7 +286,7 @@ kinds_enter s at well =
       clearing = λ token txn currency amount last now stands none new. clearing_enters s token txn amount last at now stands well (new token refl);
       refund = λ token txn currency amount now stands none new. refund_enters s token amount now (new token refl);
       answer = λ call what new.
-          of_asked (λ acts. Enters (known_of s) (docket_of s) None (docketed_by acts)) s (λ o t. outcome_acts what (core_facts s) o t at) call.0 (λ none. enters_none (known_of s) (docket_of s))
+          if_asked (λ acts. Enters (known_of s) (docket_of s) None (docketed_by acts)) s (λ o t. outcome_acts what (core_facts s) o t at) call.0 (λ none. enters_none (known_of s) (docket_of s))
           (λ c t asked stands. outcome_enters (known_of s) (docket_of s) call.0 c t.txn well asked (its_token s.holdings.txns c.opened.txn t stands) what (core_facts s) at);
       acknowledgement = λ notice new. ack_enters s notice (is_notice (core_facts s) notice);
       time = λ new. enters_none (known_of s) (docket_of s);

@@ -1,9 +1,8 @@
 -- What acts cost, by what is known at each stage of their row, and so what is due and each input.
-use Rattle.std.specs.Prelude.{None, Option, Some, option_map}
-use Rattle.std.proofs.Common.{Bool, List, [], ap, arith, cond, false, find, fold, length, map, min, nat_abs, nat_eq, pos, refl, subst, sym, true, ℕ, ◌*◌, ◌++◌, ◌+◌, ◌-◌, ◌∙◌, ◌∷◌, ◌≡◌, ◌≤◌}
+use Rattle.std.specs.Prelude.{None, Some, option_map}
+use Rattle.std.proofs.Common.{List, [], ap, arith, false, find, fold, length, nat_eq, pos, refl, subst, sym, true, ℕ, ◌*◌, ◌++◌, ◌+◌, ◌-◌, ◌∙◌, ◌∷◌, ◌≡◌, ◌≤◌}
 use Rattle.std.specs.Str.{bytes_eq}
 use Rattle.std.proofs.lemmas.Bool.{and_parts}
-use Rattle.std.proofs.lemmas.Bool.Decides.{nat_tests}
 use Rattle.std.proofs.lemmas.List.{length-map}
 use Rattle.iss_model.specs.declared.account.Account.TheVariants as account
 use Rattle.iss_model.specs.declared.account.Part.TheVariants as part
@@ -22,11 +21,11 @@ use Rattle.iss_model.specs.declared.setting.Product.{Product}
 use Rattle.iss_model.specs.declared.setting.Set.{Set}
 use Rattle.iss_model.specs.declared.txn.Txn.{Txn}
 use Rattle.iss_model.specs.rules.Activity.{CallNow, TxnNow, call_numbered, txn_named}
-use Rattle.iss_model.specs.rules.Acts.{Abandons, Act, Asks, Begins, Clears, Declines, Ends, Fails, Funds, GivesBack, HoldsOwn, LetsGo, Loads, Refuses, Sets, StandsIn, TurnsDown, Uses, act_entries}
+use Rattle.iss_model.specs.rules.Acts.{Abandons, Act, Asks, Begins, Clears, Ends, Fails, Funds, GivesBack, HoldsOwn, LetsGo, Loads, Refuses, Sets, StandsIn, TurnsDown, Uses, act_entries}
 use Rattle.iss_model.specs.rules.Asks.{Ask, ask_count, call_ask}
 use Rattle.iss_model.specs.rules.Due.{DueThing, thing_entries}
 use Rattle.iss_model.specs.rules.Facts.{Facts, asked_calls_of}
-use Rattle.iss_model.specs.rules.Pieces.{Parts, call_for, hold_entries, left_of, only_gateway, parts_held, post_entries, taken_to_clear, user_account, void_entry}
+use Rattle.iss_model.specs.rules.Pieces.{Parts, call_for, hold_entries, in_all, left_of, parts_held, post_entries, taken_to_clear, user_account, void_entry}
 use Rattle.iss_model.specs.rules.Stepping.{entries_of}
 use Rattle.iss_model.specs.state.Cores.{CoreState, after_entry, call_after_close, core_facts}
 use Rattle.iss_model.proofs.Names.{one_name}
@@ -35,21 +34,22 @@ use Rattle.iss_acts.specs.Items.{may_begin}
 use Rattle.iss_acts.specs.Sources.{IsAskedCall, IsFirstAsk, IsFurtherAsk, IsMade, IsStart, IsTxnOf, setting_reason}
 use Rattle.iss_acts.specs.Stages.{Frees, Fresh, Keeps, Leaves, Over, Seeks, Stage, stage_after}
 use Rattle.iss_acts.proofs.Walk.{FromStart, Goes, due_goes, from_start, of_asked, own_goes, txn_of_ask, txn_of_call}
-use Rattle.iss_state.specs.Effects.{Effect, HoldsParts, Paid, PaidByAsk, begins_none, input_money, input_use}
+use Rattle.iss_state.specs.Costs.{IsPayable, Spends, begins_none, cause_money, cause_use, input_money, input_use, money_left, use_left}
+use Rattle.iss_state.specs.Effects.{Effect, HoldsParts, Paid}
 use Rattle.iss_state.specs.Needs.{Stands, begun_txns}
 use Rattle.iss_state.specs.Stakes.{IsOrderlyState, at_least_one}
 use Rattle.iss_state.proofs.effects.Abandonment.{abandonment_effect, abandonment_holdings, least_one, one_more}
-use Rattle.iss_state.proofs.effects.Asks.{at_most_one, declined_ask_paid, funded_ask_paid, holds_then, set_stand_in_paid}
-use Rattle.iss_state.proofs.effects.Clearing.{TakenFromHold, clearing_money_taken}
+use Rattle.iss_state.proofs.effects.Asks.{at_most_one, declined_ask_paid, funded_ask_paid, set_stand_in_paid}
 use Rattle.iss_state.proofs.effects.Effects.{and_then, calm_effect, close_effect, end_effect, no_effect, open_effect, stands_then, still_effect}
 use Rattle.iss_state.proofs.effects.Finds.{find-map, found_passes, number_is}
 use Rattle.iss_state.proofs.effects.Paid.{costs, paid_more}
-use Rattle.iss_state.proofs.effects.PieceEffects.{hold_effect, only_gateway_effect, post_effect, release_effect, usage_effect}
+use Rattle.iss_state.proofs.effects.PieceEffects.{hold_effect, only_gateway_effect, post_effect, usage_effect}
+use Rattle.iss_state.proofs.effects.Taking.{Takes, clearing_takes, holds_then, release_effect}
 
 -- what is found ----
 
 -- a transaction that is found by a token stands
-pub found_stands : (s : CoreState) (token : List ℕ) (now : TxnNow) → txn_named token s.holdings.txns ≡ Some now → Stands s now.txn
+found_stands : (s : CoreState) (token : List ℕ) (now : TxnNow) → txn_named token s.holdings.txns ≡ Some now → Stands s now.txn
 found_stands s token now e =
     ap (λ (k : List ℕ). find (λ (x : Txn). bytes_eq x.token k) (begun_txns s)) (one_name now.txn.token token (found_passes (λ (t : TxnNow). bytes_eq t.txn.token token) s.holdings.txns now e))
     ∙ find-map (λ (x : Txn). bytes_eq x.token token) (λ (t : TxnNow). bytes_eq t.txn.token token) (λ (t : TxnNow). t.txn) (λ t. refl) s.holdings.txns
@@ -67,48 +67,7 @@ found_itself number calls c e =
 parts_are_held : (s : CoreState) (t : Txn) → HoldsParts s t (parts_held (core_facts s) t)
 parts_are_held s t = record { of_gateway = omega arith; of_programme = omega arith; of_user = omega arith }
 
--- what is left to pay at each stage ----
-
--- What a cause brings, beyond what is at stake: money
-abbrev pub cause_money : Cause → ℕ
-cause_money FallsDue = 0
-cause_money (ComesOf i) = input_money i
-
--- and use
-abbrev pub cause_use : Cause → ℕ
-cause_use FallsDue = 0
-cause_use (ComesOf i) = input_use i
-
--- The money that acts may cost from a stage on: at first what the cause brings, and then what an ask was paid with.
-abbrev pub money_left : Cause → Stage → ℕ
-money_left by Fresh = cause_money by
-money_left by (Seeks ask) = 4 * at_least_one ask.amount
-money_left by _ = 0
-
--- and the use
-abbrev pub use_left : Cause → Stage → ℕ
-use_left by Fresh = cause_use by
-use_left by (Seeks ask) = 2 * at_least_one ask.amount
-use_left by _ = 0
-
--- What is known at each stage: that states are orderly, which transaction stands, and what it holds.
-abbrev pub IsKnown : CoreState → Stage → CoreState → Type 0
-IsKnown s Fresh q = q ≡ s
-IsKnown s (Seeks ask) q = IsOrderlyState q × Stands q ask.txn × (length q.calls ≡ length s.calls)
-IsKnown s (Keeps t parts) q = IsOrderlyState q × Stands q t × HoldsParts q t parts × (q.calls ≡ s.calls)
-IsKnown s (Frees t parts) q = IsOrderlyState q × Stands q t × HoldsParts q t parts
-IsKnown s (Leaves t parts) q = IsOrderlyState q × Stands q t
-IsKnown s Over q = IsOrderlyState q
-
--- An act costs no more than what its stage leaves to the next one.
-pub record Spends (by : Cause) (g : Stage) (q : CoreState) (a : Act) : Type 0 where
-  pub moved : ℕ
-  pub used : ℕ
-  pub up : ℕ
-  pub down : ℕ
-  pub effect : Effect q (act_entries a) moved used up down
-  pub money : moved + 2 * up + money_left by (stage_after g a) ≤ 2 * down + money_left by g
-  pub usage : used + up + use_left by (stage_after g a) ≤ down + use_left by g
+-- each act ----
 
 spends : {by : Cause} {g : Stage} {q : CoreState} {a : Act} {m u i d : ℕ} → Effect q (act_entries a) m u i d
     → m + 2 * i + money_left by (stage_after g a) ≤ 2 * d + money_left by g → u + i + use_left by (stage_after g a) ≤ d + use_left by g → Spends by g q a
@@ -131,17 +90,17 @@ refunds_it _ token n h = cc
 
 module _ (by : Cause) (at : ℕ) (s : CoreState) (h : IsOrderlyState s) where
   -- what is known at the stage that this is
-  known_at : (q : CoreState) {g k : Stage} → g ≡ k → IsKnown s g q → IsKnown s k q
-  known_at q e known = subst (λ (g : Stage). IsKnown s g q) e known
+  known_at : (q : CoreState) {g k : Stage} → g ≡ k → IsPayable s g q → IsPayable s k q
+  known_at q e known = subst (λ (g : Stage). IsPayable s g q) e known
 
   -- what an act spends at a stage and state, it spends at those that they are
   spends_at : {g k : Stage} (q : CoreState) (a : Act) → g ≡ k → Spends by k q a → Spends by g q a
   spends_at q a e it = subst (λ (g : Stage). Spends by g q a) (sym e) it
 
-  at_first : {g : Stage} (q : CoreState) (a : Act) → g ≡ Fresh → IsKnown s g q → Spends by Fresh s a → Spends by g q a
+  at_first : {g : Stage} (q : CoreState) (a : Act) → g ≡ Fresh → IsPayable s g q → Spends by Fresh s a → Spends by g q a
   at_first q a e known it = spends_at q a e (subst (λ (q : CoreState). Spends by Fresh q a) (sym (known_at q e known)) it)
 
-  pub orderly : (g : Stage) (q : CoreState) → IsKnown s g q → IsOrderlyState q
+  pub orderly : (g : Stage) (q : CoreState) → IsPayable s g q → IsOrderlyState q
   orderly Fresh q known = subst IsOrderlyState (sym known) h
   orderly (Seeks ask) q known = known.0
   orderly (Keeps t parts) q known = known.0
@@ -150,7 +109,7 @@ module _ (by : Cause) (at : ℕ) (s : CoreState) (h : IsOrderlyState s) where
   orderly Over q known = known
 
   -- acts that move nothing
-  still : (g : Stage) (q : CoreState) (a : Act) → IsKnown s g q → Effect q (act_entries a) 0 0 0 0 → money_left by (stage_after g a) ≡ 0 → use_left by (stage_after g a) ≡ 0 → Spends by g q a
+  still : (g : Stage) (q : CoreState) (a : Act) → IsPayable s g q → Effect q (act_entries a) 0 0 0 0 → money_left by (stage_after g a) ≡ 0 → use_left by (stage_after g a) ≡ 0 → Spends by g q a
   still g q a known e none no_use = spends e (omega (arith, none)) (omega (arith, no_use))
 
   -- calls that are closed ----
@@ -205,41 +164,42 @@ module _ (by : Cause) (at : ℕ) (s : CoreState) (h : IsOrderlyState s) where
 
   -- asks that are settled ----
 
-  holds_own_spends : (q : CoreState) (ask : Ask) → IsKnown s (Seeks ask) q → Spends by (Seeks ask) q (HoldsOwn ask)
+  holds_own_spends : (q : CoreState) (ask : Ask) → IsPayable s (Seeks ask) q → Spends by (Seeks ask) q (HoldsOwn ask)
   holds_own_spends q ask known =
       let e1 = hold_effect q ask.txn part.S ask.amount known.0 known.1 in
       let e2 = still_effect (fold after_entry q (hold_entries ask.txn part.S ask.amount)) (entry.Decided ask.event verdict.Approved ∷ []) e1.orderly refl in
       spends (and_then e1 e2) (omega (arith, least_one ask.amount)) (omega (arith, least_one ask.amount))
 
-  asks_spend : (q : CoreState) (f : Facts) (product : Product) (ask : Ask) → f ≡ core_facts s → IsKnown s (Seeks ask) q → Spends by (Seeks ask) q (Asks f product ask)
+  asks_spend : (q : CoreState) (f : Facts) (product : Product) (ask : Ask) → f ≡ core_facts s → IsPayable s (Seeks ask) q → Spends by (Seeks ask) q (Asks f product ask)
   asks_spend q f product ask same known =
       spends (open_effect q (call_for f product ask) known.0 (ap (λ (f : Facts). length f.calls + 1) same ∙ ap (λ (n : ℕ). n + 1) (sym known.2))) (omega arith) (omega arith)
 
-  turns_down_spends : (q : CoreState) (ask : Ask) (why : Reason) → IsKnown s (Seeks ask) q → Spends by (Seeks ask) q (TurnsDown ask why)
+  turns_down_spends : (q : CoreState) (ask : Ask) (why : Reason) → IsPayable s (Seeks ask) q → Spends by (Seeks ask) q (TurnsDown ask why)
   turns_down_spends q ask why known =
       let p = declined_ask_paid q ask why known.0 known.1 in
       spends p.effect (omega (arith, p.money)) (omega (arith, p.usage))
 
-  stands_in_spends : (q : CoreState) (number : ℕ) (ask : Ask) (when : ℕ) (set : Set) → IsKnown s (Seeks ask) q → Spends by (Seeks ask) q (StandsIn number ask when set)
+  stands_in_spends : (q : CoreState) (number : ℕ) (ask : Ask) (when : ℕ) (set : Set) → IsPayable s (Seeks ask) q → Spends by (Seeks ask) q (StandsIn number ask when set)
   stands_in_spends q number ask when set known =
       let p = set_stand_in_paid q number ask when set known.0 known.1 in
       spends p.effect (omega (arith, p.money, least_one ask.amount)) (omega (arith, p.usage, least_one ask.amount))
 
   -- what is held is let go ----
 
-  abandons_effect : (q : CoreState) (number : ℕ) (t : Txn) (why : Reason) (calls : List CallNow) (parts : Parts) → calls ≡ asked_calls_of (core_facts s) t.token → IsKnown s (Keeps t parts) q
+  abandons_effect : (q : CoreState) (number : ℕ) (t : Txn) (why : Reason) (calls : List CallNow) (parts : Parts) → calls ≡ asked_calls_of (core_facts s) t.token → IsPayable s (Keeps t parts) q
       → Spends by (Keeps t parts) q (Abandons number t why calls parts)
   abandons_effect q number t why calls parts same known =
       subst (λ (calls : List CallNow). Spends by (Keeps t parts) q (Abandons number t why calls parts)) (sym same)
       (spends (abandonment_effect q number (core_facts s) t why known.0 known.1 known.3) (omega arith) (omega arith))
 
   taken : (t : Txn) (parts : Parts) (amount when : ℕ) → IsTxnOf (core_facts s) t → parts ≡ parts_held (core_facts s) t
-      → TakenFromHold (2 * amount) amount s t (left_of parts (taken_to_clear parts amount)) (act_entries (Clears t parts amount when))
-  taken t parts amount when its same = clearing_money_taken s t parts amount when h (txn_stands s t its) (subst (HoldsParts s t) (sym same) (parts_are_held s t))
+      → Takes s t (act_entries (Clears t parts amount when)) (left_of parts (taken_to_clear parts amount))
+      (in_all (taken_to_clear parts amount) + (amount - in_all (taken_to_clear parts amount)) + amount) (amount - in_all (taken_to_clear parts amount)) (in_all (taken_to_clear parts amount))
+  taken t parts amount when its same = clearing_takes s t parts amount when h (txn_stands s t its) (subst (HoldsParts s t) (sym same) (parts_are_held s t))
 
   -- each act that begins no transaction ----
 
-  pub act_spends : (g : Stage) (q : CoreState) (a : Act) → IsMade (core_facts s) by at g a → may_begin a ≡ false → IsKnown s g q → Spends by g q a
+  pub act_spends : (g : Stage) (q : CoreState) (a : Act) → IsMade (core_facts s) by at g a → may_begin a ≡ false → IsPayable s g q → Spends by g q a
   act_spends g q (Begins ask) made none known = cc
   act_spends g q (Sets i event) made none known = at_first q _ made.from.2 known (sets_spend i event made.from.1)
   act_spends g q (Loads event user currency amount) made none known =
@@ -260,15 +220,15 @@ module _ (by : Cause) (at : ℕ) (s : CoreState) (h : IsOrderlyState s) where
       let k = known_at q made.from.0.here known in
       spends_at q _ made.from.0.here (spends (end_effect q t k.0 k.1) (omega arith) (omega arith))
   act_spends g q (Clears t parts amount when) made none known =
-      let p = (taken t parts amount when made.from.1 made.from.2).its in
+      let took = taken t parts amount when made.from.1 made.from.2 in
       let brought = clears_it by t.token amount made.cause in
-      at_first q _ made.from.0 known (spends p.effect (omega (arith, p.money, brought.0)) (omega (arith, p.usage, brought.1)))
+      at_first q _ made.from.0 known (spends took.effect (omega (arith, brought.0)) (omega (arith, brought.1)))
   act_spends g q (GivesBack t amount programme) made none known =
       at_first q _ made.from.2 known (gives_back_spends t amount programme made.from.0 (omega (arith, made.from.1)) (refunds_it by t.token amount made.cause))
   act_spends g q a made none known = spends (still_effect q (act_entries a) (orderly g q known) refl) (omega arith) (omega arith)
 
-  pub known_next : (g : Stage) (q : CoreState) (a : Act) → IsMade (core_facts s) by at g a → may_begin a ≡ false → IsKnown s g q
-      → IsKnown s (stage_after g a) (fold after_entry q (act_entries a))
+  pub known_next : (g : Stage) (q : CoreState) (a : Act) → IsMade (core_facts s) by at g a → may_begin a ≡ false → IsPayable s g q
+      → IsPayable s (stage_after g a) (fold after_entry q (act_entries a))
   known_next g q (Begins ask) made none known = cc
   known_next g q (Uses ask) made none known =
       let e = (act_spends g q (Uses ask) made none known).effect in
@@ -276,13 +236,15 @@ module _ (by : Cause) (at : ℕ) (s : CoreState) (h : IsOrderlyState s) where
       (e.orderly, stands_then ask.txn e (subst (λ (q : CoreState). Stands q ask.txn) (sym same) (txn_stands s ask.txn (txn_of_ask made.from.1))), ap (λ (q : CoreState). length q.calls) same)
   known_next g q (Fails number o t why) made none known =
       let e = (act_spends g q (Fails number o t why) made none known).effect in
-      let same : q ≡ s = known_at q made.from.0 known in
-      (e.orderly, stands_then t e (subst (λ (q : CoreState). Stands q t) (sym same) (txn_stands s t (txn_of_call made.from.1))),
-      length-map q.calls (call_after_close o.call.0 (how.Failed why)) ∙ ap (λ (q : CoreState). length q.calls) same)
+      let same : q ≡ s = known_at q made.from.0 known in (
+        e.orderly,
+        stands_then t e (subst (λ (q : CoreState). Stands q t) (sym same) (txn_stands s t (txn_of_call made.from.1))),
+        length-map q.calls (call_after_close o.call.0 (how.Failed why)) ∙ ap (λ (q : CoreState). length q.calls) same,
+      )
   known_next g q (Clears t parts amount when) made none known =
       let took = taken t parts amount when made.from.1 made.from.2 in
-      subst (λ (q : CoreState). IsKnown s (Keeps t (left_of parts (taken_to_clear parts amount))) (fold after_entry q (act_entries (Clears t parts amount when)))) (sym (known_at q made.from.0 known))
-      (took.its.effect.orderly, stands_then t took.its.effect (txn_stands s t made.from.1), took.holds, took.calls)
+      subst (λ (q : CoreState). IsPayable s (Keeps t (left_of parts (taken_to_clear parts amount))) (fold after_entry q (act_entries (Clears t parts amount when)))) (sym (known_at q made.from.0 known))
+      (took.effect.orderly, stands_then t took.effect (txn_stands s t made.from.1), took.holds, took.calls)
   known_next g q (Abandons number t why calls parts) made none known =
       let k = known_at q made.from.0 known in
       let e = (act_spends g q (Abandons number t why calls parts) made none known).effect in
@@ -297,7 +259,7 @@ module _ (by : Cause) (at : ℕ) (s : CoreState) (h : IsOrderlyState s) where
   begins_nothing g (Begins ask) made none = absurd (none ask made.from.1)
   begins_nothing g _ made none = refl
 
-  all_paid : ((ask : Ask) → IsFirstAsk (core_facts s) by at ask → ⊥) → Goes (fold after_entry) (core_facts s) by at (IsKnown s) (λ g q es. Paid (money_left by g) (use_left by g) q es)
+  all_paid : ((ask : Ask) → IsFirstAsk (core_facts s) by at ask → ⊥) → Goes (fold after_entry) (core_facts s) by at (IsPayable s) (λ g q es. Paid (money_left by g) (use_left by g) q es)
   all_paid none =
       record {
         none = λ g q known. costs (money_left by g) (use_left by g) (no_effect q (orderly g q known)) (omega arith) (omega arith);
@@ -306,8 +268,8 @@ module _ (by : Cause) (at : ℕ) (s : CoreState) (h : IsOrderlyState s) where
       }
 
   -- a row starts with what is known of the state
-  pub start_known : (g : Stage) → IsStart (core_facts s) g → IsKnown s g s
-  start_known = from_start (λ g. IsKnown s g s) refl (λ t its. (h, txn_stands s t its, parts_are_held s t, refl))
+  pub start_known : (g : Stage) → IsStart (core_facts s) g → IsPayable s g s
+  start_known = from_start (λ g. IsPayable s g s) refl (λ t its. (h, txn_stands s t its, parts_are_held s t, refl))
 
   -- what a whole row costs, whichever stage it starts at
   row_paid : {es : List Entry} → FromStart (core_facts s) (λ g q es. Paid (money_left by g) (use_left by g) q es) s es → Paid (cause_money by) (cause_use by) s es

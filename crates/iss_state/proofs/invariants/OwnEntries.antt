@@ -1,27 +1,22 @@
 -- A record's own entries are paid by what a record brings, so they can be entered.
-use Rattle.std.specs.Prelude.{None, Option, Some, option_and_then, option_map}
+use Rattle.std.specs.Prelude.{None, Some}
 use Rattle.std.proofs.Common.{Bool, List, [], ap, arith, cond, find, fold, map, nat_le, nat_lt, pos, refl, subst, suc, sym, true, false, zero, ℕ, ◌*◌, ◌++◌, ◌+◌, ◌∙◌, ◌∷◌, ◌≡◌, ◌≤◌}
 use Rattle.std.specs.List.{list_all}
 use Rattle.std.specs.Str.{bytes_eq}
 use Rattle.std.proofs.lemmas.Bool.{and_parts}
 use Rattle.std.proofs.lemmas.Bool.Decides.{nat_tests}
-use Rattle.iss_model.specs.declared.currency.Currency.{Currency}
 use Rattle.iss_model.specs.declared.entry.Entry.{Entry}
 use Rattle.iss_model.specs.declared.entry.Entry.TheVariants as entry
 use Rattle.iss_model.specs.declared.input.Input.{Input}
 use Rattle.iss_model.specs.declared.input.Input.TheVariants as input
 use Rattle.iss_model.specs.declared.limits.TheConstants.{GREATEST_AMOUNT, LEAST_AMOUNT}
-use Rattle.iss_model.specs.declared.setting.Card.{Card}
-use Rattle.iss_model.specs.declared.setting.Product.{Product}
 use Rattle.iss_model.specs.declared.txn.Txn.{Txn}
 use Rattle.iss_model.specs.Forms.{is_amount, is_in_form, is_mcc}
 use Rattle.iss_model.specs.Inputs.{event_token}
 use Rattle.iss_model.specs.rules.Activity.{TxnNow}
 use Rattle.iss_model.specs.rules.Acts.{Act, Begins, act_entries}
-use Rattle.iss_model.specs.rules.Asks.{Ask, ask_count, ask_usage, txn_begun}
-use Rattle.iss_model.specs.rules.CardReasons.{first_ask}
-use Rattle.iss_model.specs.rules.Facts.{Facts}
-use Rattle.iss_model.specs.rules.Settings.{card_named, is_named_in, product_named}
+use Rattle.iss_model.specs.rules.Asks.{Ask, ask_count, ask_usage}
+use Rattle.iss_model.specs.rules.Settings.{is_named_in}
 use Rattle.iss_model.specs.rules.Stepping.{entries_of}
 use Rattle.iss_model.specs.state.Cores.{CoreState, after_entry, core_facts, is_live}
 use Rattle.iss_model.proofs.Lists.{neither}
@@ -29,18 +24,20 @@ use Rattle.iss_model.proofs.Names.{its_name}
 use Rattle.iss_acts.specs.Causes.{ComesOf}
 use Rattle.iss_acts.specs.Sources.{IsFirstAsk, IsMade, IsStart}
 use Rattle.iss_acts.specs.Stages.{Fresh, Keeps, Seeks, Stage, stage_after}
+use Rattle.iss_acts.proofs.Begun.{is_begun}
 use Rattle.iss_acts.proofs.Walk.{FromStart, Goes, own_goes}
-use Rattle.iss_state.specs.Effects.{Paid, PaidByAsk, input_money, input_use}
+use Rattle.iss_state.specs.Costs.{IsPayable, input_money, input_use, money_left, use_left}
+use Rattle.iss_state.specs.Effects.{Paid, PaidByAsk}
 use Rattle.iss_state.specs.Needs.{Stands, begun_txns}
 use Rattle.iss_state.specs.Sound.{IsReady, IsSoundAt, is_accepted, reach_of, record_reach}
-use Rattle.iss_state.specs.Stakes.{IsOrderlyState, at_least_one, txn_tokens}
+use Rattle.iss_state.specs.Stakes.{at_least_one, txn_tokens}
 use Rattle.iss_state.proofs.effects.Abandonment.{one_more}
 use Rattle.iss_state.proofs.effects.Asks.{at_most_one}
 use Rattle.iss_state.proofs.effects.Effects.{and_then, no_effect, stands_then}
 use Rattle.iss_state.proofs.effects.Paid.{costs}
 use Rattle.iss_state.proofs.effects.PieceEffects.{usage_effect}
 use Rattle.iss_state.proofs.effects.Reach.{sums_within_more}
-use Rattle.iss_state.proofs.invariants.Costs.{IsKnown, act_spends, known_next, money_left, orderly, spends_then, start_known, use_left}
+use Rattle.iss_state.proofs.invariants.Costs.{act_spends, known_next, orderly, spends_then, start_known}
 use Rattle.iss_state.proofs.invariants.Sound.{Enters, paid_enters, sound_after_begin}
 
 -- what an input in form brings ----
@@ -86,24 +83,6 @@ begun_stands (t ∷ ts) row none =
 up_to_itself : (n : ℕ) → nat_le n n ≡ true
 up_to_itself n = grind (arith, nat_tests)
 
--- an ask of the record's token and amount, for a transaction of its number
-record IsOfRecord (s : CoreState) (token : List ℕ) (amount : ℕ) (ask : Ask) : Type 0 where
-  named : ask.txn.token ≡ token
-  numbered : ask.txn.origin ≡ s.count
-  asked : ask.amount ≡ amount
-
-of_record : (s : CoreState) (token : List ℕ) (currency : Currency) (amount mcc : ℕ) (mid : List ℕ) (at : ℕ) (c : Option Card) (product_of : Card → Option Product) (ask : Ask)
-    → option_map (first_ask token amount at) (option_and_then (λ (c : Card). option_map (λ (product : Product). txn_begun (core_facts s) c product token currency mcc mid at) (product_of c)) c) ≡ Some ask
-    → IsOfRecord s token amount ask
-of_record s token currency amount mcc mid at None product_of ask e = absurd (let bad : None ≡ Some ask = e in cc)
-of_record s token currency amount mcc mid at (Some c) product_of ask e = by (product_of c) e
-  where
-    by : (p : Option Product) → option_map (first_ask token amount at) (option_map (λ (product : Product). txn_begun (core_facts s) c product token currency mcc mid at) p) ≡ Some ask → IsOfRecord s token amount ask
-    by None e = absurd (let bad : None ≡ Some ask = e in cc)
-    by (Some product) e =
-        let same : first_ask token amount at (txn_begun (core_facts s) c product token currency mcc mid at) ≡ ask = cc in
-        record { named = ap (λ (ask : Ask). ask.txn.token) (sym same); numbered = ap (λ (ask : Ask). ask.txn.origin) (sym same); asked = ap (λ (ask : Ask). ask.amount) (sym same) }
-
 module _ (n : ℕ) (s : CoreState) (i : Input) (at : ℕ) (form : is_in_form i ≡ true) (ready : IsReady n s i) where
   -- a transaction begins on a sound state, which stays sound, and it stands there
   record IsBegun (ask : Ask) : Type 0 where
@@ -115,18 +94,20 @@ module _ (n : ℕ) (s : CoreState) (i : Input) (at : ℕ) (form : is_in_form i �
 
   begun : (ask : Ask) → IsFirstAsk (core_facts s) (ComesOf i) at ask → IsBegun ask
   begun ask first =
-      let its = of_record s first.token first.currency first.amount first.mcc first.mid at (card_named first.card s.cardholders.cards) (λ (c : Card). product_named c.product (core_facts s).products) ask first.made in
+      let its = is_begun first in
+      let named : ask.txn.token ≡ first.token = ap (λ (ask : Ask). ask.txn.token) its.same in
+      let numbered : ask.txn.origin ≡ s.count = ap (λ (ask : Ask). ask.txn.origin) its.same in
       let own : i ≡ input.Authorization first.token first.card first.currency first.amount first.mcc first.mid = inside first.its_input in
       let event : event_token i ≡ Some first.token = ap event_token own in
-      let new = ap (is_named_in (txn_tokens s.holdings.txns)) its.named ∙ ready.unnamed first.token event in
+      let new = ap (is_named_in (txn_tokens s.holdings.txns)) named ∙ ready.unnamed first.token event in
       record {
         new = new;
-        its_number = its.numbered;
+        its_number = numbered;
         sound =
-            sound_after_begin n s ask.txn (ap (λ (c : ℕ). nat_le c s.count) its.numbered ∙ up_to_itself s.count) new
-            (ap (is_accepted s.accepted) its.named ∙ ready.accepted first.token event) ready.sound;
+            sound_after_begin n s ask.txn (ap (λ (c : ℕ). nat_le c s.count) numbered ∙ up_to_itself s.count) new
+            (ap (is_accepted s.accepted) named ∙ ready.accepted first.token event) ready.sound;
         stands = begun_stands s.holdings.txns (record { txn = ask.txn; live = is_live s.holdings.txns ask.txn.token }) new;
-        least = subst (λ (m : ℕ). 4 * at_least_one m ≤ record_reach) (sym its.asked) (subst (λ (m : ℕ). m ≤ record_reach) (ap input_money own) (brought i form).money);
+        least = subst (λ (m : ℕ). 4 * at_least_one m ≤ record_reach) (sym (ap (λ (ask : Ask). ask.amount) its.same)) (subst (λ (m : ℕ). m ≤ record_reach) (ap input_money own) (brought i form).money);
       }
     where
       inside : {j : Input} → ComesOf i ≡ ComesOf j → i ≡ j
@@ -146,7 +127,7 @@ module _ (n : ℕ) (s : CoreState) (i : Input) (at : ℕ) (form : is_in_form i �
         sound = rest.sound;
       }
 
-  begun_known : (ask : Ask) → IsBegun ask → IsKnown s (Seeks ask) (fold after_entry s (act_entries (Begins ask)))
+  begun_known : (ask : Ask) → IsBegun ask → IsPayable s (Seeks ask) (fold after_entry s (act_entries (Begins ask)))
   begun_known ask its =
       let e1 = usage_effect (after_entry s (entry.Began ask.txn)) ask.txn (pos ask.amount) (ask_count ask) ask.at its.sound.orderly its.stands in
       (e1.orderly, stands_then ask.txn e1 its.stands, refl)
@@ -158,27 +139,27 @@ module _ (n : ℕ) (s : CoreState) (i : Input) (at : ℕ) (form : is_in_form i �
   Comes Fresh q es = Enters (n + 1) q es
   Comes g q es = Paid (money_left (ComesOf i) g) (use_left (ComesOf i) g) q es
 
-  paid_comes : (g : Stage) (q : CoreState) (es : List Entry) → IsKnown s g q → Paid (money_left (ComesOf i) g) (use_left (ComesOf i) g) q es → Comes g q es
+  paid_comes : (g : Stage) (q : CoreState) (es : List Entry) → IsPayable s g q → Paid (money_left (ComesOf i) g) (use_left (ComesOf i) g) q es → Comes g q es
   paid_comes Fresh q es known p = paid_enters n (n + 1) (omega (arith, (brought i form).money)) (omega (arith, (brought i form).usage)) p (subst (IsSoundAt n) (sym known) ready.sound)
   paid_comes (Keeps t parts) q es known p = p
   paid_comes _ q es known p = p
 
-  next : (g : Stage) (q : CoreState) (a : Act) → IsMade (core_facts s) (ComesOf i) at g a → IsKnown s g q → IsKnown s (stage_after g a) (fold after_entry q (act_entries a))
+  next : (g : Stage) (q : CoreState) (a : Act) → IsMade (core_facts s) (ComesOf i) at g a → IsPayable s g q → IsPayable s (stage_after g a) (fold after_entry q (act_entries a))
   next g q (Begins ask) made known =
-      let same : q ≡ s = subst (λ (g : Stage). IsKnown s g q) made.from.0 known in
-      subst (λ (q : CoreState). IsKnown s (Seeks ask) (fold after_entry q (act_entries (Begins ask)))) (sym same) (begun_known ask (begun ask made.from.1))
+      let same : q ≡ s = subst (λ (g : Stage). IsPayable s g q) made.from.0 known in
+      subst (λ (q : CoreState). IsPayable s (Seeks ask) (fold after_entry q (act_entries (Begins ask)))) (sym same) (begun_known ask (begun ask made.from.1))
   next g q a made known = known_next (ComesOf i) at s ready.sound.orderly g q a made refl known
 
-  then_comes : (g : Stage) (q : CoreState) (a : Act) (es : List Entry) → IsMade (core_facts s) (ComesOf i) at g a → IsKnown s g q → Comes (stage_after g a) (fold after_entry q (act_entries a)) es
+  then_comes : (g : Stage) (q : CoreState) (a : Act) (es : List Entry) → IsMade (core_facts s) (ComesOf i) at g a → IsPayable s g q → Comes (stage_after g a) (fold after_entry q (act_entries a)) es
       → Comes g q (act_entries a ++ es)
   then_comes g q (Begins ask) es made known rest =
-      let same : q ≡ s = subst (λ (g : Stage). IsKnown s g q) made.from.0 known in
+      let same : q ≡ s = subst (λ (g : Stage). IsPayable s g q) made.from.0 known in
       subst (λ (g : Stage). Comes g q (act_entries (Begins ask) ++ es)) (sym made.from.0)
       (subst (λ (q : CoreState). Enters (n + 1) q (act_entries (Begins ask) ++ es)) (sym same)
       (begun_enters ask es (begun ask made.from.1) (subst (λ (q : CoreState). PaidByAsk ask.amount (fold after_entry q (act_entries (Begins ask))) es) same rest)))
   then_comes g q a es made known rest = paid_comes g q (act_entries a ++ es) known (spends_then a (act_spends (ComesOf i) at s ready.sound.orderly g q a made refl known) rest)
 
-  all_come : Goes (fold after_entry) (core_facts s) (ComesOf i) at (IsKnown s) Comes
+  all_come : Goes (fold after_entry) (core_facts s) (ComesOf i) at (IsPayable s) Comes
   all_come =
       record {
         none = λ g q known. paid_comes g q [] known (costs (money_left (ComesOf i) g) (use_left (ComesOf i) g) (no_effect q (orderly (ComesOf i) at s ready.sound.orderly g q known)) (omega arith) (omega arith));

@@ -1,5 +1,5 @@
 use Rattle.iss_state.proofs.effects.Abandonment.{abandonment_effect}
-use Rattle.iss_state.proofs.effects.PieceEffects.{release_effect}
+use Rattle.iss_state.proofs.effects.Taking.{release_effect}
 use Rattle.iss_state.proofs.pieces.pieces_are_paid.Goals as goal
 
 pub returns-clause-release : goal.returns-clause-release
