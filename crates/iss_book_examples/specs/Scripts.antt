@@ -141,7 +141,7 @@ abbrev pub amount_control : Window → ℕ → Input
 amount_control window limit =
     input.Control (codes "t4") (codes "v1") Usd window (Some limit) None association.Anybody scope.All (pos 0) true
 
--- the same control by a clock that is so many minutes ahead of UTC
+-- the same control by a clock at an offset from UTC in minutes
 abbrev pub local_control : Window → ℤ → Input
 local_control window offset =
     input.Control (codes "t4") (codes "v1") Usd window (Some 10000) None association.Anybody scope.All offset true

@@ -35,7 +35,7 @@ fn offset_of_text(text: &[u8]) -> Option<i16>
     }
 }
 
-/// The minutes of so many hours and minutes.
+/// Hours, and minutes below 60, as minutes.
 fn clock_minutes(hours: Option<u16>, minutes: Option<u16>) -> Option<u16>
     requires hours { IfSome hours (λ n. n ≤ 99) }
     ensures value { result ≡ clock_minutes hours minutes }
