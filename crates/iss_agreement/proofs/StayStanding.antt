@@ -178,8 +178,8 @@ not_lacked f _ h = refl
 -- the scopes are known after each row that goes on naming what stands
 pub scopes-more : (h : History) (n : ℕ) (e : Entry) → AreScopesKnown h.rows
     → ((i : Input) → e ≡ entry.Conf i → IsSettable (history_facts h) i) → AreScopesKnown (h.rows ++ row_of n e)
-scopes-more h n (entry.Conf (input.Control token control currency window amount_limit usage_limit association scope active)) known settable =
-    let i : Input = input.Control token control currency window amount_limit usage_limit association scope active in
+scopes-more h n (entry.Conf (input.Control token control currency window amount_limit usage_limit association scope offset active)) known settable =
+    let i : Input = input.Control token control currency window amount_limit usage_limit association scope offset active in
     let rows : List Row = h.rows in
     ap₂ (λ (groups : List Group) (puts : List ControlPut). list_all (knows groups) (map (control_now puts) (firsts put_name puts)))
     (made-none (λ (row : Row). group_made row.entry) rows (row_of n (entry.Conf i)) refl) (filter_map-append (λ (row : Row). control_put row.number row.entry) rows (row_of n (entry.Conf i)))

@@ -139,7 +139,12 @@ load token currency amount = input.Load (codes token) (codes "u1") currency amou
 -- a control v1 of at most 100.00 US dollars or another amount in each window, at all merchants
 abbrev pub amount_control : Window → ℕ → Input
 amount_control window limit =
-    input.Control (codes "t4") (codes "v1") Usd window (Some limit) None association.Anybody scope.All true
+    input.Control (codes "t4") (codes "v1") Usd window (Some limit) None association.Anybody scope.All (pos 0) true
+
+-- the same control by a clock at an offset from UTC in minutes
+abbrev pub local_control : Window → ℤ → Input
+local_control window offset =
+    input.Control (codes "t4") (codes "v1") Usd window (Some 10000) None association.Anybody scope.All offset true
 
 -- the set s1 of product g: up to 100.00 a purchase and a day if the gateway can't be reached
 abbrev pub connection_set : Input
@@ -216,7 +221,7 @@ user_move token to = input.Move (codes token) (moved.User (codes "u1") to)
 -- a control in US dollars of each day, with this amount limit, association and scope
 abbrev pub control_of : String → String → ℕ → Association → Scope → Input
 control_of token control limit association scope =
-    input.Control (codes token) (codes control) Usd window.Day (Some limit) None association scope true
+    input.Control (codes token) (codes control) Usd window.Day (Some limit) None association scope (pos 0) true
 
 -- the event is done
 abbrev pub done_reply : String → List Said

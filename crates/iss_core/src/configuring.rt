@@ -179,7 +179,7 @@ impl State {
 
     fn put_control(&mut self, control: &Control) -> Result<(), AllocError>
         requires { control_reason (facts_of self.old) control.now.name control.now.currency control.now.window
-            control.now.association control.now.scope ≡ None }
+            control.now.association control.now.scope control.now.offset ≡ None }
         ensures { OnOk result (self.new ≡ record self.old {
           controls = with_control self.old.controls (record { number = self.old.count; control = control.now });
         }) }

@@ -1,5 +1,5 @@
 -- The fields of each type of line, in order: the first bad one is the fault.
-use Rattle.std.specs.Prelude.{ℕ, Bool, true, false, ◌&&◌, codes, List, Option, Some, None, is_some, is_none, Result, Ok, Err}
+use Rattle.std.specs.Prelude.{ℕ, ℤ, pos, Bool, true, false, ◌&&◌, codes, List, Option, Some, None, is_some, is_none, Result, Ok, Err}
 use Rattle.serde_json.specs.Data.{Data}
 use Rattle.serde_json.specs.Find.{as_bool}
 use Rattle.iss_model.specs.declared.limits.TheConstants.{SHORTEST_TIMEOUT, LONGEST_TIMEOUT, SHORTEST_HOLD, LONGEST_HOLD, GREATEST_USAGE, FIRST_NUMBER, GREATEST_NUMBER}
@@ -17,7 +17,7 @@ use Rattle.iss_model.specs.declared.setting.Scope.TheVariants as scope
 use Rattle.iss_field.specs.declared.name.Name.{Name}
 use Rattle.iss_field.specs.declared.name.Name.TheVariants as name
 use Rattle.iss_field.specs.Fields.{◌>>=◌, field, form_if, required_field, required_field_unless, optional_field, optional_field_or}
-use Rattle.iss_field.specs.Values.{token_of, currency_of, amount_of, limit_of, whole_within, mcc_of, mccs_of, funding_of, window_of, outcome_of, card_state_of, user_state_of}
+use Rattle.iss_field.specs.Values.{token_of, currency_of, amount_of, limit_of, whole_within, mcc_of, mccs_of, funding_of, window_of, offset_of, outcome_of, card_state_of, user_state_of}
 use Rattle.iss_event.specs.declared.kind.Kind.{Kind}
 use Rattle.iss_event.specs.declared.kind.Kind.TheVariants as kind
 use Rattle.iss_event.specs.declared.payments.Operation.{Operation}
@@ -131,7 +131,7 @@ scope_said d = do
   mid ← optional_field (form_if (is_none mcc && is_none group) token_of) name.Mid d
   Ok (scope_named mcc group mid)
 
--- a control is made, or changes its limits; it is active if the line doesn't tell otherwise
+-- a control is made, or changes its limits; it is in UTC, and active, if the line doesn't tell otherwise
 unfoldable pub control_input : Data → Result Input Name
 control_input d = do
   token ← required_field token_of name.Token d
@@ -141,8 +141,9 @@ control_input d = do
   limits ← limits_said currency window d
   association ← association_said d
   scope ← scope_said d
+  offset ← optional_field_or offset_of (pos 0) name.UtcOffset d
   active ← optional_field_or as_bool true name.Active d
-  Ok (input.Control token control currency window limits.0 limits.1 association scope active)
+  Ok (input.Control token control currency window limits.0 limits.1 association scope offset active)
 
 -- a Commando Mode set is made, or changed; it covers nothing, and is active, if the line doesn't tell otherwise
 unfoldable pub set_input : Data → Result Input Name

@@ -8,7 +8,7 @@ ghost use Rattle.iss_event.specs.Inputs.{user_input, card_input, card_move, user
 
 use iss_field::{
     CardStateForm, CurrencyForm, FlagForm, FormIf, FundingForm, LimitForm, MccForm, Name,
-    NumberForm, Object, TokenForm, UserStateForm, WholeForm, WindowForm,
+    NumberForm, Object, OffsetForm, TokenForm, UserStateForm, WholeForm, WindowForm,
 };
 use iss_model::limits::{
     GREATEST_USAGE, LONGEST_HOLD, LONGEST_TIMEOUT, SHORTEST_HOLD, SHORTEST_TIMEOUT,
@@ -142,6 +142,7 @@ pub(crate) fn control_input(line: &Object<'_>) -> Result<Input, Name>
     let (amount_limit, usage_limit) = limits_said(currency, window, line)?;
     let association = association_said(line)?;
     let scope = scope_said(line)?;
+    let offset = line.optional_or(Name::UtcOffset, OffsetForm, 0)?;
     let active = line.optional_or(Name::Active, FlagForm, true)?;
     Ok(Input::Control {
         token,
@@ -152,6 +153,7 @@ pub(crate) fn control_input(line: &Object<'_>) -> Result<Input, Name>
         usage_limit,
         association,
         scope,
+        offset,
         active,
     })
 }

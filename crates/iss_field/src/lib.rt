@@ -14,6 +14,7 @@ mod found;
 mod name;
 mod numbers;
 mod object;
+mod offsets;
 mod words;
 
 pub use amounts::{AmountForm, LimitForm};
@@ -24,6 +25,7 @@ pub use json::{Scratch, Value};
 pub use name::Name;
 pub use numbers::{FlagForm, NumberForm, WholeForm};
 pub use object::Object;
+pub use offsets::OffsetForm;
 pub use words::{
     CardStateForm, CurrencyForm, FundingForm, OutcomeForm, TokenForm, UserStateForm, WindowForm,
 };

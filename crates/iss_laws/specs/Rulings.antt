@@ -81,8 +81,8 @@ event_reason (input.Card token card user product active) at f = card_reason f ca
 event_reason (input.Move token who) at f = move_reason f who
 event_reason (input.Product token product currency funding timeout_ms hold_ms) at f = product_reason f product
 event_reason (input.Group token group mccs) at f = group_reason f group
-event_reason (input.Control token control currency window amount_limit usage_limit association scope active) at f =
-    control_reason f control currency window association scope
+event_reason (input.Control token control currency window amount_limit usage_limit association scope offset active) at f =
+    control_reason f control currency window association scope offset
 event_reason (input.Set token set product currency connection timeout application max day_limit active) at f =
     set_reason f set product currency
 event_reason (input.Switch token product on) at f = switch_reason f product

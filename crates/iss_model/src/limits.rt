@@ -18,6 +18,12 @@ pub const GREATEST_USAGE: u32 = 1_000_000;
 /// The greatest merchant category code of ISO 18245: codes have four decimal digits.
 pub const GREATEST_MCC: u16 = 9999;
 
+/// The least offset of a control's clock from UTC: 12 hours behind, in minutes.
+pub const LEAST_OFFSET: i16 = -720;
+
+/// The greatest offset of a control's clock from UTC: 14 hours ahead, in minutes.
+pub const GREATEST_OFFSET: i16 = 840;
+
 /// The most merchant category codes of a group.
 pub const MOST_MCCS: usize = 1000;
 

@@ -101,6 +101,8 @@ pub struct Control {
     pub usage_limit: Option<u32>,
     pub association: Association,
     pub scope: Scope,
+    /// How far the clock of its windows is ahead of UTC, in minutes.
+    pub offset: i16,
     pub active: bool,
 }
 

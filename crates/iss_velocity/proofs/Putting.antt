@@ -214,11 +214,11 @@ table_mapped users past ss after g beyond e user place n f =
 -- why a control that stands isn't put, by the control that is kept
 pub reason_so : (users : Users) (past : Past) (ss : List Standing) (put : Control) (s : Standing) → Some s ≡ standing_named put.name ss
     → put_reason (kept_named put.name (controls_from users past 0 ss)) (controls_from users past 0 ss) put
-    ≡ cond (not (is_same_control s.control put.currency put.window put.association put.scope)) (Some reason.ControlFixed) None
+    ≡ cond (not (is_same_control s.control put.currency put.window put.association put.scope put.offset)) (Some reason.ControlFixed) None
 reason_so users past ss put s e =
     named_kept users past put.name ss s (sym e)
-    (λ o. put_reason o (controls_from users past 0 ss) put ≡ cond (not (is_same_control s.control put.currency put.window put.association put.scope)) (Some reason.ControlFixed) None)
-    (λ c f. ap (λ (x : Control). cond (not (is_same_control x put.currency put.window put.association put.scope)) (Some reason.ControlFixed) None) f)
+    (λ o. put_reason o (controls_from users past 0 ss) put ≡ cond (not (is_same_control s.control put.currency put.window put.association put.scope put.offset)) (Some reason.ControlFixed) None)
+    (λ c f. ap (λ (x : Control). cond (not (is_same_control x put.currency put.window put.association put.scope put.offset)) (Some reason.ControlFixed) None) f)
 
 pub known_so : (users : Users) (past : Past) (ss : List Standing) (name : List ℕ) (s : Standing) → Some s ≡ standing_named name ss
     → is_some (kept_named name (controls_from users past 0 ss)) ≡ true

@@ -19,7 +19,7 @@ kept_named name controls = find (λ c. bytes_eq c.control.name name) controls
 -- a control that stands keeps all but its limits and its activity; a new one fits in
 abbrev pub put_reason : Option ControlKept → List ControlKept → Control → Option Reason
 put_reason (Some c) controls put =
-    first_reason ((not (is_same_control c.control put.currency put.window put.association put.scope), reason.ControlFixed) ∷ [])
+    first_reason ((not (is_same_control c.control put.currency put.window put.association put.scope put.offset), reason.ControlFixed) ∷ [])
 put_reason None controls put = first_reason ((is_full controls, reason.Limit) ∷ [])
 
 -- the control of this name among those that stand

@@ -85,20 +85,21 @@ impl Standing {
 
     /// Whether another control has all that may not change of this one.
     pub(crate) fn is_fixed_as(&self, other: &Control) -> bool
-        ensures { result ≡ is_same_control self.now.control other.now.currency other.now.window other.now.association other.now.scope }
+        ensures { result ≡ is_same_control self.now.control other.now.currency other.now.window other.now.association other.now.scope other.now.offset }
     {
         is_same_control(&self.control, other)
     }
 }
 
-/// Whether two controls are the same in what may not change: the currency, the window, the association and the scope.
+/// Whether two controls are the same in what may not change: the currency, the window, the association, the scope and the offset.
 pub fn is_same_control(standing: &Control, put: &Control) -> bool
-    ensures { result ≡ is_same_control standing.now put.now.currency put.now.window put.now.association put.now.scope }
+    ensures { result ≡ is_same_control standing.now put.now.currency put.now.window put.now.association put.now.scope put.now.offset }
 {
     standing.currency.number() == put.currency.number()
         && standing.window.number() == put.window.number()
         && is_same_association(&standing.association, &put.association)
         && is_same_scope(&standing.scope, &put.scope)
+        && standing.offset == put.offset
 }
 
 fn is_associated(association: &Association, user: &Token, product: &Token) -> bool

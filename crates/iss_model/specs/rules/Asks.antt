@@ -11,7 +11,7 @@ use Rattle.iss_model.specs.declared.setting.Window.TheVariants as window
 use Rattle.iss_model.specs.declared.txn.Txn.{Txn}
 use Rattle.iss_model.specs.declared.txn.UsageRow.{UsageRow}
 use Rattle.iss_model.specs.declared.txn.Used.{Used}
-use Rattle.iss_model.specs.rules.Controls.{ControlNow, control_offset, counts, window_key, span_key, control_named}
+use Rattle.iss_model.specs.rules.Controls.{ControlNow, counts, window_key, span_key, control_named}
 use Rattle.iss_model.specs.rules.Facts.{Facts}
 
 -- an event that asks for an amount for a transaction at a stamp: its first ask is its authorisation, each later one an increment
@@ -113,10 +113,10 @@ used_at c key = record { amount = c.amounts key; count = c.times key }
 -- What a control has counted of a user in the window of a stamp. A control of single transactions has counted nothing without an ask.
 abbrev pub used_by : ControlNow → Window → List ℕ → ℕ → Used
 used_by c window.Transaction user at = record { amount = pos 0; count = pos 0 }
-used_by c window.Day user at = used_at c (window_key window.Day (control_offset c.control) user at)
-used_by c window.Week user at = used_at c (window_key window.Week (control_offset c.control) user at)
-used_by c window.Month user at = used_at c (window_key window.Month (control_offset c.control) user at)
-used_by c window.Lifetime user at = used_at c (window_key window.Lifetime (control_offset c.control) user at)
+used_by c window.Day user at = used_at c (window_key window.Day c.control.offset user at)
+used_by c window.Week user at = used_at c (window_key window.Week c.control.offset user at)
+used_by c window.Month user at = used_at c (window_key window.Month c.control.offset user at)
+used_by c window.Lifetime user at = used_at c (window_key window.Lifetime c.control.offset user at)
 
 -- what the control of a name has counted, if there is one
 abbrev pub used_in : Facts → List ℕ → List ℕ → ℕ → Option Used

@@ -42,9 +42,9 @@ acts_of (input.Move token who) at f = acts_unless (move_reason f who) token (Set
 acts_of (input.Product token product currency funding timeout_ms hold_ms) at f =
     acts_unless (product_reason f product) token (Sets (input.Product token product currency funding timeout_ms hold_ms) token ∷ [])
 acts_of (input.Group token group mccs) at f = acts_unless (group_reason f group) token (Sets (input.Group token group mccs) token ∷ [])
-acts_of (input.Control token control currency window amount_limit usage_limit association scope active) at f =
-    acts_unless (control_reason f control currency window association scope) token
-    (Sets (input.Control token control currency window amount_limit usage_limit association scope active) token ∷ [])
+acts_of (input.Control token control currency window amount_limit usage_limit association scope offset active) at f =
+    acts_unless (control_reason f control currency window association scope offset) token
+    (Sets (input.Control token control currency window amount_limit usage_limit association scope offset active) token ∷ [])
 acts_of (input.Set token set product currency connection timeout application max day_limit active) at f =
     acts_unless (set_reason f set product currency) token
     (Sets (input.Set token set product currency connection timeout application max day_limit active) token ∷ [])

@@ -187,10 +187,10 @@ after_setting s (input.Move token (moved.User user to)) = record s { cardholders
 after_setting s (input.Product token product currency funding timeout_ms hold_ms) =
     record s { products = with_made with_product s.products (product_made (entry.Conf (input.Product token product currency funding timeout_ms hold_ms))) }
 after_setting s (input.Group token group mccs) = record s { groups = s.groups ++ record { name = group; mccs = mccs } ∷ [] }
-after_setting s (input.Control token control currency window amount_limit usage_limit association scope active) =
+after_setting s (input.Control token control currency window amount_limit usage_limit association scope offset active) =
     record s {
       controls = with_made with_control s.controls
-          (control_put s.count (entry.Conf (input.Control token control currency window amount_limit usage_limit association scope active)));
+          (control_put s.count (entry.Conf (input.Control token control currency window amount_limit usage_limit association scope offset active)));
     }
 after_setting s (input.Set token set product currency connection timeout application max day_limit active) =
     record s {
