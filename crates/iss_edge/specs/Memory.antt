@@ -1,7 +1,5 @@
 -- The channels of an outside in memory.
 use Rattle.std.specs.Prelude.{ℕ, ◌==◌, Bool, true, false, not, ◌&&◌, List, [], ◌∷◌, ◌++◌, drop, Option, Some, None, nat_le, nat_lt, ◌+◌, if◌then◌else◌}
-use Rattle.std.specs.List.{list_all}
-use Rattle.iss_edge.specs.declared.outside.Channel.{Channel}
 use Rattle.iss_edge.specs.declared.outside.Script.{Script}
 use Rattle.iss_edge.specs.declared.outside.Script.TheVariants.{Client, More, Ended, Time, Idle}
 use Rattle.iss_edge.specs.declared.memory.piece.Piece.{Piece}
