@@ -16,7 +16,7 @@ const OTHER_SIZE: u8 = 4;
 /// The status where a call on the device failed.
 const DISK_FAULT: u8 = 6;
 
-/// Makes the device one of this instance that stands for no records, where it has so many bytes, and returns the exit status.
+/// Makes the device one of this instance that stands for no records, if it has `size` bytes, and returns the exit status.
 #[tactic(auto, using(crate::proofs::Formatted::format_failed, crate::proofs::Formatted::format_done))]
 pub(crate) fn format<E: Edge>(edge: &mut E, size: u64, instance: u64) -> u8
     requires least { 17 ≤ size }
