@@ -1,10 +1,11 @@
 -- What a run that serves does, whatever status it ends with.
-use Rattle.std.specs.Prelude.{◌≡◌, ℕ, zero, suc, ◌≤◌, ◌⊎◌, false, true, List, [], ◌∷◌, ◌++◌, Some, Result, Ok, Err, IfErr}
+use Rattle.std.specs.Prelude.{◌≡◌, ℕ, zero, suc, ◌≤◌, ◌⊎◌, false, true, List, [], ◌∷◌, ◌++◌, Option, Some, Result, Ok, Err, IfErr}
 use Rattle.iss_edge.specs.declared.outside.Channel.{Channel}
 use Rattle.iss_edge.specs.declared.outside.Action.{Action}
 use Rattle.iss_edge.specs.declared.outside.Arrival.TheVariants.{Client}
+use Rattle.iss_edge.specs.declared.outside.Answered.{Answered}
 use Rattle.iss_edge.specs.declared.outside.Answered.TheVariants.{Waited}
-use Rattle.iss_edge.specs.Outer.{Outer}
+use Rattle.iss_edge.specs.Outer.{Outer, ToldBoth}
 use Rattle.iss_edge.specs.World.{World, Faults, Later, Rose, sent_on}
 use Rattle.iss_edge.specs.Stretches.{Step, actions_of}
 use Rattle.iss_model.specs.declared.input.Record.{Record}
@@ -140,3 +141,7 @@ ServeEndsWell before now status a b =
     (instance : ℕ) (rs : List Record) → DeviceStandsFor instance rs a.device
     → (Rose before.disk now.disk → ⊥) → (Rose before.input now.input → ⊥)
     → (status ≡ 0) ⊎ (status ≡ 7)
+
+-- the same, by what an edge tells before the run and after it
+abbrev pub ServeEndsWellOn : {E : Type 0} → (E → Faults) → (E → Option World) → (E → Option (List Answered)) → E → E → ℕ → Type 0
+ServeEndsWellOn faults told heard a b status = ToldBoth told heard (OfWorlds (ServeEndsWell (faults a) (faults b) status)) a b

@@ -8,7 +8,7 @@ ghost use Rattle.iss_serve.specs.Held.{now_of, resting, sending, IsHeld, IsOf};
 ghost use Rattle.iss_serve.specs.Judged.{Settles};
 ghost use Rattle.iss_device.specs.Refusals.{RefusesExactly};
 ghost use Rattle.iss_serve.specs.Runs.{ServesTo, ServesPart, ServesToEnd, ServesUpTo};
-ghost use Rattle.iss_serve.specs.ServeRuns.{status_of, ServeRun, OfWorlds, EndsCaused, ServeEndsWell};
+ghost use Rattle.iss_serve.specs.ServeRuns.{status_of, ServeRun, OfWorlds, EndsCaused, ServeEndsWellOn};
 
 use crate::ServeFault;
 use crate::closing::close_all;
@@ -32,7 +32,7 @@ pub fn serve<E: Edge>(alloc: Global, turns: u32, edge: &mut E) -> Result<(), Ser
     ensures serving { ToldBoth E.told E.heard (ServeRun turns (status_of result)) edge.old edge.new }
     ensures refused { ToldBoth E.told E.heard (OfWorlds (RefusesExactly (status_of result))) edge.old edge.new }
     ensures caused { EndsCaused (E.faults edge.old) (E.faults edge.new) result }
-    ensures complete { ToldBoth E.told E.heard (OfWorlds (ServeEndsWell (E.faults edge.old) (E.faults edge.new) (status_of result))) edge.old edge.new }
+    ensures complete { ServeEndsWellOn E.faults E.told E.heard edge.old edge.new (status_of result) }
 {
     let store = Store::open(alloc, edge)?;
     serve_on(alloc, store, turns, edge)

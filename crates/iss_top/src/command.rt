@@ -4,13 +4,13 @@ ghost use Rattle.std.specs.List.{list_any};
 ghost use Rattle.iss_edge.specs.World.{Told, Rose};
 ghost use Rattle.iss_edge.specs.Outer.{ToldBoth};
 ghost use Rattle.iss_top.specs.Words.{command_in, statuses, OnDry, OnFormat, OnReplay, OnBalances, OnServe, OnDrill};
-ghost use Rattle.iss_top.specs.Runs.{DryRun, EmitsTexts, EndsWell, StopsAtLines};
+ghost use Rattle.iss_top.specs.Runs.{DryRun, EmitsTexts, EndsWell, StopsAtLines, ToldByFaults};
 ghost use Rattle.iss_device.specs.Refusals.{RefusesExactly};
-ghost use Rattle.iss_serve.specs.ServeRuns.{ServeRun, OfWorlds, ServeEndsWell};
+ghost use Rattle.iss_serve.specs.ServeRuns.{ServeRun, OfWorlds, ServeEndsWellOn};
 ghost use Rattle.iss_top.specs.Replays.{ReplayRun, EveryMomentStands, ReplayEndsWell, TranscriptsContinue};
 ghost use Rattle.iss_top.specs.Reports.{ReportRun, ReportMomentStands, ReportEndsWell};
 ghost use Rattle.iss_top.specs.DrillRuns.{DrillRun, DrillEndsWell};
-ghost use Rattle.iss_top.specs.FormatRuns.{FormatRun};
+ghost use Rattle.iss_top.specs.FormatRuns.{FormatRunOn};
 
 use crate::balances::balances;
 use crate::drilling::drilled;
@@ -68,7 +68,7 @@ pub fn run<E: Edge>(alloc: Global, words: &[String], edge: &mut E) -> u8
     ensures emits { OnDry (command_in words.now)
         (Told (EmitsTexts result) (E.told edge.old) (E.told edge.new)) }
     ensures complete { OnDry (command_in words.now)
-        (Told (EndsWell (E.faults edge.old) (E.faults edge.new) result) (E.told edge.old) (E.told edge.new)) }
+        (ToldByFaults E.faults E.told EndsWell edge.old edge.new result) }
 
     // At 3 and 8 what went out is the transcript of exactly the lines that ended within the bytes that were taken.
     ensures stopped { OnDry (command_in words.now)
@@ -93,7 +93,7 @@ pub fn run<E: Edge>(alloc: Global, words: &[String], edge: &mut E) -> u8
     ensures refused { OnReplay (command_in words.now)
         (Told (RefusesExactly result) (E.told edge.old) (E.told edge.new)) }
     ensures replay_complete { OnReplay (command_in words.now)
-        (Told (ReplayEndsWell (E.faults edge.old) (E.faults edge.new) result) (E.told edge.old) (E.told edge.new)) }
+        (ToldByFaults E.faults E.told ReplayEndsWell edge.old edge.new result) }
 
     // A report of a device that stands for records: what went out are its lines, each by an emit of its own, or some first ones of them,
     // and the device stands for the records, as it does at every moment. Nothing is taken.
@@ -104,7 +104,7 @@ pub fn run<E: Edge>(alloc: Global, words: &[String], edge: &mut E) -> u8
     ensures report_refused { OnBalances (command_in words.now)
         (Told (RefusesExactly result) (E.told edge.old) (E.told edge.new)) }
     ensures report_complete { OnBalances (command_in words.now)
-        (Told (ReportEndsWell (E.faults edge.old) (E.faults edge.new) result) (E.told edge.old) (E.told edge.new)) }
+        (ToldByFaults E.faults E.told ReportEndsWell edge.old edge.new result) }
 
     // A run that serves: what was heard and done is what the session of the device's records says, and at whatever moment it stops, the
     // device stands for the old records and a prefix of the accepted inputs that holds every one of which a byte went out, as above. At 0 no
@@ -115,7 +115,7 @@ pub fn run<E: Edge>(alloc: Global, words: &[String], edge: &mut E) -> u8
     ensures serve_refused { OnServe (command_in words.now) (λ turns.
         ToldBoth E.told E.heard (OfWorlds (RefusesExactly result)) edge.old edge.new) }
     ensures serve_complete { OnServe (command_in words.now) (λ turns.
-        ToldBoth E.told E.heard (OfWorlds (ServeEndsWell (E.faults edge.old) (E.faults edge.new) result)) edge.old edge.new) }
+        ServeEndsWellOn E.faults E.told E.heard edge.old edge.new result) }
 
     // A drill writes its line by one emit, or a prefix of it, and does nothing else.
     ensures drilling { OnDrill (command_in words.now) (λ n.
@@ -125,7 +125,7 @@ pub fn run<E: Edge>(alloc: Global, words: &[String], edge: &mut E) -> u8
 
     // What formatting does.
     ensures formatting { OnFormat (command_in words.now) (λ size instance.
-        FormatRun size instance (E.extent edge.old) result (E.faults edge.old) (E.faults edge.new) (E.told edge.old) (E.told edge.new)) }
+        FormatRunOn E.extent E.faults E.told edge.old edge.new size instance result) }
 {
     match command_of(words) {
         Ok(Command::Dry) => status_of(dry(alloc, edge)),

@@ -4,7 +4,7 @@ ghost use Rattle.std.specs.List.{list_any};
 ghost use Rattle.iss_edge.specs.World.{Rose};
 ghost use Rattle.iss_edge.specs.Outer.{ToldBoth};
 ghost use Rattle.iss_device.specs.Refusals.{RefusesExactly};
-ghost use Rattle.iss_serve.specs.ServeRuns.{status_of, ServeRun, OfWorlds, ServeEndsWell};
+ghost use Rattle.iss_serve.specs.ServeRuns.{status_of, ServeRun, OfWorlds, ServeEndsWellOn};
 
 use iss_edge::Edge;
 use iss_serve::{ServeFault, serve};
@@ -16,7 +16,7 @@ pub(crate) fn serve_on_device<E: Edge>(alloc: Global, turns: u32, edge: &mut E) 
     ensures known { IsTrue (list_any (λ status. result == status) (0 ∷ 3 ∷ 4 ∷ 6 ∷ 7 ∷ [])) }
     ensures serving { ToldBoth E.told E.heard (ServeRun turns result) edge.old edge.new }
     ensures refused { ToldBoth E.told E.heard (OfWorlds (RefusesExactly result)) edge.old edge.new }
-    ensures complete { ToldBoth E.told E.heard (OfWorlds (ServeEndsWell (E.faults edge.old) (E.faults edge.new) result)) edge.old edge.new }
+    ensures complete { ServeEndsWellOn E.faults E.told E.heard edge.old edge.new result }
     ensures input_fault { result ≡ 3 → Rose (E.faults edge.old).input (E.faults edge.new).input }
     ensures disk_fault { result ≡ 6 → Rose (E.faults edge.old).disk (E.faults edge.new).disk }
 {
