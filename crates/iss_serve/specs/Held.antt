@@ -79,8 +79,8 @@ abbrev pub sending : StoreNow → HeldNow → List Queued → List Task → Stag
 sending s h first tasks = record { store = s; held = h; ready = None; first = first; tasks = tasks }
 
 -- with what is held, this input is to be judged next, and then the others
-abbrev pub judging : StoreNow → Held → code.Queued → List Queued → Stage
-judging s h first rest = to_judge s (now_of h) (queued_as first ∷ rest)
+abbrev pub judging_first : StoreNow → Held → code.Queued → List Queued → Stage
+judging_first s h first rest = to_judge s (now_of h) (queued_as first ∷ rest)
 
 -- with what is held, these inputs are left to judge
 abbrev pub left_to_judge : Held → List Queued → StoreNow → Stage

@@ -15,7 +15,7 @@ use Rattle.iss_serve.specs.declared.fault.ServeFault.{ServeFault}
 use Rattle.iss_serve.specs.declared.held.Held.{Held}
 use Rattle.iss_serve.specs.declared.held.Queued as code
 use Rattle.iss_serve.specs.Causes.{IsOfDisk}
-use Rattle.iss_serve.specs.Held.{Stage, session_at, now_of, queued_as, to_judge, idle, sending, taking, judging, left_to_judge, judging_heard, IsOf}
+use Rattle.iss_serve.specs.Held.{Stage, session_at, now_of, queued_as, to_judge, idle, sending, taking, judging_first, left_to_judge, judging_heard, IsOf}
 use Rattle.iss_serve.specs.Judged.{judged_again}
 use Rattle.iss_serve.specs.Goings.{Goes, GoesPart, GoesToEnd, records_in}
 
@@ -40,8 +40,8 @@ abbrev pub ServesTo : {E T F : Type 0} → (E → Option World) → (E → Optio
 ServesTo told heard a b from result to = IfOk result (λ x. ToldBoth told heard (ServesOn from (to x)) a b)
 
 -- If the call failed, the run went on in part from this stage, and might have gone on, unless a call on the device failed.
-abbrev pub ServesPart : {E T : Type 0} → (E → Option World) → (E → Option (List Answered)) → E → E → Stage → Result T ServeFault → Type 0
-ServesPart told heard a b from result = IfErr result (λ why. ToldBoth told heard (ServesSome (IsOfDisk why) from) a b)
+abbrev pub ServesInPart : {E T : Type 0} → (E → Option World) → (E → Option (List Answered)) → E → E → Stage → Result T ServeFault → Type 0
+ServesInPart told heard a b from result = IfErr result (λ why. ToldBoth told heard (ServesSome (IsOfDisk why) from) a b)
 
 -- If memory was short, the run went on in part from this stage, and might have gone on.
 abbrev pub ServesShort : {E T F : Type 0} → (E → Option World) → (E → Option (List Answered)) → E → E → Stage → Result T F → Type 0
@@ -51,14 +51,14 @@ ServesShort told heard a b from result = OnErr result (ToldBoth told heard (Serv
 abbrev pub JudgesFirst : {E F : Type 0} → (E → Option World) → (E → Option (List Answered)) → E → E
     → StoreNow → Held → Held → code.Queued → Result StoreNow F → Type 0
 JudgesFirst told heard a b store before after queued result =
-    (rest : List Queued) → ServesTo told heard a b (judging store before queued rest) result (left_to_judge after rest)
+    (rest : List Queued) → ServesTo told heard a b (judging_first store before queued rest) result (left_to_judge after rest)
 
 -- If the call succeeded, this input was judged once. It is to be judged again if the result says so, and then the others, whichever they are.
 abbrev pub JudgesOnce : {E F : Type 0} → (E → Option World) → (E → Option (List Answered)) → E → E
     → StoreNow → Held → Held → code.Queued → Result (StoreNow × Bool) F → Type 0
 JudgesOnce told heard a b store before after queued result =
     (rest : List Queued)
-    → ServesTo told heard a b (judging store before queued rest) result
+    → ServesTo told heard a b (judging_first store before queued rest) result
       (λ x. to_judge x.0 (now_of after) (judged_again x.1 (queued_as queued) rest))
 
 -- If the call succeeded, this plan of the input was kept. After a time record the input is to be judged again, and then the others,
@@ -67,13 +67,13 @@ abbrev pub KeepsPlan : {E F : Type 0} → (E → Option World) → (E → Option
     → StoreNow → Plan → Held → Held → code.Queued → Result StoreNow F → Type 0
 KeepsPlan told heard a b store planned before after queued result =
     (rest : List Queued)
-    → ServesTo told heard a b (judging store before queued rest) result
+    → ServesTo told heard a b (judging_first store before queued rest) result
       (λ next. to_judge next (now_of after) (judged_again planned.is_clock (queued_as queued) rest))
 
 -- If the call failed, judging this input went on in part, whichever others are to be judged then.
 abbrev pub JudgesPart : {E T : Type 0} → (E → Option World) → (E → Option (List Answered)) → E → E → StoreNow → Held → code.Queued → Result T ServeFault → Type 0
 JudgesPart told heard a b store before queued result =
-    (rest : List Queued) → ServesPart told heard a b (judging store before queued rest) result
+    (rest : List Queued) → ServesInPart told heard a b (judging_first store before queued rest) result
 
 -- If the call succeeded, these texts went out, and the inputs are left to judge, whichever they are.
 abbrev pub SendsFirst : {E T F : Type 0} → (E → Option World) → (E → Option (List Answered)) → E → E → StoreNow → Held → Held → List Task → Result T F → Type 0
@@ -87,9 +87,9 @@ SendsFirstPart told heard a b store before tasks result =
     (first : List Queued) → ServesShort told heard a b (sending store (now_of before) first tasks) result
 
 -- Whatever store the links are of: if the call succeeded, the run went on from this stage to judging what was heard.
-abbrev pub Hears : {E F : Type 0} → (E → Option World) → (E → Option (List Answered)) → E → E
+abbrev pub HearsFrom : {E F : Type 0} → (E → Option World) → (E → Option (List Answered)) → E → E
     → Held → Held → (StoreNow → Stage) → Result (Option code.Queued) F → Type 0
-Hears told heard a b before after from result =
+HearsFrom told heard a b before after from result =
     (store : StoreNow) → IsOf store before → ServesTo told heard a b (from store) result (judging_heard store after)
 
 -- The same of a channel that is taken from, and of any store.

@@ -15,7 +15,7 @@ ghost use Rattle.iss_store.specs.Serving.{SendsReply};
 ghost use Rattle.iss_store.specs.Values.{StoreNow};
 ghost use Rattle.iss_serve.specs.Causes.{IsServeCaused};
 ghost use Rattle.iss_serve.specs.Held.{now_of, queued_maybe, queued_as, IsQueuedInForm, resting, taking, arrived, is_heard_numbered, IsHeld, IsStillHeld, IsOf};
-ghost use Rattle.iss_serve.specs.Runs.{Hears, HearsOfAny, HearsShort, PassesOver, ServesPart, ServesShort};
+ghost use Rattle.iss_serve.specs.Runs.{HearsFrom, HearsOfAny, HearsShort, PassesOver, ServesInPart, ServesShort};
 
 use crate::ServeFault;
 use crate::held::{Held, Queued};
@@ -42,9 +42,9 @@ impl Held {
         ensures instance { IfOk result (λ heard. self.new.links.instance ≡ self.old.links.instance) }
         ensures turns { IfOk result (λ heard. self.new.turns < self.old.turns) }
         ensures forms { IfOk result (λ heard. IfSome heard IsQueuedInForm) }
-        ensures hears { Hears E.told E.heard edge.old edge.new self.old self.new (resting self.old) result }
+        ensures hears { HearsFrom E.told E.heard edge.old edge.new self.old self.new (resting self.old) result }
         ensures part { (store : StoreNow) → IsOf store self.old
-            → ServesPart E.told E.heard edge.old edge.new (resting self.old store) result }
+            → ServesInPart E.told E.heard edge.old edge.new (resting self.old store) result }
         ensures caused { IsServeCaused (E.faults edge.old) (E.faults edge.new) result }
         ensures kept { Stays E.extent edge.old edge.new }
     {
@@ -83,7 +83,7 @@ impl Held {
         ensures still { IfOk result (λ heard. IsStillHeld self.old self.new) }
         ensures settled { IfOk result (λ heard. self.new.unreached.items ≡ []) }
         ensures forms { IfOk result (λ heard. IfSome heard IsQueuedInForm) }
-        ensures hears { Hears E.told E.heard edge.old edge.new self.old self.new (λ store. arrived store (now_of self.old) ch) result }
+        ensures hears { HearsFrom E.told E.heard edge.old edge.new self.old self.new (λ store. arrived store (now_of self.old) ch) result }
         ensures part { HearsShort E.told E.heard edge.old edge.new self.old (λ store. arrived store (now_of self.old) ch) result }
         ensures later { Later (E.faults edge.old) (E.faults edge.new) }
         ensures kept { Stays E.extent edge.old edge.new }
@@ -214,7 +214,7 @@ impl Held {
         ensures still { IfOk result (λ heard. IsStillHeld self.old self.new) }
         ensures settled { IfOk result (λ heard. self.new.unreached.items ≡ []) }
         ensures forms { IfOk result (λ heard. IfSome heard IsQueuedInForm) }
-        ensures hears { Hears E.told E.heard edge.old edge.new self.old self.new (λ store. taking store (now_of self.old) ch) result }
+        ensures hears { HearsFrom E.told E.heard edge.old edge.new self.old self.new (λ store. taking store (now_of self.old) ch) result }
         ensures part { HearsShort E.told E.heard edge.old edge.new self.old (λ store. taking store (now_of self.old) ch) result }
         ensures later { Later (E.faults edge.old) (E.faults edge.new) }
         ensures kept { Stays E.extent edge.old edge.new }

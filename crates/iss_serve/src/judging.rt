@@ -6,9 +6,9 @@ ghost use Rattle.iss_store.specs.Planning.{IsPlanOf};
 ghost use Rattle.iss_store.specs.Saying.{IsDurableOf};
 ghost use Rattle.iss_store.specs.Serving.{tasks_of_record};
 ghost use Rattle.iss_serve.specs.Causes.{IsServeCaused};
-ghost use Rattle.iss_serve.specs.Held.{now_of, queued_as, answers_unreached, IsQueuedInForm, judging, left_to_judge, resting, CallsNumbered, IsHeld, IsStillHeld, IsOf, records_left};
+ghost use Rattle.iss_serve.specs.Held.{now_of, queued_as, answers_unreached, IsQueuedInForm, judging_first, left_to_judge, resting, CallsNumbered, IsHeld, IsStillHeld, IsOf, records_left};
 ghost use Rattle.iss_serve.specs.Judged.{Judges, Settles, waiting_for, IsPlannedFor};
-ghost use Rattle.iss_serve.specs.Runs.{ServesTo, ServesPart, JudgesFirst, JudgesOnce, JudgesPart, KeepsPlan, SendsFirst, SendsFirstPart};
+ghost use Rattle.iss_serve.specs.Runs.{ServesTo, ServesInPart, JudgesFirst, JudgesOnce, JudgesPart, KeepsPlan, SendsFirst, SendsFirstPart};
 
 use crate::ServeFault;
 use crate::hearing::answer;
@@ -31,8 +31,8 @@ pub(crate) fn judge_all<E: Edge>(
     requires held { IsHeld held.old }
     requires instance { IsOf store held.old }
     requires form { IsQueuedInForm first.now }
-    ensures judged { ServesTo E.told E.heard edge.old edge.new (judging store held.old first.now []) result (resting held.new) }
-    ensures part { ServesPart E.told E.heard edge.old edge.new (judging store held.old first.now []) result }
+    ensures judged { ServesTo E.told E.heard edge.old edge.new (judging_first store held.old first.now []) result (resting held.new) }
+    ensures part { ServesInPart E.told E.heard edge.old edge.new (judging_first store held.old first.now []) result }
     ensures settles { IfOk result (λ next. Settles store next held.old held.new) }
     ensures caused { IsServeCaused (E.faults edge.old) (E.faults edge.new) result }
     ensures kept { Stays E.extent edge.old edge.new }
@@ -52,7 +52,7 @@ pub(crate) fn judge_unreached<E: Edge>(
     requires held { IsHeld held.old }
     requires instance { IsOf store held.old }
     ensures judged { ServesTo E.told E.heard edge.old edge.new (resting held.old store) result (resting held.new) }
-    ensures part { ServesPart E.told E.heard edge.old edge.new (resting held.old store) result }
+    ensures part { ServesInPart E.told E.heard edge.old edge.new (resting held.old store) result }
     ensures settles { IfOk result (λ next. Settles store next held.old held.new) }
     ensures caused { IsServeCaused (E.faults edge.old) (E.faults edge.new) result }
     ensures kept { Stays E.extent edge.old edge.new }
@@ -79,7 +79,7 @@ fn judge_each<E: Edge>(
     requires instance { IsOf store held.old }
     ensures judged { ServesTo E.told E.heard edge.old edge.new
         (left_to_judge held.old (answers_unreached calls.now) store) result (resting held.new) }
-    ensures part { ServesPart E.told E.heard edge.old edge.new
+    ensures part { ServesInPart E.told E.heard edge.old edge.new
         (left_to_judge held.old (answers_unreached calls.now) store) result }
     ensures judges { IfOk result (λ next. Judges store next held.old held.new) }
     ensures caused { IsServeCaused (E.faults edge.old) (E.faults edge.new) result }

@@ -7,7 +7,7 @@ ghost use Rattle.iss_serve.specs.Causes.{IsServeCaused, IsOfDisk};
 ghost use Rattle.iss_serve.specs.Held.{now_of, resting, sending, IsHeld, IsOf};
 ghost use Rattle.iss_serve.specs.Judged.{Settles};
 ghost use Rattle.iss_device.specs.Refusals.{RefusesExactly};
-ghost use Rattle.iss_serve.specs.Runs.{ServesTo, ServesPart, ServesToEnd, ServesUpTo};
+ghost use Rattle.iss_serve.specs.Runs.{ServesTo, ServesInPart, ServesToEnd, ServesUpTo};
 ghost use Rattle.iss_serve.specs.ServeRuns.{status_of, ServeRun, OfWorlds, EndsCaused, ServeEndsWellOn};
 
 use crate::ServeFault;
@@ -69,7 +69,7 @@ fn resume<E: Edge>(
     requires instance { IsOf store held.old }
     ensures resumed { ServesTo E.told E.heard edge.old edge.new
         (sending store (now_of held.old) [] (tasks_pending store)) result (resting held.new) }
-    ensures part { ServesPart E.told E.heard edge.old edge.new (sending store (now_of held.old) [] (tasks_pending store)) result }
+    ensures part { ServesInPart E.told E.heard edge.old edge.new (sending store (now_of held.old) [] (tasks_pending store)) result }
     ensures settles { IfOk result (λ next. Settles store next held.old held.new) }
     ensures caused { IsServeCaused (E.faults edge.old) (E.faults edge.new) result }
     ensures kept { Stays E.extent edge.old edge.new }
@@ -91,7 +91,7 @@ fn wait_on<E: Edge>(
     requires instance { IsOf store held.old }
     requires settled { held.old.unreached.items ≡ [] }
     ensures waited { ServesTo E.told E.heard edge.old edge.new (resting held.old store) result (resting held.new) }
-    ensures part { ServesPart E.told E.heard edge.old edge.new (resting held.old store) result }
+    ensures part { ServesInPart E.told E.heard edge.old edge.new (resting held.old store) result }
     ensures settled { IfOk result (λ next. held.new.unreached.items ≡ []) }
     ensures turns { IfOk result (λ next. held.new.turns ≡ 0) }
     ensures caused { IsServeCaused (E.faults edge.old) (E.faults edge.new) result }
@@ -116,7 +116,7 @@ fn turn<E: Edge>(
     requires settled { held.old.unreached.items ≡ [] }
     requires turns { 0 < held.old.turns }
     ensures turned { ServesTo E.told E.heard edge.old edge.new (resting held.old store) result (resting held.new) }
-    ensures part { ServesPart E.told E.heard edge.old edge.new (resting held.old store) result }
+    ensures part { ServesInPart E.told E.heard edge.old edge.new (resting held.old store) result }
     ensures held { IfOk result (λ next. IsHeld held.new) }
     ensures instance { IfOk result (λ next. IsOf next held.new) }
     ensures settled { IfOk result (λ next. held.new.unreached.items ≡ []) }
