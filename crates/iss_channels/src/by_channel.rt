@@ -2,7 +2,7 @@
 ghost use Rattle.std.specs.Prelude.{◌≡◌, ◌<◌, ◌++◌, ◌∷◌, [], Some, false, not, map, find, filter, length, IfOk, IfSome, IfNone, OnOk, OnErr};
 ghost use Rattle.std.specs.List.{AllByRecursion};
 ghost use Rattle.std.specs.Option.{option_copied};
-ghost use Rattle.iss_channels.specs.Placed.{things_of, thing_at, is_on, one_more, ArePlaced, Takes, ChangesFirst};
+ghost use Rattle.iss_channels.specs.Placed.{things_of, thing_at, is_on, one_more, ArePlaced, Takes, FirstReceives};
 
 use crate::{OnChannel, Places, Receives};
 use iss_edge::Channel;
@@ -125,8 +125,7 @@ impl<T: OnChannel + Drop> ByChannel<T> {
 impl<T: Receives + Drop> ByChannel<T> {
     /// Has the first thing on a channel receive the next bytes. `None` exactly if nothing is on it.
     pub fn receive(&mut self, alloc: Global, ch: Channel, piece: &[u8]) -> Option<T::Told>
-        ensures received { IfSome result (λ told. ChangesFirst (is_on T.channel_of ch) (λ x y. T.receives x piece.now told y)
-            (things_of self.old) (things_of self.new)) }
+        ensures received { IfSome result (FirstReceives T.channel_of T.receives ch piece.now (things_of self.old) (things_of self.new)) }
         ensures none { IfNone result (AllByRecursion (λ x. is_on T.channel_of ch x ≡ false) (things_of self.old)) }
         ensures unchanged { IfNone result (self.new ≡ self.old) }
     {

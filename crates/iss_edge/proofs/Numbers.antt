@@ -1,12 +1,12 @@
 -- The numbers of channels in memory: which are open, and which are to come.
 use Rattle.std.proofs.Common.{◌≡◌, ℕ, ◌+◌, ◌≤◌, ◌<◌, ◌==◌, Bool, true, false, not, ◌&&◌, ◌||◌, cond, List, [], ◌∷◌, ◌++◌, nat_le, nat_lt, Option, refl, sym, ap, subst, ◌∙◌, arith}
-use Rattle.std.specs.List.{list_any, list_all, filter}
-use Rattle.std.proofs.lemmas.Bool.{ne_eqb, eqb-true, ltb-true, leb-true, lt-ltb, and_parts, and_from}
+use Rattle.std.specs.List.{list_all, filter}
+use Rattle.std.proofs.lemmas.Bool.{ne_eqb, ltb-true, leb-true, lt-ltb, and_parts, and_from}
 use Rattle.std.proofs.lemmas.List.Folds.{list_any-append, list_all-append}
 use Rattle.iss_edge.specs.declared.outside.Channel.{Channel}
 use Rattle.iss_edge.specs.declared.outside.Script.{Script}
 use Rattle.iss_edge.specs.declared.outside.Script.TheVariants.{Client, More, Ended, Time, Idle}
-use Rattle.iss_edge.specs.Channels.{Channels, is_among, is_open, IsUnused, without}
+use Rattle.iss_edge.specs.Channels.{is_among, IsUnused, without}
 use Rattle.iss_edge.specs.Memory.{is_client_number, is_dialled_number, are_to_come}
 
 not_true : (b : Bool) → not b ≡ true → b ≡ false

@@ -8,7 +8,7 @@ use Rattle.iss_edge.specs.declared.outside.Answered.{Answered}
 use Rattle.iss_edge.specs.declared.outside.Answered.TheVariants.{Waited, Took, Dialled, Emitted}
 use Rattle.iss_edge.specs.World.{World, Told}
 use Rattle.iss_edge.specs.Calls.{Same, Waits, Takes, Emits, SendsPrefix, EmitsPart, Dials, Closes, Hears, HearsNothing}
-use Rattle.iss_edge.specs.Outer.{Outer, outer_of, Adds, torn_actions, IsTornFrom, Tears}
+use Rattle.iss_edge.specs.Outer.{Outer, outer_of, Adds, Tears}
 
 told_none : {W : Type 0} (R : W → W → Type 0) (x : Option W) → Told R x None
 told_none R None = tt

@@ -1,16 +1,18 @@
 -- The channels of an outside in memory.
 use Rattle.std.specs.Prelude.{ℕ, ◌==◌, Bool, true, false, not, ◌&&◌, List, [], ◌∷◌, ◌++◌, drop, Option, Some, None, nat_le, nat_lt, ◌+◌, if◌then◌else◌}
-use Rattle.std.specs.List.{list_all}
-use Rattle.iss_edge.specs.declared.outside.Channel.{Channel}
 use Rattle.iss_edge.specs.declared.outside.Script.{Script}
 use Rattle.iss_edge.specs.declared.outside.Script.TheVariants.{Client, More, Ended, Time, Idle}
 use Rattle.iss_edge.specs.declared.memory.piece.Piece.{Piece}
-use Rattle.iss_edge.specs.World.{Faults}
+use Rattle.iss_edge.specs.World.{World, Faults}
 use Rattle.iss_edge.specs.Channels.{Channels, is_among}
 
 -- the bytes that are to come, if channel 0 alone has some
 abbrev pub alone_on_input : List ℕ → ℕ → List ℕ
 alone_on_input bytes ch = if ch == 0 then bytes else []
+
+-- what an outside in memory tells before its first call, with this device, these bytes to come on channel 0, and this script
+abbrev pub first_world : List ℕ → List ℕ → List Script → World
+first_world device input script = record { device = device; left = alone_on_input input; arrivals = script; trace = [] }
 
 -- a value that is told as long as the test holds
 abbrev pub told_if : {A : Type 0} → Bool → A → Option A

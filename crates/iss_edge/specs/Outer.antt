@@ -5,7 +5,7 @@ use Rattle.iss_edge.specs.declared.outside.Action.{Action}
 use Rattle.iss_edge.specs.declared.outside.Action.TheVariants.{Emit}
 use Rattle.iss_edge.specs.declared.outside.Answered.{Answered}
 use Rattle.iss_edge.specs.declared.outside.Answered.TheVariants.{Emitted}
-use Rattle.iss_edge.specs.World.{World}
+use Rattle.iss_edge.specs.World.{World, Told}
 
 -- what an edge tells of the world, and what its calls answered so far
 pub record Outer : Type 0 where
@@ -17,6 +17,14 @@ abbrev pub outer_of : Option World → Option (List Answered) → Option Outer
 outer_of None heard = None
 outer_of (Some world) None = None
 outer_of (Some world) (Some heard) = Some (record { world = world; heard = heard })
+
+-- the world and the answers that an edge tells, if it tells both
+abbrev pub outer : {E : Type 0} → (E → Option World) → (E → Option (List Answered)) → E → Option Outer
+outer told heard edge = outer_of (told edge) (heard edge)
+
+-- The world and the answers are told after a call only if both were told before it, and R relates the two pairs.
+abbrev pub ToldBoth : {E : Type 0} → (E → Option World) → (E → Option (List Answered)) → (Outer → Outer → Type 0) → E → E → Type 0
+ToldBoth told heard R before after = Told R (outer told heard before) (outer told heard after)
 
 -- the device is the same, these actions were added, and these answers were heard
 pub record Adds (actions : List Action) (answers : List Answered) (a b : Outer) : Type 0 where

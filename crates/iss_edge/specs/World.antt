@@ -18,6 +18,10 @@ Told R (Some a) None = Unit {0}
 Told R None (Some b) = ⊥
 Told R (Some a) (Some b) = R a b
 
+-- what this reads of an edge is the same after a call as before it
+abbrev pub Stays : {E A : Type 0} → (E → A) → E → E → Type 0
+Stays part before after = part after ≡ part before
+
 -- how often calls have failed: on the device, on input, on output, on clients' channels and on dialled channels
 pub record Faults : Type 0 where
   pub disk : ℕ

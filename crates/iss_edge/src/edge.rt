@@ -4,7 +4,7 @@ ghost use Rattle.std.specs.Prelude.{◌≡◌, ℕ, ◌+◌, ◌<◌, ◌≤◌,
 ghost use Rattle.std.specs.Result.{result_ok};
 ghost use Rattle.iss_edge.specs.declared.outside.Answered.{Answered};
 ghost use Rattle.iss_edge.specs.declared.outside.Answered.TheVariants.{Dialled, Emitted, Waited};
-ghost use Rattle.iss_edge.specs.World.{World, Told, Faults, Later, HasCause};
+ghost use Rattle.iss_edge.specs.World.{World, Told, Stays, Faults, Later, HasCause};
 ghost use Rattle.iss_edge.specs.Calls.{Same, Reads, Writes, WritesPart, Syncs, SyncsPart, Waits, Takes, Emits, EmitsPart, Dials, Closes, ClosesUnnoted, Hears, HearsNothing, heard_take};
 ghost use Rattle.iss_edge.specs.Channels.{Channels, IsUnused, ComesUnused, after_wait, after_dial, after_close, count_of, take_fault, emit_fault};
 
@@ -41,8 +41,8 @@ pub trait Edge {
         ensures unchanged { OnErr result (Told Same (told self.old) (told self.new)) }
         ensures cause { HasCause (λ f. f.disk) (faults self.old) (faults self.new) result }
         ensures heard { Told HearsNothing (heard self.old) (heard self.new) }
-        ensures kept { extent self.new ≡ extent self.old }
-        ensures channels { channels self.new ≡ channels self.old };
+        ensures kept { Stays extent self.old self.new }
+        ensures channels { Stays channels self.old self.new };
 
     /// Writes the bytes to the device from this place on. Until a sync succeeds, a stop may leave anything there, and
     /// if the write fails, what stands there is open.
@@ -53,8 +53,8 @@ pub trait Edge {
             (Told (WritesPart at bytes.now) (told self.old) (told self.new)) }
         ensures cause { HasCause (λ f. f.disk) (faults self.old) (faults self.new) result }
         ensures heard { Told HearsNothing (heard self.old) (heard self.new) }
-        ensures kept { extent self.new ≡ extent self.old }
-        ensures channels { channels self.new ≡ channels self.old };
+        ensures kept { Stays extent self.old self.new }
+        ensures channels { Stays channels self.old self.new };
 
     /// Makes all that was written last. If it fails, a stop may still leave anything there.
     fn sync(&mut self) -> Result<(), Failed>
@@ -62,8 +62,8 @@ pub trait Edge {
         ensures part { OnErr result (Told SyncsPart (told self.old) (told self.new)) }
         ensures cause { HasCause (λ f. f.disk) (faults self.old) (faults self.new) result }
         ensures heard { Told HearsNothing (heard self.old) (heard self.new) }
-        ensures kept { extent self.new ≡ extent self.old }
-        ensures channels { channels self.new ≡ channels self.old };
+        ensures kept { Stays extent self.old self.new }
+        ensures channels { Stays channels self.old self.new };
 
     /// Waits for what comes next. A client comes on a channel that was not open. If it fails, nothing is lost.
     fn wait(&mut self) -> Result<Arrival, Failed>
@@ -72,7 +72,7 @@ pub trait Edge {
         ensures unused { IfOk result (ComesUnused (channels self.old)) }
         ensures cause { HasCause (λ f. f.input) (faults self.old) (faults self.new) result }
         ensures heard { Told (Hears (Waited (result_ok result))) (heard self.old) (heard self.new) }
-        ensures kept { extent self.new ≡ extent self.old }
+        ensures kept { Stays extent self.old self.new }
         ensures channels { channels self.new ≡ after_wait (result_ok result) (channels self.old) };
 
     /// Takes the next bytes of a channel into the start of `buf`, which is not empty, and returns how many. The channel is 0, or
@@ -87,8 +87,8 @@ pub trait Edge {
         ensures unchanged { OnErr result (Told Same (told self.old) (told self.new)) }
         ensures cause { HasCause (count_of (take_fault (channels self.old) ch)) (faults self.old) (faults self.new) result }
         ensures heard { Told (Hears (heard_take ch buf.new result)) (heard self.old) (heard self.new) }
-        ensures kept { extent self.new ≡ extent self.old }
-        ensures channels { channels self.new ≡ channels self.old };
+        ensures kept { Stays extent self.old self.new }
+        ensures channels { Stays channels self.old self.new };
 
     /// Sends the bytes out on a channel. If it fails, a prefix of them may have gone out.
     fn emit(&mut self, ch: Channel, bytes: &[u8]) -> Result<(), Failed>
@@ -97,8 +97,8 @@ pub trait Edge {
             (Told (EmitsPart ch bytes.now) (told self.old) (told self.new)) }
         ensures cause { HasCause (count_of (emit_fault (channels self.old) ch)) (faults self.old) (faults self.new) result }
         ensures heard { Told (Hears (Emitted ch (is_ok result))) (heard self.old) (heard self.new) }
-        ensures kept { extent self.new ≡ extent self.old }
-        ensures channels { channels self.new ≡ channels self.old };
+        ensures kept { Stays extent self.old self.new }
+        ensures channels { Stays channels self.old self.new };
 
     /// Opens a channel to the gateway, which was not open.
     fn dial(&mut self) -> Result<Channel, Failed>
@@ -107,7 +107,7 @@ pub trait Edge {
         ensures unused { IfOk result (IsUnused (channels self.old)) }
         ensures cause { HasCause (λ f. f.link) (faults self.old) (faults self.new) result }
         ensures heard { Told (Hears (Dialled (result_ok result))) (heard self.old) (heard self.new) }
-        ensures kept { extent self.new ≡ extent self.old }
+        ensures kept { Stays extent self.old self.new }
         ensures channels { channels self.new ≡ after_dial (result_ok result) (channels self.old) };
 
     /// Closes a channel.
@@ -116,7 +116,7 @@ pub trait Edge {
         ensures closed { Told (ClosesUnnoted ch) (told self.old) (told self.new) }
         ensures later { Later (faults self.old) (faults self.new) }
         ensures heard { Told HearsNothing (heard self.old) (heard self.new) }
-        ensures kept { extent self.new ≡ extent self.old }
+        ensures kept { Stays extent self.old self.new }
         ensures channels { channels self.new ≡ after_close ch (channels self.old) };
 
     /// The device that is told has the length that is told.

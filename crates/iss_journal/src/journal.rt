@@ -1,7 +1,7 @@
 //! The journal's end, where a record is added.
 
 ghost use Rattle.std.specs.Prelude.{◌≡◌, ◌+◌, ◌<◌, ◌≤◌, ◌^◌, length, OnOk, IfOk, IsErrOf};
-ghost use Rattle.iss_edge.specs.World.{Told};
+ghost use Rattle.iss_edge.specs.World.{Told, Stays};
 ghost use Rattle.iss_edge.specs.Calls.{Same, HearsNothing};
 ghost use Rattle.iss_journal.specs.Place.{free_at};
 ghost use Rattle.iss_journal.specs.Answers.{DiskCause, DiskAlone, FullByNeed, OnFull};
@@ -54,8 +54,8 @@ impl Journal {
         ensures alone { DiskAlone result }
         ensures cause { DiskCause (E.faults edge.old) (E.faults edge.new) result }
         ensures heard { Told HearsNothing (E.heard edge.old) (E.heard edge.new) }
-        ensures kept { E.extent edge.new ≡ E.extent edge.old }
-        ensures channels { E.channels edge.new ≡ E.channels edge.old }
+        ensures kept { Stays E.extent edge.old edge.new }
+        ensures channels { Stays E.channels edge.old edge.new }
     {
         let tail = tail_of(instance);
         put(edge, 0, &[CLOSED])?;
@@ -75,8 +75,8 @@ impl Journal {
         ensures faults { DiskOrUnformatted result }
         ensures cause { DiskCause (E.faults edge.old) (E.faults edge.new) result }
         ensures heard { Told HearsNothing (E.heard edge.old) (E.heard edge.new) }
-        ensures kept { E.extent edge.new ≡ E.extent edge.old }
-        ensures channels { E.channels edge.new ≡ E.channels edge.old }
+        ensures kept { Stays E.extent edge.old edge.new }
+        ensures channels { Stays E.channels edge.old edge.new }
     {
         let size = edge.size();
         if size < LEAST || MOST < size {
@@ -121,8 +121,8 @@ impl Journal {
             (Told (AppendsGoing self.old frame.now) (E.told edge.old) (E.told edge.new)) }
         ensures cause { DiskCause (E.faults edge.old) (E.faults edge.new) result }
         ensures heard { Told HearsNothing (E.heard edge.old) (E.heard edge.new) }
-        ensures kept { E.extent edge.new ≡ E.extent edge.old }
-        ensures channels { E.channels edge.new ≡ E.channels edge.old }
+        ensures kept { Stays E.extent edge.old edge.new }
+        ensures channels { Stays E.channels edge.old edge.new }
     {
         let free = self.free();
         let need = frame.as_slice().len() as u64;

@@ -2,7 +2,7 @@
 
 ghost use Rattle.std.specs.Prelude.{◌≡◌, ◌+◌, ◌^◌, ◌<◌, ◌≤◌, ◌∷◌, length, IfOk, OnErr};
 ghost use Rattle.std.specs.Int.{w32, to_be_bytes};
-ghost use Rattle.iss_edge.specs.World.{Told, HasCause};
+ghost use Rattle.iss_edge.specs.World.{Told, HasCause, Stays};
 ghost use Rattle.iss_edge.specs.Calls.{Same, Reads, HearsNothing};
 ghost use Rattle.iss_journal.specs.Answers.{DiskCause, DiskOrMemory};
 ghost use Rattle.iss_journal.specs.Opening.{ReadsGate, ReadsHead};
@@ -29,8 +29,8 @@ pub(crate) fn read_gate<E: Edge>(edge: &mut E, at: u64) -> Result<u8, Failed>
     ensures unchanged { OnErr result (Told Same (E.told edge.old) (E.told edge.new)) }
     ensures cause { HasCause (λ f. f.disk) (E.faults edge.old) (E.faults edge.new) result }
     ensures heard { Told HearsNothing (E.heard edge.old) (E.heard edge.new) }
-    ensures kept { E.extent edge.new ≡ E.extent edge.old }
-    ensures channels { E.channels edge.new ≡ E.channels edge.old }
+    ensures kept { Stays E.extent edge.old edge.new }
+    ensures channels { Stays E.channels edge.old edge.new }
 {
     let mut buf = [0; 1];
     edge.read_at(at, &mut buf)?;
@@ -47,8 +47,8 @@ pub(crate) fn read_head<E: Edge>(edge: &mut E, at: u64, to: u64) -> Result<Head,
     ensures unchanged { OnErr result (Told Same (E.told edge.old) (E.told edge.new)) }
     ensures cause { HasCause (λ f. f.disk) (E.faults edge.old) (E.faults edge.new) result }
     ensures heard { Told HearsNothing (E.heard edge.old) (E.heard edge.new) }
-    ensures kept { E.extent edge.new ≡ E.extent edge.old }
-    ensures channels { E.channels edge.new ≡ E.channels edge.old }
+    ensures kept { Stays E.extent edge.old edge.new }
+    ensures channels { Stays E.channels edge.old edge.new }
 {
     if to - at <= HEAD {
         let gate = read_gate(edge, at)?;
@@ -74,8 +74,8 @@ pub(crate) fn read_body<E: Edge>(
     ensures faults { DiskOrMemory result }
     ensures cause { DiskCause (E.faults edge.old) (E.faults edge.new) result }
     ensures heard { Told HearsNothing (E.heard edge.old) (E.heard edge.new) }
-    ensures kept { E.extent edge.new ≡ E.extent edge.old }
-    ensures channels { E.channels edge.new ≡ E.channels edge.old }
+    ensures kept { Stays E.extent edge.old edge.new }
+    ensures channels { Stays E.channels edge.old edge.new }
 {
     let mut body = vec![in alloc; 0; len]?;
     edge.read_at(at, body.as_mut_slice())?;

@@ -1,7 +1,7 @@
 //! Reading a journal from its first record to its end.
 
 ghost use Rattle.std.specs.Prelude.{◌≡◌, ◌↔◌, ◌+◌, ◌<◌, ◌≤◌, IsTrue, OnOk, OnErr, IfOk};
-ghost use Rattle.iss_edge.specs.World.{Told};
+ghost use Rattle.iss_edge.specs.World.{Told, Stays};
 ghost use Rattle.iss_edge.specs.Calls.{Same, Syncs, SyncsPart, HearsNothing};
 ghost use Rattle.iss_journal.specs.Answers.{DiskCause, DiskAlone};
 ghost use Rattle.iss_journal.specs.Opening.{Finds, MovesOn, ClosesGood, ClosesGoing};
@@ -45,8 +45,8 @@ impl Scan {
         ensures alone { DiskAlone result }
         ensures cause { DiskCause (E.faults edge.old) (E.faults edge.new) result }
         ensures heard { Told HearsNothing (E.heard edge.old) (E.heard edge.new) }
-        ensures kept { E.extent edge.new ≡ E.extent edge.old }
-        ensures channels { E.channels edge.new ≡ E.channels edge.old }
+        ensures kept { Stays E.extent edge.old edge.new }
+        ensures channels { Stays E.channels edge.old edge.new }
     {
         edge.sync()?;
         Ok(Scan { gate: from, to })
@@ -68,8 +68,8 @@ impl Scan {
         ensures same { Told Same (E.told edge.old) (E.told edge.new) }
         ensures cause { DiskCause (E.faults edge.old) (E.faults edge.new) result }
         ensures heard { Told HearsNothing (E.heard edge.old) (E.heard edge.new) }
-        ensures kept { E.extent edge.new ≡ E.extent edge.old }
-        ensures channels { E.channels edge.new ≡ E.channels edge.old }
+        ensures kept { Stays E.extent edge.old edge.new }
+        ensures channels { Stays E.channels edge.old edge.new }
     {
         let head = read_head(edge, self.gate, self.to)?;
         if head.gate != OPEN {
@@ -95,8 +95,8 @@ impl Scan {
         ensures alone { DiskAlone result }
         ensures cause { DiskCause (E.faults edge.old) (E.faults edge.new) result }
         ensures heard { Told HearsNothing (E.heard edge.old) (E.heard edge.new) }
-        ensures kept { E.extent edge.new ≡ E.extent edge.old }
-        ensures channels { E.channels edge.new ≡ E.channels edge.old }
+        ensures kept { Stays E.extent edge.old edge.new }
+        ensures channels { Stays E.channels edge.old edge.new }
     {
         let gate = read_gate(edge, self.gate)?;
         if gate == CLOSED {

@@ -24,6 +24,10 @@ pub record LinksNow : Type 0 where
   pub instance : ℕ
   pub links : List Link
 
+-- these links, of this instance
+abbrev pub links_at : ℕ → List Link → LinksNow
+links_at instance links = record { instance = instance; links = links }
+
 -- what an answer is about
 abbrev pub subject_of : About → Subject
 subject_of (about.Call opened) = of_call opened

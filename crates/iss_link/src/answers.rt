@@ -1,19 +1,18 @@
 //! An answer on a watched channel: one take, and what its bytes come to.
-ghost use Rattle.std.specs.Prelude.{◌≡◌, ◌<◌, ◌≤◌, ◌^◌, ℕ, List, length, [], ◌∷◌, Some, None, IfOk, IfSome, IfErr, IsSome, OnErr};
+ghost use Rattle.std.specs.Prelude.{◌≡◌, ◌<◌, ◌≤◌, ◌^◌, ℕ, List, length, [], ◌∷◌, Some, None, IfOk, IfSome, IsSome, OnErr};
 ghost use Rattle.iss_edge.specs.declared.outside.Answered.TheVariants.{Took};
-ghost use Rattle.iss_edge.specs.World.{Told, Later, Rose};
-ghost use Rattle.iss_edge.specs.Channels.{count_of, take_fault};
-ghost use Rattle.iss_edge.specs.Outer.{outer_of, Adds};
+ghost use Rattle.iss_edge.specs.World.{Later, Stays};
+ghost use Rattle.iss_edge.specs.Outer.{Adds, ToldBoth};
 ghost use Rattle.iss_channels.specs.Placed.{things_of};
 ghost use Rattle.iss_http.specs.Heard.{reading_of};
 ghost use Rattle.iss_jit.specs.Outcomes.{outcome_of};
 ghost use Rattle.iss_model.specs.declared.call.Opened.{Opened};
 ghost use Rattle.iss_model.specs.declared.input.Outcome.{Outcome};
-ghost use Rattle.iss_session.specs.Desks.{of_call, of_notice};
-ghost use Rattle.iss_session.specs.Links.{heard_as, outcome};
+ghost use Rattle.iss_session.specs.Desks.{of_notice};
+ghost use Rattle.iss_session.specs.Links.{heard_as};
 ghost use Rattle.iss_session.specs.Hearings.{link_at};
-ghost use Rattle.iss_link.specs.Values.{subject_of, heard_of};
-ghost use Rattle.iss_link.specs.Hearing.{Reads, Listens, got_in, channels_after};
+ghost use Rattle.iss_link.specs.Values.{subject_of, heard_of, links_at};
+ghost use Rattle.iss_link.specs.Hearing.{Reads, ListensOn, MeansOutcome, TakeFaultRose, got_in, channels_after};
 
 use crate::Heard;
 use crate::watched::{About, Watched};
@@ -42,13 +41,12 @@ pub(crate) fn listen<E: Edge>(
     requires room { length buffer.old ≡ 4096 }
     requires instance { instance < 2 ^ 48 }
     ensures room { length buffer.new ≡ 4096 }
-    ensures listens { Listens (record { instance = instance; links = things_of links.old }) (record { instance = instance; links = things_of links.new })
-        ch result (E.channels edge.old) (E.faults edge.old) (E.faults edge.new)
-        (outer_of (E.told edge.old) (E.heard edge.old)) (outer_of (E.told edge.new) (E.heard edge.new)) }
+    ensures listens { ListensOn E.channels E.faults E.told E.heard edge.old edge.new
+        (links_at instance (things_of links.old)) (links_at instance (things_of links.new)) ch result }
     ensures later { Later (E.faults edge.old) (E.faults edge.new) }
-    ensures kept { E.extent edge.new ≡ E.extent edge.old }
+    ensures kept { Stays E.extent edge.old edge.new }
     ensures channels { IfOk result (λ said. E.channels edge.new ≡ channels_after ch (heard_of said) (E.channels edge.old)) }
-    ensures still { OnErr result (E.channels edge.new ≡ E.channels edge.old) }
+    ensures still { OnErr result (Stays E.channels edge.old edge.new) }
 {
     let about = about(links, ch);
     let got = take(edge, ch, buffer);
@@ -78,13 +76,11 @@ fn take<E: Edge>(edge: &mut E, ch: Channel, buffer: &mut [u8]) -> Option<usize>
     requires room { length buffer.old ≡ 4096 }
     ensures room { length buffer.new ≡ 4096 }
     ensures bound { IfSome result (λ count. count ≤ length buffer.new) }
-    ensures told { Told (Adds [] (Took ch (got_in buffer.new result) ∷ []))
-        (outer_of (E.told edge.old) (E.heard edge.old)) (outer_of (E.told edge.new) (E.heard edge.new)) }
-    ensures failed { result ≡ None → Rose (count_of (take_fault (E.channels edge.old) ch) (E.faults edge.old))
-        (count_of (take_fault (E.channels edge.old) ch) (E.faults edge.new)) }
+    ensures told { ToldBoth E.told E.heard (Adds [] (Took ch (got_in buffer.new result) ∷ [])) edge.old edge.new }
+    ensures failed { result ≡ None → TakeFaultRose ch (E.channels edge.old) (E.faults edge.old) (E.faults edge.new) }
     ensures later { Later (E.faults edge.old) (E.faults edge.new) }
-    ensures kept { E.extent edge.new ≡ E.extent edge.old }
-    ensures channels { E.channels edge.new ≡ E.channels edge.old }
+    ensures kept { Stays E.extent edge.old edge.new }
+    ensures channels { Stays E.channels edge.old edge.new }
 {
     match edge.take(ch, buffer) {
         Ok(count) => Some(count),
@@ -148,7 +144,7 @@ fn outcome(
     instance: u64,
 ) -> Result<Outcome, AllocError>
     requires { instance < 2 ^ 48 }
-    ensures { IfOk result (λ said. heard_as (outcome_of instance) (of_call opened.now) (reading_of answer.now) ≡ outcome opened.now.call said) }
+    ensures { IfOk result (MeansOutcome instance opened.now answer.now) }
 {
     match answer {
         Answer::Whole(status, body) => jit_answer(alloc, *status, body, opened, instance),

@@ -1,10 +1,9 @@
 //! The channels on which the gateway's answers are awaited.
 ghost use Rattle.std.specs.Prelude.{◌≡◌, ◌<◌, ◌^◌, ◌++◌, [], map, length, Some, IfOk, OnOk, OnErr, IsSome};
-ghost use Rattle.iss_edge.specs.World.{Later};
-ghost use Rattle.iss_edge.specs.Outer.{outer_of};
+ghost use Rattle.iss_edge.specs.World.{Later, Stays};
 ghost use Rattle.iss_session.specs.Hearings.{link_at, links_of};
 ghost use Rattle.iss_link.specs.Values.{gone_as, heard_of, state_on};
-ghost use Rattle.iss_link.specs.Hearing.{Listens, channels_after};
+ghost use Rattle.iss_link.specs.Hearing.{ListensOn, channels_after};
 
 use crate::answers::listen;
 use crate::watched::{About, Watched};
@@ -84,12 +83,11 @@ impl Links {
     ) -> Result<Heard, AllocError>
         requires watched { IsSome (link_at ch self.old.links) }
         requires ready { (E.channels edge.old).ready ≡ Some ch.0 }
-        ensures listens { Listens self.old self.new ch result (E.channels edge.old) (E.faults edge.old) (E.faults edge.new)
-            (outer_of (E.told edge.old) (E.heard edge.old)) (outer_of (E.told edge.new) (E.heard edge.new)) }
+        ensures listens { ListensOn E.channels E.faults E.told E.heard edge.old edge.new self.old self.new ch result }
         ensures later { Later (E.faults edge.old) (E.faults edge.new) }
-        ensures kept { E.extent edge.new ≡ E.extent edge.old }
+        ensures kept { Stays E.extent edge.old edge.new }
         ensures channels { IfOk result (λ said. E.channels edge.new ≡ channels_after ch (heard_of said) (E.channels edge.old)) }
-        ensures still { OnErr result (E.channels edge.new ≡ E.channels edge.old) }
+        ensures still { OnErr result (Stays E.channels edge.old edge.new) }
     {
         listen(
             &mut self.watched,
@@ -109,7 +107,7 @@ impl Links {
     }
 }
 
-/// So many zeros.
+/// Zeros, in the number given.
 fn zeros(alloc: Global, size: usize) -> Result<Vec<u8>, AllocError>
     ensures { IfOk result (λ bytes. length bytes.items ≡ size) }
 {
