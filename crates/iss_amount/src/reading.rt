@@ -7,12 +7,7 @@ ghost use Rattle.iss_amount.specs.Laws.{IsWrittenAgain};
 
 use crate::currency::{decimals, unit};
 use iss_model::Currency;
-
-/// The greatest amount of an event, in minor units.
-const GREATEST_AMOUNT: u64 = 1_000_000_000;
-
-/// The greatest limit, in minor units.
-const GREATEST_LIMIT: u64 = 1_000_000_000_000;
+use iss_model::limits::{GREATEST_AMOUNT, GREATEST_LIMIT, LEAST_AMOUNT};
 
 /// The minor units of an event's amount such as `10.00`: `None` where the text isn't well formed in the currency, or they aren't 1 to 10^9.
 #[tactic(auto, using(crate::proofs::RoundTrips::amount_written_again))]
@@ -62,7 +57,7 @@ pub fn whole_limit(units: u64, currency: Currency) -> Option<u64>
 fn checked_amount(n: u64) -> Option<u64>
     ensures { result ≡ if_form is_amount n }
 {
-    (1..=GREATEST_AMOUNT).contains(&n).then_some(n)
+    (LEAST_AMOUNT..=GREATEST_AMOUNT).contains(&n).then_some(n)
 }
 
 /// The number, where it is a limit.

@@ -4,7 +4,7 @@ use Rattle.std.proofs.lemmas.List.{get_or_at, set_split, set-set}
 use Rattle.iss_edge.specs.declared.outside.Action.{Action}
 use Rattle.iss_edge.specs.World.{World, Told}
 use Rattle.iss_edge.specs.Calls.{Same}
-use Rattle.iss_edge.specs.Disk.{Disk, after_actions, splice}
+use Rattle.iss_edge.specs.Disk.{after_actions, splice}
 use Rattle.iss_edge.specs.Puts.{one_put, after_puts, actions_of_puts, Ran, Puts, PutsPart, Holds}
 use Rattle.iss_edge.specs.Stretches.{Step, actions_of, StandsUpTo, GoesOn}
 use Rattle.iss_edge.proofs.Tolds.{told_map, told_then}
