@@ -26,7 +26,8 @@ use Rattle.iss_codec.proofs.EqualInputs.{same_exactly}
 use Rattle.iss_index.specs.Places.{place_of}
 use Rattle.iss_index.proofs.Placed.{found-within, found-named, none-named, found-names}
 use Rattle.iss_accepted.specs.declared.row.Row.{Row}
-use Rattle.iss_accepted.specs.Values.{EventsNow, events_facts, answer_in, token_answer}
+use Rattle.iss_model.specs.rules.Judging.{token_answer}
+use Rattle.iss_accepted.specs.Values.{EventsNow, events_facts, answer_in}
 use Rattle.iss_accepted.specs.Standing.{Standing, IsNamed, name_of, standing_named, decision_made, decisions_at, decision_named, AreDecided}
 use Rattle.iss_accepted.specs.Kept.{bytes_of, event_of, standing_of, standings_of, row_answer, events_now, IsSpelledIn, IsKept}
 use Rattle.iss_accepted.proofs.Decided.{decided_more, decisions_more, with_verdict, nothing_decided}

@@ -1,10 +1,10 @@
 -- What the accepted events are to a caller, and what they tell.
-use Rattle.std.specs.Prelude.{ℕ, List, [], Option, Some, None}
+use Rattle.std.specs.Prelude.{List, [], Option}
 use Rattle.iss_model.specs.declared.decision.Answer.{Answer}
 use Rattle.iss_model.specs.declared.input.Input.{Input}
 use Rattle.iss_model.specs.Inputs.{event_token}
 use Rattle.iss_model.specs.rules.Facts.{Facts, Accepted, Decision}
-use Rattle.iss_model.specs.rules.Judging.{event_answer}
+use Rattle.iss_model.specs.rules.Judging.{token_answer}
 use Rattle.iss_model.specs.state.Cores.{no_core, core_facts}
 
 -- the accepted events in the order of their records, and the decisions in the order in which they were made
@@ -19,11 +19,6 @@ no_events = record { accepted = []; decisions = [] }
 -- the facts that the events tell, as a core would that keeps nothing else
 abbrev pub events_facts : EventsNow → Facts
 events_facts e = core_facts (record no_core { accepted = e.accepted; decisions = e.decisions })
-
--- what an input with this token is told: nothing where it is no event
-abbrev pub token_answer : Facts → Input → Option (List ℕ) → Option Answer
-token_answer f i None = None
-token_answer f i (Some token) = event_answer f i token
 
 -- what an input is told where it is an event that stands
 abbrev pub answer_in : Facts → Input → Option Answer

@@ -1,5 +1,5 @@
 -- The ask of an authorisation begins a transaction of a card and a product that stand in the facts.
-use Rattle.std.proofs.Common.{List, refl, ℕ, ◌≡◌}
+use Rattle.std.proofs.Common.{refl, ℕ, ◌≡◌}
 use Rattle.std.specs.Prelude.{None, Option, Some, option_and_then, option_map}
 use Rattle.iss_model.specs.declared.setting.Card.{Card}
 use Rattle.iss_model.specs.declared.setting.Product.{Product}

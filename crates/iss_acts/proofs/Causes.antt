@@ -109,10 +109,8 @@ module _ {f : Facts} {by : Cause} {at : ℕ} where
   unless_row None token its h = h refl
   unless_row (Some why) token its h = fresh (one_act its tt)
 
-  set_row : (i : Input) (why : Option Reason) (token : List ℕ) → by ≡ ComesOf i → why ≡ setting_reason f i → is_of_event by token ≡ true → acts_of i at f ≡ acts_unless why token (Sets i token ∷ [])
-      → IsRow f by at (acts_unless why token (Sets i token ∷ []))
-  set_row i why token comes same its own =
-      unless_row why token its (λ none. fresh (one_act its (comes, sym same ∙ none, refl, own ∙ ap (λ (why : Option Reason). acts_unless why token (Sets i token ∷ [])) none)))
+  set_row : (i : Input) (why : Option Reason) (token : List ℕ) → by ≡ ComesOf i → why ≡ setting_reason f i → is_of_event by token ≡ true → IsRow f by at (acts_unless why token (Sets i token ∷ []))
+  set_row i why token comes same its = unless_row why token its (λ none. fresh (one_act its (comes, sym same ∙ none, refl)))
 
   -- calls ----
 
@@ -208,7 +206,7 @@ its_amount : (f : Facts) (txn : List ℕ) (now : TxnNow) (amount : ℕ) → txn_
 its_amount f txn now amount e = ap₂ (λ (a b : Bool). a && b) (its_token txn f.txns now e) (same_number amount)
 
 -- an authorisation asks at its own moment
-pub asked_at : (token : List ℕ) (amount at : ℕ) (t : Option Txn) (ask : Ask) → option_map (first_ask token amount at) t ≡ Some ask → ask.at ≡ at
+asked_at : (token : List ℕ) (amount at : ℕ) (t : Option Txn) (ask : Ask) → option_map (first_ask token amount at) t ≡ Some ask → ask.at ≡ at
 asked_at token amount at None ask e = cc
 asked_at token amount at (Some t) ask e =
     let same : first_ask token amount at t ≡ ask = cc in
@@ -221,15 +219,15 @@ outcome_made f call outcome.Connection at o t asked = failed o t failure.Connect
 outcome_made f call outcome.Application at o t asked = failed o t failure.Application refl refl asked
 
 pub input_row : (f : Facts) (i : Input) (at : ℕ) → IsRow f (ComesOf i) at (acts_of i at f)
-input_row f (input.User token user) at = set_row _ (user_reason f user) token refl refl (its_name token) refl
-input_row f (input.Card token card user product active) at = set_row _ (card_reason f card user product) token refl refl (its_name token) refl
-input_row f (input.Move token who) at = set_row _ (move_reason f who) token refl refl (its_name token) refl
-input_row f (input.Product token product currency funding timeout_ms hold_ms) at = set_row _ (product_reason f product) token refl refl (its_name token) refl
-input_row f (input.Group token group mccs) at = set_row _ (group_reason f group) token refl refl (its_name token) refl
+input_row f (input.User token user) at = set_row _ (user_reason f user) token refl refl (its_name token)
+input_row f (input.Card token card user product active) at = set_row _ (card_reason f card user product) token refl refl (its_name token)
+input_row f (input.Move token who) at = set_row _ (move_reason f who) token refl refl (its_name token)
+input_row f (input.Product token product currency funding timeout_ms hold_ms) at = set_row _ (product_reason f product) token refl refl (its_name token)
+input_row f (input.Group token group mccs) at = set_row _ (group_reason f group) token refl refl (its_name token)
 input_row f (input.Control token control currency window amount_limit usage_limit association scope active) at =
-    set_row _ (control_reason f control currency window association scope) token refl refl (its_name token) refl
-input_row f (input.Set token set product currency connection timeout application max day_limit active) at = set_row _ (set_reason f set product currency) token refl refl (its_name token) refl
-input_row f (input.Switch token product on) at = set_row _ (switch_reason f product) token refl refl (its_name token) refl
+    set_row _ (control_reason f control currency window association scope) token refl refl (its_name token)
+input_row f (input.Set token set product currency connection timeout application max day_limit active) at = set_row _ (set_reason f set product currency) token refl refl (its_name token)
+input_row f (input.Switch token product on) at = set_row _ (switch_reason f product) token refl refl (its_name token)
 input_row f (input.Load token user currency amount) at = unless_row (load_reason f user) token (its_name token) (λ none. fresh (one_act (its_name token) (refl, refl)))
 input_row f (input.Authorization token card currency amount mcc mid) at = of_ask (authorization_ask f token card currency amount mcc mid at) refl
   where

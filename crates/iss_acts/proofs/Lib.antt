@@ -1,6 +1,6 @@
-pub mod Made
 pub mod Passing
 pub mod Causes
+pub mod ByKind
 pub mod Walk
 pub mod Stepping
 pub mod Posts

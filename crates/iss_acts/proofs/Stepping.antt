@@ -30,6 +30,16 @@ step_holds k w r due own =
 
 -- from state to state ----
 
+-- what stays through each due thing stays through all that is due
+pub settled_stays : (Stays : CoreState → Type 0) (at : ℕ) → ((s : CoreState) (thing : DueThing) → Stays s → Stays (fold after_entry s (thing_entries thing at (core_facts s))))
+    → (g : Growth CoreState) (items : List DueItem) → Stays g.world → Stays (fold (settle core_keeper at) g items).world
+settled_stays Stays at each g [] h = h
+settled_stays Stays at each g (item ∷ items) h = settled_stays Stays at each (settle core_keeper at g item) items (each g.world item.thing h)
+
+pub due_stays : (Stays : CoreState → Type 0) (at : ℕ) → ((s : CoreState) (thing : DueThing) → Stays s → Stays (fold after_entry s (thing_entries thing at (core_facts s))))
+    → (s : CoreState) → Stays s → Stays (after_due core_keeper s at).world
+due_stays Stays at each s h = settled_stays Stays at each (record { world = s; entries = [] }) (due_items (core_facts s) at) h
+
 -- What entries lead to holds of each due thing and of the record's own, if the state is ready for them; and it stays ready.
 pub record GoesThrough (Ready : CoreState → Type 0) (R : CoreState → List Entry → CoreState → Type 0) (i : Input) (at : ℕ) : Type 0 where
   pub none : (s : CoreState) → R s [] s

@@ -1,5 +1,5 @@
 -- What holds of each act holds of all that is made of acts.
-use Rattle.std.proofs.Common.{ap, Bool, List, [], subst, sym, true, ℕ, ◌++◌, ◌∷◌, ◌≡◌}
+use Rattle.std.proofs.Common.{ap, append_assoc, Bool, List, [], subst, sym, true, ℕ, ◌++◌, refl, ◌∙◌, ◌∷◌, ◌≡◌}
 use Rattle.iss_model.specs.declared.call.Opened.{Opened}
 use Rattle.iss_model.specs.declared.entry.Entry.{Entry}
 use Rattle.iss_model.specs.declared.txn.Txn.{Txn}
@@ -16,6 +16,12 @@ use Rattle.iss_acts.specs.Items.{Item, item_entry, has_item}
 use Rattle.iss_acts.specs.Sources.{AllMade, IsAskedCall, IsFurtherAsk, IsMade, IsRow, IsStart, IsTxnOf}
 use Rattle.iss_acts.specs.Stages.{Frees, Fresh, Keeps, Leaves, Over, Seeks, Stage, stage_after}
 use Rattle.iss_acts.proofs.Passing.{EachPasses, act_passes, both_pass, none_passes}
+
+-- acts and then acts ----
+
+pub acts_append : (xs ys : List Act) → entries_of_acts (xs ++ ys) ≡ entries_of_acts xs ++ entries_of_acts ys
+acts_append [] ys = refl
+acts_append (x ∷ xs) ys = ap (λ (es : List Entry). act_entries x ++ es) (acts_append xs ys) ∙ sym (append_assoc (act_entries x) (entries_of_acts xs) (entries_of_acts ys))
 
 -- whatever stands ----
 

@@ -1,4 +1,3 @@
-pub mod Rows
 pub mod Causes
 pub mod Stages
 pub mod Sources

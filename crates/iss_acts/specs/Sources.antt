@@ -12,7 +12,7 @@ use Rattle.iss_model.specs.rules.Pieces.{owed_to_programme, Parts, in_all, parts
 use Rattle.iss_model.specs.rules.CardReasons.{authorization_reason, further_ask, increment_reason, is_account_funded}
 use Rattle.iss_model.specs.rules.Facts.{Facts, asked_calls_of, call_in, is_notice, txn_in}
 use Rattle.iss_model.specs.rules.Reasons.{card_reason, control_reason, group_reason, move_reason, product_reason, set_reason, switch_reason, user_reason}
-use Rattle.iss_model.specs.rules.Stepping.{acts_of, authorization_ask}
+use Rattle.iss_model.specs.rules.Stepping.{authorization_ask}
 use Rattle.iss_model.specs.rules.Acts.{Abandons, Acknowledges, Act, Asks, Begins, Clears, Ends, Fails, Funds, GivesBack, HoldsOwn, LetsGo, Loads, Refuses, Sets, StandsIn, Tells, TurnsDown, Uses}
 use Rattle.iss_acts.specs.Causes.{Cause, ComesOf, may_act}
 use Rattle.iss_acts.specs.Stages.{Frees, Fresh, Keeps, Leaves, Seeks, Stage, stage_after}
@@ -105,7 +105,7 @@ IsNewNotice f number = f.notices_made < number
 
 -- Where an act comes from, at this stage of its row.
 abbrev pub IsFrom : Facts → Cause → ℕ → Stage → Act → Type 0
-IsFrom f by at g (Sets i event) = (by ≡ ComesOf i) × (setting_reason f i ≡ None) × (g ≡ Fresh) × (acts_of i at f ≡ Sets i event ∷ [])
+IsFrom f by at g (Sets i event) = (by ≡ ComesOf i) × (setting_reason f i ≡ None) × (g ≡ Fresh)
 IsFrom f by at g (Loads event user currency amount) = (g ≡ Fresh) × (by ≡ ComesOf (input.Load event user currency amount))
 IsFrom f by at g (Begins ask) = (g ≡ Fresh) × IsFirstAsk f by at ask
 IsFrom f by at g (Uses ask) = (g ≡ Fresh) × IsFurtherAsk f by at ask

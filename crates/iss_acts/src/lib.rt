@@ -1,5 +1,5 @@
-//! The acts of the rules: entries that are made together. What a record makes, and each due thing, is a list of acts.
-//! A law on entries is then a function over acts, with a clause for each of those that concern it.
+//! Why each act of the rules may be made, and of what it is made: an act makes entries together, and what a record makes is a list of acts.
+//! A law on entries is a function over acts, with a clause for each of those that concern it.
 //!
 //! It may cite `iss_model`.
 //! It must not cite any body: its laws are of definitions.
@@ -7,4 +7,4 @@
 
 mod laws;
 
-pub use laws::{acts_have_causes, entries_are_of_acts};
+pub use laws::acts_have_causes;

@@ -13,6 +13,7 @@ use Rattle.iss_model.specs.declared.setting.Control.{Control}
 use Rattle.iss_model.specs.declared.setting.Scope.{Scope}
 use Rattle.iss_model.specs.declared.setting.Scope.TheVariants as scope
 use Rattle.iss_model.specs.declared.txn.UsageRow.{UsageRow}
+use Rattle.iss_model.specs.declared.input.Input.{Input}
 use Rattle.iss_model.specs.declared.input.Input.TheVariants as input
 use Rattle.iss_model.specs.declared.entry.Entry.{Entry}
 use Rattle.iss_model.specs.declared.entry.Entry.TheVariants as entry
@@ -194,23 +195,25 @@ shown-more : (rows : List Row) (n : ℕ) (e : Entry) → group_made e ≡ None �
 shown-more rows n e none put =
     ap (λ (groups : List Group). control_seen groups (rows ++ row_of n e) put) (same_groups rows n e none) ∙ seen-more (groups_of rows) rows n e put
 
+-- a row that puts a control
+put_row : (b : Bounds) (rows : List Row) (n : ℕ) (i : Input) (p : ControlPut) → AreStanding b rows → b.count ≡ p.number → group_made (entry.Conf i) ≡ None
+    → puts_of (rows ++ row_of n (entry.Conf i)) ≡ puts_of rows ++ p ∷ [] → controls_shown (rows ++ row_of n (entry.Conf i)) ≡ with_control (controls_shown rows) p
+put_row b rows n i p standing now none more =
+    let e : Entry = entry.Conf i in
+    let puts : List ControlPut = puts_of rows in
+    ap (λ (ps : List ControlPut). map (shown_control (rows ++ row_of n e)) (map (control_now ps) (firsts put_name ps))) more
+    ∙ map-alike (shown_control (rows ++ row_of n e)) (shown_control rows) (shown-more rows n e none) (map (control_now (puts ++ p ∷ [])) (firsts put_name (puts ++ p ∷ [])))
+    ∙ map-map (control_now (puts ++ p ∷ [])) (shown_control rows) (firsts put_name (puts ++ p ∷ []))
+    ∙ put_taken b (groups_of rows) rows puts p standing now (list_any (λ (k : ControlPut). bytes_eq k.control.name p.control.name) (firsts put_name puts)) refl
+    ∙ ap₂ (λ (known : Bool) (controls : List ControlKept). cond known (map (control_after_put p) controls) (controls ++ record { first = p.number; control = p.control; amounts = nothing_kept; times = nothing_kept } ∷ []))
+    (sym (any-map (λ (c : ControlKept). bytes_eq c.control.name p.control.name) (seen_by (groups_of rows) rows puts) (firsts put_name puts))
+    ∙ ap (list_any (λ (c : ControlKept). bytes_eq c.control.name p.control.name)) (sym (map-map (control_now puts) (shown_control rows) (firsts put_name puts))))
+    (sym (map-map (control_now puts) (shown_control rows) (firsts put_name puts)))
+
 pub controls-more : (b : Bounds) (rows : List Row) (n : ℕ) (e : Entry) → AreStanding b rows → AreScopesKnown rows → b.count ≡ n
     → controls_shown (rows ++ row_of n e) ≡ controls_after n (groups_of rows) (controls_shown rows) e
 controls-more b rows n (entry.Conf (input.Control token control currency window amount_limit usage_limit association scope active)) standing known now =
-    let e : Entry = entry.Conf (input.Control token control currency window amount_limit usage_limit association scope active) in
-    let p : ControlPut = record {
-      number = n;
-      control = record { name = control; currency = currency; window = window; amount_limit = amount_limit; usage_limit = usage_limit; association = association; scope = scope; active = active };
-    } in
-    let puts : List ControlPut = puts_of rows in
-    ap (λ (ps : List ControlPut). map (shown_control (rows ++ row_of n e)) (map (control_now ps) (firsts put_name ps))) (filter_map-append (λ (row : Row). control_put row.number row.entry) rows (row_of n e))
-    ∙ map-alike (shown_control (rows ++ row_of n e)) (shown_control rows) (shown-more rows n e refl) (map (control_now (puts ++ p ∷ [])) (firsts put_name (puts ++ p ∷ [])))
-    ∙ map-map (control_now (puts ++ p ∷ [])) (shown_control rows) (firsts put_name (puts ++ p ∷ []))
-    ∙ put_taken b (groups_of rows) rows puts p standing now (list_any (λ (k : ControlPut). bytes_eq k.control.name control) (firsts put_name puts)) refl
-    ∙ ap₂ (λ (known : Bool) (controls : List ControlKept). cond known (map (control_after_put p) controls) (controls ++ record { first = n; control = p.control; amounts = nothing_kept; times = nothing_kept } ∷ []))
-    (sym (any-map (λ (c : ControlKept). bytes_eq c.control.name control) (seen_by (groups_of rows) rows puts) (firsts put_name puts))
-    ∙ ap (list_any (λ (c : ControlKept). bytes_eq c.control.name control)) (sym (map-map (control_now puts) (shown_control rows) (firsts put_name puts))))
-    (sym (map-map (control_now puts) (shown_control rows) (firsts put_name puts)))
+    put_row b rows n _ _ standing now refl (filter_map-append (λ (row : Row). control_put row.number row.entry) rows (row_of n _))
 controls-more b rows n (entry.Conf (input.Group token group mccs)) standing known now =
     let e : Entry = entry.Conf (input.Group token group mccs) in
     let more : List Group = record { name = group; mccs = mccs } ∷ [] in

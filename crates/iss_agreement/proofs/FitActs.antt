@@ -29,12 +29,11 @@ use Rattle.iss_model.specs.rules.Facts.{Facts, is_notice, next_call}
 use Rattle.iss_model.specs.rules.Acts.{Abandons, Acknowledges, Act, Asks, Begins, Clears, Declines, Does, Ends, Fails, Funds, GivesBack, HoldsOwn, LetsGo, Loads, Refuses, Sets, StandsIn, Tells, TurnsDown, Uses, act_entries, entries_of_acts}
 use Rattle.iss_model.specs.rules.Asks.{Ask, ask_usage, call_ask}
 use Rattle.iss_model.specs.rules.Pieces.{taken_to_clear}
-use Rattle.iss_model.specs.rules.Reasons.{user_reason, card_reason, card_move_reason, user_move_reason, move_reason, product_reason, control_reason, put_control_reason, switch_reason, lacks_user, lacks_product, lacks_group}
-use Rattle.iss_model.specs.rules.Stepping.{acts_of, acts_unless}
+use Rattle.iss_model.specs.rules.Reasons.{card_reason, card_move_reason, user_move_reason, move_reason, put_control_reason, lacks_user, lacks_product, lacks_group}
 use Rattle.iss_model.proofs.Names.{its_name}
 use Rattle.iss_model.proofs.Lists.{all_weaker}
 use Rattle.iss_acts.specs.Causes.{Cause}
-use Rattle.iss_acts.specs.Sources.{AllMade, IsMade, IsRow}
+use Rattle.iss_acts.specs.Sources.{AllMade, IsMade, IsRow, setting_reason}
 use Rattle.iss_acts.specs.Stages.{Fresh, Over, Seeks, Stage, stage_after}
 use Rattle.iss_acts.proofs.Begun.{is_begun}
 use Rattle.iss_acts.proofs.Walk.{from_start, txn_of_ask, txn_of_call}
@@ -78,22 +77,16 @@ known_scope None f currency window association s none =
     let second = first_fails (lacks_product f association) reason.ProductUnknown _ first.1 in
     inr (first_fails (lacks_group f s) reason.GroupUnknown _ second.1).0
 
--- a setting that is all that its input makes has no reason to be declined
-not_declined : (why : Option Reason) (token : List ℕ) (acts : List Act) (i : Input) (event : List ℕ) → acts_unless why token acts ≡ Sets i event ∷ [] → why ≡ None
-not_declined None token acts i event own = refl
-not_declined (Some why) token acts i event own = cc
-
-settable : (f : Facts) (i : Input) (event : List ℕ) (at : ℕ) → acts_of i at f ≡ Sets i event ∷ [] → IsSettable f i
-settable f (input.User token user) event at own = (first_fails (is_some (user_named user f.users)) reason.Exists None (not_declined (user_reason f user) token _ _ event own)).0
-settable f (input.Card token card user product active) event at own = new_card_named f card user product (not_declined (card_reason f card user product) token _ _ event own)
-settable f (input.Move token who) event at own = settable_move f token who (not_declined (move_reason f who) token _ _ event own)
-settable f (input.Product token product currency funding timeout_ms hold_ms) event at own =
-    (first_fails (is_some (product_named product f.products)) reason.Exists _ (not_declined (product_reason f product) token _ _ event own)).0
-settable f (input.Control token control currency window amount_limit usage_limit association scope active) event at own =
-    known_scope (control_named control f.controls) f currency window association scope (not_declined (control_reason f control currency window association scope) token _ _ event own)
-settable f (input.Switch token product on) event at own =
-    is_there (product_named product f.products) (first_fails (is_none (product_named product f.products)) reason.ProductUnknown None (not_declined (switch_reason f product) token _ _ event own)).0
-settable f _ event at own = tt
+settable : (f : Facts) (i : Input) → setting_reason f i ≡ None → IsSettable f i
+settable f (input.User token user) none = (first_fails (is_some (user_named user f.users)) reason.Exists None none).0
+settable f (input.Card token card user product active) none = new_card_named f card user product none
+settable f (input.Move token who) none = settable_move f token who none
+settable f (input.Product token product currency funding timeout_ms hold_ms) none = (first_fails (is_some (product_named product f.products)) reason.Exists _ none).0
+settable f (input.Control token control currency window amount_limit usage_limit association scope active) none =
+    known_scope (control_named control f.controls) f currency window association scope none
+settable f (input.Switch token product on) none =
+    is_there (product_named product f.products) (first_fails (is_none (product_named product f.products)) reason.ProductUnknown None none).0
+settable f _ none = tt
 
 -- authorisations ----
 
@@ -158,8 +151,8 @@ module _ {f : Facts} (all : AreKnown (bounds_of f) f) {by : Cause} {at : ℕ} wh
   act_fits : (g : Stage) (a : Act) (ys : List Entry) → IsMade f by at g a → FitAt f (stage_after g a) ys → FitAt f g (act_entries a ++ ys)
   act_fits g (Declines event why) ys made later = over all g _ ys (λ b known sought. fit-one b _ tt) later
   act_fits g (Sets i event) ys made later =
-      subst (λ (g : Stage). FitAt f g (act_entries (Sets i event) ++ ys)) (sym made.from.0)
-      (settable f i event at made.from.1, fit-cons (bounds_of f) (entry.Decided event verdict.Done) ys tt (later (bounds_of f) all tt))
+      subst (λ (g : Stage). FitAt f g (act_entries (Sets i event) ++ ys)) (sym made.from.2)
+      (settable f i made.from.1, fit-cons (bounds_of f) (entry.Decided event verdict.Done) ys tt (later (bounds_of f) all tt))
   act_fits g (Loads event user currency amount) ys made later = over all g _ ys (λ b known sought. fit-cons b _ _ tt (fit-one b _ tt)) later
   act_fits g (Begins ask) ys made later =
       subst (λ (g : Stage). FitAt f g (act_entries (Begins ask) ++ ys)) (sym made.from.0)
@@ -182,7 +175,7 @@ module _ {f : Facts} (all : AreKnown (bounds_of f) f) {by : Cause} {at : ℕ} wh
         fit-cons b _ _ (known_call b f o t known made.from.1) (fit-one b _ (new_notice b f number known made.from.2)),
         known_txn b f t known (txn_of_call made.from.1),
       )) later
-  act_fits g (StandsIn number ask when s) ys made later = over all g _ ys (λ b known sought. fit-stood b number ask when s (new_notice b f number known made.from.2)) later
+  act_fits g (StandsIn number ask when s) ys made later = over all g _ ys (λ b known sought. fit-stood b number ask when s (new_notice b f number known made.from.3)) later
   act_fits g (TurnsDown ask why) ys made later = over all g _ ys (λ b known sought. fit-declined b ask why (subst (IsSought b) made.from.0 sought)) later
   act_fits g (Abandons number t why calls parts) ys made later =
       over all g _ ys (λ b known sought. fit-abandoned b number f t why calls known (new_notice b f number known made.from.3) (known_txn b f t known made.from.1) made.from.2) later

@@ -14,7 +14,7 @@ use Rattle.iss_model.specs.rules.Settings.{is_named_in}
 use Rattle.iss_model.specs.rules.Activity.{TxnNow, CallNow, is_asked}
 use Rattle.iss_model.specs.rules.Asks.{Ask}
 use Rattle.iss_model.specs.rules.Facts.{Facts, asked_calls_of}
-use Rattle.iss_model.specs.rules.Pieces.{post_entries, hold_entries, unhold_entries, Parts, use_return_entries, release_entries, abandoned_call_entries, abandoned_calls_entries, declined_ask_entries, funded_ask_entries, set_stand_in_entries, clearing_money_entries, refund_money_entries}
+use Rattle.iss_model.specs.rules.Pieces.{post_entries, hold_entries, unhold_entries, Parts, use_return_entries, release_entries, abandoned_call_entries, abandoned_calls_entries, declined_ask_entries, funded_ask_entries, set_stand_in_entries, clearing_money_entries, give_back_entries}
 use Rattle.iss_model.proofs.Lists.{find_passes}
 use Rattle.iss_acts.specs.Sources.{IsAskedCall, IsNewNotice, IsTxnOf}
 use Rattle.iss_agreement.proofs.StayStanding.{true_le}
@@ -111,7 +111,7 @@ fit-stood b number ask at s next = search (fits, fit-posted, fit-held) depth 20
 pub fit-cleared : (b : Bounds) (t : Txn) (taken : Parts) (amount at : ℕ) → IsKnown b t → AreFit b (clearing_money_entries t taken amount at)
 fit-cleared b t taken amount at known = search (fits, fit-let_go, fit-posted) depth 20
 
-pub fit-refunded : (b : Bounds) (t : Txn) (amount programme : ℕ) → AreFit b (refund_money_entries t amount programme)
+pub fit-refunded : (b : Bounds) (t : Txn) (amount programme : ℕ) → AreFit b (give_back_entries t amount programme)
 fit-refunded b t amount programme = search (fits, fit-posted) depth 20
 
 -- what acts are made of is within the bounds ----

@@ -18,3 +18,4 @@ pub mod Records
 pub mod StepSums
 pub mod RunLaws
 pub mod Likeness
+pub mod RoomLaws

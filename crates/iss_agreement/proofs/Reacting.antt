@@ -13,6 +13,7 @@ use Rattle.iss_model.specs.rules.Stepping.{step}
 use Rattle.iss_model.specs.rules.Judging.{judge}
 use Rattle.iss_agreement.specs.Laws.{KeptBySteps, Shows}
 use Rattle.iss_model.specs.run.Sayings.{said_by, said_of_time, Reaction, reaction, reaction_as, answer_left}
+use Rattle.iss_model.specs.run.Rooms.{judgement_after}
 use Rattle.iss_model.specs.run.Transcripts.{Reading, sound, faulty, Text, LineReply, at_level, said_text, after_line, transcript}
 use Rattle.iss_agreement.proofs.Keepers.{step-kept, step-shown, judge-shown}
 
@@ -43,8 +44,9 @@ module _ {W V : Type 0} (m : Keeper W) (n : Keeper V) (show : W → V) (IsGood :
   pub reaction-shown : (w : W) (i : Input) (stamp : ℕ) → IsGood w → reaction n (show w) i stamp ≡ shown_reaction show (reaction m w i stamp)
   unfolding reaction
   reaction-shown w i stamp good =
-      ap (reaction_as n (show w) i stamp) (judge-shown m n show IsGood Fit kept shows w i stamp good)
-      ∙ reaction_as-shown w i stamp (judge m w i stamp) good
+      ap (λ (f : Facts). reaction_as n (show w) i stamp (judgement_after f.count (judge n (show w) i stamp))) (shows.facts w good)
+      ∙ ap (λ (j : Judged). reaction_as n (show w) i stamp (judgement_after (m.facts w).count j)) (judge-shown m n show IsGood Fit kept shows w i stamp good)
+      ∙ reaction_as-shown w i stamp (judgement_after (m.facts w).count (judge m w i stamp)) good
 
   reaction_as-kept : (w : W) (i : Input) (stamp : ℕ) (j : Judged) → IsGood w → IsGood (reaction_as m w i stamp j).world
   reaction_as-kept w i stamp (judged.New r) good = step-kept m IsGood Fit kept w r good
@@ -53,7 +55,7 @@ module _ {W V : Type 0} (m : Keeper W) (n : Keeper V) (show : W → V) (IsGood :
 
   reaction-kept : (w : W) (i : Input) (stamp : ℕ) → IsGood w → IsGood (reaction m w i stamp).world
   unfolding reaction
-  reaction-kept w i stamp good = reaction_as-kept w i stamp (judge m w i stamp) good
+  reaction-kept w i stamp good = reaction_as-kept w i stamp (judgement_after (m.facts w).count (judge m w i stamp)) good
 
   at_count : (w : W) (texts : List (List ℕ)) → IsGood w → at_level (n.facts (show w)).count texts ≡ at_level (m.facts w).count texts
   at_count w texts good = ap (λ (f : Facts). at_level f.count texts) (shows.facts w good)

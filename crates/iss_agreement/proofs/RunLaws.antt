@@ -1,8 +1,9 @@
 -- What a run makes of its lines: the records are legal, the history is theirs, and a dry run is a run without a device.
 use Rattle.std.proofs.Common.{◌≡◌, ℕ, ◌≤◌, Bool, true, false, cond, List, [], ◌∷◌, ◌++◌, length, map, fold, Option, Some, None, refl, sym, ap, subst, ◌∙◌, append_assoc, arith}
-use Rattle.std.specs.Prelude.{option_to_list, unwrap_or}
+use Rattle.std.specs.Prelude.{nat_lt, option_to_list, unwrap_or}
 use Rattle.std.proofs.lemmas.List.{append-nil, length-append}
 use Rattle.std.proofs.lemmas.List.Sums.{fold-append}
+use Rattle.iss_model.specs.declared.limits.TheConstants.{MOST_RECORDS}
 use Rattle.iss_model.specs.declared.input.Input.{Input}
 use Rattle.iss_model.specs.declared.input.Record.{Record}
 use Rattle.iss_model.specs.declared.decision.Answer.{Answer}
@@ -14,7 +15,7 @@ use Rattle.iss_model.specs.rules.Judging.{judge}
 use Rattle.iss_model.specs.rules.Histories.{History, nothing_yet, history_keeper, Follows, IsLegalAfter}
 use Rattle.iss_model.specs.run.Sayings.{reaction_as, reaction}
 use Rattle.iss_model.specs.run.Transcripts.{Reading, sound, faulty, Text, at_level, said_text_at, transcript}
-use Rattle.iss_model.specs.run.Rooms.{Room, fits, judgement_within, where_it_fits, record_made, room_left}
+use Rattle.iss_model.specs.run.Rooms.{Room, fits, judgement_after, judgement_within, where_it_fits, record_made, room_left}
 use Rattle.iss_agreement.proofs.Records.{step_records}
 use Rattle.iss_agreement.proofs.JudgedAgain.{new_at, clock_at, not_before, new_again, clock_again}
 use Rattle.iss_model.specs.run.Runs.{Run, dry_run, response, judgement_in, record_of_line, line_texts, run_after, accepted_records, transcript_of, RiseFrom}
@@ -29,23 +30,25 @@ pub clock_follows : (h : History) (i : Input) (stamp : ℕ) (r : Record) → jud
 clock_follows h i stamp r e =
     record { stamp = not_before history_keeper h stamp r.at (clock_at history_keeper h i stamp r e); is_new = clock_again history_keeper h i stamp r e }
 
--- what may follow a record that is made only where it fits
-fitting : (h : History) (i : Input) (stamp : ℕ) (fit : Bool) (a : Answer) (r : Record) (j : Judged) (rest : List Record) → record_made j ≡ Some r
+-- what may follow a record that is made only where one more may come, and it fits
+fitting : (h : History) (i : Input) (stamp : ℕ) (may fit : Bool) (spent full : Answer) (r : Record) (j : Judged) (rest : List Record) → record_made j ≡ Some r
     → (reaction_as history_keeper h i stamp j).world ≡ (step history_keeper h r).world → Follows h r
-    → IsLegalAfter (reaction_as history_keeper h i stamp (cond fit j (judged.Told a))).world rest
-    → IsLegalAfter h (option_to_list (record_made (cond fit j (judged.Told a))) ++ rest)
-fitting h i stamp true a r j rest made next follows legal =
+    → IsLegalAfter (reaction_as history_keeper h i stamp (cond may (cond fit j (judged.Told full)) (judged.Told spent))).world rest
+    → IsLegalAfter h (option_to_list (record_made (cond may (cond fit j (judged.Told full)) (judged.Told spent))) ++ rest)
+fitting h i stamp true true spent full r j rest made next follows legal =
     subst (λ o. IsLegalAfter h (option_to_list o ++ rest)) (sym made) (follows, subst (λ w. IsLegalAfter w rest) next legal)
-fitting h i stamp false a r j rest made next follows legal = legal
+fitting h i stamp true false spent full r j rest made next follows legal = legal
+fitting h i stamp false fit spent full r j rest made next follows legal = legal
 
 -- the same in any room
 fitting_in : (room : Option Room) (h : History) (i : Input) (stamp : ℕ) (r : Record) (j : Judged) (rest : List Record) → record_made j ≡ Some r
     → (reaction_as history_keeper h i stamp j).world ≡ (step history_keeper h r).world → Follows h r
     → IsLegalAfter (reaction_as history_keeper h i stamp (where_it_fits room h.records r j)).world rest
     → IsLegalAfter h (option_to_list (record_made (where_it_fits room h.records r j)) ++ rest)
-fitting_in None h i stamp r j rest made next follows legal = fitting h i stamp true answer.Idle r j rest made next follows legal
+fitting_in None h i stamp r j rest made next follows legal =
+    fitting h i stamp (nat_lt (length h.records) MOST_RECORDS) true answer.Spent answer.Spent r j rest made next follows legal
 fitting_in (Some room) h i stamp r j rest made next follows legal =
-    fitting h i stamp (fits room h.records r) _ r j rest made next follows legal
+    fitting h i stamp (nat_lt (length h.records) MOST_RECORDS) (fits room h.records r) answer.Spent _ r j rest made next follows legal
 
 -- a line's record, where it makes one, follows on what stands
 judged_legal : (room : Option Room) (h : History) (i : Input) (stamp : ℕ) (j : Judged) (rest : List Record) → judge history_keeper h i stamp ≡ j
@@ -90,7 +93,7 @@ texts_then s (x ∷ xs) ys =
 
 -- ---- a dry run
 
-without_device : (h : History) (j : Judged) → judgement_within None h.records j ≡ j
+without_device : (h : History) (j : Judged) → judgement_within None h.records j ≡ judgement_after (length h.records) j
 without_device h (judged.New r) = refl
 without_device h (judged.Clock r) = refl
 without_device h (judged.Told a) = refl
@@ -118,9 +121,10 @@ dry_lines h (sound i at ∷ lines) =
     let stamp = unwrap_or at 0 in
     let j = judge history_keeper h i stamp in
     let k = judgement_within None h.records j in
+    let said = judgement_after (length h.records) j in
     ap (λ room. line_on h i stamp lines k room) (no_room h.records (record_made k))
     ∙ ap (λ made. line_on h i stamp lines made None) (without_device h j)
-    ∙ ap (λ (t : List Text). line_said h i stamp j ++ t) (dry_lines (reaction_as history_keeper h i stamp j).world lines)
+    ∙ ap (λ (t : List Text). line_said h i stamp said ++ t) (dry_lines (reaction_as history_keeper h i stamp said).world lines)
 dry_lines h (faulty text ∷ lines) = ap (λ (t : List Text). (response (dry_after h) (faulty text)).texts ++ t) (dry_lines h lines)
 
 pub dry_texts : (lines : List Reading) → transcript_of dry_run lines ≡ transcript history_keeper nothing_yet lines

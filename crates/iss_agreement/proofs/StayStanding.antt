@@ -181,13 +181,9 @@ pub scopes-more : (h : History) (n : ℕ) (e : Entry) → AreScopesKnown h.rows
 scopes-more h n (entry.Conf (input.Control token control currency window amount_limit usage_limit association scope active)) known settable =
     let i : Input = input.Control token control currency window amount_limit usage_limit association scope active in
     let rows : List Row = h.rows in
-    let p : ControlPut = record {
-      number = n;
-      control = record { name = control; currency = currency; window = window; amount_limit = amount_limit; usage_limit = usage_limit; association = association; scope = scope; active = active };
-    } in
     ap₂ (λ (groups : List Group) (puts : List ControlPut). list_all (knows groups) (map (control_now puts) (firsts put_name puts)))
     (made-none (λ (row : Row). group_made row.entry) rows (row_of n (entry.Conf i)) refl) (filter_map-append (λ (row : Row). control_put row.number row.entry) rows (row_of n (entry.Conf i)))
-    ∙ put_known (groups_of rows) (puts_of rows) p (list_any (λ (k : ControlPut). bytes_eq k.control.name control) (firsts put_name (puts_of rows))) refl
+    ∙ put_known (groups_of rows) (puts_of rows) _ (list_any (λ (k : ControlPut). bytes_eq k.control.name control) (firsts put_name (puts_of rows))) refl
     (λ new. by new (settable i refl)) known
   where
     by : list_any (λ (k : ControlPut). bytes_eq k.control.name control) (firsts put_name (puts_of h.rows)) ≡ false

@@ -18,7 +18,7 @@ ghost use Rattle.iss_model.specs.rules.Activity.{txns_of, calls_of, notices_of, 
 ghost use Rattle.iss_model.specs.rules.Facts.{balance_in, held_in, part_in, stand_in_sum, reply_in};
 ghost use Rattle.iss_model.specs.rules.Asks.{used_in};
 ghost use Rattle.iss_model.specs.texts.BalanceLines.{accounts_of};
-ghost use Rattle.iss_model.specs.rules.Histories.{nothing_yet, time_of, events_of, history_facts, history_keeper, history_of};
+ghost use Rattle.iss_model.specs.rules.Histories.{book_facts, events_of, history_facts, history_keeper, history_of, nothing_yet, time_of};
 ghost use Rattle.iss_model.specs.rules.Stepping.{step};
 ghost use Rattle.iss_model.specs.rules.Judging.{judge};
 ghost use Rattle.iss_model.specs.state.Cores.{CoreState, no_core, control_facts, core_facts, core_keeper, core_of};
@@ -33,7 +33,7 @@ ghost use Rattle.iss_agreement.specs.Likeness.{AreAlike};
 pub fn core_keeps_the_book()
     ensures state { (rs : List Record) → core_of rs ≡ shown_state (history_of rs) }
     ensures longer { (rs : List Record) → (r : Record) → (step core_keeper (core_of rs) r).world ≡ core_of (rs ++ r ∷ []) }
-    ensures facts { (rs : List Record) → core_facts (core_of rs) ≡ history_facts (history_of rs) }
+    ensures facts { (rs : List Record) → core_facts (core_of rs) ≡ book_facts rs }
     ensures entries { (rs : List Record) → (r : Record)
         → (step core_keeper (core_of rs) r).entries ≡ (step history_keeper (history_of rs) r).entries }
     ensures judged { (rs : List Record) → (i : Input) → (stamp : ℕ)
@@ -80,7 +80,7 @@ pub fn records_add_to_sums()
         ≡ sum_at changes key (history_of rs).rows +ℤ sum_among changes key (step history_keeper (history_of rs) r).entries }
     ensures balance { (a : Account) → (rs : List Record) → (r : Record)
         → balance_in (history_facts (history_of (rs ++ r ∷ []))) a
-        ≡ balance_in (history_facts (history_of rs)) a
+        ≡ balance_in (book_facts rs) a
         +ℤ sum_among balance_changes (account_key a) (step history_keeper (history_of rs) r).entries }
 {}
 
@@ -91,7 +91,7 @@ pub fn core_answers_as_its_book()
     ensures count { (rs : List Record) → (core_of rs).count ≡ length rs }
     ensures events { (rs : List Record) → (core_of rs).accepted ≡ events_of rs }
     ensures reply { (rs : List Record) → (event : List ℕ)
-        → reply_in (core_facts (core_of rs)) event ≡ reply_in (history_facts (history_of rs)) event }
+        → reply_in (core_facts (core_of rs)) event ≡ reply_in (book_facts rs) event }
     ensures users { (rs : List Record) → (core_of rs).cardholders.users ≡ users_of (history_of rs).rows }
     ensures cards { (rs : List Record) → (core_of rs).cardholders.cards ≡ cards_of (history_of rs).rows }
     ensures products { (rs : List Record)
@@ -100,23 +100,23 @@ pub fn core_answers_as_its_book()
     ensures controls { (rs : List Record) → map control_facts (core_of rs).controls ≡ controls_of (history_of rs).rows }
     ensures sets { (rs : List Record) → (core_of rs).stand_ins.sets ≡ sets_of (history_of rs).rows }
     ensures used { (rs : List Record) → (control : List ℕ) → (user : List ℕ) → (at : ℕ)
-        → used_in (core_facts (core_of rs)) control user at ≡ used_in (history_facts (history_of rs)) control user at }
+        → used_in (core_facts (core_of rs)) control user at ≡ used_in (book_facts rs) control user at }
     ensures balance { (rs : List Record) → (a : Account)
-        → kept_at (core_of rs).balances (account_key a) ≡ balance_in (history_facts (history_of rs)) a }
+        → kept_at (core_of rs).balances (account_key a) ≡ balance_in (book_facts rs) a }
     ensures accounts { (rs : List Record)
         → finite.keys (core_of rs).balances ≡ map account_key (accounts_of (history_of rs).rows) }
     ensures held { (rs : List Record) → (user : List ℕ) → (currency : Currency)
-        → kept_at (core_of rs).holdings.held (user_key user currency) ≡ held_in (history_facts (history_of rs)) user currency }
+        → kept_at (core_of rs).holdings.held (user_key user currency) ≡ held_in (book_facts rs) user currency }
     ensures part { (rs : List Record) → (txn : List ℕ) → (part : Part)
-        → kept_at (core_of rs).holdings.parts (part_key txn part) ≡ (history_facts (history_of rs)).parts (part_key txn part) }
+        → kept_at (core_of rs).holdings.parts (part_key txn part) ≡ (book_facts rs).parts (part_key txn part) }
     ensures cleared { (rs : List Record) → (txn : List ℕ)
-        → kept_at (core_of rs).txn_sums.cleared txn ≡ (history_facts (history_of rs)).cleared txn }
+        → kept_at (core_of rs).txn_sums.cleared txn ≡ (book_facts rs).cleared txn }
     ensures refunded { (rs : List Record) → (txn : List ℕ)
-        → kept_at (core_of rs).txn_sums.refunded txn ≡ (history_facts (history_of rs)).refunded txn }
+        → kept_at (core_of rs).txn_sums.refunded txn ≡ (book_facts rs).refunded txn }
     ensures paid { (rs : List Record) → (txn : List ℕ)
-        → kept_at (core_of rs).txn_sums.paid txn ≡ (history_facts (history_of rs)).paid txn }
+        → kept_at (core_of rs).txn_sums.paid txn ≡ (book_facts rs).paid txn }
     ensures stood { (rs : List Record) → (product : List ℕ) → (user : List ℕ) → (at : ℕ)
-        → kept_at (core_of rs).stand_ins.stood (stood_key product user at) ≡ stand_in_sum (history_facts (history_of rs)) product user at }
+        → kept_at (core_of rs).stand_ins.stood (stood_key product user at) ≡ stand_in_sum (book_facts rs) product user at }
     ensures txns { (rs : List Record) → (core_of rs).holdings.txns ≡ txns_of (history_of rs).rows }
     ensures calls { (rs : List Record) → (core_of rs).calls ≡ calls_of (history_of rs).rows }
     ensures notices { (rs : List Record) → (core_of rs).outbox.made ≡ length (notices_of (history_of rs).rows) }

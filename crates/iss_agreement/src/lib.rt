@@ -6,10 +6,12 @@
 #![tactic(auto)]
 
 mod agreement;
+mod rooms;
 mod runs;
 
 pub use agreement::{
     a_core_is_told_its_transcript, alike_cores_stay_alike, controls_count_since_their_first_record,
     core_answers_as_its_book, core_keeps_the_book, judging_is_stable, records_add_to_sums,
 };
+pub use rooms::a_record_fits_now_or_after_a_turn;
 pub use runs::runs_are_told_their_transcript;

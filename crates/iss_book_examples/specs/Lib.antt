@@ -11,6 +11,7 @@ pub mod WorkedTexts
 pub mod WorkedParts
 pub mod WorkedSpellings
 pub mod WorkedRuns
+pub mod WorkedRooms
 pub mod WorkedReasons
 pub mod WorkedCounting
 pub mod WorkedSets

@@ -9,6 +9,7 @@ use Rattle.iss_model.specs.declared.input.Outcome.TheVariants as outcome
 use Rattle.iss_model.specs.declared.input.Input.{Input}
 use Rattle.iss_model.specs.declared.input.Input.TheVariants as input
 use Rattle.iss_model.specs.rules.Histories.{nothing_yet}
+use Rattle.iss_model.specs.run.Rooms.{one_journal}
 use Rattle.iss_model.specs.run.Transcripts.{Reading, sound, Text}
 use Rattle.iss_model.specs.run.Runs.{Run, run_after, transcript_of}
 use Rattle.iss_model.specs.texts.DrillLines.{DrillTotals}
@@ -17,7 +18,7 @@ use Rattle.iss_book_examples.specs.Scripts.{Script, history_after, call_number, 
 
 -- a device of this size and instance that holds no record
 abbrev pub fresh_device : ℕ → ℕ → Run
-fresh_device instance size = record { instance = instance; room = Some (record { size = size }); history = nothing_yet }
+fresh_device instance size = record { instance = instance; room = Some (one_journal size); history = nothing_yet }
 
 -- a line without a stamp
 abbrev pub line : Input → Reading
@@ -86,7 +87,7 @@ late_answer = line_at 4000 (gateway_answer 1 outcome.Funded) ∷ []
 
 -- the same device with no room for one more byte
 abbrev pub without_room : Run → Run
-without_room s = record s { room = Some (record { size = 128 }) }
+without_room s = record s { room = Some (one_journal 128) }
 
 -- lines of a report
 abbrev pub report_line : String → List ℕ

@@ -118,6 +118,12 @@ IdleLine =
     Reads (answered answer.Idle ∷ [])
     "{\"reply\":\"idle\"}"
 
+-- an input after as many records as there may be
+abbrev pub SpentLine : Type 0
+SpentLine =
+    Reads (answered answer.Spent ∷ [])
+    "{\"reply\":\"spent\"}"
+
 -- a time at which something was due
 abbrev pub TimeLine : Type 0
 TimeLine =

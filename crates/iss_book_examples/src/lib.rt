@@ -14,7 +14,7 @@ pub use worked::{
     worked_windows,
 };
 pub use worked_bytes::worked_spellings;
-pub use worked_devices::{worked_lines, worked_reports, worked_runs};
+pub use worked_devices::{worked_lines, worked_reports, worked_rooms, worked_runs};
 pub use worked_rules::{
     worked_counting, worked_full_lists, worked_order, worked_reason_texts, worked_reasons,
     worked_sets,

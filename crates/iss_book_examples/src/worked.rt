@@ -11,7 +11,7 @@ ghost use Rattle.iss_model.specs.rules.Reasons.{is_full};
 ghost use Rattle.iss_model.specs.rules.Pieces.{taken_to_clear, taken_to_release};
 ghost use Rattle.iss_book_examples.specs.WorkedParts.{parts_of, funded_by_all};
 ghost use Rattle.iss_book_examples.specs.Scripts.{Plays, used_after};
-ghost use Rattle.iss_book_examples.specs.WorkedTexts.{RequestLine, IncrementRequestLine, VoidLine, StandInNoticeLine, CaptureNoticeLine, RefundNoticeLine, DoneEventLine, ApprovedEventLine, DeclinedByAControlLine, DeclinedMoveLine, LateAnswerLine, TimedOutCallLine, AbandonedCallLine, UnknownCallLine, AcknowledgedLine, AcknowledgedBeforeLine, IdleLine, TimeLine};
+ghost use Rattle.iss_book_examples.specs.WorkedTexts.{RequestLine, IncrementRequestLine, VoidLine, StandInNoticeLine, CaptureNoticeLine, RefundNoticeLine, DoneEventLine, ApprovedEventLine, DeclinedByAControlLine, DeclinedMoveLine, LateAnswerLine, TimedOutCallLine, AbandonedCallLine, UnknownCallLine, AcknowledgedLine, AcknowledgedBeforeLine, IdleLine, SpentLine, TimeLine};
 ghost use Rattle.iss_book_examples.specs.WorkedPurchases.{purchase_of_all, purchase_of_more, repeated_purchase, changed_purchase, raised_reversed_cleared, refunded_once, before_expiry, after_expiry, cleared_after_expiry, states_of_a_card, loads_in_three_currencies, greatest_load};
 ghost use Rattle.iss_book_examples.specs.WorkedControls.{limit_of_a_day, next_day, next_week, next_month, lifetime, group_of_merchants, purchase_before_the_control, limit_of_a_transaction};
 ghost use Rattle.iss_book_examples.specs.WorkedCalls.{funded_by_the_gateway, refused_by_the_gateway, open_call, refused_call, answer_in_time, answer_too_late, reversed_while_pending, cleared_in_parts, refund_of_too_much, cleared_for_less, cleared_the_next_day};
@@ -159,6 +159,7 @@ pub fn worked_texts()
     ensures acknowledged { AcknowledgedLine }
     ensures acknowledged_before { AcknowledgedBeforeLine }
     ensures idle { IdleLine }
+    ensures spent { SpentLine }
     ensures time { TimeLine }
 {}
 

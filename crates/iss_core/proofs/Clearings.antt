@@ -8,7 +8,7 @@ use Rattle.iss_model.specs.declared.entry.Entry.TheVariants as entry
 use Rattle.iss_model.specs.rules.Facts.{Facts}
 use Rattle.iss_model.specs.rules.Pieces.{taken_to_clear, clearing_money_entries}
 use Rattle.iss_model.specs.rules.Acts.{Does, entries_of_acts}
-use Rattle.iss_acts.proofs.Made.{acts_append}
+use Rattle.iss_acts.proofs.Walk.{acts_append}
 use Rattle.iss_hold.specs.declared.hold.Hold.{Hold}
 use Rattle.iss_hold.specs.declared.hold.Taken.{Taken}
 use Rattle.iss_hold.specs.Holdings.{parts_of, without_parts}

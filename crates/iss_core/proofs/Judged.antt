@@ -15,7 +15,7 @@ use Rattle.iss_model.specs.rules.Facts.{Facts, Accepted, event_in, reply_in}
 use Rattle.iss_model.specs.rules.Due.{DueItem, due_items, is_quiet}
 use Rattle.iss_model.specs.rules.Keeper.{Growth}
 use Rattle.iss_model.specs.rules.Stepping.{settle, after_due}
-use Rattle.iss_model.specs.rules.Judging.{repeat_or_conflict, event_answer, time_answer, notice_answer, refusal, is_ack, judgement_as, judgement_on, judgement_at, judge}
+use Rattle.iss_model.specs.rules.Judging.{repeat_or_conflict, event_answer, token_answer, time_answer, notice_answer, refusal, is_ack, judgement_as, judgement_on, judgement_at, judge}
 use Rattle.iss_model.specs.state.Cores.{CoreState, core_facts, core_keeper}
 use Rattle.iss_agreement.proofs.JudgedAgain.{new_again, clock_again}
 use Rattle.iss_state.proofs.invariants.Kept.{due_accepted}
@@ -24,7 +24,6 @@ use Rattle.iss_model.specs.rules.Activity.{TxnNow, txn_named}
 use Rattle.iss_model.specs.rules.Reasons.{is_some_with}
 use Rattle.iss_model.specs.rules.Histories.{history_keeper, history_of}
 use Rattle.iss_state.specs.Well.{has_live}
-use Rattle.iss_accepted.specs.Values.{token_answer}
 use Rattle.iss_core.specs.Values.{CoreNow, StandsFor, GivesNext, GivesInForm}
 use Rattle.iss_core.proofs.OnBook.{judged_on_book}
 

@@ -1,5 +1,5 @@
 -- Card events by what is found of them: the card of a purchase, the transaction of what follows it.
-use Rattle.std.specs.Prelude.{◌≡◌, ℕ, ◌-◌, min, ◌==◌, ◌^◌, ◌<◌, Bool, not, ◌&&◌, ◌||◌, List, [], ◌∷◌, ◌++◌, Option, None, is_none, if◌then◌else◌}
+use Rattle.std.specs.Prelude.{◌≡◌, ℕ, ◌-◌, min, ◌==◌, ◌^◌, ◌<◌, Bool, not, ◌&&◌, ◌||◌, List, [], ◌∷◌, Option, Some, None, is_none, if◌then◌else◌}
 use Rattle.std.specs.Option.{option_map, option_and_then}
 use Rattle.iss_model.specs.declared.currency.Currency.{Currency}
 use Rattle.iss_model.specs.declared.setting.Card.{Card}
@@ -19,9 +19,10 @@ use Rattle.iss_model.specs.rules.Reasons.{first_reason, is_some_with, user_is}
 use Rattle.iss_model.specs.rules.CardReasons.{is_in_currency, lacks_funds, control_breach, first_ask, further_ask, increment_reason, reversal_reason, clearing_reason, refund_reason}
 use Rattle.iss_model.specs.rules.Pieces.{Parts, parts_held, in_all}
 use Rattle.iss_model.specs.rules.Acts.{Act}
-use Rattle.iss_model.specs.rules.CardActs.{after_clearing_acts, authorization_acts, cleared_acts, clearing_acts, increment_acts, refund_acts, reversal_acts}
+use Rattle.iss_model.specs.rules.CardActs.{after_clearing_acts, authorization_acts, cleared_acts, clearing_acts, increment_acts, refund_acts, reversal_acts, reversed_acts}
 use Rattle.iss_model.specs.rules.Stepping.{acts_unless}
 use Rattle.iss_model.specs.state.Cores.{CoreState, core_facts}
+use Rattle.iss_core.specs.Asks.{ask_reason}
 use Rattle.iss_hold.specs.declared.hold.Hold.{Hold}
 use Rattle.iss_hold.specs.Holdings.{now_of, parts_of, whole_of}
 use Rattle.iss_core.specs.declared.purchases.Purchase.{Purchase}
@@ -56,6 +57,10 @@ purchase_acts f p known =
     let ask = card_ask f p known in
     acts_unless (purchase_reason f p.currency known ask) p.token (authorization_acts f ask)
 
+-- the acts of a transaction's first ask, which is declined by what it asks for, or begins the transaction
+abbrev pub first_ask_acts : Facts → Ask → List Act
+first_ask_acts f ask = acts_unless (ask_reason f ask) ask.event (authorization_acts f (Some ask))
+
 -- the acts of an increment of a transaction
 abbrev pub increment_on : Facts → Operation → Option TxnNow → List Act
 increment_on f o known =
@@ -73,6 +78,10 @@ clearing_on f o known = acts_unless (clearing_reason known o.currency) o.token (
 -- the acts of its refund
 abbrev pub refund_on : Facts → Operation → Option TxnNow → List Act
 refund_on f o known = acts_unless (refund_reason f known o.currency o.amount) o.token (refund_acts f o.token o.amount known)
+
+-- the acts of a reversal that isn't declined, of a transaction with this hold
+abbrev pub reversed_on : Facts → Operation → Hold → List Act
+reversed_on f o hold = reversed_acts f o.token o.amount hold.txn (parts_of hold)
 
 -- the acts of a clearing that isn't declined, of a transaction with this hold
 abbrev pub cleared_on : Facts → Operation → Hold → List Act

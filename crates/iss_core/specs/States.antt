@@ -1,5 +1,6 @@
 -- The state that a core keeps in its parts.
-use Rattle.iss_model.specs.state.Cores.{CoreState}
+use Rattle.iss_model.specs.rules.Facts.{Facts}
+use Rattle.iss_model.specs.state.Cores.{CoreState, core_facts}
 use Rattle.iss_core.specs.declared.state.State.{State}
 
 -- the state that the parts keep
@@ -21,3 +22,7 @@ state_of p =
       calls = p.calls;
       outbox = p.notices;
     }
+
+-- the facts of that state
+abbrev pub facts_of : State → Facts
+facts_of p = core_facts (state_of p)

@@ -4,7 +4,8 @@ use Rattle.std.specs.List.{AllByRecursion}
 use Rattle.iss_model.specs.declared.call.CallId.{CallId}
 use Rattle.iss_model.specs.declared.entry.Entry.{Entry}
 use Rattle.iss_model.specs.rules.Activity.{TxnNow, CallNow, txn_named, call_numbered}
-use Rattle.iss_model.specs.rules.Due.{DueItem, DueThing, call_due, txn_due, is_before, thing_entries}
+use Rattle.iss_model.specs.rules.Due.{DueItem, DueThing, call_due, txn_due, is_before, items_with, thing_entries}
+use Rattle.iss_model.specs.rules.Facts.{Facts}
 use Rattle.iss_model.specs.rules.Keeper.{Growth, grow}
 use Rattle.iss_model.specs.state.Cores.{CoreState, core_keeper}
 use Rattle.iss_state.specs.Numbers.{CallsNumberedFrom}
@@ -16,6 +17,10 @@ use Rattle.iss_core.specs.declared.due.Due.TheVariants.{Call, Txn}
 abbrev pub thing_of : Due → DueThing
 thing_of (Call call) = call_due call.0
 thing_of (Txn token) = txn_due token
+
+-- a core that grew to this state by these entries
+abbrev pub grown : CoreState → List Entry → Growth CoreState
+grown s entries = record { world = s; entries = entries }
 
 -- a due thing is settled at a moment
 abbrev pub settle_thing : ℕ → Growth CoreState → DueThing → Growth CoreState
@@ -67,6 +72,10 @@ call_items calls ids = map (λ id. call_item calls id.0) ids
 -- the items of these transactions
 abbrev pub txn_items : List TxnNow → List (List ℕ) → List DueItem
 txn_items txns tokens = map (txn_item txns) tokens
+
+-- the things of these calls and transactions, each where it is due among the others
+abbrev pub merged_things : Facts → List CallId → List (List ℕ) → List DueThing
+merged_things f calls txns = map (λ item. item.thing) (fold items_with (call_items f.calls calls) (txn_items f.txns txns))
 
 -- none of these comes before this one
 abbrev pub NoneBefore : DueItem → List DueItem → Type 0

@@ -7,8 +7,7 @@ ghost use Rattle.iss_model.specs.rules.Acts.{entries_of_acts};
 ghost use Rattle.iss_model.specs.rules.CardActs.{answer_acts, failed_acts, outcome_acts};
 ghost use Rattle.iss_model.specs.rules.Due.{expiry_acts};
 ghost use Rattle.iss_model.specs.rules.Pieces.{abandoned_calls_entries, notice_after_abandonment};
-ghost use Rattle.iss_model.specs.state.Cores.{core_facts};
-ghost use Rattle.iss_core.specs.States.{state_of};
+ghost use Rattle.iss_core.specs.States.{facts_of, state_of};
 ghost use Rattle.iss_core.specs.Cards.{IsHeld};
 ghost use Rattle.iss_core.specs.Order.{IsInOrder};
 ghost use Rattle.iss_core.specs.Answers.{asked_with, abandoned_entries};
@@ -34,7 +33,7 @@ impl State {
     ) -> Result<(), AllocError>
         requires order { IsInOrder (state_of self.now) }
         requires stamp { IsTrue (is_stamp at) }
-        ensures { OnOk result (out.new.items ≡ out.old.items ++ entries_of_acts (answer_acts call outcome at (core_facts (state_of self.now)))) }
+        ensures { OnOk result (out.new.items ≡ out.old.items ++ entries_of_acts (answer_acts call outcome at (facts_of self.now))) }
     {
         match self.asked(call) {
             None => Ok(()),
@@ -45,7 +44,7 @@ impl State {
     /// A call that is asked, with its transaction.
     pub(crate) fn asked(&self, call: CallId) -> Option<(Opened, Txn)>
         requires order { IsInOrder (state_of self.now) }
-        ensures known { result ≡ asked_with (call_in (core_facts (state_of self.now)) call.0) (core_facts (state_of self.now)) }
+        ensures known { result ≡ asked_with (call_in (facts_of self.now) call.0) (facts_of self.now) }
         ensures small { IfSome result (λ x. x.0.amount < 2 ^ 62) }
     {
         let call = self.call(call)?;
@@ -67,7 +66,7 @@ impl State {
         requires order { IsInOrder (state_of self.now) }
         requires amount { opened.now.amount < 2 ^ 62 }
         requires stamp { IsTrue (is_stamp at) }
-        ensures { OnOk result (out.new.items ≡ out.old.items ++ entries_of_acts (outcome_acts outcome (core_facts (state_of self.now)) opened.now txn.now at)) }
+        ensures { OnOk result (out.new.items ≡ out.old.items ++ entries_of_acts (outcome_acts outcome (facts_of self.now) opened.now txn.now at)) }
     {
         match outcome {
             Outcome::Funded => {
@@ -95,7 +94,7 @@ impl State {
         requires order { IsInOrder (state_of self.now) }
         requires amount { opened.now.amount < 2 ^ 62 }
         requires stamp { IsTrue (is_stamp at) }
-        ensures { OnOk result (out.new.items ≡ out.old.items ++ entries_of_acts (failed_acts (core_facts (state_of self.now)) opened.now txn.now failure at)) }
+        ensures { OnOk result (out.new.items ≡ out.old.items ++ entries_of_acts (failed_acts (facts_of self.now) opened.now txn.now failure at)) }
     {
         let number = self.next_notice();
         out.push(Entry::Closed(opened.call, How::Failed(failure)))?;
@@ -112,7 +111,7 @@ impl State {
     ) -> Result<(), AllocError>
         requires order { IsInOrder (state_of self.now) }
         requires held { IsHeld (state_of self.now) hold.now }
-        ensures { OnOk result (out.new.items ≡ out.old.items ++ entries_of_acts (expiry_acts (core_facts (state_of self.now)) hold.now.txn)) }
+        ensures { OnOk result (out.new.items ≡ out.old.items ++ entries_of_acts (expiry_acts (facts_of self.now) hold.now.txn)) }
     {
         let txn = &hold.txn;
         let number = self.put_abandonment(alloc, out, self.next_notice(), txn, &Reason::Expired)?;
@@ -130,9 +129,9 @@ impl State {
         why: &Reason,
     ) -> Result<u32, AllocError>
         requires order { IsInOrder (state_of self.now) }
-        requires next { number ≡ next_notice (core_facts (state_of self.now)) }
-        ensures entries { OnOk result (out.new.items ≡ out.old.items ++ abandoned_calls_entries number txn.now why.now (asked_calls_of (core_facts (state_of self.now)) txn.now.token)) }
-        ensures next { IfOk result (λ n. n ≡ notice_after_abandonment number (core_facts (state_of self.now)) txn.now) }
+        requires next { number ≡ next_notice (facts_of self.now) }
+        ensures entries { OnOk result (out.new.items ≡ out.old.items ++ abandoned_calls_entries number txn.now why.now (asked_calls_of (facts_of self.now) txn.now.token)) }
+        ensures next { IfOk result (λ n. n ≡ notice_after_abandonment number (facts_of self.now) txn.now) }
     {
         let asked = self.calls.asked_of(alloc, &txn.token)?;
         abandon(out, number, txn, why, &asked)

@@ -5,14 +5,12 @@ ghost use Rattle.iss_model.specs.Forms.{is_amount, is_stamp, is_timeout};
 ghost use Rattle.iss_model.specs.rules.Asks.{ask_usage, ask_given_back, call_ask, usage_of, breach};
 ghost use Rattle.iss_model.specs.rules.CardReasons.{lacks_funds};
 ghost use Rattle.iss_model.specs.rules.Acts.{entries_of_acts};
-ghost use Rattle.iss_model.specs.rules.CardActs.{funding_acts, gateway_acts, stand_acts};
+ghost use Rattle.iss_model.specs.rules.CardActs.{funding_acts, stand_acts};
 ghost use Rattle.iss_model.specs.rules.StandIns.{stand};
 ghost use Rattle.iss_model.specs.rules.Facts.{next_notice};
 ghost use Rattle.iss_model.specs.rules.Pieces.{ask_method, call_for};
-ghost use Rattle.iss_model.specs.rules.Settings.{product_named};
-ghost use Rattle.iss_model.specs.state.Cores.{core_facts};
-ghost use Rattle.iss_core.specs.States.{state_of};
-ghost use Rattle.iss_core.specs.Asks.{ask_of, ask_reason, wanted_of};
+ghost use Rattle.iss_core.specs.States.{facts_of, state_of};
+ghost use Rattle.iss_core.specs.Asks.{ask_of, ask_reason, unpaid_ask_acts, wanted_of};
 ghost use Rattle.iss_core.specs.Order.{IsInOrder};
 
 use crate::pieces::{failure_reason, put_decided, put_declined_ask, put_stood};
@@ -120,7 +118,7 @@ impl State {
     pub(crate) fn ask_reason(&self, ask: &Ask) -> Option<Reason>
         requires amount { IsTrue (is_amount ask.now.amount) }
         requires stamp { IsTrue (is_stamp ask.now.at) }
-        ensures { result ≡ ask_reason (core_facts (state_of self.now)) (ask_of ask.now) }
+        ensures { result ≡ ask_reason (facts_of self.now) (ask_of ask.now) }
     {
         if let Some(control) = self.breach(ask) {
             return Some(Reason::Control(control));
@@ -134,14 +132,14 @@ impl State {
     fn breach(&self, ask: &Ask) -> Option<Token>
         requires amount { IsTrue (is_amount ask.now.amount) }
         requires stamp { IsTrue (is_stamp ask.now.at) }
-        ensures { result ≡ breach (core_facts (state_of self.now)) (ask_of ask.now) }
+        ensures { result ≡ breach (facts_of self.now) (ask_of ask.now) }
     {
         self.controls.breach(&self.groups, &ask.wanted(), ask.at)
     }
 
     fn lacks_funds(&self, ask: &Ask) -> bool
         requires { IsTrue (is_amount ask.now.amount) }
-        ensures { result ≡ lacks_funds (core_facts (state_of self.now)) (ask_of ask.now) }
+        ensures { result ≡ lacks_funds (facts_of self.now) (ask_of ask.now) }
     {
         match ask.txn.funding {
             Funding::Account => self.is_short(&ask.txn.user, ask.txn.currency, ask.amount),
@@ -154,7 +152,7 @@ impl State {
         requires order { IsInOrder (state_of self.now) }
         requires amount { IsTrue (is_amount ask.now.amount) }
         requires stamp { IsTrue (is_stamp ask.now.at) }
-        ensures { OnOk result (out.new.items ≡ out.old.items ++ entries_of_acts (funding_acts (core_facts (state_of self.now)) (ask_of ask.now))) }
+        ensures { OnOk result (out.new.items ≡ out.old.items ++ entries_of_acts (funding_acts (facts_of self.now) (ask_of ask.now))) }
     {
         match ask.txn.funding {
             Funding::Account => {
@@ -171,8 +169,7 @@ impl State {
         requires amount { IsTrue (is_amount ask.now.amount) }
         requires stamp { IsTrue (is_stamp ask.now.at) }
         ensures { OnOk result (out.new.items ≡ out.old.items
-            ++ entries_of_acts
-            (gateway_acts (product_named ask.now.txn.product (core_facts (state_of self.now)).products) (core_facts (state_of self.now)) (ask_of ask.now))) }
+            ++ entries_of_acts (unpaid_ask_acts (facts_of self.now) (ask_of ask.now))) }
     {
         match self.product(&ask.txn.product) {
             None => Ok(()),
@@ -191,7 +188,7 @@ impl State {
         requires order { IsInOrder (state_of self.now) }
         requires time { IsTrue (is_timeout product.now.timeout_ms) }
         requires stamp { IsTrue (is_stamp ask.now.at) }
-        ensures { result ≡ call_for (core_facts (state_of self.now)) product.now (ask_of ask.now) }
+        ensures { result ≡ call_for (facts_of self.now) product.now (ask_of ask.now) }
     {
         let txn = &ask.txn;
         Opened {
@@ -223,7 +220,7 @@ impl State {
         requires stamp { IsTrue (is_stamp at) }
         ensures { OnOk result (out.new.items ≡ out.old.items
             ++ entries_of_acts
-            (stand_acts (stand (core_facts (state_of self.now)) (ask_of ask.now) failure at) number (ask_of ask.now) failure at)) }
+            (stand_acts (stand (facts_of self.now) (ask_of ask.now) failure at) number (ask_of ask.now) failure at)) }
     {
         let txn = &ask.txn;
         match self

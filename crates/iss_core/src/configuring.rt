@@ -1,13 +1,13 @@
 //! Settings take effect. Each call on a part could refuse one for a reason that was asked before, so that want of memory alone is left.
 ghost use Rattle.std.specs.Prelude.{◌≡◌, ◌∷◌, ◌++◌, [], None, OnOk};
-ghost use Rattle.iss_model.specs.state.Cores.{core_facts, after_setting, with_user, with_card, with_user_moved, with_card_moved, with_product, with_control, with_set};
+ghost use Rattle.iss_model.specs.state.Cores.{after_setting, with_user, with_card, with_user_moved, with_card_moved, with_product, with_control, with_set};
 ghost use Rattle.iss_model.specs.rules.Reasons.{user_reason, card_reason, move_reason, product_reason, group_reason, control_reason, set_reason};
 ghost use Rattle.iss_model.specs.declared.setting.Moved.TheVariants as moved;
 ghost use Rattle.iss_state.specs.Needs.{setting_reason};
 ghost use Rattle.iss_card.specs.Standings as card;
 ghost use Rattle.iss_velocity.specs.Puts as control;
 ghost use Rattle.iss_scope.specs.Merchants as group;
-ghost use Rattle.iss_core.specs.States.{state_of};
+ghost use Rattle.iss_core.specs.States.{facts_of, state_of};
 ghost use Rattle.iss_core.specs.Settings.{product_fault_reason, set_fault_reason};
 
 use crate::state::State;
@@ -22,7 +22,7 @@ use std::alloc::{AllocError, Global};
 impl State {
     /// A setting that has no reason to be declined takes effect.
     pub(crate) fn configure(&mut self, alloc: Global, input: &Input) -> Result<(), AllocError>
-        requires { setting_reason (core_facts (state_of self.old)) input.now ≡ None }
+        requires { setting_reason (facts_of self.old) input.now ≡ None }
         ensures { OnOk result (state_of self.new ≡ after_setting (state_of self.old) input.now) }
     {
         match input {
@@ -60,26 +60,9 @@ impl State {
                 group,
                 mccs,
             } => self.put_group(alloc, group, mccs.as_slice()),
-            Input::Control {
-                token: _,
-                control,
-                currency,
-                window,
-                amount_limit,
-                usage_limit,
-                association,
-                scope,
-                active,
-            } => {
-                let control = Control {
-                    name: *control,
-                    currency: *currency,
-                    window: *window,
-                    amount_limit: *amount_limit,
-                    usage_limit: *usage_limit,
-                    association: *association,
-                    scope: *scope,
-                    active: *active,
+            Input::Control { .. } => {
+                let Some(control) = input.control() else {
+                    unreachable!()
                 };
                 self.put_control(&control)
             }
@@ -129,7 +112,7 @@ impl State {
     }
 
     fn put_user(&mut self, user: &Token) -> Result<(), AllocError>
-        requires { user_reason (core_facts (state_of self.old)) user.now ≡ None }
+        requires { user_reason (facts_of self.old) user.now ≡ None }
         ensures { OnOk result (self.new ≡ record self.old { cards = with_user self.old.cards user.now }) }
     {
         match self.cards.add_user(user) {
@@ -145,7 +128,7 @@ impl State {
         product: &Token,
         active: bool,
     ) -> Result<(), AllocError>
-        requires { card_reason (core_facts (state_of self.old)) card.now user.now product.now ≡ None }
+        requires { card_reason (facts_of self.old) card.now user.now product.now ≡ None }
         ensures { OnOk result (self.new ≡ record self.old { cards = with_card self.old.cards card.now user.now product.now active }) }
     {
         match self.cards.add_card(card, user, product, active) {
@@ -155,7 +138,7 @@ impl State {
     }
 
     fn move_card(&mut self, card: &Token, to: CardState) -> Result<(), AllocError>
-        requires { move_reason (core_facts (state_of self.old)) (moved.Card card.now to) ≡ None }
+        requires { move_reason (facts_of self.old) (moved.Card card.now to) ≡ None }
         ensures { OnOk result (self.new ≡ record self.old { cards = with_card_moved self.old.cards card.now to }) }
     {
         match self.cards.move_card(card, to) {
@@ -165,7 +148,7 @@ impl State {
     }
 
     fn move_user(&mut self, user: &Token, to: UserState) -> Result<(), AllocError>
-        requires { move_reason (core_facts (state_of self.old)) (moved.User user.now to) ≡ None }
+        requires { move_reason (facts_of self.old) (moved.User user.now to) ≡ None }
         ensures { OnOk result (self.new ≡ record self.old { cards = with_user_moved self.old.cards user.now to }) }
     {
         match self.cards.move_user(user, to) {
@@ -175,7 +158,7 @@ impl State {
     }
 
     fn put_product(&mut self, product: &Product) -> Result<(), AllocError>
-        requires { product_reason (core_facts (state_of self.old)) product.now.name ≡ None }
+        requires { product_reason (facts_of self.old) product.now.name ≡ None }
         ensures { OnOk result (self.new ≡ record self.old { products = with_product self.old.products product.now }) }
     {
         match self.products.add(product) {
@@ -185,7 +168,7 @@ impl State {
     }
 
     fn put_group(&mut self, alloc: Global, group: &Token, mccs: &[u16]) -> Result<(), AllocError>
-        requires { group_reason (core_facts (state_of self.old)) group.now ≡ None }
+        requires { group_reason (facts_of self.old) group.now ≡ None }
         ensures { OnOk result (self.new ≡ record self.old { groups = self.old.groups ++ record { name = group.now; mccs = mccs.now } ∷ [] }) }
     {
         match self.groups.add(alloc, group, mccs) {
@@ -195,7 +178,7 @@ impl State {
     }
 
     fn put_control(&mut self, control: &Control) -> Result<(), AllocError>
-        requires { control_reason (core_facts (state_of self.old)) control.now.name control.now.currency control.now.window
+        requires { control_reason (facts_of self.old) control.now.name control.now.currency control.now.window
             control.now.association control.now.scope ≡ None }
         ensures { OnOk result (self.new ≡ record self.old {
           controls = with_control self.old.controls (record { number = self.old.count; control = control.now });
@@ -208,7 +191,7 @@ impl State {
     }
 
     fn put_set(&mut self, set: &Set) -> Result<(), AllocError>
-        requires { set_reason (core_facts (state_of self.old)) set.now.name set.now.product set.now.currency ≡ None }
+        requires { set_reason (facts_of self.old) set.now.name set.now.product set.now.currency ≡ None }
         ensures { OnOk result (self.new ≡ record self.old { sets = record (self.old.sets) { sets = with_set self.old.sets.sets set.now } }) }
     {
         match self.sets.put(set) {

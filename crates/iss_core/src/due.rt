@@ -3,10 +3,9 @@ ghost use Rattle.std.specs.Prelude.{◌≡◌, ◌++◌, map, fold, not, IfOk, O
 ghost use Rattle.iss_model.specs.Forms.{is_stamp};
 ghost use Rattle.iss_model.specs.rules.Activity.{txn_named, call_numbered};
 ghost use Rattle.iss_model.specs.rules.Due.{due_items, is_quiet, items_with, thing_entries};
-ghost use Rattle.iss_model.specs.state.Cores.{core_facts};
-ghost use Rattle.iss_core.specs.States.{state_of};
+ghost use Rattle.iss_core.specs.States.{facts_of, state_of};
 ghost use Rattle.iss_core.specs.Order.{IsInOrder};
-ghost use Rattle.iss_core.specs.Sweeps.{thing_of, HasOwnNames, AreOrdered, call_items, txn_items, deadline_of, expiry_of, calls_until, calls_after};
+ghost use Rattle.iss_core.specs.Sweeps.{thing_of, HasOwnNames, AreOrdered, merged_things, txn_items, deadline_of, expiry_of, calls_until, calls_after};
 ghost use Rattle.iss_core.specs.declared.due.Due.TheVariants.{Call};
 
 use crate::state::State;
@@ -23,7 +22,7 @@ pub(crate) enum Due {
 impl State {
     /// Whether something is due at a moment.
     pub(crate) fn is_due(&self, at: u64) -> bool
-        ensures { result ≡ not (is_quiet (due_items (core_facts (state_of self.now)) at)) }
+        ensures { result ≡ not (is_quiet (due_items (facts_of self.now) at)) }
     {
         self.calls.is_due(at) || self.chain.is_due(at)
     }
@@ -31,7 +30,7 @@ impl State {
     /// All that is due at a moment: by the moment since when, calls before transactions, and then by number.
     pub(crate) fn due(&self, alloc: Global, at: u64) -> Result<Vec<Due>, AllocError>
         requires names { HasOwnNames (state_of self.now) }
-        ensures { IfOk result (λ v. map thing_of v.items ≡ map (λ item. item.thing) (due_items (core_facts (state_of self.now)) at)) }
+        ensures { IfOk result (λ v. map thing_of v.items ≡ map (λ item. item.thing) (due_items (facts_of self.now) at)) }
     {
         let calls = self.calls.due(alloc, at)?;
         let txns = self.chain.due(alloc, at)?;
@@ -45,9 +44,8 @@ impl State {
         calls: &[CallId],
         txns: &[Token],
     ) -> Result<Vec<Due>, AllocError>
-        requires { AreOrdered (txn_items (core_facts (state_of self.now)).txns txns.now) }
-        ensures { IfOk result (λ v. map thing_of v.items ≡ map (λ item. item.thing)
-            (fold items_with (call_items (core_facts (state_of self.now)).calls calls.now) (txn_items (core_facts (state_of self.now)).txns txns.now))) }
+        requires { AreOrdered (txn_items (facts_of self.now).txns txns.now) }
+        ensures { IfOk result (λ v. map thing_of v.items ≡ merged_things (facts_of self.now) calls.now txns.now) }
     {
         let mut due = Vec::new(alloc);
         let mut left = calls;
@@ -66,8 +64,8 @@ impl State {
         calls: &'a [CallId],
         until: u64,
     ) -> Result<&'a [CallId], AllocError>
-        ensures due { OnOk result (due.new.items ≡ due.old.items ++ map Call (calls_until (core_facts (state_of self.now)).calls until calls.now)) }
-        ensures rest { IfOk result (λ rest. rest.now ≡ calls_after (core_facts (state_of self.now)).calls until calls.now) }
+        ensures due { OnOk result (due.new.items ≡ due.old.items ++ map Call (calls_until (facts_of self.now).calls until calls.now)) }
+        ensures rest { IfOk result (λ rest. rest.now ≡ calls_after (facts_of self.now).calls until calls.now) }
     {
         for (place, call) in calls.iter().enumerate() {
             if self.deadline(*call) > until {
@@ -79,7 +77,7 @@ impl State {
     }
 
     fn deadline(&self, call: CallId) -> u64
-        ensures { result ≡ deadline_of (call_numbered call.0 (core_facts (state_of self.now)).calls) }
+        ensures { result ≡ deadline_of (call_numbered call.0 (facts_of self.now).calls) }
     {
         match self.call(call) {
             Some(call) => call.opened.deadline,
@@ -88,7 +86,7 @@ impl State {
     }
 
     fn expiry(&self, txn: &Token) -> u64
-        ensures { result ≡ expiry_of (txn_named txn.now (core_facts (state_of self.now)).txns) }
+        ensures { result ≡ expiry_of (txn_named txn.now (facts_of self.now).txns) }
     {
         match self.hold(txn) {
             Some(hold) => hold.txn.expires,
@@ -107,7 +105,7 @@ impl State {
     ) -> Result<(), AllocError>
         requires order { IsInOrder (state_of self.now) }
         requires stamp { IsTrue (is_stamp at) }
-        ensures { OnOk result (out.new.items ≡ out.old.items ++ thing_entries (thing_of thing.now) at (core_facts (state_of self.now))) }
+        ensures { OnOk result (out.new.items ≡ out.old.items ++ thing_entries (thing_of thing.now) at (facts_of self.now)) }
     {
         match thing {
             Due::Call(call) => match self.asked(*call) {

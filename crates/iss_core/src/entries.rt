@@ -3,8 +3,7 @@ ghost use Rattle.std.specs.Prelude.{◌≡◌, ℕ, ◌++◌, true, OnOk, IsTrue
 ghost use Rattle.iss_model.specs.Forms.{is_in_form, is_stamp};
 ghost use Rattle.iss_model.specs.rules.Acts.{entries_of_acts};
 ghost use Rattle.iss_model.specs.rules.Stepping.{acknowledgement_acts, entries_of};
-ghost use Rattle.iss_model.specs.state.Cores.{core_facts};
-ghost use Rattle.iss_core.specs.States.{state_of};
+ghost use Rattle.iss_core.specs.States.{facts_of, state_of};
 ghost use Rattle.iss_core.specs.Order.{IsInOrder};
 ghost use Rattle.iss_core.specs.Settings.{is_setting};
 
@@ -12,7 +11,7 @@ use crate::operations::Operation;
 use crate::purchases::Purchase;
 use crate::settings::put_setting;
 use crate::state::State;
-use iss_model::{Control, Entry, Input, Record};
+use iss_model::{Entry, Input, Record};
 use std::alloc::{AllocError, Global};
 
 impl State {
@@ -26,7 +25,7 @@ impl State {
         requires order { IsInOrder (state_of self.now) }
         requires input_form { IsTrue (is_in_form accepted.now.input) }
         requires stamp { IsTrue (is_stamp accepted.now.at) }
-        ensures { OnOk result (out.new.items ≡ out.old.items ++ entries_of accepted.now.input accepted.now.at (core_facts (state_of self.now))) }
+        ensures { OnOk result (out.new.items ≡ out.old.items ++ entries_of accepted.now.input accepted.now.at (facts_of self.now)) }
     {
         match &accepted.input {
             Input::Load {
@@ -136,7 +135,7 @@ impl State {
     /// The entries of a setting.
     fn put_own_setting(&self, out: &mut Vec<Entry>, input: &Input) -> Result<(), AllocError>
         requires { is_setting input.now ≡ true }
-        ensures { (at : ℕ) → OnOk result (out.new.items ≡ out.old.items ++ entries_of input.now at (core_facts (state_of self.now))) }
+        ensures { (at : ℕ) → OnOk result (out.new.items ≡ out.old.items ++ entries_of input.now at (facts_of self.now)) }
     {
         match input {
             Input::User { token, user } => {
@@ -156,26 +155,9 @@ impl State {
             Input::Group { token, group, .. } => {
                 put_setting(out, self.group_reason(group), token, input)
             }
-            Input::Control {
-                token,
-                control,
-                currency,
-                window,
-                amount_limit,
-                usage_limit,
-                association,
-                scope,
-                active,
-            } => {
-                let control = Control {
-                    name: *control,
-                    currency: *currency,
-                    window: *window,
-                    amount_limit: *amount_limit,
-                    usage_limit: *usage_limit,
-                    association: *association,
-                    scope: *scope,
-                    active: *active,
+            Input::Control { token, .. } => {
+                let Some(control) = input.control() else {
+                    unreachable!()
                 };
                 put_setting(out, self.control_reason(&control), token, input)
             }
@@ -205,7 +187,7 @@ impl State {
 
     /// A notice is acknowledged; one that was never made isn't.
     fn put_acknowledgement(&self, out: &mut Vec<Entry>, notice: u32) -> Result<(), AllocError>
-        ensures { OnOk result (out.new.items ≡ out.old.items ++ entries_of_acts (acknowledgement_acts (core_facts (state_of self.now)) notice)) }
+        ensures { OnOk result (out.new.items ≡ out.old.items ++ entries_of_acts (acknowledgement_acts (facts_of self.now) notice)) }
     {
         if notice == 0 || notice > self.notices.made() {
             return Ok(());

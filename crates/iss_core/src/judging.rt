@@ -6,9 +6,9 @@ ghost use Rattle.iss_model.specs.Inputs.{event_token};
 ghost use Rattle.iss_model.specs.Forms.{is_in_form};
 ghost use Rattle.iss_model.specs.rules.Due.{due_items, is_quiet};
 ghost use Rattle.iss_model.specs.rules.Judging.{judgement_as, judgement_at, notice_answer, is_ack};
-ghost use Rattle.iss_model.specs.state.Cores.{core_facts, core_keeper};
+ghost use Rattle.iss_model.specs.state.Cores.{core_keeper};
 ghost use Rattle.iss_state.specs.Pending.{IsWell};
-ghost use Rattle.iss_core.specs.States.{state_of};
+ghost use Rattle.iss_core.specs.States.{facts_of, state_of};
 
 use crate::state::State;
 use iss_model::{Answer, CallId, Input, Judged, Outcome, Record};
@@ -48,27 +48,14 @@ impl State {
                 }
                 Ok(Judged::Told(Answer::Idle))
             }
-            Input::User { .. }
-            | Input::Card { .. }
-            | Input::Move { .. }
-            | Input::Product { .. }
-            | Input::Group { .. }
-            | Input::Control { .. }
-            | Input::Set { .. }
-            | Input::Switch { .. }
-            | Input::Load { .. }
-            | Input::Authorization { .. }
-            | Input::Increment { .. }
-            | Input::Reversal { .. }
-            | Input::Clearing { .. }
-            | Input::Refund { .. } => unreachable!(),
+            _ => unreachable!(),
         }
     }
 
     /// An input that has no answer is new. One that has is told it, after a time record where something is due.
     fn judged(&self, answer: Option<Answer>, input: &Input, at: u64) -> Result<Judged, AllocError>
         requires { is_ack input.now ≡ false }
-        ensures { IfOk result (λ j. j ≡ judgement_as answer (is_quiet (due_items (core_facts (state_of self.now)) at)) input.now at) }
+        ensures { IfOk result (λ j. j ≡ judgement_as answer (is_quiet (due_items (facts_of self.now) at)) input.now at) }
     {
         let Some(answer) = answer else {
             return new(input, at);
@@ -113,7 +100,7 @@ impl State {
 
     /// What an acknowledgement is told of a notice that was never made, or is acknowledged.
     fn notice_answer(&self, notice: u32) -> Option<Answer>
-        ensures { result ≡ notice_answer (core_facts (state_of self.now)) notice }
+        ensures { result ≡ notice_answer (facts_of self.now) notice }
     {
         if notice == 0 || notice > self.notices.made() {
             return Some(Answer::UnknownNotice(notice));
@@ -132,6 +119,7 @@ fn is_in_time(at: u64, deadline: u64, expires: u64) -> bool
     at < deadline && at < expires
 }
 
+#[tactic(auto, using(iss_model::proofs::Copies::copy_is))]
 fn new(input: &Input, at: u64) -> Result<Judged, AllocError>
     ensures { IfOk result (λ j. j ≡ judged.New (record { at = at; input = input.now })) }
 {

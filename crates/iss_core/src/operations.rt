@@ -8,12 +8,11 @@ ghost use Rattle.iss_model.specs.rules.Asks.{is_authorization};
 ghost use Rattle.iss_model.specs.rules.Reasons.{is_some_with};
 ghost use Rattle.iss_model.specs.rules.CardReasons.{further_ask, increment_reason, is_pending, reversal_reason, clearing_reason};
 ghost use Rattle.iss_model.specs.rules.Acts.{entries_of_acts};
-ghost use Rattle.iss_model.specs.rules.CardActs.{refund_acts, reversed_acts};
-ghost use Rattle.iss_model.specs.state.Cores.{core_facts};
+ghost use Rattle.iss_model.specs.rules.CardActs.{refund_acts};
 ghost use Rattle.iss_hold.specs.Holdings.{now_of, parts_of, whole_of};
-ghost use Rattle.iss_core.specs.States.{state_of};
+ghost use Rattle.iss_core.specs.States.{facts_of, state_of};
 ghost use Rattle.iss_core.specs.Asks.{ask_of};
-ghost use Rattle.iss_core.specs.Cards.{increment_on, reversal_on, clearing_on, cleared_on, captured_on, refund_on};
+ghost use Rattle.iss_core.specs.Cards.{increment_on, reversal_on, reversed_on, clearing_on, cleared_on, captured_on, refund_on};
 ghost use Rattle.iss_core.specs.Order.{IsInOrder};
 
 use crate::asks::Ask;
@@ -66,7 +65,7 @@ impl State {
         requires amount { IsTrue (is_amount operation.now.amount) }
         requires stamp { IsTrue (is_stamp operation.now.at) }
         ensures { OnOk result (out.new.items ≡ out.old.items
-            ++ entries_of_acts (increment_on (core_facts (state_of self.now)) operation.now (txn_in (core_facts (state_of self.now)) operation.now.txn))) }
+            ++ entries_of_acts (increment_on (facts_of self.now) operation.now (txn_in (facts_of self.now) operation.now.txn))) }
     {
         match self.hold(&operation.txn) {
             None => put_declined(out, &operation.token, Reason::TxnUnknown),
@@ -86,7 +85,7 @@ impl State {
         requires amount { IsTrue (is_amount operation.now.amount) }
         requires stamp { IsTrue (is_stamp operation.now.at) }
         ensures { OnOk result (out.new.items ≡ out.old.items
-            ++ entries_of_acts (increment_on (core_facts (state_of self.now)) operation.now (Some (now_of hold.now)))) }
+            ++ entries_of_acts (increment_on (facts_of self.now) operation.now (Some (now_of hold.now)))) }
     {
         let ask = operation.ask(&hold.txn);
         if let Some(why) = self.increment_reason(alloc, operation, hold, &ask)? {
@@ -105,7 +104,7 @@ impl State {
     ) -> Result<Option<Reason>, AllocError>
         requires amount { IsTrue (is_amount ask.now.amount) }
         requires stamp { IsTrue (is_stamp ask.now.at) }
-        ensures { IfOk result (λ why. why ≡ increment_reason (core_facts (state_of self.now)) (Some (now_of hold.now)) operation.now.currency (Some (ask_of ask.now))) }
+        ensures { IfOk result (λ why. why ≡ increment_reason (facts_of self.now) (Some (now_of hold.now)) operation.now.currency (Some (ask_of ask.now))) }
     {
         let txn = &hold.txn;
         if !hold.live {
@@ -128,14 +127,14 @@ impl State {
 
     /// Whether the call of a transaction's authorisation is asked.
     fn is_pending(&self, alloc: Global, txn: &Txn) -> Result<bool, AllocError>
-        ensures { IfOk result (λ pending. pending ≡ is_pending (core_facts (state_of self.now)) txn.now) }
+        ensures { IfOk result (λ pending. pending ≡ is_pending (facts_of self.now) txn.now) }
     {
         let asked = self.calls.asked_of(alloc, &txn.token)?;
         Ok(is_any_authorization(&asked))
     }
 
     fn has_active_card(&self, txn: &Txn) -> bool
-        ensures { result ≡ is_some_with (λ c. is_active_card c.state) (card_named txn.now.card (core_facts (state_of self.now)).cards) }
+        ensures { result ≡ is_some_with (λ c. is_active_card c.state) (card_named txn.now.card (facts_of self.now).cards) }
     {
         match self.cards.card(&txn.card) {
             Some(card) => is_active_card(card.state),
@@ -153,7 +152,7 @@ impl State {
     ) -> Result<(), AllocError>
         requires order { IsInOrder (state_of self.now) }
         ensures { OnOk result (out.new.items ≡ out.old.items
-            ++ entries_of_acts (reversal_on (core_facts (state_of self.now)) operation.now (txn_in (core_facts (state_of self.now)) operation.now.txn))) }
+            ++ entries_of_acts (reversal_on (facts_of self.now) operation.now (txn_in (facts_of self.now) operation.now.txn))) }
     {
         let Some(hold) = self.hold(&operation.txn) else {
             return put_declined(out, &operation.token, Reason::TxnUnknown);
@@ -174,7 +173,7 @@ impl State {
         requires order { IsInOrder (state_of self.now) }
         requires small { whole_of hold.now < 2 ^ 62 }
         ensures { OnOk result (out.new.items ≡ out.old.items
-            ++ entries_of_acts (reversed_acts (core_facts (state_of self.now)) operation.now.token operation.now.amount hold.now.txn (parts_of hold.now))) }
+            ++ entries_of_acts (reversed_on (facts_of self.now) operation.now hold.now)) }
     {
         let txn = &hold.txn;
         let number = self.put_abandonment(alloc, out, self.next_notice(), txn, &Reason::Reversed)?;
@@ -196,7 +195,7 @@ impl State {
         requires order { IsInOrder (state_of self.now) }
         requires amount { IsTrue (is_amount operation.now.amount) }
         ensures { OnOk result (out.new.items ≡ out.old.items
-            ++ entries_of_acts (clearing_on (core_facts (state_of self.now)) operation.now (txn_in (core_facts (state_of self.now)) operation.now.txn))) }
+            ++ entries_of_acts (clearing_on (facts_of self.now) operation.now (txn_in (facts_of self.now) operation.now.txn))) }
     {
         let Some(hold) = self.hold(&operation.txn) else {
             return put_declined(out, &operation.token, Reason::TxnUnknown);
@@ -218,7 +217,7 @@ impl State {
         requires small { whole_of hold.now < 2 ^ 62 }
         requires amount { IsTrue (is_amount operation.now.amount) }
         ensures { OnOk result (out.new.items ≡ out.old.items
-            ++ entries_of_acts (cleared_on (core_facts (state_of self.now)) operation.now hold.now)) }
+            ++ entries_of_acts (cleared_on (facts_of self.now) operation.now hold.now)) }
     {
         let amount = operation.amount;
         pieces::clear(out, hold, amount, operation.at)?;
@@ -239,7 +238,7 @@ impl State {
         requires order { IsInOrder (state_of self.now) }
         requires small { whole_of rest.now < 2 ^ 62 }
         ensures { OnOk result (out.new.items ≡ out.old.items
-            ++ entries_of_acts (captured_on (core_facts (state_of self.now)) rest.now amount last)) }
+            ++ entries_of_acts (captured_on (facts_of self.now) rest.now amount last)) }
     {
         let txn = &rest.txn;
         let number = self.next_notice();
@@ -259,7 +258,7 @@ impl State {
     ) -> Result<(), AllocError>
         requires order { IsInOrder (state_of self.now) }
         ensures { OnOk result (out.new.items ≡ out.old.items
-            ++ entries_of_acts (refund_on (core_facts (state_of self.now)) operation.now (txn_in (core_facts (state_of self.now)) operation.now.txn))) }
+            ++ entries_of_acts (refund_on (facts_of self.now) operation.now (txn_in (facts_of self.now) operation.now.txn))) }
     {
         let Some(hold) = self.hold(&operation.txn) else {
             return put_declined(out, &operation.token, Reason::TxnUnknown);
@@ -280,9 +279,9 @@ impl State {
         hold: &Hold,
     ) -> Result<(), AllocError>
         requires order { IsInOrder (state_of self.now) }
-        requires known { txn_in (core_facts (state_of self.now)) operation.now.txn ≡ Some (now_of hold.now) }
+        requires known { txn_in (facts_of self.now) operation.now.txn ≡ Some (now_of hold.now) }
         ensures { OnOk result (out.new.items ≡ out.old.items
-            ++ entries_of_acts (refund_acts (core_facts (state_of self.now)) operation.now.token operation.now.amount (Some (now_of hold.now)))) }
+            ++ entries_of_acts (refund_acts (facts_of self.now) operation.now.token operation.now.amount (Some (now_of hold.now)))) }
     {
         let txn = &hold.txn;
         let amount = operation.amount;

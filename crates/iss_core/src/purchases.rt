@@ -3,12 +3,9 @@ ghost use Rattle.std.specs.Prelude.{◌≡◌, ◌<◌, ◌^◌, ◌++◌, Some,
 ghost use Rattle.iss_model.specs.Forms.{is_amount, is_stamp, is_hold_time};
 ghost use Rattle.iss_model.specs.rules.Settings.{card_named};
 ghost use Rattle.iss_model.specs.rules.Acts.{entries_of_acts};
-ghost use Rattle.iss_model.specs.rules.CardActs.{authorization_acts};
-ghost use Rattle.iss_model.specs.rules.Stepping.{acts_unless};
-ghost use Rattle.iss_model.specs.state.Cores.{core_facts};
-ghost use Rattle.iss_core.specs.States.{state_of};
-ghost use Rattle.iss_core.specs.Asks.{ask_of, ask_reason};
-ghost use Rattle.iss_core.specs.Cards.{purchase_acts, purchase_ask};
+ghost use Rattle.iss_core.specs.States.{facts_of, state_of};
+ghost use Rattle.iss_core.specs.Asks.{ask_of};
+ghost use Rattle.iss_core.specs.Cards.{first_ask_acts, purchase_acts, purchase_ask};
 ghost use Rattle.iss_core.specs.Order.{IsInOrder};
 
 use crate::asks::Ask;
@@ -44,7 +41,7 @@ impl State {
         requires amount { IsTrue (is_amount purchase.now.amount) }
         requires stamp { IsTrue (is_stamp purchase.now.at) }
         ensures { OnOk result (out.new.items ≡ out.old.items
-            ++ entries_of_acts (purchase_acts (core_facts (state_of self.now)) purchase.now (card_named purchase.now.card (core_facts (state_of self.now)).cards))) }
+            ++ entries_of_acts (purchase_acts (facts_of self.now) purchase.now (card_named purchase.now.card (facts_of self.now).cards))) }
     {
         match self.cards.card(&purchase.card) {
             None => put_declined(out, &purchase.token, Reason::CardUnknown),
@@ -63,7 +60,7 @@ impl State {
         requires amount { IsTrue (is_amount purchase.now.amount) }
         requires stamp { IsTrue (is_stamp purchase.now.at) }
         ensures { OnOk result (out.new.items ≡ out.old.items
-            ++ entries_of_acts (purchase_acts (core_facts (state_of self.now)) purchase.now (Some card.now))) }
+            ++ entries_of_acts (purchase_acts (facts_of self.now) purchase.now (Some card.now))) }
     {
         if !is_active_card(card.state) {
             return put_declined(out, &purchase.token, Reason::CardState);
@@ -85,7 +82,7 @@ impl State {
     fn first_ask(&self, purchase: &Purchase, card: &Card, product: &Product) -> Ask
         requires time { IsTrue (is_hold_time product.now.hold_ms) }
         requires stamp { IsTrue (is_stamp purchase.now.at) }
-        ensures { ask_of result ≡ purchase_ask (core_facts (state_of self.now)) purchase.now card.now product.now }
+        ensures { ask_of result ≡ purchase_ask (facts_of self.now) purchase.now card.now product.now }
     {
         Ask {
             event: purchase.token,
@@ -113,8 +110,7 @@ impl State {
         requires order { IsInOrder (state_of self.now) }
         requires amount { IsTrue (is_amount ask.now.amount) }
         requires stamp { IsTrue (is_stamp ask.now.at) }
-        ensures { OnOk result (out.new.items ≡ out.old.items ++ entries_of_acts (acts_unless (ask_reason (core_facts (state_of self.now)) (ask_of ask.now)) ask.now.event
-            (authorization_acts (core_facts (state_of self.now)) (Some (ask_of ask.now))))) }
+        ensures { OnOk result (out.new.items ≡ out.old.items ++ entries_of_acts (first_ask_acts (facts_of self.now) (ask_of ask.now))) }
     {
         if let Some(why) = self.ask_reason(ask) {
             return put_declined(out, &ask.event, why);

@@ -3,8 +3,7 @@ ghost use Rattle.std.specs.Prelude.{◌≡◌};
 ghost use Rattle.iss_model.specs.rules.Reasons.{user_reason, card_reason, move_reason, card_move_reason, user_move_reason, product_reason, group_reason, control_reason, set_reason, switch_reason, load_reason, lacks_user, lacks_product, lacks_group};
 ghost use Rattle.iss_core.specs.Reasons.{new_control_reason, new_set_reason};
 ghost use Rattle.iss_model.specs.rules.Settings.{card_named, user_named};
-ghost use Rattle.iss_model.specs.state.Cores.{core_facts};
-ghost use Rattle.iss_core.specs.States.{state_of};
+ghost use Rattle.iss_core.specs.States.{facts_of};
 
 use crate::state::State;
 use iss_card::{card_may_move, user_may_move};
@@ -15,7 +14,7 @@ use iss_velocity::is_same_control;
 
 impl State {
     pub(crate) fn user_reason(&self, user: &Token) -> Option<Reason>
-        ensures { result ≡ user_reason (core_facts (state_of self.now)) user.now }
+        ensures { result ≡ user_reason (facts_of self.now) user.now }
     {
         if self.is_user(user) {
             return Some(Reason::Exists);
@@ -24,7 +23,7 @@ impl State {
     }
 
     pub(crate) fn card_reason(&self, card: &Token, user: &Token, product: &Token) -> Option<Reason>
-        ensures { result ≡ card_reason (core_facts (state_of self.now)) card.now user.now product.now }
+        ensures { result ≡ card_reason (facts_of self.now) card.now user.now product.now }
     {
         if !self.is_user(user) {
             return Some(Reason::UserUnknown);
@@ -39,7 +38,7 @@ impl State {
     }
 
     pub(crate) fn move_reason(&self, who: &Moved) -> Option<Reason>
-        ensures { result ≡ move_reason (core_facts (state_of self.now)) who.now }
+        ensures { result ≡ move_reason (facts_of self.now) who.now }
     {
         match who {
             Moved::Card(card, to) => self.card_move_reason(card, *to),
@@ -48,7 +47,7 @@ impl State {
     }
 
     fn card_move_reason(&self, card: &Token, to: CardState) -> Option<Reason>
-        ensures { result ≡ card_move_reason (card_named card.now (core_facts (state_of self.now)).cards) to }
+        ensures { result ≡ card_move_reason (card_named card.now (facts_of self.now).cards) to }
     {
         match self.cards.card(card) {
             None => Some(Reason::CardUnknown),
@@ -58,7 +57,7 @@ impl State {
     }
 
     fn user_move_reason(&self, user: &Token, to: UserState) -> Option<Reason>
-        ensures { result ≡ user_move_reason (user_named user.now (core_facts (state_of self.now)).users) to }
+        ensures { result ≡ user_move_reason (user_named user.now (facts_of self.now).users) to }
     {
         match self.cards.user(user) {
             None => Some(Reason::UserUnknown),
@@ -68,7 +67,7 @@ impl State {
     }
 
     pub(crate) fn product_reason(&self, product: &Token) -> Option<Reason>
-        ensures { result ≡ product_reason (core_facts (state_of self.now)) product.now }
+        ensures { result ≡ product_reason (facts_of self.now) product.now }
     {
         if self.product(product).is_some() {
             return Some(Reason::Exists);
@@ -80,7 +79,7 @@ impl State {
     }
 
     pub(crate) fn group_reason(&self, group: &Token) -> Option<Reason>
-        ensures { result ≡ group_reason (core_facts (state_of self.now)) group.now }
+        ensures { result ≡ group_reason (facts_of self.now) group.now }
     {
         if self.groups.has(group) {
             return Some(Reason::Exists);
@@ -92,7 +91,7 @@ impl State {
     }
 
     pub(crate) fn control_reason(&self, control: &Control) -> Option<Reason>
-        ensures { result ≡ control_reason (core_facts (state_of self.now)) control.now.name control.now.currency control.now.window
+        ensures { result ≡ control_reason (facts_of self.now) control.now.name control.now.currency control.now.window
             control.now.association control.now.scope }
     {
         match self.controls.get(&control.name) {
@@ -103,7 +102,7 @@ impl State {
     }
 
     fn new_control_reason(&self, association: &Association, scope: &Scope) -> Option<Reason>
-        ensures { result ≡ new_control_reason (core_facts (state_of self.now)) association.now scope.now }
+        ensures { result ≡ new_control_reason (facts_of self.now) association.now scope.now }
     {
         if self.lacks_user(association) {
             return Some(Reason::UserUnknown);
@@ -121,7 +120,7 @@ impl State {
     }
 
     fn lacks_user(&self, association: &Association) -> bool
-        ensures { result ≡ lacks_user (core_facts (state_of self.now)) association.now }
+        ensures { result ≡ lacks_user (facts_of self.now) association.now }
     {
         match association {
             Association::User(user) => !self.is_user(user),
@@ -130,7 +129,7 @@ impl State {
     }
 
     fn lacks_product(&self, association: &Association) -> bool
-        ensures { result ≡ lacks_product (core_facts (state_of self.now)) association.now }
+        ensures { result ≡ lacks_product (facts_of self.now) association.now }
     {
         match association {
             Association::Product(product) => self.product(product).is_none(),
@@ -139,7 +138,7 @@ impl State {
     }
 
     fn lacks_group(&self, scope: &Scope) -> bool
-        ensures { result ≡ lacks_group (core_facts (state_of self.now)) scope.now }
+        ensures { result ≡ lacks_group (facts_of self.now) scope.now }
     {
         match scope {
             Scope::Group(group) => !self.groups.has(group),
@@ -153,7 +152,7 @@ impl State {
         product: &Token,
         currency: Currency,
     ) -> Option<Reason>
-        ensures { result ≡ set_reason (core_facts (state_of self.now)) set.now product.now currency }
+        ensures { result ≡ set_reason (facts_of self.now) set.now product.now currency }
     {
         match self.sets.get(set) {
             Some(standing) if standing.product == *product && standing.currency == currency => None,
@@ -163,7 +162,7 @@ impl State {
     }
 
     fn new_set_reason(&self, product: &Token, currency: Currency) -> Option<Reason>
-        ensures { result ≡ new_set_reason (core_facts (state_of self.now)) product.now currency }
+        ensures { result ≡ new_set_reason (facts_of self.now) product.now currency }
     {
         match self.product(product) {
             None => Some(Reason::ProductUnknown),
@@ -174,7 +173,7 @@ impl State {
     }
 
     pub(crate) fn switch_reason(&self, product: &Token) -> Option<Reason>
-        ensures { result ≡ switch_reason (core_facts (state_of self.now)) product.now }
+        ensures { result ≡ switch_reason (facts_of self.now) product.now }
     {
         if self.product(product).is_none() {
             return Some(Reason::ProductUnknown);
@@ -183,7 +182,7 @@ impl State {
     }
 
     pub(crate) fn load_reason(&self, user: &Token) -> Option<Reason>
-        ensures { result ≡ load_reason (core_facts (state_of self.now)) user.now }
+        ensures { result ≡ load_reason (facts_of self.now) user.now }
     {
         match self.cards.user(user) {
             None => Some(Reason::UserUnknown),

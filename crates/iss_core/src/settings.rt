@@ -4,8 +4,7 @@ ghost use Rattle.iss_model.specs.Forms.{is_amount};
 ghost use Rattle.iss_model.specs.rules.Acts.{Loads, Sets, entries_of_acts};
 ghost use Rattle.iss_model.specs.rules.Stepping.{acts_unless};
 ghost use Rattle.iss_model.specs.rules.Reasons.{load_reason};
-ghost use Rattle.iss_model.specs.state.Cores.{core_facts};
-ghost use Rattle.iss_core.specs.States.{state_of};
+ghost use Rattle.iss_core.specs.States.{facts_of};
 
 use crate::pieces::{put_decided, put_declined};
 use crate::state::State;
@@ -13,6 +12,7 @@ use iss_model::{Account, Currency, Entry, Input, Reason, Token, Verdict};
 use std::alloc::AllocError;
 
 /// A setting is declined with a reason, or takes effect and is done.
+#[tactic(auto, using(iss_model::proofs::Copies::copy_is))]
 pub(crate) fn put_setting(
     out: &mut Vec<Entry>,
     why: Option<Reason>,
@@ -41,7 +41,7 @@ impl State {
         amount: u64,
     ) -> Result<(), AllocError>
         ensures { OnOk result (out.new.items ≡ out.old.items
-            ++ entries_of_acts (acts_unless (load_reason (core_facts (state_of self.now)) user.now) token.now (Loads token.now user.now currency amount ∷ []))) }
+            ++ entries_of_acts (acts_unless (load_reason (facts_of self.now) user.now) token.now (Loads token.now user.now currency amount ∷ []))) }
     {
         if let Some(why) = self.load_reason(user) {
             return put_declined(out, token, why);

@@ -2,10 +2,10 @@
 ghost use Rattle.std.specs.Prelude.{◌≡◌, ◌++◌, [], fold, OnOk, IsTrue};
 ghost use Rattle.iss_model.specs.Forms.{is_in_form, is_stamp};
 ghost use Rattle.iss_model.specs.rules.Stepping.{after_due, entries_of};
-ghost use Rattle.iss_model.specs.state.Cores.{core_facts, core_keeper, after_entry};
-ghost use Rattle.iss_core.specs.States.{state_of};
+ghost use Rattle.iss_model.specs.state.Cores.{core_keeper, after_entry};
+ghost use Rattle.iss_core.specs.States.{facts_of, state_of};
 ghost use Rattle.iss_core.specs.Sound.{IsTakenUp};
-ghost use Rattle.iss_core.specs.Sweeps.{thing_of, settle_thing};
+ghost use Rattle.iss_core.specs.Sweeps.{grown, settle_thing, thing_of};
 
 use crate::due::Due;
 use crate::state::State;
@@ -23,7 +23,7 @@ impl State {
         requires taken_up { IsTakenUp accepted.now.input (state_of self.old) }
         requires stamp { IsTrue (is_stamp accepted.now.at) }
         requires empty { out.old.items ≡ [] }
-        ensures settled { OnOk result (record { world = state_of self.new; entries = out.new.items } ≡ after_due core_keeper (state_of self.old) accepted.now.at) }
+        ensures settled { OnOk result (grown (state_of self.new) out.new.items ≡ after_due core_keeper (state_of self.old) accepted.now.at) }
         ensures taken_up { OnOk result (IsTakenUp accepted.now.input (state_of self.new)) }
     {
         if !self.is_due(accepted.at) {
@@ -46,8 +46,8 @@ impl State {
     ) -> Result<(), AllocError>
         requires taken_up { IsTakenUp accepted.now.input (state_of self.old) }
         requires stamp { IsTrue (is_stamp accepted.now.at) }
-        ensures settled { OnOk result (record { world = state_of self.new; entries = out.new.items }
-            ≡ settle_thing accepted.now.at (record { world = state_of self.old; entries = out.old.items }) (thing_of thing.now)) }
+        ensures settled { OnOk result (grown (state_of self.new) out.new.items
+            ≡ settle_thing accepted.now.at (grown (state_of self.old) out.old.items) (thing_of thing.now)) }
         ensures taken_up { OnOk result (IsTakenUp accepted.now.input (state_of self.new)) }
     {
         let start = out.len();
@@ -65,9 +65,9 @@ impl State {
         requires taken_up { IsTakenUp accepted.now.input (state_of self.old) }
         requires input_form { IsTrue (is_in_form accepted.now.input) }
         requires stamp { IsTrue (is_stamp accepted.now.at) }
-        ensures entries { OnOk result (out.new.items ≡ out.old.items ++ entries_of accepted.now.input accepted.now.at (core_facts (state_of self.old))) }
+        ensures entries { OnOk result (out.new.items ≡ out.old.items ++ entries_of accepted.now.input accepted.now.at (facts_of self.old)) }
         ensures state { OnOk result (state_of self.new
-            ≡ fold after_entry (state_of self.old) (entries_of accepted.now.input accepted.now.at (core_facts (state_of self.old)))) }
+            ≡ fold after_entry (state_of self.old) (entries_of accepted.now.input accepted.now.at (facts_of self.old))) }
     {
         let start = out.len();
         self.put_own(alloc, out, accepted)?;

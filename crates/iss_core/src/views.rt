@@ -8,7 +8,7 @@ ghost use Rattle.iss_model.specs.Forms.{is_stamp};
 ghost use Rattle.iss_model.specs.rules.Facts.{event_reply, balance_in, held_in, call_in};
 ghost use Rattle.iss_model.specs.rules.Asks.{used_in};
 ghost use Rattle.iss_model.specs.texts.BalanceLines.{accounts_of};
-ghost use Rattle.iss_model.specs.rules.Histories.{time_of, history_facts, history_of};
+ghost use Rattle.iss_model.specs.rules.Histories.{book_facts, history_of, time_of};
 ghost use Rattle.iss_model.specs.state.Cores.{core_facts};
 ghost use Rattle.iss_call.specs.States as called;
 ghost use Rattle.iss_core.specs.Values.{StandsFor};
@@ -46,7 +46,7 @@ impl Core {
     pub fn balance(&self, account: &Account) -> i64
         ensures value { result ≡ balance_in (core_facts self.now.state) account.now }
         ensures on_book { (rs : List Record) → StandsFor self.now rs
-            → result ≡ balance_in (history_facts (history_of rs)) account.now }
+            → result ≡ balance_in (book_facts rs) account.now }
     {
         self.state.chain.balance(account)
     }
@@ -55,7 +55,7 @@ impl Core {
     pub fn held(&self, user: &Token, currency: Currency) -> i64
         ensures value { result ≡ held_in (core_facts self.now.state) user.now currency }
         ensures on_book { (rs : List Record) → StandsFor self.now rs
-            → result ≡ held_in (history_facts (history_of rs)) user.now currency }
+            → result ≡ held_in (book_facts rs) user.now currency }
     {
         self.state.chain.held_by(user, currency)
     }
@@ -66,7 +66,7 @@ impl Core {
         requires { IsTrue (is_stamp at) }
         ensures value { result ≡ used_in (core_facts self.now.state) control.now user.now at }
         ensures on_book { (rs : List Record) → StandsFor self.now rs
-            → result ≡ used_in (history_facts (history_of rs)) control.now user.now at }
+            → result ≡ used_in (book_facts rs) control.now user.now at }
     {
         self.state.controls.used(control, user, at)
     }
@@ -75,7 +75,7 @@ impl Core {
     pub fn call(&self, call: CallId) -> CallState
         ensures value { result ≡ called.state_of (call_in (core_facts self.now.state) call.0) }
         ensures on_book { (rs : List Record) → StandsFor self.now rs
-            → result ≡ called.state_of (call_in (history_facts (history_of rs)) call.0) }
+            → result ≡ called.state_of (call_in (book_facts rs) call.0) }
     {
         self.state.calls.state(call)
     }
@@ -84,7 +84,7 @@ impl Core {
     pub fn opened(&self, call: CallId) -> Option<&Opened>
         ensures value { option_copied result ≡ option_map (λ c. c.opened) (call_in (core_facts self.now.state) call.0) }
         ensures on_book { (rs : List Record) → StandsFor self.now rs
-            → option_copied result ≡ option_map (λ c. c.opened) (call_in (history_facts (history_of rs)) call.0) }
+            → option_copied result ≡ option_map (λ c. c.opened) (call_in (book_facts rs) call.0) }
     {
         self.state.calls.opened(call)
     }
@@ -93,7 +93,7 @@ impl Core {
     pub fn notice(&self, number: u32) -> Option<&Notice>
         ensures value { option_copied result ≡ pending_notice (core_facts self.now.state) number }
         ensures on_book { (rs : List Record) → StandsFor self.now rs
-            → option_copied result ≡ pending_notice (history_facts (history_of rs)) number }
+            → option_copied result ≡ pending_notice (book_facts rs) number }
     {
         self.state.notices.get(number)
     }
@@ -102,7 +102,7 @@ impl Core {
     pub fn reply(&self, event: &Token) -> Option<Reply>
         ensures value { result ≡ event_reply (core_facts self.now.state) event.now }
         ensures on_book { (rs : List Record) → StandsFor self.now rs
-            → result ≡ event_reply (history_facts (history_of rs)) event.now }
+            → result ≡ event_reply (book_facts rs) event.now }
     {
         self.state.events.reply(event)
     }
@@ -111,7 +111,7 @@ impl Core {
     pub fn calls(&self, alloc: Global) -> Result<Vec<CallId>, AllocError>
         ensures value { IfOk result (λ v. v.items ≡ asked_calls (core_facts self.now.state)) }
         ensures on_book { (rs : List Record) → StandsFor self.now rs
-            → IfOk result (λ v. v.items ≡ asked_calls (history_facts (history_of rs))) }
+            → IfOk result (λ v. v.items ≡ asked_calls (book_facts rs)) }
     {
         self.state.calls.asked(alloc)
     }
@@ -120,7 +120,7 @@ impl Core {
     pub fn notices(&self, alloc: Global) -> Result<Vec<u32>, AllocError>
         ensures value { IfOk result (λ v. v.items ≡ pending_numbers (core_facts self.now.state)) }
         ensures on_book { (rs : List Record) → StandsFor self.now rs
-            → IfOk result (λ v. v.items ≡ pending_numbers (history_facts (history_of rs))) }
+            → IfOk result (λ v. v.items ≡ pending_numbers (book_facts rs)) }
     {
         self.state.notices.pending(alloc)
     }
@@ -129,7 +129,7 @@ impl Core {
     pub fn asked(&self, alloc: Global) -> Result<Vec<Opened>, AllocError>
         ensures value { IfOk result (λ v. v.items ≡ asked_openings (core_facts self.now.state)) }
         ensures on_book { (rs : List Record) → StandsFor self.now rs
-            → IfOk result (λ v. v.items ≡ asked_openings (history_facts (history_of rs))) }
+            → IfOk result (λ v. v.items ≡ asked_openings (book_facts rs)) }
     {
         self.state.calls.asked_opened(alloc)
     }
@@ -138,7 +138,7 @@ impl Core {
     pub fn pending(&self, alloc: Global) -> Result<Vec<Notice>, AllocError>
         ensures value { IfOk result (λ v. v.items ≡ (core_facts self.now.state).pending) }
         ensures on_book { (rs : List Record) → StandsFor self.now rs
-            → IfOk result (λ v. v.items ≡ (history_facts (history_of rs)).pending) }
+            → IfOk result (λ v. v.items ≡ (book_facts rs).pending) }
     {
         self.state.notices.pending_notices(alloc)
     }

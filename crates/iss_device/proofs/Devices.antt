@@ -11,6 +11,7 @@ use Rattle.iss_journal.proofs.Records.{one_list}
 use Rattle.iss_journal.proofs.Formats.{instance_back}
 use Rattle.iss_model.specs.declared.input.Record.{Record}
 use Rattle.iss_model.specs.rules.Histories.{history_of}
+use Rattle.iss_model.specs.run.Rooms.{one_journal}
 use Rattle.iss_model.specs.texts.Spelling.{spelling}
 use Rattle.iss_store.specs.Values.{StoreNow}
 use Rattle.iss_store.specs.Standing.{region_of, region_under, bodies_of, AreHistory, StandsFor, DeviceStandsFor}
@@ -45,7 +46,7 @@ region_opened instance size rs s opened =
 
 pub run_opened : (instance : ℕ) (rs : List Record) (s : StoreNow) (device : List ℕ) → IsOpenedOn instance (length device) rs s → run_at s rs ≡ run_on_device instance rs device
 run_opened instance rs s device opened =
-    λ i. record { instance = opened.instance_is i; room = Some (record { size = opened.size_is i }); history = history_of rs }
+    λ i. record { instance = opened.instance_is i; room = Some (one_journal (opened.size_is i)); history = history_of rs }
 
 -- ---- at the end
 

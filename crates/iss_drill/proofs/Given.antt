@@ -15,7 +15,7 @@ use Rattle.iss_model.specs.declared.decision.Judged.TheVariants as judged
 use Rattle.iss_model.specs.rules.Stepping.{step}
 use Rattle.iss_model.specs.rules.Judging.{judge}
 use Rattle.iss_model.specs.rules.Histories.{History, nothing_yet, history_keeper, history_of}
-use Rattle.iss_model.specs.run.Rooms.{Room, room_left, judgement_within}
+use Rattle.iss_model.specs.run.Rooms.{Room, one_journal, room_left, judgement_within}
 use Rattle.iss_model.specs.run.Transcripts.{Reading, sound}
 use Rattle.iss_model.specs.run.Runs.{Run, judgement_in, response, response_as, run_after}
 use Rattle.iss_agreement.proofs.Records.{step_records}
@@ -35,10 +35,6 @@ use Rattle.iss_drill.proofs.Lines.{run_then, repeats_then}
 
 -- ---- a record that is kept
 
-same_room : (room : Option Room) (rs : List Record) (r : Record) → room_left room rs (Some r) ≡ room
-same_room None rs r = refl
-same_room (Some room) rs r = refl
-
 history_with : (rs : List Record) (r : Record) → history_of (rs ++ r ∷ []) ≡ (step history_keeper (history_of rs) r).world
 history_with rs r = fold_push (λ (h : History) (r : Record). (step history_keeper h r).world) nothing_yet rs r
 
@@ -57,7 +53,7 @@ kept s s' p d run before after opened on_book commits counts call at =
             history =
                 ap (λ (rs : List Record). history_of rs) (step_records run.history r) ∙ history_with run.history.records r
                 ∙ ap (λ (h : History). (step history_keeper h r).world) at.history;
-            room = ap (λ (to : ℕ). Some (record { size = to })) (ap (λ place. place.to) commits.place) ∙ at.room ∙ sym (same_room run.room run.history.records r);
+            room = ap (λ (to : ℕ). Some (one_journal to)) (ap (λ place. place.to) commits.place) ∙ ap (λ (room : Option Room). room_left room run.history.records (Some r)) at.room;
           };
       call = call ∙ ap (λ (es : List Entry). call_opened es) entries;
     }

@@ -20,7 +20,7 @@ use Rattle.iss_model.specs.state.Kept.{IsSmall}
 use Rattle.iss_model.specs.texts.Spelling.{has_spelling, is_record, tokens_of}
 use Rattle.iss_model.proofs.Lists.{all_weaker}
 use Rattle.iss_agreement.proofs.Records.{step_records}
-use Rattle.iss_state.specs.Bounds.{IsWithin}
+use Rattle.iss_state.specs.Bounds.{AreWithin, IsWithin}
 use Rattle.iss_state.specs.Sound.{AreInForm, IsSoundAt}
 use Rattle.iss_state.proofs.invariants.Legal.{records_sound}
 use Rattle.iss_store.specs.Standing.{AreHistory}
@@ -69,7 +69,7 @@ pub holds_are_few : (start : Run) (lines : List Reading) (n : ℕ) (t : Tally) (
 holds_are_few start lines n t s none most few given =
     let rs = (run_after start lines).history.records in
     let begun : length start.history.records ≡ 0 = ap (λ (r : List Record). length r) none in
-    subst HoldsAreFew (sym given.stands.stands.core)
+    subst (AreWithin (2 ^ 58)) (sym (ap (λ (state : CoreState). state.holdings.held) given.stands.stands.core.rest))
     (few_held rs (23 + 2 * n) given.stands.stands.history (omega (arith, few_records start lines, begun, few, given.lines)) (omega (arith, most)))
 
 -- ---- what users hold together

@@ -5,10 +5,11 @@ use Rattle.iss_model.specs.declared.currency.Currency.TheVariants.{Usd}
 use Rattle.iss_model.specs.declared.account.Account.TheVariants as account
 use Rattle.iss_model.specs.rules.Facts.{balance_in}
 use Rattle.iss_model.specs.rules.Histories.{History, history_facts, history_of}
+use Rattle.iss_model.specs.run.Rooms.{one_journal}
 use Rattle.iss_model.specs.run.Runs.{Run, run_after}
-use Rattle.iss_model.specs.state.Cores.{CoreState, core_facts}
+use Rattle.iss_model.specs.state.Cores.{core_facts}
 use Rattle.iss_model.specs.texts.DrillLines.{DrillTotals, drill_line}
-use Rattle.iss_agreement.proofs.CoreOfBook.{facts_history}
+use Rattle.iss_core.proofs.OnBook.{facts_on_book}
 use Rattle.iss_store.specs.Values.{StoreNow}
 use Rattle.iss_store.specs.Standing.{StandsFor}
 use Rattle.iss_drill.specs.declared.tally.Tally.{Tally}
@@ -21,7 +22,7 @@ use Rattle.iss_drill.specs.Giving.{HasGiven}
 pub begun : (n : ℕ) (s : StoreNow) → StandsFor s [] → s.place.to ≡ 1048576 + 512 * n → HasGiven (drill_run n) [] no_tally s
 begun n s stands to =
     record {
-      stands = record { stands = stands; history = refl; room = ap (λ (size : ℕ). Some (record { size = size })) to };
+      stands = record { stands = stands; history = refl; room = ap (λ (size : ℕ). Some (one_journal size)) to };
       approved = refl;
       declined = refl;
       notices = refl;
@@ -31,7 +32,7 @@ begun n s stands to =
 
 facts_are : (run : Run) (s : StoreNow) → StandsFor s run.history.records → history_of run.history.records ≡ run.history → core_facts s.core.state ≡ history_facts run.history
 facts_are run s stands history =
-    ap (λ (state : CoreState). core_facts state) stands.core ∙ facts_history run.history.records ∙ ap (λ (h : History). history_facts h) history
+    facts_on_book s.core run.history.records stands.core ∙ ap (λ (h : History). history_facts h) history
 
 totals_are : (n : ℕ) (t : Tally) (s : StoreNow) → HasGiven (drill_run n) (drill_lines n) t s → totals_by (core_facts s.core.state) t ≡ drill_totals n
 totals_are n t s given =

@@ -19,6 +19,7 @@ use Rattle.iss_model.specs.rules.Facts.{Facts, balance_in, held_in}
 use Rattle.iss_model.specs.rules.Stepping.{step}
 use Rattle.iss_model.specs.rules.Judging.{judge}
 use Rattle.iss_model.specs.rules.Histories.{History, nothing_yet, history_facts, history_keeper}
+use Rattle.iss_model.specs.run.Rooms.{one_journal}
 use Rattle.iss_model.specs.run.Transcripts.{Reading, sound, faulty}
 use Rattle.iss_model.specs.run.Runs.{Run, judgement_in, response, run_after}
 use Rattle.iss_model.specs.texts.DrillLines.{DrillTotals, drill_line}
@@ -82,7 +83,7 @@ repeats_among s (line ∷ lines) = (if is_told_repeat s line then 1 else 0) + re
 
 -- the run of a drill of n events before its first line: a device of 1048576 + 512 n bytes that was formatted with instance 0
 abbrev pub drill_run : ℕ → Run
-drill_run n = record { instance = 0; room = Some (record { size = 1048576 + 512 * n }); history = nothing_yet }
+drill_run n = record { instance = 0; room = Some (one_journal (1048576 + 512 * n)); history = nothing_yet }
 
 -- the first lines of the set-up, so many, which have no stamp
 unfoldable pub setup_lines : ℕ → List Reading

@@ -89,6 +89,7 @@ pub fn put_told(out: &mut Vec<u8>, answer: &Answer) -> Result<(), AllocError>
         }
         Answer::Idle => put_idle(out),
         Answer::Full { free, need } => put_full(out, *free, *need),
+        Answer::Spent => put_spent(out),
     }
 }
 
@@ -196,6 +197,13 @@ fn put_idle(out: &mut Vec<u8>) -> Result<(), AllocError>
     ensures { OnOk result (out.new.items ≡ out.old.items ++ answer_text answer.Idle) }
 {
     out.extend_from_slice(b"{\"reply\":\"idle\"}\n")
+}
+
+#[tactic(auto, unfolding(iss_model::specs::texts::AnswerLines::answer_text))]
+fn put_spent(out: &mut Vec<u8>) -> Result<(), AllocError>
+    ensures { OnOk result (out.new.items ≡ out.old.items ++ answer_text answer.Spent) }
+{
+    out.extend_from_slice(b"{\"reply\":\"spent\"}\n")
 }
 
 pub(crate) fn put_number(out: &mut Vec<u8>, number: u64) -> Result<(), AllocError>

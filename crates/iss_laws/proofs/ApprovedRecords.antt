@@ -46,7 +46,7 @@ use Rattle.iss_state.specs.Well.{asked_times, decided_times, is_decided}
 use Rattle.iss_state.proofs.docket.Lists.{not_both, or_true}
 use Rattle.iss_state.proofs.calls.Legal.{core_well}
 use Rattle.iss_state.proofs.calls.Steps.{decided_once}
-use Rattle.iss_laws.specs.Rulings.{Ruling, decided_as, asked_about, ask_rulings, begun_in, call_ruling, closing_ruling, closing_rulings, closing_verdict, abandonment_reason, funding_ruling, is_answer, may_fail, only_if, opened_in, own_rulings, rulings_due, rulings_of, ruling_of, verdict_of_sets, with_entries}
+use Rattle.iss_laws.specs.Rulings.{Ruling, decided_as, asked_about, ask_rulings, begun_in, call_ruling, closing_ruling, closing_rulings, closing_verdict, abandonment_reason, funding_ruling, is_answer, may_fail, only_if, opened_in, own_rulings, rulings_due, rulings_of, ruling_of, verdict_of_sets, with_entries, event_rulings, event_reason, done_unless}
 use Rattle.iss_laws.proofs.StepRulings.{legal_rules}
 use Rattle.iss_laws.specs.Approvals.{agree, approved_rightly, are_approved_rightly, entries_pay_for, facts_at_turn, is_approval, is_approved, is_approved_rightly, is_paid_at_once, is_paid_closing, is_to_be_approved, pays_for, records_pay_for, stands_in}
 use Rattle.iss_laws.specs.Decisions.{book_after, entries_in}
@@ -204,28 +204,18 @@ ask_own token f (Some x) its =
     ∙ ap (λ (t : List ℕ). approves t (funding_ruling f x)) (sym (its x refl)) ∙ funding_own f x
 
 -- a record doesn't approve an event of another name
+event_other : (event : List ℕ) (o : Option (List ℕ)) (why : Option Reason) → ((token : List ℕ) → o ≡ Some token → bytes_eq token event ≡ false) → list_any (approves event) (event_rulings o why) ≡ false
+event_other event (Some token) why h = one_other event token (done_unless why) (h token refl)
+event_other event None why h = refl
+
 own_other : (event : List ℕ) (i : Input) (at : ℕ) (f : Facts) → ((token : List ℕ) → event_token i ≡ Some token → bytes_eq token event ≡ false) → list_any (approves event) (own_rulings i at f) ≡ false
-own_other event (input.User token user) at f h = one_other event token _ (h token refl)
-own_other event (input.Card token card user product active) at f h = one_other event token _ (h token refl)
-own_other event (input.Move token who) at f h = one_other event token _ (h token refl)
-own_other event (input.Product token product currency funding timeout_ms hold_ms) at f h = one_other event token _ (h token refl)
-own_other event (input.Group token group mccs) at f h = one_other event token _ (h token refl)
-own_other event (input.Control token control currency window amount_limit usage_limit association scope active) at f h = one_other event token _ (h token refl)
-own_other event (input.Set token set product currency connection timeout application max day_limit active) at f h = one_other event token _ (h token refl)
-own_other event (input.Switch token product on) at f h = one_other event token _ (h token refl)
-own_other event (input.Load token user currency amount) at f h = one_other event token _ (h token refl)
 own_other event (input.Authorization token card currency amount mcc mid) at f h =
     let ask : Option Ask = authorization_ask f token card currency amount mcc mid at in
     ask_other event token f (authorization_reason f card currency ask) ask (mapped_of (first_ask token amount at) token (λ t. refl) (txn_asked f token card currency mcc mid at)) (h token refl)
 own_other event (input.Increment token txn currency amount) at f h =
     let ask : Option Ask = increment_ask f token txn amount at in
     ask_other event token f (increment_reason f (txn_in f txn) currency ask) ask (mapped_of (λ (now : TxnNow). further_ask token amount at now.txn) token (λ t. refl) (txn_in f txn)) (h token refl)
-own_other event (input.Reversal token txn currency amount) at f h = one_other event token _ (h token refl)
-own_other event (input.Clearing token txn currency amount last) at f h = one_other event token _ (h token refl)
-own_other event (input.Refund token txn currency amount) at f h = one_other event token _ (h token refl)
-own_other event (input.Answer call what) at f h = refl
-own_other event (input.Ack notice) at f h = refl
-own_other event input.Time at f h = refl
+own_other event i at f h = event_other event (event_token i) (event_reason i at f) h
 
 -- the reply of an event that is decided once ----
 

@@ -34,7 +34,7 @@ use Rattle.iss_model.specs.rules.Pieces.{Parts, abandoned_call_entries, abandone
 use Rattle.iss_model.specs.rules.StandIns.{Stand, allowed, over_limit, uncovered, stand}
 use Rattle.iss_model.specs.rules.Acts.{Abandons, Act, Asks, Clears, Declines, Does, Ends, Fails, Funds, GivesBack, HoldsOwn, LetsGo, Loads, Refuses, Sets, StandsIn, TurnsDown, act_entries, entries_of_acts}
 use Rattle.iss_model.specs.rules.CardActs.{acts_for_gateway, end_acts, failed_acts, stand_acts}
-use Rattle.iss_acts.proofs.Made.{acts_append}
+use Rattle.iss_acts.proofs.Walk.{acts_append}
 use Rattle.iss_state.proofs.effects.Finds.{find-map}
 use Rattle.iss_state.proofs.docket.Closing.{its_number}
 use Rattle.iss_state.proofs.docket.Docketed.{AreSilent, both_silent, clearing_silent, gateway_silent, hold_silent, post_silent, release_silent}

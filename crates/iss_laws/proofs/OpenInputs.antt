@@ -25,7 +25,7 @@ use Rattle.iss_model.specs.rules.Facts.{Facts}
 use Rattle.iss_model.specs.rules.Reasons.{is_some_with}
 use Rattle.iss_model.specs.rules.Stepping.{entries_of}
 use Rattle.iss_model.specs.state.Cores.{CoreState, after_entry, core_facts, is_live}
-use Rattle.iss_state.proofs.invariants.Passing.{both_pass, gateway_passes, one_passes, passing}
+use Rattle.iss_acts.proofs.Passing.{both_pass, gateway_passes, one_passes, passing}
 use Rattle.iss_state.specs.Dockets.{docket_of}
 use Rattle.iss_state.specs.Well.{HaveOwnTokens, IsWellAmong, Known}
 use Rattle.iss_state.proofs.docket.Closing.{StandsItself, all_stand}

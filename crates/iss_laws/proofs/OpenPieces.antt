@@ -25,7 +25,7 @@ use Rattle.iss_model.specs.state.Cores.{CoreState, after_entry, call_after_close
 use Rattle.iss_model.proofs.Names.{one_name}
 use Rattle.iss_state.specs.Stakes.{part_held}
 use Rattle.iss_state.specs.Numbers.{CallsNumberedFrom}
-use Rattle.iss_state.proofs.invariants.Passing.{EachPasses, both_pass, either_passes, gateway_passes, one_passes, passing, where_passes}
+use Rattle.iss_acts.proofs.Passing.{EachPasses, both_pass, either_passes, gateway_passes, one_passes, passing, where_passes}
 use Rattle.iss_state.specs.Dockets.{Docket, docket_of}
 use Rattle.iss_state.specs.Well.{IsAsked}
 use Rattle.iss_state.proofs.docket.Abandoning.{asked_in, closings_txns}

@@ -29,7 +29,7 @@ use Rattle.iss_model.proofs.Names.{name-sym, one_name}
 use Rattle.iss_state.specs.Stakes.{part_held, whole_held}
 use Rattle.iss_state.proofs.effects.Finds.{number-sym, number_is}
 use Rattle.iss_state.proofs.effects.Parts.{change_of, whole_less, whole_more, whole_same}
-use Rattle.iss_state.proofs.invariants.Passing.{EachPasses}
+use Rattle.iss_acts.proofs.Passing.{EachPasses}
 use Rattle.iss_state.specs.Well.{HaveOwnTokens, IsAsked}
 use Rattle.iss_state.proofs.docket.Closing.{by_itself}
 use Rattle.iss_state.proofs.docket.Entering.{same_txn, txn_more}

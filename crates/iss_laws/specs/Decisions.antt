@@ -1,6 +1,6 @@
 -- What each record decides is what the rules have it decide.
 --
--- The rules of a record's own event are one list a kind (`own_rulings`): it is declined with the first reason that holds on the book at
+-- A record's own event is ruled by `own_rulings`: it is declined with the first reason that holds (`event_reason`) on the book at
 -- the record's stamp, what is due being settled. Without one it is done, or the user's own balance pays and it is approved, or the gateway
 -- is asked, or, while the product's switch is on, the sets decide. The event of a call that a record closes is decided in that record
 -- (`closing_verdict`): approved where the call was funded, declined as the gateway's where it was refused, as the sets stand where it

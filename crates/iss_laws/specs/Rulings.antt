@@ -20,7 +20,7 @@ use Rattle.iss_model.specs.declared.input.Outcome.{Outcome}
 use Rattle.iss_model.specs.declared.input.Outcome.TheVariants as outcome
 use Rattle.iss_model.specs.declared.input.Record.{Record}
 use Rattle.iss_model.specs.declared.txn.Txn.{Txn}
-use Rattle.iss_model.specs.Inputs.{outcome_number}
+use Rattle.iss_model.specs.Inputs.{event_token, outcome_number}
 use Rattle.iss_model.specs.rules.Asks.{Ask, call_ask}
 use Rattle.iss_model.specs.rules.CardReasons.{is_account_funded, authorization_reason, increment_reason, reversal_reason, clearing_reason, refund_reason}
 use Rattle.iss_model.specs.rules.Facts.{Facts, txn_in, call_in}
@@ -73,30 +73,43 @@ abbrev pub ask_rulings : Facts → List ℕ → Option Reason → Option Ask →
 ask_rulings f token (Some why) ask = decided_as token (verdict.Declined why) ∷ []
 ask_rulings f token None ask = cons_option (option_map (funding_ruling f) ask) []
 
--- what a record with this input rules of its own event, at its stamp and on the facts of its turn; an answer, an acknowledgement and a
--- time are no events
+-- Why an event is declined, at its stamp and on the facts of its turn, if it is. An answer, an acknowledgement and a time have no reason.
+abbrev pub event_reason : Input → ℕ → Facts → Option Reason
+event_reason (input.User token user) at f = user_reason f user
+event_reason (input.Card token card user product active) at f = card_reason f card user product
+event_reason (input.Move token who) at f = move_reason f who
+event_reason (input.Product token product currency funding timeout_ms hold_ms) at f = product_reason f product
+event_reason (input.Group token group mccs) at f = group_reason f group
+event_reason (input.Control token control currency window amount_limit usage_limit association scope active) at f =
+    control_reason f control currency window association scope
+event_reason (input.Set token set product currency connection timeout application max day_limit active) at f =
+    set_reason f set product currency
+event_reason (input.Switch token product on) at f = switch_reason f product
+event_reason (input.Load token user currency amount) at f = load_reason f user
+event_reason (input.Authorization token card currency amount mcc mid) at f =
+    authorization_reason f card currency (authorization_ask f token card currency amount mcc mid at)
+event_reason (input.Increment token txn currency amount) at f =
+    increment_reason f (txn_in f txn) currency (increment_ask f token txn amount at)
+event_reason (input.Reversal token txn currency amount) at f = reversal_reason (txn_in f txn) currency
+event_reason (input.Clearing token txn currency amount last) at f = clearing_reason (txn_in f txn) currency
+event_reason (input.Refund token txn currency amount) at f = refund_reason f (txn_in f txn) currency amount
+event_reason (input.Answer call outcome) at f = None
+event_reason (input.Ack notice) at f = None
+event_reason input.Time at f = None
+
+-- An event with this token is declined with its reason, and done if it has none. Without a token there is no event to rule.
+abbrev pub event_rulings : Option (List ℕ) → Option Reason → List Ruling
+event_rulings (Some token) why = decided_as token (done_unless why) ∷ []
+event_rulings None why = []
+
+-- what a record with this input rules of its own event, at its stamp and on the facts of its turn
 abbrev pub own_rulings : Input → ℕ → Facts → List Ruling
-own_rulings (input.User token user) at f = decided_as token (done_unless (user_reason f user)) ∷ []
-own_rulings (input.Card token card user product active) at f = decided_as token (done_unless (card_reason f card user product)) ∷ []
-own_rulings (input.Move token who) at f = decided_as token (done_unless (move_reason f who)) ∷ []
-own_rulings (input.Product token product currency funding timeout_ms hold_ms) at f = decided_as token (done_unless (product_reason f product)) ∷ []
-own_rulings (input.Group token group mccs) at f = decided_as token (done_unless (group_reason f group)) ∷ []
-own_rulings (input.Control token control currency window amount_limit usage_limit association scope active) at f =
-    decided_as token (done_unless (control_reason f control currency window association scope)) ∷ []
-own_rulings (input.Set token set product currency connection timeout application max day_limit active) at f =
-    decided_as token (done_unless (set_reason f set product currency)) ∷ []
-own_rulings (input.Switch token product on) at f = decided_as token (done_unless (switch_reason f product)) ∷ []
-own_rulings (input.Load token user currency amount) at f = decided_as token (done_unless (load_reason f user)) ∷ []
 own_rulings (input.Authorization token card currency amount mcc mid) at f =
-    let ask = authorization_ask f token card currency amount mcc mid at in ask_rulings f token (authorization_reason f card currency ask) ask
+    ask_rulings f token (event_reason (input.Authorization token card currency amount mcc mid) at f)
+    (authorization_ask f token card currency amount mcc mid at)
 own_rulings (input.Increment token txn currency amount) at f =
-    let ask = increment_ask f token txn amount at in ask_rulings f token (increment_reason f (txn_in f txn) currency ask) ask
-own_rulings (input.Reversal token txn currency amount) at f = decided_as token (done_unless (reversal_reason (txn_in f txn) currency)) ∷ []
-own_rulings (input.Clearing token txn currency amount last) at f = decided_as token (done_unless (clearing_reason (txn_in f txn) currency)) ∷ []
-own_rulings (input.Refund token txn currency amount) at f = decided_as token (done_unless (refund_reason f (txn_in f txn) currency amount)) ∷ []
-own_rulings (input.Answer call outcome) at f = []
-own_rulings (input.Ack notice) at f = []
-own_rulings input.Time at f = []
+    ask_rulings f token (event_reason (input.Increment token txn currency amount) at f) (increment_ask f token txn amount at)
+own_rulings i at f = event_rulings (event_token i) (event_reason i at f)
 
 -- what a record rules of an event whose call it closes ----
 

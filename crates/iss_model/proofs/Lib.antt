@@ -4,3 +4,4 @@ pub mod Names
 pub mod KeptSums
 pub mod Lists
 pub mod Accounts
+pub mod Copies

@@ -68,6 +68,8 @@ pub enum Answer {
     Idle,
     /// The record doesn't fit the device, in bytes.
     Full { free: u64, need: u64 },
+    /// As many records stand as there may be.
+    Spent,
 }
 
 /// What judging an input gives.

@@ -1,9 +1,9 @@
 //! What comes in: an input, and the record of one that was accepted.
-ghost use Rattle.std.specs.Prelude.{◌≡◌, IfOk};
+ghost use Rattle.std.specs.Prelude.{◌≡◌};
 ghost use Rattle.iss_model.specs.Inputs.{event_token};
+ghost use Rattle.iss_model.specs.rules.Controls.{control_of};
 
-use crate::{Association, CallId, Currency, Funding, Mccs, Moved, Scope, Token, Window};
-use std::alloc::AllocError;
+use crate::{Association, CallId, Control, Currency, Funding, Mccs, Moved, Scope, Token, Window};
 
 /// An accepted input with its stamp, in milliseconds since 1970.
 #[derive(Drop)]
@@ -25,7 +25,7 @@ pub enum Outcome {
 
 /// A card network event, a setting, a gateway's answer, an acknowledgement or a time.
 /// `token` names the event. Amounts are in the currency's minor units.
-#[derive(PartialEq, Drop)]
+#[derive(Clone, PartialEq, Drop)]
 pub enum Input {
     User {
         token: Token,
@@ -155,181 +155,39 @@ impl Input {
             Input::Answer { .. } | Input::Ack { .. } | Input::Time => None,
         }
     }
-}
-
-impl Clone for Input {
-    fn clone(&self) -> Result<Input, AllocError>
-        ensures { IfOk result (λ copy. copy ≡ self.now) }
+    /// The control that it sets, if it sets one.
+    pub fn control(&self) -> Option<Control>
+        ensures { result ≡ control_of self.now }
     {
-        Ok(match self {
-            Input::User { token, user } => Input::User {
-                token: *token,
-                user: *user,
-            },
-            Input::Card {
-                token,
-                card,
-                user,
-                product,
-                active,
-            } => Input::Card {
-                token: *token,
-                card: *card,
-                user: *user,
-                product: *product,
-                active: *active,
-            },
-            Input::Move { token, who } => Input::Move {
-                token: *token,
-                who: *who,
-            },
-            Input::Product {
-                token,
-                product,
-                currency,
-                funding,
-                timeout_ms,
-                hold_ms,
-            } => Input::Product {
-                token: *token,
-                product: *product,
-                currency: *currency,
-                funding: *funding,
-                timeout_ms: *timeout_ms,
-                hold_ms: *hold_ms,
-            },
-            Input::Group { token, group, mccs } => Input::Group {
-                token: *token,
-                group: *group,
-                mccs: mccs.clone()?,
-            },
-            Input::Control {
-                token,
-                control,
-                currency,
-                window,
-                amount_limit,
-                usage_limit,
-                association,
-                scope,
-                active,
-            } => Input::Control {
-                token: *token,
-                control: *control,
-                currency: *currency,
-                window: *window,
-                amount_limit: *amount_limit,
-                usage_limit: *usage_limit,
-                association: *association,
-                scope: *scope,
-                active: *active,
-            },
-            Input::Set {
-                token,
-                set,
-                product,
-                currency,
-                connection,
-                timeout,
-                application,
-                max,
-                day_limit,
-                active,
-            } => Input::Set {
-                token: *token,
-                set: *set,
-                product: *product,
-                currency: *currency,
-                connection: *connection,
-                timeout: *timeout,
-                application: *application,
-                max: *max,
-                day_limit: *day_limit,
-                active: *active,
-            },
-            Input::Switch { token, product, on } => Input::Switch {
-                token: *token,
-                product: *product,
-                on: *on,
-            },
-            Input::Load {
-                token,
-                user,
-                currency,
-                amount,
-            } => Input::Load {
-                token: *token,
-                user: *user,
-                currency: *currency,
-                amount: *amount,
-            },
-            Input::Authorization {
-                token,
-                card,
-                currency,
-                amount,
-                mcc,
-                mid,
-            } => Input::Authorization {
-                token: *token,
-                card: *card,
-                currency: *currency,
-                amount: *amount,
-                mcc: *mcc,
-                mid: *mid,
-            },
-            Input::Increment {
-                token,
-                txn,
-                currency,
-                amount,
-            } => Input::Increment {
-                token: *token,
-                txn: *txn,
-                currency: *currency,
-                amount: *amount,
-            },
-            Input::Reversal {
-                token,
-                txn,
-                currency,
-                amount,
-            } => Input::Reversal {
-                token: *token,
-                txn: *txn,
-                currency: *currency,
-                amount: *amount,
-            },
-            Input::Clearing {
-                token,
-                txn,
-                currency,
-                amount,
-                last,
-            } => Input::Clearing {
-                token: *token,
-                txn: *txn,
-                currency: *currency,
-                amount: *amount,
-                last: *last,
-            },
-            Input::Refund {
-                token,
-                txn,
-                currency,
-                amount,
-            } => Input::Refund {
-                token: *token,
-                txn: *txn,
-                currency: *currency,
-                amount: *amount,
-            },
-            Input::Answer { call, outcome } => Input::Answer {
-                call: *call,
-                outcome: *outcome,
-            },
-            Input::Ack { notice } => Input::Ack { notice: *notice },
-            Input::Time => Input::Time,
+        let Input::Control {
+            token: _,
+            control,
+            currency,
+            window,
+            amount_limit,
+            usage_limit,
+            association,
+            scope,
+            active,
+        } = self
+        else {
+            return None;
+        };
+        Some(Control {
+            name: *control,
+            currency: *currency,
+            window: *window,
+            amount_limit: *amount_limit,
+            usage_limit: *usage_limit,
+            association: *association,
+            scope: *scope,
+            active: *active,
         })
     }
 }
+
+/// A copy of an input is equal to it.
+#[tactic(auto, using(crate::proofs::Copies::copy_is))]
+pub fn copies_are_equal()
+    ensures { (input copy : Input) → ⟦<Input as Clone>⟧.is_clone input copy → copy ≡ input }
+{}

@@ -30,7 +30,7 @@ pub use counted::{Counter, Span, Stood};
 pub use currency::Currency;
 pub use decision::{Answer, Judged, Reason, Reply, Verdict};
 pub use entry::{Entry, Row};
-pub use input::{Input, Outcome, Record};
+pub use input::{Input, Outcome, Record, copies_are_equal};
 pub use mccs::Mccs;
 pub use named::Named;
 pub use numbered::Numbered;

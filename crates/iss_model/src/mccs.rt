@@ -1,5 +1,5 @@
 //! The codes of a merchant group.
-ghost use Rattle.std.specs.Prelude.{◌≡◌, IfOk};
+ghost use Rattle.std.specs.Prelude.{◌≡◌};
 
 use std::alloc::AllocError;
 use std::marker::Model;
@@ -34,9 +34,9 @@ impl Mccs {
 }
 
 impl Clone for Mccs {
-    fn clone(&self) -> Result<Mccs, AllocError>
-        ensures { IfOk result (λ copy. copy ≡ self.now) }
-    {
+    ghost is_clone = { λ codes copy. copy ≡ codes };
+
+    fn clone(&self) -> Result<Mccs, AllocError> {
         let codes = self.codes.clone()?;
         Ok(Mccs { codes })
     }

@@ -15,7 +15,7 @@ use Rattle.iss_model.specs.rules.Stepping.{step}
 use Rattle.iss_model.specs.rules.Judging.{judge}
 use Rattle.iss_model.specs.rules.Histories.{History, nothing_yet, history_keeper, history_of}
 use Rattle.iss_model.specs.run.Sayings.{said_by, timed, reaction_to_record}
-use Rattle.iss_model.specs.run.Rooms.{judgement_within}
+use Rattle.iss_model.specs.run.Rooms.{one_journal, judgement_within}
 use Rattle.iss_agreement.proofs.Records.{records_history, step_records}
 use Rattle.iss_session.specs.Desks.{Task, Waiter, desk_with}
 use Rattle.iss_session.specs.Sessions.{Session, Queued, tasks_of}
@@ -163,7 +163,7 @@ module _ (store : StoreNow) (h : HeldNow) (q : Queued) (rest : List Queued) wher
       abbrev with_parts : ℕ → ℕ → History → List Task → HeldNow → Session
       with_parts instance size history tasks held =
           record {
-            run = record { instance = instance; room = Some (record { size = size }); history = history };
+            run = record { instance = instance; room = Some (one_journal size); history = history };
             clock = held.clock;
             turns = held.turns;
             ready = None;

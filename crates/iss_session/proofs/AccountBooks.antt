@@ -19,8 +19,9 @@ use Rattle.iss_model.specs.rules.Keeper.{Growth}
 use Rattle.iss_model.specs.rules.Stepping.{own_entries, settle, after_due, step}
 use Rattle.iss_model.specs.rules.Histories.{History, nothing_yet, history_facts, history_keeper, history_of, numbered_rows}
 use Rattle.iss_model.proofs.Lists.{none_found}
+use Rattle.iss_acts.proofs.Passing.{both_pass, none_passes}
 use Rattle.iss_session.specs.Accounts.{has_no_gateway, is_account_entry, is_account_book}
-use Rattle.iss_session.proofs.AccountEntries.{AreAccounts, AccountFacts, all_both, all_first, both, own_all, due_all}
+use Rattle.iss_session.proofs.AccountEntries.{AreAccounts, AccountFacts, all_both, all_first, own_all, due_all}
 
 -- lists of what rows make
 
@@ -123,7 +124,7 @@ grow_account g es is more =
     record {
       book = all_both (λ (row : Row). is_account_entry row.entry) g.world.rows (numbered_rows (length g.world.records) es) is.book
           (book_numbered (length g.world.records) es more);
-      entries = both g.entries es is.entries more;
+      entries = both_pass is.entries more;
     }
 
 due_account : (at : ℕ) (g : Growth History) (items : List DueItem) → IsAccountGrowth g → IsAccountGrowth (fold (settle history_keeper at) g items)
@@ -139,7 +140,7 @@ unfolding step
 step_account h r is own =
     let up : History = record h { records = h.records ++ r ∷ [] } in
     let due = after_due history_keeper up r.at in
-    let due_is = due_account r.at (record { world = up; entries = [] }) (due_items (history_facts up) r.at) (record { book = is; entries = record { all = refl } }) in
+    let due_is = due_account r.at (record { world = up; entries = [] }) (due_items (history_facts up) r.at) (record { book = is; entries = none_passes }) in
     let entries = own_entries r (history_facts due.world) in
     let products : has_no_gateway due.world.rows ≡ true =
     no_gateway_before due.world.rows (due.world.rows ++ numbered_rows (length due.world.records) entries)

@@ -4,7 +4,7 @@ use Rattle.std.specs.List.{flat_map}
 use Rattle.iss_edge.specs.declared.outside.Channel.{Channel}
 use Rattle.iss_model.specs.declared.input.Record.{Record}
 use Rattle.iss_model.specs.declared.decision.Answer.{Answer}
-use Rattle.iss_model.specs.declared.decision.Answer.TheVariants.{Conflict, Full}
+use Rattle.iss_model.specs.declared.decision.Answer.TheVariants.{Conflict, Full, Spent}
 use Rattle.iss_model.specs.declared.decision.Judged.{Judged}
 use Rattle.iss_model.specs.declared.decision.Judged.TheVariants.{New, Clock, Told}
 use Rattle.iss_model.specs.Inputs.{event_token}
@@ -21,6 +21,7 @@ use Rattle.iss_session.specs.Sessions.{Queued, Session, tasks_of, with_tasks}
 abbrev pub status_of : Answer → ℕ
 status_of (Conflict token number) = 409
 status_of (Full free need) = 507
+status_of Spent = 507
 status_of _ = 200
 
 -- the client is told why its event isn't new; what the gateway or the clock gave is told to nobody

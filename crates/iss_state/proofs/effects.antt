@@ -10,3 +10,4 @@ pub mod PieceEffects
 pub mod Abandonment
 pub mod Paid
 pub mod Asks
+pub mod Taking

@@ -1,11 +1,8 @@
-pub mod DueEntries
-pub mod CardEntries
+pub mod Costs
 pub mod Kept
 pub mod Sound
 pub mod Settled
 pub mod NewEvents
-pub mod Walk
-pub mod Passing
 pub mod FormStates
 pub mod FormEntries
 pub mod OwnEntries

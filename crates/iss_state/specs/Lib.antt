@@ -2,6 +2,7 @@ pub mod Bounds
 pub mod Stakes
 pub mod Needs
 pub mod Effects
+pub mod Costs
 pub mod Sound
 pub mod Numbers
 pub mod Entering

@@ -1,18 +1,13 @@
 -- What an entry needs of the state that it is entered into.
-use Rattle.std.specs.Prelude.{List, None, Option, Some, [], false, find, length, map, max, nat_lt, negsuc, pos, suc, true, ℕ, ℤ, ◌+◌, ◌∷◌, ◌≡◌, ◌≤◌}
+use Rattle.std.specs.Prelude.{List, None, Option, Some, [], false, find, length, map, nat_lt, negsuc, pos, suc, true, ℕ, ℤ, ◌+◌, ◌∷◌, ◌≡◌, ◌≤◌}
 use Rattle.std.specs.List.{list_all}
 use Rattle.std.specs.Str.{bytes_eq}
 use Rattle.iss_model.specs.declared.account.Part.{Part}
 use Rattle.iss_model.specs.declared.currency.Currency.{Currency}
-use Rattle.iss_model.specs.declared.decision.Reason.{Reason}
 use Rattle.iss_model.specs.declared.entry.Entry.{Entry}
 use Rattle.iss_model.specs.declared.entry.Entry.TheVariants as entry
-use Rattle.iss_model.specs.declared.input.Input.{Input}
-use Rattle.iss_model.specs.declared.input.Input.TheVariants as input
 use Rattle.iss_model.specs.declared.txn.Txn.{Txn}
 use Rattle.iss_model.specs.declared.txn.UsageRow.{UsageRow}
-use Rattle.iss_model.specs.rules.Facts.{Facts}
-use Rattle.iss_model.specs.rules.Reasons.{card_reason, control_reason, group_reason, move_reason, product_reason, set_reason, switch_reason, user_reason}
 use Rattle.iss_model.specs.rules.Settings.{is_named_in}
 use Rattle.iss_model.specs.state.Cores.{CoreState, after_entry, core_facts}
 pub use Rattle.iss_acts.specs.Sources.{setting_reason}

@@ -1,21 +1,26 @@
 -- A plan is the record that judging gives, where it fits.
-use Rattle.std.proofs.Common.{◌≡◌, ℕ, ◌-◌, ◌<◌, ◌≤◌, Bool, true, false, cond, List, refl, ap, subst, ◌∙◌, arith}
+use Rattle.std.proofs.Common.{◌≡◌, ℕ, ◌-◌, ◌<◌, ◌≤◌, Bool, true, false, cond, List, length, refl, sym, ap, subst, ◌∙◌, arith}
 use Rattle.std.specs.Prelude.{Result, Ok, Err, nat_le}
 use Rattle.std.proofs.lemmas.Bool.Decides.{nat_tests}
 use Rattle.iss_journal.specs.Place.{Place, free_at}
+use Rattle.iss_model.specs.declared.limits.TheConstants.{MOST_RECORDS}
 use Rattle.iss_model.specs.declared.input.Input.{Input}
 use Rattle.iss_model.specs.declared.input.Record.{Record}
 use Rattle.iss_model.specs.declared.decision.Answer.TheVariants as answer
 use Rattle.iss_model.specs.declared.decision.Judged.{Judged}
 use Rattle.iss_model.specs.declared.decision.Judged.TheVariants as judged
+use Rattle.iss_model.specs.rules.Facts.{Facts}
 use Rattle.iss_model.specs.rules.Judging.{judge}
 use Rattle.iss_model.specs.rules.Histories.{history_keeper, history_of}
-use Rattle.iss_model.specs.state.Cores.{core_keeper}
-use Rattle.iss_model.specs.run.Rooms.{need_of, judgement_within}
+use Rattle.iss_model.specs.state.Cores.{CoreState, core_keeper}
+use Rattle.iss_model.specs.run.Rooms.{need_of, end_gate, where_it_fits, judgement_within}
+use Rattle.iss_agreement.proofs.CoreOfBook.{facts_history}
+use Rattle.iss_agreement.proofs.Records.{records_history}
+use Rattle.iss_agreement.proofs.RoomLaws.{not_spent}
 use Rattle.iss_core.proofs.OnBook.{judged_on_book}
 use Rattle.iss_store.specs.declared.fault.PlanFault.{PlanFault}
 use Rattle.iss_store.specs.declared.fault.PlanFault.TheVariants as plan_fault
-use Rattle.iss_store.specs.Values.{StoreNow, Plan, room_of}
+use Rattle.iss_store.specs.Values.{StoreNow, Plan, IsStore, room_of}
 use Rattle.iss_store.specs.Standing.{StandsFor}
 use Rattle.iss_store.specs.Planning.{judged_as, made_of, judged_within, judged_at, Plans}
 
@@ -49,17 +54,31 @@ plans_clock s i at r result is plans = subst (λ (j : Judged). Plans (judged_wit
 
 -- ---- on the book
 
-within_room : (s : StoreNow) (rs : List Record) (j : Judged) → StandsFor s rs → judged_within s.place j ≡ judgement_within (room_of s) rs j
-within_room s rs (judged.New r) stands =
-    ap (λ (gate : ℕ). cond (nat_le (need_of r) (s.place.to - 1 - gate)) (judged.New r) (judged.Told (answer.Full (s.place.to - 1 - gate) (need_of r)))) stands.gate
-within_room s rs (judged.Clock r) stands =
-    ap (λ (gate : ℕ). cond (nat_le (need_of r) (s.place.to - 1 - gate)) (judged.Clock r) (judged.Told (answer.Full (s.place.to - 1 - gate) (need_of r)))) stands.gate
-within_room s rs (judged.Told a) stands = refl
+-- a device holds fewer records than there may be
+few_stand : (s : StoreNow) (rs : List Record) → IsStore s → StandsFor s rs → length rs < MOST_RECORDS
+few_stand s rs is stands =
+    let count : s.core.state.count ≡ length rs =
+    ap (λ (state : CoreState). state.count) stands.core ∙ ap (λ (f : Facts). f.count) (facts_history rs) ∙ ap (λ (l : List Record). length l) (records_history rs) in
+    omega (arith, count, is.behind, is.within, is.size)
 
-pub planned_on_book : (s : StoreNow) (i : Input) (at : ℕ) (result : Result Plan PlanFault) (rs : List Record) → Plans (judged_at s i at) result → StandsFor s rs
+-- what comes of a record behind this gate
+abbrev made_behind : ℕ → Record → Judged → ℕ → Judged
+made_behind to r made gate = cond (nat_le (need_of r) (to - 1 - gate)) made (judged.Told (answer.Full (to - 1 - gate) (need_of r)))
+
+made_within : (s : StoreNow) (rs : List Record) (r : Record) (made : Judged) → length rs < MOST_RECORDS → StandsFor s rs
+    → made_behind s.place.to r made s.place.gate ≡ where_it_fits (room_of s) rs r made
+made_within s rs r made few stands =
+    ap (made_behind s.place.to r made) stands.gate ∙ sym (not_spent (length rs) (made_behind s.place.to r made (end_gate rs)) few)
+
+within_room : (s : StoreNow) (rs : List Record) (j : Judged) → length rs < MOST_RECORDS → StandsFor s rs → judged_within s.place j ≡ judgement_within (room_of s) rs j
+within_room s rs (judged.New r) few stands = made_within s rs r (judged.New r) few stands
+within_room s rs (judged.Clock r) few stands = made_within s rs r (judged.Clock r) few stands
+within_room s rs (judged.Told a) few stands = refl
+
+pub planned_on_book : (s : StoreNow) (i : Input) (at : ℕ) (result : Result Plan PlanFault) (rs : List Record) → Plans (judged_at s i at) result → IsStore s → StandsFor s rs
     → Plans (judgement_within (room_of s) rs (judge history_keeper (history_of rs) i at)) result
-planned_on_book s i at result rs plans stands =
+planned_on_book s i at result rs plans is stands =
     let here : judged_at s i at ≡ judgement_within (room_of s) rs (judge history_keeper (history_of rs) i at) =
-    within_room s rs (judge core_keeper s.core.state i at) stands
+    within_room s rs (judge core_keeper s.core.state i at) (few_stand s rs is stands) stands
     ∙ ap (judgement_within (room_of s) rs) (judged_on_book s.core rs i at (judge core_keeper s.core.state i at) stands.core refl) in
     subst (λ (j : Judged). Plans j result) here plans

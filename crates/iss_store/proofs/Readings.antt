@@ -27,7 +27,7 @@ use Rattle.iss_agreement.proofs.Records.{records_history}
 use Rattle.iss_codec.specs.Meanings.{IsSpellingOf}
 use Rattle.iss_core.specs.Values.{CoreNow, IsNext, Steps}
 use Rattle.iss_core.specs.Values as cores
-use Rattle.iss_core.proofs.OnBook.{judged_on_book, steps_on_book}
+use Rattle.iss_core.proofs.OnBook.{judged_on_book, stands_at_first, steps_on_book}
 use Rattle.iss_store.specs.Numbers.{IsNumbered}
 use Rattle.iss_store.specs.Standing.{region_of, bodies_of, AreHistory}
 use Rattle.iss_store.specs.Opening.{ReadsHistory, BodyAfterHistory, BadRecordAt, BadSpellingAt, BadHistoryAt, TakesUp, FollowsNot, ReadsCore}
@@ -129,7 +129,7 @@ read_nothing place c a first within none =
     record {
       same = same_self a;
       rs = [];
-      stands = none;
+      stands = stands_at_first c.state none;
       history = record { legal = tt; spelled = refl };
       read =
           λ instance has whole.

@@ -9,7 +9,7 @@ use Rattle.iss_model.specs.declared.input.Record.{Record}
 use Rattle.iss_model.specs.declared.entry.Entry.{Entry}
 use Rattle.iss_model.specs.texts.Spelling.{spelling, is_record}
 use Rattle.iss_model.specs.run.Sayings.{Said, said_by, timed}
-use Rattle.iss_model.specs.run.Rooms.{Room}
+use Rattle.iss_model.specs.run.Rooms.{Room, one_journal}
 use Rattle.iss_core.specs.Values.{CoreNow}
 use Rattle.iss_store.specs.Numbers.{IsNumbered}
 
@@ -31,7 +31,7 @@ pub record DurableNow : Type 0 where
 
 -- the room of a store's device
 abbrev pub room_of : StoreNow → Option Room
-room_of s = Some (record { size = s.place.to })
+room_of s = Some (one_journal s.place.to)
 
 -- What holds of every store: its gate is within a device, behind at least six bytes for each of its records, its instance is one, and its
 -- calls and notices are numbered from 1.

@@ -129,6 +129,7 @@ fn status_of(answer: &Answer) -> u16
     match answer {
         Answer::Conflict(..) => 409,
         Answer::Full { .. } => 507,
+        Answer::Spent => 507,
         _ => 200,
     }
 }

@@ -6,27 +6,29 @@ use Rattle.iss_model.specs.declared.input.Record.{Record}
 use Rattle.iss_model.specs.rules.Stepping.{step}
 use Rattle.iss_model.specs.rules.Histories.{History, nothing_yet, history_keeper}
 use Rattle.iss_model.specs.run.Transcripts.{Reading, sound, faulty, Text}
-use Rattle.iss_model.specs.run.Rooms.{Room, record_made, room_left}
+use Rattle.iss_model.specs.run.Rooms.{Room, one_journal, record_made, room_left}
 use Rattle.iss_model.specs.run.Runs.{Run, response, judgement_in, line_texts, run_after, accepted_records, first_texts, transcript_of}
 use Rattle.iss_agreement.proofs.RunLaws.{history_after, texts_then}
 use Rattle.iss_device.specs.Runs.{run_on}
 use Rattle.iss_top.specs.Replays.{TranscriptsContinue}
 
-same_room : (room : Option Room) (rs : List Record) (made : Option Record) → room_left room rs made ≡ room
-same_room room rs None = refl
-same_room None rs (Some r) = refl
-same_room (Some room) rs (Some r) = refl
+-- one journal is the same room after each record
+same_room : (size : ℕ) (rs : List Record) (made : Option Record) → room_left (Some (one_journal size)) rs made ≡ Some (one_journal size)
+same_room size rs None = refl
+same_room size rs (Some r) = refl
 
 kept_instance : (s : Run) (lines : List Reading) → (run_after s lines).instance ≡ s.instance
 kept_instance s [] = refl
 kept_instance s (sound i at ∷ lines) = kept_instance (response s (sound i at)).run lines
 kept_instance s (faulty text ∷ lines) = kept_instance s lines
 
-kept_room : (s : Run) (lines : List Reading) → (run_after s lines).room ≡ s.room
-kept_room s [] = refl
-kept_room s (sound i at ∷ lines) =
-    kept_room (response s (sound i at)).run lines ∙ same_room s.room s.history.records (record_made (judgement_in s i (unwrap_or at 0)))
-kept_room s (faulty text ∷ lines) = kept_room s lines
+kept_room : (size : ℕ) (s : Run) (lines : List Reading) → s.room ≡ Some (one_journal size) → (run_after s lines).room ≡ Some (one_journal size)
+kept_room size s [] is = is
+kept_room size s (sound i at ∷ lines) is =
+    let made : Option Record = record_made (judgement_in s i (unwrap_or at 0)) in
+    kept_room size (response s (sound i at)).run lines
+    (ap (λ (room : Option Room). room_left room s.history.records made) is ∙ same_room size s.history.records made)
+kept_room size s (faulty text ∷ lines) is = kept_room size s lines is
 
 same_run : (a b : Run) → a.instance ≡ b.instance → a.room ≡ b.room → a.history ≡ b.history → a ≡ b
 same_run a b e f g = λ i. record { instance = e i; room = f i; history = g i }
@@ -37,7 +39,7 @@ pub run_left : (instance size : ℕ) (rs : List Record) (lines : List Reading)
 run_left instance size rs lines =
     let s = run_on instance size rs in
     let made = accepted_records s lines in
-    same_run (run_after s lines) (run_on instance size (rs ++ made)) (kept_instance s lines) (kept_room s lines)
+    same_run (run_after s lines) (run_on instance size (rs ++ made)) (kept_instance s lines) (kept_room size s lines refl)
     (history_after s lines ∙ sym (fold-append (λ (h : History) (r : Record). (step history_keeper h r).world) nothing_yet rs made))
 
 pub transcripts_continue : TranscriptsContinue

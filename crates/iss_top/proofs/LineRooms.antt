@@ -10,6 +10,7 @@ use Rattle.iss_model.specs.rules.Judging.{judge}
 use Rattle.iss_model.specs.rules.Keeper.{Growth}
 use Rattle.iss_model.specs.rules.Stepping.{own_entries, settle, step}
 use Rattle.iss_model.specs.state.Cores.{CoreState, with_record, core_facts, core_keeper}
+use Rattle.iss_model.specs.run.Rooms.{judgement_after}
 use Rattle.iss_model.specs.run.Sayings.{reaction, reaction_as}
 use Rattle.iss_model.specs.run.Transcripts.{sound, after_line}
 use Rattle.iss_state.proofs.invariants.Kept.{entries_count}
@@ -43,7 +44,7 @@ judged_count h i at (judged.Told a) = omega arith
 
 sound_count : (h : CoreState) (i : Input) (at : Option ℕ) → (after_line core_keeper h (sound i at)).world.count ≤ h.count + 1
 unfolding reaction
-sound_count h i at = judged_count h i (unwrap_or at 0) (judge core_keeper h i (unwrap_or at 0))
+sound_count h i at = judged_count h i (unwrap_or at 0) (judgement_after h.count (judge core_keeper h i (unwrap_or at 0)))
 
 -- Five times the records, and the bytes of the line, are at most the bytes that came: a line that makes a record has four bytes at least, and a line feed or the end.
 read_room : (h : CoreState) (line : List ℕ) (r : Result Line FormFault) → line_read Lines line ≡ r → 5 * (after_line core_keeper h (as_reading r)).world.count ≤ 5 * h.count + length line + 1

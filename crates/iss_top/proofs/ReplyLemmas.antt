@@ -1,8 +1,9 @@
 -- What a line is told, from what reading and judging it gave.
-use Rattle.std.proofs.Common.{◌≡◌, ℕ, Bool, true, false, cond, List, [], ◌∷◌, ◌++◌, map, Option, Some, None, Ok, Err, refl, sym, ap, subst, ◌∙◌}
+use Rattle.std.proofs.Common.{◌≡◌, ℕ, ◌<◌, Bool, true, false, cond, List, [], ◌∷◌, ◌++◌, map, Option, Some, None, Ok, Err, refl, sym, ap, subst, ◌∙◌}
 use Rattle.std.specs.Prelude.{unwrap_or}
 use Rattle.std.specs.List.{flat_map}
 use Rattle.std.proofs.lemmas.List.{map-append}
+use Rattle.iss_model.specs.declared.limits.TheConstants.{MOST_RECORDS}
 use Rattle.iss_model.specs.declared.input.Input.{Input}
 use Rattle.iss_model.specs.declared.input.Record.{Record}
 use Rattle.iss_model.specs.declared.entry.Entry.{Entry}
@@ -14,8 +15,10 @@ use Rattle.iss_model.specs.texts.AnswerLines.{answer_text}
 use Rattle.iss_model.specs.rules.Stepping.{step}
 use Rattle.iss_model.specs.rules.Judging.{judge}
 use Rattle.iss_model.specs.state.Cores.{CoreState, core_keeper}
+use Rattle.iss_model.specs.run.Rooms.{judgement_after}
 use Rattle.iss_model.specs.run.Sayings.{Said, said_by, said_of_time, answer_left, reaction, reaction_as}
 use Rattle.iss_model.specs.run.Transcripts.{Reading, sound, LineReply, reply_by_reaction, after_line, at_level, said_text, entry_texts}
+use Rattle.iss_agreement.proofs.RoomLaws.{judged_unspent}
 use Rattle.iss_event.specs.declared.line.Line.{Line}
 use Rattle.iss_event.specs.declared.line.Mode.TheVariants.{Lines}
 use Rattle.iss_event.specs.declared.line.FormFault.{FormFault}
@@ -52,16 +55,19 @@ entries_then entries more =
 abbrev told_as : CoreState → Input → ℕ → Judged → LineReply CoreState
 told_as s i stamp j = reply_by_reaction core_keeper (reaction_as core_keeper s i stamp j)
 
-judged_so : (s : CoreState) (i : Input) (at : Option ℕ) (stamp : ℕ) (j : Judged) → stamp ≡ unwrap_or at 0 → j ≡ judge core_keeper s i stamp → told_as s i stamp j ≡ after_line core_keeper s (sound i at)
+judged_so : (s : CoreState) (i : Input) (at : Option ℕ) (stamp : ℕ) (j : Judged) → s.count < MOST_RECORDS → stamp ≡ unwrap_or at 0 → j ≡ judge core_keeper s i stamp
+    → told_as s i stamp j ≡ after_line core_keeper s (sound i at)
 unfolding reaction
-judged_so s i at stamp j is so =
-    ap (told_as s i stamp) so ∙ ap (λ (n : ℕ). told_as s i n (judge core_keeper s i n)) is
+judged_so s i at stamp j few is so =
+    ap (told_as s i stamp) (so ∙ sym (judged_unspent s.count (judge core_keeper s i stamp) few))
+    ∙ ap (λ (n : ℕ). told_as s i n (judgement_after s.count (judge core_keeper s i n))) is
 
-replies_as : (s : CoreState) (i : Input) (at : Option ℕ) (stamp : ℕ) (j : Judged) (after : CoreState) (texts : Texts) → stamp ≡ unwrap_or at 0 → j ≡ judge core_keeper s i stamp
+replies_as : (s : CoreState) (i : Input) (at : Option ℕ) (stamp : ℕ) (j : Judged) (after : CoreState) (texts : Texts)
+    → s.count < MOST_RECORDS → stamp ≡ unwrap_or at 0 → j ≡ judge core_keeper s i stamp
     → after ≡ (reaction_as core_keeper s i stamp j).world → HasAll (map said_text (reaction_as core_keeper s i stamp j).said) texts
     → Replies (after_line core_keeper s (sound i at)) after texts
-replies_as s i at stamp j after texts is so state all =
-    let same = judged_so s i at stamp j is so in
+replies_as s i at stamp j after texts few is so state all =
+    let same = judged_so s i at stamp j few is so in
     let told : map said_text (reaction_as core_keeper s i stamp j).said ≡ each_bytes (after_line core_keeper s (sound i at)).texts =
     sym (each-at_level _ (map said_text (reaction_as core_keeper s i stamp j).said)) ∙ ap (λ (t : LineReply CoreState). each_bytes t.texts) same in
     record {
@@ -70,10 +76,10 @@ replies_as s i at stamp j after texts is so state all =
     }
 
 -- an input that isn't new changes nothing, and is told its answer
-pub answer_tells : (s : CoreState) (i : Input) (at : Option ℕ) (stamp : ℕ) (a : Answer) (none texts : Texts) → stamp ≡ unwrap_or at 0 → judged.Told a ≡ judge core_keeper s i stamp
+pub answer_tells : (s : CoreState) (i : Input) (at : Option ℕ) (stamp : ℕ) (a : Answer) (none texts : Texts) → s.count < MOST_RECORDS → stamp ≡ unwrap_or at 0 → judged.Told a ≡ judge core_keeper s i stamp
     → HasNone none → Gains (answer_text a ∷ []) none texts → Replies (after_line core_keeper s (sound i at)) s texts
-answer_tells s i at stamp a none texts is told empty put =
-    replies_as s i at stamp (judged.Told a) s texts is told refl (gained_all (answer_text a ∷ []) none texts empty put)
+answer_tells s i at stamp a none texts few is told empty put =
+    replies_as s i at stamp (judged.Told a) s texts few is told refl (gained_all (answer_text a ∷ []) none texts empty put)
 
 -- a record, and what is said after it
 record_and : (s after : CoreState) (r : Record) (more : List Said) (none made texts : Texts) → HasNone none → Records s r after none made → Gains (map said_text more) made texts
@@ -85,16 +91,16 @@ record_and s after r more none made texts empty records put =
     (gains_then (flat_map entry_texts entries) (map said_text more) none made texts records.texts put))
 
 -- a new one makes its record, and is told what its entries send out, and of a time that it was taken
-pub record_tells : (s : CoreState) (i : Input) (at : Option ℕ) (stamp : ℕ) (r : Record) (after : CoreState) (none made texts : Texts) → stamp ≡ unwrap_or at 0 → judged.New r ≡ judge core_keeper s i stamp
+pub record_tells : (s : CoreState) (i : Input) (at : Option ℕ) (stamp : ℕ) (r : Record) (after : CoreState) (none made texts : Texts) → s.count < MOST_RECORDS → stamp ≡ unwrap_or at 0 → judged.New r ≡ judge core_keeper s i stamp
     → HasNone none → Records s r after none made → Gains (map said_text (said_of_time i)) made texts → Replies (after_line core_keeper s (sound i at)) after texts
-record_tells s i at stamp r after none made texts is fresh empty records put =
-    replies_as s i at stamp (judged.New r) after texts is fresh records.state (record_and s after r (said_of_time i) none made texts empty records put)
+record_tells s i at stamp r after none made texts few is fresh empty records put =
+    replies_as s i at stamp (judged.New r) after texts few is fresh records.state (record_and s after r (said_of_time i) none made texts empty records put)
 
 -- one that isn't new where something is due is told what the time's entries send out, and then the answer that is left
-pub clock_tells : (s : CoreState) (i : Input) (at : Option ℕ) (stamp : ℕ) (r : Record) (after : CoreState) (none made texts : Texts) → stamp ≡ unwrap_or at 0 → judged.Clock r ≡ judge core_keeper s i stamp
+pub clock_tells : (s : CoreState) (i : Input) (at : Option ℕ) (stamp : ℕ) (r : Record) (after : CoreState) (none made texts : Texts) → s.count < MOST_RECORDS → stamp ≡ unwrap_or at 0 → judged.Clock r ≡ judge core_keeper s i stamp
     → HasNone none → Records s r after none made → Gains (map said_text (answer_left (judge core_keeper after i stamp))) made texts → Replies (after_line core_keeper s (sound i at)) after texts
-clock_tells s i at stamp r after none made texts is due empty records put =
-    replies_as s i at stamp (judged.Clock r) after texts is due records.state
+clock_tells s i at stamp r after none made texts few is due empty records put =
+    replies_as s i at stamp (judged.Clock r) after texts few is due records.state
     (record_and s after r (answer_left (judge core_keeper (step core_keeper s r).world i stamp)) none made texts empty records
     (subst (λ (w : CoreState). Gains (map said_text (answer_left (judge core_keeper w i stamp))) made texts) records.state put))
 

@@ -1,11 +1,13 @@
 -- An input is taken: what judging comes to on a store is what a run on its records makes of it.
 use Rattle.std.proofs.Common.{◌≡◌, ℕ, Bool, true, false, cond, ◌||◌, max, List, [], ◌∷◌, ◌++◌, length, map, Option, Some, None, Ok, Err, refl, sym, ap, subst, ◌∙◌, append-nil}
-use Rattle.std.specs.Prelude.{Result, unwrap_or}
+use Rattle.std.specs.Prelude.{nat_lt, Result, unwrap_or}
 use Rattle.std.proofs.lemmas.List.{map-append}
 use Rattle.std.proofs.lemmas.List.Sums.{fold-append}
 use Rattle.iss_edge.specs.World.{World, Told}
 use Rattle.iss_edge.proofs.Tolds.{told_map, told_then, told_self}
+use Rattle.iss_model.specs.declared.limits.TheConstants.{MOST_RECORDS}
 use Rattle.iss_model.specs.declared.decision.Answer.{Answer}
+use Rattle.iss_model.specs.declared.decision.Answer.TheVariants.{Spent}
 use Rattle.iss_model.specs.declared.decision.Judged.{Judged}
 use Rattle.iss_model.specs.declared.decision.Judged.TheVariants as judged
 use Rattle.iss_model.specs.declared.input.Input.{Input}
@@ -19,7 +21,7 @@ use Rattle.iss_model.specs.rules.Judging.{refusal, is_ack, judgement_as, judge}
 use Rattle.iss_model.specs.rules.Histories.{History, nothing_yet, history_keeper, history_of}
 use Rattle.iss_model.specs.state.Cores.{core_keeper}
 use Rattle.iss_model.specs.run.Sayings.{Said, reaction_to_record, reaction_as, said_of_time, answer_left}
-use Rattle.iss_model.specs.run.Rooms.{Room, fits, where_it_fits, judgement_within, room_left}
+use Rattle.iss_model.specs.run.Rooms.{Room, fits, unless_spent, where_it_fits, judgement_within, room_left}
 use Rattle.iss_model.specs.run.Runs.{Run, Response, judgement_in, response_as, response}
 use Rattle.iss_model.specs.run.Transcripts.{Reading, sound, faulty, Text, at_level, said_text_at}
 use Rattle.iss_agreement.proofs.Records.{records_history, step_records}
@@ -58,13 +60,16 @@ module _ {W : Type 0} (k : Keeper W) where
       new_as (answer_at w i at) (is_quiet (due_items (k.facts w) at)) i at r h
 
 -- and so it is in any room
-fits_new : (fit : Bool) (made : Judged) (a : Answer) (r : Record) → cond fit made (judged.Told a) ≡ judged.New r → made ≡ judged.New r
-fits_new true made a r h = h
-fits_new false made a r h = absurd cc
+if_new : (may : Bool) (made : Judged) (a : Answer) (r : Record) → cond may made (judged.Told a) ≡ judged.New r → made ≡ judged.New r
+if_new true made a r h = h
+if_new false made a r h = absurd cc
+
+unspent_new : (count : ℕ) (made : Judged) (r : Record) → unless_spent count made ≡ judged.New r → made ≡ judged.New r
+unspent_new count made r h = if_new (nat_lt count MOST_RECORDS) made Spent r h
 
 where_new : (room : Option Room) (rs : List Record) (q : Record) (made : Judged) (r : Record) → where_it_fits room rs q made ≡ judged.New r → made ≡ judged.New r
-where_new None rs q made r h = h
-where_new (Some room) rs q made r h = fits_new (fits room rs q) made _ r h
+where_new None rs q made r h = unspent_new (length rs) made r h
+where_new (Some room) rs q made r h = if_new (fits room rs q) made _ r (unspent_new (length rs) _ r h)
 
 within_new : (room : Option Room) (rs : List Record) (j : Judged) (r : Record) → judgement_within room rs j ≡ judged.New r → j ≡ judged.New r
 within_new room rs (judged.New q) r h = where_new room rs q (judged.New q) r h

@@ -2,6 +2,7 @@
 use Rattle.std.proofs.Common.{◌≡◌, ℕ, Bool, true, false, cond, not, List, [], ◌∷◌, ◌++◌, map, filter, Some, refl, sym, ap, ◌∙◌, append-nil, append_assoc}
 use Rattle.iss_model.specs.declared.input.Record.{Record}
 use Rattle.iss_model.specs.rules.Histories.{history_of}
+use Rattle.iss_model.specs.run.Rooms.{one_journal}
 use Rattle.iss_model.specs.run.Transcripts.{Reading, Text}
 use Rattle.iss_model.specs.run.Runs.{Run, Response, response, line_texts, run_after, accepted_records, first_texts, transcript_of}
 use Rattle.iss_agreement.proofs.Records.{records_history}
@@ -108,7 +109,7 @@ run_then opened s rs parts same =
     ∙ sym is
   where
     same_place : (all : List Record) → run_at s all ≡ run_on opened.core.instance opened.place.to all
-    same_place all = λ i. record { instance = same.instance i; room = Some (record { size = same.to i }); history = history_of all }
+    same_place all = λ i. record { instance = same.instance i; room = Some (one_journal (same.to i)); history = history_of all }
 
 -- ---- with the texts with which a run begins
 

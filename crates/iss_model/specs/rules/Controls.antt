@@ -1,5 +1,5 @@
 -- Controls, groups of merchants and Commando Mode sets, read from the rows of the book, and what a control counts.
-use Rattle.std.specs.Prelude.{ℕ, ℤ, pos, Bool, true, false, ◌&&◌, ◌==◌, nat_lt, List, [], ◌∷◌, ◌++◌, find, filter, fold, map, Option, Some, None, if◌then◌else◌}
+use Rattle.std.specs.Prelude.{ℕ, ℤ, pos, Bool, true, false, ◌&&◌, ◌==◌, nat_lt, List, [], ◌∷◌, ◌++◌, find, filter, fold, map, Option, Some, None, option_map, if◌then◌else◌}
 use Rattle.std.specs.List.{filter_map, list_any}
 use Rattle.std.specs.Str.{bytes_eq}
 use Rattle.iss_model.specs.declared.setting.Window.{Window}
@@ -11,6 +11,7 @@ use Rattle.iss_model.specs.declared.setting.Scope.TheVariants as scope
 use Rattle.iss_model.specs.declared.setting.Control.{Control}
 use Rattle.iss_model.specs.declared.setting.Set.{Set}
 use Rattle.iss_model.specs.declared.txn.UsageRow.{UsageRow}
+use Rattle.iss_model.specs.declared.input.Input.{Input}
 use Rattle.iss_model.specs.declared.input.Input.TheVariants as input
 use Rattle.iss_model.specs.declared.entry.Row.{Row}
 use Rattle.iss_model.specs.declared.entry.Entry.{Entry}
@@ -43,6 +44,21 @@ groups_of rows = filter_map (λ row. group_made row.entry) rows
 abbrev pub group_named : List ℕ → List Group → Option Group
 group_named name groups = find (λ group. bytes_eq group.name name) groups
 
+-- the control that an input sets
+abbrev pub control_of : Input → Option Control
+control_of (input.Control token control currency window amount_limit usage_limit association scope active) =
+    Some (record {
+      name = control;
+      currency = currency;
+      window = window;
+      amount_limit = amount_limit;
+      usage_limit = usage_limit;
+      association = association;
+      scope = scope;
+      active = active;
+    })
+control_of _ = None
+
 -- a control as a row puts it, with the number of the record
 pub record ControlPut : Type 0 where
   pub number : ℕ
@@ -50,20 +66,7 @@ pub record ControlPut : Type 0 where
 
 -- the control that a row puts
 abbrev pub control_put : ℕ → Entry → Option ControlPut
-control_put number (entry.Conf (input.Control token control currency window amount_limit usage_limit association scope active)) =
-    Some (record {
-      number = number;
-      control = record {
-        name = control;
-        currency = currency;
-        window = window;
-        amount_limit = amount_limit;
-        usage_limit = usage_limit;
-        association = association;
-        scope = scope;
-        active = active;
-      };
-    })
+control_put number (entry.Conf i) = option_map (λ control. record { number = number; control = control }) (control_of i)
 control_put number _ = None
 
 -- what may be replaced of a control: its limits and its activity

@@ -82,6 +82,10 @@ history_keeper =
 abbrev pub history_of : List Record → History
 history_of rs = fold (λ h r. (step history_keeper h r).world) nothing_yet rs
 
+-- the facts that the book of these records tells
+abbrev pub book_facts : List Record → Facts
+book_facts rs = history_facts (history_of rs)
+
 -- the record is new on what stood before it, and its stamp is not below the time
 pub record Follows (h : History) (r : Record) : Type 0 where
   pub stamp : time_of h.records ≤ r.at

@@ -9,7 +9,7 @@ use Rattle.iss_model.specs.declared.decision.Judged.{Judged}
 use Rattle.iss_model.specs.declared.decision.Judged.TheVariants as judged
 use Rattle.iss_model.specs.declared.input.Input.{Input}
 use Rattle.iss_model.specs.declared.input.Input.TheVariants as input
-use Rattle.iss_model.specs.Inputs.{same_contents}
+use Rattle.iss_model.specs.Inputs.{event_token, same_contents}
 use Rattle.iss_model.specs.rules.Activity.{CallNow}
 use Rattle.iss_model.specs.rules.Facts.{Facts, Accepted, event_in, reply_in, call_in, is_notice}
 use Rattle.iss_model.specs.rules.Due.{due_items, is_quiet}
@@ -26,6 +26,11 @@ repeat_or_conflict f i token (Some first) =
 -- what an event is told, by the first record of its token
 abbrev pub event_answer : Facts → Input → List ℕ → Option Answer
 event_answer f i token = repeat_or_conflict f i token (event_in f token)
+
+-- what an input with this token is told; one without a token is no event, and told nothing by it
+abbrev pub token_answer : Facts → Input → Option (List ℕ) → Option Answer
+token_answer f i None = None
+token_answer f i (Some token) = event_answer f i token
 
 -- a call that is closed is told how
 abbrev pub late_answer : CallId → Option How → Option Answer
@@ -50,32 +55,10 @@ time_answer quiet = if quiet then Some answer.Idle else None
 
 -- What an input is told that is not new. An acknowledgement is judged by what stands before anything due, all else by what stands after it.
 abbrev pub refusal : Bool → Facts → Facts → Input → Option Answer
-refusal quiet before after (input.User token user) = event_answer after (input.User token user) token
-refusal quiet before after (input.Card token card user product active) =
-    event_answer after (input.Card token card user product active) token
-refusal quiet before after (input.Move token who) = event_answer after (input.Move token who) token
-refusal quiet before after (input.Product token product currency funding timeout_ms hold_ms) =
-    event_answer after (input.Product token product currency funding timeout_ms hold_ms) token
-refusal quiet before after (input.Group token group mccs) = event_answer after (input.Group token group mccs) token
-refusal quiet before after (input.Control token control currency window amount_limit usage_limit association scope active) =
-    event_answer after (input.Control token control currency window amount_limit usage_limit association scope active) token
-refusal quiet before after (input.Set token set product currency connection timeout application max day_limit active) =
-    event_answer after (input.Set token set product currency connection timeout application max day_limit active) token
-refusal quiet before after (input.Switch token product on) = event_answer after (input.Switch token product on) token
-refusal quiet before after (input.Load token user currency amount) = event_answer after (input.Load token user currency amount) token
-refusal quiet before after (input.Authorization token card currency amount mcc mid) =
-    event_answer after (input.Authorization token card currency amount mcc mid) token
-refusal quiet before after (input.Increment token txn currency amount) =
-    event_answer after (input.Increment token txn currency amount) token
-refusal quiet before after (input.Reversal token txn currency amount) =
-    event_answer after (input.Reversal token txn currency amount) token
-refusal quiet before after (input.Clearing token txn currency amount last) =
-    event_answer after (input.Clearing token txn currency amount last) token
-refusal quiet before after (input.Refund token txn currency amount) =
-    event_answer after (input.Refund token txn currency amount) token
 refusal quiet before after (input.Answer call outcome) = call_answer call (call_in after call.0)
 refusal quiet before after (input.Ack notice) = notice_answer before notice
 refusal quiet before after input.Time = time_answer quiet
+refusal quiet before after i = token_answer after i (event_token i)
 
 -- the input is an acknowledgement
 abbrev pub is_ack : Input → Bool

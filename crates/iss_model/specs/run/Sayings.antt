@@ -15,6 +15,7 @@ use Rattle.iss_model.specs.declared.decision.Judged.TheVariants as judged
 use Rattle.iss_model.specs.rules.Stepping.{step}
 use Rattle.iss_model.specs.rules.Judging.{judge}
 use Rattle.iss_model.specs.rules.Keeper.{Keeper}
+use Rattle.iss_model.specs.run.Rooms.{judgement_after}
 
 -- a decision, a request or a notice to the gateway, that an acknowledgement was taken, that a time was taken, or an answer to an input that isn't new
 pub data Said : Type 0 where
@@ -65,6 +66,6 @@ reaction_as k w i stamp (judged.Clock r) =
     record reaction { said = reaction.said ++ answer_left (judge k reaction.world i stamp) }
 reaction_as k w i stamp (judged.Told a) = record { world = w; said = answered a ∷ [] }
 
--- an input at a stamp, on what stands
+-- an input at a stamp, on what stands; with no device every record fits
 unfoldable pub reaction : {W : Type 0} → Keeper W → W → Input → ℕ → Reaction W
-reaction k w i stamp = reaction_as k w i stamp (judge k w i stamp)
+reaction k w i stamp = reaction_as k w i stamp (judgement_after (k.facts w).count (judge k w i stamp))

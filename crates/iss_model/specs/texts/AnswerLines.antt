@@ -34,6 +34,7 @@ answer_members (answer.UnknownNotice notice) = with_number (codes "notice") noti
 answer_members answer.Idle = reply_member (codes "idle") ∷ []
 answer_members (answer.Full free need) =
     with_number (codes "free") free ∷ with_number (codes "need") need ∷ reply_member (codes "full") ∷ []
+answer_members answer.Spent = reply_member (codes "spent") ∷ []
 
 -- the line of an answer
 unfoldable pub answer_text : Answer → List ℕ

@@ -9,15 +9,15 @@ use Rattle.iss_model.specs.declared.entry.Entry.{Entry}
 use Rattle.iss_model.specs.declared.entry.Entry.TheVariants as entry
 use Rattle.iss_model.specs.rules.Activity.{TxnNow, CallNow, call_numbered, is_asked}
 use Rattle.iss_model.specs.rules.Acts.{Act, Asks}
-use Rattle.iss_model.specs.rules.Due.{DueThing, DueItem, due_items, thing_entries}
+use Rattle.iss_model.specs.rules.Due.{DueThing, thing_entries}
 use Rattle.iss_model.specs.rules.Facts.{txn_in, call_in}
-use Rattle.iss_model.specs.rules.Keeper.{Growth}
 use Rattle.iss_model.specs.rules.Reasons.{is_some_with}
-use Rattle.iss_model.specs.rules.Stepping.{settle, after_due}
+use Rattle.iss_model.specs.rules.Stepping.{after_due}
 use Rattle.iss_model.specs.state.Cores.{CoreState, core_facts, call_after_close, core_keeper, after_entry}
 use Rattle.iss_model.proofs.Lists.{map-alike, map-map}
 use Rattle.iss_acts.specs.Causes.{FallsDue, may_act}
 use Rattle.iss_acts.specs.Items.{Item, Opening, has_item, item_entry}
+use Rattle.iss_acts.proofs.Stepping.{due_stays}
 use Rattle.iss_acts.proofs.Walk.{due_holds, each_item}
 use Rattle.iss_state.proofs.effects.Effects.{setting_calls}
 use Rattle.iss_state.proofs.effects.Finds.{find-map}
@@ -25,7 +25,7 @@ use Rattle.iss_state.proofs.docket.Closing.{same_opened}
 use Rattle.iss_state.proofs.docket.Lists.{none_mapped}
 use Rattle.iss_state.specs.Pending.{IsWell, known_of}
 use Rattle.iss_state.proofs.calls.DueHits.{after_due_fate}
-use Rattle.iss_state.proofs.calls.Fates.{Fate, sweep_leaves_closed}
+use Rattle.iss_state.proofs.calls.Fates.{Fate, entries_leave_closed}
 
 -- what is due opens no call ----
 
@@ -61,12 +61,8 @@ thing_openings : (s : CoreState) (at : ℕ) (thing : DueThing) → openings (fol
 thing_openings s at thing =
     entries_openings s (thing_entries thing at (core_facts s)) (due_holds (core_facts s) thing at (each_item (λ g a made. due_opens_none a made.cause))).all
 
-sweep_openings : (at : ℕ) (g : Growth CoreState) (items : List DueItem) → openings (fold (settle core_keeper at) g items).world.calls ≡ openings g.world.calls
-sweep_openings at g [] = refl
-sweep_openings at g (item ∷ items) = sweep_openings at (settle core_keeper at g item) items ∙ thing_openings g.world at item.thing
-
 pub no_opening : (s : CoreState) (at : ℕ) → openings (after_due core_keeper s at).world.calls ≡ openings s.calls
-no_opening s at = sweep_openings at (record { world = s; entries = [] }) (due_items (core_facts s) at)
+no_opening s at = due_stays (λ later. openings later.calls ≡ openings s.calls) at (λ later thing h. thing_openings later at thing ∙ h) s refl
 
 found_opening : (n : ℕ) (calls : List CallNow) → find (λ o. nat_eq o.call.0 n) (openings calls) ≡ option_map (λ c. c.opened) (call_numbered n calls)
 found_opening n calls = find-map (λ (o : Opened). nat_eq o.call.0 n) (λ (c : CallNow). nat_eq c.opened.call.0 n) (λ (c : CallNow). c.opened) (λ c. refl) calls
@@ -79,7 +75,8 @@ unknown_stays s at n e =
 
 pub closed_stays_closed : (s : CoreState) (at n : ℕ) (c : CallNow) → call_in (core_facts s) n ≡ Some c → is_asked c ≡ false
     → call_in (core_facts (after_due core_keeper s at).world) n ≡ Some c
-closed_stays_closed s at n c stands closed = sweep_leaves_closed at (record { world = s; entries = [] }) (due_items (core_facts s) at) n c stands closed
+closed_stays_closed s at n c stands closed =
+    due_stays (λ later. call_numbered n later.calls ≡ Some c) at (λ later thing h. entries_leave_closed later (thing_entries thing at (core_facts later)) n c h closed) s stands
 
 -- asked calls ----
 

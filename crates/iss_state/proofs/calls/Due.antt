@@ -38,11 +38,11 @@ use Rattle.iss_state.proofs.docket.Lists.{inside, never, not_both}
 -- the acts of due things ----
 
 -- acts for an asked call, if one of the number is asked and its transaction is live
-pub of_asked : (P : List Act → Type 0) (s : CoreState) (make : Opened → Txn → List Act) (n : ℕ)
+pub if_asked : (P : List Act → Type 0) (s : CoreState) (make : Opened → Txn → List Act) (n : ℕ)
     → (((c : CallNow) → IsAsked s.calls n c → has_live s.holdings.txns c.opened.txn ≡ true → ⊥) → P [])
     → ((c : CallNow) (t : TxnNow) → IsAsked s.calls n c → txn_named c.opened.txn s.holdings.txns ≡ Some t → P (make c.opened t.txn))
     → P (acts_of_asked make (call_numbered n s.calls) (core_facts s))
-of_asked P s make n none some = of_call (call_numbered n s.calls) refl
+if_asked P s make n none some = of_call (call_numbered n s.calls) refl
   where
     of_txn : (c : CallNow) → IsAsked s.calls n c → (now : Option TxnNow) → txn_named c.opened.txn s.holdings.txns ≡ now → P (acts_of_txn (make c.opened) now)
     of_txn c asked None e = none (λ x its live. dead x c its asked live (ap (is_some_with (λ (t : TxnNow). t.live)) e))
@@ -64,10 +64,10 @@ of_asked P s make n none some = of_call (call_numbered n s.calls) refl
         by false h = none (λ x its live. not_both (is_asked x) its.asked (ap is_asked (inside (sym its.stands ∙ e)) ∙ h))
 
 -- acts for a live transaction that expires
-pub of_expired : (P : List Act → Type 0) (s : CoreState) (token : List ℕ) → (has_live s.holdings.txns token ≡ false → P [])
+pub if_expired : (P : List Act → Type 0) (s : CoreState) (token : List ℕ) → (has_live s.holdings.txns token ≡ false → P [])
     → ((t : TxnNow) → txn_named token s.holdings.txns ≡ Some t → t.live ≡ true → P (expiry_acts (core_facts s) t.txn))
     → P (live_expiry_acts (core_facts s) (txn_named token s.holdings.txns))
-of_expired P s token none some = of_txn (txn_named token s.holdings.txns) refl
+if_expired P s token none some = of_txn (txn_named token s.holdings.txns) refl
   where
     of_txn : (now : Option TxnNow) → txn_named token s.holdings.txns ≡ now → P (live_expiry_acts (core_facts s) now)
     of_txn None e = none (ap (is_some_with (λ (t : TxnNow). t.live)) e)
@@ -123,10 +123,10 @@ expiry_docketed f t =
 
 thing_enters_by : (known : Known) (s : CoreState) (thing : DueThing) (at : ℕ) → IsWellAmong known (docket_of s) → Enters known (docket_of s) None (docketed_by (thing_acts thing at (core_facts s)))
 thing_enters_by known s (call_due number) at well =
-    of_asked (λ acts. Enters known (docket_of s) None (docketed_by acts)) s (λ o t. failed_acts (core_facts s) o t failure.Timeout at) number (λ none. enters_none known (docket_of s))
+    if_asked (λ acts. Enters known (docket_of s) None (docketed_by acts)) s (λ o t. failed_acts (core_facts s) o t failure.Timeout at) number (λ none. enters_none known (docket_of s))
     (λ c t asked stands. failed_enters known (docket_of s) number c t.txn well asked (its_token s.holdings.txns c.opened.txn t stands) (core_facts s) failure.Timeout at)
 thing_enters_by known s (txn_due token) at well =
-    of_expired (λ acts. Enters known (docket_of s) None (docketed_by acts)) s token (λ none. enters_none known (docket_of s))
+    if_expired (λ acts. Enters known (docket_of s) None (docketed_by acts)) s token (λ none. enters_none known (docket_of s))
     (λ t stands live.
         subst (Enters known (docket_of s) None) (sym (expiry_docketed (core_facts s) t.txn))
         (abandoned_then known reason.Expired (docket_of s) t.txn.token None (entry.Ended t.txn.token ∷ []) well (found_live s.holdings.txns token t stands live)

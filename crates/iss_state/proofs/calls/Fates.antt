@@ -30,6 +30,7 @@ use Rattle.iss_model.specs.rules.Stepping.{settle}
 use Rattle.iss_model.specs.state.Cores.{CoreState, core_facts, call_after_close, core_keeper, after_entry}
 use Rattle.iss_model.proofs.Lists.{neither}
 use Rattle.iss_model.proofs.Names.{one_name}
+use Rattle.iss_acts.proofs.Stepping.{settled_stays}
 use Rattle.iss_state.proofs.effects.Finds.{number_is}
 use Rattle.iss_state.specs.Numbers.{CallsNumberedFrom}
 use Rattle.iss_state.specs.Dockets.{Docket, docket_after, docket_of}
@@ -39,7 +40,7 @@ use Rattle.iss_state.proofs.docket.Closing.{calls_lone, its_number, other_stays,
 use Rattle.iss_state.proofs.docket.Docketed.{acts_docketed, closings, docketed_by, turned_down}
 use Rattle.iss_state.proofs.docket.Entering.{apart_too, call_more}
 use Rattle.iss_state.proofs.docket.Lists.{any_filtered, inside, lone_any, not_both}
-use Rattle.iss_state.proofs.calls.Due.{expiry_docketed, its_token, of_asked, of_expired}
+use Rattle.iss_state.proofs.calls.Due.{expiry_docketed, its_token, if_asked, if_expired}
 use Rattle.iss_state.proofs.calls.Staying.{comes_to, entries_docket}
 use Rattle.iss_state.proofs.calls.Steps.{thing_well}
 
@@ -64,12 +65,6 @@ pub entries_leave_closed : (s : CoreState) (es : List Entry) (n : ℕ) (c : Call
     → call_numbered n (fold after_entry s es).calls ≡ Some c
 entries_leave_closed s es n c stands closed =
     ap (λ (docket : Docket). call_numbered n docket.calls) (entries_docket s es) ∙ all_closed_stay es (docket_of s) n c stands closed
-
-pub sweep_leaves_closed : (at : ℕ) (g : Growth CoreState) (items : List DueItem) (n : ℕ) (c : CallNow) → call_numbered n g.world.calls ≡ Some c → is_asked c ≡ false
-    → call_numbered n (fold (settle core_keeper at) g items).world.calls ≡ Some c
-sweep_leaves_closed at g [] n c stands closed = stands
-sweep_leaves_closed at g (item ∷ items) n c stands closed =
-    sweep_leaves_closed at (settle core_keeper at g item) items n c (entries_leave_closed g.world (thing_entries item.thing at (core_facts g.world)) n c stands closed) closed
 
 -- a call is closed ----
 
@@ -182,11 +177,11 @@ expired_fate known s n c t well asked =
 acts_fate : (known : Known) (s : CoreState) (at n : ℕ) (c : CallNow) (thing : DueThing) → IsWellAmong known (docket_of s) → IsAsked s.calls n c
     → FateBy s n c (hits n c.opened.txn thing) (thing_acts thing at (core_facts s))
 acts_fate known s at n c (call_due number) well asked =
-    of_asked (FateBy s n c (nat_eq number n)) s (λ o t. failed_acts (core_facts s) o t failure.Timeout at) number
+    if_asked (FateBy s n c (nat_eq number n)) s (λ o t. failed_acts (core_facts s) o t failure.Timeout at) number
     (λ none. left_alone s n c (nat_eq number n) asked.stands (λ hit. none c (subst (λ (m : ℕ). IsAsked s.calls m c) (sym (number_is number n hit)) asked) (well.live n c asked)))
     (λ d t other stands. call_closes s at number n c d t.txn asked.stands other.stands)
 acts_fate known s at n c (txn_due token) well asked =
-    of_expired (FateBy s n c (bytes_eq token c.opened.txn)) s token
+    if_expired (FateBy s n c (bytes_eq token c.opened.txn)) s token
     (λ dead. left_alone s n c (bytes_eq token c.opened.txn) asked.stands
     (λ hit. not_both (has_live s.holdings.txns token) (ap (has_live s.holdings.txns) (one_name token c.opened.txn hit) ∙ well.live n c asked) dead))
     (λ t stands live.
@@ -207,7 +202,9 @@ sweep_fate known at n c g (item ∷ items) well asked =
     let s : CoreState = g.world in
     by (hits n c.opened.txn item.thing) (thing_fate known s at n c item.thing well asked)
     (λ still. sweep_fate known at n c (settle core_keeper at g item) items (thing_well known s item.thing at well) still)
-    (λ now stands closed. sweep_leaves_closed at (settle core_keeper at g item) items n now stands closed)
+    (λ now stands closed.
+        settled_stays (λ s. call_numbered n s.calls ≡ Some now) at (λ s thing h. entries_leave_closed s (thing_entries thing at (core_facts s)) n now h closed)
+        (settle core_keeper at g item) items stands)
   where
     by : (b : Bool) → Fate (settle core_keeper at g item).world.calls n c b
         → (IsAsked (settle core_keeper at g item).world.calls n c → Fate (fold (settle core_keeper at) (settle core_keeper at g item) items).world.calls n c (list_any (λ i. hits n c.opened.txn i.thing) items))

@@ -10,7 +10,7 @@ use Rattle.iss_model.specs.declared.txn.Txn.{Txn}
 use Rattle.iss_model.specs.rules.Activity.{CallNow}
 use Rattle.iss_model.specs.rules.Acts.{Abandons, Act, Asks, Begins, Ends, Fails, StandsIn, Tells, act_entries, entries_of_acts}
 use Rattle.iss_model.specs.rules.Pieces.{abandoned_calls_entries}
-use Rattle.iss_acts.specs.Items.{Beginning, Item, Opening, StandTelling, Telling, Voiding, has_item, item_entry, may_begin, may_open_call, may_tell, may_void}
+use Rattle.iss_acts.specs.Items.{Beginning, Item, Opening, StandTelling, Telling, Voiding, has_item, item_entry, may_begin, may_open_call, may_tell, may_tell_stand_in, may_void}
 use Rattle.iss_acts.proofs.Passing.{act_passes}
 use Rattle.iss_state.proofs.docket.Lists.{not_both}
 use Rattle.iss_state.proofs.calls.FewMoves.{Costs, CostsBy}
@@ -94,13 +94,14 @@ record IsFree (a : Act) : Type 0 where
   begins : may_begin a ≡ false
   opens : may_open_call a ≡ false
   voids : may_void a ≡ false
+  stands_in : may_tell_stand_in a ≡ false
   tells : may_tell a ≡ false
 
 free_item : (a : Act) → IsFree a → (x : Item) → has_item a x ≡ true → is_free (item_entry x) ≡ true
 free_item a free (Beginning t) may = not_both (may_begin a) may free.begins
 free_item a free (Opening o) may = not_both (may_open_call a) may free.opens
 free_item a free (Voiding number t o) may = not_both (may_void a) may free.voids
-free_item a free (StandTelling number t amount) may = not_both (may_tell a) may free.tells
+free_item a free (StandTelling number t amount) may = not_both (may_tell_stand_in a) may free.stands_in
 free_item a free (Telling number news t amount gateway) may = not_both (may_tell a) may free.tells
 free_item a free _ may = refl
 
@@ -121,7 +122,7 @@ act_costs (StandsIn number ask at set) =
 act_costs (Abandons number t why calls parts) = abandoned_costs number t why calls
 act_costs (Ends t) = more (none_costs 0)
 act_costs (Tells number news t amount gateway) = more (none_costs 0)
-act_costs a = free_act a (record { begins = refl; opens = refl; voids = refl; tells = refl })
+act_costs a = free_act a (record { begins = refl; opens = refl; voids = refl; stands_in = refl; tells = refl })
 
 -- acts in a row cost what each does
 pub acts_cost : (acts : List Act) {a b c : ℕ} → ActsCost acts a b c → Costs (entries_of_acts acts) a b c

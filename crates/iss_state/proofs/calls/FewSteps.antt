@@ -8,27 +8,26 @@ use Rattle.iss_model.specs.declared.call.Opened.{Opened}
 use Rattle.iss_model.specs.declared.decision.Reason.{Reason}
 use Rattle.iss_model.specs.declared.decision.Reason.TheVariants as reason
 use Rattle.iss_model.specs.declared.input.Input.{Input}
-use Rattle.iss_model.specs.declared.input.Input.TheVariants as input
 use Rattle.iss_model.specs.declared.input.Outcome.{Outcome}
 use Rattle.iss_model.specs.declared.input.Outcome.TheVariants as outcome
 use Rattle.iss_model.specs.declared.input.Record.{Record}
 use Rattle.iss_model.specs.declared.setting.Product.{Product}
 use Rattle.iss_model.specs.declared.txn.Txn.{Txn}
 use Rattle.iss_model.specs.rules.Activity.{TxnNow, CallNow, is_asked}
-use Rattle.iss_model.specs.rules.Acts.{Acknowledges, Act, Sets}
+use Rattle.iss_model.specs.rules.Acts.{Acknowledges, Act}
 use Rattle.iss_model.specs.rules.Asks.{Ask, call_ask}
-use Rattle.iss_model.specs.rules.CardActs.{acts_for_gateway, acts_of_asked, acts_of_txn, acts_where, authorization_acts, clearing_acts, end_acts, failed_acts, funding_acts, gateway_acts, increment_acts, outcome_acts, refund_acts, reversal_acts, stand_acts}
+use Rattle.iss_model.specs.rules.CardActs.{acts_for_gateway, acts_of_asked, acts_of_txn, acts_where, authorization_acts, clearing_acts, end_acts, failed_acts, funding_acts, gateway_acts, outcome_acts, refund_acts, reversal_acts, stand_acts}
 use Rattle.iss_model.specs.rules.Pieces.{Parts, parts_held, in_all, left_of, taken_to_clear}
-use Rattle.iss_model.specs.rules.CardReasons.{is_account_funded, authorization_reason, increment_reason, reversal_reason, clearing_reason, refund_reason}
-use Rattle.iss_model.specs.rules.Due.{DueThing, call_due, DueItem, live_expiry_acts, thing_acts, txn_due, due_items, thing_entries}
+use Rattle.iss_model.specs.rules.CardReasons.{further_ask, is_account_funded}
+use Rattle.iss_model.specs.rules.Due.{DueThing, call_due, live_expiry_acts, thing_acts, txn_due, thing_entries}
 use Rattle.iss_model.specs.rules.Facts.{Facts, txn_in, call_in, next_notice, is_notice}
 use Rattle.iss_model.specs.rules.Histories.{IsLegal}
-use Rattle.iss_model.specs.rules.Keeper.{Growth}
-use Rattle.iss_model.specs.rules.Reasons.{card_reason, control_reason, group_reason, load_reason, move_reason, product_reason, set_reason, switch_reason, user_reason}
 use Rattle.iss_model.specs.rules.Settings.{is_named_in, product_named}
 use Rattle.iss_model.specs.rules.StandIns.{Stand, allowed, over_limit, stand, uncovered}
-use Rattle.iss_model.specs.rules.Stepping.{acts_of, acts_unless, authorization_ask, increment_ask, entries_of, settle, after_due, step}
+use Rattle.iss_model.specs.rules.Stepping.{acts_of, entries_of, after_due, step}
 use Rattle.iss_model.specs.state.Cores.{CoreState, no_core, with_record, core_facts, core_keeper, core_of, after_entry}
+use Rattle.iss_acts.proofs.Stepping.{due_stays}
+use Rattle.iss_acts.proofs.ByKind.{EachKind, walk}
 use Rattle.iss_state.specs.Sound.{IsNewEvent}
 use Rattle.iss_state.proofs.invariants.Legal.{IsKept, legal_induction}
 use Rattle.iss_state.specs.Few.{HasFewNumbers}
@@ -101,65 +100,43 @@ authorization_costs : (f : Facts) (ask : Option Ask) → ActsCost (authorization
 authorization_costs f None = record { calls = omega arith; notices = omega arith }
 authorization_costs f (Some ask) = more (funding_costs f ask)
 
-increment_costs : (f : Facts) (ask : Option Ask) → ActsCost (increment_acts f ask) 1 3 0
-increment_costs f None = record { calls = omega arith; notices = omega arith }
-increment_costs f (Some ask) = comes_to 1 3 0 (more (funding_costs f ask)) (omega arith) (omega arith)
-
-reversal_costs : (f : Facts) (token : List ℕ) (amount : ℕ) (now : Option TxnNow) → ActsCost (reversal_acts f token amount now) 0 1 0
-reversal_costs f token amount None = none_costs 1
-reversal_costs f token amount (Some now) =
+reversal_costs : (f : Facts) (token : List ℕ) (amount : ℕ) (now : TxnNow) → ActsCost (reversal_acts f token amount (Some now)) 0 1 0
+reversal_costs f token amount now =
     let freed = min amount (in_all (parts_held f now.txn)) in
     more (more (then (then (costs_either (nat_eq freed (in_all (parts_held f now.txn))) (comes_to 0 0 0 (more (none_costs 0)) (omega arith) (omega arith)) (none_costs 0))
     (told now.txn (some freed (more (none_costs 0))))) (more (none_costs 0))))
 
 -- the notice of a last clearing is the one that its transaction leaves
-clearing_costs : (f : Facts) (token : List ℕ) (amount : ℕ) (last : Bool) (at : ℕ) (now : Option TxnNow) → ActsCost (clearing_acts f token amount last at now) 0 1 0
-clearing_costs f token amount last at None = none_costs 1
-clearing_costs f token amount last at (Some now) =
+clearing_costs : (f : Facts) (token : List ℕ) (amount : ℕ) (last : Bool) (at : ℕ) (now : TxnNow) → ActsCost (clearing_acts f token amount last at (Some now)) 0 1 0
+clearing_costs f token amount last at now =
     let rest = left_of (parts_held f now.txn) (taken_to_clear (parts_held f now.txn) amount) in
     more (then (costs_either (now.live && (last || nat_eq (in_all rest) 0))
     (comes_to 0 1 0 (then (end_costs (next_notice f) f now.txn rest reason.Cleared) (told now.txn (more (none_costs 0)))) (omega arith) (omega arith))
     (told now.txn (more (none_costs 0)))) (more (none_costs 0)))
 
-refund_costs : (f : Facts) (token : List ℕ) (amount : ℕ) (now : Option TxnNow) → ActsCost (refund_acts f token amount now) 0 1 0
-refund_costs f token amount None = none_costs 1
-refund_costs f token amount (Some now) = more (then (told now.txn (more (none_costs 0))) (more (none_costs 0)))
+refund_costs : (f : Facts) (token : List ℕ) (amount : ℕ) (now : TxnNow) → ActsCost (refund_acts f token amount (Some now)) 0 1 0
+refund_costs f token amount now = more (then (told now.txn (more (none_costs 0))) (more (none_costs 0)))
 
 -- all inputs ----
-
-unless_costs : (why : Option Reason) (token : List ℕ) (acts : List Act) → ActsCost acts 1 3 0 → ActsCost (acts_unless why token acts) 1 3 0
-unless_costs None token acts h = h
-unless_costs (Some why) token acts h = record { calls = omega arith; notices = omega arith }
 
 little : {acts : List Act} {n : ℕ} → ActsCost acts 0 n 0 → n ≤ 3 → ActsCost acts 1 3 0
 little h le = comes_to 1 3 0 h (omega arith) (omega (arith, le))
 
-set_costs : (why : Option Reason) (i : Input) (token : List ℕ) → ActsCost (acts_unless why token (Sets i token ∷ [])) 1 3 0
-set_costs why i token = unless_costs why token (Sets i token ∷ []) (little (more (none_costs 0)) (omega arith))
-
-input_costs : (f : Facts) (i : Input) (at : ℕ) → ActsCost (acts_of i at f) 1 3 0
-input_costs f (input.User token user) at = set_costs (user_reason f user) _ token
-input_costs f (input.Card token card user product active) at = set_costs (card_reason f card user product) _ token
-input_costs f (input.Move token who) at = set_costs (move_reason f who) _ token
-input_costs f (input.Product token product currency funding timeout_ms hold_ms) at = set_costs (product_reason f product) _ token
-input_costs f (input.Group token group mccs) at = set_costs (group_reason f group) _ token
-input_costs f (input.Control token control currency window amount_limit usage_limit association scope active) at = set_costs (control_reason f control currency window association scope) _ token
-input_costs f (input.Set token set product currency connection timeout application max day_limit active) at = set_costs (set_reason f set product currency) _ token
-input_costs f (input.Switch token product on) at = set_costs (switch_reason f product) _ token
-input_costs f (input.Load token user currency amount) at = unless_costs (load_reason f user) token _ (little (more (none_costs 0)) (omega arith))
-input_costs f (input.Authorization token card currency amount mcc mid) at =
-    let ask = authorization_ask f token card currency amount mcc mid at in
-    unless_costs (authorization_reason f card currency ask) token (authorization_acts f ask) (authorization_costs f ask)
-input_costs f (input.Increment token txn currency amount) at =
-    let ask = increment_ask f token txn amount at in
-    unless_costs (increment_reason f (txn_in f txn) currency ask) token (increment_acts f ask) (increment_costs f ask)
-input_costs f (input.Reversal token txn currency amount) at = unless_costs (reversal_reason (txn_in f txn) currency) token _ (little (reversal_costs f token amount (txn_in f txn)) (omega arith))
-input_costs f (input.Clearing token txn currency amount last) at =
-    unless_costs (clearing_reason (txn_in f txn) currency) token _ (little (clearing_costs f token amount last at (txn_in f txn)) (omega arith))
-input_costs f (input.Refund token txn currency amount) at = unless_costs (refund_reason f (txn_in f txn) currency amount) token _ (little (refund_costs f token amount (txn_in f txn)) (omega arith))
-input_costs f (input.Answer call what) at = little (asked_costs (λ o t. outcome_acts what f o t at) (call_in f call.0) f (λ o t. outcome_costs what f o t at)) (omega arith)
-input_costs f (input.Ack notice) at = little (costs_either (is_notice f notice) {xs = Acknowledges notice ∷ []} (more (none_costs 0)) (none_costs 0)) (omega arith)
-input_costs f input.Time at = little (none_costs 0) (omega arith)
+kinds_cost : (f : Facts) (at : ℕ) → EachKind (λ i acts. ActsCost acts 1 3 0) f at
+kinds_cost f at =
+    record {
+      declined = λ i token why its. little (more (none_costs 0)) (omega arith);
+      setting = λ i token its none. little (more (none_costs 0)) (omega arith);
+      load = λ token user currency amount. little (more (none_costs 0)) (omega arith);
+      authorization = λ token card currency amount mcc mid ask made none. authorization_costs f ask;
+      increment = λ token txn currency amount now stands none. comes_to 1 3 0 (more (funding_costs f (further_ask token amount at now.txn))) (omega arith) (omega arith);
+      reversal = λ token txn currency amount now stands none. little (reversal_costs f token amount now) (omega arith);
+      clearing = λ token txn currency amount last now stands none. little (clearing_costs f token amount last at now) (omega arith);
+      refund = λ token txn currency amount now stands none. little (refund_costs f token amount now) (omega arith);
+      answer = λ call what. little (asked_costs (λ o t. outcome_acts what f o t at) (call_in f call.0) f (λ o t. outcome_costs what f o t at)) (omega arith);
+      acknowledgement = λ notice. little (costs_either (is_notice f notice) {xs = Acknowledges notice ∷ []} (more (none_costs 0)) (none_costs 0)) (omega arith);
+      time = little (none_costs 0) (omega arith);
+    }
 
 -- steps ----
 
@@ -176,19 +153,13 @@ few_due n s i thing at ready few =
 
 pub few_own : (n : ℕ) (s : CoreState) (i : Input) (at : ℕ) → HasTakenUp s i → HasFewNumbers n s → HasFewNumbers (n + 1) (fold after_entry s (entries_of i at (core_facts s)))
 few_own n s i at ready few =
-    few_after n (n + 1) 1 3 s (entries_of i at (core_facts s)) (omega arith) (omega arith) (own_allowed s i at ready) (acts_cost (acts_of i at (core_facts s)) (input_costs (core_facts s) i at)) few
-
-all_due : (at : ℕ) (g : Growth CoreState) (items : List DueItem) (n : ℕ) (i : Input) → HasTakenUp g.world i → HasFewNumbers n g.world
-    → HasTakenUp (fold (settle core_keeper at) g items).world i × HasFewNumbers n (fold (settle core_keeper at) g items).world
-all_due at g [] n i ready few = (ready, few)
-all_due at g (item ∷ items) n i ready few =
-    all_due at (settle core_keeper at g item) items n i (ready_settled g.world i item.thing at ready) (few_due n g.world i item.thing at ready few)
+    few_after n (n + 1) 1 3 s (entries_of i at (core_facts s)) (omega arith) (omega arith) (own_allowed s i at ready) (acts_cost (acts_of i at (core_facts s)) (walk (kinds_cost (core_facts s) at) i)) few
 
 pub few_step : (n : ℕ) (s : CoreState) (r : Record) → IsWell s → IsNewEvent s r.input → HasFewNumbers n s → HasFewNumbers (n + 1) (step core_keeper s r).world
 unfolding step
 few_step n s r well new few =
     let up : CoreState = with_record s r in
-    let due = all_due r.at (record { world = up; entries = [] }) (due_items (core_facts up) r.at) n r.input (ready_taken s r well new) (few_taken n s r few) in
+    let due = due_stays (λ s. HasTakenUp s r.input × HasFewNumbers n s) r.at (λ s thing h. (ready_settled s r.input thing r.at h.0, few_due n s r.input thing r.at h.0 h.1)) up (ready_taken s r well new, few_taken n s r few) in
     few_own n (after_due core_keeper up r.at).world r.input r.at due.0 due.1
 
 -- every legal list of records ----

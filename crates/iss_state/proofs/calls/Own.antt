@@ -16,24 +16,24 @@ use Rattle.iss_model.specs.declared.decision.Verdict.TheVariants as verdict
 use Rattle.iss_model.specs.declared.entry.Entry.{Entry}
 use Rattle.iss_model.specs.declared.entry.Entry.TheVariants as entry
 use Rattle.iss_model.specs.declared.input.Input.{Input}
-use Rattle.iss_model.specs.declared.input.Input.TheVariants as input
 use Rattle.iss_model.specs.declared.setting.Card.{Card}
 use Rattle.iss_model.specs.declared.setting.Product.{Product}
 use Rattle.iss_model.specs.declared.txn.Txn.{Txn}
 use Rattle.iss_model.specs.Inputs.{event_token}
 use Rattle.iss_model.specs.rules.Activity.{TxnNow, CallNow, is_asked, txn_named}
-use Rattle.iss_model.specs.rules.Acts.{Acknowledges, Act, Asks, Does, Ends, HoldsOwn, Loads, Sets, Tells, captured}
+use Rattle.iss_model.specs.rules.Acts.{Acknowledges, Act, Asks, Does, Ends, HoldsOwn, Tells, captured}
 use Rattle.iss_model.specs.rules.CardActs.{acts_for_gateway, after_clearing_acts, authorization_acts, clearing_acts, funding_acts, gateway_acts, increment_acts, outcome_acts, refund_acts, reversal_acts, stand_acts}
 use Rattle.iss_model.specs.rules.Asks.{Ask, txn_begun, is_authorization}
 use Rattle.iss_model.specs.rules.Pieces.{call_for, Parts, parts_held, in_all, left_of, taken_to_clear, notice_after_abandonment, failure_reason}
-use Rattle.iss_model.specs.rules.CardReasons.{authorization_reason, first_ask, further_ask, is_account_funded, increment_reason, is_in_currency, is_pending, reversal_reason, clearing_reason, refund_reason}
-use Rattle.iss_model.specs.rules.Facts.{Facts, txn_in, asked_calls_of, next_notice, is_notice}
-use Rattle.iss_model.specs.rules.Reasons.{user_reason, card_reason, user_is, move_reason, is_some_with, product_reason, group_reason, control_reason, set_reason, switch_reason, load_reason}
+use Rattle.iss_model.specs.rules.CardReasons.{authorization_reason, first_ask, further_ask, is_account_funded, increment_reason, is_in_currency, is_pending, reversal_reason}
+use Rattle.iss_model.specs.rules.Facts.{Facts, asked_calls_of, next_notice, is_notice}
+use Rattle.iss_model.specs.rules.Reasons.{user_is, is_some_with}
 use Rattle.iss_model.specs.rules.Settings.{card_named, product_named, is_active_user, is_named_in, is_active_card}
 use Rattle.iss_model.specs.rules.StandIns.{Stand, allowed, over_limit, stand, uncovered}
-use Rattle.iss_model.specs.rules.Stepping.{acts_of, acts_unless, authorization_ask, increment_ask, entries_of}
+use Rattle.iss_model.specs.rules.Stepping.{acts_of, authorization_ask, entries_of}
 use Rattle.iss_model.specs.state.Cores.{CoreState, core_facts}
 use Rattle.iss_model.proofs.Names.{same_name}
+use Rattle.iss_acts.proofs.ByKind.{EachKind, walk}
 use Rattle.iss_state.specs.Numbers.{CallsNumberedFrom}
 use Rattle.iss_state.specs.Dockets.{Docket, docket_after, docket_of}
 use Rattle.iss_state.specs.Well.{IsWellAmong, Known, NoneAskedOf, has_live}
@@ -43,7 +43,7 @@ use Rattle.iss_state.proofs.docket.Enters.{Enters, enters_append, enters_began, 
 use Rattle.iss_state.proofs.docket.Lists.{both_so, found_filtered, never, not_both}
 use Rattle.iss_state.specs.Pending.{known_of}
 use Rattle.iss_state.specs.Holdings.{MayHold}
-use Rattle.iss_state.proofs.calls.Due.{acts_enter, found_live, its_token, of_asked, outcome_enters}
+use Rattle.iss_state.proofs.calls.Due.{acts_enter, found_live, its_token, if_asked, outcome_enters}
 use Rattle.iss_state.proofs.held.Begun.{begun_live, not_live}
 
 -- an ask seeks funding ----
@@ -112,20 +112,9 @@ pub record IsNewOn (s : CoreState) (event : List ℕ) : Type 0 where
   pub new : IsNewTo (known_of s) (docket_of s) event
   pub unnamed : txn_named event s.holdings.txns ≡ None
 
--- acts by which the event is done
-does : (s : CoreState) (event : List ℕ) → IsNewOn s event → Enters (known_of s) (docket_of s) (Some event) (entry.Decided event verdict.Done ∷ [])
-does s event its = enters_decided (known_of s) (docket_of s) event verdict.Done its.new.its_event (new_decides (known_of s) (docket_of s) event its.new)
-
-unless_enters : (s : CoreState) (why : Option Reason) (event : List ℕ) (acts : List Act) → IsNewOn s event
-    → (why ≡ None → Enters (known_of s) (docket_of s) (Some event) (docketed_by acts))
-    → Enters (known_of s) (docket_of s) (Some event) (docketed_by (acts_unless why event acts))
-unless_enters s None event acts its enters = enters refl
-unless_enters s (Some why) event acts its enters =
-    enters_decided (known_of s) (docket_of s) event (verdict.Declined why) its.new.its_event (new_decides (known_of s) (docket_of s) event its.new)
-
-setting_enters : (s : CoreState) (why : Option Reason) (event : List ℕ) (i : Input) → IsNewOn s event
-    → Enters (known_of s) (docket_of s) (Some event) (docketed_by (acts_unless why event (Sets i event ∷ [])))
-setting_enters s why event i its = unless_enters s why event (Sets i event ∷ []) its (λ none. does s event its)
+-- the event is decided
+decides : (s : CoreState) (event : List ℕ) (v : Verdict) → IsNewOn s event → Enters (known_of s) (docket_of s) (Some event) (entry.Decided event v ∷ [])
+decides s event v its = enters_decided (known_of s) (docket_of s) event v its.new.its_event (new_decides (known_of s) (docket_of s) event its.new)
 
 -- reasons taken apart
 pub first_fails : (b : Bool) (why : Reason) (rest : Option Reason) → cond b (Some why) rest ≡ None → (b ≡ false) × (rest ≡ None)
@@ -180,21 +169,20 @@ begun_enters s event x well its ask =
       alone = λ h. unasked known d x.txn.token well none;
     }) ask.its_product)
 
-authorization_enters : (s : CoreState) (token card : List ℕ) (currency : Currency) (amount mcc : ℕ) (mid : List ℕ) (at : ℕ) → IsWellAmong (known_of s) (docket_of s)
-    → IsNewOn s token
-    → authorization_reason (core_facts s) card currency (authorization_ask (core_facts s) token card currency amount mcc mid at) ≡ None
-    → Enters (known_of s) (docket_of s) (Some token) (docketed_by (authorization_acts (core_facts s) (authorization_ask (core_facts s) token card currency amount mcc mid at)))
-authorization_enters s token card currency amount mcc mid at well its none =
+authorization_enters : (s : CoreState) (token card : List ℕ) (currency : Currency) (amount mcc : ℕ) (mid : List ℕ) (at : ℕ) (ask : Option Ask)
+    → authorization_ask (core_facts s) token card currency amount mcc mid at ≡ ask → IsWellAmong (known_of s) (docket_of s) → IsNewOn s token
+    → authorization_reason (core_facts s) card currency ask ≡ None → Enters (known_of s) (docket_of s) (Some token) (docketed_by (authorization_acts (core_facts s) ask))
+authorization_enters s token card currency amount mcc mid at ask made well its none =
     let f : Facts = core_facts s in
     let known : Option Card = card_named card f.cards in
     let first = first_fails (is_none known) reason.CardUnknown _ none in
     let second = first_fails (not (is_some_with (λ c. is_active_card c.state) known)) reason.CardState _ first.1 in
     let third = first_fails (not (is_some_with (λ c. user_is is_active_user f c.user) known)) reason.UserState _ second.1 in
     let fourth = first_fails (not (is_some_with (is_in_currency f currency) known)) reason.Currency _ third.1 in
-    let ask = ask_there f token currency amount mcc mid at known (not-false (is_some_with (is_in_currency f currency) known) fourth.0) in
-    subst (λ (o : Option Ask). Enters (known_of s) (docket_of s) (Some token) (docketed_by (authorization_acts f o))) (sym ask.1)
-    (subst (λ (own : List ℕ). Enters (known_of s) (docket_of s) (Some own) (docketed_by (authorization_acts f (Some ask.0)))) ask.2.its_event
-    (begun_enters s token ask.0 well its ask.2))
+    let there = ask_there f token currency amount mcc mid at known (not-false (is_some_with (is_in_currency f currency) known) fourth.0) in
+    subst (λ (o : Option Ask). Enters (known_of s) (docket_of s) (Some token) (docketed_by (authorization_acts f o))) (sym there.1 ∙ made)
+    (subst (λ (own : List ℕ). Enters (known_of s) (docket_of s) (Some own) (docketed_by (authorization_acts f (Some there.0)))) there.2.its_event
+    (begun_enters s token there.0 well its there.2))
 
 -- an increment ----
 
@@ -213,14 +201,13 @@ raised_may currency ask s txn now e none =
           third.0;
     }
 
-increment_enters : (s : CoreState) (event txn : List ℕ) (currency : Currency) (amount at : ℕ) (now : Option TxnNow) → txn_named txn s.holdings.txns ≡ now
-    → IsWellAmong (known_of s) (docket_of s) → IsNewOn s event
-    → increment_reason (core_facts s) now currency (option_map (λ now. further_ask event amount at now.txn) now) ≡ None
-    → Enters (known_of s) (docket_of s) (Some event) (docketed_by (increment_acts (core_facts s) (option_map (λ now. further_ask event amount at now.txn) now)))
-increment_enters s event txn currency amount at None e well its none = cc
-increment_enters s event txn currency amount at (Some now) e well its none =
+increment_enters : (s : CoreState) (event txn : List ℕ) (currency : Currency) (amount at : ℕ) (now : TxnNow) → txn_named txn s.holdings.txns ≡ Some now
+    → IsWellAmong (known_of s) (docket_of s) → IsNewOn s event → increment_reason (core_facts s) (Some now) currency (Some (further_ask event amount at now.txn)) ≡ None
+    → Enters (known_of s) (docket_of s) (Some event) (docketed_by (increment_acts (core_facts s) (Some (further_ask event amount at now.txn))))
+increment_enters s event txn currency amount at now e well its none =
     funding_enters (known_of s) (docket_of s) (core_facts s) (further_ask event amount at now.txn) refl
-    (record { new = its.new; numbers = well.calls.numbers; may = raised_may currency (Some (further_ask event amount at now.txn)) s txn now e none; alone = never }) (well.txns.products txn now e)
+    (record { new = its.new; numbers = well.calls.numbers; may = raised_may currency (Some (further_ask event amount at now.txn)) s txn now e none; alone = never })
+    (well.txns.products txn now e)
 
 -- reversals, clearings and refunds ----
 
@@ -241,13 +228,12 @@ abandoned_done s why t event ends news quiet well live its =
 told_done : (s : CoreState) (t : Txn) (event : List ℕ) (news : List Act) → docketed_by news ≡ [] → IsNewOn s event
     → Enters (known_of s) (docket_of s) (Some event) (docketed_by (acts_for_gateway t news ++ Does event ∷ []))
 told_done s t event news quiet its =
-    subst (Enters (known_of s) (docket_of s) (Some event)) (sym (done_docketed event (acts_for_gateway t news) (told_docketed t news quiet))) (does s event its)
+    subst (Enters (known_of s) (docket_of s) (Some event)) (sym (done_docketed event (acts_for_gateway t news) (told_docketed t news quiet))) (decides s event verdict.Done its)
 
-reversal_enters : (s : CoreState) (event txn : List ℕ) (amount : ℕ) (currency : Currency) (now : Option TxnNow) → txn_named txn s.holdings.txns ≡ now
-    → IsWellAmong (known_of s) (docket_of s) → IsNewOn s event → reversal_reason now currency ≡ None
-    → Enters (known_of s) (docket_of s) (Some event) (docketed_by (reversal_acts (core_facts s) event amount now))
-reversal_enters s event txn amount currency None e well its none = cc
-reversal_enters s event txn amount currency (Some now) e well its none =
+reversal_enters : (s : CoreState) (event txn : List ℕ) (amount : ℕ) (currency : Currency) (now : TxnNow) → txn_named txn s.holdings.txns ≡ Some now
+    → IsWellAmong (known_of s) (docket_of s) → IsNewOn s event → reversal_reason (Some now) currency ≡ None
+    → Enters (known_of s) (docket_of s) (Some event) (docketed_by (reversal_acts (core_facts s) event amount (Some now)))
+reversal_enters s event txn amount currency now e well its none =
     let t : Txn = now.txn in
     let held : Parts = parts_held (core_facts s) t in
     let second = first_fails (not now.live) reason.TxnClosed _ none in
@@ -262,70 +248,50 @@ after_clearing_enters s event txn now rest amount true live e well its =
     abandoned_done s reason.Cleared now.txn event true (acts_for_gateway now.txn told) (told_docketed now.txn told refl) well (found_live s.holdings.txns txn now e (live refl)) its
 after_clearing_enters s event txn now rest amount false live e well its = told_done s now.txn event _ refl its
 
-clearing_enters : (s : CoreState) (event txn : List ℕ) (amount : ℕ) (last : Bool) (at : ℕ) (currency : Currency) (now : Option TxnNow)
-    → txn_named txn s.holdings.txns ≡ now
-    → IsWellAmong (known_of s) (docket_of s) → IsNewOn s event → clearing_reason now currency ≡ None
-    → Enters (known_of s) (docket_of s) (Some event) (docketed_by (clearing_acts (core_facts s) event amount last at now))
-clearing_enters s event txn amount last at currency None e well its none = cc
-clearing_enters s event txn amount last at currency (Some now) e well its none =
+clearing_enters : (s : CoreState) (event txn : List ℕ) (amount : ℕ) (last : Bool) (at : ℕ) (now : TxnNow) → txn_named txn s.holdings.txns ≡ Some now
+    → IsWellAmong (known_of s) (docket_of s) → IsNewOn s event
+    → Enters (known_of s) (docket_of s) (Some event) (docketed_by (clearing_acts (core_facts s) event amount last at (Some now)))
+clearing_enters s event txn amount last at now e well its =
     let rest = left_of (parts_held (core_facts s) now.txn) (taken_to_clear (parts_held (core_facts s) now.txn) amount) in
     let closes : Bool = last || nat_eq (in_all rest) 0 in
     after_clearing_enters s event txn now rest amount (now.live && closes) (λ h. (and_parts now.live closes h).0) e well its
 
-refund_enters : (s : CoreState) (event : List ℕ) (amount : ℕ) (currency : Currency) (now : Option TxnNow) → IsNewOn s event
-    → refund_reason (core_facts s) now currency amount ≡ None
-    → Enters (known_of s) (docket_of s) (Some event) (docketed_by (refund_acts (core_facts s) event amount now))
-refund_enters s event amount currency None its none = cc
-refund_enters s event amount currency (Some now) its none = told_done s now.txn event _ refl its
+refund_enters : (s : CoreState) (event : List ℕ) (amount : ℕ) (now : TxnNow) → IsNewOn s event
+    → Enters (known_of s) (docket_of s) (Some event) (docketed_by (refund_acts (core_facts s) event amount (Some now)))
+refund_enters s event amount now its = told_done s now.txn event _ refl its
 
 -- all inputs ----
 
-acts_enter_by : (s : CoreState) (i : Input) (at : ℕ) → IsWellAmong (known_of s) (docket_of s) → ((event : List ℕ) → event_token i ≡ Some event → IsNewOn s event)
-    → Enters (known_of s) (docket_of s) (event_token i) (docketed_by (acts_of i at (core_facts s)))
-acts_enter_by s (input.User token user) at well new = setting_enters s (user_reason (core_facts s) user) token _ (new token refl)
-acts_enter_by s (input.Card token card user product active) at well new = setting_enters s (card_reason (core_facts s) card user product) token _ (new token refl)
-acts_enter_by s (input.Move token who) at well new = setting_enters s (move_reason (core_facts s) who) token _ (new token refl)
-acts_enter_by s (input.Product token product currency funding timeout_ms hold_ms) at well new = setting_enters s (product_reason (core_facts s) product) token _ (new token refl)
-acts_enter_by s (input.Group token group mccs) at well new = setting_enters s (group_reason (core_facts s) group) token _ (new token refl)
-acts_enter_by s (input.Control token control currency window amount_limit usage_limit association scope active) at well new =
-    setting_enters s (control_reason (core_facts s) control currency window association scope) token _ (new token refl)
-acts_enter_by s (input.Set token set product currency connection timeout application max day_limit active) at well new =
-    setting_enters s (set_reason (core_facts s) set product currency) token _ (new token refl)
-acts_enter_by s (input.Switch token product on) at well new = setting_enters s (switch_reason (core_facts s) product) token _ (new token refl)
-acts_enter_by s (input.Load token user currency amount) at well new =
-    unless_enters s (load_reason (core_facts s) user) token (Loads token user currency amount ∷ []) (new token refl) (λ none. does s token (new token refl))
-acts_enter_by s (input.Authorization token card currency amount mcc mid) at well new =
-    let f : Facts = core_facts s in
-    let ask : Option Ask = authorization_ask f token card currency amount mcc mid at in
-    unless_enters s (authorization_reason f card currency ask) token (authorization_acts f ask) (new token refl)
-    (authorization_enters s token card currency amount mcc mid at well (new token refl))
-acts_enter_by s (input.Increment token txn currency amount) at well new =
-    let f : Facts = core_facts s in
-    let ask : Option Ask = increment_ask f token txn amount at in
-    unless_enters s (increment_reason f (txn_in f txn) currency ask) token (increment_acts f ask) (new token refl)
-    (increment_enters s token txn currency amount at (txn_named txn s.holdings.txns) refl well (new token refl))
-acts_enter_by s (input.Reversal token txn currency amount) at well new =
-    let f : Facts = core_facts s in
-    unless_enters s (reversal_reason (txn_in f txn) currency) token (reversal_acts f token amount (txn_in f txn)) (new token refl)
-    (reversal_enters s token txn amount currency (txn_named txn s.holdings.txns) refl well (new token refl))
-acts_enter_by s (input.Clearing token txn currency amount last) at well new =
-    let f : Facts = core_facts s in
-    unless_enters s (clearing_reason (txn_in f txn) currency) token (clearing_acts f token amount last at (txn_in f txn)) (new token refl)
-    (clearing_enters s token txn amount last at currency (txn_named txn s.holdings.txns) refl well (new token refl))
-acts_enter_by s (input.Refund token txn currency amount) at well new =
-    let f : Facts = core_facts s in
-    unless_enters s (refund_reason f (txn_in f txn) currency amount) token (refund_acts f token amount (txn_in f txn)) (new token refl)
-    (refund_enters s token amount currency (txn_named txn s.holdings.txns) (new token refl))
-acts_enter_by s (input.Answer call what) at well new =
-    of_asked (λ acts. Enters (known_of s) (docket_of s) None (docketed_by acts)) s (λ o t. outcome_acts what (core_facts s) o t at) call.0 (λ none. enters_none (known_of s) (docket_of s))
-    (λ c t asked stands. outcome_enters (known_of s) (docket_of s) call.0 c t.txn well asked (its_token s.holdings.txns c.opened.txn t stands) what (core_facts s) at)
-acts_enter_by s (input.Ack notice) at well new = by (is_notice (core_facts s) notice)
-  where
-    by : (b : Bool) → Enters (known_of s) (docket_of s) None (docketed_by (cond b (Acknowledges notice ∷ []) []))
-    by true = enters_none (known_of s) (docket_of s)
-    by false = enters_none (known_of s) (docket_of s)
-acts_enter_by s input.Time at well new = enters_none (known_of s) (docket_of s)
+-- the acts of an input may be entered, and account for its event, if that is new
+abbrev EnterIfNew : CoreState → Input → List Act → Type 0
+EnterIfNew s i acts = ((event : List ℕ) → event_token i ≡ Some event → IsNewOn s event) → Enters (known_of s) (docket_of s) (event_token i) (docketed_by acts)
+
+decides_own : (s : CoreState) (i : Input) (token : List ℕ) (v : Verdict) → event_token i ≡ Some token → IsNewOn s token
+    → Enters (known_of s) (docket_of s) (event_token i) (entry.Decided token v ∷ [])
+decides_own s i token v its new = subst (λ (own : Option (List ℕ)). Enters (known_of s) (docket_of s) own (entry.Decided token v ∷ [])) (sym its) (decides s token v new)
+
+ack_enters : (s : CoreState) (notice : ℕ) (b : Bool) → Enters (known_of s) (docket_of s) None (docketed_by (cond b (Acknowledges notice ∷ []) []))
+ack_enters s notice true = enters_none (known_of s) (docket_of s)
+ack_enters s notice false = enters_none (known_of s) (docket_of s)
+
+kinds_enter : (s : CoreState) (at : ℕ) → IsWellAmong (known_of s) (docket_of s) → EachKind (EnterIfNew s) (core_facts s) at
+kinds_enter s at well =
+    record {
+      declined = λ i token why its new. decides_own s i token (verdict.Declined why) its (new token its);
+      setting = λ i token its none new. decides_own s i token verdict.Done its (new token its);
+      load = λ token user currency amount new. decides s token verdict.Done (new token refl);
+      authorization = λ token card currency amount mcc mid ask made none new. authorization_enters s token card currency amount mcc mid at ask made well (new token refl) none;
+      increment = λ token txn currency amount now stands none new. increment_enters s token txn currency amount at now stands well (new token refl) none;
+      reversal = λ token txn currency amount now stands none new. reversal_enters s token txn amount currency now stands well (new token refl) none;
+      clearing = λ token txn currency amount last now stands none new. clearing_enters s token txn amount last at now stands well (new token refl);
+      refund = λ token txn currency amount now stands none new. refund_enters s token amount now (new token refl);
+      answer = λ call what new.
+          if_asked (λ acts. Enters (known_of s) (docket_of s) None (docketed_by acts)) s (λ o t. outcome_acts what (core_facts s) o t at) call.0 (λ none. enters_none (known_of s) (docket_of s))
+          (λ c t asked stands. outcome_enters (known_of s) (docket_of s) call.0 c t.txn well asked (its_token s.holdings.txns c.opened.txn t stands) what (core_facts s) at);
+      acknowledgement = λ notice new. ack_enters s notice (is_notice (core_facts s) notice);
+      time = λ new. enters_none (known_of s) (docket_of s);
+    }
 
 pub own_enters : (s : CoreState) (i : Input) (at : ℕ) → IsWellAmong (known_of s) (docket_of s) → ((event : List ℕ) → event_token i ≡ Some event → IsNewOn s event)
     → Enters (known_of s) (docket_of s) (event_token i) (entries_of i at (core_facts s))
-own_enters s i at well new = acts_enter (acts_of i at (core_facts s)) (acts_enter_by s i at well new)
+own_enters s i at well new = acts_enter (acts_of i at (core_facts s)) (walk (kinds_enter s at well) i new)

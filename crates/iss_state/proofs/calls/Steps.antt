@@ -1,5 +1,5 @@
 -- A record that is taken up is ready for its entries, and a step keeps a core well.
-use Rattle.std.proofs.Common.{◌≡◌, ℕ, ◌+◌, true, false, List, [], ◌∷◌, fold, refl, sym, ap, subst, ◌∙◌}
+use Rattle.std.proofs.Common.{◌≡◌, ℕ, ◌+◌, true, false, List, [], fold, refl, sym, ap, subst, ◌∙◌}
 use Rattle.std.specs.Prelude.{Some, None}
 use Rattle.std.specs.List.{list_all}
 use Rattle.std.proofs.lemmas.Bool.{false_from_ne_true}
@@ -12,9 +12,10 @@ use Rattle.iss_model.specs.rules.Activity.{CallNow, is_asked, txn_named}
 use Rattle.iss_model.specs.rules.Due.{DueThing, DueItem, due_items, thing_entries}
 use Rattle.iss_model.specs.rules.Facts.{Accepted, call_in}
 use Rattle.iss_model.specs.rules.Keeper.{Growth}
-use Rattle.iss_model.specs.rules.Stepping.{entries_of, settle, after_due, step}
+use Rattle.iss_model.specs.rules.Stepping.{entries_of, after_due, step}
 use Rattle.iss_model.specs.state.Cores.{CoreState, with_record, core_facts, core_keeper, after_entry}
 use Rattle.iss_model.proofs.Lists.{all_weaker}
+use Rattle.iss_acts.proofs.Stepping.{due_stays}
 use Rattle.iss_state.proofs.invariants.Kept.{due_accepted, entries_accepted}
 use Rattle.iss_state.proofs.invariants.NewEvents.{accepted_with_record, still_accepted}
 use Rattle.iss_state.specs.Sound.{is_accepted, IsNewEvent}
@@ -128,18 +129,16 @@ own_decides s i at ready =
 
 -- all that is due ----
 
-all_ready : (at : ℕ) (g : Growth CoreState) (items : List DueItem) (i : Input) → HasTakenUp g.world i → HasTakenUp (fold (settle core_keeper at) g items).world i
-all_ready at g [] i ready = ready
-all_ready at g (item ∷ items) i ready = all_ready at (settle core_keeper at g item) items i (ready_settled g.world i item.thing at ready)
+ready_after_due : (s : CoreState) (i : Input) (at : ℕ) → HasTakenUp s i → HasTakenUp (after_due core_keeper s at).world i
+ready_after_due s i at = due_stays (λ s. HasTakenUp s i) at (λ s thing ready. ready_settled s i thing at ready) s
 
-all_account : (at : ℕ) (g : Growth CoreState) (items : List DueItem) (i : Input) (event : List ℕ) → HasTakenUp g.world i → IsAccounted (docket_of g.world) event
-    → IsAccounted (docket_of (fold (settle core_keeper at) g items).world) event
-all_account at g [] i event ready h = h
-all_account at g (item ∷ items) i event ready h =
-    let s : CoreState = g.world in
-    let es : List Entry = thing_entries item.thing at (core_facts s) in
-    all_account at (settle core_keeper at g item) items i event (ready_settled s i item.thing at ready)
-    (subst (λ (d : Docket). IsAccounted d event) (sym (entries_docket s es)) ((thing_enters ready.before s item.thing at ready.well).keeps event h))
+account_after_due : (s : CoreState) (i : Input) (at : ℕ) (event : List ℕ) → HasTakenUp s i → IsAccounted (docket_of s) event → IsAccounted (docket_of (after_due core_keeper s at).world) event
+account_after_due s i at event ready accounted =
+    (due_stays (λ s. HasTakenUp s i × IsAccounted (docket_of s) event) at
+    (λ s thing h. (
+        ready_settled s i thing at h.0,
+        subst (λ (d : Docket). IsAccounted d event) (sym (entries_docket s (thing_entries thing at (core_facts s)))) ((thing_enters h.0.before s thing at h.0.well).keeps event h.1)
+    )) s (ready, accounted)).1
 
 -- a step ----
 
@@ -153,7 +152,7 @@ step_well s r new well =
     let es : List Entry = entries_of r.input r.at (core_facts due) in
     let after : CoreState = fold after_entry due es in
     let first : HasTakenUp up r.input = ready_taken s r well new in
-    let ready : HasTakenUp due r.input = all_ready r.at start items r.input first in
+    let ready : HasTakenUp due r.input = ready_after_due up r.input r.at first in
     let enters : Enters (known_of due) (docket_of due) (event_token r.input) es = own_ready due r.input r.at ready in
     let same : after.accepted ≡ up.accepted = entries_accepted due es ∙ due_accepted r.at start items in
     record {
@@ -163,7 +162,7 @@ step_well s r new well =
           (entered_well (known_of due) (docket_of due) (event_token r.input) es enters (ready_well due r.input ready)));
       accounted = λ event h.
           subst (λ (d : Docket). IsAccounted d event) (sym (entries_docket due es))
-          (by_either (λ old. enters.keeps event (all_account r.at start items r.input event first (well.accounted event old))) (λ own. enters.accounts event own)
+          (by_either (λ old. enters.keeps event (account_after_due up r.input r.at event first (well.accounted event old))) (λ own. enters.accounts event own)
           (accepted_before_or_now s r event (ap (λ (accepted : List Accepted). is_accepted accepted event) (sym same) ∙ h)));
     }
 

@@ -1,58 +1,45 @@
 -- Ends of transactions and asks are paid by what was at stake.
-use Rattle.std.specs.Prelude.{None, Some}
-use Rattle.std.proofs.Common.{Bool, List, [], arith, cond, false, fold, neg_ℤ, pos, refl, subst, sym, true, ℕ, ◌*◌, ◌∷◌, ◌≡◌, ◌≤◌}
+use Rattle.std.specs.Prelude.{None}
+use Rattle.std.proofs.Common.{Bool, List, [], arith, cond, false, fold, nat_abs, neg_ℤ, pos, refl, subst, true, ℕ, ◌*◌, ◌∷◌, ◌≡◌, ◌≤◌}
 use Rattle.iss_model.specs.declared.account.Account.{Account}
 use Rattle.iss_model.specs.declared.account.Account.TheVariants as account
 use Rattle.iss_model.specs.declared.account.Part.{Part}
 use Rattle.iss_model.specs.declared.account.Part.TheVariants as part
-use Rattle.iss_model.specs.declared.call.Failure.{Failure}
-use Rattle.iss_model.specs.declared.call.How.{How}
 use Rattle.iss_model.specs.declared.call.Method.TheVariants as method
 use Rattle.iss_model.specs.declared.decision.Reason.{Reason}
-use Rattle.iss_model.specs.declared.decision.Reason.TheVariants as reason
 use Rattle.iss_model.specs.declared.decision.Verdict.TheVariants as verdict
 use Rattle.iss_model.specs.declared.entry.Entry.{Entry}
 use Rattle.iss_model.specs.declared.entry.Entry.TheVariants as entry
 use Rattle.iss_model.specs.declared.setting.Set.{Set}
 use Rattle.iss_model.specs.declared.txn.Txn.{Txn}
-use Rattle.iss_model.specs.rules.Activity.{CallNow, call_numbered, is_asked}
 use Rattle.iss_model.specs.rules.Asks.{Ask, ask_count, ask_given_back}
 use Rattle.iss_model.specs.rules.Facts.{Facts, asked_calls_of}
-use Rattle.iss_model.specs.rules.Pieces.{Parts, declined_ask_entries, failure_reason, funded_ask_entries, hold_entries, in_all, notice_entry, post_entries, release_entries, set_stand_in_entries, user_account}
-use Rattle.iss_acts.specs.Rows.{abandonment_entries, end_entries, stand_entries, stand_in_entries}
-use Rattle.iss_model.specs.rules.StandIns.{Stand, allowed, over_limit, stand, uncovered}
-use Rattle.iss_model.specs.state.Cores.{CoreState, Holdings, after_entry}
-use Rattle.iss_state.specs.Effects.{Effect, HoldsParts, Paid, PaidByAsk}
+use Rattle.iss_model.specs.rules.Pieces.{Parts, abandoned_calls_entries, declined_ask_entries, funded_ask_entries, hold_entries, in_all, notice_entry, post_entries, release_entries, set_stand_in_entries, user_account}
+use Rattle.iss_model.specs.rules.Acts.{entries_of_acts}
+use Rattle.iss_model.specs.rules.CardActs.{end_acts}
+use Rattle.iss_model.specs.state.Cores.{CoreState, after_entry}
+use Rattle.iss_state.specs.Effects.{Effect, HoldsParts, Paid}
 use Rattle.iss_state.specs.Needs.{Stands}
-use Rattle.iss_state.specs.Stakes.{IsOrderlyState, at_least_one, part_held}
-use Rattle.iss_state.proofs.effects.Abandonment.{abandonment_effect, abandonment_holdings, given_back_size, least_one}
-use Rattle.iss_state.proofs.effects.Effects.{and_then, calm_effect, close_effect, end_effect, no_effect, stands_then, still_effect}
-use Rattle.iss_state.proofs.effects.Paid.{costs, paid_more}
-use Rattle.iss_state.proofs.effects.PieceEffects.{hold_effect, post_effect, release_effect, usage_fits}
+use Rattle.iss_state.specs.Stakes.{IsOrderlyState, at_least_one}
+use Rattle.iss_state.proofs.effects.Abandonment.{abandonment_effect, abandonment_holdings, given_back_size}
+use Rattle.iss_state.proofs.effects.Effects.{and_then, calm_effect, end_effect, no_effect, stands_then, still_effect}
+use Rattle.iss_state.proofs.effects.Paid.{costs}
+use Rattle.iss_state.proofs.effects.PieceEffects.{hold_effect, post_effect, usage_fits}
+use Rattle.iss_state.proofs.effects.Taking.{holds_then, release_effect}
 use Rattle.iss_state.proofs.effects.Regrouping.{three}
 
 -- ---- the end of a transaction
 
--- a transaction holds in one state what it holds in another with the same holdings
-pub holds_then : (s t : CoreState) (x : Txn) (parts : Parts) → t.holdings ≡ s.holdings → HoldsParts s x parts → HoldsParts t x parts
-holds_then s t x parts same h =
-    record {
-      of_gateway = subst (λ (k : Holdings). parts.g ≤ part_held k.parts x.token part.G) (sym same) h.of_gateway;
-      of_programme = subst (λ (k : Holdings). parts.p ≤ part_held k.parts x.token part.P) (sym same) h.of_programme;
-      of_user = subst (λ (k : Holdings). parts.s ≤ part_held k.parts x.token part.S) (sym same) h.of_user;
-    }
-
 -- an end is paid from what its transaction holds and its calls ask
-pub end_paid : (s : CoreState) (number : ℕ) (f : Facts) (t : Txn) (parts : Parts) (why : Reason) → IsOrderlyState s → Stands s t → HoldsParts s t parts → s.calls ≡ f.calls → Paid 0 0 s (end_entries number f t parts why)
+pub end_paid : (s : CoreState) (number : ℕ) (f : Facts) (t : Txn) (parts : Parts) (why : Reason) → IsOrderlyState s → Stands s t → HoldsParts s t parts → s.calls ≡ f.calls → Paid 0 0 s (entries_of_acts (end_acts number f t parts why))
 end_paid s number f t parts why h stands has same =
-    let xs = abandonment_entries number f t why in
+    let xs = abandoned_calls_entries number t why (asked_calls_of f t.token) in
     let ys = release_entries t parts (in_all parts) in
     let s1 = fold after_entry s xs in
     let e1 = abandonment_effect s number f t why h stands same in
     let e2 = release_effect s1 t parts (in_all parts) e1.orderly (stands_then t e1 stands) (holds_then s s1 t parts (abandonment_holdings s number t why (asked_calls_of f t.token)) has) (omega arith) in
     let e3 = end_effect (fold after_entry s1 ys) t e2.orderly (stands_then t e2 (stands_then t e1 stands)) in
-    subst (Paid 0 0 s) (three xs ys (entry.Ended t.token ∷ []))
-    (costs 0 0 (and_then e1 (and_then e2 e3)) (omega arith) (omega arith))
+    costs 0 0 (and_then e1 (and_then e2 e3)) (omega arith) (omega arith)
 
 -- ---- asks
 
@@ -83,7 +70,7 @@ funded_ask_paid s ask from p h stands =
     (costs (4 * ask.amount) ask.amount (and_then e1 (and_then e2 e3)) (omega arith) (omega arith))
 
 -- a set that stands in pays alike, and its sum of the day once more
-set_stand_in_paid : (s : CoreState) (number : ℕ) (ask : Ask) (at : ℕ) (set : Set) → IsOrderlyState s → Stands s ask.txn → Paid (4 * ask.amount) (2 * ask.amount) s (set_stand_in_entries number ask at set)
+pub set_stand_in_paid : (s : CoreState) (number : ℕ) (ask : Ask) (at : ℕ) (set : Set) → IsOrderlyState s → Stands s ask.txn → Paid (4 * ask.amount) (2 * ask.amount) s (set_stand_in_entries number ask at set)
 set_stand_in_paid s number ask at set h stands =
     let zs : List Entry = entry.Stood set.name ask.txn.product ask.txn.user ask.amount at ∷ [] in
     let xs = post_entries ask.txn (account.Programme ask.txn.currency) (user_account ask.txn) ask.amount in
@@ -97,23 +84,6 @@ set_stand_in_paid s number ask at set h stands =
     subst (λ (es : List Entry). Paid (4 * ask.amount) (2 * ask.amount) s (entry.Stood set.name ask.txn.product ask.txn.user ask.amount at ∷ es)) (three xs ys last)
     (costs (4 * ask.amount) (2 * ask.amount) (and_then e0 (and_then e1 (and_then e2 e3))) (omega arith) (omega arith))
 
-stand_paid : (s : CoreState) (x : Stand) (number : ℕ) (ask : Ask) (why : Failure) (at : ℕ) → IsOrderlyState s → Stands s ask.txn → PaidByAsk ask.amount s (stand_entries x number ask why at)
-stand_paid s (allowed set) number ask why at h stands =
-    paid_more (4 * at_least_one ask.amount) (2 * at_least_one ask.amount) (set_stand_in_paid s number ask at set h stands) (omega (arith, least_one ask.amount)) (omega (arith, least_one ask.amount))
-stand_paid s (over_limit set) number ask why at h stands =
-    paid_more (4 * at_least_one ask.amount) (2 * at_least_one ask.amount) (declined_ask_paid s ask (reason.StandInLimit set.name) h stands) (omega arith) (omega arith)
-stand_paid s uncovered number ask why at h stands =
-    paid_more (4 * at_least_one ask.amount) (2 * at_least_one ask.amount) (declined_ask_paid s ask (failure_reason why) h stands) (omega arith) (omega arith)
-
--- standing in is paid whatever the sets say
-pub stand_in_paid : (s : CoreState) (number : ℕ) (f : Facts) (ask : Ask) (why : Failure) (at : ℕ) → IsOrderlyState s → Stands s ask.txn → PaidByAsk ask.amount s (stand_in_entries number f ask why at)
-stand_in_paid s number f ask why at h stands = stand_paid s (stand f ask why at) number ask why at h stands
-
--- a call that is asked is closed, and pays with what it asked
-pub closing_paid : (s : CoreState) (closed : How) (c : CallNow) (es : List Entry) → IsOrderlyState s → call_numbered c.opened.call.0 s.calls ≡ Some c → is_asked c ≡ true
-    → (IsOrderlyState (after_entry s (entry.Closed c.opened.call closed)) → PaidByAsk c.opened.amount (after_entry s (entry.Closed c.opened.call closed)) es)
-    → Paid 0 0 s (entry.Closed c.opened.call closed ∷ es)
-closing_paid s closed c es h found asked rest =
-    let e1 = close_effect s c.opened.call closed c h found asked in
-    let p = rest e1.orderly in
-    costs 0 0 (and_then e1 p.effect) (omega (arith, p.money)) (omega (arith, p.usage))
+pub at_most_one : (b : Bool) → nat_abs (cond b (pos 1) (pos 0)) ≤ 1
+at_most_one true = omega arith
+at_most_one false = omega arith

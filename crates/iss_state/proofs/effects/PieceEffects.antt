@@ -1,27 +1,24 @@
 -- Effects of the pieces that entries are made of.
 use Rattle.std.specs.Prelude.{Some}
-use Rattle.std.proofs.Common.{Bool, List, [], ap, arith, cond, false, fold, min, nat_abs, nat_eq, neg_ℤ, pos, refl, subst, true, ℕ, ℤ, ◌*◌, ◌+◌, ◌-◌, ◌∙◌, ◌∷◌, ◌≡◌, ◌≤◌}
+use Rattle.std.proofs.Common.{Bool, List, [], arith, cond, false, fold, nat_abs, nat_eq, neg_ℤ, pos, refl, true, ℕ, ℤ, ◌+◌, ◌∷◌, ◌≡◌, ◌≤◌}
 use Rattle.std.specs.List.{list_all}
 use Rattle.std.specs.Str.{bytes_eq}
 use Rattle.iss_model.specs.declared.account.Account.{Account}
-use Rattle.iss_model.specs.declared.account.Account.TheVariants as account
 use Rattle.iss_model.specs.declared.account.Part.{Part}
-use Rattle.iss_model.specs.declared.account.Part.TheVariants as part
 use Rattle.iss_model.specs.declared.entry.Entry.{Entry}
 use Rattle.iss_model.specs.declared.entry.Entry.TheVariants as entry
 use Rattle.iss_model.specs.declared.txn.Txn.{Txn}
 use Rattle.iss_model.specs.Sums.{part_key}
 use Rattle.iss_model.specs.rules.Asks.{usage_of}
 use Rattle.iss_model.specs.rules.CardReasons.{is_account_funded}
-use Rattle.iss_model.specs.rules.Pieces.{Parts, hold_entries, in_all, only_gateway, only_where, post_entries, release_entries, taken_to_release, unhold_entries, use_return_entries, user_account}
-use Rattle.iss_model.specs.state.Cores.{CoreState, Holdings, after_entry}
-use Rattle.iss_state.specs.Effects.{Effect, HoldsParts}
+use Rattle.iss_model.specs.rules.Pieces.{hold_entries, only_gateway, only_where, post_entries, unhold_entries, use_return_entries}
+use Rattle.iss_model.specs.state.Cores.{CoreState, after_entry}
+use Rattle.iss_state.specs.Effects.{Effect}
 use Rattle.iss_state.specs.Needs.{Stands, UsageNeeds}
 use Rattle.iss_state.specs.Stakes.{IsOrderlyState, part_held}
-use Rattle.iss_state.proofs.effects.Effects.{all_calm_holdings, and_then, calm_effect, comes_to, down_size, is_calm, less_held_effect, more_held_effect, no_effect, stands_is_named, stands_then}
+use Rattle.iss_state.proofs.effects.Effects.{calm_effect, comes_to, down_size, is_calm, less_held_effect, more_held_effect, no_effect, stands_is_named}
 use Rattle.iss_state.proofs.effects.Finds.{number_is}
 use Rattle.iss_state.proofs.effects.Parts.{part_less, part_same}
-use Rattle.iss_state.proofs.effects.Regrouping.{six}
 
 -- ---- what is left out where it comes to nothing
 
@@ -102,42 +99,3 @@ unhold_calls s t p m = by (nat_eq m 0)
     by : (b : Bool) → (fold after_entry s (cond b [] (entry.Hold t.token t.user t.currency p (neg_ℤ (pos m)) ∷ []))).calls ≡ s.calls
     by true = refl
     by false = refl
-
--- a post leaves all parts as they are
-pub part_after_post : (s : CoreState) (t : Txn) (from to : Account) (m : ℕ) (token : List ℕ) (q : Part) → part_held (fold after_entry s (post_entries t from to m)).holdings.parts token q ≡ part_held s.holdings.parts token q
-part_after_post s t from to m token q = ap (λ (h : Holdings). part_held h.parts token q) (all_calm_holdings s (post_entries t from to m) (post_calm t from to m))
-
--- ---- release
-
-taken_all : (a p g s : ℕ) → a ≤ p + g + s → min a p + min (a - min a p) g + min (a - min a p - min (a - min a p) g) s ≡ a
-taken_all a p g s le = omega (arith, le)
-
--- a release takes its amount from what is at stake: it is let go, posted back and returned as use
-pub release_effect : (s : CoreState) (t : Txn) (parts : Parts) (amount : ℕ) → IsOrderlyState s → Stands s t → HoldsParts s t parts → amount ≤ in_all parts
-    → Effect s (release_entries t parts amount) (2 * amount) amount 0 amount
-release_effect s t parts amount h stands has le =
-    let taken = taken_to_release parts amount in
-    let all = taken_all amount parts.p parts.g parts.s (omega (arith, le)) in
-    let e1 = unhold_effect s t part.P taken.p h stands (omega (arith, has.of_programme)) in
-    let s1 = fold after_entry s (unhold_entries t part.P taken.p) in
-    let e2 = post_effect s1 t (user_account t) (account.Programme t.currency) taken.p e1.orderly (stands_then t e1 stands) in
-    let s2 = fold after_entry s1 (post_entries t (user_account t) (account.Programme t.currency) taken.p) in
-    let n2 : Stands s2 t = stands_then t e2 (stands_then t e1 stands) in
-    let g2 : part_held s2.holdings.parts t.token part.G ≡ part_held s.holdings.parts t.token part.G =
-    part_after_post s1 t (user_account t) (account.Programme t.currency) taken.p t.token part.G ∙ unhold_other s t part.P part.G taken.p refl in
-    let o2 : part_held s2.holdings.parts t.token part.S ≡ part_held s.holdings.parts t.token part.S =
-    part_after_post s1 t (user_account t) (account.Programme t.currency) taken.p t.token part.S ∙ unhold_other s t part.P part.S taken.p refl in
-    let e3 = unhold_effect s2 t part.G taken.g e2.orderly n2 (omega (arith, has.of_gateway, g2)) in
-    let s3 = fold after_entry s2 (unhold_entries t part.G taken.g) in
-    let e4 = post_effect s3 t (user_account t) (account.Gateway t.currency) taken.g e3.orderly (stands_then t e3 n2) in
-    let s4 = fold after_entry s3 (post_entries t (user_account t) (account.Gateway t.currency) taken.g) in
-    let n4 : Stands s4 t = stands_then t e4 (stands_then t e3 n2) in
-    let o4 : part_held s4.holdings.parts t.token part.S ≡ part_held s.holdings.parts t.token part.S =
-    part_after_post s3 t (user_account t) (account.Gateway t.currency) taken.g t.token part.S ∙ unhold_other s2 t part.G part.S taken.g refl ∙ o2 in
-    let e5 = unhold_effect s4 t part.S taken.s e4.orderly n4 (omega (arith, has.of_user, o4)) in
-    let s5 = fold after_entry s4 (unhold_entries t part.S taken.s) in
-    let e6 = use_return_effect s5 t amount e5.orderly (stands_then t e5 n4) in
-    subst (λ (es : List Entry). Effect s es (2 * amount) amount 0 amount)
-    (six (unhold_entries t part.P taken.p) (post_entries t (user_account t) (account.Programme t.currency) taken.p) (unhold_entries t part.G taken.g)
-    (post_entries t (user_account t) (account.Gateway t.currency) taken.g) (unhold_entries t part.S taken.s) (use_return_entries t amount))
-    (comes_to (2 * amount) amount 0 amount (and_then e1 (and_then e2 (and_then e3 (and_then e4 (and_then e5 e6))))) (omega (arith, all)) (omega (arith, all)) (omega (arith, all)))

@@ -24,7 +24,7 @@ use Rattle.iss_acts.specs.Causes.{Cause, ComesOf}
 use Rattle.iss_acts.specs.Sources.{IsAskedCall, IsFirstAsk, IsFurtherAsk, IsMade, IsSettledAsk, IsStart}
 use Rattle.iss_acts.specs.Stages.{Frees, Fresh, Keeps, Leaves, Over, Seeks, Stage, stage_after}
 use Rattle.iss_acts.proofs.Walk.{Goes, from_start, of_asked}
-use Rattle.iss_state.proofs.invariants.Passing.{both_pass, gateway_passes, passing}
+use Rattle.iss_acts.proofs.Passing.{both_pass, gateway_passes, passing}
 use Rattle.iss_state.proofs.docket.Lists.{never}
 use Rattle.iss_state.specs.Dockets.{docket_after, docket_of}
 use Rattle.iss_state.specs.Well.{IsWellAmong, Known, has_live}

@@ -24,8 +24,9 @@ use Rattle.iss_model.specs.rules.Facts.{not_below}
 use Rattle.iss_model.specs.state.Cores.{CoreState, after_entry, after_setting, core_facts}
 use Rattle.iss_model.specs.state.Kept.{Kept, after_changes}
 use Rattle.iss_model.proofs.Names.{its_name}
+pub use Rattle.iss_state.proofs.effects.Taking.{amount_of, without}
 use Rattle.iss_state.proofs.effects.Finds.{number_is}
-use Rattle.iss_state.proofs.invariants.Passing.{EachPasses, gateway_passes, one_passes, passing, where_passes}
+use Rattle.iss_acts.proofs.Passing.{EachPasses, gateway_passes, one_passes, passing, where_passes}
 use Rattle.iss_state.specs.Dockets.{Docket, docket_of}
 use Rattle.iss_state.proofs.docket.Docketed.{AreSilent}
 use Rattle.iss_state.proofs.calls.Staying.{comes_to}
@@ -134,17 +135,6 @@ then_calm s xs ys token amounts first calm = then_leaves s xs ys token amounts a
 
 -- letting go ----
 
--- parts without an amount of one of them
-abbrev pub without : Part → ℕ → Parts → Parts
-without part.G n x = record { g = x.g - n; p = x.p; s = x.s }
-without part.P n x = record { g = x.g; p = x.p - n; s = x.s }
-without part.S n x = record { g = x.g; p = x.p; s = x.s - n }
-
-abbrev pub amount_of : Part → Parts → ℕ
-amount_of part.G x = x.g
-amount_of part.P x = x.p
-amount_of part.S x = x.s
-
 less_there : (z : ℤ) (a n : ℕ) → n ≤ a → z ≡ pos a → z +ℤ neg_ℤ (pos n) ≡ pos (a - n)
 less_there z a n le e = omega (arith, ints, le, e)
 
@@ -202,6 +192,16 @@ let_go s t p n x le just = by (nat_eq n 0) refl
           just = let_go_just s.holdings.parts t.token p n x le just;
         }
 
+-- a part is let go after others, and calm entries follow
+freed : (s : CoreState) (t : Txn) (xs ys : List Entry) (p : Part) (n : ℕ) (x : Parts) → Leaves s xs t.token x → n ≤ amount_of p x → AreCalm ys
+    → Leaves s (xs ++ unhold_entries t p n ++ ys) t.token (without p n x)
+freed s t xs ys p n x first le calm =
+    let more : List Entry = unhold_entries t p n in
+    then_calm s (xs ++ more) ys t.token (without p n x) (then_leaves s xs more t.token x (without p n x) first (let_go (fold after_entry s xs) t p n x le first.just)) calm
+
+min_low : (a b : ℕ) → min a b ≤ b
+min_low a b = omega arith
+
 -- an amount is let go
 pub release_leaves : (s : CoreState) (t : Txn) (x : Parts) (amount : ℕ) → HoldsJust s.holdings.parts t.token x
     → Leaves s (release_entries t x amount) t.token (left_of x (taken_to_release x amount))
@@ -209,20 +209,12 @@ release_leaves s t x amount just =
     let taken : Parts = taken_to_release x amount in
     let one : Parts = without part.P taken.p x in
     let two : Parts = without part.G taken.g one in
-    let three : Parts = without part.S taken.s two in
-    let a : List Entry = unhold_entries t part.P taken.p in
     let b : List Entry = post_entries t (user_account t) (account.Programme t.currency) taken.p in
-    let c : List Entry = unhold_entries t part.G taken.g in
     let d : List Entry = post_entries t (user_account t) (account.Gateway t.currency) taken.g in
-    let e : List Entry = unhold_entries t part.S taken.s in
-    let first = then_calm s a b t.token one (let_go s t part.P taken.p x (min_low amount x.p) just) (post_calm t (user_account t) (account.Programme t.currency) taken.p) in
-    let second = then_leaves s (a ++ b) c t.token one two first (let_go (fold after_entry s (a ++ b)) t part.G taken.g one (min_low (amount - taken.p) x.g) first.just) in
-    let third = then_calm s (a ++ b ++ c) d t.token two second (post_calm t (user_account t) (account.Gateway t.currency) taken.g) in
-    let fourth = then_leaves s (a ++ b ++ c ++ d) e t.token two three third (let_go (fold after_entry s (a ++ b ++ c ++ d)) t part.S taken.s two (min_low (amount - taken.p - taken.g) x.s) third.just) in
-    then_calm s (a ++ b ++ c ++ d ++ e) (use_return_entries t amount) t.token three fourth (use_calm t amount)
-  where
-    min_low : (a b : ℕ) → min a b ≤ b
-    min_low a b = omega arith
+    let first = freed s t [] b part.P taken.p x (record { keeps = tt; just = just }) (min_low amount x.p) (post_calm t (user_account t) (account.Programme t.currency) taken.p) in
+    let ab : List Entry = unhold_entries t part.P taken.p ++ b in
+    let second = freed s t ab d part.G taken.g one first (min_low (amount - taken.p) x.g) (post_calm t (user_account t) (account.Gateway t.currency) taken.g) in
+    freed s t (ab ++ unhold_entries t part.G taken.g ++ d) (use_return_entries t amount) part.S taken.s two second (min_low (amount - taken.p - taken.g) x.s) (use_calm t amount)
 
 -- a clearing takes its part of the hold
 pub clearing_leaves : (s : CoreState) (t : Txn) (x : Parts) (amount at : ℕ) → HoldsJust s.holdings.parts t.token x
@@ -235,18 +227,14 @@ clearing_leaves s t x amount at just =
     let three : Parts = without part.S taken.s two in
     let a : List Entry = unhold_entries t part.G taken.g in
     let b : List Entry = unhold_entries t part.P taken.p in
-    let c : List Entry = unhold_entries t part.S taken.s in
     let d : List Entry = only_gateway t (post_entries t (account.Programme t.currency) (user_account t) excess) in
     let e : List Entry = post_entries t (user_account t) (account.Network t.currency) amount in
+    let abcd : List Entry = a ++ b ++ unhold_entries t part.S taken.s ++ d in
     let first = let_go s t part.G taken.g x (min_low amount x.g) just in
     let second = then_leaves s a b t.token one two first (let_go (fold after_entry s a) t part.P taken.p one (min_low (amount - taken.g) x.p) first.just) in
-    let third = then_leaves s (a ++ b) c t.token two three second (let_go (fold after_entry s (a ++ b)) t part.S taken.s two (min_low (amount - taken.g - taken.p) x.s) second.just) in
-    let fourth = then_calm s (a ++ b ++ c) d t.token three third (gateway_passes t (post_calm t (account.Programme t.currency) (user_account t) excess)) in
-    let fifth = then_calm s (a ++ b ++ c ++ d) e t.token three fourth (post_calm t (user_account t) (account.Network t.currency) amount) in
-    then_calm s (a ++ b ++ c ++ d ++ e) (only_where excess (entry.Usage (usage_of t (pos excess) (pos 0) at) ∷ [])) t.token three fifth (where_passes excess (one_passes refl))
-  where
-    min_low : (a b : ℕ) → min a b ≤ b
-    min_low a b = omega arith
+    let third = freed s t (a ++ b) d part.S taken.s two second (min_low (amount - taken.g - taken.p) x.s) (gateway_passes t (post_calm t (account.Programme t.currency) (user_account t) excess)) in
+    let fourth = then_calm s abcd e t.token three third (post_calm t (user_account t) (account.Network t.currency) amount) in
+    then_calm s (abcd ++ e) (only_where excess (entry.Usage (usage_of t (pos excess) (pos 0) at) ∷ [])) t.token three fourth (where_passes excess (one_passes refl))
 
 -- a transaction ends ----
 

@@ -1,9 +1,8 @@
 -- What is due, and what an input in form makes, is in form on a state in form.
-use Rattle.std.proofs.Common.{Bool, List, [], ap, ap₂, cond, false, filter, inl, inr, nat_eq, refl, subst, sym, true, ℕ, ◌&&◌, ◌+◌, ◌-◌, ◌∙◌, ◌∷◌, ◌≡◌}
+use Rattle.std.proofs.Common.{Bool, List, [], ap, ap₂, cond, false, filter, inl, inr, nat_eq, refl, subst, true, ℕ, ◌&&◌, ◌+◌, ◌-◌, ◌∙◌, ◌∷◌, ◌≡◌}
 use Rattle.std.specs.List.{list_all}
 use Rattle.std.specs.Str.{bytes_eq}
 use Rattle.std.proofs.lemmas.Bool.{and_parts}
-use Rattle.iss_model.specs.declared.account.Part.TheVariants as part
 use Rattle.iss_model.specs.declared.call.Opened.{Opened}
 use Rattle.iss_model.specs.declared.decision.Reason.{Reason}
 use Rattle.iss_model.specs.declared.decision.Reason.TheVariants as reason
@@ -14,21 +13,19 @@ use Rattle.iss_model.specs.Forms.{is_in_form, is_stamp}
 use Rattle.iss_model.specs.rules.Activity.{CallNow, TxnNow, is_asked}
 use Rattle.iss_model.specs.rules.Acts.{Abandons, Act, Asks, Begins, Clears, Funds, GivesBack, HoldsOwn, LetsGo, Refuses, Sets, StandsIn, TurnsDown, Uses, act_entries}
 use Rattle.iss_model.specs.rules.Asks.{Ask, call_ask}
-use Rattle.iss_model.specs.rules.CardReasons.{txn_asked}
 use Rattle.iss_model.specs.rules.Due.{DueThing, thing_entries}
 use Rattle.iss_model.specs.rules.Facts.{Facts}
-use Rattle.iss_model.specs.rules.Pieces.{Parts, abandoned_call_entries, abandoned_calls_entries, declined_ask_entries, in_all, taken_to_clear, taken_to_release}
+use Rattle.iss_model.specs.rules.Pieces.{abandoned_call_entries, abandoned_calls_entries, declined_ask_entries, in_all, taken_to_clear, taken_to_release}
 use Rattle.iss_model.specs.rules.Stepping.{entries_of}
 use Rattle.iss_model.specs.state.Cores.{CoreState, core_facts}
 use Rattle.iss_model.proofs.Lists.{find_passes}
 use Rattle.iss_acts.specs.Causes.{Cause, ComesOf, FallsDue}
 use Rattle.iss_acts.specs.Sources.{IsAskedCall, IsMade, IsOwnAsk, IsSettledAsk, IsTxnOf}
 use Rattle.iss_acts.specs.Stages.{Stage}
-use Rattle.iss_acts.proofs.Causes.{asked_at}
+use Rattle.iss_acts.proofs.Begun.{is_begun}
 use Rattle.iss_acts.proofs.Passing.{EachPasses, both_pass, either_passes, gateway_passes, none_passes, one_passes, passing, two_pass, where_passes}
 use Rattle.iss_acts.proofs.Walk.{Holds, due_holds, own_holds}
 use Rattle.iss_state.specs.InForm.{IsInForm, is_begun_at_stamp, is_entry_in_form, is_opened_at_stamp}
-use Rattle.iss_state.proofs.held.Begun.{authorization_stamp}
 
 -- each of these entries is in form
 abbrev AreFormed : List Entry → Type 0
@@ -71,8 +68,7 @@ module _ (f : Facts) (by : Cause) (at : ℕ) (timed : AreTimed f) (stamp : is_st
       (find_passes (λ (c : CallNow). nat_eq c.opened.call.0 asked.number) is_opened_at_stamp f.calls asked.its timed.calls asked.stands)
 
   own_stamp : (ask : Ask) → IsOwnAsk f by at ask → is_stamp ask.at ≡ true
-  own_stamp ask (inl first) =
-      ap is_stamp (asked_at first.token first.amount at (txn_asked f first.token first.card first.currency first.mcc first.mid at) ask first.made) ∙ stamp
+  own_stamp ask (inl first) = ap (λ (ask : Ask). is_stamp ask.at) (is_begun first).same ∙ stamp
   own_stamp ask (inr more) = ap (λ (ask : Ask). is_stamp ask.at) more.made ∙ stamp
 
   settled_stamp : (ask : Ask) → IsSettledAsk f by at ask → is_stamp ask.at ≡ true
@@ -82,8 +78,7 @@ module _ (f : Facts) (by : Cause) (at : ℕ) (timed : AreTimed f) (stamp : is_st
   act_formed : (g : Stage) (a : Act) → IsMade f by at g a → AreFormed (act_entries a)
   act_formed g (Sets i event) made = two_pass (form i made.from.0) (one_passes refl)
   act_formed g (Begins ask) made =
-      let first = made.from.1 in
-      two_pass (ap is_stamp (authorization_stamp f first.token first.card first.currency first.amount first.mcc first.mid at ask first.made) ∙ stamp) (one_passes (own_stamp ask (inl first)))
+      two_pass (ap (λ (ask : Ask). is_stamp ask.txn.at) (is_begun made.from.1).same ∙ stamp) (one_passes (own_stamp ask (inl made.from.1)))
   act_formed g (Uses ask) made = one_passes (own_stamp ask (inr made.from.1))
   act_formed g (HoldsOwn ask) made = both_pass (where_passes ask.amount (one_passes refl)) (one_passes refl)
   act_formed g (Asks h product ask) made = one_passes (own_stamp ask made.from.2)

@@ -12,7 +12,7 @@ use Rattle.iss_model.specs.declared.input.Record.{Record}
 use Rattle.iss_model.specs.Inputs.{event_token, is_event, is_text, same_contents}
 use Rattle.iss_model.specs.rules.Due.{due_items, is_quiet}
 use Rattle.iss_model.specs.rules.Facts.{Accepted, Facts, event_in, reply_in}
-use Rattle.iss_model.specs.rules.Judging.{event_answer, is_ack, judge, judgement_as, refusal, repeat_or_conflict}
+use Rattle.iss_model.specs.rules.Judging.{event_answer, is_ack, judge, judgement_as, refusal, repeat_or_conflict, token_answer}
 use Rattle.iss_model.specs.rules.Settings.{is_named_in}
 use Rattle.iss_model.specs.rules.Stepping.{after_due}
 use Rattle.iss_model.specs.state.Cores.{CoreState, core_facts, core_keeper, with_record}
@@ -63,28 +63,12 @@ told_none f i token (Some first) h = by (same_contents first.input i) h
     by true h = cc
     by false h = cc
 
-its_event : (g : Facts) (i : Input) (token event : List ℕ) → Some token ≡ Some event → event_answer g i token ≡ event_answer g i event
-its_event g i token event e = let same : token ≡ event = cc in ap (event_answer g i) same
-
 -- an input with an event is refused by its event alone
 pub refused_by_event : (quiet : Bool) (f g : Facts) (i : Input) (token : List ℕ) → event_token i ≡ Some token → refusal quiet f g i ≡ event_answer g i token
-refused_by_event quiet f g (input.User token user) event e = its_event g (input.User token user) token event e
-refused_by_event quiet f g (input.Card token card user product active) event e = its_event g (input.Card token card user product active) token event e
-refused_by_event quiet f g (input.Move token who) event e = its_event g (input.Move token who) token event e
-refused_by_event quiet f g (input.Product token product currency funding timeout_ms hold_ms) event e = its_event g (input.Product token product currency funding timeout_ms hold_ms) token event e
-refused_by_event quiet f g (input.Group token group mccs) event e = its_event g (input.Group token group mccs) token event e
-refused_by_event quiet f g (input.Control token control currency window amount_limit usage_limit association scope active) event e = its_event g (input.Control token control currency window amount_limit usage_limit association scope active) token event e
-refused_by_event quiet f g (input.Set token set product currency connection timeout application max day_limit active) event e = its_event g (input.Set token set product currency connection timeout application max day_limit active) token event e
-refused_by_event quiet f g (input.Switch token product on) event e = its_event g (input.Switch token product on) token event e
-refused_by_event quiet f g (input.Load token user currency amount) event e = its_event g (input.Load token user currency amount) token event e
-refused_by_event quiet f g (input.Authorization token card currency amount mcc mid) event e = its_event g (input.Authorization token card currency amount mcc mid) token event e
-refused_by_event quiet f g (input.Increment token txn currency amount) event e = its_event g (input.Increment token txn currency amount) token event e
-refused_by_event quiet f g (input.Reversal token txn currency amount) event e = its_event g (input.Reversal token txn currency amount) token event e
-refused_by_event quiet f g (input.Clearing token txn currency amount last) event e = its_event g (input.Clearing token txn currency amount last) token event e
-refused_by_event quiet f g (input.Refund token txn currency amount) event e = its_event g (input.Refund token txn currency amount) token event e
-refused_by_event quiet f g (input.Answer call outcome) event e = cc
-refused_by_event quiet f g (input.Ack notice) event e = cc
-refused_by_event quiet f g input.Time event e = cc
+refused_by_event quiet f g (input.Answer call outcome) token e = cc
+refused_by_event quiet f g (input.Ack notice) token e = cc
+refused_by_event quiet f g input.Time token e = cc
+refused_by_event quiet f g i token e = ap (token_answer g i) e
 
 -- the event of a record that is judged new wasn't accepted before
 pub judged_new : (s : CoreState) (r : Record) → judge core_keeper s r.input r.at ≡ judged.New r → IsNewEvent s r.input

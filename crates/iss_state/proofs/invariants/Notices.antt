@@ -1,6 +1,6 @@
 -- The notices that acts make are numbered one by one, from the next number on.
 use Rattle.std.specs.Prelude.{None, Option, Some}
-use Rattle.std.proofs.Common.{Bool, List, [], append_assoc, arith, cond, false, length, min, nat_eq, not, refl, subst, suc, sym, true, ℕ, ◌&&◌, ◌++◌, ◌+◌, ◌-◌, ◌||◌, ◌∷◌, ◌≡◌}
+use Rattle.std.proofs.Common.{Bool, List, [], append_assoc, arith, cond, false, length, min, nat_eq, refl, subst, suc, sym, true, ℕ, ◌&&◌, ◌++◌, ◌+◌, ◌-◌, ◌||◌, ◌∷◌, ◌≡◌}
 use Rattle.std.specs.List.{list_all}
 use Rattle.iss_model.specs.declared.account.Account.TheVariants as account
 use Rattle.iss_model.specs.declared.account.Part.TheVariants as part
@@ -14,7 +14,6 @@ use Rattle.iss_model.specs.declared.decision.Verdict.TheVariants as verdict
 use Rattle.iss_model.specs.declared.entry.Entry.{Entry}
 use Rattle.iss_model.specs.declared.entry.Entry.TheVariants as entry
 use Rattle.iss_model.specs.declared.input.Input.{Input}
-use Rattle.iss_model.specs.declared.input.Input.TheVariants as input
 use Rattle.iss_model.specs.declared.input.Outcome.{Outcome}
 use Rattle.iss_model.specs.declared.input.Outcome.TheVariants as outcome
 use Rattle.iss_model.specs.declared.setting.Product.{Product}
@@ -23,18 +22,20 @@ use Rattle.iss_model.specs.declared.txn.Txn.{Txn}
 use Rattle.iss_model.specs.rules.Activity.{CallNow, TxnNow, is_asked}
 use Rattle.iss_model.specs.rules.Acts.{Abandons, Acknowledges, Act, Asks, Clears, Does, Ends, Fails, GivesBack, HoldsOwn, LetsGo, News, StandsIn, Tells, act_entries, captured, entries_of_acts, expired, refunded, reversed}
 use Rattle.iss_model.specs.rules.Asks.{Ask, call_ask}
-use Rattle.iss_model.specs.rules.CardActs.{acts_for_gateway, acts_of_asked, acts_of_txn, acts_where, after_clearing_acts, authorization_acts, clearing_acts, end_acts, failed_acts, funding_acts, gateway_acts, increment_acts, outcome_acts, refund_acts, reversal_acts, stand_acts}
-use Rattle.iss_model.specs.rules.CardReasons.{authorization_reason, clearing_reason, increment_reason, is_account_funded, refund_reason, reversal_reason}
+use Rattle.iss_model.specs.rules.CardActs.{acts_for_gateway, acts_of_asked, acts_of_txn, acts_where, after_clearing_acts, authorization_acts, clearing_acts, failed_acts, funding_acts, gateway_acts, outcome_acts, refund_acts, reversal_acts, stand_acts}
+use Rattle.iss_model.specs.rules.CardReasons.{further_ask, is_account_funded}
 use Rattle.iss_model.specs.rules.Due.{DueThing, call_due, expiry_acts, live_expiry_acts, thing_acts, thing_entries, txn_due}
 use Rattle.iss_model.specs.rules.Facts.{Facts, asked_calls_of, call_in, is_notice, next_notice, txn_in}
 use Rattle.iss_model.specs.rules.Pieces.{Parts, abandoned_calls_entries, hold_entries, in_all, left_of, notice_after_abandonment, notice_entry, owed_to_programme, parts_held, post_entries, taken_to_clear, user_account}
-use Rattle.iss_model.specs.rules.Reasons.{card_reason, control_reason, group_reason, load_reason, move_reason, product_reason, set_reason, switch_reason, user_reason}
 use Rattle.iss_model.specs.rules.Settings.{is_named_in, product_named}
 use Rattle.iss_model.specs.rules.StandIns.{Stand, allowed, over_limit, stand, uncovered}
-use Rattle.iss_model.specs.rules.Stepping.{acts_of, acts_unless, authorization_ask, entries_of, increment_ask}
+use Rattle.iss_model.specs.rules.Stepping.{acts_of, entries_of}
+use Rattle.iss_model.proofs.Lists.{neither}
 use Rattle.iss_acts.specs.Items.{Item, StandTelling, Telling, Voiding, has_item, item_entry, may_tell, may_tell_stand_in, may_void}
+use Rattle.iss_acts.proofs.ByKind.{EachKind, walk}
 use Rattle.iss_acts.proofs.Passing.{EachPasses, act_passes, both_pass, one_passes, where_passes}
 use Rattle.iss_state.specs.Numbers.{AreNumberedFrom}
+use Rattle.iss_state.proofs.docket.Lists.{not_both}
 
 -- entries without a notice ----
 
@@ -42,30 +43,16 @@ abbrev is_silent : Entry → Bool
 is_silent (entry.Notice notice) = false
 is_silent _ = true
 
--- an act makes no notice
-abbrev is_silent_act : Act → Bool
-is_silent_act a = not (may_void a || may_tell_stand_in a || may_tell a)
+-- an act may make a notice
+abbrev may_notify : Act → Bool
+may_notify a = may_void a || may_tell_stand_in a || may_tell a
 
-silent_item : (a : Act) → is_silent_act a ≡ true → (x : Item) → has_item a x ≡ true → is_silent (item_entry x) ≡ true
-silent_item a h (Voiding number t o) may = none (may_void a) (may_tell_stand_in a) (may_tell a) may h
-  where
-    none : (b c d : Bool) → b ≡ true → not (b || c || d) ≡ true → false ≡ true
-    none true c d e h = h
-    none false c d e h = e
-silent_item a h (StandTelling number t amount) may = none (may_void a) (may_tell_stand_in a) (may_tell a) may h
-  where
-    none : (b c d : Bool) → c ≡ true → not (b || c || d) ≡ true → false ≡ true
-    none true c d e h = h
-    none false true d e h = h
-    none false false d e h = e
-silent_item a h (Telling number news t amount gateway) may = none (may_void a) (may_tell_stand_in a) (may_tell a) may h
-  where
-    none : (b c d : Bool) → d ≡ true → not (b || c || d) ≡ true → false ≡ true
-    none b c false e h = e
-    none true c true e h = h
-    none false true true e h = h
-    none false false true e h = h
-silent_item a h _ may = refl
+silent_item : (a : Act) → may_notify a ≡ false → (x : Item) → has_item a x ≡ true → is_silent (item_entry x) ≡ true
+silent_item a none (Voiding number t o) may = not_both (may_void a) may (neither (may_void a) (may_tell_stand_in a) (neither (may_void a || may_tell_stand_in a) (may_tell a) none).0).0
+silent_item a none (StandTelling number t amount) may =
+    not_both (may_tell_stand_in a) may (neither (may_void a) (may_tell_stand_in a) (neither (may_void a || may_tell_stand_in a) (may_tell a) none).0).1
+silent_item a none (Telling number news t amount gateway) may = not_both (may_tell a) may (neither (may_void a || may_tell_stand_in a) (may_tell a) none).1
+silent_item a none _ may = refl
 
 -- if no notice goes before, the numbers go on
 silent_then : (n : ℕ) (xs ys : List Entry) → EachPasses is_silent xs → AreNumberedFrom n ys → AreNumberedFrom n (xs ++ ys)
@@ -172,10 +159,6 @@ thing_numbered f thing at = in_turn (next_notice f) (thing_acts thing at f) (tur
     turn (call_due number) = asked_turn (next_notice f) (λ (o : Opened) (t : Txn). failed_acts f o t failure.Timeout at) (λ o t. failed_turn f o t failure.Timeout at) (call_in f number) f
     turn (txn_due token) = live_expiry_turn f (txn_in f token)
 
-unless_turn : (n : ℕ) (why : Option Reason) (token : List ℕ) (acts : List Act) → AreInTurn n acts → AreInTurn n (acts_unless why token acts)
-unless_turn n None token acts h = h
-unless_turn n (Some why) token acts h = (tt, tt)
-
 funding_turn : (f : Facts) (ask : Ask) → AreInTurn (next_notice f) (funding_acts f ask)
 funding_turn f ask = by (is_account_funded ask.txn.funding) (product_named ask.txn.product f.products)
   where
@@ -192,13 +175,8 @@ authorization_turn : (f : Facts) (ask : Option Ask) → AreInTurn (next_notice f
 authorization_turn f None = tt
 authorization_turn f (Some ask) = (tt, funding_turn f ask)
 
-increment_turn : (f : Facts) (ask : Option Ask) → AreInTurn (next_notice f) (increment_acts f ask)
-increment_turn f None = tt
-increment_turn f (Some ask) = (tt, funding_turn f ask)
-
-reversal_turn : (f : Facts) (token : List ℕ) (amount : ℕ) (now : Option TxnNow) → AreInTurn (next_notice f) (reversal_acts f token amount now)
-reversal_turn f token amount None = tt
-reversal_turn f token amount (Some now) =
+reversal_turn : (f : Facts) (token : List ℕ) (amount : ℕ) (now : TxnNow) → AreInTurn (next_notice f) (reversal_acts f token amount (Some now))
+reversal_turn f token amount now =
     does_then (next_notice f)
     (Abandons (next_notice f) now.txn reason.Reversed (asked_calls_of f now.txn.token) (parts_held f now.txn) ∷ LetsGo now.txn (parts_held f now.txn) freed
     ∷ cond (nat_eq freed (in_all (parts_held f now.txn))) (Ends now.txn ∷ []) []
@@ -222,46 +200,37 @@ after_clearing_turn : (f : Facts) (t : Txn) (rest : Parts) (amount : ℕ) (ends 
 after_clearing_turn f t rest amount true = (refl, (tt, (tt, told_turn (notice_after_abandonment (next_notice f) f t) (is_account_funded t.funding) false captured t amount rest.g)))
 after_clearing_turn f t rest amount false = told_turn (next_notice f) (is_account_funded t.funding) false captured t amount 0
 
-clearing_turn : (f : Facts) (token : List ℕ) (amount : ℕ) (last : Bool) (at : ℕ) (now : Option TxnNow) → AreInTurn (next_notice f) (clearing_acts f token amount last at now)
-clearing_turn f token amount last at None = tt
-clearing_turn f token amount last at (Some now) =
+clearing_turn : (f : Facts) (token : List ℕ) (amount : ℕ) (last : Bool) (at : ℕ) (now : TxnNow) → AreInTurn (next_notice f) (clearing_acts f token amount last at (Some now))
+clearing_turn f token amount last at now =
     let rest = left_of (parts_held f now.txn) (taken_to_clear (parts_held f now.txn) amount) in
     let ends = now.live && (last || nat_eq (in_all rest) 0) in
     does_then (next_notice f) (Clears now.txn (parts_held f now.txn) amount at ∷ after_clearing_acts f now.txn rest amount ends) token (tt, after_clearing_turn f now.txn rest amount ends)
 
-refund_turn : (f : Facts) (token : List ℕ) (amount : ℕ) (now : Option TxnNow) → AreInTurn (next_notice f) (refund_acts f token amount now)
-refund_turn f token amount None = tt
-refund_turn f token amount (Some now) =
+refund_turn : (f : Facts) (token : List ℕ) (amount : ℕ) (now : TxnNow) → AreInTurn (next_notice f) (refund_acts f token amount (Some now))
+refund_turn f token amount now =
     let programme = min amount (owed_to_programme f now.txn) in
     does_then (next_notice f) (GivesBack now.txn amount programme ∷ acts_for_gateway now.txn (Tells (next_notice f) refunded now.txn amount (amount - programme) ∷ [])) token
     (tt, told_turn (next_notice f) (is_account_funded now.txn.funding) false refunded now.txn amount (amount - programme))
 
-own_turn : (f : Facts) (i : Input) (at : ℕ) → AreInTurn (next_notice f) (acts_of i at f)
-own_turn f (input.User token user) at = unless_turn _ (user_reason f user) token _ (tt, tt)
-own_turn f (input.Card token card user product active) at = unless_turn _ (card_reason f card user product) token _ (tt, tt)
-own_turn f (input.Move token who) at = unless_turn _ (move_reason f who) token _ (tt, tt)
-own_turn f (input.Product token product currency funding timeout_ms hold_ms) at = unless_turn _ (product_reason f product) token _ (tt, tt)
-own_turn f (input.Group token group mccs) at = unless_turn _ (group_reason f group) token _ (tt, tt)
-own_turn f (input.Control token control currency window amount_limit usage_limit association scope active) at = unless_turn _ (control_reason f control currency window association scope) token _ (tt, tt)
-own_turn f (input.Set token set product currency connection timeout application max day_limit active) at = unless_turn _ (set_reason f set product currency) token _ (tt, tt)
-own_turn f (input.Switch token product on) at = unless_turn _ (switch_reason f product) token _ (tt, tt)
-own_turn f (input.Load token user currency amount) at = unless_turn _ (load_reason f user) token _ (tt, tt)
-own_turn f (input.Authorization token card currency amount mcc mid) at =
-    let ask = authorization_ask f token card currency amount mcc mid at in
-    unless_turn _ (authorization_reason f card currency ask) token _ (authorization_turn f ask)
-own_turn f (input.Increment token txn currency amount) at =
-    let ask = increment_ask f token txn amount at in
-    unless_turn _ (increment_reason f (txn_in f txn) currency ask) token _ (increment_turn f ask)
-own_turn f (input.Reversal token txn currency amount) at = unless_turn _ (reversal_reason (txn_in f txn) currency) token _ (reversal_turn f token amount (txn_in f txn))
-own_turn f (input.Clearing token txn currency amount last) at = unless_turn _ (clearing_reason (txn_in f txn) currency) token _ (clearing_turn f token amount last at (txn_in f txn))
-own_turn f (input.Refund token txn currency amount) at = unless_turn _ (refund_reason f (txn_in f txn) currency amount) token _ (refund_turn f token amount (txn_in f txn))
-own_turn f (input.Answer call what) at = asked_turn _ (λ (o : Opened) (t : Txn). outcome_acts what f o t at) (λ o t. outcome_turn what f o t at) (call_in f call.0) f
-own_turn f (input.Ack notice) at = by (is_notice f notice)
-  where
-    by : (b : Bool) → AreInTurn (next_notice f) (cond b (Acknowledges notice ∷ []) [])
-    by true = (tt, tt)
-    by false = tt
-own_turn f input.Time at = tt
+acknowledgement_turn : (n notice : ℕ) (b : Bool) → AreInTurn n (cond b (Acknowledges notice ∷ []) [])
+acknowledgement_turn n notice true = (tt, tt)
+acknowledgement_turn n notice false = tt
+
+kinds_turn : (f : Facts) (at : ℕ) → EachKind (λ i acts. AreInTurn (next_notice f) acts) f at
+kinds_turn f at =
+    record {
+      declined = λ i token why its. (tt, tt);
+      setting = λ i token its none. (tt, tt);
+      load = λ token user currency amount. (tt, tt);
+      authorization = λ token card currency amount mcc mid ask made none. authorization_turn f ask;
+      increment = λ token txn currency amount now stands none. (tt, funding_turn f (further_ask token amount at now.txn));
+      reversal = λ token txn currency amount now stands none. reversal_turn f token amount now;
+      clearing = λ token txn currency amount last now stands none. clearing_turn f token amount last at now;
+      refund = λ token txn currency amount now stands none. refund_turn f token amount now;
+      answer = λ call what. asked_turn (next_notice f) (λ (o : Opened) (t : Txn). outcome_acts what f o t at) (λ o t. outcome_turn what f o t at) (call_in f call.0) f;
+      acknowledgement = λ notice. acknowledgement_turn (next_notice f) notice (is_notice f notice);
+      time = tt;
+    }
 
 pub own_numbered : (f : Facts) (i : Input) (at : ℕ) → AreNumberedFrom (next_notice f) (entries_of i at f)
-own_numbered f i at = in_turn (next_notice f) (acts_of i at f) (own_turn f i at)
+own_numbered f i at = in_turn (next_notice f) (acts_of i at f) (walk (kinds_turn f at) i)

@@ -1,46 +1,46 @@
 -- A record's own entries are paid by what a record brings, so they can be entered.
-use Rattle.std.specs.Prelude.{None, Option, Some, option_and_then, option_map}
-use Rattle.std.proofs.Common.{Bool, List, [], ap, arith, cond, false, find, fold, length, map, nat_le, nat_lt, refl, suc, sym, true, zero, ℕ, ◌++◌, ◌+◌, ◌∙◌, ◌∷◌, ◌≡◌, ◌≤◌}
+use Rattle.std.specs.Prelude.{None, Some}
+use Rattle.std.proofs.Common.{Bool, List, [], ap, arith, cond, find, fold, map, nat_le, nat_lt, pos, refl, subst, suc, sym, true, false, zero, ℕ, ◌*◌, ◌++◌, ◌+◌, ◌∙◌, ◌∷◌, ◌≡◌, ◌≤◌}
 use Rattle.std.specs.List.{list_all}
 use Rattle.std.specs.Str.{bytes_eq}
 use Rattle.std.proofs.lemmas.Bool.{and_parts}
 use Rattle.std.proofs.lemmas.Bool.Decides.{nat_tests}
-use Rattle.iss_model.specs.declared.currency.Currency.{Currency}
-use Rattle.iss_model.specs.declared.decision.Reason.{Reason}
-use Rattle.iss_model.specs.declared.decision.Verdict.TheVariants as verdict
 use Rattle.iss_model.specs.declared.entry.Entry.{Entry}
 use Rattle.iss_model.specs.declared.entry.Entry.TheVariants as entry
 use Rattle.iss_model.specs.declared.input.Input.{Input}
+use Rattle.iss_model.specs.declared.input.Input.TheVariants as input
 use Rattle.iss_model.specs.declared.limits.TheConstants.{GREATEST_AMOUNT, LEAST_AMOUNT}
-use Rattle.iss_model.specs.declared.setting.Card.{Card}
-use Rattle.iss_model.specs.declared.setting.Product.{Product}
 use Rattle.iss_model.specs.declared.txn.Txn.{Txn}
 use Rattle.iss_model.specs.Forms.{is_amount, is_in_form, is_mcc}
-use Rattle.iss_model.specs.rules.Activity.{TxnNow, txn_named}
-use Rattle.iss_model.specs.rules.Asks.{Ask, ask_usage, txn_begun}
-use Rattle.iss_acts.specs.Rows.{authorization_entries, clearing_entries, funding_entries, increment_entries, refund_entries, reversal_entries, unless_declined}
-use Rattle.iss_model.specs.rules.CardReasons.{authorization_reason, clearing_reason, first_ask, further_ask, increment_reason, refund_reason, reversal_reason, txn_asked}
-use Rattle.iss_model.specs.rules.Facts.{Facts, is_notice}
-use Rattle.iss_model.specs.rules.Reasons.{load_reason}
-use Rattle.iss_model.specs.rules.Settings.{card_named, is_named_in, product_named}
+use Rattle.iss_model.specs.Inputs.{event_token}
+use Rattle.iss_model.specs.rules.Activity.{TxnNow}
+use Rattle.iss_model.specs.rules.Acts.{Act, Begins, act_entries}
+use Rattle.iss_model.specs.rules.Asks.{Ask, ask_count, ask_usage}
+use Rattle.iss_model.specs.rules.Settings.{is_named_in}
 use Rattle.iss_model.specs.rules.Stepping.{entries_of}
-use Rattle.iss_model.specs.rules.Pieces.{load_entries, setting_entries}
 use Rattle.iss_model.specs.state.Cores.{CoreState, after_entry, core_facts, is_live}
 use Rattle.iss_model.proofs.Lists.{neither}
 use Rattle.iss_model.proofs.Names.{its_name}
-use Rattle.iss_state.specs.Effects.{Paid}
-use Rattle.iss_state.specs.Needs.{Stands, begun_txns, setting_reason}
-use Rattle.iss_state.specs.Stakes.{IsOrderlyState, at_least_one, txn_tokens}
-use Rattle.iss_state.proofs.effects.Effects.{and_then, calm_effect, still_effect}
-use Rattle.iss_state.proofs.effects.Paid.{costs, nothing_paid, paid_more, still_paid}
-use Rattle.iss_state.proofs.effects.Reach.{sums_within_more}
+use Rattle.iss_acts.specs.Causes.{ComesOf}
+use Rattle.iss_acts.specs.Sources.{IsFirstAsk, IsMade, IsStart}
+use Rattle.iss_acts.specs.Stages.{Fresh, Keeps, Seeks, Stage, stage_after}
+use Rattle.iss_acts.proofs.Begun.{is_begun}
+use Rattle.iss_acts.proofs.Walk.{FromStart, Goes, own_goes}
+use Rattle.iss_state.specs.Costs.{IsPayable, input_money, input_use, money_left, use_left}
+use Rattle.iss_state.specs.Effects.{Paid, PaidByAsk}
+use Rattle.iss_state.specs.Needs.{Stands, begun_txns}
 use Rattle.iss_state.specs.Sound.{IsReady, IsSoundAt, is_accepted, reach_of, record_reach}
-use Rattle.iss_state.proofs.invariants.CardEntries.{asking_paid, clearing_paid, load_paid, refund_paid, reversal_paid, unless_paid}
-use Rattle.iss_state.proofs.invariants.DueEntries.{answer_paid, found_stands}
+use Rattle.iss_state.specs.Stakes.{at_least_one, txn_tokens}
+use Rattle.iss_state.proofs.effects.Abandonment.{one_more}
+use Rattle.iss_state.proofs.effects.Asks.{at_most_one}
+use Rattle.iss_state.proofs.effects.Effects.{and_then, no_effect, stands_then}
+use Rattle.iss_state.proofs.effects.Paid.{costs}
+use Rattle.iss_state.proofs.effects.PieceEffects.{usage_effect}
+use Rattle.iss_state.proofs.effects.Reach.{sums_within_more}
+use Rattle.iss_state.proofs.invariants.Costs.{act_spends, known_next, orderly, spends_then, start_known}
 use Rattle.iss_state.proofs.invariants.Sound.{Enters, paid_enters, sound_after_begin}
-use Rattle.iss_state.proofs.invariants.Walk.{EachKind, walk}
 
--- ---- amounts in form
+-- what an input in form brings ----
 
 most_amount : (n : ℕ) → is_amount n ≡ true → n ≤ GREATEST_AMOUNT
 most_amount n h = at_most n (and_parts (nat_le LEAST_AMOUNT n) (nat_le n GREATEST_AMOUNT) h).1
@@ -52,44 +52,25 @@ most_at_least_one : (n : ℕ) → n ≤ GREATEST_AMOUNT → at_least_one n ≤ G
 most_at_least_one zero le = omega arith
 most_at_least_one (suc n) le = omega (arith, le)
 
--- ---- what a record brings
+-- an input brings no more than a record may
+record IsBrought (i : Input) : Type 0 where
+  money : input_money i ≤ record_reach
+  usage : input_use i ≤ record_reach
 
--- entries are paid by what a record brings
-abbrev Pays : CoreState → List Entry → Type 0
-Pays s es = Paid record_reach record_reach s es
+four_times : (n : ℕ) → n ≤ GREATEST_AMOUNT → 4 * at_least_one n ≤ record_reach
+four_times n le = omega (arith, most_at_least_one n le)
 
--- an input's entries can be entered where the state is ready for it
-abbrev OwnEnters : ℕ → CoreState → Input → List Entry → Type 0
-OwnEnters n s i es = is_in_form i ≡ true → IsReady n s i → Enters (n + 1) s es
+brought : (i : Input) → is_in_form i ≡ true → IsBrought i
+brought (input.Load token user currency amount) form = record { money = omega (arith, most_amount amount form); usage = omega arith }
+brought (input.Authorization token card currency amount mcc mid) form =
+    let most = four_times amount (most_amount amount (and_parts (is_amount amount) (is_mcc mcc) form).0) in
+    record { money = most; usage = most }
+brought (input.Increment token txn currency amount) form = let most = four_times amount (most_amount amount form) in record { money = most; usage = most }
+brought (input.Clearing token txn currency amount last) form = let most = most_amount amount form in record { money = omega (arith, most); usage = omega (arith, most) }
+brought (input.Refund token txn currency amount) form = record { money = omega (arith, most_amount amount form); usage = omega arith }
+brought _ form = record { money = omega arith; usage = omega arith }
 
-brought : (n : ℕ) (s : CoreState) (es : List Entry) → Pays s es → IsSoundAt n s → Enters (n + 1) s es
-brought n s es p h = paid_enters n (n + 1) (omega arith) (omega arith) p h
-
-free : {s : CoreState} {es : List Entry} → Paid 0 0 s es → Pays s es
-free p = paid_more record_reach record_reach p (omega arith) (omega arith)
-
-setting_pays : (s : CoreState) (why : Option Reason) (token : List ℕ) (i : Input) → IsOrderlyState s → why ≡ setting_reason (core_facts s) i → Pays s (unless_declined why token (setting_entries i token))
-setting_pays s (Some why) token i h e = free (still_paid s (entry.Decided token (verdict.Declined why) ∷ []) h refl)
-setting_pays s None token i h e =
-    let first : List Entry = entry.Conf i ∷ [] in
-    let last : List Entry = entry.Decided token verdict.Done ∷ [] in
-    let e1 = calm_effect s first h (sym e, tt) refl in
-    costs record_reach record_reach (and_then e1 (still_effect (fold after_entry s first) last e1.orderly refl)) (omega arith) (omega arith)
-
-asked_pays : (s : CoreState) (f : Facts) (ask : Ask) → IsOrderlyState s → ask.amount ≤ GREATEST_AMOUNT → Stands s ask.txn → length f.calls ≡ length s.calls → Pays s (entry.Usage (ask_usage ask) ∷ funding_entries f ask)
-asked_pays s f ask h le stands same =
-    paid_more record_reach record_reach (asking_paid s f ask h stands same) (omega (arith, most_at_least_one ask.amount le)) (omega (arith, most_at_least_one ask.amount le))
-
-increment_pays : (s : CoreState) (token : List ℕ) (amount at : ℕ) (o : Option TxnNow) → IsOrderlyState s → amount ≤ GREATEST_AMOUNT → ((now : TxnNow) → o ≡ Some now → Stands s now.txn)
-    → Pays s (increment_entries (core_facts s) (option_map (λ now. further_ask token amount at now.txn) o))
-increment_pays s token amount at None h le stands = free (nothing_paid s h)
-increment_pays s token amount at (Some now) h le stands = asked_pays s (core_facts s) (further_ask token amount at now.txn) h le (stands now refl) refl
-
-acknowledgement_pays : (s : CoreState) (notice : ℕ) (b : Bool) → IsOrderlyState s → Pays s (cond b (entry.Acked notice ∷ []) [])
-acknowledgement_pays s notice true h = free (still_paid s (entry.Acked notice ∷ []) h refl)
-acknowledgement_pays s notice false h = free (nothing_paid s h)
-
--- ---- an authorisation, which alone begins a transaction
+-- an authorisation, which alone begins a transaction ----
 
 begun_stands : (txns : List TxnNow) (row : TxnNow) → is_named_in (txn_tokens txns) row.txn.token ≡ false
     → find (λ (x : Txn). bytes_eq x.token row.txn.token) (map (λ (n : TxnNow). n.txn) (txns ++ row ∷ [])) ≡ Some row.txn
@@ -102,92 +83,99 @@ begun_stands (t ∷ ts) row none =
 up_to_itself : (n : ℕ) → nat_le n n ≡ true
 up_to_itself n = grind (arith, nat_tests)
 
--- a transaction of the record's token and number
-record IsOfRecord (s : CoreState) (token : List ℕ) (t : Txn) : Type 0 where
-  named : t.token ≡ token
-  numbered : t.origin ≡ s.count
+module _ (n : ℕ) (s : CoreState) (i : Input) (at : ℕ) (form : is_in_form i ≡ true) (ready : IsReady n s i) where
+  -- a transaction begins on a sound state, which stays sound, and it stands there
+  record IsBegun (ask : Ask) : Type 0 where
+    new : is_named_in (txn_tokens s.holdings.txns) ask.txn.token ≡ false
+    its_number : ask.txn.origin ≡ s.count
+    sound : IsSoundAt n (after_entry s (entry.Began ask.txn))
+    stands : Stands (after_entry s (entry.Began ask.txn)) ask.txn
+    least : 4 * at_least_one ask.amount ≤ record_reach
 
-authorization_enters : (n : ℕ) (s : CoreState) (token : List ℕ) (amount at : ℕ) (o : Option Txn) → amount ≤ GREATEST_AMOUNT → ((t : Txn) → o ≡ Some t → IsOfRecord s token t)
-    → IsSoundAt n s → is_accepted s.accepted token ≡ true → is_named_in (txn_tokens s.holdings.txns) token ≡ false → list_all (λ t. nat_lt t.origin s.count) (begun_txns s) ≡ true
-    → Enters (n + 1) s (authorization_entries (core_facts s) (option_map (first_ask token amount at) o))
-authorization_enters n s token amount at None le its sound known unknown earlier = brought n s [] (free (nothing_paid s sound.orderly)) sound
-authorization_enters n s token amount at (Some t) le its sound known unknown earlier =
-    let ask : Ask = first_ask token amount at t in
-    let its_own = its t refl in
-    let s1 = after_entry s (entry.Began t) in
-    let new : is_named_in (txn_tokens s.holdings.txns) t.token ≡ false = ap (is_named_in (txn_tokens s.holdings.txns)) its_own.named ∙ unknown in
-    let began : IsSoundAt n s1 =
-    sound_after_begin n s t (ap (λ (c : ℕ). nat_le c s.count) its_own.numbered ∙ up_to_itself s.count) new (ap (is_accepted s.accepted) its_own.named ∙ known) sound in
-    let stands : Stands s1 t = begun_stands s.holdings.txns (record { txn = t; live = is_live s.holdings.txns t.token }) new in
-    let rest = brought n s1 (entry.Usage (ask_usage ask) ∷ funding_entries (core_facts s) ask) (asked_pays s1 (core_facts s) ask began.orderly le stands refl) began in
-    record {
-      fit = (record { unknown = new; later = ap (λ (c : ℕ). list_all (λ x. nat_lt x.origin c) (begun_txns s)) its_own.numbered ∙ earlier }, rest.fit);
-      within = (sums_within_more began.money (reach_of (n + 1)) began.used (reach_of (n + 1)) s1 (omega (arith, began.money_within)) (omega (arith, began.use_within)) began.within, rest.within);
-      sound = rest.sound;
-    }
+  begun : (ask : Ask) → IsFirstAsk (core_facts s) (ComesOf i) at ask → IsBegun ask
+  begun ask first =
+      let its = is_begun first in
+      let named : ask.txn.token ≡ first.token = ap (λ (ask : Ask). ask.txn.token) its.same in
+      let numbered : ask.txn.origin ≡ s.count = ap (λ (ask : Ask). ask.txn.origin) its.same in
+      let own : i ≡ input.Authorization first.token first.card first.currency first.amount first.mcc first.mid = inside first.its_input in
+      let event : event_token i ≡ Some first.token = ap event_token own in
+      let new = ap (is_named_in (txn_tokens s.holdings.txns)) named ∙ ready.unnamed first.token event in
+      record {
+        new = new;
+        its_number = numbered;
+        sound =
+            sound_after_begin n s ask.txn (ap (λ (c : ℕ). nat_le c s.count) numbered ∙ up_to_itself s.count) new
+            (ap (is_accepted s.accepted) named ∙ ready.accepted first.token event) ready.sound;
+        stands = begun_stands s.holdings.txns (record { txn = ask.txn; live = is_live s.holdings.txns ask.txn.token }) new;
+        least = subst (λ (m : ℕ). 4 * at_least_one m ≤ record_reach) (sym (ap (λ (ask : Ask). ask.amount) its.same)) (subst (λ (m : ℕ). m ≤ record_reach) (ap input_money own) (brought i form).money);
+      }
+    where
+      inside : {j : Input} → ComesOf i ≡ ComesOf j → i ≡ j
+      inside e = cc
 
-asked_txn : (s : CoreState) (token : List ℕ) (currency : Currency) (mcc : ℕ) (mid : List ℕ) (at : ℕ) (c : Option Card) (product_of : Card → Option Product) (t : Txn)
-    → option_and_then (λ (c : Card). option_map (λ (product : Product). txn_begun (core_facts s) c product token currency mcc mid at) (product_of c)) c ≡ Some t → IsOfRecord s token t
-asked_txn s token currency mcc mid at None product_of t e = absurd (let bad : None ≡ Some t = e in cc)
-asked_txn s token currency mcc mid at (Some c) product_of t e = by (product_of c) e
-  where
-    by : (p : Option Product) → option_map (λ (product : Product). txn_begun (core_facts s) c product token currency mcc mid at) p ≡ Some t → IsOfRecord s token t
-    by None e = absurd (let bad : None ≡ Some t = e in cc)
-    by (Some product) e =
-        let same : txn_begun (core_facts s) c product token currency mcc mid at ≡ t = cc in
-        record { named = ap (λ (t : Txn). t.token) (sym same); numbered = ap (λ (t : Txn). t.origin) (sym same) }
+  -- use is counted, and an ask is paid
+  begun_enters : (ask : Ask) (es : List Entry) → IsBegun ask → PaidByAsk ask.amount (fold after_entry s (act_entries (Begins ask))) es → Enters (n + 1) s (act_entries (Begins ask) ++ es)
+  begun_enters ask es its p =
+      let s1 = after_entry s (entry.Began ask.txn) in
+      let e1 = usage_effect s1 ask.txn (pos ask.amount) (ask_count ask) ask.at its.sound.orderly its.stands in
+      let paid : Paid record_reach record_reach s1 (entry.Usage (ask_usage ask) ∷ es) =
+      costs record_reach record_reach (and_then e1 p.effect) (omega (arith, p.money, its.least)) (omega (arith, p.usage, its.least, at_most_one ask.is_first, one_more ask.amount)) in
+      let rest = paid_enters n (n + 1) (omega arith) (omega arith) paid its.sound in
+      record {
+        fit = (record { unknown = its.new; later = ap (λ (c : ℕ). list_all (λ x. nat_lt x.origin c) (begun_txns s)) its.its_number ∙ ready.earlier }, rest.fit);
+        within = (sums_within_more its.sound.money (reach_of (n + 1)) its.sound.used (reach_of (n + 1)) s1 (omega (arith, its.sound.money_within)) (omega (arith, its.sound.use_within)) its.sound.within, rest.within);
+        sound = rest.sound;
+      }
 
-unless_enters : (n : ℕ) (s : CoreState) (why : Option Reason) (token : List ℕ) (es : List Entry) → IsSoundAt n s → Enters (n + 1) s es → Enters (n + 1) s (unless_declined why token es)
-unless_enters n s None token es h enters = enters
-unless_enters n s (Some why) token es h enters =
-    let declined : List Entry = entry.Decided token (verdict.Declined why) ∷ [] in
-    brought n s declined (free (still_paid s declined h.orderly refl)) h
+  begun_known : (ask : Ask) → IsBegun ask → IsPayable s (Seeks ask) (fold after_entry s (act_entries (Begins ask)))
+  begun_known ask its =
+      let e1 = usage_effect (after_entry s (entry.Began ask.txn)) ask.txn (pos ask.amount) (ask_count ask) ask.at its.sound.orderly its.stands in
+      (e1.orderly, stands_then ask.txn e1 its.stands, refl)
 
--- ---- all kinds
+  -- each row ----
 
-kinds_enter : (n : ℕ) (s : CoreState) (at : ℕ) → EachKind (OwnEnters n s) (core_facts s) at
-kinds_enter n s at =
-    let f = core_facts s in
-    record {
-      setting = λ i token why named same form ready. brought n s _ (setting_pays s why token i ready.sound.orderly same) ready.sound;
-      load = λ token user currency amount form ready.
-          let es = load_entries token user currency amount in
-          let pays : Pays s es = paid_more record_reach record_reach (load_paid s token user currency amount ready.sound.orderly) (omega (arith, most_amount amount form)) (omega arith) in
-          brought n s _ (unless_paid record_reach record_reach s (load_reason f user) token es ready.sound.orderly pays) ready.sound;
-      authorization = λ token card currency amount mcc mid form ready.
-          let o = txn_asked f token card currency mcc mid at in
-          let ask = option_map (first_ask token amount at) o in
-          unless_enters n s (authorization_reason f card currency ask) token (authorization_entries f ask) ready.sound
-          (authorization_enters n s token amount at o (most_amount amount (and_parts (is_amount amount) (is_mcc mcc) form).0)
-          (λ t e. asked_txn s token currency mcc mid at (card_named card f.cards) (λ (c : Card). product_named c.product f.products) t e)
-          ready.sound (ready.accepted token refl) (ready.unnamed token refl) ready.earlier);
-      increment = λ token txn currency amount form ready.
-          let o = txn_named txn s.holdings.txns in
-          let ask = option_map (λ (now : TxnNow). further_ask token amount at now.txn) o in
-          brought n s _
-          (unless_paid record_reach record_reach s (increment_reason f o currency ask) token (increment_entries f ask) ready.sound.orderly
-          (increment_pays s token amount at o ready.sound.orderly (most_amount amount form) (found_stands s txn))) ready.sound;
-      reversal = λ token txn currency amount form ready.
-          let o = txn_named txn s.holdings.txns in
-          brought n s _
-          (unless_paid record_reach record_reach s (reversal_reason o currency) token (reversal_entries f token amount o) ready.sound.orderly
-          (free (reversal_paid s token amount o ready.sound.orderly (found_stands s txn)))) ready.sound;
-      clearing = λ token txn currency amount last form ready.
-          let o = txn_named txn s.holdings.txns in
-          let most = most_amount amount form in
-          brought n s _
-          (unless_paid record_reach record_reach s (clearing_reason o currency) token (clearing_entries f token amount last at o) ready.sound.orderly
-          (paid_more record_reach record_reach (clearing_paid s token amount last at o ready.sound.orderly (found_stands s txn)) (omega (arith, most)) (omega (arith, most)))) ready.sound;
-      refund = λ token txn currency amount form ready.
-          let o = txn_named txn s.holdings.txns in
-          brought n s _
-          (unless_paid record_reach record_reach s (refund_reason f o currency amount) token (refund_entries f token amount o) ready.sound.orderly
-          (paid_more record_reach record_reach (refund_paid s f token amount o ready.sound.orderly (found_stands s txn)) (omega (arith, most_amount amount form)) (omega arith))) ready.sound;
-      answer = λ call what form ready. brought n s _ (free (answer_paid s call what at ready.sound.orderly)) ready.sound;
-      acknowledgement = λ notice form ready. brought n s _ (acknowledgement_pays s notice (is_notice f notice) ready.sound.orderly) ready.sound;
-      time = λ form ready. brought n s [] (free (nothing_paid s ready.sound.orderly)) ready.sound;
-    }
+  -- at first entries can be entered, and later they are paid
+  abbrev Comes : Stage → CoreState → List Entry → Type 0
+  Comes Fresh q es = Enters (n + 1) q es
+  Comes g q es = Paid (money_left (ComesOf i) g) (use_left (ComesOf i) g) q es
+
+  paid_comes : (g : Stage) (q : CoreState) (es : List Entry) → IsPayable s g q → Paid (money_left (ComesOf i) g) (use_left (ComesOf i) g) q es → Comes g q es
+  paid_comes Fresh q es known p = paid_enters n (n + 1) (omega (arith, (brought i form).money)) (omega (arith, (brought i form).usage)) p (subst (IsSoundAt n) (sym known) ready.sound)
+  paid_comes (Keeps t parts) q es known p = p
+  paid_comes _ q es known p = p
+
+  next : (g : Stage) (q : CoreState) (a : Act) → IsMade (core_facts s) (ComesOf i) at g a → IsPayable s g q → IsPayable s (stage_after g a) (fold after_entry q (act_entries a))
+  next g q (Begins ask) made known =
+      let same : q ≡ s = subst (λ (g : Stage). IsPayable s g q) made.from.0 known in
+      subst (λ (q : CoreState). IsPayable s (Seeks ask) (fold after_entry q (act_entries (Begins ask)))) (sym same) (begun_known ask (begun ask made.from.1))
+  next g q a made known = known_next (ComesOf i) at s ready.sound.orderly g q a made refl known
+
+  then_comes : (g : Stage) (q : CoreState) (a : Act) (es : List Entry) → IsMade (core_facts s) (ComesOf i) at g a → IsPayable s g q → Comes (stage_after g a) (fold after_entry q (act_entries a)) es
+      → Comes g q (act_entries a ++ es)
+  then_comes g q (Begins ask) es made known rest =
+      let same : q ≡ s = subst (λ (g : Stage). IsPayable s g q) made.from.0 known in
+      subst (λ (g : Stage). Comes g q (act_entries (Begins ask) ++ es)) (sym made.from.0)
+      (subst (λ (q : CoreState). Enters (n + 1) q (act_entries (Begins ask) ++ es)) (sym same)
+      (begun_enters ask es (begun ask made.from.1) (subst (λ (q : CoreState). PaidByAsk ask.amount (fold after_entry q (act_entries (Begins ask))) es) same rest)))
+  then_comes g q a es made known rest = paid_comes g q (act_entries a ++ es) known (spends_then a (act_spends (ComesOf i) at s ready.sound.orderly g q a made refl known) rest)
+
+  all_come : Goes (fold after_entry) (core_facts s) (ComesOf i) at (IsPayable s) Comes
+  all_come =
+      record {
+        none = λ g q known. paid_comes g q [] known (costs (money_left (ComesOf i) g) (use_left (ComesOf i) g) (no_effect q (orderly (ComesOf i) at s ready.sound.orderly g q known)) (omega arith) (omega arith));
+        next = next;
+        then = then_comes;
+      }
+
+  row_enters : {es : List Entry} → FromStart (core_facts s) Comes s es → Enters (n + 1) s es
+  row_enters {es} row = enters row.first row.starts row.holds
+    where
+      enters : (g : Stage) → IsStart (core_facts s) g → Comes g s es → Enters (n + 1) s es
+      enters Fresh starts comes = comes
+      enters (Keeps t parts) starts comes = paid_enters n (n + 1) (omega arith) (omega arith) comes ready.sound
+      enters _ starts comes = elim starts [ ]
 
 -- a record's own entries can be entered
 pub own_enters : (n : ℕ) (s : CoreState) (i : Input) (at : ℕ) → is_in_form i ≡ true → IsReady n s i → Enters (n + 1) s (entries_of i at (core_facts s))
-own_enters n s i at form ready = walk (kinds_enter n s at) i form ready
+own_enters n s i at form ready =
+    row_enters n s i at form ready (own_goes (core_facts s) i at s (all_come n s i at form ready) (start_known (ComesOf i) at s ready.sound.orderly))

@@ -6,7 +6,7 @@ use Rattle.iss_model.specs.rules.Stepping.{after_due, settle}
 use Rattle.iss_model.specs.state.Cores.{CoreState, after_entry, core_facts, core_keeper}
 use Rattle.iss_state.specs.Needs.{begun_txns}
 use Rattle.iss_state.specs.Sound.{IsSoundAt}
-use Rattle.iss_state.proofs.invariants.DueEntries.{thing_paid}
+use Rattle.iss_state.proofs.invariants.Costs.{thing_paid}
 use Rattle.iss_state.proofs.invariants.Kept.{entries_accepted, entries_count}
 use Rattle.iss_state.proofs.invariants.Sound.{Enters, paid_enters}
 
