@@ -27,10 +27,6 @@ either : (b : Bool) (o : Option ℕ) → o ≡ None → cond b o None ≡ None
 either true o h = h
 either false o h = refl
 
--- more digits never make it a limit again
-pub stays_great : (n : ℕ) (ds : List ℕ) → 1000000000000 < n → limit_after n ds ≡ None
-stays_great n ds h = either (list_all is_digit ds) _ (value_above n ds h)
-
 more_digits : (units : List ℕ) (ds : List ℕ) → 1000000000000 < digits_value units → if_form is_limit (digits_value (units ++ ds)) ≡ None
 more_digits units ds h = ap (if_form is_limit) (fold-append _ 0 units ds) ∙ value_above (digits_value units) ds h
 
