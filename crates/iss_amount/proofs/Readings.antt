@@ -7,7 +7,7 @@ use Rattle.iss_model.specs.declared.currency.Currency.{Currency}
 use Rattle.iss_model.specs.Forms.{is_limit, is_amount}
 use Rattle.iss_model.specs.Currencies.{decimals_of}
 use Rattle.iss_model.specs.Amounts.{value_after, is_digit, is_whole_text, is_amount_text, digits_value, amount_digits, point_place, limit_read, amount_read, if_form}
-use Rattle.iss_amount.specs.Reading.{limit_after, limit_of_units}
+use Rattle.iss_amount.specs.Reading.{limit_of_units}
 
 -- a limit read from a text with so many decimals
 abbrev pub limit_in : List ℕ → ℕ → Option ℕ

@@ -1,5 +1,5 @@
 -- A whole number that decimal digits spell, from a least to a greatest.
-use Rattle.std.specs.Prelude.{ℕ, Bool, ◌&&◌, nat_le, List, Option, Some, None, if◌then◌else◌}
+use Rattle.std.specs.Prelude.{ℕ, ◌&&◌, nat_le, List, Option, Some, None, if◌then◌else◌}
 use Rattle.std.specs.List.{list_all}
 use Rattle.iss_model.specs.Amounts.{is_digit, digits_value, is_whole_text, value_after}
 
