@@ -101,7 +101,8 @@ fn put_text(out: &mut Vec<u8>, name: &str, text: &[u8]) -> Result<(), AllocError
     put_quoted(out, text)
 }
 
-fn put_name(out: &mut Vec<u8>, before: u8, name: &str) -> Result<(), AllocError>
+/// Adds a name and a colon, after the brace that opens the object or after a comma.
+pub fn put_name(out: &mut Vec<u8>, before: u8, name: &str) -> Result<(), AllocError>
     ensures { OnOk result (out.new.items
         ≡ out.old.items ++ (before ∷ (in_quotes name.now ++ 58 ∷ []))) }
 {
@@ -110,7 +111,8 @@ fn put_name(out: &mut Vec<u8>, before: u8, name: &str) -> Result<(), AllocError>
     out.extend_from_slice(b":")
 }
 
-fn put_quoted(out: &mut Vec<u8>, text: &[u8]) -> Result<(), AllocError>
+/// Adds a text in quotes, which has no byte that needs an escape.
+pub fn put_quoted(out: &mut Vec<u8>, text: &[u8]) -> Result<(), AllocError>
     ensures { OnOk result (out.new.items ≡ out.old.items ++ in_quotes text.now) }
 {
     out.push(b'"')?;

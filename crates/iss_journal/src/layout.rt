@@ -15,6 +15,9 @@ pub const LENGTH: u64 = 4;
 /// How much stands before a record's body: a gate and a length.
 pub const HEAD: u64 = GATE + LENGTH;
 
+/// How much the shortest record takes: its head and a body of one byte.
+pub const SHORTEST_RECORD: u64 = HEAD + 1;
+
 /// How long the longest body of a record is.
 pub const LONGEST_BODY: u64 = 8192;
 
