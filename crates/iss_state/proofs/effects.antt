@@ -1,6 +1,5 @@
 pub mod Finds
 pub mod FoundByName
-pub mod Regrouping
 pub mod Reach
 pub mod Parts
 pub mod TransactionsHeld

@@ -19,12 +19,14 @@ ghost use Rattle.iss_state.specs.Effects.{Effect, Paid, HoldsParts};
 /// An ask that is decided costs at most four times what was asked in money and twice in use, whoever decides it.
 #[tactic(auto, using(crate::proofs::effects::Asks::end_paid, crate::proofs::effects::Asks::declined_ask_paid, crate::proofs::effects::Asks::funded_ask_paid, crate::proofs::effects::Asks::set_stand_in_paid))]
 pub fn pieces_are_paid()
-    ensures release { (s : CoreState) → (t : Txn) → (parts : Parts) → (amount : ℕ) → IsOrderlyState s → Stands s t → HoldsParts s t parts → amount ≤ in_all parts
+    ensures release { (s : CoreState) → (t : Txn) → (parts : Parts) → (amount : ℕ)
+        → IsOrderlyState s → Stands s t → HoldsParts s t parts → amount ≤ in_all parts
         → Effect s (release_entries t parts amount) (2 * amount) amount 0 amount }
     ensures abandonment { (s : CoreState) → (number : ℕ) → (f : Facts) → (t : Txn) → (why : Reason) → (parts : Parts)
         → IsOrderlyState s → Stands s t → s.calls ≡ f.calls
         → Effect s (act_entries (Abandons number t why (asked_calls_of f t.token) parts)) 0 (2 * total_asked (asked_calls_of f t.token)) 0 (2 * total_asked (asked_calls_of f t.token)) }
-    ensures end { (s : CoreState) → (number : ℕ) → (f : Facts) → (t : Txn) → (parts : Parts) → (why : Reason) → IsOrderlyState s → Stands s t → HoldsParts s t parts → s.calls ≡ f.calls
+    ensures end { (s : CoreState) → (number : ℕ) → (f : Facts) → (t : Txn) → (parts : Parts) → (why : Reason)
+        → IsOrderlyState s → Stands s t → HoldsParts s t parts → s.calls ≡ f.calls
         → Paid 0 0 s (entries_of_acts (end_acts number f t parts why)) }
     ensures declined { (s : CoreState) → (ask : Ask) → (why : Reason) → IsOrderlyState s → Stands s ask.txn
         → Paid 0 (2 * at_least_one ask.amount) s (declined_ask_entries ask why) }

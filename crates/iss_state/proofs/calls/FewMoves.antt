@@ -39,7 +39,7 @@ count_more p [] x = omega (arith, with_first p x [], at_most_one (p x))
     at_most_one false = omega arith
 count_more p (y ∷ ys) x = omega (arith, with_first p y ys, with_first p y (ys ++ x ∷ []), count_more p ys x)
 
--- a test that passes only where another does
+-- a test that passes only if another does
 ones : (a b : Bool) → (a ≡ false → b ≡ false) → cond b 1 0 ≤ cond a 1 0
 ones true true h = omega arith
 ones true false h = omega arith
@@ -176,7 +176,7 @@ pub record CostsBy {A : Type 0} (opened brought taken : A → ℕ) (xs : List A)
 abbrev pub Costs : List Entry → ℕ → ℕ → ℕ → Type 0
 Costs es most up down = CostsBy opened_by brought_by taken_by es most up down
 
--- records that cost so many calls and notices
+-- after entries of these costs, records have made few enough numbers
 pub few_after : (n m most up : ℕ) (s : CoreState) (es : List Entry) → n + most ≤ m → 4 * n + up ≤ 4 * m → AreAllowed s es → Costs es most up 0 → HasFewNumbers n s
     → HasFewNumbers m (fold after_entry s es)
 few_after n m most up s es calls notices allowed costs few =

@@ -40,7 +40,7 @@ pub entries_docket : (s : CoreState) (es : List Entry) → docket_of (fold after
 entries_docket s [] = refl
 entries_docket s (e ∷ es) = entries_docket (after_entry s e) es ∙ ap (λ (d : Docket). fold docket_after d es) (entry_docket s e)
 
--- the docket that a core comes to, where this much is docketed
+-- the docket that a core comes to, if this much is docketed
 pub comes_to : (s : CoreState) (es more : List Entry) → filter is_docketed es ≡ more → docket_of (fold after_entry s es) ≡ fold docket_after (docket_of s) more
 comes_to s es more e = entries_docket s es ∙ docketed_moves (docket_of s) es ∙ ap (fold docket_after (docket_of s)) e
 

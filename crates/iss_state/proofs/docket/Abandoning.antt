@@ -74,7 +74,7 @@ all_grow calls txn numbers = filtered_grow (λ (c : CallNow). is_asked c && byte
 
 -- calls are abandoned one by one ----
 
--- a docket where a call is abandoned
+-- a docket after a call is abandoned
 abbrev pub after_closing : Reason → Docket → CallNow → Docket
 after_closing why d c = docket_after (docket_after d (entry.Closed c.opened.call how.Abandoned)) (entry.Decided c.opened.event (verdict.Declined why))
 
@@ -132,7 +132,7 @@ abandoned_enter : (known : Known) (why : Reason) (d : Docket) (txn : List ℕ) �
 abandoned_enter known why d txn well =
     closings_enter known why (asked_in d.calls txn) 1 d (all_grow d.calls txn well.calls.numbers) (all_asked d.calls txn well.calls.numbers) well
 
--- it may end then, where it is live
+-- it may end then, if it is live
 abandoned_ends : (why : Reason) (d : Docket) (txn : List ℕ) → has_live d.txns txn ≡ true → MayEnd (fold docket_after d (closings why (asked_in d.calls txn))) txn
 abandoned_ends why d txn live =
     record {

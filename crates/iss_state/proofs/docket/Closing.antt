@@ -60,7 +60,7 @@ call_closed n k how calls =
     find-map (λ (c : CallNow). nat_eq c.opened.call.0 n) (λ (c : CallNow). nat_eq c.opened.call.0 n) (call_after_close k how)
     (λ c. ap (λ (o : Opened). nat_eq o.call.0 n) (same_opened k how c)) calls
 
--- where a call stands, it stands as the closing left it
+-- a call that stands is then as the closing left it
 pub stands_after : (calls : List CallNow) (k : ℕ) (how : How) (n : ℕ) (c : CallNow) → call_numbered n calls ≡ Some c
     → call_numbered n (map (call_after_close k how) calls) ≡ Some (call_after_close k how c)
 stands_after calls k how n c e = call_closed n k how calls ∙ ap (option_map (call_after_close k how)) e

@@ -49,7 +49,7 @@ calls_lone_for known d event well m (x ∷ xs) numbers stand = (
     earlier : (a b m : ℕ) → a ≡ m → m + 1 ≤ b → a ≡ b → ⊥
     earlier a b m h k e = absurd (omega (arith, h, k, e))
 
--- where an event is decided, no call waits for it
+-- if an event is decided, no call waits for it
 none_waits : (known : Known) (d : Docket) (event : List ℕ) → IsWellAmong known d → is_decided d.decisions event ≡ true → list_any (waits_for event) d.calls ≡ false
 none_waits known d event well h =
     all_fail (waits_for event) d.calls (each_weaker (StandsItself d.calls) (λ c. waits_for event c ≡ false)

@@ -77,7 +77,7 @@ silent_first xs ys h = filter-append is_docketed xs ys ∙ ap (λ (zs : List Ent
 
 -- calls that are abandoned ----
 
--- what is docketed where these calls are abandoned
+-- what is docketed when these calls are abandoned
 abbrev pub closings : Reason → List CallNow → List Entry
 closings why [] = []
 closings why (c ∷ cs) = entry.Closed c.opened.call how.Abandoned ∷ entry.Decided c.opened.event (verdict.Declined why) ∷ closings why cs

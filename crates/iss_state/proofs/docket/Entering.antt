@@ -69,7 +69,7 @@ neither_of true b h k = cc
 neither_of false true h k = cc
 neither_of false false h k = refl
 
--- an event that isn't decided stays so where another one is
+-- an event that isn't decided stays so when another one is
 pub undecided_still : (ds : List Decision) (x : Decision) (event : List ℕ) → is_decided ds event ≡ false → (x.event ≡ event → ⊥)
     → is_decided (ds ++ x ∷ []) event ≡ false
 undecided_still ds x event h other =

@@ -111,7 +111,7 @@ all_fail p (x ∷ xs) h = ap (λ (b : Bool). b || list_any p xs) h.0 ∙ all_fai
 
 -- one element alone ----
 
--- where an element passes, none after it does
+-- if an element passes, none after it does
 abbrev pub Lone : {A : Type 0} → (A → Bool) → List A → Type 0
 Lone p [] = Unit {0}
 Lone p (x ∷ xs) = (p x ≡ true → list_any p xs ≡ false) × Lone p xs
@@ -124,7 +124,7 @@ none_passes {A} p q weaker (x ∷ xs) h = by (p x) (q x) (weaker x) (none_passes
     by true b here rest h = cc
     by false b here rest h = ap (λ (x : Bool). x || list_any q xs) (here refl) ∙ rest h
 
--- a test that passes only where the lone one does, passes in the list as at what is found
+-- a test that passes only if the lone one does passes in the list as at what is found
 pub lone_any : {A : Type 0} (p q : A → Bool) → ((x : A) → p x ≡ false → q x ≡ false) → (xs : List A) (c : A) → Lone p xs → find p xs ≡ Some c → list_any q xs ≡ q c
 lone_any p q weaker [] c lone e = cc
 lone_any {A} p q weaker (x ∷ xs) c lone e = by (p x) refl (λ e. lone_any p q weaker xs c lone.1 e) e

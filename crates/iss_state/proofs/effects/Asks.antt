@@ -1,6 +1,6 @@
 -- Ends of transactions and asks are paid by what was at stake.
 use Rattle.std.specs.Prelude.{None}
-use Rattle.std.proofs.Common.{Bool, List, [], arith, cond, false, fold, nat_abs, neg_ℤ, pos, refl, subst, true, ℕ, ◌*◌, ◌∷◌, ◌≡◌, ◌≤◌}
+use Rattle.std.proofs.Common.{Bool, List, [], arith, cond, false, fold, nat_abs, neg_ℤ, pos, refl, true, ℕ, ◌*◌, ◌++◌, ◌∷◌, ◌≡◌, ◌≤◌}
 use Rattle.iss_model.specs.declared.account.Account.{Account}
 use Rattle.iss_model.specs.declared.account.Account.TheVariants as account
 use Rattle.iss_model.specs.declared.account.Part.{Part}
@@ -26,7 +26,6 @@ use Rattle.iss_state.proofs.effects.Effects.{and_then, calm_effect, end_effect, 
 use Rattle.iss_state.proofs.effects.Paid.{costs}
 use Rattle.iss_state.proofs.effects.PieceEffects.{hold_effect, post_effect, usage_fits}
 use Rattle.iss_state.proofs.effects.Taking.{holds_then, release_effect}
-use Rattle.iss_state.proofs.effects.Regrouping.{three}
 
 -- ---- the end of a transaction
 
@@ -44,7 +43,7 @@ end_paid s number f t parts why h stands has same =
 -- ---- asks
 
 -- a transaction ends where a test holds
-pub end_where : (s : CoreState) (b : Bool) (t : Txn) → IsOrderlyState s → Stands s t → Effect s (cond b (entry.Ended t.token ∷ []) []) 0 0 0 0
+end_where : (s : CoreState) (b : Bool) (t : Txn) → IsOrderlyState s → Stands s t → Effect s (cond b (entry.Ended t.token ∷ []) []) 0 0 0 0
 end_where s true t h stands = end_effect s t h stands
 end_where s false t h stands = no_effect s h
 
@@ -64,10 +63,8 @@ funded_ask_paid s ask from p h stands =
     let xs = post_entries ask.txn from (user_account ask.txn) ask.amount in
     let ys = hold_entries ask.txn p ask.amount in
     let e1 = post_effect s ask.txn from (user_account ask.txn) ask.amount h stands in
-    let e2 = hold_effect (fold after_entry s xs) ask.txn p ask.amount e1.orderly (stands_then ask.txn e1 stands) in
-    let e3 = still_effect (fold after_entry (fold after_entry s xs) ys) (entry.Decided ask.event verdict.Approved ∷ []) e2.orderly refl in
-    subst (Paid (4 * ask.amount) ask.amount s) (three xs ys (entry.Decided ask.event verdict.Approved ∷ []))
-    (costs (4 * ask.amount) ask.amount (and_then e1 (and_then e2 e3)) (omega arith) (omega arith))
+    let e2 = and_then e1 (hold_effect (fold after_entry s xs) ask.txn p ask.amount e1.orderly (stands_then ask.txn e1 stands)) in
+    costs (4 * ask.amount) ask.amount (and_then e2 (still_effect (fold after_entry s (xs ++ ys)) (entry.Decided ask.event verdict.Approved ∷ []) e2.orderly refl)) (omega arith) (omega arith)
 
 -- a set that stands in pays alike, and its sum of the day once more
 pub set_stand_in_paid : (s : CoreState) (number : ℕ) (ask : Ask) (at : ℕ) (set : Set) → IsOrderlyState s → Stands s ask.txn → Paid (4 * ask.amount) (2 * ask.amount) s (set_stand_in_entries number ask at set)
@@ -75,14 +72,11 @@ set_stand_in_paid s number ask at set h stands =
     let zs : List Entry = entry.Stood set.name ask.txn.product ask.txn.user ask.amount at ∷ [] in
     let xs = post_entries ask.txn (account.Programme ask.txn.currency) (user_account ask.txn) ask.amount in
     let ys = hold_entries ask.txn part.P ask.amount in
-    let last : List Entry = notice_entry number method.StandIn ask.txn None ask.amount 0 ∷ entry.Decided ask.event verdict.Approved ∷ [] in
     let e0 = calm_effect s zs h (tt, tt) refl in
-    let s0 = fold after_entry s zs in
-    let e1 = post_effect s0 ask.txn (account.Programme ask.txn.currency) (user_account ask.txn) ask.amount e0.orderly (stands_then ask.txn e0 stands) in
-    let e2 = hold_effect (fold after_entry s0 xs) ask.txn part.P ask.amount e1.orderly (stands_then ask.txn e1 (stands_then ask.txn e0 stands)) in
-    let e3 = still_effect (fold after_entry (fold after_entry s0 xs) ys) last e2.orderly refl in
-    subst (λ (es : List Entry). Paid (4 * ask.amount) (2 * ask.amount) s (entry.Stood set.name ask.txn.product ask.txn.user ask.amount at ∷ es)) (three xs ys last)
-    (costs (4 * ask.amount) (2 * ask.amount) (and_then e0 (and_then e1 (and_then e2 e3))) (omega arith) (omega arith))
+    let e1 = and_then e0 (post_effect (fold after_entry s zs) ask.txn (account.Programme ask.txn.currency) (user_account ask.txn) ask.amount e0.orderly (stands_then ask.txn e0 stands)) in
+    let e2 = and_then e1 (hold_effect (fold after_entry s (zs ++ xs)) ask.txn part.P ask.amount e1.orderly (stands_then ask.txn e1 stands)) in
+    costs (4 * ask.amount) (2 * ask.amount)
+    (and_then e2 (still_effect (fold after_entry s (zs ++ xs ++ ys)) (notice_entry number method.StandIn ask.txn None ask.amount 0 ∷ entry.Decided ask.event verdict.Approved ∷ []) e2.orderly refl)) (omega arith) (omega arith)
 
 pub at_most_one : (b : Bool) → nat_abs (cond b (pos 1) (pos 0)) ≤ 1
 at_most_one true = omega arith

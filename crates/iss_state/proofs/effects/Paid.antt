@@ -1,27 +1,13 @@
 -- How entries are paid.
-use Rattle.std.proofs.Common.{List, [], arith, fold, refl, true, ℕ, ◌*◌, ◌++◌, ◌+◌, ◌≡◌, ◌≤◌}
-use Rattle.std.specs.List.{list_all}
+use Rattle.std.proofs.Common.{List, arith, ℕ, ◌*◌, ◌+◌, ◌≤◌}
 use Rattle.iss_model.specs.declared.entry.Entry.{Entry}
-use Rattle.iss_model.specs.state.Cores.{CoreState, after_entry}
+use Rattle.iss_model.specs.state.Cores.{CoreState}
 use Rattle.iss_state.specs.Effects.{Effect, Paid}
-use Rattle.iss_state.specs.Stakes.{IsOrderlyState}
-use Rattle.iss_state.proofs.effects.Effects.{and_then, is_still, still_effect}
 
 -- an effect that is paid
 pub costs : {s : CoreState} {es : List Entry} {m u a b : ℕ} (k l : ℕ) → Effect s es m u a b → m + 2 * a ≤ 2 * b + k → u + a ≤ b + l → Paid k l s es
 costs {s} {es} {m} {u} {a} {b} k l h money usage = record { moved = m; used = u; up = a; down = b; effect = h; money = money; usage = usage }
 
--- what pays for one list and for another pays for both
-pub paid_then : {k l i j : ℕ} {s : CoreState} {xs ys : List Entry} → Paid k l s xs → Paid i j (fold after_entry s xs) ys → Paid (k + i) (l + j) s (xs ++ ys)
-paid_then {k} {l} {i} {j} p q = costs (k + i) (l + j) (and_then p.effect q.effect) (omega (arith, p.money, q.money)) (omega (arith, p.usage, q.usage))
-
--- and so does more
+-- what pays pays with more, too
 pub paid_more : {k l : ℕ} {s : CoreState} {es : List Entry} (i j : ℕ) → Paid k l s es → k ≤ i → l ≤ j → Paid i j s es
 paid_more i j p le also = costs i j p.effect (omega (arith, p.money, le)) (omega (arith, p.usage, also))
-
--- what has no effect costs nothing
-pub still_paid : (s : CoreState) (es : List Entry) → IsOrderlyState s → list_all is_still es ≡ true → Paid 0 0 s es
-still_paid s es h all = costs 0 0 (still_effect s es h all) (omega arith) (omega arith)
-
-pub nothing_paid : (s : CoreState) → IsOrderlyState s → Paid 0 0 s []
-nothing_paid s h = still_paid s [] h refl

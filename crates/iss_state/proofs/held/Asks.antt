@@ -28,7 +28,7 @@ use Rattle.iss_state.specs.Holdings.{AllKeepHeld, HoldsNothing, IsHeldWell, MayH
 use Rattle.iss_state.proofs.held.Changes.{keep_append}
 use Rattle.iss_state.proofs.held.Pieces.{calm_keep, post_calm, still_may}
 
--- an ask's transaction stands with its funding and may hold more, and where it is the first ask it holds nothing yet
+-- an ask's transaction stands with its funding and may hold more; if it is the first ask, it holds nothing yet
 pub record MaySettle (d : Docket) (parts : Kept) (ask : Ask) : Type 0 where
   pub its : (p : Part) → may_have d.txns ask.txn.token p ≡ is_part_of p ask.txn.funding
   pub may : MayHold d ask.txn.token

@@ -86,7 +86,7 @@ entry_left s (entry.Began t) token allowed =
 entry_left s (entry.Ended txn) token allowed = ends_once s.holdings.txns txn token allowed.its_live
 entry_left s _ token allowed = still (ends_left s.holdings.txns token)
 
--- so often entries end a transaction, and so often it may still end behind them
+-- how often entries end a transaction, and how often it may still end after them
 pub entries_left : (s : CoreState) (es : List Entry) (token : List ℕ) → AreAllowed s es
     → ends_left (fold after_entry s es).holdings.txns token + ended_times token es ≤ ends_left s.holdings.txns token
 entries_left s [] token allowed = still (ends_left s.holdings.txns token)

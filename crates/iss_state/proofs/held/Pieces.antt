@@ -87,7 +87,7 @@ pub abandoned_calm : (number : ℕ) (t : Txn) (why : Reason) (cs : List CallNow)
 abandoned_calm number t why [] = passing refl
 abandoned_calm number t why (c ∷ cs) = record { all = (abandoned_calm (number + 1) t why cs).all }
 
--- a transaction that may hold still may, where nothing is docketed
+-- a transaction that may hold still may, if nothing is docketed
 pub still_may : (s : CoreState) (es : List Entry) (token : List ℕ) → AreSilent es → MayHold (docket_of s) token → MayHold (docket_of (fold after_entry s es)) token
 still_may s es token silent may = subst (λ (d : Docket). MayHold d token) (sym (comes_to s es [] silent.none)) may
 
@@ -129,7 +129,7 @@ then_leaves s xs ys token before after first second =
       just = subst (λ (q : CoreState). HoldsJust q.holdings.parts token after) (sym (fold-append after_entry s xs ys)) second.just;
     }
 
--- calm entries behind others
+-- calm entries after others
 pub then_calm : (s : CoreState) (xs ys : List Entry) (token : List ℕ) (amounts : Parts) → Leaves s xs token amounts → AreCalm ys → Leaves s (xs ++ ys) token amounts
 then_calm s xs ys token amounts first calm = then_leaves s xs ys token amounts amounts first (calm_leaves (fold after_entry s xs) ys token amounts calm first.just)
 
@@ -238,7 +238,7 @@ clearing_leaves s t x amount at just =
 
 -- a transaction ends ----
 
--- where these parts are nothing in all, nothing is held
+-- if these parts are nothing in all, nothing is held
 pub nothing_left : (parts : Kept) (token : List ℕ) (x : Parts) → in_all x ≡ 0 → HoldsJust parts token x → HoldsNothing parts token
 nothing_left parts token x e just part.G = just.of_gateway ∙ ap pos (first x.g x.p x.s e)
   where

@@ -83,7 +83,7 @@ step_ends s r new well held = step_leads s r (ends_through r.input r.at) (record
 pub step_held : (s : CoreState) (r : Record) → IsNewEvent s r.input → IsWell s → IsHeldWell s → IsHeldWell (step core_keeper s r).world
 step_held s r new well held = (step_ends s r new well held).held held
 
--- a step ends a transaction only where it may still end
+-- a step ends a transaction only if it may still end
 pub step_left : (s : CoreState) (r : Record) (token : List ℕ) → IsNewEvent s r.input → IsWell s → IsHeldWell s
     → ends_left (step core_keeper s r).world.holdings.txns token + ended_times token (step core_keeper s r).entries ≤ ends_left s.holdings.txns token
 step_left s r token new well held = (step_ends s r new well held).left token

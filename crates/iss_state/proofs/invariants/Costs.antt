@@ -49,7 +49,7 @@ use Rattle.iss_state.proofs.effects.Taking.{Takes, clearing_takes, holds_then, r
 -- what is found ----
 
 -- a transaction that is found by a token stands
-pub found_stands : (s : CoreState) (token : List ℕ) (now : TxnNow) → txn_named token s.holdings.txns ≡ Some now → Stands s now.txn
+found_stands : (s : CoreState) (token : List ℕ) (now : TxnNow) → txn_named token s.holdings.txns ≡ Some now → Stands s now.txn
 found_stands s token now e =
     ap (λ (k : List ℕ). find (λ (x : Txn). bytes_eq x.token k) (begun_txns s)) (one_name now.txn.token token (found_passes (λ (t : TxnNow). bytes_eq t.txn.token token) s.holdings.txns now e))
     ∙ find-map (λ (x : Txn). bytes_eq x.token token) (λ (t : TxnNow). bytes_eq t.txn.token token) (λ (t : TxnNow). t.txn) (λ t. refl) s.holdings.txns
@@ -236,9 +236,11 @@ module _ (by : Cause) (at : ℕ) (s : CoreState) (h : IsOrderlyState s) where
       (e.orderly, stands_then ask.txn e (subst (λ (q : CoreState). Stands q ask.txn) (sym same) (txn_stands s ask.txn (txn_of_ask made.from.1))), ap (λ (q : CoreState). length q.calls) same)
   known_next g q (Fails number o t why) made none known =
       let e = (act_spends g q (Fails number o t why) made none known).effect in
-      let same : q ≡ s = known_at q made.from.0 known in
-      (e.orderly, stands_then t e (subst (λ (q : CoreState). Stands q t) (sym same) (txn_stands s t (txn_of_call made.from.1))),
-      length-map q.calls (call_after_close o.call.0 (how.Failed why)) ∙ ap (λ (q : CoreState). length q.calls) same)
+      let same : q ≡ s = known_at q made.from.0 known in (
+        e.orderly,
+        stands_then t e (subst (λ (q : CoreState). Stands q t) (sym same) (txn_stands s t (txn_of_call made.from.1))),
+        length-map q.calls (call_after_close o.call.0 (how.Failed why)) ∙ ap (λ (q : CoreState). length q.calls) same,
+      )
   known_next g q (Clears t parts amount when) made none known =
       let took = taken t parts amount when made.from.1 made.from.2 in
       subst (λ (q : CoreState). IsPayable s (Keeps t (left_of parts (taken_to_clear parts amount))) (fold after_entry q (act_entries (Clears t parts amount when)))) (sym (known_at q made.from.0 known))
