@@ -1,6 +1,6 @@
 //! The core: it judges inputs and takes up records.
-ghost use Rattle.std.specs.Prelude.{◌≡◌, ◌^◌, ◌<◌, List, [], IfOk, IsTrue};
-ghost use Rattle.iss_model.specs.declared.limits.TheConstants.{MOST_RECORDS};
+ghost use Rattle.std.specs.Prelude.{◌≡◌, ◌<◌, List, [], IfOk, IsTrue};
+ghost use Rattle.iss_model.specs.declared.limits.TheConstants.{INSTANCES, MOST_RECORDS};
 ghost use Rattle.iss_model.specs.declared.input.Record.{Record};
 ghost use Rattle.iss_model.specs.Forms.{is_in_form, is_stamp};
 ghost use Rattle.iss_model.specs.rules.Judging.{judge};
@@ -42,7 +42,7 @@ impl Model for Core {
 impl Core {
     /// A core without a record, for the device of this instance.
     pub fn new(alloc: Global, instance: u64) -> Result<Core, AllocError>
-        requires { instance < 2 ^ 48 }
+        requires { instance < INSTANCES }
         ensures value { IfOk result (λ c. c ≡ record { instance = instance; state = no_core }) }
         ensures stands { IfOk result (λ c. StandsFor c []) }
     {

@@ -4,6 +4,7 @@ use Rattle.iss_edge.specs.declared.outside.Script.{Script}
 use Rattle.iss_edge.specs.declared.outside.Script.TheVariants.{Client, More, Ended, Time, Idle}
 use Rattle.iss_edge.specs.declared.memory.piece.Piece.{Piece}
 use Rattle.iss_edge.specs.World.{World, Faults}
+use Rattle.iss_edge.specs.declared.memory.network.TheConstants.{GREATEST_CLIENT, FIRST_DIALLED}
 use Rattle.iss_edge.specs.Channels.{Channels, is_among}
 
 -- the bytes that are to come, if channel 0 alone has some
@@ -58,11 +59,11 @@ after_take ch count (piece ∷ pieces) =
 
 -- clients come on these numbers
 abbrev pub is_client_number : ℕ → Bool
-is_client_number ch = nat_le 1 ch && nat_le ch 1000000
+is_client_number ch = nat_le 1 ch && nat_le ch GREATEST_CLIENT
 
 -- the numbers that dials return, after this number of dials
 abbrev pub is_dialled_number : ℕ → ℕ → Bool
-is_dialled_number dials ch = nat_lt 1000000 ch && nat_lt ch (dials + 1000001)
+is_dialled_number dials ch = nat_lt GREATEST_CLIENT ch && nat_lt ch (dials + FIRST_DIALLED)
 
 -- clients are to come on numbers of theirs, each on one that is not known and that no client before it came on
 abbrev pub are_to_come : List ℕ → List Script → Bool

@@ -2,7 +2,7 @@
 use Rattle.std.specs.Prelude.{ℕ, ℤ, pos, Bool, true, false, ◌&&◌, codes, List, Option, Some, None, is_some, is_none, Result, Ok, Err}
 use Rattle.serde_json.specs.Data.{Data}
 use Rattle.serde_json.specs.Find.{as_bool}
-use Rattle.iss_model.specs.declared.limits.TheConstants.{SHORTEST_TIMEOUT, LONGEST_TIMEOUT, SHORTEST_HOLD, LONGEST_HOLD, GREATEST_USAGE, FIRST_NUMBER, GREATEST_NUMBER}
+use Rattle.iss_model.specs.declared.limits.TheConstants.{DEFAULT_TIMEOUT, DEFAULT_HOLD, SHORTEST_TIMEOUT, LONGEST_TIMEOUT, SHORTEST_HOLD, LONGEST_HOLD, GREATEST_USAGE, FIRST_NUMBER, GREATEST_NUMBER}
 use Rattle.iss_model.specs.declared.currency.Currency.{Currency}
 use Rattle.iss_model.specs.declared.input.Input.{Input}
 use Rattle.iss_model.specs.declared.input.Input.TheVariants as input
@@ -76,8 +76,8 @@ product_input d = do
   product ← required_field token_of name.Product d
   currency ← required_field currency_of name.Currency d
   funding ← required_field funding_of name.Funding d
-  timeout_ms ← optional_field_or (whole_within SHORTEST_TIMEOUT LONGEST_TIMEOUT) 3000 name.TimeoutMs d
-  hold_ms ← optional_field_or (whole_within SHORTEST_HOLD LONGEST_HOLD) 604800000 name.HoldMs d
+  timeout_ms ← optional_field_or (whole_within SHORTEST_TIMEOUT LONGEST_TIMEOUT) DEFAULT_TIMEOUT name.TimeoutMs d
+  hold_ms ← optional_field_or (whole_within SHORTEST_HOLD LONGEST_HOLD) DEFAULT_HOLD name.HoldMs d
   Ok (input.Product token product currency funding timeout_ms hold_ms)
 
 -- a group of codes is made

@@ -11,16 +11,11 @@ use iss_field::{
     NumberForm, Object, OffsetForm, TokenForm, UserStateForm, WholeForm, WindowForm,
 };
 use iss_model::limits::{
-    GREATEST_USAGE, LONGEST_HOLD, LONGEST_TIMEOUT, SHORTEST_HOLD, SHORTEST_TIMEOUT,
+    DEFAULT_HOLD, DEFAULT_TIMEOUT, GREATEST_USAGE, LONGEST_HOLD, LONGEST_TIMEOUT, SHORTEST_HOLD,
+    SHORTEST_TIMEOUT,
 };
 use iss_model::{Association, Currency, Input, Mccs, Moved, Scope, Token, Window};
 use std::alloc::{AllocError, Global};
-
-/// How long a gateway has to answer, in milliseconds, if a product's line doesn't tell.
-const DEFAULT_TIMEOUT_MS: u64 = 3_000;
-
-/// How long an authorisation holds its amount, in milliseconds, if a product's line doesn't tell: seven days.
-const DEFAULT_HOLD_MS: u64 = 604_800_000;
 
 #[tactic(auto, unfolding(crate::specs::Inputs::user_input))]
 pub(crate) fn user_input(line: &Object<'_>) -> Result<Input, Name>
@@ -96,9 +91,9 @@ pub(crate) fn product_input(line: &Object<'_>) -> Result<Input, Name>
     let currency = line.required(Name::Currency, CurrencyForm)?;
     let funding = line.required(Name::Funding, FundingForm)?;
     let timeout = WholeForm(SHORTEST_TIMEOUT, LONGEST_TIMEOUT);
-    let timeout_ms = line.optional_or(Name::TimeoutMs, timeout, DEFAULT_TIMEOUT_MS)?;
+    let timeout_ms = line.optional_or(Name::TimeoutMs, timeout, DEFAULT_TIMEOUT)?;
     let hold = WholeForm(SHORTEST_HOLD, LONGEST_HOLD);
-    let hold_ms = line.optional_or(Name::HoldMs, hold, DEFAULT_HOLD_MS)?;
+    let hold_ms = line.optional_or(Name::HoldMs, hold, DEFAULT_HOLD)?;
     Ok(Input::Product {
         token,
         product,

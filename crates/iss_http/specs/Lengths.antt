@@ -3,6 +3,7 @@ use Rattle.std.specs.Prelude.{ℕ, Bool, ◌&&◌, nat_lt, nat_le, List, [], ◌
 use Rattle.std.specs.List.{list_any, filter_map}
 use Rattle.std.specs.Str.{all_ascii_digits, str_eq_ignore_ascii_case}
 use Rattle.std.specs.Str.Parse.{digits_value_after}
+use Rattle.iss_http.specs.declared.limits.TheConstants.{MOST_DIGITS}
 use Rattle.iss_http.specs.declared.lengths.ContentLength.{ContentLength}
 use Rattle.iss_http.specs.declared.lengths.ContentLength.TheVariants.{Absent, Bad, Good}
 use Rattle.iss_http.specs.Heads.{Header}
@@ -25,7 +26,7 @@ number_after n text = if all_ascii_digits text then Some (digits_value_after 10 
 
 -- a length as a header spells it: 1 to 10 digits
 unfoldable pub length_of : List ℕ → Option ℕ
-length_of text = if nat_lt 0 (length text) && nat_le (length text) 10 then number_after 0 text else None
+length_of text = if nat_lt 0 (length text) && nat_le (length text) MOST_DIGITS then number_after 0 text else None
 
 -- a length that is good, or a bad one
 abbrev pub good_length : Option ℕ → ContentLength

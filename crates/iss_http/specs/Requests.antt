@@ -4,6 +4,7 @@ use Rattle.iss_http.specs.declared.faults.HttpFault.{HttpFault}
 use Rattle.iss_http.specs.declared.faults.HttpFault.TheVariants.{Head, HeadLong, Method, Path, Coding, NoLength, BodyLong}
 use Rattle.iss_http.specs.declared.faults.FeedFault.{FeedFault}
 use Rattle.iss_http.specs.declared.faults.FeedFault.TheVariants.{Http, OutOfMemory}
+use Rattle.iss_http.specs.declared.limits.TheConstants.{MOST_HEAD, MOST_BODY}
 use Rattle.iss_http.specs.declared.lengths.ContentLength.{ContentLength}
 use Rattle.iss_http.specs.declared.lengths.ContentLength.TheVariants.{Absent, Bad, Good}
 use Rattle.iss_http.specs.Heads.{RequestHead, request_head}
@@ -18,7 +19,7 @@ pub data Request : Type 0 where
 -- a body of this length, after it came
 abbrev pub body_within : List ℕ → ℕ → Request
 body_within rest size =
-    if nat_lt 16384 size then faulty BodyLong else if nat_le size (length rest) then body (take size rest) else more
+    if nat_lt MOST_BODY size then faulty BodyLong else if nat_le size (length rest) then body (take size rest) else more
 
 -- by the length of the body, if there is a good one
 abbrev pub sized_body : List ℕ → ContentLength → Request
@@ -40,12 +41,12 @@ headed path bytes h = headed_with path h (sized_body (drop h.size bytes) (conten
 
 -- by the head, if there is one in the first 8192 bytes
 abbrev pub read_by : List ℕ → List ℕ → Option RequestHead → Request
-read_by path bytes None = if nat_le 8192 (length bytes) then faulty HeadLong else more
+read_by path bytes None = if nat_le MOST_HEAD (length bytes) then faulty HeadLong else more
 read_by path bytes (Some h) = headed path bytes h
 
 -- what the bytes are as a request to this path, if a bad head is told as late as may be
 abbrev pub request_at : List ℕ → List ℕ → Request
-request_at path bytes = read_by path bytes (request_head (take 8192 bytes))
+request_at path bytes = read_by path bytes (request_head (take MOST_HEAD bytes))
 
 -- what the bytes are as a client's request, which goes to the path of events
 unfoldable pub request : List ℕ → Request

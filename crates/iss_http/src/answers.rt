@@ -31,12 +31,13 @@ pub struct AnswerReader {
 
 impl Model for AnswerReader {
     ghost use Rattle.std.specs.Prelude.{List, ℕ, length, ◌≤◌};
+    ghost use Rattle.iss_http.specs.declared.limits.TheConstants.{MOST_ANSWER};
 
     ghost Value = { List ℕ };
 
     ghost view = { λ r. r.bytes.items };
 
-    ghost invariant = { λ r. length r.bytes.items ≤ 24577 };
+    ghost invariant = { λ r. length r.bytes.items ≤ MOST_ANSWER };
 }
 
 impl AnswerReader {
@@ -57,7 +58,7 @@ impl AnswerReader {
     pub fn feed(&mut self, alloc: Global, piece: &[u8]) -> Result<Option<Answer>, AllocError>
         ensures answer { IfOk result (λ said. IsReadAs (self.old ++ piece.now) false (heard said)) }
         ensures kept { IfOk result (λ said. IfNone said (self.new ≡ self.old ++ piece.now)) }
-        ensures bounded { length self.new ≤ 24577 }
+        ensures bounded { length self.new ≤ MOST_ANSWER }
     {
         feed_bytes(&mut self.bytes, alloc, piece)
     }
@@ -76,10 +77,10 @@ fn feed_bytes(
     alloc: Global,
     piece: &[u8],
 ) -> Result<Option<Answer>, AllocError>
-    requires { length bytes.old.items ≤ 24577 }
+    requires { length bytes.old.items ≤ MOST_ANSWER }
     ensures answer { IfOk result (λ said. IsReadAs (bytes.old.items ++ piece.now) false (heard said)) }
     ensures kept { IfOk result (λ said. IfNone said (bytes.new.items ≡ bytes.old.items ++ piece.now)) }
-    ensures bounded { length bytes.new.items ≤ 24577 }
+    ensures bounded { length bytes.new.items ≤ MOST_ANSWER }
 {
     keep(bytes, piece, MOST_ANSWER)?;
     answer_so_far(alloc, bytes)

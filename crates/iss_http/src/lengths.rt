@@ -4,10 +4,8 @@ ghost use Rattle.iss_http.specs.Lengths.{number_after, length_of, good_length, c
 ghost use Rattle.iss_http.specs.Spans.{headers_at};
 
 use crate::heads::{is_named, part};
+use crate::limits::MOST_DIGITS;
 use httparse::spans::HeaderSpan;
-
-/// The most digits of a length.
-const MOST_DIGITS: usize = 10;
 
 /// The body's length by the headers.
 #[derive(Clone, Copy, PartialEq, Eq, Debug)]

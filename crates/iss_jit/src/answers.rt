@@ -1,5 +1,6 @@
 //! What a gateway's answer to a call comes to.
-ghost use Rattle.std.specs.Prelude.{◌≡◌, ◌≢◌, ◌<◌, ◌^◌, ◌↔◌, IfOk, option_map};
+ghost use Rattle.std.specs.Prelude.{◌≡◌, ◌≢◌, ◌<◌, ◌↔◌, IfOk, option_map};
+ghost use Rattle.iss_model.specs.declared.limits.TheConstants.{INSTANCES};
 ghost use Rattle.serde_json.specs.Read.{read as read_text};
 ghost use Rattle.serde_json.specs.View.{view};
 ghost use Rattle.iss_model.specs.declared.input.Outcome.TheVariants as outcome;
@@ -32,7 +33,7 @@ pub fn answer(
     opened: &Opened,
     instance: u64,
 ) -> Result<Outcome, AllocError>
-    requires { instance < 2 ^ 48 }
+    requires { instance < INSTANCES }
     ensures value { IfOk result (λ said. said ≡ outcome_of instance opened.now status body.now) }
     ensures refused { IfOk result (λ said. (said ≡ outcome.Refused) ↔ (status ≡ 402)) }
     ensures never_connection { IfOk result (λ said. said ≢ outcome.Connection) }
@@ -54,7 +55,7 @@ fn is_funding_body(
     opened: &Opened,
     instance: u64,
 ) -> Result<bool, AllocError>
-    requires { instance < 2 ^ 48 }
+    requires { instance < INSTANCES }
     ensures { IfOk result
         (λ funds. funds ≡ is_some_with (is_funding instance opened.now) (json_of body.now)) }
 {
@@ -67,7 +68,7 @@ fn is_funding_body(
 /// Whether the value is an object with the call's token and amount.
 #[tactic(auto, unfolding(crate::specs::Outcomes::is_funding))]
 fn is_funding(value: &Value, opened: &Opened, instance: u64) -> bool
-    requires { instance < 2 ^ 48 }
+    requires { instance < INSTANCES }
     ensures { result ≡ is_funding instance opened.now (view value.now) }
 {
     has_token(value, opened, instance) && has_amount(value, opened)
@@ -75,7 +76,7 @@ fn is_funding(value: &Value, opened: &Opened, instance: u64) -> bool
 
 #[tactic(auto, unfolding(crate::specs::Outcomes::has_token))]
 fn has_token(value: &Value, opened: &Opened, instance: u64) -> bool
-    requires { instance < 2 ^ 48 }
+    requires { instance < INSTANCES }
     ensures { result ≡ has_token instance opened.now (view value.now) }
 {
     match value.get("token").and_then(uuid_of) {

@@ -9,6 +9,7 @@ use Rattle.iss_edge.specs.Puts.{one_put, PutsPart}
 use Rattle.iss_edge.specs.Stretches.{Step, actions_of, IsGood, GoesOn}
 use Rattle.iss_journal.specs.declared.fault.JournalFault.{JournalFault}
 use Rattle.iss_journal.specs.declared.fault.JournalFault.TheVariants.{Disk, NotFormatted, BadRecord, Full, OutOfMemory}
+use Rattle.iss_journal.specs.declared.layout.TheConstants.{GATE, LENGTH, HEAD, LONGEST_BODY}
 use Rattle.iss_journal.specs.Place.{Place}
 use Rattle.iss_journal.specs.Region.{Region, IsBody, with_length, need_of, bytes_before_gate, Shows, ShowsClosed, LeavesBehind, ShowsFirmly, RestsFirst}
 
@@ -22,13 +23,13 @@ pub record RecordAt (place : Place) (body device : List ℕ) : Type 0 where
 pub record WrongLength (place : Place) (device : List ℕ) : Type 0 where
   pub n : ℕ
   pub small : n < 2 ^ 32
-  pub there : take 4 (drop (place.gate + 1) device) ≡ to_be_bytes w32 n
-  pub wrong : (n ≡ 0) ⊎ (8192 < n) ⊎ (place.to ≤ place.gate + 5 + n)
+  pub there : take LENGTH (drop (place.gate + GATE) device) ≡ to_be_bytes w32 n
+  pub wrong : (n ≡ 0) ⊎ (LONGEST_BODY < n) ⊎ (place.to ≤ place.gate + HEAD + n)
 
 -- the gate is open, and the region ends before a record could, or the length there is wrong
 pub record BadAt (place : Place) (device : List ℕ) : Type 0 where
   pub open_gate : slice_index device place.gate ≡ 1
-  pub why : (place.to ≤ place.gate + 5) ⊎ WrongLength place device
+  pub why : (place.to ≤ place.gate + HEAD) ⊎ WrongLength place device
 
 -- the next record's body, nothing exactly at a gate that is not open, or a bad record exactly if its length is wrong
 abbrev pub Finds : Place → Result (Option (List ℕ)) JournalFault → World → World → Type 0
@@ -105,5 +106,5 @@ pub record ReadsGate (at gate : ℕ) (a b : World) : Type 0 where
 pub record ReadsHead (place : Place) (gate n : ℕ) (a b : World) : Type 0 where
   pub there : slice_index a.device place.gate ≡ gate
   pub small : n < 2 ^ 32
-  pub length_there : ((place.to ≤ place.gate + 5) × (n ≡ 0)) ⊎ (take 4 (drop (place.gate + 1) a.device) ≡ to_be_bytes w32 n)
+  pub length_there : ((place.to ≤ place.gate + HEAD) × (n ≡ 0)) ⊎ (take LENGTH (drop (place.gate + GATE) a.device) ≡ to_be_bytes w32 n)
   pub same : Same a b

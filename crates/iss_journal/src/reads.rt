@@ -8,11 +8,12 @@ ghost use Rattle.iss_journal.specs.Answers.{DiskCause, DiskOrMemory};
 ghost use Rattle.iss_journal.specs.Opening.{ReadsGate, ReadsHead};
 
 use crate::JournalFault;
+use crate::layout::HEAD;
 use iss_edge::{Bytes, Edge, Failed};
 use std::alloc::Global;
 
-/// How many bytes stand before a record's body: a gate and a length.
-pub(crate) const HEAD: u64 = 5;
+/// How long a buffer for a gate and a length is.
+const HEAD_LEN: usize = HEAD as usize;
 
 /// A gate and the length after it.
 #[derive(Clone, Copy)]
@@ -54,7 +55,7 @@ pub(crate) fn read_head<E: Edge>(edge: &mut E, at: u64, to: u64) -> Result<Head,
         let gate = read_gate(edge, at)?;
         return Ok(Head { gate, length: 0 });
     }
-    let mut buf = [0; 5];
+    let mut buf = [0; HEAD_LEN];
     edge.read_at(at, &mut buf)?;
     Ok(head_of(buf))
 }
@@ -83,7 +84,7 @@ pub(crate) fn read_body<E: Edge>(
 }
 
 /// A gate and a length as five bytes spell them.
-fn head_of(bytes: [u8; 5]) -> Head
+fn head_of(bytes: [u8; HEAD_LEN]) -> Head
     ensures spelled { bytes ≡ result.gate ∷ to_be_bytes w32 result.length }
     ensures small { result.length < 2 ^ 32 }
 {

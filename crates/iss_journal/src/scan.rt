@@ -7,14 +7,12 @@ ghost use Rattle.iss_journal.specs.Answers.{DiskCause, DiskAlone};
 ghost use Rattle.iss_journal.specs.Opening.{Finds, MovesOn, ClosesGood, ClosesGoing};
 
 use crate::frame::{CLOSED, OPEN};
-use crate::reads::{HEAD, read_body, read_gate, read_head};
+use crate::layout::{HEAD, LONGEST_BODY};
+use crate::reads::{read_body, read_gate, read_head};
 use crate::{Journal, JournalFault};
 use iss_edge::{Bytes, Edge, put};
 use std::alloc::Global;
 use std::marker::Model;
-
-/// The most bytes that a body has.
-const MOST: u64 = 8192;
 
 /// A journal that is being read: contracts see the place of the next gate and the place where its region ends.
 #[derive(Debug, Drop)]
@@ -109,8 +107,8 @@ impl Scan {
 
 /// Whether a body may have this length, if this many bytes are left from its gate on.
 fn is_length(length: u32, room: u64) -> bool
-    ensures { IsTrue result ↔ ((0 < length) × (length ≤ 8192) × (5 + length < room)) }
+    ensures { IsTrue result ↔ ((0 < length) × (length ≤ LONGEST_BODY) × (HEAD + length < room)) }
 {
     let length = u64::from(length);
-    0 < length && length <= MOST && HEAD + length < room
+    0 < length && length <= LONGEST_BODY && HEAD + length < room
 }

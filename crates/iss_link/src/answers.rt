@@ -1,15 +1,17 @@
 //! An answer on a watched channel: one take, and what its bytes come to.
-ghost use Rattle.std.specs.Prelude.{◌≡◌, ◌<◌, ◌≤◌, ◌^◌, ℕ, List, length, [], ◌∷◌, Some, None, IfOk, IfSome, IsSome, OnErr};
+ghost use Rattle.std.specs.Prelude.{◌≡◌, ◌<◌, ◌≤◌, ◌^◌, ℕ, List, length, [], ◌∷◌, Some, None, IfOk, IfSome, IsSome, OnErr, IfErr};
 ghost use Rattle.iss_edge.specs.declared.outside.Answered.TheVariants.{Took};
 ghost use Rattle.iss_edge.specs.World.{Later, Stays};
 ghost use Rattle.iss_edge.specs.Outer.{Adds, ToldBoth};
 ghost use Rattle.iss_channels.specs.Placed.{things_of};
+ghost use Rattle.iss_model.specs.declared.limits.TheConstants.{INSTANCES};
 ghost use Rattle.iss_http.specs.Heard.{reading_of};
 ghost use Rattle.iss_jit.specs.Outcomes.{outcome_of};
 ghost use Rattle.iss_model.specs.declared.call.Opened.{Opened};
 ghost use Rattle.iss_model.specs.declared.input.Outcome.{Outcome};
 ghost use Rattle.iss_session.specs.Desks.{of_notice};
 ghost use Rattle.iss_session.specs.Links.{heard_as};
+ghost use Rattle.iss_session.specs.declared.piece.TheConstants.{LONGEST_PIECE};
 ghost use Rattle.iss_session.specs.Hearings.{link_at};
 ghost use Rattle.iss_link.specs.Values.{subject_of, heard_of, links_at};
 ghost use Rattle.iss_link.specs.Hearing.{Reads, ListensOn, MeansOutcome, TakeFaultRose, got_in, channels_after};
@@ -38,9 +40,9 @@ pub(crate) fn listen<E: Edge>(
 ) -> Result<Heard, AllocError>
     requires watched { IsSome (link_at ch (things_of links.old)) }
     requires ready { (E.channels edge.old).ready ≡ Some ch.0 }
-    requires room { length buffer.old ≡ 4096 }
-    requires instance { instance < 2 ^ 48 }
-    ensures room { length buffer.new ≡ 4096 }
+    requires room { length buffer.old ≡ LONGEST_PIECE }
+    requires instance { instance < INSTANCES }
+    ensures room { length buffer.new ≡ LONGEST_PIECE }
     ensures listens { ListensOn E.channels E.faults E.told E.heard edge.old edge.new
         (links_at instance (things_of links.old)) (links_at instance (things_of links.new)) ch result }
     ensures later { Later (E.faults edge.old) (E.faults edge.new) }
@@ -73,8 +75,8 @@ fn about(links: &ByChannel<Watched>, ch: Channel) -> About
 /// Takes the next bytes of a channel into a buffer, none at their end, and returns how many came. `None` if it failed.
 fn take<E: Edge>(edge: &mut E, ch: Channel, buffer: &mut [u8]) -> Option<usize>
     requires ready { (E.channels edge.old).ready ≡ Some ch.0 }
-    requires room { length buffer.old ≡ 4096 }
-    ensures room { length buffer.new ≡ 4096 }
+    requires room { length buffer.old ≡ LONGEST_PIECE }
+    ensures room { length buffer.new ≡ LONGEST_PIECE }
     ensures bound { IfSome result (λ count. count ≤ length buffer.new) }
     ensures told { ToldBoth E.told E.heard (Adds [] (Took ch (got_in buffer.new result) ∷ [])) edge.old edge.new }
     ensures failed { result ≡ None → TakeFaultRose ch (E.channels edge.old) (E.faults edge.old) (E.faults edge.new) }
@@ -124,7 +126,7 @@ fn feed(
 
 /// What an answer means for what it is about.
 fn hear(alloc: Global, about: &About, answer: &Answer, instance: u64) -> Result<Heard, AllocError>
-    requires { instance < 2 ^ 48 }
+    requires { instance < INSTANCES }
     ensures { IfOk result (λ said. heard_of said ≡ heard_as (outcome_of instance) (subject_of about.now) (reading_of answer.now)) }
 {
     match about {
@@ -143,7 +145,7 @@ fn outcome(
     answer: &Answer,
     instance: u64,
 ) -> Result<Outcome, AllocError>
-    requires { instance < 2 ^ 48 }
+    requires { instance < INSTANCES }
     ensures { IfOk result (MeansOutcome instance opened.now answer.now) }
 {
     match answer {

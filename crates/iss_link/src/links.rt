@@ -1,6 +1,7 @@
 //! The channels on which the gateway's answers are awaited.
 ghost use Rattle.std.specs.Prelude.{◌≡◌, ◌<◌, ◌^◌, ◌++◌, [], map, length, Some, IfOk, OnOk, OnErr, IsSome};
 ghost use Rattle.iss_edge.specs.World.{Later, Stays};
+ghost use Rattle.iss_model.specs.declared.limits.TheConstants.{INSTANCES};
 ghost use Rattle.iss_session.specs.Hearings.{link_at, links_of};
 ghost use Rattle.iss_link.specs.Values.{gone_as, heard_of, state_on};
 ghost use Rattle.iss_link.specs.Hearing.{ListensOn, channels_after};
@@ -10,11 +11,9 @@ use crate::watched::{About, Watched};
 use crate::{Gone, Heard, LinkState};
 use iss_channels::ByChannel;
 use iss_edge::{Channel, Edge};
+use iss_session::piece::LONGEST_PIECE;
 use std::alloc::{AllocError, Global};
 use std::marker::Model;
-
-/// How many bytes a take may bring.
-const PIECE: usize = 4096;
 
 /// The channels on which the gateway's answers are awaited, each with what it is about and the bytes that came on it. Contracts see
 /// the instance, and the links in the order in which they were watched.
@@ -40,13 +39,13 @@ impl Model for Links {
 impl Links {
     /// No channel is watched.
     pub fn new(alloc: Global, instance: u64) -> Result<Links, AllocError>
-        requires { instance < 2 ^ 48 }
+        requires { instance < INSTANCES }
         ensures { IfOk result (λ links. links ≡ record { instance = instance; links = [] }) }
     {
         Ok(Links {
             instance,
             watched: ByChannel::new(alloc),
-            buffer: zeros(alloc, PIECE)?,
+            buffer: zeros(alloc, LONGEST_PIECE)?,
         })
     }
 

@@ -6,12 +6,10 @@ ghost use Rattle.iss_model.specs.rules.Reasons.{first_reason, is_full};
 ghost use Rattle.iss_scope.specs.Merchants.{reason_of_result};
 
 use iss_index::Index;
+use iss_model::limits::MOST_OF_A_KIND;
 use iss_model::{Mccs, Named, Token};
 use std::alloc::{AllocError, Global};
 use std::marker::Model;
-
-/// The most groups that may stand.
-const MOST: usize = 256;
 
 /// Why a group wasn't added.
 #[derive(Clone, Copy, Debug, PartialEq, Eq)]
@@ -102,7 +100,7 @@ impl Groups {
     pub fn is_full(&self) -> bool
         ensures { result ≡ is_full self.now }
     {
-        self.len >= MOST
+        self.len >= MOST_OF_A_KIND
     }
 
     /// Whether there is a group of that name.

@@ -5,6 +5,7 @@ use Rattle.iss_edge.specs.declared.outside.Action.{Action}
 use Rattle.iss_edge.specs.declared.outside.Action.TheVariants.{Emit}
 use Rattle.iss_edge.specs.declared.outside.Answered.{Answered}
 use Rattle.iss_edge.specs.declared.outside.Answered.TheVariants.{Waited, Took, Dialled, Emitted}
+use Rattle.iss_session.specs.declared.piece.TheConstants.{LONGEST_PIECE}
 use Rattle.iss_edge.specs.Outer.{torn_actions, IsTornFrom}
 use Rattle.iss_edge.specs.Stretches.{Step, with_levels}
 
@@ -48,7 +49,7 @@ same_channel a b = a.0 == b.0
 -- a take brings at most 4096 bytes, or fails
 abbrev pub is_piece : Option (List ℕ) → Bool
 is_piece None = true
-is_piece (Some bytes) = nat_le (length bytes) 4096
+is_piece (Some bytes) = nat_le (length bytes) LONGEST_PIECE
 
 -- this is an answer to the call that comes next
 abbrev pub is_answer_to : Next → Answered → Bool

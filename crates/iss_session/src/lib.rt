@@ -7,6 +7,7 @@
 mod accounts;
 mod channels;
 mod laws;
+pub mod piece;
 
 pub use accounts::accounts_stay_local;
 pub use channels::channels_are_closed;

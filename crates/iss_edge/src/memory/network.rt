@@ -14,8 +14,11 @@ use std::alloc::{AllocError, Global};
 use std::collections::VecDeque;
 use std::marker::Model;
 
+/// The greatest number of a channel on which a client comes.
+const GREATEST_CLIENT: u32 = 1_000_000;
+
 /// The number of the first channel that is dialled. Clients come on smaller ones.
-const FIRST_DIALLED: u32 = 1000001;
+const FIRST_DIALLED: u32 = GREATEST_CLIENT + 1;
 
 /// What came on channels and is still to come, and which channels are open.
 #[derive(Drop)]

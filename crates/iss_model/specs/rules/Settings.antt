@@ -2,6 +2,7 @@
 use Rattle.std.specs.Prelude.{ℕ, Bool, true, false, List, ◌∷◌, codes, find, filter, fold, map, Option, Some, None, if◌then◌else◌}
 use Rattle.std.specs.List.{filter_map, list_any}
 use Rattle.std.specs.Str.{bytes_eq}
+use Rattle.iss_model.specs.declared.limits.TheConstants.{DEFAULT_TIMEOUT, DEFAULT_HOLD}
 use Rattle.iss_model.specs.declared.currency.Currency.TheVariants.{Usd}
 use Rattle.iss_model.specs.declared.setting.Funding.TheVariants as funding
 use Rattle.iss_model.specs.declared.setting.CardState.{CardState}
@@ -73,7 +74,7 @@ card_named name cards = find (λ card. bytes_eq card.name name) cards
 -- the product that stands in every book: funded by the user's balance in US dollars, 3 seconds for an answer, holds of a week
 abbrev pub default_product : Product
 default_product =
-    record { name = codes "default"; currency = Usd; funding = funding.Account; timeout_ms = 3000; hold_ms = 604800000 }
+    record { name = codes "default"; currency = Usd; funding = funding.Account; timeout_ms = DEFAULT_TIMEOUT; hold_ms = DEFAULT_HOLD }
 
 -- the product that an entry makes
 abbrev pub product_made : Entry → Option Product

@@ -11,7 +11,7 @@ use Rattle.iss_model.specs.rules.Asks.{Ask}
 use Rattle.iss_model.specs.rules.CardActs.{answer_acts, authorization_acts, increment_acts, reversal_acts, clearing_acts, refund_acts}
 use Rattle.iss_model.specs.rules.CardReasons.{txn_asked, first_ask, further_ask, authorization_reason, increment_reason, reversal_reason, clearing_reason, refund_reason}
 use Rattle.iss_model.specs.rules.Due.{DueItem, due_items, thing_entries}
-use Rattle.iss_model.specs.rules.Facts.{Facts, txn_in, call_in, is_notice}
+use Rattle.iss_model.specs.rules.Facts.{Facts, txn_in, is_notice}
 use Rattle.iss_model.specs.rules.Keeper.{Keeper, Growth, grow}
 use Rattle.iss_model.specs.rules.Reasons.{user_reason, card_reason, move_reason, product_reason, group_reason, control_reason, set_reason, switch_reason, load_reason}
 
