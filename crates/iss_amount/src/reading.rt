@@ -14,7 +14,7 @@ const GREATEST_AMOUNT: u64 = 1_000_000_000;
 /// The greatest limit, in minor units.
 const GREATEST_LIMIT: u64 = 1_000_000_000_000;
 
-/// The minor units of an event's amount such as `10.00`: `None` where the text isn't well formed in the currency, or they aren't 1 to 10^9.
+/// The minor units of an event's amount such as `10.00`: `None` if the text isn't well formed in the currency, or they aren't 1 to 10^9.
 #[tactic(auto, using(crate::proofs::RoundTrips::amount_written_again))]
 pub fn read(text: &[u8], currency: Currency) -> Option<u64>
     ensures number { result ≡ amount_read text.now currency }
@@ -24,7 +24,7 @@ pub fn read(text: &[u8], currency: Currency) -> Option<u64>
     checked_amount(amount)
 }
 
-/// The minor units of a limit such as `10.00`: `None` where the text isn't well formed in the currency, or they are above 10^12.
+/// The minor units of a limit such as `10.00`: `None` if the text isn't well formed in the currency, or they are above 10^12.
 #[tactic(auto, using(crate::proofs::RoundTrips::limit_written_again))]
 pub fn read_limit(text: &[u8], currency: Currency) -> Option<u64>
     ensures number { result ≡ limit_read text.now currency }
@@ -42,7 +42,7 @@ pub fn read_limit(text: &[u8], currency: Currency) -> Option<u64>
     read_after(units, &text[point + 1..])
 }
 
-/// The minor units of so many whole units: `None` where they aren't 1 to 10^9.
+/// The minor units of `units` whole units: `None` if they aren't 1 to 10^9.
 pub fn whole(units: u64, currency: Currency) -> Option<u64>
     ensures { result ≡ whole_amount_read units currency }
 {
@@ -50,7 +50,7 @@ pub fn whole(units: u64, currency: Currency) -> Option<u64>
     checked_amount(amount)
 }
 
-/// The minor units of so many whole units: `None` where they are above 10^12.
+/// The minor units of `units` whole units: `None` if they are above 10^12.
 pub fn whole_limit(units: u64, currency: Currency) -> Option<u64>
     ensures { result ≡ whole_limit_read units currency }
 {
@@ -58,14 +58,14 @@ pub fn whole_limit(units: u64, currency: Currency) -> Option<u64>
     checked_limit(limit)
 }
 
-/// The number, where it is an amount of an event.
+/// The number, if it is an amount of an event.
 fn checked_amount(n: u64) -> Option<u64>
     ensures { result ≡ if_form is_amount n }
 {
     (1..=GREATEST_AMOUNT).contains(&n).then_some(n)
 }
 
-/// The number, where it is a limit.
+/// The number, if it is a limit.
 fn checked_limit(n: u64) -> Option<u64>
     ensures { result ≡ if_form is_limit n }
 {

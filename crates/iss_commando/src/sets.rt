@@ -108,7 +108,7 @@ impl Sets {
         add_to(&mut self.stood, DayKey::new(product, user, at), amount)
     }
 
-    /// The set of that name, or `None` where there is none.
+    /// The set of that name, or `None` if there is none.
     pub fn get(&self, name: &Token) -> Option<&Set>
         ensures { option_map (λ found. found.now) result ≡ set_named name.now self.now.sets }
     {
@@ -122,7 +122,7 @@ impl Sets {
         self.sets.len() >= MOST
     }
 
-    /// What the sets say of an amount that the gateway didn't decide, for a product's user on a stamp's day: the first
+    /// What the sets decide of an amount that the gateway didn't decide, for a product's user on a stamp's day: the first
     /// active set of the product that covers the failure decides.
     pub fn stands(
         &self,

@@ -39,7 +39,7 @@ filter_all test keep (n ∷ numbers) all =
     either true here all = rw here all
     either false here all = all
 
--- what is to come may come where fewer numbers are known
+-- what is to come may come if fewer numbers are known
 to_come_fewer : (items : List Script) (known fewer : List ℕ) → ((ch : ℕ) → is_among known ch ≡ false → is_among fewer ch ≡ false) → are_to_come known items ≡ true → are_to_come fewer items ≡ true
 to_come_fewer [] known fewer less come = refl
 to_come_fewer (Client ch ∷ items) known fewer less come =

@@ -25,7 +25,7 @@ none_here false rest e = refl
 none_here true [] e = refl
 none_here true (b ∷ bs) e = cc
 
--- nothing is left where no piece has more
+-- nothing is left if no piece has more
 pub left_on-none : (ch : ℕ) (pieces : List Piece) → next_rest ch pieces ≡ [] → left_on pieces ch ≡ []
 left_on-none ch [] e = refl
 left_on-none ch (p ∷ pieces) e = first (p.ch.0 == ch) p.rest (left_on pieces ch) (next_rest ch pieces) e (left_on-none ch pieces)

@@ -1,4 +1,4 @@
--- The world and the heard list as one, where a clause speaks of both.
+-- The world and the heard list as one, for clauses that speak of both.
 use Rattle.std.specs.Prelude.{◌≡◌, List, [], ◌∷◌, ◌++◌, ℕ, false, Option, Some, None}
 use Rattle.iss_edge.specs.declared.outside.Channel.{Channel}
 use Rattle.iss_edge.specs.declared.outside.Action.{Action}
@@ -12,7 +12,7 @@ pub record Outer : Type 0 where
   pub world : World
   pub heard : List Answered
 
--- told where both are
+-- told if both are
 abbrev pub outer_of : Option World → Option (List Answered) → Option Outer
 outer_of None heard = None
 outer_of (Some world) None = None
@@ -32,12 +32,12 @@ pub record Adds (actions : List Action) (answers : List Answered) (a b : Outer) 
   pub trace : b.world.trace ≡ a.world.trace ++ actions
   pub heard : b.heard ≡ a.heard ++ answers
 
--- the action by which a prefix of a text went out, where one was added
+-- the action by which a prefix of a text went out, if one was added
 abbrev pub torn_actions : Channel → Option (List ℕ) → List Action
 torn_actions ch None = []
 torn_actions ch (Some prefix) = Emit ch prefix false ∷ []
 
--- where a part of a text went out, it was a prefix of it
+-- if a part of a text went out, it was a prefix of it
 abbrev pub IsTornFrom : List ℕ → Option (List ℕ) → Type 0
 IsTornFrom text None = Unit {0}
 IsTornFrom text (Some prefix) = (back : List ℕ) × (text ≡ prefix ++ back)

@@ -42,7 +42,7 @@ pub record Later (before now : Faults) : Type 0 where
 abbrev pub Rose : ℕ → ℕ → Type 0
 Rose before now = (before < now) ⊎ (now ≡ 2 ^ 64 - 1)
 
--- no count has fallen, and where the call failed its own count rose
+-- no count has fallen, and if the call failed its own count rose
 pub record HasCause {T E : Type 0} (kind : Faults → ℕ) (before now : Faults) (result : Result T E) : Type 0 where
   pub later : Later before now
   pub failed : OnErr result (Rose (kind before) (kind now))

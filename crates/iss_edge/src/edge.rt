@@ -34,7 +34,7 @@ pub trait Edge {
     fn size(&self) -> u64
         ensures { result ≡ extent self.now };
 
-    /// Reads the device's bytes from this place on into `buf`. Where it fails, what `buf` holds is open.
+    /// Reads the device's bytes from this place on into `buf`. If it fails, what `buf` holds is open.
     fn read_at(&mut self, at: u64, buf: &mut [u8]) -> Result<(), Failed>
         requires { at + length buf.old ≤ extent self.old }
         ensures read { OnOk result (Told (Reads at buf.new) (told self.old) (told self.new)) }
@@ -45,7 +45,7 @@ pub trait Edge {
         ensures channels { Stays channels self.old self.new };
 
     /// Writes the bytes to the device from this place on. Until a sync succeeds, a stop may leave anything there, and
-    /// where the write fails, what stands there is open.
+    /// if the write fails, what stands there is open.
     fn write_at(&mut self, at: u64, bytes: &[u8]) -> Result<(), Failed>
         requires { at + length bytes.now ≤ extent self.old }
         ensures written { OnOk result (Told (Writes at bytes.now) (told self.old) (told self.new)) }
@@ -56,7 +56,7 @@ pub trait Edge {
         ensures kept { Stays extent self.old self.new }
         ensures channels { Stays channels self.old self.new };
 
-    /// Makes all that was written last. Where it fails, a stop may still leave anything there.
+    /// Makes all that was written last. If it fails, a stop may still leave anything there.
     fn sync(&mut self) -> Result<(), Failed>
         ensures synced { OnOk result (Told Syncs (told self.old) (told self.new)) }
         ensures part { OnErr result (Told SyncsPart (told self.old) (told self.new)) }
@@ -65,7 +65,7 @@ pub trait Edge {
         ensures kept { Stays extent self.old self.new }
         ensures channels { Stays channels self.old self.new };
 
-    /// Waits for what comes next. A client comes on a channel that was not open. Where it fails, nothing is passed over.
+    /// Waits for what comes next. A client comes on a channel that was not open. If it fails, nothing is lost.
     fn wait(&mut self) -> Result<Arrival, Failed>
         ensures arrived { IfOk result (λ arrives. Told (Waits arrives) (told self.old) (told self.new)) }
         ensures unchanged { OnErr result (Told Same (told self.old) (told self.new)) }
@@ -76,7 +76,7 @@ pub trait Edge {
         ensures channels { channels self.new ≡ after_wait (result_ok result) (channels self.old) };
 
     /// Takes the next bytes of a channel into the start of `buf`, which is not empty, and returns how many. The channel is 0, or
-    /// the one that was last said to be ready. It returns 0 exactly at the end of the channel's bytes. Where it fails, it took none,
+    /// the one that was last said to be ready. It returns 0 exactly at the end of the channel's bytes. If it fails, it took none,
     /// and what `buf` holds is open.
     fn take(&mut self, ch: Channel, buf: &mut [u8]) -> Result<usize, Failed>
         requires channel { (ch.0 ≡ 0) ⊎ ((channels self.old).ready ≡ Some ch.0) }
@@ -90,7 +90,7 @@ pub trait Edge {
         ensures kept { Stays extent self.old self.new }
         ensures channels { Stays channels self.old self.new };
 
-    /// Sends the bytes out on a channel. Where it fails, a prefix of them may have gone out.
+    /// Sends the bytes out on a channel. If it fails, a prefix of them may have gone out.
     fn emit(&mut self, ch: Channel, bytes: &[u8]) -> Result<(), Failed>
         ensures emitted { OnOk result (Told (Emits ch bytes.now) (told self.old) (told self.new)) }
         ensures part { OnErr result

@@ -195,7 +195,7 @@ impl Edge for MemoryEdge {
     ghost sized = { λ m. sym m.device.ok.0 };
 }
 
-/// Counts a call that may fail, and says whether it is one of those that are to.
+/// Counts a call that may fail, and returns whether it is one of those that are to.
 fn fails_now(calls: &mut u64, fails: &[u64]) -> bool
     ensures counted { calls.new ≡ min (calls.old + 1) (2 ^ 64 - 1) }
     ensures named { IsTrue result ↔ Contains fails.now calls.new }

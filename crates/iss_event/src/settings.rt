@@ -1,4 +1,4 @@
-//! The fields of each type of line that sets something, in order. A bad field gives its name.
+//! The fields of each type of line that sets something, in order. For a bad field, its name is returned.
 ghost use Rattle.std.specs.Prelude.{◌≡◌, IfOk, codes, is_some, option_and_then};
 ghost use Rattle.iss_field.specs.declared.name.Name.TheVariants as name;
 ghost use Rattle.iss_field.specs.Fields.{field};
@@ -16,10 +16,10 @@ use iss_model::limits::{
 use iss_model::{Association, Currency, Input, Mccs, Moved, Scope, Token, Window};
 use std::alloc::{AllocError, Global};
 
-/// How long a gateway has to answer, in milliseconds, where a product's line doesn't say.
+/// How long a gateway has to answer, in milliseconds, if a product's line doesn't tell.
 const DEFAULT_TIMEOUT_MS: u64 = 3_000;
 
-/// How long an authorisation holds its amount, in milliseconds, where a product's line doesn't say: seven days.
+/// How long an authorisation holds its amount, in milliseconds, if a product's line doesn't tell: seven days.
 const DEFAULT_HOLD_MS: u64 = 604_800_000;
 
 #[tactic(auto, unfolding(crate::specs::Inputs::user_input))]
@@ -119,7 +119,7 @@ pub(crate) fn group_input(
     Ok(group_of(line, mccs))
 }
 
-/// The group of a line whose field of codes says these.
+/// The group of a line whose field of codes holds these.
 #[tactic(auto, unfolding(crate::specs::Inputs::group_input, iss_field::specs::Fields::required_field))]
 fn group_of(line: &Object<'_>, mccs: Option<Mccs>) -> Result<Input, Name>
     requires { mccs ≡ option_and_then mccs_of (field name.Mccs (seen line.now.value)) }

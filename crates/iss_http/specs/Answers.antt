@@ -10,11 +10,11 @@ pub data Reading : Type 0 where
   more ended garbled : Reading
   whole : ℕ → List ℕ → Reading
 
--- where more is wanted: nothing more comes once the bytes ended
+-- more is wanted, or nothing more comes since the bytes are over
 abbrev pub unless_over : Bool → Reading
 unless_over over = if over then ended else more
 
--- a body of this length, once it came
+-- a body of this length, after it came
 abbrev pub body_within : ℕ → List ℕ → Bool → ℕ → Reading
 body_within status rest over size =
     if nat_lt 16384 size then garbled else if nat_le size (length rest) then whole status (take size rest) else unless_over over
@@ -42,15 +42,15 @@ abbrev pub read_by : List ℕ → Bool → Option ResponseHead → Reading
 read_by bytes over None = if nat_le 8192 (length bytes) then garbled else unless_over over
 read_by bytes over (Some h) = headed bytes over h
 
--- what the bytes are, and whether they are over, where a bad head is told as late as may be
+-- what the bytes are, and whether they are over, if a bad head is told as late as may be
 unfoldable pub answer_read : List ℕ → Bool → Reading
 answer_read bytes over = read_by bytes over (response_head (take 8192 bytes))
 
--- whatever comes behind them, the bytes begin with no head of a response
+-- whatever comes after them, the bytes begin with no head of a response
 unfoldable pub IsHopelessAnswer : List ℕ → Type 0
 IsHopelessAnswer bytes = (rest : List ℕ) → response_head (bytes ++ rest) ≡ None
 
--- the bytes are read as this; they may be garbled already where no bytes behind them mend their head
+-- the bytes are read as this; they may be garbled already if no bytes after them mend their head
 abbrev pub IsReadAs : List ℕ → Bool → Reading → Type 0
 IsReadAs bytes over garbled = (answer_read bytes over ≡ garbled) ⊎ IsHopelessAnswer bytes
 IsReadAs bytes over reading = answer_read bytes over ≡ reading

@@ -86,7 +86,7 @@ header_of line =
     if is_token name && nat_lt (position_or_len is_colon line) (length line) && list_all is_value_byte raw
     then Some (record { name = name; value = trim_ows raw }) else None
 
--- all of them, where each is there
+-- all of them, if each is there
 abbrev pub all_of : {A : Type 0} → List (Option A) → Option (List A)
 all_of [] = Some []
 all_of (None ∷ xs) = None
@@ -142,7 +142,7 @@ abbrev pub is_reason : List ℕ → Bool
 is_reason [] = true
 is_reason (b ∷ phrase) = b == 32 && list_all is_value_byte phrase
 
--- the status that a response's first line gives in three digits
+-- the status that a response's first line has in three digits
 abbrev pub status_line : List ℕ → Option ℕ
 status_line line =
     let digits = take 3 (drop 9 line) in

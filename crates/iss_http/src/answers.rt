@@ -49,10 +49,10 @@ impl AnswerReader {
         })
     }
 
-    /// Takes the next bytes, and gives the answer once it is whole; what comes behind it is passed over.
+    /// Takes the next bytes, and returns the answer when it is whole; what comes after it is ignored.
     ///
-    /// `None` where the bytes that came aren't yet an answer. `Garbled` comes where they never become one that is taken;
-    /// for a bad head it may come as soon as no bytes behind them mend it. However much comes, at most 24577 bytes are
+    /// `None` if the bytes that came aren't yet an answer. `Garbled` comes if they never become one that is taken;
+    /// for a bad head it may come as soon as no bytes after them mend it. However much comes, at most 24577 bytes are
     /// kept. After another answer than `None` the reader isn't fed again.
     pub fn feed(&mut self, alloc: Global, piece: &[u8]) -> Result<Option<Answer>, AllocError>
         ensures answer { IfOk result (λ said. IsReadAs (self.old ++ piece.now) false (heard said)) }
@@ -62,7 +62,7 @@ impl AnswerReader {
         feed_bytes(&mut self.bytes, alloc, piece)
     }
 
-    /// The answer that the bytes are, now that no more come: `Ended` where more of them might still have made one.
+    /// The answer that the bytes are, now that no more come: `Ended` if more of them might still have made one.
     pub fn end(&self, alloc: Global) -> Result<Answer, AllocError>
         ensures { IfOk result (λ said. IsReadAs self.now true (reading_of said)) }
     {
@@ -174,7 +174,7 @@ fn open_body(status: u16, rest: &[u8], over: bool) -> Came<'_>
     }
 }
 
-/// A body of so many bytes.
+/// A body of `size` bytes.
 fn body_within(status: u16, rest: &[u8], over: bool, size: u64) -> Came<'_>
     ensures { came_as result ≡ body_within status rest.now over size }
 {

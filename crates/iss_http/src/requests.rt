@@ -42,10 +42,10 @@ impl Reader {
         })
     }
 
-    /// Takes the next bytes, and gives the body once the request is whole; what comes behind it is passed over.
+    /// Takes the next bytes, and returns the body when the request is whole; what comes after it is ignored.
     ///
-    /// `None` where the bytes that came aren't yet a request. A fault is the first that they have, in the order of
-    /// `HttpFault`; `Head` comes in place of `None` or `HeadLong`, and only where no bytes behind them make a head. However
+    /// `None` if the bytes that came aren't yet a request. A fault is the first that they have, in the order of
+    /// `HttpFault`; `Head` comes in place of `None` or `HeadLong`, and only if no bytes after them make a head. However
     /// much comes, at most 24576 bytes are kept. After another answer than `None` the reader isn't fed again.
     #[tactic(auto, unfolding(crate::specs::Requests::request))]
     pub fn feed(&mut self, alloc: Global, piece: &[u8]) -> Result<Option<Vec<u8>>, FeedFault>
@@ -137,7 +137,7 @@ fn body_behind<'b>(
     sized_body(behind(bytes, head.len), content_length(start, headers))
 }
 
-/// What the bytes behind the head are, by the length of the body.
+/// What the bytes after the head are, by the length of the body.
 fn sized_body(rest: &[u8], length: ContentLength) -> Result<Option<&[u8]>, HttpFault>
     ensures { told (λ text. text.now) result ≡ sized_body rest.now length }
 {

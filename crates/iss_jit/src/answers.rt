@@ -21,8 +21,8 @@ const REFUSED: u16 = 402;
 
 /// What an HTTP answer with this status and body to the request of a call comes to.
 ///
-/// `Funded` exactly where the status is 200 and the body is a JSON object of RFC 8259 with the call's token, a UUID of
-/// RFC 9562 in any spelling, and its amount; `Refused` exactly where the status is 402; else `Application`. Of members of
+/// `Funded` exactly if the status is 200 and the body is a JSON object of RFC 8259 with the call's token, a UUID of
+/// RFC 9562 in any spelling, and its amount; `Refused` exactly if the status is 402; else `Application`. Of members of
 /// one name the last counts.
 #[tactic(auto, using(crate::proofs::Echoes::echo), unfolding(crate::specs::Outcomes::outcome_of))]
 pub fn answer(
@@ -115,7 +115,7 @@ fn amount_of(value: &Value, currency: Currency) -> Option<u64>
     }
 }
 
-/// The JSON value that the bytes are, or `None` where they are none.
+/// The JSON value that the bytes are, or `None` if they are none.
 #[tactic(auto, unfolding(crate::specs::Outcomes::json_of))]
 fn value_of(alloc: Global, body: &[u8]) -> Result<Option<Value>, AllocError>
     ensures { IfOk result (λ found. option_map view found ≡ json_of body.now) }

@@ -76,7 +76,7 @@ pub(crate) fn put_call(out: &mut Vec<u8>, call: CallId, instance: u64) -> Result
     put_text(out, "token", text.as_bytes())
 }
 
-/// Adds the token of the call that a notice ends, where it ends one.
+/// Adds the token of the call that a notice ends, if it ends one.
 pub(crate) fn put_ended(
     out: &mut Vec<u8>,
     call: Option<CallId>,

@@ -1,4 +1,4 @@
-//! The texts of requests and notices, after those that are there. Where an allocation fails a part of a text may be there.
+//! The texts of requests and notices, after those that are there. If an allocation fails, a part of a text may be there.
 ghost use Rattle.std.specs.Prelude.{◌≡◌, ◌<◌, ◌^◌, ◌++◌, IfOk, OnOk};
 ghost use Rattle.iss_model.specs.texts.GatewayTexts.{request_text, notice_text};
 
@@ -18,7 +18,7 @@ pub fn request_text(alloc: Global, opened: &Opened, instance: u64) -> Result<Vec
     Ok(text)
 }
 
-/// The text that gives a notice to the gateway of an instance, without a line feed.
+/// The text of a notice to the gateway of an instance, without a line feed.
 pub fn notice_text(alloc: Global, notice: &Notice, instance: u64) -> Result<Vec<u8>, AllocError>
     requires { instance < 2 ^ 48 }
     ensures { IfOk result (λ text. text.items ≡ notice_text instance notice.now) }

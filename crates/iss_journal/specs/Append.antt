@@ -17,7 +17,7 @@ pub record ComesNext (region : Region) (bodies : List (List ℕ)) (j : ℕ) (bod
 unfoldable pub append_puts : ℕ → List ℕ → List Put
 append_puts gate frame = one_put (gate + 1) frame ++ one_put gate (1 ∷ [])
 
--- These puts were made, or a prefix of their actions, and that is good from j records to one more, where the journal holds j and the
+-- These puts were made, or a prefix of their actions, and that is good from j records to one more, if the journal holds j and the
 -- frame is that of the next one: each image of each moment shows the old records, maybe with the new one left behind, or also the new one.
 pub record AppendsGood (place : Place) (frame : List ℕ) (a b : World) : Type 0 where
   pub part : PutsPart (append_puts place.gate frame) a b

@@ -13,7 +13,7 @@ signature = 73 ∷ 83 ∷ 83 ∷ 49 ∷ 1 ∷ 0 ∷ 0 ∷ 0 ∷ 0 ∷ []
 abbrev pub instance_bytes : ℕ → List ℕ
 instance_bytes instance = drop 2 (to_be_bytes w64 instance)
 
--- the 16 bytes before the journal: 1 where the device is formatted, the signature and the instance
+-- the 16 bytes before the journal: 1 if the device is formatted, the signature and the instance
 unfoldable pub header : ℕ → List ℕ
 header instance = 1 ∷ (signature ++ instance_bytes instance)
 
@@ -32,7 +32,7 @@ pub record HasInstance (image : List ℕ) (instance : ℕ) : Type 0 where
 abbrev pub IsUnformatted : List ℕ → Type 0
 IsUnformatted image = (instance : ℕ) → HasInstance image instance → ⊥
 
--- the instance of the header, or that there is none: exactly where the size or the header is another
+-- the instance of the header, or that there is none: exactly if the size or the header is another
 abbrev pub ReadsInstance : Result ℕ JournalFault → World → World → Type 0
 ReadsInstance (Ok instance) a b = HasInstance a.device instance
 ReadsInstance (Err NotFormatted) a b = IsUnformatted a.device

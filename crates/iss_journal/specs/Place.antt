@@ -5,6 +5,6 @@ pub record Place : Type 0 where
   pub gate : ℕ
   pub to : ℕ
 
--- how many bytes are left behind the gate
+-- how many bytes are free after the gate
 abbrev pub free_at : Place → ℕ
 free_at place = place.to - 1 - place.gate

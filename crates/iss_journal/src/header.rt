@@ -6,7 +6,7 @@ ghost use Rattle.iss_journal.specs.Formatting.{tail_of};
 
 use crate::frame::{CLOSED, OPEN};
 
-/// The header of this instance: 1 where the device is formatted, `ISS1`, version 1, four zeros, and the instance in six bytes.
+/// The header of this instance: 1 if the device is formatted, `ISS1`, version 1, four zeros, and the instance in six bytes.
 #[tactic(auto, unfolding(crate::specs::Header::header))]
 pub(crate) fn header_of(instance: u64) -> [u8; 16]
     ensures { result ≡ header instance }

@@ -98,7 +98,7 @@ impl Journal {
         Journal { gate, to }
     }
 
-    /// How many bytes are left behind the end gate.
+    /// How many bytes are free after the end gate.
     pub fn free(&self) -> u64
         ensures { result ≡ free_at self.now }
     {

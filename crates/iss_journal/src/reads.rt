@@ -37,7 +37,7 @@ pub(crate) fn read_gate<E: Edge>(edge: &mut E, at: u64) -> Result<u8, Failed>
     Ok(buf[0])
 }
 
-/// The gate at this place and the length after it, or 0 where the region ends before a record could.
+/// The gate at this place and the length after it, or 0 if the region ends before a record could.
 #[tactic(auto, using(crate::proofs::Readings::reads_short, crate::proofs::Readings::reads_head))]
 pub(crate) fn read_head<E: Edge>(edge: &mut E, at: u64, to: u64) -> Result<Head, Failed>
     requires gate { at < to }

@@ -52,8 +52,8 @@ impl Scan {
         Ok(Scan { gate: from, to })
     }
 
-    /// The next record's body, or `None` exactly at a gate that is not open. `BadRecord` names an open gate exactly where the
-    /// length after it is 0, over 8192, or passes the region's end. Where it does not give a body the scan is as before.
+    /// The next record's body, or `None` exactly at a gate that is not open. `BadRecord` names an open gate exactly if the
+    /// length after it is 0, over 8192, or passes the region's end. If it returns no body, the scan is as before.
     #[tactic(auto, using(crate::proofs::Scans::finds_no_disk, crate::proofs::Scans::finds_no_memory, crate::proofs::Scans::finds_shut, crate::proofs::Scans::finds_wrong, crate::proofs::Scans::finds_body, crate::proofs::Scans::head_same, crate::proofs::Scans::same_then_told, crate::proofs::Scans::body_same, iss_edge::proofs::ToldPuts::hears_nothing))]
     pub fn next<E: Edge>(
         &mut self,
@@ -83,7 +83,7 @@ impl Scan {
         Ok(Some(body))
     }
 
-    /// The journal, once `next` has answered `None`. Where the end gate is another than 0 it becomes 0, so that the record
+    /// The journal, once `next` has answered `None`. If the end gate isn't 0, it becomes 0, so that the record
     /// after it, if one was left there, never stands.
     #[tactic(auto, using(crate::proofs::Closings::close_shut, crate::proofs::Closings::close_shut_good, crate::proofs::Closings::close_part, crate::proofs::Closings::close_done, crate::proofs::Closings::close_done_good, crate::proofs::Closings::close_unread, iss_edge::proofs::ToldPuts::hears_nothing))]
     pub fn finish<E: Edge>(self, edge: &mut E) -> Result<Journal, JournalFault>
@@ -107,7 +107,7 @@ impl Scan {
     }
 }
 
-/// Whether a body may have this length, where this many bytes are left from its gate on.
+/// Whether a body may have this length, if this many bytes are left from its gate on.
 fn is_length(length: u32, room: u64) -> bool
     ensures { IsTrue result ↔ ((0 < length) × (length ≤ 8192) × (5 + length < room)) }
 {

@@ -250,7 +250,7 @@ between w a b last h k e = squeeze (window_nat w a) (window_nat w b) (window_nat
     squeeze : (x y z : ℕ) → x ≤ y → y ≤ z → x ≡ z → y ≡ z
     squeeze x y z h k e = omega (arith, h, k, e)
 
--- where a stamp lies in the window of the last moment, those between do too
+-- if a stamp lies in the window of the last moment, those between do too
 window_stays : (w : Window) (one other : List ℕ) (a b last : ℕ) → a ≤ b → b ≤ last → bytes_eq (window_key w (pos 0) one a) (window_key w (pos 0) other last) ≡ true
     → bytes_eq (window_key w (pos 0) one b) (window_key w (pos 0) other last) ≡ true
 window_stays w one other a b last h k e =

@@ -13,7 +13,7 @@ ghost use Rattle.iss_laws.specs.Pairs.{paired, pairing_after};
 ghost use Rattle.iss_laws.specs.Payable.{asked_at, ArePayable, CallsStand};
 
 /// The entries of a step close the call of a number as often as it was asked or is opened there, and isn't asked then. They void it as
-/// often as they close it as failed or abandoned, and a notice names a call exactly where its method is void.
+/// often as they close it as failed or abandoned, and a notice names a call exactly if its method is void.
 pub fn calls_are_closed_once()
     ensures counted { (s : CoreState) → (r : Record) → (n : ℕ) → IsNewEvent s r.input → IsWell s
         → times_among (closes n) (step core_keeper s r).entries + asked_at (step core_keeper s r).world.calls n

@@ -37,7 +37,7 @@ pub record Reads (ch : Channel) (got : Option (List ℕ)) (before after : List L
   pub kept : IfNone said (after ≡ links_with ch (piece_of got) before)
   pub others : links_without ch after ≡ links_without ch before
 
--- a channel is closed once its answer was heard
+-- a channel is closed after its answer was heard
 abbrev pub closing : Channel → link.Heard → List Action
 closing ch unfinished = []
 closing ch _ = Close ch ∷ []
@@ -63,7 +63,7 @@ abbrev pub TakeFaultRose : Channel → Channels → Faults → Faults → Type 0
 TakeFaultRose ch channels f g = Rose (count_of (take_fault channels ch) f) (count_of (take_fault channels ch) g)
 
 -- One take was made on a watched channel; it failed only if the count of that channel's kind rose. This was heard of it, and done:
--- the channel was closed once its answer was heard.
+-- the channel was closed after its answer was heard.
 pub record Listens {E : Type 0} (before after : LinksNow) (ch : Channel) (result : Result Heard E) (channels : Channels) (f g : Faults) (x y : Option Outer) : Type 0 where
   pub got : Option (List ℕ)
   pub piece : is_piece got ≡ true

@@ -38,7 +38,7 @@ abbrev pub bytes_of : Option (List ℕ) → List ℕ
 bytes_of None = []
 bytes_of (Some bytes) = bytes
 
--- there is a reader only where a byte came
+-- there is a reader only if a byte came
 abbrev pub HasBegun : Option (List ℕ) → Type 0
 HasBegun None = Unit {0}
 HasBegun (Some bytes) = is_empty bytes ≡ false

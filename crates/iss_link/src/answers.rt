@@ -26,7 +26,7 @@ use std::alloc::{AllocError, Global};
 /// The status of a gateway that acknowledges a notice: OK of RFC 9110.
 const ACKNOWLEDGED: u16 = 200;
 
-/// Takes once from a watched channel that is ready, and gives what its bytes come to. Once that is an answer, the channel is closed and
+/// Takes once from a watched channel that is ready, and returns what its bytes come to. After a whole answer, the channel is closed and
 /// watched no longer.
 pub(crate) fn listen<E: Edge>(
     links: &mut ByChannel<Watched>,
@@ -70,7 +70,7 @@ fn about(links: &ByChannel<Watched>, ch: Channel) -> About
     watched.about
 }
 
-/// Takes the next bytes of a channel into a buffer, none at their end, and gives how many came. `None` where it failed.
+/// Takes the next bytes of a channel into a buffer, none at their end, and returns how many came. `None` if it failed.
 fn take<E: Edge>(edge: &mut E, ch: Channel, buffer: &mut [u8]) -> Option<usize>
     requires ready { (E.channels edge.old).ready ≡ Some ch.0 }
     requires room { length buffer.old ≡ 4096 }
@@ -88,7 +88,7 @@ fn take<E: Edge>(edge: &mut E, ch: Channel, buffer: &mut [u8]) -> Option<usize>
     }
 }
 
-/// What a channel's bytes are once a take brought these, or failed, which ends them.
+/// What a channel's bytes are after a take brought these, or failed, which ends them.
 fn read(
     links: &mut ByChannel<Watched>,
     alloc: Global,

@@ -4,7 +4,7 @@ ghost use Rattle.iss_link.specs.Causes.{UnfinishedOnlyAt, ConnectionOnlyAt, Appl
 
 use iss_edge::Showing;
 
-/// What each answer on a link comes by: nothing only where bytes came and no answer is whole; a call that isn't connected only where the
+/// What each answer on a link comes by: nothing only if bytes came and no answer is whole; a call that isn't connected only if the
 /// take failed or the bytes ended early; a refusal, an answer that can't be understood, an acknowledgement and none exactly so.
 
 pub fn answers_are_caused()
@@ -16,7 +16,7 @@ pub fn answers_are_caused()
     ensures dropped { DroppedExactly }
 {}
 
-/// What is done where a link is listened to is a stretch that is good from j to j: a stop within it leaves a device that shows the j
+/// What is done when a link is listened to is a stretch that is good from j to j: a stop within it leaves a device that shows the j
 /// records, and the run may go on.
 pub fn answers_are_good_stretches<S: Showing>()
     ensures { ClosingsAreGood S.starts S.stands }

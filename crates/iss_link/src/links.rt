@@ -50,7 +50,7 @@ impl Links {
         })
     }
 
-    /// Watches the channel on which a request or a notice went out. Where allocation fails all stays as it was.
+    /// Watches the channel on which a request or a notice went out. If an allocation fails, all stays as it was.
     pub fn watch(&mut self, gone: &Gone) -> Result<(), AllocError>
         ensures watched { OnOk result (self.new ≡ record self.old { links = self.old.links ++ links_of (gone_as gone.now) }) }
         ensures unchanged { OnErr result (self.new ≡ self.old) }
@@ -62,7 +62,7 @@ impl Links {
         }
     }
 
-    /// How far the answer on a channel has come, `None` exactly where the channel isn't watched.
+    /// How far the answer on a channel has come, `None` exactly if the channel isn't watched.
     pub fn state(&self, ch: Channel) -> Option<LinkState>
         ensures { result ≡ state_on ch self.now.links }
     {
@@ -70,10 +70,10 @@ impl Links {
         Some(watched.state())
     }
 
-    /// Takes once from a watched channel that is ready, and gives what was heard.
+    /// Takes once from a watched channel that is ready, and returns what was heard.
     ///
-    /// `Nothing` only where bytes came and the answer isn't whole; `Connection` only where the take failed or the bytes ended before a
-    /// whole answer. After each answer but `Nothing` the channel is closed and watched no longer. Where an allocation fails, the
+    /// `Nothing` only if bytes came and the answer isn't whole; `Connection` only if the take failed or the bytes ended before a
+    /// whole answer. After each answer but `Nothing` the channel is closed and watched no longer. If an allocation fails, the
     /// take was made, and what is watched is open.
     pub fn ready<E: Edge>(
         &mut self,

@@ -32,7 +32,7 @@ impl Model for Token {
 }
 
 impl Token {
-    /// The token that a text spells, or `None` exactly where it spells none.
+    /// The token that a text spells, or `None` exactly if it spells none.
     pub fn new(text: &[u8]) -> Option<Token>
         ensures spelled { IsSome result ↔ IsTrue (is_token text.now) }
         ensures value { IfSome result (λ token. token ≡ text.now) }

@@ -82,7 +82,7 @@ impl Products {
         Ok(())
     }
 
-    /// Turns a product's switch. False exactly where there is no product of that name.
+    /// Turns a product's switch. False exactly if there is no product of that name.
     pub fn set_switch(&mut self, name: &Token, on: bool) -> bool
         ensures known { result ≡ is_some (product_named name.now (products_in self.old)) }
         ensures turned { self.new ≡ with_switch self.old name.now on }

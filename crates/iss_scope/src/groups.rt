@@ -68,7 +68,7 @@ impl Groups {
         }
     }
 
-    /// Adds a group of merchant category codes. `Exists` where there is a group of that name, else `Limit` where there are 256.
+    /// Adds a group of merchant category codes. `Exists` if there is a group of that name, else `Limit` if there are 256.
     pub fn add(&mut self, alloc: Global, name: &Token, mccs: &[u16]) -> Result<(), GroupFault>
         ensures added { OnOk result (self.new ≡ self.old ++ record { name = name.now; mccs = mccs.now } ∷ []) }
         ensures refused { OnErr result (self.new ≡ self.old) }
@@ -112,7 +112,7 @@ impl Groups {
         self.by_name.get(name).is_some()
     }
 
-    /// Whether the group of that name holds a code. False where there is no such group.
+    /// Whether the group of that name holds a code. False if there is no such group.
     pub fn holds(&self, name: &Token, mcc: u16) -> bool
         ensures { result ≡ holds_mcc mcc (group_named name.now self.now) }
     {

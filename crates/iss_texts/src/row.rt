@@ -16,7 +16,7 @@ use iss_jit::{put_notice, put_request};
 use iss_model::{Answer, Entry, Notice, Opened, Reply};
 use std::alloc::{AllocError, Global};
 
-/// Texts in a row, and the places where they end. Each is a line, with its line feed. Where an allocation fails a part of
+/// Texts in a row, and the places where they end. Each is a line, with its line feed. If an allocation fails, a part of
 /// one may be there.
 #[derive(Drop)]
 pub struct Texts {
@@ -41,7 +41,7 @@ impl Texts {
         self.ends.clear();
     }
 
-    /// Adds what is told of a line with a fault of form.
+    /// Adds the text of a line with a fault of form.
     #[tactic(auto, using(crate::proofs::Rows::one_more))]
     pub fn put_form(&mut self, fault: &FormFault) -> Result<(), AllocError>
         ensures { OnOk result (Gains (form_text fault.now ∷ []) self.old self.new) }
@@ -50,7 +50,7 @@ impl Texts {
         self.end()
     }
 
-    /// Adds what an input is told that isn't new.
+    /// Adds the answer to an input that isn't new.
     #[tactic(auto, using(crate::proofs::Rows::one_more))]
     pub fn put_told(&mut self, answer: &Answer) -> Result<(), AllocError>
         ensures { OnOk result (Gains (answer_text answer.now ∷ []) self.old self.new) }

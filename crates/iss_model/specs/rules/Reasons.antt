@@ -33,7 +33,7 @@ abbrev pub is_some_with : {A : Type 0} → (A → Bool) → Option A → Bool
 is_some_with test None = false
 is_some_with test (Some x) = test x
 
--- there may be so many products with the built-in one, so many groups, controls and sets
+-- the most products with the built-in one, and the most groups, controls and sets
 abbrev pub most_things : ℕ
 most_things = 256
 

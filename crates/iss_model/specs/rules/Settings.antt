@@ -17,7 +17,7 @@ use Rattle.iss_model.specs.declared.entry.Row.{Row}
 use Rattle.iss_model.specs.declared.entry.Entry.{Entry}
 use Rattle.iss_model.specs.declared.entry.Entry.TheVariants as entry
 
--- the last of these, or the first value where there is none
+-- the last of these, or the first value if there is none
 abbrev pub latest_of : {A : Type 0} → A → List A → A
 latest_of first later = fold (λ before x. x) first later
 
@@ -47,7 +47,7 @@ user_named name users = find (λ user. bytes_eq user.name name) users
 abbrev pub first_card_state : Bool → CardState
 first_card_state active = if active then card_state.Active else card_state.Unactivated
 
--- the card that an entry makes: a new card is active where it says so, and else waits to be activated
+-- the card that an entry makes: a new card is active if it says so, and else waits to be activated
 abbrev pub card_made : Entry → Option Card
 card_made (entry.Conf (input.Card token card user product active)) =
     Some (record { name = card; user = user; product = product; state = first_card_state active })
