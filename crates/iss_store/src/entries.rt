@@ -1,5 +1,5 @@
 //! What the entries of a record send while clients are served.
-ghost use Rattle.std.specs.Prelude.{◌≡◌, ◌<◌, ◌^◌, true, List, [], ◌∷◌, ◌++◌, IfOk, OnOk, OnErr};
+ghost use Rattle.std.specs.Prelude.{◌≡◌, ◌<◌, true, List, [], ◌∷◌, ◌++◌, IfOk, OnOk, OnErr};
 ghost use Rattle.std.specs.List.{flat_map};
 ghost use Rattle.iss_edge.specs.World.{Told, Later};
 ghost use Rattle.iss_edge.specs.Outer.{outer_of, Adds};
@@ -9,6 +9,7 @@ ghost use Rattle.iss_model.specs.texts.Wordings.{reply_line};
 ghost use Rattle.iss_http.specs.Messages.{respond};
 ghost use Rattle.iss_link.specs.declared.gone.Gone.{Gone};
 ghost use Rattle.iss_edge.specs.declared.outside.Channel.{Channel};
+ghost use Rattle.iss_model.specs.declared.limits.TheConstants.{INSTANCES};
 ghost use Rattle.iss_session.specs.Desks.{of_call, of_notice, to_dial, to_reply};
 ghost use Rattle.iss_store.specs.Saying.{StaysGood};
 ghost use Rattle.iss_store.specs.Numbers.{is_from_one, is_numbered, AreNumbered};
@@ -37,7 +38,7 @@ pub(crate) fn send_entries<E: Edge>(
     served: &Served,
     instance: u64,
 ) -> Result<(Vec<Gone>, Vec<Channel>), AllocError>
-    requires instance { instance < 2 ^ 48 }
+    requires instance { instance < INSTANCES }
     requires numbered { AreNumbered entries.now }
     ensures sends { IfOk result (λ x. Told (SendsOn (flat_map (tasks_by instance served.now) entries.now) (all_gone x.0.items) x.1.items)
         (outer_of (E.told edge.old) (E.heard edge.old)) (outer_of (E.told edge.new) (E.heard edge.new))) }
@@ -76,7 +77,7 @@ fn send_entry<E: Edge>(
     gone: &mut Vec<Gone>,
     answered: &mut Vec<Channel>,
 ) -> Result<(), AllocError>
-    requires instance { instance < 2 ^ 48 }
+    requires instance { instance < INSTANCES }
     requires numbered { is_numbered entry.now ≡ true }
     requires before { HaveNumbers gone.old.items }
     ensures numbered { OnOk result (HaveNumbers gone.new.items) }
@@ -135,7 +136,7 @@ fn send_request<E: Edge>(
     instance: u64,
     gone: &mut Vec<Gone>,
 ) -> Result<(), AllocError>
-    requires instance { instance < 2 ^ 48 }
+    requires instance { instance < INSTANCES }
     requires numbered { is_from_one opened.now.call.0 ≡ true }
     requires before { HaveNumbers gone.old.items }
     ensures numbered { OnOk result (HaveNumbers gone.new.items) }
@@ -165,7 +166,7 @@ fn send_notice<E: Edge>(
     instance: u64,
     gone: &mut Vec<Gone>,
 ) -> Result<(), AllocError>
-    requires instance { instance < 2 ^ 48 }
+    requires instance { instance < INSTANCES }
     requires numbered { is_from_one notice.now.number ≡ true }
     requires before { HaveNumbers gone.old.items }
     ensures numbered { OnOk result (HaveNumbers gone.new.items) }
