@@ -58,7 +58,7 @@ IsReadAs bytes over reading = answer_read bytes over ≡ reading
 
 -- what bytes are that no head of an answer begins with: garbled once they are as long as a head may be
 abbrev pub hopeless_answer : List ℕ → Bool → Reading
-hopeless_answer bytes over = if nat_le 8192 (length bytes) then garbled else unless_over over
+hopeless_answer bytes over = if nat_le MOST_HEAD (length bytes) then garbled else unless_over over
 
 -- more of an answer is awaited, or what comes after its bytes doesn't change what they are
 abbrev pub AnswerIsAwaitedOrStays : List ℕ → List ℕ → Bool → Type 0

@@ -86,4 +86,4 @@ IsCause bytes f = IsCauseAs request bytes f
 
 -- what bytes are that no head of a request begins with: refused once they are as long as a head may be
 abbrev pub hopeless_request : List ℕ → Request
-hopeless_request bytes = if nat_le 8192 (length bytes) then faulty HeadLong else more
+hopeless_request bytes = if nat_le MOST_HEAD (length bytes) then faulty HeadLong else more
