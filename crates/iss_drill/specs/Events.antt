@@ -40,15 +40,15 @@ own_event i y =
     else if y % 8 == 6 then reversal i y
     else purchase i y
 
--- of eight numbers one repeats the event before, where there is one
+-- of eight numbers one repeats the event before, if there is one
 abbrev pub is_again : ℕ → Bool
 is_again i = drawn i % 8 == 7 && nat_lt 1 i
 
--- the input of an event: its own, or that of the event before it; before the first one it is a time, which isn't given
+-- the input of an event: its own, or that of the event before it; before the first one it is a time, which isn't taken
 unfoldable pub event_input : ℕ → Input
 event_input zero = input.Time
 event_input (suc i) = if is_again (suc i) then event_input i else own_event (suc i) (drawn (suc i))
 
--- how the gateway answers the call of an event: of eleven numbers one says that it can't be reached, one refuses, the others fund
+-- how the gateway answers the call of an event: of eleven numbers one means that it can't be reached, one refuses, the others fund
 unfoldable pub outcome_of : ℕ → Outcome
 outcome_of y = if y % 11 == 0 then Connection else if y % 11 == 1 then Refused else Funded

@@ -65,7 +65,7 @@ fn drilled(alloc: Global, n: u32) -> Result<Vec<u8>, AllocError>
     drill_line(alloc, &totals)
 }
 
-/// A store without a record, and its device, of so many bytes. A call on a device in memory fails for want of memory alone.
+/// A store without a record, and its device of `size` bytes. A call on a device in memory fails only if an allocation does.
 fn fresh_store(alloc: Global, size: u32) -> Result<(Store, Quiet), AllocError>
     requires { 17 ≤ size }
     ensures stands { IfOk result (λ x. StandsFor x.0 []) }
@@ -79,7 +79,7 @@ fn fresh_store(alloc: Global, size: u32) -> Result<(Store, Quiet), AllocError>
     Ok((store, device))
 }
 
-/// Makes a device one of instance 0 that stands for no records, and opens it. It fails for want of memory alone, as the device does.
+/// Makes a device one of instance 0 that stands for no records, and opens it. It fails only if an allocation does.
 fn format_and_open<E: Edge>(alloc: Global, edge: &mut E) -> Result<Store, AllocError>
     requires least { 17 ≤ E.extent edge.old }
     requires most { E.extent edge.old ≤ 2 ^ 32 }
@@ -181,7 +181,7 @@ fn give_events(
     Ok(store)
 }
 
-/// Gives the event of this number, and then the answer of the call that it opens, where it opens one.
+/// Gives the event of this number, and then the answer of the call that it opens, if it opens one.
 fn give_event(
     alloc: Global,
     store: Store,

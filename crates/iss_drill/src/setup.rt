@@ -69,6 +69,7 @@ fn control() -> Input
         usage_limit: None,
         association: Association::Anybody,
         scope: Scope::All,
+        offset: 0,
         active: true,
     }
 }

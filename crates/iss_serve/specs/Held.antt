@@ -78,6 +78,22 @@ idle s h = to_judge s h []
 abbrev pub sending : StoreNow → HeldNow → List Queued → List Task → Stage
 sending s h first tasks = record { store = s; held = h; ready = None; first = first; tasks = tasks }
 
+-- with what is held, this input is to be judged next, and then the others
+abbrev pub judging_first : StoreNow → Held → code.Queued → List Queued → Stage
+judging_first s h first rest = to_judge s (now_of h) (queued_as first ∷ rest)
+
+-- with what is held, these inputs are left to judge
+abbrev pub left_to_judge : Held → List Queued → StoreNow → Stage
+left_to_judge h rest s = to_judge s (now_of h) rest
+
+-- with what is held, nothing is left to judge first
+abbrev pub resting : Held → StoreNow → Stage
+resting h s = idle s (now_of h)
+
+-- with what is held, the input that was heard is to be judged, if there is one
+abbrev pub judging_heard : StoreNow → Held → Option code.Queued → Stage
+judging_heard s h heard = to_judge s (now_of h) (queued_maybe heard)
+
 -- a channel is to be taken from
 abbrev pub taking : StoreNow → HeldNow → Channel → Stage
 taking s h ch = record { store = s; held = h; ready = Some ch; first = []; tasks = [] }

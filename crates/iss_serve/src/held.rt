@@ -40,7 +40,7 @@ pub(crate) struct Held {
 }
 
 impl Held {
-    /// Nothing is held, and so many waits are left.
+    /// Nothing is held, and `turns` waits are left.
     pub(crate) fn new(alloc: Global, instance: u64, turns: u32) -> Result<Held, AllocError>
         requires { instance < 2 ^ 48 }
         ensures now { IfOk result (λ held. now_of held ≡ record {

@@ -1,6 +1,6 @@
 //! Opening a device: each record is read once, and taken up.
 ghost use Rattle.std.specs.Prelude.{◌≡◌, ◌+◌, ◌*◌, ◌<◌, ◌≤◌, ◌^◌, IfOk};
-ghost use Rattle.iss_edge.specs.World.{Told};
+ghost use Rattle.iss_edge.specs.World.{Told, Stays};
 ghost use Rattle.iss_edge.specs.Calls.{Same, HearsNothing};
 ghost use Rattle.iss_store.specs.Numbers.{IsNumbered};
 ghost use Rattle.iss_store.specs.Opening.{Opens, OpensGood, OpenedAs, OnRefused, ReadsAlone, OpenCause, TakesIn, ReadsAll};
@@ -34,8 +34,8 @@ impl Store {
         ensures size { IfOk result (λ store. store.place.to ≡ E.extent edge.new) }
         ensures cause { OpenCause (E.faults edge.old) (E.faults edge.new) result }
         ensures heard { Told HearsNothing (E.heard edge.old) (E.heard edge.new) }
-        ensures kept { E.extent edge.new ≡ E.extent edge.old }
-        ensures channels { E.channels edge.new ≡ E.channels edge.old }
+        ensures kept { Stays E.extent edge.old edge.new }
+        ensures channels { Stays E.channels edge.old edge.new }
     {
         let instance = Journal::instance(edge)?;
         let to = edge.size();
@@ -67,8 +67,8 @@ fn read_all<E: Edge>(
     ensures numbered { IfOk result (λ core. IsNumbered core.state) }
     ensures cause { OpenCause (E.faults edge.old) (E.faults edge.new) result }
     ensures heard { Told HearsNothing (E.heard edge.old) (E.heard edge.new) }
-    ensures kept { E.extent edge.new ≡ E.extent edge.old }
-    ensures channels { E.channels edge.new ≡ E.channels edge.old }
+    ensures kept { Stays E.extent edge.old edge.new }
+    ensures channels { Stays E.channels edge.old edge.new }
 {
     let mut core = Core::new(alloc, instance)?;
     let mut gate = FIRST_GATE;

@@ -15,3 +15,8 @@ pub record FormatRun (size instance extent status : ℕ) (before now : Faults) (
   -- no count has fallen, and where the size is right and the disk isn't at fault, the device is formatted
   pub later : Later before now
   pub complete : extent ≡ size → (Rose before.disk now.disk → ⊥) → status ≡ 0
+
+-- the same, by what an edge tells before the run and after it
+abbrev pub FormatRunOn : {E : Type 0} → (E → ℕ) → (E → Faults) → (E → Option World) → E → E → ℕ → ℕ → ℕ → Type 0
+FormatRunOn extent faults told a b size instance status =
+    FormatRun size instance (extent a) status (faults a) (faults b) (told a) (told b)

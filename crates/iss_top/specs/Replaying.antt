@@ -1,8 +1,8 @@
 -- A run on a device on its way: what each line is told on what stands, what was done for it, and what the rest of the input will be told.
-use Rattle.std.specs.Prelude.{◌≡◌, ℕ, ◌+◌, ◌≤◌, ◌==◌, ◌↔◌, ◌⊎◌, Bool, true, false, List, [], ◌∷◌, ◌++◌, length, map, filter, take, Some, IfErr, Result, if◌then◌else◌}
+use Rattle.std.specs.Prelude.{◌≡◌, ℕ, ◌+◌, ◌≤◌, ◌==◌, ◌↔◌, ◌⊎◌, Bool, true, false, List, [], ◌∷◌, ◌++◌, length, map, filter, take, Option, Some, IfOk, IfErr, Result, if◌then◌else◌}
 use Rattle.iss_edge.specs.declared.outside.Action.{Action}
 use Rattle.iss_edge.specs.declared.outside.Action.TheVariants.{Write, Sync, Emit, Dial, Close}
-use Rattle.iss_edge.specs.World.{World, Faults, Later, Rose}
+use Rattle.iss_edge.specs.World.{World, Told, Faults, Later, Rose}
 use Rattle.iss_edge.specs.Stretches.{Step, actions_of}
 use Rattle.iss_model.specs.declared.input.Record.{Record}
 use Rattle.iss_model.specs.declared.limits.TheConstants.{MOST_INPUT}
@@ -13,7 +13,7 @@ use Rattle.iss_model.specs.state.Cores.{core_keeper}
 use Rattle.iss_model.specs.run.Rooms.{room_left}
 use Rattle.iss_model.specs.run.Runs.{Run, Response, response}
 use Rattle.iss_model.specs.run.Sayings.{reaction_to_record, said_of_time, answer_left}
-use Rattle.iss_model.specs.run.Transcripts.{Text, at_level, said_text_at}
+use Rattle.iss_model.specs.run.Transcripts.{Text, at_level, said_text_at, sound}
 use Rattle.iss_store.specs.Values.{StoreNow, Plan}
 use Rattle.iss_store.specs.Standing.{StandsFor, AreHistory, region_under}
 use Rattle.iss_store.specs.Goings.{AreFirstOf}
@@ -123,6 +123,18 @@ IsOfDisk stop.InputLong = ⊥
 pub record TakesPartAs (failed : Type 0) (told : Run → Response) (s : StoreNow) (a b : World) : Type 0 where
   pub left : b.left ≡ a.left
   pub on_book : (rs : List Record) → StandsFor s rs → GoesSome failed s rs (told (run_at s rs)) a b
+
+-- If the call succeeded, an input was taken as this says, and the store went on to the result.
+abbrev pub TakesTo : {E F : Type 0} → (E → Option World) → E → E → (Run → Response) → StoreNow → Result StoreNow F → Type 0
+TakesTo told a b response store result = IfOk result (λ next. Told (TakesAs response store next) (told a) (told b))
+
+-- If the call failed, an input was taken in part, and the run might have gone on from there, unless a call on the device failed.
+abbrev pub TakesInPart : {E T : Type 0} → (E → Option World) → E → E → (Run → Response) → StoreNow → Result T Stop → Type 0
+TakesInPart told a b response store result = IfErr result (λ why. Told (TakesPartAs (IsOfDisk why) response store) (told a) (told b))
+
+-- what is told of a line that was read, on a run
+abbrev pub response_to_line : Input → Option ℕ → Run → Response
+response_to_line input at s = response s (sound input at)
 
 -- what is told of a planned record, and what then stands
 abbrev pub response_to_plan : Plan → Run → Response

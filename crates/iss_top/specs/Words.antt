@@ -1,5 +1,5 @@
 -- The words of a run, and what they ask for.
-use Rattle.std.specs.Prelude.{ℕ, ◌<◌, ◌≤◌, ◌^◌, Bool, not, ◌&&◌, ◌==◌, nat_le, nat_lt, List, [], ◌∷◌, length, slice_index, codes, Option, Some, None, if◌then◌else◌}
+use Rattle.std.specs.Prelude.{ℕ, ◌<◌, ◌≤◌, ◌^◌, Bool, not, ◌&&◌, ◌==◌, nat_le, nat_lt, List, [], ◌∷◌, length, map, slice_index, codes, String, string_bytes, Option, Some, None, if◌then◌else◌}
 use Rattle.std.specs.List.{list_all}
 use Rattle.std.specs.Str.{bytes_eq}
 use Rattle.iss_model.specs.Amounts.{is_digit, digits_value, is_whole_text, value_after}
@@ -73,6 +73,10 @@ command_of_words (name ∷ word ∷ []) = two_word_command name word
 command_of_words (name ∷ device ∷ size ∷ instance ∷ []) = format_command name device size instance
 command_of_words (name ∷ device ∷ port ∷ gateway ∷ turns ∷ []) = serve_command name device port gateway turns
 command_of_words words = None
+
+-- what these texts ask for as words
+abbrev pub command_in : {Z : Type 0} → List (String Z) → Option Command
+command_in words = command_of_words (map string_bytes words)
 
 -- that number, where these are digits and it is from the least to the most
 abbrev pub number_after : ℕ → ℕ → ℕ → List ℕ → Option ℕ

@@ -2,7 +2,7 @@
 ghost use Rattle.std.specs.Prelude.{◌≡◌, ◌==◌, ◌↔◌, ◌≤◌, ◌<◌, ◌^◌, [], ◌∷◌, IsTrue};
 ghost use Rattle.std.specs.List.{list_any};
 ghost use Rattle.iss_edge.specs.World.{Rose};
-ghost use Rattle.iss_top.specs.FormatRuns.{FormatRun};
+ghost use Rattle.iss_top.specs.FormatRuns.{FormatRunOn};
 
 use iss_edge::Edge;
 use iss_journal::Journal;
@@ -16,13 +16,13 @@ const OTHER_SIZE: u8 = 4;
 /// The status where a call on the device failed.
 const DISK_FAULT: u8 = 6;
 
-/// Makes the device one of this instance that stands for no records, where it has so many bytes, and returns the exit status.
+/// Makes the device one of this instance that stands for no records, if it has `size` bytes, and returns the exit status.
 #[tactic(auto, using(crate::proofs::Formatted::format_failed, crate::proofs::Formatted::format_done))]
 pub(crate) fn format<E: Edge>(edge: &mut E, size: u64, instance: u64) -> u8
     requires least { 17 ≤ size }
     requires most { size ≤ 2 ^ 32 }
     requires small { instance < 2 ^ 48 }
-    ensures ran { FormatRun size instance (E.extent edge.old) result (E.faults edge.old) (E.faults edge.new) (E.told edge.old) (E.told edge.new) }
+    ensures ran { FormatRunOn E.extent E.faults E.told edge.old edge.new size instance result }
     ensures known { IsTrue (list_any (λ status. result == status) (0 ∷ 4 ∷ 6 ∷ [])) }
     ensures other_size { (result ≡ 4) ↔ (E.extent edge.old ≡ size → ⊥) }
     ensures untouched { result ≡ 4 → edge.new ≡ edge.old }

@@ -1,8 +1,8 @@
 //! What the words of a run ask for.
-ghost use Rattle.std.specs.Prelude.{◌≡◌, ◌≤◌, map, string_bytes, IfOk, IfSome};
+ghost use Rattle.std.specs.Prelude.{◌≡◌, ◌≤◌, IfOk, IfSome};
 ghost use Rattle.std.specs.Result.{result_ok};
 ghost use Rattle.iss_model.specs.Amounts.{is_unpadded};
-ghost use Rattle.iss_top.specs.Words.{is_device, number_after, number_in, dry_command, two_word_command, drill_of, format_command, serve_command, command_of_words, IsInRange};
+ghost use Rattle.iss_top.specs.Words.{is_device, number_after, number_in, dry_command, two_word_command, drill_of, format_command, serve_command, command_in, IsInRange};
 
 /// The most bytes that the name of a device has.
 const LONGEST_NAME: usize = 4096;
@@ -30,16 +30,16 @@ const MOST_EVENTS: u64 = 100_000;
 pub enum Command {
     /// `dry`: lines get their replies, with no device.
     Dry,
-    /// `format DEVICE SIZE INSTANCE`: the device of so many bytes is made one of this instance that stands for no records.
+    /// `format DEVICE SIZE INSTANCE`: the device of SIZE bytes is made one of this instance that stands for no records.
     Format { size: u64, instance: u64 },
     /// `replay DEVICE`: lines get their replies, and what they make lasts on the device.
     Replay,
     /// `balances DEVICE`: what the accounts on the device have is written.
     Balances,
-    /// `serve DEVICE PORT GATEWAYPORT TURNS`: clients on a port are served, the gateway is dialled on another, and so many waits are
-    /// made at most.
+    /// `serve DEVICE PORT GATEWAYPORT TURNS`: clients on a port are served, the gateway is dialled on another, and at most TURNS waits
+    /// are made.
     Serve { port: u16, gateway: u16, turns: u32 },
-    /// `drill N`: so many events are made and taken on a device in memory.
+    /// `drill N`: N events are made and taken on a device in memory.
     Drill { n: u32 },
 }
 
@@ -53,7 +53,7 @@ pub struct Usage;
 /// and doesn't begin with `-`, SIZE is 17 to 4294967296, INSTANCE is 0 to 281474976710655, PORT and GATEWAYPORT are 1 to
 /// 65535, TURNS is 1 to 4294967295, and N is 1 to 100000.
 pub fn command_of(words: &[String]) -> Result<Command, Usage>
-    ensures said { result_ok result ≡ command_of_words (map string_bytes words.now) }
+    ensures said { result_ok result ≡ command_in words.now }
     ensures ranges { IfOk result IsInRange }
 {
     match said(words) {
@@ -62,10 +62,10 @@ pub fn command_of(words: &[String]) -> Result<Command, Usage>
     }
 }
 
-/// The command that the words say, where they say one.
+/// The command that the words say, if they say one.
 #[tactic(auto, using(crate::proofs::Numbers::three, crate::proofs::Numbers::six_or_more), unfolding(crate::specs::Words::command_of_words))]
 fn said(words: &[String]) -> Option<Command>
-    ensures said { result ≡ command_of_words (map string_bytes words.now) }
+    ensures said { result ≡ command_in words.now }
     ensures ranges { IfSome result IsInRange }
 {
     match words {
@@ -109,7 +109,7 @@ fn two_words_said(name: &str, word: &[u8]) -> Option<Command>
     }
 }
 
-/// What the word behind `drill` asks for.
+/// What the word after `drill` asks for.
 fn drill_said(number: &[u8]) -> Option<Command>
     ensures said { result ≡ drill_of (number_in 1 100000 number.now) }
     ensures ranges { IfSome result IsInRange }
