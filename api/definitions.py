@@ -108,6 +108,7 @@ FORMS = {
     "mccs": {"type": "array", "items": ref("CategoryCode"), "minItems": 1, "maxItems": 1000},
     "funding": words("ACCOUNT", "GATEWAY"),
     "window": words("TRANSACTION", "DAY", "WEEK", "MONTH", "LIFETIME"),
+    "utc_offset": {"type": "string", "pattern": "^(\\+0[0-9]:[0-5][0-9]|\\+1[0-3]:[0-5][0-9]|\\+14:00|-00:(0[1-9]|[1-5][0-9])|-0[1-9]:[0-5][0-9]|-1[01]:[0-5][0-9]|-12:00)$"},
     "to": words(*dict.fromkeys(CARD_STATES + USER_STATES)),
     "timeout_ms": whole(1, 60000),
     "hold_ms": whole(86400000, 2678400000),

@@ -36,6 +36,7 @@ KINDS = {
     15: "answer call outcome",
     16: "ack notice",
     17: "time",
+    18: "control token control currency window amount_limit? usage_limit? association scope active utc_offset",
 }
 # The fields that follow a byte, by that byte.
 CHOICES = {
@@ -73,12 +74,21 @@ class Body(io.BytesIO):
             raise ValueError(f"the number {number} stands for nothing")
         return choices[number]
 
+    def offset(self):
+        minutes = int.from_bytes(self.take(2), "big", signed=True)
+        if not minutes or not -720 <= minutes <= 840:
+            raise ValueError(f"{minutes} minutes are no offset")
+        hours, minute = divmod(abs(minutes), 60)
+        return f"{'-' if minutes < 0 else '+'}{hours:02}:{minute:02}"
+
     def value(self, field, line):
         if field in ("amount", "amount_limit", "max", "day_limit"):
             decimals = {"JPY": 0, "KWD": 3}.get(line["currency"], 2)
             return f"{Decimal(self.number(8)).scaleb(-decimals):.{decimals}f}"
         if field in ("timeout_ms", "hold_ms", "usage_limit", "call", "notice"):
             return self.number(4)
+        if field == "utc_offset":
+            return self.offset()
         if field in WORDS:
             return self.choice(WORDS[field], 2 if field == "currency" else 1)
         if field == "mccs":

@@ -36,6 +36,6 @@ IsUnknown e i = (token : List ℕ) → event_token i ≡ Some token → find (λ
 abbrev pub events_facts : EventsNow → Facts
 events_facts e = core_facts (record no_core { accepted = e.accepted; decisions = e.decisions })
 
--- what an input is told where it is an event that stands
+-- the answer of an input if it is an event that stands
 abbrev pub answer_in : Facts → Input → Option Answer
 answer_in f i = token_answer f i (event_token i)

@@ -13,7 +13,7 @@ use iss_model::{Answer, Input, Reply, Token, Verdict};
 use std::alloc::{AllocError, Global};
 use std::marker::Model;
 
-/// Accepted events in the order of their records, each with what it says and its decision. Contracts see the list of the
+/// Accepted events in the order of their records, each with its input and its decision. Contracts see the list of the
 /// events, and that of the decisions in the order in which they were made.
 ///
 /// The row of an event stands at the place of its name.
@@ -59,7 +59,7 @@ impl Events {
         self.names.find(event).is_some()
     }
 
-    /// What is told of an event that is accepted.
+    /// The reply to an event that is accepted.
     pub fn reply(&self, event: &Token) -> Option<Reply>
         ensures { result ≡ event_reply (events_facts self.now) event.now }
     {
@@ -69,7 +69,7 @@ impl Events {
         }
     }
 
-    /// What an input is told where it is an event that stands: its reply again where it says the same, and else the number
+    /// The answer of an input if it is an event that stands: its reply again if all its fields are the same, and else the number
     /// of its first record.
     pub fn answer(&self, alloc: Global, input: &Input) -> Result<Option<Answer>, AllocError>
         requires form { IsTrue (is_in_form input.now) }
@@ -85,7 +85,7 @@ impl Events {
         Ok(Some(told))
     }
 
-    /// Adds the input of a record, where it is an event. Where allocation fails all stays as it was, and so where
+    /// Adds the input of a record, if it is an event. If an allocation fails, all stays as it was, and so if
     /// 2^32 - 1 events stand, as many as places are kept for.
     pub fn add(&mut self, number: u32, at: u64, input: &Input) -> Result<(), AllocError>
         requires form { IsTrue (is_in_form input.now) }
@@ -116,7 +116,7 @@ impl Events {
         Ok(())
     }
 
-    /// Notes how an accepted event is decided. Where allocation fails all stays as it was.
+    /// Notes how an accepted event is decided. If an allocation fails, all stays as it was.
     pub fn decide(&mut self, event: &Token, verdict: Verdict) -> Result<(), AllocError>
         requires accepted { IsSome (find (λ a. is_event event.now a.input) self.old.accepted) }
         requires undecided { find (λ d. bytes_eq d.event event.now) self.old.decisions ≡ None }

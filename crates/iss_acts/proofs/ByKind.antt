@@ -53,7 +53,7 @@ module _ {P : Input → List Act → Type 0} {f : Facts} {at : ℕ} (each : Each
   walk (input.Move token who) = set _ token (move_reason f who) refl refl
   walk (input.Product token product currency funding timeout_ms hold_ms) = set _ token (product_reason f product) refl refl
   walk (input.Group token group mccs) = set _ token (group_reason f group) refl refl
-  walk (input.Control token control currency window amount_limit usage_limit association scope active) = set _ token (control_reason f control currency window association scope) refl refl
+  walk (input.Control token control currency window amount_limit usage_limit association scope offset active) = set _ token (control_reason f control currency window association scope offset) refl refl
   walk (input.Set token name product currency connection timeout application max day_limit active) = set _ token (set_reason f name product currency) refl refl
   walk (input.Switch token product on) = set _ token (switch_reason f product) refl refl
   walk (input.Load token user currency amount) = unless _ token (load_reason f user) _ refl (λ none. each.load token user currency amount)

@@ -224,8 +224,8 @@ input_row f (input.Card token card user product active) at = set_row _ (card_rea
 input_row f (input.Move token who) at = set_row _ (move_reason f who) token refl refl (its_name token)
 input_row f (input.Product token product currency funding timeout_ms hold_ms) at = set_row _ (product_reason f product) token refl refl (its_name token)
 input_row f (input.Group token group mccs) at = set_row _ (group_reason f group) token refl refl (its_name token)
-input_row f (input.Control token control currency window amount_limit usage_limit association scope active) at =
-    set_row _ (control_reason f control currency window association scope) token refl refl (its_name token)
+input_row f (input.Control token control currency window amount_limit usage_limit association scope offset active) at =
+    set_row _ (control_reason f control currency window association scope offset) token refl refl (its_name token)
 input_row f (input.Set token set product currency connection timeout application max day_limit active) at = set_row _ (set_reason f set product currency) token refl refl (its_name token)
 input_row f (input.Switch token product on) at = set_row _ (switch_reason f product) token refl refl (its_name token)
 input_row f (input.Load token user currency amount) at = unless_row (load_reason f user) token (its_name token) (λ none. fresh (one_act (its_name token) (refl, refl)))

@@ -93,8 +93,8 @@ setting_reason f (input.Card token card user product active) = card_reason f car
 setting_reason f (input.Move token who) = move_reason f who
 setting_reason f (input.Product token product currency funding timeout_ms hold_ms) = product_reason f product
 setting_reason f (input.Group token group mccs) = group_reason f group
-setting_reason f (input.Control token control currency window amount_limit usage_limit association scope active) =
-    control_reason f control currency window association scope
+setting_reason f (input.Control token control currency window amount_limit usage_limit association scope offset active) =
+    control_reason f control currency window association scope offset
 setting_reason f (input.Set token set product currency connection timeout application max day_limit active) = set_reason f set product currency
 setting_reason f (input.Switch token product on) = switch_reason f product
 setting_reason f _ = None

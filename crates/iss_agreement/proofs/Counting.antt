@@ -157,9 +157,9 @@ put_taken b groups rows puts p standing now false new =
 -- the controls with one more row ----
 
 abbrev pub controls_after : ℕ → List Group → List ControlKept → Entry → List ControlKept
-controls_after count groups controls (entry.Conf (input.Control token control currency window amount_limit usage_limit association scope active)) =
+controls_after count groups controls (entry.Conf (input.Control token control currency window amount_limit usage_limit association scope offset active)) =
     with_made with_control controls
-    (control_put count (entry.Conf (input.Control token control currency window amount_limit usage_limit association scope active)))
+    (control_put count (entry.Conf (input.Control token control currency window amount_limit usage_limit association scope offset active)))
 controls_after count groups controls (entry.Usage row) = map (control_after_use groups (entry.Usage row)) controls
 controls_after count groups controls _ = controls
 
@@ -173,7 +173,7 @@ puts_of rows = filter_map (λ row. control_put row.number row.entry) rows
 abbrev pub AreScopesKnown : List Row → Type 0
 AreScopesKnown rows = list_all (λ put. is_group_known (groups_of rows) put.control.scope) (control_puts_of rows) ≡ true
 
--- the controls where a row puts none
+-- the controls if a row puts none
 shown_as : (rows all : List Row) (upd : ControlKept → ControlKept) → puts_of all ≡ puts_of rows
     → ((put : ControlPut) → shown_control all put ≡ upd (shown_control rows put)) → controls_shown all ≡ map upd (controls_shown rows)
 shown_as rows all upd puts alike =
@@ -212,7 +212,7 @@ put_row b rows n i p standing now none more =
 
 pub controls-more : (b : Bounds) (rows : List Row) (n : ℕ) (e : Entry) → AreStanding b rows → AreScopesKnown rows → b.count ≡ n
     → controls_shown (rows ++ row_of n e) ≡ controls_after n (groups_of rows) (controls_shown rows) e
-controls-more b rows n (entry.Conf (input.Control token control currency window amount_limit usage_limit association scope active)) standing known now =
+controls-more b rows n (entry.Conf (input.Control token control currency window amount_limit usage_limit association scope offset active)) standing known now =
     put_row b rows n _ _ standing now refl (filter_map-append (λ (row : Row). control_put row.number row.entry) rows (row_of n _))
 controls-more b rows n (entry.Conf (input.Group token group mccs)) standing known now =
     let e : Entry = entry.Conf (input.Group token group mccs) in

@@ -1,5 +1,5 @@
 -- Acts make entries that fit: an act is made of what stands, and what it makes is new.
-use Rattle.std.proofs.Common.{◌≡◌, ℕ, ◌+◌, ◌≤◌, Bool, true, false, cond, ◌&&◌, ◌||◌, nat_le, List, [], ◌∷◌, ◌++◌, map, refl, sym, ap, subst, ◌∙◌, arith, ◌⊎◌, inl, inr}
+use Rattle.std.proofs.Common.{◌≡◌, ℕ, ℤ, ◌+◌, ◌≤◌, Bool, true, false, cond, ◌&&◌, ◌||◌, nat_le, List, [], ◌∷◌, ◌++◌, map, refl, sym, ap, subst, ◌∙◌, arith, ◌⊎◌, inl, inr}
 use Rattle.std.specs.Prelude.{Option, Some, None, is_some, is_none}
 use Rattle.std.proofs.lemmas.Bool.{and_parts}
 use Rattle.iss_model.specs.declared.currency.Currency.{Currency}
@@ -69,10 +69,10 @@ settable_move : (f : Facts) (token : List ℕ) (who : Moved) → move_reason f w
 settable_move f token (moved.Card card to) none = moved_card (card_named card f.cards) to none
 settable_move f token (moved.User user to) none = moved_user (user_named user f.users) to none
 
-known_scope : (o : Option ControlNow) (f : Facts) (currency : Currency) (window : Window) (association : Association) (s : Scope) → put_control_reason o f currency window association s ≡ None
+known_scope : (o : Option ControlNow) (f : Facts) (currency : Currency) (window : Window) (association : Association) (s : Scope) (offset : ℤ) → put_control_reason o f currency window association s offset ≡ None
     → (is_some o ≡ true) ⊎ (lacks_group f s ≡ false)
-known_scope (Some c) f currency window association s none = inl refl
-known_scope None f currency window association s none =
+known_scope (Some c) f currency window association s offset none = inl refl
+known_scope None f currency window association s offset none =
     let first = first_fails (lacks_user f association) reason.UserUnknown _ none in
     let second = first_fails (lacks_product f association) reason.ProductUnknown _ first.1 in
     inr (first_fails (lacks_group f s) reason.GroupUnknown _ second.1).0
@@ -82,8 +82,8 @@ settable f (input.User token user) none = (first_fails (is_some (user_named user
 settable f (input.Card token card user product active) none = new_card_named f card user product none
 settable f (input.Move token who) none = settable_move f token who none
 settable f (input.Product token product currency funding timeout_ms hold_ms) none = (first_fails (is_some (product_named product f.products)) reason.Exists _ none).0
-settable f (input.Control token control currency window amount_limit usage_limit association scope active) none =
-    known_scope (control_named control f.controls) f currency window association scope none
+settable f (input.Control token control currency window amount_limit usage_limit association scope offset active) none =
+    known_scope (control_named control f.controls) f currency window association scope offset none
 settable f (input.Switch token product on) none =
     is_there (product_named product f.products) (first_fails (is_none (product_named product f.products)) reason.ProductUnknown None none).0
 settable f _ none = tt

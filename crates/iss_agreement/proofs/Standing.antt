@@ -58,7 +58,7 @@ IsSettable f (input.Move token (moved.Card card to)) = is_some (card_named card 
 IsSettable f (input.Move token (moved.User user to)) = is_some (user_named user f.users) ≡ true
 IsSettable f (input.Product token product currency funding timeout_ms hold_ms) = is_some (product_named product f.products) ≡ false
 IsSettable f (input.Switch token product on) = is_some (product_named product f.products) ≡ true
-IsSettable f (input.Control token control currency window amount_limit usage_limit association scope active) =
+IsSettable f (input.Control token control currency window amount_limit usage_limit association scope offset active) =
     (is_some (control_named control f.controls) ≡ true) ⊎ (lacks_group f scope ≡ false)
 IsSettable f _ = Unit {0}
 

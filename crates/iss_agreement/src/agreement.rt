@@ -48,7 +48,7 @@ pub fn alike_cores_stay_alike()
     ensures judged { (c d : CoreState) → (i : Input) → (stamp : ℕ) → AreAlike c d → core_judges c i stamp ≡ core_judges d i stamp }
 {}
 
-/// Lines are told on a core what they are told on its book.
+/// The texts of lines on a core are those on its book.
 #[tactic(auto, using(crate::proofs::CoreOfBook::core_transcript))]
 pub fn a_core_is_told_its_transcript()
     ensures { (lines : List Reading) → transcript core_keeper no_core lines ≡ transcript history_keeper nothing_yet lines }
@@ -105,7 +105,7 @@ pub fn core_answers_as_its_book()
     ensures pending { (rs : List Record) → (core_of rs).outbox.pending ≡ pending_of (history_of rs).rows }
 {}
 
-/// A record that judging gives, of the input itself or of the time before its answer, is new where it is judged again,
+/// A record that judging returns, of the input itself or of the time before its answer, is new if it is judged again,
 /// by the book as by the state.
 pub fn judging_is_stable()
     ensures book { (rs : List Record) (i : Input) (stamp : ℕ) (r : Record) → book_gives rs i stamp ≡ New r → BookTakes rs r }

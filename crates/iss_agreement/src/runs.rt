@@ -5,10 +5,10 @@ ghost use Rattle.iss_model.specs.run.Transcripts.{Reading, transcript};
 ghost use Rattle.iss_model.specs.run.Runs.{Run, dry_run, line_texts, run_after, accepted_records, transcript_of, RiseFrom};
 ghost use Rattle.iss_agreement.specs.Stepped.{grown_by, level_of, records_in};
 
-/// A run without a device is told the transcript of its lines.
+/// A run without a device sends the transcript of its lines.
 /// A run's lines make records that are legal, and the history is then that of these records.
 /// Its texts go out at levels that never fall, from the number of records before it to that after it.
-/// Where lines come after others, they are told what they are told on what stands then.
+/// If lines come after others, their texts are those on what stands then.
 #[tactic(auto, using(crate::proofs::RunLaws::dry_texts, crate::proofs::RunLaws::accepted_legal, crate::proofs::RunLaws::history_after, crate::proofs::RunLaws::records_after, crate::proofs::RunLaws::levels, crate::proofs::RunLaws::texts_then))]
 pub fn runs_are_told_their_transcript()
     ensures dry { (lines : List Reading) → transcript_of dry_run lines ≡ transcript history_keeper nothing_yet lines }

@@ -1,12 +1,12 @@
 -- Velocity controls.
-use Rattle.std.specs.Prelude.{pos, [], ◌∷◌, codes, Some, None, true}
+use Rattle.std.specs.Prelude.{pos, neg_ℤ, [], ◌∷◌, codes, Some, None, true}
 use Rattle.iss_model.specs.declared.currency.Currency.TheVariants.{Usd}
 use Rattle.iss_model.specs.declared.setting.Window.TheVariants as window
 use Rattle.iss_model.specs.declared.setting.Association.TheVariants as association
 use Rattle.iss_model.specs.declared.setting.Scope.TheVariants as scope
 use Rattle.iss_model.specs.declared.input.Input.TheVariants as input
 use Rattle.iss_model.specs.declared.decision.Reason.TheVariants as reason
-use Rattle.iss_book_examples.specs.Scripts.{Script, step, step_at, dollars, owes, tally, new_user, card_of, load, amount_control, purchase_at, purchase, increment, reversal, done_reply, approved_reply, declined_reply}
+use Rattle.iss_book_examples.specs.Scripts.{Script, step, step_at, dollars, owes, tally, new_user, card_of, load, amount_control, local_control, purchase_at, purchase, increment, reversal, done_reply, approved_reply, declined_reply}
 
 -- a control of 100.00 a day lets that much through, and no cent more
 abbrev pub limit_of_a_day : Script
@@ -76,6 +76,69 @@ next_month =
       tally = tally 0 0 7;
     }
 
+-- by a clock five and a half hours ahead, a new day begins at half past six in the evening UTC
+abbrev pub next_day_in_india : Script
+next_day_in_india =
+    record {
+      steps =
+          step new_user (done_reply "t1")
+          ∷ step (card_of "default") (done_reply "t2")
+          ∷ step (load "t3" Usd 50000) (done_reply "t3")
+          ∷ step (local_control window.Day (pos 330)) (done_reply "t4")
+          ∷ step_at 66599999 (purchase "a1" 10000) (approved_reply "a1")
+          ∷ step_at 66600000 (purchase "a2" 10000) (approved_reply "a2")
+          ∷ step_at 66600000 (purchase "a3" 1) (declined_reply "a3" (reason.Control (codes "v1")))
+          ∷ [];
+      sheets = dollars (pos 0) (pos 0) (owes 50000) (pos 50000) (pos 20000) ∷ [];
+      tally = tally 0 0 7;
+    }
+
+-- by a clock five hours behind, a new week begins on Sunday at five in the morning UTC
+abbrev pub next_week_in_new_york : Script
+next_week_in_new_york =
+    record {
+      steps =
+          step new_user (done_reply "t1")
+          ∷ step (card_of "default") (done_reply "t2")
+          ∷ step (load "t3" Usd 50000) (done_reply "t3")
+          ∷ step (local_control window.Week (neg_ℤ (pos 300))) (done_reply "t4")
+          ∷ step_at 277199999 (purchase "a1" 10000) (approved_reply "a1")
+          ∷ step_at 277200000 (purchase "a2" 10000) (approved_reply "a2")
+          ∷ step_at 277200000 (purchase "a3" 1) (declined_reply "a3" (reason.Control (codes "v1")))
+          ∷ [];
+      sheets = dollars (pos 0) (pos 0) (owes 50000) (pos 50000) (pos 20000) ∷ [];
+      tally = tally 0 0 7;
+    }
+
+-- by a clock twelve hours behind, a new month begins on the first at noon UTC
+abbrev pub next_month_in_the_west : Script
+next_month_in_the_west =
+    record {
+      steps =
+          step new_user (done_reply "t1")
+          ∷ step (card_of "default") (done_reply "t2")
+          ∷ step (load "t3" Usd 50000) (done_reply "t3")
+          ∷ step (local_control window.Month (neg_ℤ (pos 720))) (done_reply "t4")
+          ∷ step_at 2721599999 (purchase "a1" 10000) (approved_reply "a1")
+          ∷ step_at 2721600000 (purchase "a2" 10000) (approved_reply "a2")
+          ∷ step_at 2721600000 (purchase "a3" 1) (declined_reply "a3" (reason.Control (codes "v1")))
+          ∷ [];
+      sheets = dollars (pos 0) (pos 0) (owes 50000) (pos 50000) (pos 20000) ∷ [];
+      tally = tally 0 0 7;
+    }
+
+-- a control that stands keeps its offset
+abbrev pub offset_that_is_fixed : Script
+offset_that_is_fixed =
+    record {
+      steps =
+          step (amount_control window.Day 10000) (done_reply "t4")
+          ∷ step (input.Control (codes "t9") (codes "v1") Usd window.Day (Some 10000) None association.Anybody scope.All (pos 60) true) (declined_reply "t9" reason.ControlFixed)
+          ∷ [];
+      sheets = [];
+      tally = tally 0 0 2;
+    }
+
 -- a lifetime has one window
 abbrev pub lifetime : Script
 lifetime =
@@ -102,7 +165,7 @@ group_of_merchants =
           ∷ step (card_of "default") (done_reply "t2")
           ∷ step (load "t3" Usd 50000) (done_reply "t3")
           ∷ step (input.Group (codes "t5") (codes "food") (5411 ∷ 5812 ∷ [])) (done_reply "t5")
-          ∷ step (input.Control (codes "t6") (codes "v2") Usd window.Lifetime None (Some 1) association.Anybody (scope.Group (codes "food")) true) (done_reply "t6")
+          ∷ step (input.Control (codes "t6") (codes "v2") Usd window.Lifetime None (Some 1) association.Anybody (scope.Group (codes "food")) (pos 0) true) (done_reply "t6")
           ∷ step (purchase "a1" 100) (approved_reply "a1")
           ∷ step (purchase "a2" 100) (declined_reply "a2" (reason.Control (codes "v2")))
           ∷ step (purchase_at 5542 "a3" 100) (approved_reply "a3")

@@ -108,7 +108,7 @@ increment_under_a_usage_limit =
           step new_user (done_reply "t1")
           ∷ step (card_of "default") (done_reply "t2")
           ∷ step (load "t3" Usd 5000) (done_reply "t3")
-          ∷ step (input.Control (codes "t4") (codes "v1") Usd window.Day None (Some 1) association.Anybody scope.All true) (done_reply "t4")
+          ∷ step (input.Control (codes "t4") (codes "v1") Usd window.Day None (Some 1) association.Anybody scope.All (pos 0) true) (done_reply "t4")
           ∷ step (purchase "a1" 1000) (approved_reply "a1")
           ∷ step (increment "i1" "a1" 500) (approved_reply "i1")
           ∷ step (purchase "a2" 100) (declined_reply "a2" (reason.Control (codes "v1")))
@@ -125,9 +125,9 @@ control_put_again =
           step new_user (done_reply "t1")
           ∷ step (card_of "default") (done_reply "t2")
           ∷ step (load "t3" Usd 5000) (done_reply "t3")
-          ∷ step (input.Control (codes "t4") (codes "v1") Usd window.Day (Some 1000) (Some 5) association.Anybody scope.All true) (done_reply "t4")
+          ∷ step (input.Control (codes "t4") (codes "v1") Usd window.Day (Some 1000) (Some 5) association.Anybody scope.All (pos 0) true) (done_reply "t4")
           ∷ step (purchase "a1" 800) (approved_reply "a1")
-          ∷ step (input.Control (codes "t5") (codes "v1") Usd window.Day (Some 2000) (Some 2) association.Anybody scope.All true) (done_reply "t5")
+          ∷ step (input.Control (codes "t5") (codes "v1") Usd window.Day (Some 2000) (Some 2) association.Anybody scope.All (pos 0) true) (done_reply "t5")
           ∷ step (purchase "a2" 800) (approved_reply "a2")
           ∷ step (purchase "a3" 100) (declined_reply "a3" (reason.Control (codes "v1")))
           ∷ [];
@@ -142,7 +142,7 @@ control_that_is_fixed =
       steps =
           step new_user (done_reply "t1")
           ∷ step (control_of "t4" "v1" 100 association.Anybody scope.All) (done_reply "t4")
-          ∷ step (input.Control (codes "a1") (codes "v1") Eur window.Day (Some 100) None association.Anybody scope.All true) (declined_reply "a1" reason.ControlFixed)
+          ∷ step (input.Control (codes "a1") (codes "v1") Eur window.Day (Some 100) None association.Anybody scope.All (pos 0) true) (declined_reply "a1" reason.ControlFixed)
           ∷ step (control_of "a2" "v1" 100 (association.User (codes "u1")) scope.All) (declined_reply "a2" reason.ControlFixed)
           ∷ step (control_of "a3" "v1" 100 association.Anybody (scope.Mcc 5411)) (declined_reply "a3" reason.ControlFixed)
           ∷ [];

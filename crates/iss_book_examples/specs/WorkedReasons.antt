@@ -1,4 +1,4 @@
--- Which reason comes first where several hold, and each test by itself.
+-- Which reason comes first if several hold, and each test by itself.
 use Rattle.std.specs.Prelude.{ℕ, pos, true, [], ◌∷◌, codes, replicate, Some, None}
 use Prim.Native.String.{String}
 use Rattle.iss_model.specs.declared.currency.Currency.TheVariants.{Usd, Eur}
@@ -24,7 +24,7 @@ purchase_in_euros token amount = input.Authorization (codes token) (codes "c1") 
 
 -- a control v1 of at most a euro a day
 abbrev pub control_in_euros : Input
-control_in_euros = input.Control (codes "t4") (codes "v1") Eur window.Day (Some 100) None association.Anybody scope.All true
+control_in_euros = input.Control (codes "t4") (codes "v1") Eur window.Day (Some 100) None association.Anybody scope.All (pos 0) true
 
 -- a purchase is declined for its card, its card's state, its user's, the currency, a control and the funds, in this order: each reason is taken away in turn
 abbrev pub purchase_with_every_reason : Script
@@ -132,6 +132,7 @@ one_control =
         usage_limit = None;
         association = association.Anybody;
         scope = scope.All;
+        offset = pos 0;
         active = true;
       };
       amounts = λ key. pos 0;
@@ -153,7 +154,7 @@ one_set =
       active = true;
     }
 
--- there are so many products, groups, controls and sets; for these lists it doesn't matter that names come twice
+-- this number of products, groups, controls and sets; for these lists it doesn't matter that names come twice
 abbrev pub facts_with : ℕ → Facts
 facts_with n =
     record (history_facts nothing_yet) {

@@ -46,9 +46,9 @@ settings_declined =
           ∷ step (input.Card (codes "a1") (codes "c1") (codes "u1") (codes "q") true) (declined_reply "a1" reason.ProductUnknown)
           ∷ step (card_of "default") (done_reply "t2")
           ∷ step (input.Card (codes "a2") (codes "c1") (codes "u1") (codes "default") true) (declined_reply "a2" reason.Exists)
-          ∷ step (input.Control (codes "a3") (codes "v1") Usd window.Day None (Some 1) (association.User (codes "u9")) scope.All true) (declined_reply "a3" reason.UserUnknown)
-          ∷ step (input.Control (codes "a4") (codes "v1") Usd window.Day None (Some 1) (association.Product (codes "q")) scope.All true) (declined_reply "a4" reason.ProductUnknown)
-          ∷ step (input.Control (codes "a5") (codes "v1") Usd window.Day None (Some 1) association.Anybody (scope.Group (codes "food")) true) (declined_reply "a5" reason.GroupUnknown)
+          ∷ step (input.Control (codes "a3") (codes "v1") Usd window.Day None (Some 1) (association.User (codes "u9")) scope.All (pos 0) true) (declined_reply "a3" reason.UserUnknown)
+          ∷ step (input.Control (codes "a4") (codes "v1") Usd window.Day None (Some 1) (association.Product (codes "q")) scope.All (pos 0) true) (declined_reply "a4" reason.ProductUnknown)
+          ∷ step (input.Control (codes "a5") (codes "v1") Usd window.Day None (Some 1) association.Anybody (scope.Group (codes "food")) (pos 0) true) (declined_reply "a5" reason.GroupUnknown)
           ∷ step (input.Set (codes "a6") (codes "s1") (codes "q") Usd false false false 100 100 true) (declined_reply "a6" reason.ProductUnknown)
           ∷ step (input.Set (codes "a7") (codes "s1") (codes "default") Eur false false false 100 100 true) (declined_reply "a7" reason.Currency)
           ∷ step (input.Set (codes "a8") (codes "s1") (codes "default") Usd false false false 100 100 true) (done_reply "a8")
@@ -75,17 +75,17 @@ control_at_rest =
           ∷ step (load "t3" Usd 50000) (done_reply "t3")
           ∷ step (amount_control window.Day 10000) (done_reply "t4")
           ∷ step (purchase "a1" 6000) (approved_reply "a1")
-          ∷ step (input.Control (codes "t5") (codes "v1") Usd window.Day (Some 10000) None association.Anybody scope.All false) (done_reply "t5")
+          ∷ step (input.Control (codes "t5") (codes "v1") Usd window.Day (Some 10000) None association.Anybody scope.All (pos 0) false) (done_reply "t5")
           ∷ step (purchase "a2" 6000) (approved_reply "a2")
-          ∷ step (input.Control (codes "t6") (codes "v1") Usd window.Day (Some 10000) None association.Anybody scope.All true) (done_reply "t6")
+          ∷ step (input.Control (codes "t6") (codes "v1") Usd window.Day (Some 10000) None association.Anybody scope.All (pos 0) true) (done_reply "t6")
           ∷ step (purchase "a3" 1) (declined_reply "a3" (reason.Control (codes "v1")))
-          ∷ step (input.Control (codes "t7") (codes "v1") Usd window.Week (Some 10000) None association.Anybody scope.All true) (declined_reply "t7" reason.ControlFixed)
+          ∷ step (input.Control (codes "t7") (codes "v1") Usd window.Week (Some 10000) None association.Anybody scope.All (pos 0) true) (declined_reply "t7" reason.ControlFixed)
           ∷ [];
       sheets = dollars (pos 0) (pos 0) (owes 50000) (pos 50000) (pos 12000) ∷ [];
       tally = tally 0 0 10;
     }
 
--- a control of one purchase a day gives a declined one back
+-- a control of one purchase a day doesn't count a declined one
 abbrev pub use_given_back : Script
 use_given_back =
     record {
@@ -93,7 +93,7 @@ use_given_back =
           step gateway_product (done_reply "p1")
           ∷ step new_user (done_reply "t1")
           ∷ step (card_of "g") (done_reply "t2")
-          ∷ step (input.Control (codes "t4") (codes "v1") Usd window.Day None (Some 1) (association.User (codes "u1")) scope.All true) (done_reply "t4")
+          ∷ step (input.Control (codes "t4") (codes "v1") Usd window.Day None (Some 1) (association.User (codes "u1")) scope.All (pos 0) true) (done_reply "t4")
           ∷ step (purchase "a1" 6000) (request method.Authorization 1 "a1" "a1" 6000 0)
           ∷ step (purchase "a2" 6000) (declined_reply "a2" (reason.Control (codes "v1")))
           ∷ step (gateway_answer 1 outcome.Refused) (declined_reply "a1" reason.GatewayDeclined)

@@ -1,5 +1,5 @@
 -- Records and their bytes, in base 16.
-use Rattle.std.specs.Prelude.{◌≡◌, ℕ, true, List, [], ◌∷◌, codes, Some, None}
+use Rattle.std.specs.Prelude.{◌≡◌, ℕ, pos, true, List, [], ◌∷◌, codes, Some, None}
 use Prim.Native.String.{String}
 use Rattle.iss_model.specs.declared.currency.Currency.TheVariants.{Usd, Eur}
 use Rattle.iss_model.specs.declared.setting.Window.TheVariants as window
@@ -35,15 +35,15 @@ user_spelled = spelling (recorded 0 new_user)
 -- a control of user u1 in euros: at most 5.00 and three purchases a day, in one category
 abbrev pub full_control : Input
 full_control =
-    input.Control (codes "t4") (codes "v1") Eur window.Day (Some 500) (Some 3) (association.User (codes "u1")) (scope.Mcc 5411) true
+    input.Control (codes "t4") (codes "v1") Eur window.Day (Some 500) (Some 3) (association.User (codes "u1")) (scope.Mcc 5411) (pos 0) true
 
 -- a control without a limit
 abbrev pub control_of_nothing : Input
-control_of_nothing = input.Control (codes "t4") (codes "v1") Usd window.Day None None association.Anybody scope.All true
+control_of_nothing = input.Control (codes "t4") (codes "v1") Usd window.Day None None association.Anybody scope.All (pos 0) true
 
 -- a control that counts the purchases of a single transaction
 abbrev pub count_of_one : Input
-count_of_one = input.Control (codes "t4") (codes "v1") Usd window.Transaction (Some 500) (Some 3) association.Anybody scope.All true
+count_of_one = input.Control (codes "t4") (codes "v1") Usd window.Transaction (Some 500) (Some 3) association.Anybody scope.All (pos 0) true
 
 -- a group of two categories, in this order
 abbrev pub group_of_two : ℕ → ℕ → Input

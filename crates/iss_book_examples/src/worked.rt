@@ -13,7 +13,7 @@ ghost use Rattle.iss_book_examples.specs.WorkedParts.{parts_of, funded_by_all};
 ghost use Rattle.iss_book_examples.specs.Scripts.{Plays, used_after};
 ghost use Rattle.iss_book_examples.specs.WorkedTexts.{RequestLine, IncrementRequestLine, VoidLine, StandInNoticeLine, CaptureNoticeLine, RefundNoticeLine, DoneEventLine, ApprovedEventLine, DeclinedByAControlLine, DeclinedMoveLine, LateAnswerLine, TimedOutCallLine, AbandonedCallLine, UnknownCallLine, AcknowledgedLine, AcknowledgedBeforeLine, IdleLine, SpentLine, TimeLine};
 ghost use Rattle.iss_book_examples.specs.WorkedPurchases.{purchase_of_all, purchase_of_more, repeated_purchase, changed_purchase, raised_reversed_cleared, refunded_once, before_expiry, after_expiry, cleared_after_expiry, states_of_a_card, loads_in_three_currencies, greatest_load};
-ghost use Rattle.iss_book_examples.specs.WorkedControls.{limit_of_a_day, next_day, next_week, next_month, lifetime, group_of_merchants, purchase_before_the_control, limit_of_a_transaction};
+ghost use Rattle.iss_book_examples.specs.WorkedControls.{limit_of_a_day, next_day, next_week, next_month, next_day_in_india, next_week_in_new_york, next_month_in_the_west, offset_that_is_fixed, lifetime, group_of_merchants, purchase_before_the_control, limit_of_a_transaction};
 ghost use Rattle.iss_book_examples.specs.WorkedCalls.{funded_by_the_gateway, refused_by_the_gateway, open_call, refused_call, answer_in_time, answer_too_late, reversed_while_pending, cleared_in_parts, refund_of_too_much, cleared_for_less, cleared_the_next_day};
 ghost use Rattle.iss_book_examples.specs.WorkedStandIns.{stand_in, gateway_switched_off};
 ghost use Rattle.iss_book_examples.specs.WorkedDay.{a_day};
@@ -21,7 +21,7 @@ ghost use Rattle.iss_book_examples.specs.WorkedDue.{clearing_of_a_pending_purcha
 ghost use Rattle.iss_book_examples.specs.WorkedSettings.{states_of_a_user, settings_declined, control_at_rest, use_given_back};
 ghost use Rattle.iss_book_examples.specs.WorkedRefunds.{refund_of_a_stand_in, partly_released_stand_in, switched_off_without_a_set};
 
-/// Each script is told just what its steps say, and its balances, calls, notices and records stand then.
+/// Each script sends just what its steps expect, and its balances, calls, notices and records stand then.
 #[tactic(auto, unfolding(iss_model::specs::rules::Stepping::step, iss_model::specs::rules::Judging::judge, iss_model::specs::run::Sayings::reaction))]
 pub fn worked_scripts()
     ensures purchase_of_all { Plays purchase_of_all }
@@ -40,6 +40,10 @@ pub fn worked_scripts()
     ensures next_day { Plays next_day }
     ensures next_week { Plays next_week }
     ensures next_month { Plays next_month }
+    ensures next_day_in_india { Plays next_day_in_india }
+    ensures next_week_in_new_york { Plays next_week_in_new_york }
+    ensures next_month_in_the_west { Plays next_month_in_the_west }
+    ensures offset_that_is_fixed { Plays offset_that_is_fixed }
     ensures lifetime { Plays lifetime }
     ensures group_of_merchants { Plays group_of_merchants }
     ensures purchase_before_the_control { Plays purchase_before_the_control }

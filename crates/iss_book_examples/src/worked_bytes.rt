@@ -1,15 +1,15 @@
 //! Worked records: the checker computes their bytes, and reads them again.
-ghost use Rattle.std.specs.Prelude.{◌∷◌, ◌++◌, [], take, drop};
+ghost use Rattle.std.specs.Prelude.{pos, neg_ℤ, ◌∷◌, ◌++◌, [], take, drop};
 ghost use Rattle.iss_model.specs.declared.input.Input.TheVariants.{Ack, Time};
 ghost use Rattle.iss_model.specs.declared.input.Outcome.TheVariants.{Connection};
 ghost use Rattle.iss_model.specs.declared.currency.Currency.TheVariants.{Eur};
 ghost use Rattle.iss_model.specs.declared.setting.Window.TheVariants.{Week};
-ghost use Rattle.iss_book_examples.specs.Scripts.{new_user, card_of, gateway_product, connection_set, switch_on, purchase, load, increment, reversal, final_clearing, refund, amount_control, gateway_answer};
+ghost use Rattle.iss_book_examples.specs.Scripts.{new_user, card_of, gateway_product, connection_set, switch_on, purchase, load, increment, reversal, final_clearing, refund, amount_control, local_control, gateway_answer};
 ghost use Rattle.iss_model.specs.texts.Spelling.{spelling};
 ghost use Rattle.iss_book_examples.specs.WorkedSpellings.{IsSpelled, IsNone, recorded, user_spelled, full_control, control_of_nothing, count_of_one, group_of_two, activation, closing};
 
 /// The bytes of one record of each kind, and bytes that are no record's.
-#[tactic(auto, unfolding(iss_model::specs::texts::Spelling::number_bytes, iss_model::specs::texts::Spelling::field_bytes, iss_model::specs::texts::Spelling::spelling, iss_codec::specs::Taking::take_byte, iss_codec::specs::Taking::take_bytes, iss_codec::specs::Taking::take_number, iss_codec::specs::Taking::take_formed, iss_codec::specs::Taking::take_token, iss_codec::specs::Taking::take_numbered, iss_codec::specs::Taking::take_currency, iss_codec::specs::Taking::take_optional, iss_codec::specs::Taking::take_codes, iss_codec::specs::Taking::take_mccs, iss_codec::specs::Taking::take_moved_card, iss_codec::specs::Taking::take_moved_user, iss_codec::specs::Taking::take_moved, iss_codec::specs::Taking::take_named, iss_codec::specs::Taking::take_association, iss_codec::specs::Taking::take_mcc_scope, iss_codec::specs::Taking::take_scope, iss_codec::specs::TakingRecords::take_user, iss_codec::specs::TakingRecords::take_card, iss_codec::specs::TakingRecords::take_move, iss_codec::specs::TakingRecords::take_product, iss_codec::specs::TakingRecords::take_group, iss_codec::specs::TakingRecords::take_limits, iss_codec::specs::TakingRecords::take_control, iss_codec::specs::TakingRecords::take_set, iss_codec::specs::TakingRecords::take_switch, iss_codec::specs::TakingRecords::take_operation, iss_codec::specs::TakingRecords::take_authorization, iss_codec::specs::TakingRecords::take_clearing, iss_codec::specs::TakingRecords::take_answer, iss_codec::specs::TakingRecords::take_ack, iss_codec::specs::TakingRecords::take_fields, iss_codec::specs::TakingRecords::take_record, iss_codec::specs::TakingRecords::record_spelled))]
+#[tactic(auto, unfolding(iss_model::specs::texts::Spelling::number_bytes, iss_model::specs::texts::Spelling::field_bytes, iss_model::specs::texts::Spelling::spelling, iss_codec::specs::Taking::take_byte, iss_codec::specs::Taking::take_bytes, iss_codec::specs::Taking::take_number, iss_codec::specs::Taking::take_formed, iss_codec::specs::Taking::take_token, iss_codec::specs::Taking::take_numbered, iss_codec::specs::Taking::take_currency, iss_codec::specs::Taking::take_optional, iss_codec::specs::Taking::take_codes, iss_codec::specs::Taking::take_mccs, iss_codec::specs::Taking::take_moved_card, iss_codec::specs::Taking::take_moved_user, iss_codec::specs::Taking::take_moved, iss_codec::specs::Taking::take_named, iss_codec::specs::Taking::take_association, iss_codec::specs::Taking::take_mcc_scope, iss_codec::specs::Taking::take_scope, iss_codec::specs::Taking::take_offset, iss_codec::specs::TakingRecords::take_user, iss_codec::specs::TakingRecords::take_card, iss_codec::specs::TakingRecords::take_move, iss_codec::specs::TakingRecords::take_product, iss_codec::specs::TakingRecords::take_group, iss_codec::specs::TakingRecords::take_limits, iss_codec::specs::TakingRecords::take_control, iss_codec::specs::TakingRecords::take_set, iss_codec::specs::TakingRecords::take_switch, iss_codec::specs::TakingRecords::take_operation, iss_codec::specs::TakingRecords::take_authorization, iss_codec::specs::TakingRecords::take_clearing, iss_codec::specs::TakingRecords::take_answer, iss_codec::specs::TakingRecords::take_ack, iss_codec::specs::TakingRecords::take_fields, iss_codec::specs::TakingRecords::take_record, iss_codec::specs::TakingRecords::record_spelled))]
 pub fn worked_spellings()
     ensures user { IsSpelled 0 new_user "010000000000000000027431027531" }
     ensures card { IsSpelled 0 (card_of "g") "020000000000000000027432026331027531016701" }
@@ -19,6 +19,8 @@ pub fn worked_spellings()
     ensures group { IsSpelled 0 (group_of_two 5411 5812) "05000000000000000002743304666f6f640002152316b4" }
     ensures control { IsSpelled 0 full_control "06000000000000000002743402763103d2020100000000000001f401000000030102753101152301" }
     ensures amount_control { IsSpelled 0 (amount_control Week 10000) "06000000000000000002743402763103480301000000000000271000000001" }
+    ensures control_ahead { IsSpelled 0 (local_control Week (pos 330)) "12000000000000000002743402763103480301000000000000271000000001014a" }
+    ensures control_behind { IsSpelled 0 (local_control Week (neg_ℤ (pos 300))) "12000000000000000002743402763103480301000000000000271000000001fed4" }
     ensures set { IsSpelled 0 connection_set "070000000000000000027435027331016703480100000000000000002710000000000000271001" }
     ensures switch { IsSpelled 0 switch_on "080000000000000000027436016701" }
     ensures load { IsSpelled 0 (load "l1" Eur 6000) "090000000000000000026c3102753103d20000000000001770" }
@@ -39,6 +41,9 @@ pub fn worked_spellings()
     ensures amount_of_nothing { IsNone (spelling (recorded 0 (load "l1" Eur 0))) }
     ensures empty_token { IsNone (spelling (recorded 0 (load "" Eur 1))) }
     ensures blank_in_a_token { IsNone (spelling (recorded 0 (load "l 1" Eur 1))) }
+    // Two bytes of 0 after a control in UTC, and an offset of 14 hours and a minute.
+    ensures offset_of_nothing { IsNone (18 ∷ drop 1 (spelling (recorded 0 (amount_control Week 10000)) ++ 0 ∷ 0 ∷ [])) }
+    ensures offset_too_far { IsNone (18 ∷ drop 1 (spelling (recorded 0 (amount_control Week 10000)) ++ 3 ∷ 73 ∷ [])) }
     ensures control_of_nothing { IsNone (spelling (recorded 0 control_of_nothing)) }
     ensures count_of_one { IsNone (spelling (recorded 0 count_of_one)) }
     ensures group_that_falls { IsNone (spelling (recorded 0 (group_of_two 5812 5411))) }

@@ -1,5 +1,5 @@
 //! Worked scripts of one point each: turn the rule that one shows, and the checker refuses it.
-ghost use Rattle.std.specs.Prelude.{◌≡◌, ◌++◌, Some, None, codes};
+ghost use Rattle.std.specs.Prelude.{pos, ◌≡◌, ◌++◌, Some, None, codes};
 ghost use Rattle.iss_model.specs.declared.currency.Currency.TheVariants.{Usd};
 ghost use Rattle.iss_model.specs.declared.setting.Window.TheVariants as window;
 ghost use Rattle.iss_model.specs.declared.setting.Association.TheVariants as association;
@@ -34,15 +34,15 @@ pub fn worked_full_lists()
     ensures last_group { group_reason (facts_with 255) (codes "fuel") ≡ None }
     ensures one_group_more { group_reason (facts_with 256) (codes "fuel") ≡ Some reason.Limit }
     ensures group_that_stands { group_reason (facts_with 256) (codes "food") ≡ Some reason.Exists }
-    ensures last_control { control_reason (facts_with 255) (codes "v2") Usd window.Day association.Anybody scope.All ≡ None }
-    ensures one_control_more { control_reason (facts_with 256) (codes "v2") Usd window.Day association.Anybody scope.All ≡ Some reason.Limit }
-    ensures control_that_stands { control_reason (facts_with 256) (codes "v1") Usd window.Day association.Anybody scope.All ≡ None }
+    ensures last_control { control_reason (facts_with 255) (codes "v2") Usd window.Day association.Anybody scope.All (pos 0) ≡ None }
+    ensures one_control_more { control_reason (facts_with 256) (codes "v2") Usd window.Day association.Anybody scope.All (pos 0) ≡ Some reason.Limit }
+    ensures control_that_stands { control_reason (facts_with 256) (codes "v1") Usd window.Day association.Anybody scope.All (pos 0) ≡ None }
     ensures last_set { set_reason (facts_with 255) (codes "s2") (codes "default") Usd ≡ None }
     ensures one_set_more { set_reason (facts_with 256) (codes "s2") (codes "default") Usd ≡ Some reason.Limit }
     ensures set_that_stands { set_reason (facts_with 256) (codes "s1") (codes "default") Usd ≡ None }
 {}
 
-/// What a control counts, keeps, and gets when it is put again.
+/// What a control counts, keeps, and takes over when it is put again.
 #[tactic(auto, unfolding(iss_model::specs::rules::Stepping::step, iss_model::specs::rules::Judging::judge, iss_model::specs::run::Sayings::reaction))]
 pub fn worked_counting()
     ensures control_in_another_currency { Plays control_in_another_currency }

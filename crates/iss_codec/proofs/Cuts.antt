@@ -1,5 +1,5 @@
 -- Lists that hold one field after the other come apart in one way.
-use Rattle.std.proofs.Common.{◌≡◌, ℕ, true, List, [], ◌∷◌, ◌++◌, length, take, drop, get_or, Option, Some, None, refl, sym, ap, ◌∙◌, append_assoc}
+use Rattle.std.proofs.Common.{◌≡◌, ℕ, ℤ, pos, negsuc, true, List, [], ◌∷◌, ◌++◌, length, take, drop, get_or, Option, Some, None, refl, sym, ap, ◌∙◌, append_assoc}
 use Rattle.std.proofs.lemmas.List.{take_at, drop_at}
 use Rattle.std.proofs.lemmas.Option.{some_pair_parts}
 use Rattle.iss_model.specs.declared.currency.Currency.{Currency}
@@ -12,7 +12,7 @@ use Rattle.iss_model.specs.declared.setting.Association.TheVariants as associati
 use Rattle.iss_model.specs.declared.setting.Scope.{Scope}
 use Rattle.iss_model.specs.declared.setting.Scope.TheVariants as scope
 use Rattle.iss_model.specs.Currencies.{iso_number}
-use Rattle.iss_model.specs.Inputs.{with_length, flag_contents, optional_contents, funding_number, window_number, card_state_number, user_state_number, outcome_number, moved_contents, association_contents, scope_contents}
+use Rattle.iss_model.specs.Inputs.{with_length, flag_contents, optional_contents, int_contents, funding_number, window_number, card_state_number, user_state_number, outcome_number, moved_contents, association_contents, scope_contents}
 use Rattle.iss_model.specs.texts.Spelling.{number_bytes}
 use Rattle.iss_codec.specs.Taking.{take_currency}
 use Rattle.iss_codec.proofs.TakenFields.{IsField}
@@ -133,3 +133,14 @@ scope_parts _ _ x y e = absurd cc
 
 pub scope_cut : IsCut scope_contents
 scope_cut = record { cut = scope_parts }
+
+int_parts : (a b : ℤ) (x y : List ℕ) → int_contents a ++ x ≡ int_contents b ++ y → (a ≡ b) × (x ≡ y)
+int_parts (pos m) (pos n) x y e =
+    let p = number_cut.cut m n x y (heads 0 0 _ _ e).1 in (ap pos p.0, p.1)
+int_parts (negsuc m) (negsuc n) x y e =
+    let p = number_cut.cut m n x y (heads 1 1 _ _ e).1 in (ap negsuc p.0, p.1)
+int_parts (pos m) (negsuc n) x y e = absurd cc
+int_parts (negsuc m) (pos n) x y e = absurd cc
+
+pub int_cut : IsCut int_contents
+int_cut = record { cut = int_parts }

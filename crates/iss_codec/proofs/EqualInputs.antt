@@ -1,5 +1,5 @@
 -- Inputs of equal contents are equal, and so are inputs that are spelled alike.
-use Rattle.std.proofs.Common.{◌≡◌, ℕ, Bool, true, List, [], ◌∷◌, ◌++◌, drop, refl, sym, ap, ◌∙◌}
+use Rattle.std.proofs.Common.{◌≡◌, ℕ, ℤ, Bool, true, List, [], ◌∷◌, ◌++◌, drop, refl, sym, ap, ◌∙◌}
 use Rattle.std.specs.Prelude.{◌↔◌, IsTrue, Option}
 use Rattle.std.proofs.lemmas.List.{append-nil}
 use Rattle.std.proofs.lemmas.Slice.Eq.{bytes_eq-Decides}
@@ -18,7 +18,7 @@ use Rattle.iss_model.specs.Inputs.{contents, same_contents}
 use Rattle.iss_model.specs.texts.Spelling.{number_bytes, kind_number, field_bytes, has_spelling, spelling}
 use Rattle.iss_codec.proofs.TakenRecords.{begins_none}
 use Rattle.iss_codec.specs.Meanings.{HaveSpellings, AreSpelledAlike}
-use Rattle.iss_codec.proofs.Cuts.{IsCut, pair_cut, number_cut, text_cut, flag_cut, currency_cut, funding_cut, window_cut, outcome_cut, optional_cut, moved_cut, association_cut, scope_cut}
+use Rattle.iss_codec.proofs.Cuts.{IsCut, pair_cut, number_cut, text_cut, flag_cut, currency_cut, funding_cut, window_cut, outcome_cut, optional_cut, moved_cut, association_cut, scope_cut, int_cut}
 
 -- lists that come apart are equal only if their values are
 alone : {A : Type 0} {f : A → List ℕ} → IsCut f → (a b : A) → f a ≡ f b → a ≡ b
@@ -53,10 +53,10 @@ group_is t g m (input.Group t' g' m') e =
     ap (λ p. input.Group p.0.0 p.0.1 p.1) (alone (pair_cut (pair_cut text_cut text_cut) text_cut) ((t, g), m) ((t', g'), m') (rest 5 _ _ e))
 group_is t g m _ e = cc
 
-control_is : (t : List ℕ) (v : List ℕ) (c : Currency) (w : Window) (m : Option ℕ) (n : Option ℕ) (s : Association) (o : Scope) (a : Bool) (b : Input) → contents (input.Control t v c w m n s o a) ≡ contents b → input.Control t v c w m n s o a ≡ b
-control_is t v c w m n s o a (input.Control t' v' c' w' m' n' s' o' a') e =
-    ap (λ p. input.Control p.0.0.0.0.0.0 p.0.0.0.0.0.1 p.0.0.0.0.1.0 p.0.0.0.0.1.1.0 p.0.0.0.0.1.1.1 p.0.0.0.1 p.0.0.1 p.0.1 p.1) (alone (pair_cut (pair_cut (pair_cut (pair_cut (pair_cut (pair_cut text_cut text_cut) (pair_cut currency_cut (pair_cut window_cut optional_cut))) optional_cut) association_cut) scope_cut) flag_cut) ((((((t, v), (c, (w, m))), n), s), o), a) ((((((t', v'), (c', (w', m'))), n'), s'), o'), a') (rest 6 _ _ e))
-control_is t v c w m n s o a _ e = cc
+control_is : (t : List ℕ) (v : List ℕ) (c : Currency) (w : Window) (m : Option ℕ) (n : Option ℕ) (s : Association) (o : Scope) (z : ℤ) (a : Bool) (b : Input) → contents (input.Control t v c w m n s o z a) ≡ contents b → input.Control t v c w m n s o z a ≡ b
+control_is t v c w m n s o z a (input.Control t' v' c' w' m' n' s' o' z' a') e =
+    ap (λ p. input.Control p.0.0.0.0.0.0.0 p.0.0.0.0.0.0.1 p.0.0.0.0.0.1.0 p.0.0.0.0.0.1.1.0 p.0.0.0.0.0.1.1.1 p.0.0.0.0.1 p.0.0.0.1 p.0.0.1 p.0.1 p.1) (alone (pair_cut (pair_cut (pair_cut (pair_cut (pair_cut (pair_cut (pair_cut text_cut text_cut) (pair_cut currency_cut (pair_cut window_cut optional_cut))) optional_cut) association_cut) scope_cut) int_cut) flag_cut) (((((((t, v), (c, (w, m))), n), s), o), z), a) (((((((t', v'), (c', (w', m'))), n'), s'), o'), z'), a') (rest 6 _ _ e))
+control_is t v c w m n s o z a _ e = cc
 
 set_is : (t : List ℕ) (v : List ℕ) (p : List ℕ) (c : Currency) (x : Bool) (y : Bool) (z : Bool) (m : ℕ) (d : ℕ) (a : Bool) (b : Input) → contents (input.Set t v p c x y z m d a) ≡ contents b → input.Set t v p c x y z m d a ≡ b
 set_is t v p c x y z m d a (input.Set t' v' p' c' x' y' z' m' d' a') e =
@@ -117,7 +117,7 @@ contents_tell (input.Card t c u p a) b e = card_is t c u p a b e
 contents_tell (input.Move t w) b e = move_is t w b e
 contents_tell (input.Product t p c f m h) b e = product_is t p c f m h b e
 contents_tell (input.Group t g m) b e = group_is t g m b e
-contents_tell (input.Control t v c w m n s o a) b e = control_is t v c w m n s o a b e
+contents_tell (input.Control t v c w m n s o z a) b e = control_is t v c w m n s o z a b e
 contents_tell (input.Set t v p c x y z m d a) b e = set_is t v p c x y z m d a b e
 contents_tell (input.Switch t p a) b e = switch_is t p a b e
 contents_tell (input.Load t u c n) b e = load_is t u c n b e

@@ -1,5 +1,5 @@
 -- Each kind of input: what is spelled is taken again, whatever follows it.
-use Rattle.std.proofs.Common.{◌≡◌, ℕ, Bool, true, ◌&&◌, List, [], ◌∷◌, ◌++◌, Option, Some, refl, sym, ap, ◌∙◌, append_assoc}
+use Rattle.std.proofs.Common.{◌≡◌, ℕ, ℤ, Bool, true, false, cond, ◌&&◌, List, [], ◌∷◌, ◌++◌, Option, Some, refl, sym, ap, ◌∙◌, append_assoc}
 use Rattle.std.specs.List.{list_all}
 use Rattle.std.proofs.lemmas.Bool.{and_parts}
 use Rattle.std.proofs.lemmas.List.Folds.{list_all-append}
@@ -12,13 +12,13 @@ use Rattle.iss_model.specs.declared.setting.Scope.{Scope}
 use Rattle.iss_model.specs.declared.input.Outcome.{Outcome}
 use Rattle.iss_model.specs.declared.input.Input.{Input}
 use Rattle.iss_model.specs.declared.input.Input.TheVariants as input
-use Rattle.iss_model.specs.Forms.{is_amount, is_limit, is_mcc, is_number, is_timeout, is_hold_time, are_mccs, are_limits, is_scope}
+use Rattle.iss_model.specs.Forms.{is_amount, is_limit, is_mcc, is_number, is_timeout, is_hold_time, are_mccs, are_limits, is_scope, is_offset}
 use Rattle.iss_model.specs.Inputs.{flag_contents, funding_number, window_number, outcome_number, spelled_moved, spelled_association}
-use Rattle.iss_model.specs.texts.Spelling.{number_bytes, currency_bytes, amount_bytes, mcc_bytes, mccs_bytes, spelled_scope, spelled_fields, spelled_operation, kind_number, has_fields, moved_token, association_tokens, scope_tokens}
+use Rattle.iss_model.specs.texts.Spelling.{number_bytes, currency_bytes, amount_bytes, mcc_bytes, mccs_bytes, spelled_scope, spelled_fields, spelled_operation, kind_number, has_fields, is_utc, offset_bytes, moved_token, association_tokens, scope_tokens}
 use Rattle.iss_codec.specs.Taking.{◌>>=◌}
 use Rattle.iss_codec.specs.TakingRecords.{take_user, take_card, take_move, take_product, take_group, take_control, take_set, take_switch, take_operation, take_authorization, take_clearing, take_answer, take_ack, take_fields}
 use Rattle.iss_codec.proofs.TakenFields.{IsField}
-use Rattle.iss_codec.proofs.TakenParts.{amount_field, limit_field, mcc_field, id_field, timeout_field, hold_time_field, funding_field, window_field, outcome_field, currency_field, flag_field, both_limits, have_form, limits_field, mccs_field}
+use Rattle.iss_codec.proofs.TakenParts.{amount_field, limit_field, mcc_field, id_field, timeout_field, hold_time_field, funding_field, window_field, outcome_field, currency_field, flag_field, both_limits, have_form, limits_field, offset_form, offset_field, mccs_field}
 use Rattle.iss_codec.proofs.TakenChoices.{moved_form, moved_field, association_field, association_form, scope_field, scope_form}
 
 -- a field before what the next steps read
@@ -105,11 +105,12 @@ module _ {take_name : List ℕ → Option (List ℕ × List ℕ)} {name_bytes : 
       (again_step mccs_field codes _ _ _ h3
       refl))
 
-  control_again : (token control : List ℕ) (currency : Currency) (window : Window) (limits : Option ℕ × Option ℕ) (association : Association) (scope : Scope) (active : Bool) (rest : List ℕ) → is_name token ≡ true → is_name control ≡ true → have_form window limits ≡ true → association_form is_name association ≡ true → scope_form is_name scope ≡ true
-      → take_control take_name (spelled_fields name_bytes (input.Control token control currency window limits.0 limits.1 association scope active) ++ rest) ≡ Some (input.Control token control currency window limits.0 limits.1 association scope active, rest)
+  control_again : (local : Bool) (token control : List ℕ) (currency : Currency) (window : Window) (limits : Option ℕ × Option ℕ) (association : Association) (scope : Scope) (offset : ℤ) (active : Bool) (rest : List ℕ)
+      → is_name token ≡ true → is_name control ≡ true → have_form window limits ≡ true → association_form is_name association ≡ true → scope_form is_name scope ≡ true → offset_form local offset ≡ true
+      → take_control take_name local (spelled_fields name_bytes (input.Control token control currency window limits.0 limits.1 association scope offset active) ++ rest) ≡ Some (input.Control token control currency window limits.0 limits.1 association scope offset active, rest)
   unfolding take_control
-  control_again token control currency window limits association scope active rest h1 h2 h5 h6 h7 =
-      ap (take_control take_name) (grouped_8 (name_bytes token) (name_bytes control) (currency_bytes currency) (window_number window ∷ []) (both_limits limits) (spelled_association name_bytes association) (spelled_scope name_bytes scope) (flag_contents active) rest) ∙ again_step name token _ _ _ h1
+  control_again local token control currency window limits association scope offset active rest h1 h2 h5 h6 h7 h8 =
+      ap (take_control take_name local) (grouped_9 (name_bytes token) (name_bytes control) (currency_bytes currency) (window_number window ∷ []) (both_limits limits) (spelled_association name_bytes association) (spelled_scope name_bytes scope) (flag_contents active) (offset_bytes offset) rest) ∙ again_step name token _ _ _ h1
       (again_step name control _ _ _ h2
       (again_step currency_field currency _ _ _ refl
       (again_step window_field window _ _ _ refl
@@ -117,7 +118,18 @@ module _ {take_name : List ℕ → Option (List ℕ × List ℕ)} {name_bytes : 
       (again_step (association_field name) association _ _ _ h6
       (again_step (scope_field name) scope _ _ _ h7
       (again_step flag_field active _ _ _ refl
-      refl)))))))
+      (again_step (offset_field local) offset _ _ _ h8
+      refl))))))))
+
+  -- a control is read again by the kind that its offset gives
+  control_by_kind : (b : Bool) (token control : List ℕ) (currency : Currency) (window : Window) (limits : Option ℕ × Option ℕ) (association : Association) (scope : Scope) (offset : ℤ) (active : Bool) (rest : List ℕ)
+      → is_utc offset ≡ b → is_name token ≡ true → is_name control ≡ true → have_form window limits ≡ true → association_form is_name association ≡ true → scope_form is_name scope ≡ true → is_offset offset ≡ true
+      → take_fields take_name (cond b 6 18) (spelled_fields name_bytes (input.Control token control currency window limits.0 limits.1 association scope offset active) ++ rest) ≡ Some (input.Control token control currency window limits.0 limits.1 association scope offset active, rest)
+  unfolding take_fields
+  control_by_kind true token control currency window limits association scope offset active rest is h1 h2 h5 h6 h7 h8 =
+      control_again false token control currency window limits association scope offset active rest h1 h2 h5 h6 h7 is
+  control_by_kind false token control currency window limits association scope offset active rest is h1 h2 h5 h6 h7 h8 =
+      control_again true token control currency window limits association scope offset active rest h1 h2 h5 h6 h7 (rw (h8, is) refl)
 
   set_again : (token set product : List ℕ) (currency : Currency) (connection timeout application : Bool) (max day_limit : ℕ) (active : Bool) (rest : List ℕ) → is_name token ≡ true → is_name set ≡ true → is_name product ≡ true → is_limit max ≡ true → is_limit day_limit ≡ true
       → take_set take_name (spelled_fields name_bytes (input.Set token set product currency connection timeout application max day_limit active) ++ rest) ≡ Some (input.Set token set product currency connection timeout application max day_limit active, rest)
@@ -216,13 +228,14 @@ module _ {take_name : List ℕ → Option (List ℕ × List ℕ)} {name_bytes : 
   fields_again (input.Group token group mccs) rest h =
       let f = and_parts (are_mccs mccs) (list_all is_name (token ∷ group ∷ [])) h in
       let p = two_tokens token group f.1 in group_again token group mccs rest p.0 p.1 f.0
-  fields_again (input.Control token control currency window amount_limit usage_limit association scope active) rest h =
-      let f = and_parts (are_limits window amount_limit usage_limit && is_scope scope) (list_all is_name (token ∷ control ∷ association_tokens association ++ scope_tokens scope)) h in
-      let g = and_parts (are_limits window amount_limit usage_limit) (is_scope scope) f.0 in
+  fields_again (input.Control token control currency window amount_limit usage_limit association scope offset active) rest h =
+      let f = and_parts (are_limits window amount_limit usage_limit && is_scope scope && is_offset offset) (list_all is_name (token ∷ control ∷ association_tokens association ++ scope_tokens scope)) h in
+      let o = and_parts (are_limits window amount_limit usage_limit && is_scope scope) (is_offset offset) f.0 in
+      let g = and_parts (are_limits window amount_limit usage_limit) (is_scope scope) o.0 in
       let p = and_parts (is_name token) (list_all is_name (control ∷ association_tokens association ++ scope_tokens scope)) f.1 in
       let q = and_parts (is_name control) (list_all is_name (association_tokens association ++ scope_tokens scope)) p.1 in
       let r = and_parts (association_form is_name association) (list_all is_name (scope_tokens scope)) (sym (list_all-append is_name (association_tokens association) (scope_tokens scope)) ∙ q.1) in
-      control_again token control currency window (amount_limit, usage_limit) association scope active rest p.0 q.0 g.0 r.0 (rw (g.1, r.1) refl)
+      control_by_kind (is_utc offset) token control currency window (amount_limit, usage_limit) association scope offset active rest refl p.0 q.0 g.0 r.0 (rw (g.1, r.1) refl) o.1
   fields_again (input.Set token set product currency connection timeout application max day_limit active) rest h =
       let f = and_parts (is_limit max && is_limit day_limit) (list_all is_name (token ∷ set ∷ product ∷ [])) h in
       let g = and_parts (is_limit max) (is_limit day_limit) f.0 in

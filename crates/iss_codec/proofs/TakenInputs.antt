@@ -1,5 +1,5 @@
 -- Each kind of input: what is taken was spelled so, and is of its form.
-use Rattle.std.proofs.Common.{◌≡◌, ℕ, Bool, true, nat_eq, List, [], ◌++◌, Option, Some, refl, sym, subst, ◌∙◌}
+use Rattle.std.proofs.Common.{◌≡◌, ℕ, ℤ, Bool, true, false, cond, nat_eq, List, [], ◌++◌, Option, Some, refl, sym, subst, ◌∙◌}
 use Rattle.std.specs.List.{list_all}
 use Rattle.std.proofs.lemmas.Bool.{and_parts, eqb-true}
 use Rattle.std.proofs.lemmas.Option.{same_Some}
@@ -8,11 +8,11 @@ use Rattle.iss_model.specs.declared.currency.Currency.{Currency}
 use Rattle.iss_model.specs.declared.input.Input.{Input}
 use Rattle.iss_model.specs.declared.input.Input.TheVariants as input
 use Rattle.iss_model.specs.Forms.{is_amount, is_scope}
-use Rattle.iss_model.specs.texts.Spelling.{AreBytes, spelled_fields, spelled_operation, kind_number, has_fields, association_tokens, scope_tokens}
+use Rattle.iss_model.specs.texts.Spelling.{AreBytes, spelled_fields, spelled_operation, kind_number, has_fields, is_utc, association_tokens, scope_tokens}
 use Rattle.iss_codec.specs.Taking.{◌>>=◌}
 use Rattle.iss_codec.specs.TakingRecords.{take_user, take_card, take_move, take_product, take_group, take_control, take_set, take_switch, take_operation, take_authorization, take_clearing, take_answer, take_ack, take_fields}
 use Rattle.iss_codec.proofs.TakenFields.{bind_some, either_way, IsSplit, IsField, split_on}
-use Rattle.iss_codec.proofs.TakenParts.{amount_field, limit_field, mcc_field, id_field, timeout_field, hold_time_field, funding_field, window_field, outcome_field, currency_field, flag_field, limits_field, mccs_field}
+use Rattle.iss_codec.proofs.TakenParts.{amount_field, limit_field, mcc_field, id_field, timeout_field, hold_time_field, funding_field, window_field, outcome_field, currency_field, flag_field, limits_field, offset_form, offset_field, offset_in_form, far_from_utc, mccs_field}
 use Rattle.iss_codec.proofs.TakenChoices.{moved_field, association_field, scope_field}
 
 -- what was taken is an input of this kind, in form, and was spelled so
@@ -136,9 +136,10 @@ module _ {take_name : List ℕ → Option (List ℕ × List ℕ)} {name_bytes : 
       subst (IsInput name_bytes is_name 16 bytes) (same_Some _ x e1) (record { split = s1; form = rw h1 refl; kind = refl }))
 
   -- a control has its limits in one piece
-  control_takes : (bytes : List ℕ) (x : Input × List ℕ) → AreBytes bytes → take_control take_name bytes ≡ Some x → IsInput name_bytes is_name 6 bytes x
+  control_takes : (number : ℕ) (local : Bool) → ((offset : ℤ) → offset_form local offset ≡ true → cond (is_utc offset) 6 18 ≡ number)
+      → (bytes : List ℕ) (x : Input × List ℕ) → AreBytes bytes → take_control take_name local bytes ≡ Some x → IsInput name_bytes is_name number bytes x
   unfolding take_control
-  control_takes bytes x fits e =
+  control_takes number local is_kind bytes x fits e =
       step name bytes [] bytes _ x (start bytes fits) e (λ token r1 s1 h1 e1.
       step name bytes _ r1 _ x s1 e1 (λ control r2 s2 h2 e2.
       step currency_field bytes _ r2 _ x s2 e2 (λ currency r3 s3 h3 e3.
@@ -147,10 +148,21 @@ module _ {take_name : List ℕ → Option (List ℕ × List ℕ)} {name_bytes : 
       step (association_field name) bytes _ r5 _ x s5 e5 (λ association r6 s6 h6 e6.
       step (scope_field name) bytes _ r6 _ x s6 e6 (λ scope r7 s7 h7 e7.
       step flag_field bytes _ r7 _ x s7 e7 (λ active r8 s8 h8 e8.
+      step (offset_field local) bytes _ r8 _ x s8 e8 (λ offset r9 s9 h9 e9.
       let p = and_parts (is_scope scope) (list_all is_name (scope_tokens scope)) h7 in
       let tokens : list_all is_name (association_tokens association ++ scope_tokens scope) ≡ true =
       list_all-append is_name (association_tokens association) (scope_tokens scope) ∙ rw (h6, p.1) refl in
-      subst (IsInput name_bytes is_name 6 bytes) (same_Some _ x e8) (record { split = s8; form = rw (h5, p.0, h1, h2, tokens) refl; kind = refl })))))))))
+      subst (IsInput name_bytes is_name number bytes) (same_Some _ x e9) (record {
+        split = s9;
+        form = rw (h5, p.0, offset_in_form local offset h9, h1, h2, tokens) refl;
+        kind = is_kind offset h9;
+      }))))))))))
+
+  utc_takes : (bytes : List ℕ) (x : Input × List ℕ) → AreBytes bytes → take_control take_name false bytes ≡ Some x → IsInput name_bytes is_name 6 bytes x
+  utc_takes = control_takes 6 false (λ offset h. rw h refl)
+
+  local_takes : (bytes : List ℕ) (x : Input × List ℕ) → AreBytes bytes → take_control take_name true bytes ≡ Some x → IsInput name_bytes is_name 18 bytes x
+  local_takes = control_takes 18 true (λ offset h. rw (far_from_utc offset h) refl)
 
   operation_takes : (number : ℕ) (make : List ℕ → List ℕ → Currency → ℕ → Input) → ((t a : List ℕ) (c : Currency) (n : ℕ) → spelled_fields name_bytes (make t a c n) ≡ spelled_operation name_bytes t a c n)
       → ((t a : List ℕ) (c : Currency) (n : ℕ) → is_name t ≡ true → is_name a ≡ true → is_amount n ≡ true → has_fields is_name (make t a c n) ≡ true)
@@ -196,7 +208,7 @@ module _ {take_name : List ℕ → Option (List ℕ × List ℕ)} {name_bytes : 
       either_way _ _ _ (Some x) (λ is e. of_kind number 3 bytes x is (move_takes bytes x fits e)) (
       either_way _ _ _ (Some x) (λ is e. of_kind number 4 bytes x is (product_takes bytes x fits e)) (
       either_way _ _ _ (Some x) (λ is e. of_kind number 5 bytes x is (group_takes bytes x fits e)) (
-      either_way _ _ _ (Some x) (λ is e. of_kind number 6 bytes x is (control_takes bytes x fits e)) (
+      either_way _ _ _ (Some x) (λ is e. of_kind number 6 bytes x is (utc_takes bytes x fits e)) (
       either_way _ _ _ (Some x) (λ is e. of_kind number 7 bytes x is (set_takes bytes x fits e)) (
       either_way _ _ _ (Some x) (λ is e. of_kind number 8 bytes x is (switch_takes bytes x fits e)) (
       either_way _ _ _ (Some x) (λ is e. of_kind number 9 bytes x is (load_takes bytes x fits e)) (
@@ -208,4 +220,5 @@ module _ {take_name : List ℕ → Option (List ℕ × List ℕ)} {name_bytes : 
       either_way _ _ _ (Some x) (λ is e. of_kind number 15 bytes x is (answer_takes bytes x fits e)) (
       either_way _ _ _ (Some x) (λ is e. of_kind number 16 bytes x is (ack_takes bytes x fits e)) (
       either_way _ _ _ (Some x) (λ is e. of_kind number 17 bytes x is (time_takes bytes x fits e)) (
-      λ e. absurd cc))))))))))))))))) e
+      either_way _ _ _ (Some x) (λ is e. of_kind number 18 bytes x is (local_takes bytes x fits e)) (
+      λ e. absurd cc)))))))))))))))))) e

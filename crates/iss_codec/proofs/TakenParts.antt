@@ -1,6 +1,9 @@
 -- The fields that are more than one number or token: what is taken was spelled so, and what is spelled so is taken.
 use Rattle.std.proofs.Common.{◌≡◌, ℕ, zero, suc, ◌+◌, ◌<◌, Bool, true, false, ◌&&◌, ltb, nat_eq, nat_le, List, [], ◌∷◌, ◌++◌, length, Option, Some, None, refl, sym, ap, subst, ◌∙◌, append_assoc, arith}
-use Rattle.std.specs.Prelude.{is_some, ◌||◌}
+use Rattle.std.specs.Prelude.{ℤ, pos, negsuc, int_le, FitsSigned, not, is_some, ◌||◌}
+use Rattle.std.specs.Int.{w16, cast_signed, cast_unsigned}
+use Rattle.std.specs.Cmp.{signed_Decides}
+use Rattle.std.proofs.lemmas.Int.{of_z-to_z, to_z-of_z}
 use Rattle.std.specs.List.{flat_map}
 use Rattle.std.proofs.lemmas.Bool.{leb-true, lt-ltb, ltb-true, eqb-true, and_parts}
 use Rattle.std.proofs.lemmas.Option.{same_Some}
@@ -18,11 +21,11 @@ use Rattle.iss_model.specs.declared.setting.UserState.TheVariants as user_state
 use Rattle.iss_model.specs.declared.input.Outcome.{Outcome}
 use Rattle.iss_model.specs.declared.input.Outcome.TheVariants as outcome
 use Rattle.iss_model.specs.Currencies.{iso_number, currencies}
-use Rattle.iss_model.specs.Forms.{is_amount, is_limit, is_mcc, is_stamp, is_timeout, is_hold_time, is_number, is_usage_limit, is_none_or, are_rising, are_mccs, are_limits, may_count}
+use Rattle.iss_model.specs.Forms.{is_amount, is_limit, is_mcc, is_stamp, is_timeout, is_hold_time, is_number, is_usage_limit, is_none_or, are_rising, are_mccs, are_limits, may_count, is_offset}
 use Rattle.iss_model.specs.Inputs.{flag_contents, funding_number, window_number, card_state_number, user_state_number, outcome_number}
-use Rattle.iss_model.specs.texts.Spelling.{AreBytes, number_bytes, currency_bytes, mcc_bytes, mccs_bytes, limit_bytes, limits_bytes}
+use Rattle.iss_model.specs.texts.Spelling.{AreBytes, number_bytes, currency_bytes, mcc_bytes, mccs_bytes, limit_bytes, limits_bytes, is_utc, offset_bytes}
 use Rattle.iss_model.specs.Numbers.{of_number, fundings, windows, card_states, user_states, outcomes, currency_numbered, funding_numbered, window_numbered, card_state_numbered, user_state_numbered, outcome_numbered, flag_numbered}
-use Rattle.iss_codec.specs.Taking.{take_byte, take_number, take_formed, take_stamp, take_amount, take_limit, take_mcc, take_id, take_numbered, take_flag, take_currency, take_some, take_optional_by, take_optional, take_codes, take_mccs}
+use Rattle.iss_codec.specs.Taking.{take_byte, take_number, take_formed, take_stamp, take_amount, take_limit, take_mcc, take_id, take_numbered, take_flag, take_currency, take_some, take_optional_by, take_optional, take_codes, take_mccs, is_local, take_offset}
 use Rattle.iss_codec.specs.TakingRecords.{take_limits}
 use Rattle.iss_codec.proofs.NumberBytes.{IsWide, wide_2, wide_4, wide_8}
 use Rattle.iss_codec.proofs.TakenFields.{by_byte, bind_some, passed, either_way, IsSplit, IsField, split_on, byte_takes, number_takes, number_again, formed, numbered}
@@ -228,6 +231,63 @@ limits_field w =
           ap (take_limits w) (append_assoc (limit_bytes 8 x.0) (limit_bytes 4 x.1) rest)
           ∙ rw ((optional_field 8 _ wide_8).again x.0 (limit_bytes 4 x.1 ++ rest) (limit_below x.0 p.0), (optional_field 4 _ wide_4).again x.1 rest (usage_below x.1 p.1), h) refl;
     }
+
+-- the offset of a control, in UTC or by a local clock
+
+abbrev pub offset_form : Bool → ℤ → Bool
+offset_form true offset = is_local offset
+offset_form false offset = is_utc offset
+
+pub utc_is : (offset : ℤ) → is_utc offset ≡ true → offset ≡ pos 0
+utc_is offset h = (signed_Decides offset (pos 0)).0 h
+
+not_true : (b : Bool) → not b ≡ true → b ≡ false
+not_true true h = absurd cc
+not_true false h = refl
+
+pub offset_fits : (offset : ℤ) → is_offset offset ≡ true → FitsSigned w16 offset
+offset_fits (pos n) h = omega (arith, leb-true _ _ (and_parts (int_le (negsuc 719) (pos n)) (int_le (pos n) (pos 840)) h).1)
+offset_fits (negsuc n) h = omega (arith, leb-true _ _ (and_parts (int_le (negsuc 719) (negsuc n)) (int_le (negsuc n) (pos 840)) h).0)
+
+low_word : (offset : ℤ) → is_offset offset ≡ true → cast_unsigned w16 offset < 65536
+low_word (pos n) h = omega (arith, leb-true _ _ (and_parts (int_le (negsuc 719) (pos n)) (int_le (pos n) (pos 840)) h).1)
+low_word (negsuc n) h = omega arith
+
+spelled_local : (offset : ℤ) → is_utc offset ≡ false → offset_bytes offset ≡ number_bytes 2 (cast_unsigned w16 offset)
+spelled_local offset h = rw h refl
+
+-- a local clock isn't that of UTC
+pub far_from_utc : (offset : ℤ) → is_local offset ≡ true → is_utc offset ≡ false
+far_from_utc offset h = not_true (is_utc offset) (and_parts (is_offset offset) (not (is_utc offset)) h).1
+
+pub offset_field : (b : Bool) → IsField (take_offset b) offset_bytes (offset_form b)
+unfolding take_offset
+offset_field false =
+    record {
+      takes = λ bytes x fits e.
+          subst (λ y. IsSplit bytes (offset_bytes y.0) y.1 × (is_utc y.0 ≡ true)) (same_Some (pos 0, bytes) x e) (record { parts = refl; fits = fits }, refl);
+      again = λ offset rest h. rw (utc_is offset h) refl;
+    }
+offset_field true =
+    record {
+      takes = λ bytes x fits e.
+          let n = bind_some (take_number 2 bytes) _ x e in
+          let t = number_takes 2 _ wide_2 bytes n.0 fits n.1 in
+          let offset : ℤ = cast_signed w16 n.0.0 in
+          let g = passed (is_local offset) (offset, n.0.1) x n.2 in
+          let far = far_from_utc offset g.0 in
+          let text : number_bytes 2 n.0.0 ≡ offset_bytes offset =
+          ap (λ (k : ℕ). number_bytes 2 k) (sym (of_z-to_z w16 n.0.0 t.1)) ∙ sym (spelled_local offset far) in
+          subst (λ y. IsSplit bytes (offset_bytes y.0) y.1 × (is_local y.0 ≡ true)) g.1 (subst (λ (l : List ℕ). IsSplit bytes l n.0.1) text t.0, g.0);
+      again = λ offset rest h.
+          let p = and_parts (is_offset offset) (not (is_utc offset)) h in
+          rw (spelled_local offset (far_from_utc offset h), number_again 2 _ wide_2 (cast_unsigned w16 offset) rest (low_word offset p.0), to_z-of_z w16 offset (offset_fits offset p.0), h) refl;
+    }
+
+-- the offset is in form either way
+pub offset_in_form : (b : Bool) (offset : ℤ) → offset_form b offset ≡ true → is_offset offset ≡ true
+offset_in_form true offset h = (and_parts (is_offset offset) (not (is_utc offset)) h).0
+offset_in_form false offset h = rw (utc_is offset h) refl
 
 -- the codes of a group
 

@@ -1,3 +1,4 @@
+pub mod Controls
 pub mod Taking
 pub mod TakingRecords
 pub mod Readers

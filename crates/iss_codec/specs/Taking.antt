@@ -1,6 +1,7 @@
 -- How the bytes of a record are read again: each word takes a field from the start, and returns it with the bytes after it.
 -- How a token is taken is a parameter of what holds tokens, as it is in the spelling.
-use Rattle.std.specs.Prelude.{ℕ, zero, suc, ◌+◌, ◌*◌, ◌^◌, Bool, ◌==◌, nat_lt, List, [], ◌∷◌, length, take, drop, slice_index, Option, Some, None, if◌then◌else◌}
+use Rattle.std.specs.Prelude.{ℕ, zero, suc, ◌+◌, ◌*◌, ◌^◌, ℤ, pos, Bool, true, false, not, ◌&&◌, ◌==◌, nat_lt, List, [], ◌∷◌, length, take, drop, slice_index, Option, Some, None, if◌then◌else◌}
+use Rattle.std.specs.Int.{w16, cast_signed}
 use Rattle.iss_model.specs.declared.currency.Currency.{Currency}
 use Rattle.iss_model.specs.declared.setting.Moved.{Moved}
 use Rattle.iss_model.specs.declared.setting.Moved.TheVariants as moved
@@ -9,7 +10,8 @@ use Rattle.iss_model.specs.declared.setting.Association.TheVariants as associati
 use Rattle.iss_model.specs.declared.setting.Scope.{Scope}
 use Rattle.iss_model.specs.declared.setting.Scope.TheVariants as scope
 use Rattle.iss_model.specs.Tokens.{is_token}
-use Rattle.iss_model.specs.Forms.{is_amount, is_limit, is_mcc, is_stamp, is_number, are_mccs}
+use Rattle.iss_model.specs.Forms.{is_amount, is_limit, is_mcc, is_stamp, is_number, is_offset, are_mccs}
+use Rattle.iss_model.specs.texts.Spelling.{is_utc}
 use Rattle.iss_model.specs.Numbers.{currency_numbered, card_state_numbered, user_state_numbered, flag_numbered}
 
 -- the ? of the logic: the second step, if the first gave a value
@@ -72,6 +74,17 @@ take_token bytes = do
   len ← take_byte bytes
   text ← take_bytes len.0 len.1
   only is_token text
+
+-- an offset in form that isn't that of UTC
+abbrev pub is_local : ℤ → Bool
+is_local offset = is_offset offset && not (is_utc offset)
+
+-- the offset of a control: nothing stands for UTC, and two bytes for another, as a number in two's complement
+unfoldable pub take_offset : Bool → List ℕ → Option (ℤ × List ℕ)
+take_offset false bytes = Some (pos 0, bytes)
+take_offset true bytes = do
+  number ← take_number 2 bytes
+  only is_local (cast_signed w16 number.0, number.1)
 
 -- a thing whose number is one byte
 unfoldable pub take_numbered : {A : Type 0} → (ℕ → Option A) → List ℕ → Option (A × List ℕ)

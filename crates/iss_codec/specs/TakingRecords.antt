@@ -1,5 +1,5 @@
 -- How each kind of record is read again, and the record that bytes spell.
-use Rattle.std.specs.Prelude.{ℕ, ◌==◌, List, [], ◌∷◌, Option, Some, None, if◌then◌else◌}
+use Rattle.std.specs.Prelude.{ℕ, Bool, true, false, ◌==◌, List, [], ◌∷◌, Option, Some, None, if◌then◌else◌}
 use Rattle.iss_model.specs.declared.currency.Currency.{Currency}
 use Rattle.iss_model.specs.declared.setting.Window.{Window}
 use Rattle.iss_model.specs.declared.input.Input.{Input}
@@ -7,7 +7,7 @@ use Rattle.iss_model.specs.declared.input.Input.TheVariants as input
 use Rattle.iss_model.specs.declared.input.Record.{Record}
 use Rattle.iss_model.specs.Forms.{is_timeout, is_hold_time, are_limits}
 use Rattle.iss_model.specs.Numbers.{funding_numbered, window_numbered, outcome_numbered}
-use Rattle.iss_codec.specs.Taking.{◌>>=◌, only, take_byte, take_formed, take_stamp, take_amount, take_limit, take_mcc, take_id, take_token, take_flag, take_currency, take_numbered, take_optional, take_mccs, take_moved, take_association, take_scope}
+use Rattle.iss_codec.specs.Taking.{◌>>=◌, only, take_byte, take_formed, take_stamp, take_amount, take_limit, take_mcc, take_id, take_token, take_flag, take_currency, take_numbered, take_optional, take_mccs, take_moved, take_association, take_scope, take_offset}
 
 -- the limits of a control with this window
 unfoldable pub take_limits : Window → List ℕ → Option ((Option ℕ × Option ℕ) × List ℕ)
@@ -74,9 +74,9 @@ module _ (take_name : List ℕ → Option (List ℕ × List ℕ)) where
     mccs ← take_mccs group.1
     Some (input.Group token.0 group.0 mccs.0, mccs.1)
 
-  -- a velocity control is set
-  unfoldable pub take_control : List ℕ → Option (Input × List ℕ)
-  take_control bytes = do
+  -- a velocity control is set, in UTC or by a local clock
+  unfoldable pub take_control : Bool → List ℕ → Option (Input × List ℕ)
+  take_control local bytes = do
     token ← take_name bytes
     control ← take_name token.1
     currency ← take_currency control.1
@@ -85,7 +85,8 @@ module _ (take_name : List ℕ → Option (List ℕ × List ℕ)) where
     association ← take_association take_name limits.1
     scope ← take_scope take_name association.1
     active ← take_flag scope.1
-    Some (input.Control token.0 control.0 currency.0 window.0 limits.0.0 limits.0.1 association.0 scope.0 active.0, active.1)
+    offset ← take_offset local active.1
+    Some (input.Control token.0 control.0 currency.0 window.0 limits.0.0 limits.0.1 association.0 scope.0 offset.0 active.0, offset.1)
 
   -- a Commando Mode set is set
   unfoldable pub take_set : List ℕ → Option (Input × List ℕ)
@@ -148,7 +149,7 @@ module _ (take_name : List ℕ → Option (List ℕ × List ℕ)) where
       else if kind == 3 then take_move bytes
       else if kind == 4 then take_product bytes
       else if kind == 5 then take_group bytes
-      else if kind == 6 then take_control bytes
+      else if kind == 6 then take_control false bytes
       else if kind == 7 then take_set bytes
       else if kind == 8 then take_switch bytes
       else if kind == 9 then take_operation input.Load bytes
@@ -160,6 +161,7 @@ module _ (take_name : List ℕ → Option (List ℕ × List ℕ)) where
       else if kind == 15 then take_answer bytes
       else if kind == 16 then take_ack bytes
       else if kind == 17 then Some (input.Time, bytes)
+      else if kind == 18 then take_control true bytes
       else None
 
   -- the record at the start, and the bytes after it

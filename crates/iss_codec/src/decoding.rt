@@ -61,7 +61,7 @@ impl Reader<'_> {
             3 => self.take_move(),
             4 => self.take_product(),
             5 => self.take_group(alloc)?,
-            6 => self.take_control(),
+            6 => self.take_control(false),
             7 => self.take_set(),
             8 => self.take_switch(),
             9 => self.take_load(),
@@ -73,6 +73,7 @@ impl Reader<'_> {
             15 => self.take_answer(),
             16 => self.take_ack(),
             17 => Some(Input::Time),
+            18 => self.take_control(true),
             _ => None,
         })
     }

@@ -3,12 +3,13 @@ ghost use Rattle.std.specs.Prelude.{◌≡◌, ◌++◌, IsTrue, OnOk, IfOk};
 ghost use Rattle.std.specs.List.{list_all};
 ghost use Rattle.iss_model.specs.Tokens.{is_token};
 ghost use Rattle.iss_model.specs.texts.Spelling.{spelling, field_bytes, kind_number, tokens_of};
+ghost use Rattle.iss_codec.specs.Controls.{control_input};
 
 use crate::writing::{
     put_association, put_currency, put_event, put_flag, put_limits, put_low_u32, put_mccs,
-    put_moved, put_operation, put_scope, put_token, put_u16, put_u32, put_u64,
+    put_moved, put_offset, put_operation, put_scope, put_token, put_u16, put_u32, put_u64,
 };
-use iss_model::{Input, Numbered, Record};
+use iss_model::{Control, Input, Numbered, Record, Token};
 use std::alloc::{AllocError, Global};
 
 /// The one spelling of a record. `decode` reads it again if the record is in form.
@@ -41,7 +42,8 @@ fn kind_number(input: &Input) -> u8
         Input::Move { .. } => 3,
         Input::Product { .. } => 4,
         Input::Group { .. } => 5,
-        Input::Control { .. } => 6,
+        Input::Control { offset: 0, .. } => 6,
+        Input::Control { .. } => 18,
         Input::Set { .. } => 7,
         Input::Switch { .. } => 8,
         Input::Load { .. } => 9,
@@ -97,24 +99,11 @@ fn put_fields(out: &mut Vec<u8>, input: &Input) -> Result<(), AllocError>
             put_event(out, token, group)?;
             put_mccs(out, mccs)
         }
-        Input::Control {
-            token,
-            control,
-            currency,
-            window,
-            amount_limit,
-            usage_limit,
-            association,
-            scope,
-            active,
-        } => {
-            put_event(out, token, control)?;
-            put_currency(out, *currency)?;
-            out.push(window.number())?;
-            put_limits(out, *amount_limit, *usage_limit)?;
-            put_association(out, association)?;
-            put_scope(out, scope)?;
-            put_flag(out, *active)
+        Input::Control { token, .. } => {
+            let Some(control) = input.control() else {
+                unreachable!()
+            };
+            put_control(out, token, &control)
         }
         Input::Set {
             token,
@@ -195,4 +184,20 @@ fn put_fields(out: &mut Vec<u8>, input: &Input) -> Result<(), AllocError>
         Input::Ack { notice } => put_u32(out, *notice),
         Input::Time => Ok(()),
     }
+}
+
+/// The fields of a control after the token of its event.
+#[tactic(auto, unfolding(iss_model::specs::texts::Spelling::field_bytes))]
+fn put_control(out: &mut Vec<u8>, token: &Token, control: &Control) -> Result<(), AllocError>
+    ensures spelled { OnOk result (out.new.items ≡ out.old.items ++ field_bytes (control_input token.now control.now)) }
+    ensures tokens { OnOk result (IsTrue (list_all is_token (tokens_of (control_input token.now control.now)))) }
+{
+    put_event(out, token, &control.name)?;
+    put_currency(out, control.currency)?;
+    out.push(control.window.number())?;
+    put_limits(out, control.amount_limit, control.usage_limit)?;
+    put_association(out, &control.association)?;
+    put_scope(out, &control.scope)?;
+    put_flag(out, control.active)?;
+    put_offset(out, control.offset)
 }

@@ -74,14 +74,17 @@ impl Reader<'_> {
     }
 
     #[tactic(auto, unfolding(crate::specs::TakingRecords::take_control))]
-    pub(crate) fn take_control(&mut self) -> Option<Input>
-        ensures { taken_field result self.new.bytes.now ≡ take_control take_token self.old.bytes.now }
+    pub(crate) fn take_control(&mut self, local: bool) -> Option<Input>
+        ensures { taken_field result self.new.bytes.now ≡ take_control take_token local self.old.bytes.now }
     {
         let token = self.take_token()?;
         let control = self.take_token()?;
         let currency = self.take_currency()?;
         let window = self.take_numbered()?;
         let (amount_limit, usage_limit) = self.take_limits(window)?;
+        let association = self.take_association()?;
+        let scope = self.take_scope()?;
+        let active = self.take_numbered()?;
         Some(Input::Control {
             token,
             control,
@@ -89,9 +92,10 @@ impl Reader<'_> {
             window,
             amount_limit,
             usage_limit,
-            association: self.take_association()?,
-            scope: self.take_scope()?,
-            active: self.take_numbered()?,
+            association,
+            scope,
+            offset: self.take_offset(local)?,
+            active,
         })
     }
 

@@ -1,12 +1,12 @@
 //! Reading the parts of a move and of a control.
 ghost use Rattle.std.specs.Prelude.{◌≡◌};
 ghost use Rattle.iss_model.specs.Forms.{are_limits, may_count};
-ghost use Rattle.iss_codec.specs.Taking.{take_token, take_moved, take_association, take_scope, take_optional};
+ghost use Rattle.iss_codec.specs.Taking.{take_token, take_moved, take_association, take_scope, take_optional, take_offset, is_local};
 ghost use Rattle.iss_codec.specs.TakingRecords.{take_limits};
 ghost use Rattle.iss_codec.specs.Readers.{taken_field};
 
 use crate::reader::Reader;
-use iss_model::limits::{GREATEST_LIMIT, GREATEST_USAGE};
+use iss_model::limits::{GREATEST_LIMIT, GREATEST_OFFSET, GREATEST_USAGE, LEAST_OFFSET};
 use iss_model::{Association, Moved, Scope, Window};
 
 impl Reader<'_> {
@@ -56,6 +56,18 @@ impl Reader<'_> {
         are_limits(window, amount, usage).then_some((amount, usage))
     }
 
+    /// The offset of a control's clock from UTC, in minutes: nothing stands for UTC, and two bytes for another.
+    #[tactic(auto, unfolding(crate::specs::Taking::take_offset))]
+    pub(crate) fn take_offset(&mut self, local: bool) -> Option<i16>
+        ensures { taken_field result self.new.bytes.now ≡ take_offset local self.old.bytes.now }
+    {
+        if !local {
+            return Some(0);
+        }
+        let offset = self.take_u16()?.cast_signed();
+        is_local(offset).then_some(offset)
+    }
+
     #[tactic(auto, unfolding(crate::specs::Taking::take_optional))]
     fn take_amount_limit(&mut self) -> Option<Option<u64>>
         ensures { taken_field result self.new.bytes.now ≡ take_optional 8 self.old.bytes.now }
@@ -77,6 +89,12 @@ impl Reader<'_> {
             _ => None,
         }
     }
+}
+
+fn is_local(offset: i16) -> bool
+    ensures { result ≡ is_local offset }
+{
+    LEAST_OFFSET <= offset && offset <= GREATEST_OFFSET && offset != 0
 }
 
 fn are_limits(window: Window, amount: Option<u64>, usage: Option<u32>) -> bool

@@ -3,7 +3,7 @@ ghost use Rattle.std.specs.Prelude.{◌≡◌, ◌++◌, ◌∷◌, [], IsTrue, 
 ghost use Rattle.std.specs.List.{flat_map, list_all};
 ghost use Rattle.iss_model.specs.Tokens.{is_token};
 ghost use Rattle.iss_model.specs.Inputs.{with_length, flag_contents, moved_contents, association_contents};
-ghost use Rattle.iss_model.specs.texts.Spelling.{number_bytes, currency_bytes, mcc_bytes, limit_bytes, limits_bytes, scope_bytes, mccs_bytes, operation_bytes, moved_token, association_tokens, scope_tokens};
+ghost use Rattle.iss_model.specs.texts.Spelling.{number_bytes, currency_bytes, mcc_bytes, limit_bytes, limits_bytes, offset_bytes, scope_bytes, mccs_bytes, operation_bytes, moved_token, association_tokens, scope_tokens};
 
 use iss_model::{Association, Currency, Mccs, Moved, Numbered, Scope, Token};
 use std::alloc::AllocError;
@@ -74,6 +74,16 @@ pub(crate) fn put_currency(out: &mut Vec<u8>, currency: Currency) -> Result<(), 
     ensures { OnOk result (out.new.items ≡ out.old.items ++ currency_bytes currency) }
 {
     put_u16(out, currency.number())
+}
+
+/// The offset of a control's clock from UTC: nothing for UTC itself.
+pub(crate) fn put_offset(out: &mut Vec<u8>, offset: i16) -> Result<(), AllocError>
+    ensures { OnOk result (out.new.items ≡ out.old.items ++ offset_bytes offset) }
+{
+    if offset == 0 {
+        return Ok(());
+    }
+    put_u16(out, offset.cast_unsigned())
 }
 
 /// The limits of a control: the most minor units, and the most purchases.

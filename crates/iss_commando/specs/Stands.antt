@@ -1,4 +1,4 @@
--- What the sets say of an amount that the gateway didn't decide.
+-- What the sets decide of an amount that the gateway didn't decide.
 use Rattle.std.specs.Prelude.{◌≡◌, ℕ, ℤ, pos, ◌+ℤ◌, int_le, Bool, ◌&&◌, nat_le, List, find, Option, Some, None, if◌then◌else◌}
 use Rattle.std.specs.Str.{bytes_eq}
 use Rattle.iss_model.specs.declared.call.Failure.{Failure}
@@ -22,7 +22,7 @@ is_for product why s = s.active && bytes_eq s.product product && covers_failure 
 abbrev pub is_allowed : Set → ℤ → ℕ → Bool
 is_allowed s stood amount = nat_le amount s.max && int_le (stood +ℤ pos amount) (pos s.day_limit)
 
--- what a set that was found says, where one was found
+-- what a set that was found decides, if one was found
 abbrev pub stand_by : ℤ → ℕ → Option Set → rule.Stand
 stand_by stood amount None = rule.uncovered
 stand_by stood amount (Some s) = if is_allowed s stood amount then rule.allowed s else rule.over_limit s

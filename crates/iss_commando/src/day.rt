@@ -51,7 +51,7 @@ fn day(at: u64) -> u64
     requires { IsTrue (is_stamp at) }
     ensures { pos result ≡ window_at window.Day at (pos 0) }
 {
-    window(Window::Day, at) as u64
+    window(Window::Day, at, 0) as u64
 }
 
 impl PartialEq for DayKey {

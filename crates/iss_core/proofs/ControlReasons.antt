@@ -20,33 +20,33 @@ named name (c ∷ cs) = by (bytes_eq c.control.name name) (named name cs)
     by false rest = rest
 
 by_kept : (s : CoreState) (put : Control) (o : Option ControlKept) → kept_named put.name s.controls ≡ o
-    → control_reason (core_facts s) put.name put.currency put.window put.association put.scope ≡ put_control_reason (option_map control_facts o) (core_facts s) put.currency put.window put.association put.scope
+    → control_reason (core_facts s) put.name put.currency put.window put.association put.scope put.offset ≡ put_control_reason (option_map control_facts o) (core_facts s) put.currency put.window put.association put.scope put.offset
 by_kept s put o e =
-    ap (λ (k : Option ControlNow). put_control_reason k (core_facts s) put.currency put.window put.association put.scope)
+    ap (λ (k : Option ControlNow). put_control_reason k (core_facts s) put.currency put.window put.association put.scope put.offset)
     (named put.name s.controls ∙ ap (option_map control_facts) e)
 
 -- one that stands keeps all but its limits and its activity
 pub known_control : (s : CoreState) (put standing : Control) → Some standing ≡ option_map (λ (c : ControlKept). c.control) (kept_named put.name s.controls)
-    → first_reason ((not (is_same_control standing put.currency put.window put.association put.scope), reason.ControlFixed) ∷ [])
-    ≡ control_reason (core_facts s) put.name put.currency put.window put.association put.scope
+    → first_reason ((not (is_same_control standing put.currency put.window put.association put.scope put.offset), reason.ControlFixed) ∷ [])
+    ≡ control_reason (core_facts s) put.name put.currency put.window put.association put.scope put.offset
 known_control s put standing e = by (kept_named put.name s.controls) refl e
   where
     by : (o : Option ControlKept) → kept_named put.name s.controls ≡ o → Some standing ≡ option_map (λ (c : ControlKept). c.control) o
-        → first_reason ((not (is_same_control standing put.currency put.window put.association put.scope), reason.ControlFixed) ∷ [])
-        ≡ control_reason (core_facts s) put.name put.currency put.window put.association put.scope
+        → first_reason ((not (is_same_control standing put.currency put.window put.association put.scope put.offset), reason.ControlFixed) ∷ [])
+        ≡ control_reason (core_facts s) put.name put.currency put.window put.association put.scope put.offset
     by None is e = cc
     by (Some c) is e =
         let same : standing ≡ c.control = cc in
-        ap (λ (x : Control). first_reason ((not (is_same_control x put.currency put.window put.association put.scope), reason.ControlFixed) ∷ [])) same
+        ap (λ (x : Control). first_reason ((not (is_same_control x put.currency put.window put.association put.scope put.offset), reason.ControlFixed) ∷ [])) same
         ∙ sym (by_kept s put (Some c) is)
 
 -- a new one names what is known, and fits in
 pub unknown_control : (s : CoreState) (put : Control) → None ≡ option_map (λ (c : ControlKept). c.control) (kept_named put.name s.controls)
-    → put_control_reason None (core_facts s) put.currency put.window put.association put.scope ≡ control_reason (core_facts s) put.name put.currency put.window put.association put.scope
+    → put_control_reason None (core_facts s) put.currency put.window put.association put.scope put.offset ≡ control_reason (core_facts s) put.name put.currency put.window put.association put.scope put.offset
 unknown_control s put e = by (kept_named put.name s.controls) refl e
   where
     by : (o : Option ControlKept) → kept_named put.name s.controls ≡ o → None ≡ option_map (λ (c : ControlKept). c.control) o
-        → put_control_reason None (core_facts s) put.currency put.window put.association put.scope ≡ control_reason (core_facts s) put.name put.currency put.window put.association put.scope
+        → put_control_reason None (core_facts s) put.currency put.window put.association put.scope put.offset ≡ control_reason (core_facts s) put.name put.currency put.window put.association put.scope put.offset
     by None is e = sym (by_kept s put None is)
     by (Some c) is e = cc
 
@@ -60,8 +60,8 @@ only_last true b c d x y z w h = cc
 only_last false true c d x y z w h = cc
 only_last false false true d x y z w h = cc
 
--- so where there is no reason, it can be put
-pub put_fits : (s : CoreState) (put : Control) → control_reason (core_facts s) put.name put.currency put.window put.association put.scope ≡ None
+-- so if there is no reason, it can be put
+pub put_fits : (s : CoreState) (put : Control) → control_reason (core_facts s) put.name put.currency put.window put.association put.scope put.offset ≡ None
     → put_reason (kept_named put.name s.controls) s.controls put ≡ None
 put_fits s put none = by (kept_named put.name s.controls) refl
   where

@@ -9,3 +9,4 @@ pub mod Merging
 pub mod DueNames
 pub mod Stepped
 pub mod Clearings
+pub mod Endings

@@ -1,5 +1,5 @@
 -- Why a control or a set is declined whose name is new.
-use Rattle.std.specs.Prelude.{ℕ, List, Option, None}
+use Rattle.std.specs.Prelude.{ℕ, pos, List, Option, None}
 use Rattle.iss_model.specs.declared.currency.Currency.{Currency}
 use Rattle.iss_model.specs.declared.currency.Currency.TheVariants.{Usd}
 use Rattle.iss_model.specs.declared.setting.Window.TheVariants.{Day}
@@ -9,9 +9,9 @@ use Rattle.iss_model.specs.declared.decision.Reason.{Reason}
 use Rattle.iss_model.specs.rules.Facts.{Facts}
 use Rattle.iss_model.specs.rules.Reasons.{put_control_reason, put_set_reason}
 
--- a new control's currency and window are never a reason
+-- a new control's currency, window and offset are never a reason
 abbrev pub new_control_reason : Facts → Association → Scope → Option Reason
-new_control_reason f association scope = put_control_reason None f Usd Day association scope
+new_control_reason f association scope = put_control_reason None f Usd Day association scope (pos 0)
 
 -- a new set is of a known product, in its currency, and fits in
 abbrev pub new_set_reason : Facts → List ℕ → Currency → Option Reason

@@ -16,18 +16,18 @@ is_setting (input.Card token card user product active) = true
 is_setting (input.Move token who) = true
 is_setting (input.Product token product currency funding timeout_ms hold_ms) = true
 is_setting (input.Group token group mccs) = true
-is_setting (input.Control token control currency window amount_limit usage_limit association scope active) = true
+is_setting (input.Control token control currency window amount_limit usage_limit association scope offset active) = true
 is_setting (input.Set token set product currency connection timeout application max day_limit active) = true
 is_setting (input.Switch token product on) = true
 is_setting _ = false
 
--- the reason that a fault of products gives; a failed allocation gives none
+-- the reason of a fault of products; a failed allocation has none
 abbrev pub product_fault_reason : ProductFault → Option Reason
 product_fault_reason product.Exists = Some reason.Exists
 product_fault_reason product.Limit = Some reason.Limit
 product_fault_reason product.OutOfMemory = None
 
--- the reason that a fault of sets gives; a failed allocation gives none
+-- the reason of a fault of sets; a failed allocation has none
 abbrev pub set_fault_reason : SetFault → Option Reason
 set_fault_reason set.Fixed = Some reason.SetFixed
 set_fault_reason set.Limit = Some reason.Limit

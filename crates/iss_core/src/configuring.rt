@@ -1,4 +1,4 @@
-//! Settings take effect. Each call on a part could refuse one for a reason that was asked before, so that want of memory alone is left.
+//! Settings take effect. Each call on a part could refuse one for a reason that was asked before, so only an allocation can fail.
 ghost use Rattle.std.specs.Prelude.{◌≡◌, ◌∷◌, ◌++◌, [], None, OnOk};
 ghost use Rattle.iss_model.specs.state.Cores.{after_setting, with_user, with_card, with_user_moved, with_card_moved, with_product, with_control, with_set};
 ghost use Rattle.iss_model.specs.rules.Reasons.{user_reason, card_reason, move_reason, product_reason, group_reason, control_reason, set_reason};
@@ -179,7 +179,7 @@ impl State {
 
     fn put_control(&mut self, control: &Control) -> Result<(), AllocError>
         requires { control_reason (facts_of self.old) control.now.name control.now.currency control.now.window
-            control.now.association control.now.scope ≡ None }
+            control.now.association control.now.scope control.now.offset ≡ None }
         ensures { OnOk result (self.new ≡ record self.old {
           controls = with_control self.old.controls (record { number = self.old.count; control = control.now });
         }) }

@@ -92,7 +92,7 @@ impl State {
 
     pub(crate) fn control_reason(&self, control: &Control) -> Option<Reason>
         ensures { result ≡ control_reason (facts_of self.now) control.now.name control.now.currency control.now.window
-            control.now.association control.now.scope }
+            control.now.association control.now.scope control.now.offset }
     {
         match self.controls.get(&control.name) {
             Some(standing) if is_same_control(standing, control) => None,

@@ -1,4 +1,4 @@
--- What a client's line says is an event: no client says what time it is, what a gateway answered, or that a notice is acknowledged.
+-- What a client's line spells is an event: no client tells what time it is, what a gateway answered, or that a notice is acknowledged.
 use Rattle.std.proofs.Common.{◌≡◌, refl, ℕ, Bool, true, false, cond, nat_lt, List, length, Option, Some, None, Result, Ok, Err, IfOk, IfSome}
 use Rattle.std.specs.Prelude.{is_some, option_and_then}
 use Rattle.std.proofs.lemmas.Bool.{false≢true}
@@ -45,7 +45,7 @@ input_event kind.Move d is = move-gives IsEvent d (λ token who. refl)
 input_event kind.Product d is = product-gives IsEvent d (λ token product currency funding timeout_ms hold_ms form. refl)
 input_event kind.Group d is = group-gives IsEvent d (λ token group mccs form. refl)
 input_event kind.Control d is =
-    control-gives IsEvent d (λ token control currency window amount_limit usage_limit association scope active limits form. refl)
+    control-gives IsEvent d (λ token control currency window amount_limit usage_limit association scope offset active limits form by. refl)
 input_event kind.Set d is = set-gives IsEvent d (λ token set product currency connection timeout application max day_limit active most day. refl)
 input_event kind.Switch d is = switch-gives IsEvent d (λ token product on. refl)
 input_event kind.Load d is = load-gives IsEvent d (λ token user currency amount form. refl)

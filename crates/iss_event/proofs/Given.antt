@@ -1,5 +1,5 @@
 -- What holds of each input that the fields of a type may give holds of what they give.
-use Rattle.std.proofs.Common.{codes, ◌≡◌, ℕ, ◌&&◌, ◌||◌, Bool, true, false, List, Option, Some, None, is_some, is_none, option_map, Result, Ok, Err, IfOk, IfSome, cond, refl, ap, ◌∙◌, arith}
+use Rattle.std.proofs.Common.{codes, ◌≡◌, ℕ, ℤ, pos, ◌&&◌, ◌||◌, Bool, true, false, List, Option, Some, None, is_some, is_none, option_map, Result, Ok, Err, IfOk, IfSome, cond, refl, ap, ◌∙◌, arith}
 use Rattle.std.specs.Option.{ok_or}
 use Rattle.std.proofs.lemmas.Option.{IfSome_then}
 use Rattle.std.proofs.lemmas.Bool.Decides.{nat_tests}
@@ -15,12 +15,12 @@ use Rattle.iss_model.specs.declared.setting.Scope.{Scope}
 use Rattle.iss_model.specs.declared.setting.Moved.{Moved}
 use Rattle.iss_model.specs.declared.input.Input.{Input}
 use Rattle.iss_model.specs.declared.input.Input.TheVariants as input
-use Rattle.iss_model.specs.Forms.{is_limit, is_usage_limit, is_none_or, is_mcc, is_timeout, is_hold_time, are_mccs, are_limits, may_count, is_scope}
+use Rattle.iss_model.specs.Forms.{is_limit, is_usage_limit, is_none_or, is_mcc, is_timeout, is_hold_time, are_mccs, are_limits, may_count, is_scope, is_offset}
 use Rattle.iss_field.specs.declared.name.Name.{Name}
 use Rattle.iss_field.specs.declared.name.Name.TheVariants as name
 use Rattle.iss_field.specs.Fields.{◌>>=◌, field, form_if, required_field, found_unless, required_field_unless, field_or, optional_field, optional_field_or}
-use Rattle.iss_field.specs.Values.{token_of, currency_of, limit_of, whole_within, mcc_of, mccs_of, funding_of, window_of}
-use Rattle.iss_field.proofs.ValuesInForm.{Meets, IsWithin, limit_of-meets, whole_within-meets, mcc_of-meets}
+use Rattle.iss_field.specs.Values.{token_of, currency_of, limit_of, whole_within, mcc_of, mccs_of, funding_of, window_of, offset_of}
+use Rattle.iss_field.proofs.ValuesInForm.{Meets, IsWithin, limit_of-meets, whole_within-meets, mcc_of-meets, offset_of-meets}
 use Rattle.iss_field.proofs.RisingCodes.{mccs_of-meets}
 use Rattle.iss_field.proofs.FieldsInForm.{required-is, optional-is, optional_or-is}
 use Rattle.iss_event.specs.Inputs.{user_input, card_input, whose_move, move_input, product_input, group_input, counts_purchases, limits_said, association_said, scope_named, scope_said, control_input, set_input, switch_input}
@@ -105,7 +105,7 @@ group-gives P d h =
 
 -- ---- the limits of a control
 
--- the amount limit is in form, and it is there where it isn't excused
+-- the amount limit is in form, and it is there if it isn't excused
 record IsAmountLimit (excused : Bool) (limit : Option ℕ) : Type 0 where
   pub form : is_none_or is_limit limit ≡ true
   pub said : (is_some limit || excused) ≡ true
@@ -123,7 +123,7 @@ amount_limit : (currency : Currency) (excused : Bool) (d : Data) → IfOk (requi
 unfolding required_field_unless
 amount_limit currency excused d = amount_limit_found currency excused (field name.AmountLimit d)
 
--- the usage limit is in form and allowed, and said where its field is there
+-- the usage limit is in form and allowed, and read if its field is there
 record IsUsageLimit (w : Window) (there : Bool) (limit : Option ℕ) : Type 0 where
   pub form : is_none_or is_usage_limit limit ≡ true
   pub allowed : may_count w limit ≡ true
@@ -211,30 +211,31 @@ scope-is d =
 
 abbrev ControlOf : (Input → Type 0) → Type 0
 ControlOf P =
-    (token control : List ℕ) (currency : Currency) (window : Window) (amount_limit usage_limit : Option ℕ) (association : Association) (scope : Scope) (active : Bool)
-    → are_limits window amount_limit usage_limit ≡ true → is_scope scope ≡ true
-    → P (input.Control token control currency window amount_limit usage_limit association scope active)
+    (token control : List ℕ) (currency : Currency) (window : Window) (amount_limit usage_limit : Option ℕ) (association : Association) (scope : Scope) (offset : ℤ) (active : Bool)
+    → are_limits window amount_limit usage_limit ≡ true → is_scope scope ≡ true → is_offset offset ≡ true
+    → P (input.Control token control currency window amount_limit usage_limit association scope offset active)
 
-of_controlled : (P : Input → Type 0) (token control : List ℕ) (currency : Currency) (window : Window) (l : Result (Option ℕ × Option ℕ) Name) (o : Result Association Name) (s : Result Scope Name) (a : Flag)
-    → IfOk l (λ limits. are_limits window limits.0 limits.1 ≡ true) → IfOk s (λ scope. is_scope scope ≡ true) → ControlOf P
-    → IfOk (l >>= λ limits. o >>= λ association. s >>= λ scope. a >>= λ active. Ok (input.Control token control currency window limits.0 limits.1 association scope active)) P
-of_controlled P token control currency window (Ok limits) (Ok association) (Ok scope) (Ok active) h g f =
-    f token control currency window limits.0 limits.1 association scope active h g
-of_controlled P token control currency window _ _ _ _ h g f = tt
+of_controlled : (P : Input → Type 0) (token control : List ℕ) (currency : Currency) (window : Window) (l : Result (Option ℕ × Option ℕ) Name) (o : Result Association Name) (s : Result Scope Name) (z : Result ℤ Name) (a : Flag)
+    → IfOk l (λ limits. are_limits window limits.0 limits.1 ≡ true) → IfOk s (λ scope. is_scope scope ≡ true) → IfOk z (λ offset. is_offset offset ≡ true) → ControlOf P
+    → IfOk (l >>= λ limits. o >>= λ association. s >>= λ scope. z >>= λ offset. a >>= λ active. Ok (input.Control token control currency window limits.0 limits.1 association scope offset active)) P
+of_controlled P token control currency window (Ok limits) (Ok association) (Ok scope) (Ok offset) (Ok active) h g k f =
+    f token control currency window limits.0 limits.1 association scope offset active h g k
+of_controlled P token control currency window _ _ _ _ _ h g k f = tt
 
-of_control : (P : Input → Type 0) (t c : Text) (u : Result Currency Name) (w : Result Window Name) (l : Currency → Window → Result (Option ℕ × Option ℕ) Name) (o : Result Association Name) (s : Result Scope Name) (a : Flag)
-    → ((currency : Currency) (window : Window) → IfOk (l currency window) (λ limits. are_limits window limits.0 limits.1 ≡ true)) → IfOk s (λ scope. is_scope scope ≡ true) → ControlOf P
-    → IfOk (t >>= λ token. c >>= λ control. u >>= λ currency. w >>= λ window. l currency window >>= λ limits. o >>= λ association. s >>= λ scope. a >>= λ active.
-    Ok (input.Control token control currency window limits.0 limits.1 association scope active)) P
-of_control P (Ok token) (Ok control) (Ok currency) (Ok window) l o s a h g f = of_controlled P token control currency window (l currency window) o s a (h currency window) g f
-of_control P _ _ _ _ l o s a h g f = tt
+of_control : (P : Input → Type 0) (t c : Text) (u : Result Currency Name) (w : Result Window Name) (l : Currency → Window → Result (Option ℕ × Option ℕ) Name) (o : Result Association Name) (s : Result Scope Name) (z : Result ℤ Name) (a : Flag)
+    → ((currency : Currency) (window : Window) → IfOk (l currency window) (λ limits. are_limits window limits.0 limits.1 ≡ true)) → IfOk s (λ scope. is_scope scope ≡ true) → IfOk z (λ offset. is_offset offset ≡ true) → ControlOf P
+    → IfOk (t >>= λ token. c >>= λ control. u >>= λ currency. w >>= λ window. l currency window >>= λ limits. o >>= λ association. s >>= λ scope. z >>= λ offset. a >>= λ active.
+    Ok (input.Control token control currency window limits.0 limits.1 association scope offset active)) P
+of_control P (Ok token) (Ok control) (Ok currency) (Ok window) l o s z a h g k f = of_controlled P token control currency window (l currency window) o s z a (h currency window) g k f
+of_control P _ _ _ _ l o s z a h g k f = tt
 
 pub control-gives : (P : Input → Type 0) (d : Data) → ControlOf P → IfOk (control_input d) P
 unfolding control_input
 control-gives P d h =
     of_control P (required_field token_of name.Token d) (required_field token_of name.Control d) (required_field currency_of name.Currency d) (required_field window_of name.Window d)
-    (λ currency window. limits_said currency window d) (association_said d) (scope_said d) (optional_field_or as_bool true name.Active d)
-    (λ currency window. limits-are currency window d) (scope-is d) h
+    (λ currency window. limits_said currency window d) (association_said d) (scope_said d) (optional_field_or offset_of (pos 0) name.UtcOffset d) (optional_field_or as_bool true name.Active d)
+    (λ currency window. limits-are currency window d) (scope-is d)
+    (optional_or-is offset_of (pos 0) name.UtcOffset d (λ o. is_offset o ≡ true) refl offset_of-meets) h
 
 -- ---- sets and switches
 

@@ -1,4 +1,4 @@
--- What a line says is in form.
+-- What a line spells is in form.
 use Rattle.std.proofs.Common.{◌≡◌, ℕ, ◌&&◌, Bool, true, false, nat_lt, List, length, Option, Some, None, Result, Ok, Err, IfOk, IfSome, cond, refl, subst, arith}
 use Rattle.std.proofs.lemmas.Bool.Decides.{nat_tests}
 use Rattle.serde_json.specs.Data.{Data}
@@ -42,7 +42,7 @@ input-in_form kind.Move d = move-gives InForm d (λ token who. refl)
 input-in_form kind.Product d = product-gives InForm d (λ token product currency funding timeout_ms hold_ms is. two _ _ is.timeout is.hold)
 input-in_form kind.Group d = group-gives InForm d (λ token group mccs form. form)
 input-in_form kind.Control d =
-    control-gives InForm d (λ token control currency window amount_limit usage_limit association scope active limits form. two _ _ limits form)
+    control-gives InForm d (λ token control currency window amount_limit usage_limit association scope offset active limits form by. two _ _ (two _ _ limits form) by)
 input-in_form kind.Set d = set-gives InForm d (λ token set product currency connection timeout application max day_limit active most day. two _ _ most day)
 input-in_form kind.Switch d = switch-gives InForm d (λ token product on. refl)
 input-in_form kind.Load d = load-gives InForm d (λ token user currency amount form. form)

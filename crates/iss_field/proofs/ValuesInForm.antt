@@ -1,5 +1,5 @@
--- What the value of a field says is of the form that inputs have.
-use Rattle.std.proofs.Common.{◌≡◌, ℕ, ◌-◌, ◌*◌, ◌<◌, ◌≤◌, ◌==◌, ◌&&◌, nat_le, Bool, true, false, List, [], ◌∷◌, length, Option, Some, None, option_and_then, IfSome, cond, refl, sym, ap, ◌∙◌, arith}
+-- What the value of a field holds is of the form that inputs have.
+use Rattle.std.proofs.Common.{◌≡◌, ℕ, ◌-◌, ◌*◌, ◌<◌, ◌≤◌, ◌==◌, ◌&&◌, nat_le, ℤ, Bool, true, false, List, [], ◌∷◌, length, Option, Some, None, option_and_then, IfSome, cond, refl, sym, ap, ◌∙◌, arith}
 use Rattle.std.specs.List.{list_all}
 use Rattle.std.proofs.lemmas.Bool.Decides.{nat_tests}
 use Rattle.serde_json.specs.Data.{Data}
@@ -7,8 +7,8 @@ use Rattle.serde_json.specs.Find.{as_str}
 use Rattle.iss_model.specs.declared.currency.Currency.{Currency}
 use Rattle.iss_model.specs.Amounts.{is_digit, digits_value, if_form, is_amount_text, amount_digits, amount_read, limit_read}
 use Rattle.iss_model.specs.Currencies.{decimals_of, unit_of}
-use Rattle.iss_model.specs.Forms.{is_amount, is_limit, is_mcc}
-use Rattle.iss_field.specs.Values.{whole_of, text_or_units, amount_of, limit_text_or_units, limit_of, whole_within, mcc_of_text, mcc_of}
+use Rattle.iss_model.specs.Forms.{is_amount, is_limit, is_mcc, is_offset}
+use Rattle.iss_field.specs.Values.{whole_of, text_or_units, amount_of, limit_text_or_units, limit_of, whole_within, mcc_of_text, mcc_of, two_digits, signed_minutes, clock_minutes, if_offset, offset_of_text, offset_of}
 
 both : (a b : Bool) → (a && b) ≡ true → (a ≡ true) × (b ≡ true)
 both true b h = (refl, h)
@@ -129,3 +129,30 @@ then_mcc (Some text) = mcc_kept (length text == 4 && list_all is_digit text) tex
 pub mcc_of-meets : (d : Data) → IfSome (mcc_of d) (Meets is_mcc)
 unfolding mcc_of
 mcc_of-meets d = then_mcc (as_str d)
+
+-- ---- offsets
+
+kept_offset : (b : Bool) (offset : ℤ) → is_offset offset ≡ b → IfSome (cond b (Some offset) None) (λ o. is_offset o ≡ true)
+kept_offset true offset h = h
+kept_offset false offset h = tt
+
+then_offset : (o : Option ℤ) → IfSome (option_and_then if_offset o) (λ o. is_offset o ≡ true)
+then_offset None = tt
+then_offset (Some offset) = kept_offset (is_offset offset) offset refl
+
+if_colon : (b : Bool) (o : Option ℤ) → IfSome o (λ o. is_offset o ≡ true) → IfSome (cond b o None) (λ o. is_offset o ≡ true)
+if_colon true o h = h
+if_colon false o h = tt
+
+offset_of_text-meets : (text : List ℕ) → IfSome (offset_of_text text) (λ o. is_offset o ≡ true)
+unfolding offset_of_text
+offset_of_text-meets (sign ∷ a ∷ b ∷ colon ∷ c ∷ d ∷ []) = if_colon (colon == 58) _ (then_offset (option_and_then (signed_minutes sign) (clock_minutes (two_digits a b) (two_digits c d))))
+offset_of_text-meets _ = tt
+
+pub offset_of-meets : (d : Data) → IfSome (offset_of d) (λ o. is_offset o ≡ true)
+unfolding offset_of
+offset_of-meets d = by (as_str d)
+  where
+    by : (o : Option (List ℕ)) → IfSome (option_and_then offset_of_text o) (λ o. is_offset o ≡ true)
+    by None = tt
+    by (Some text) = offset_of_text-meets text

@@ -1,5 +1,5 @@
--- What the value of a field says, by the field's form.
-use Rattle.std.specs.Prelude.{ℕ, suc, ◌==◌, ◌&&◌, nat_le, List, [], ◌∷◌, codes, length, find, Option, Some, None, option_and_then, if◌then◌else◌}
+-- What the value of a field holds, by the field's form.
+use Rattle.std.specs.Prelude.{ℕ, suc, ◌+◌, ◌-◌, ◌*◌, ◌==◌, ◌&&◌, nat_le, ℤ, pos, neg_ℤ, List, [], ◌∷◌, codes, length, find, Option, Some, None, option_and_then, if◌then◌else◌}
 use Rattle.std.specs.List.{list_all}
 use Rattle.std.specs.Str.{bytes_eq}
 use Rattle.std.specs.BTreeSet.{insert_key}
@@ -20,10 +20,11 @@ use Rattle.iss_model.specs.declared.input.Outcome.{Outcome}
 use Rattle.iss_model.specs.declared.input.Outcome.TheVariants as outcome
 use Rattle.iss_model.specs.Tokens.{is_token}
 use Rattle.iss_model.specs.Currencies as currencies
+use Rattle.iss_model.specs.Forms.{is_offset}
 use Rattle.iss_model.specs.Amounts.{is_digit, digits_value, if_form, amount_read, whole_amount_read, limit_read, whole_limit_read}
 use Rattle.iss_model.specs.texts.Wordings.{card_state_text, user_state_text}
 
--- the text, where it is a token
+-- the text, if it is a token
 abbrev pub if_token : List ℕ → Option (List ℕ)
 if_token text = if is_token text then Some text else None
 
@@ -39,7 +40,7 @@ currency_of d = option_and_then currencies.currency_of (as_str d)
 abbrev pub whole_of : Data → Option ℕ
 whole_of d = option_and_then as_u64 (as_number d)
 
--- the amount that a text spells in a currency, or of so many whole units of it where there is no text
+-- the amount that a text spells in a currency, or of this number of whole units of it if there is no text
 abbrev pub text_or_units : Currency → Option (List ℕ) → Option ℕ → Option ℕ
 text_or_units c (Some text) units = amount_read text c
 text_or_units c None units = option_and_then (λ n. whole_amount_read n c) units
@@ -48,7 +49,7 @@ text_or_units c None units = option_and_then (λ n. whole_amount_read n c) units
 unfoldable pub amount_of : Currency → Data → Option ℕ
 amount_of c d = text_or_units c (as_str d) (whole_of d)
 
--- the limit that a text spells in a currency, or of so many whole units of it where there is no text
+-- the limit that a text spells in a currency, or of this number of whole units of it if there is no text
 abbrev pub limit_text_or_units : Currency → Option (List ℕ) → Option ℕ → Option ℕ
 limit_text_or_units c (Some text) units = limit_read text c
 limit_text_or_units c None units = option_and_then (λ n. whole_limit_read n c) units
@@ -74,7 +75,7 @@ abbrev pub item_count : Items → ℕ
 item_count no_items = 0
 item_count (item d ds) = suc (item_count ds)
 
--- codes with those of the items, each at its place among them and once; none where an item isn't a code
+-- codes with those of the items, each at its place among them and once; none if an item isn't a code
 abbrev pub codes_with : List ℕ → Items → Option (List ℕ)
 codes_with codes no_items = Some codes
 codes_with codes (item d ds) = option_and_then (λ code. codes_with (insert_key nat_cmp codes code) ds) (mcc_of d)
@@ -141,3 +142,33 @@ outcome_of_text text =
 -- a text that names an outcome
 unfoldable pub outcome_of : Data → Option Outcome
 outcome_of d = option_and_then outcome_of_text (as_str d)
+
+-- two digits, as the number that they spell
+abbrev pub two_digits : ℕ → ℕ → Option ℕ
+two_digits tens ones = if is_digit tens && is_digit ones then Some (10 * (tens - 48) + (ones - 48)) else None
+
+-- minutes ahead of UTC after a plus, and behind it after a minus, of which at least one
+abbrev pub signed_minutes : ℕ → ℕ → Option ℤ
+signed_minutes sign minutes =
+    if sign == 43 then Some (pos minutes)
+    else if sign == 45 && nat_le 1 minutes then Some (neg_ℤ (pos minutes))
+    else None
+
+-- the offset, if it is in form
+abbrev pub if_offset : ℤ → Option ℤ
+if_offset offset = if is_offset offset then Some offset else None
+
+-- hours and minutes below 60, as minutes
+abbrev pub clock_minutes : Option ℕ → Option ℕ → Option ℕ
+clock_minutes (Some hours) (Some minutes) = if nat_le minutes 59 then Some (60 * hours + minutes) else None
+clock_minutes hours minutes = None
+
+-- the offset of a sign, two digits, a colon and two digits, as +05:30
+unfoldable pub offset_of_text : List ℕ → Option ℤ
+offset_of_text (sign ∷ a ∷ b ∷ colon ∷ c ∷ d ∷ []) =
+    if colon == 58 then option_and_then if_offset (option_and_then (signed_minutes sign) (clock_minutes (two_digits a b) (two_digits c d))) else None
+offset_of_text text = None
+
+-- a text that names an offset from UTC
+unfoldable pub offset_of : Data → Option ℤ
+offset_of d = option_and_then offset_of_text (as_str d)

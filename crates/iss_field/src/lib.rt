@@ -1,4 +1,4 @@
-//! Fields of a line: bytes as one JSON object, its members by name, and what their values say by their forms.
+//! Fields of a line: bytes as one JSON object, its members by name, and what their values hold by their forms.
 //!
 //! A field is required or may be left out, and has a form. What each form takes is a definition in `specs/`.
 //!
@@ -14,6 +14,7 @@ mod found;
 mod name;
 mod numbers;
 mod object;
+mod offsets;
 mod words;
 
 pub use amounts::{AmountForm, LimitForm};
@@ -24,6 +25,7 @@ pub use json::{Scratch, Value};
 pub use name::Name;
 pub use numbers::{FlagForm, NumberForm, WholeForm};
 pub use object::Object;
+pub use offsets::OffsetForm;
 pub use words::{
     CardStateForm, CurrencyForm, FundingForm, OutcomeForm, TokenForm, UserStateForm, WindowForm,
 };

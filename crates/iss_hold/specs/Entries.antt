@@ -60,7 +60,7 @@ released_parts h txn amount = taken_to_release (parts_in h txn) amount
 abbrev pub parts_taken : Taken → Parts
 parts_taken taken = record { g = taken.g; p = taken.p; s = taken.s }
 
--- a part of a hold changes by an amount, which is negative where it is let go
+-- a part of a hold changes by an amount, which is negative if it is let go
 abbrev pub change_entries : Part → ℤ → Txn → List Entry
 change_entries part amount t = entry.Hold t.token t.user t.currency part amount ∷ []
 

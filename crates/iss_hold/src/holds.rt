@@ -66,7 +66,7 @@ impl Holds {
         })
     }
 
-    /// A transaction with what it holds, `None` exactly where it wasn't started.
+    /// A transaction with what it holds, `None` exactly if it wasn't started.
     pub fn get(&self, txn: &Token) -> Option<Hold>
         ensures txn { option_map (λ hold. now_of hold) result ≡ txn_named txn.now self.now.txns }
         ensures parts { IfSome result (λ hold. parts_of hold ≡ parts_in self.now txn.now) }
@@ -76,7 +76,7 @@ impl Holds {
         Some(self.table.holds.at(place as usize))
     }
 
-    /// The place of a transaction in the order in which they began, `None` exactly where it wasn't started.
+    /// The place of a transaction in the order in which they began, `None` exactly if it wasn't started.
     pub fn place(&self, txn: &Token) -> Option<usize>
         ensures place { result ≡ place_in txn.now (tokens self.now.txns) }
         ensures once { IsDistinct bytes_eq (tokens self.now.txns) }
@@ -95,7 +95,7 @@ impl Holds {
         self.table.holds.at(place)
     }
 
-    /// The transaction of a token, `None` exactly where it wasn't started.
+    /// The transaction of a token, `None` exactly if it wasn't started.
     pub fn txn(&self, txn: &Token) -> Option<Txn>
         ensures { result ≡ option_map (λ t. t.txn) (txn_named txn.now self.now.txns) }
     {
@@ -109,8 +109,8 @@ impl Holds {
         self.get(txn).is_some_and(|hold| hold.live)
     }
 
-    /// Begins a transaction, which holds nothing yet. The later calls on it take no memory. Where allocation
-    /// fails all stays as it was, and so where 2^32 - 1 transactions stand, as many as places are kept for.
+    /// Begins a transaction, which holds nothing yet. The later calls on it take no memory. If an allocation
+    /// fails, all stays as it was, and so if 2^32 - 1 transactions stand, as many as places are kept for.
     pub fn start(&mut self, txn: &Txn) -> Result<(), AllocError>
         requires unknown { txn_named txn.now.token self.old.txns ≡ None }
         requires origin { list_any (λ t. txn.now.origin == t.txn.origin) self.old.txns ≡ false }
@@ -151,7 +151,7 @@ impl Holds {
         self.table.change(place, less);
     }
 
-    /// Changes a part of a transaction by an amount, which is negative where it is let go.
+    /// Changes a part of a transaction by an amount, which is negative if it is let go.
     pub fn change(&mut self, txn: &Token, part: Part, amount: i64)
         requires started { IsSome (txn_named txn.now self.old.txns) }
         requires covered { IsCovered amount (not_below (kept_at self.old.parts (part_key txn.now part))) }

@@ -3,8 +3,8 @@ ghost use Rattle.std.specs.Prelude.{◌≡◌, ◌⊎◌, ◌++◌, ℕ, Bool, L
 ghost use Rattle.iss_http.specs.Requests.{request, more, hopeless_request, IsHopelessRequest};
 ghost use Rattle.iss_http.specs.Answers.{AnswerIsAwaitedOrStays, answer_read, hopeless_answer, IsHopelessAnswer};
 
-/// Where more isn't awaited, nothing that comes behind the bytes changes what they are. So however the bytes of a
-/// request or an answer are cut, what is given once it is whole is what all of them together give.
+/// If more isn't awaited, nothing that comes after the bytes changes what they are. So however the bytes of a
+/// request or an answer are cut, what is returned when it is whole is what all of them together make.
 pub fn what_is_whole_stays()
     ensures request { (bytes rest : List ℕ) → (request bytes ≡ more) ⊎ (request (bytes ++ rest) ≡ request bytes) }
     ensures answer { (bytes rest : List ℕ) (over : Bool)

@@ -203,8 +203,8 @@ acts_rule r h ready settled (input.Card token card user product active) is = set
 acts_rule r h ready settled (input.Move token who) is = set_rules _ (move_reason (history_facts h) who) token
 acts_rule r h ready settled (input.Product token product currency funding timeout_ms hold_ms) is = set_rules _ (product_reason (history_facts h) product) token
 acts_rule r h ready settled (input.Group token group mccs) is = set_rules _ (group_reason (history_facts h) group) token
-acts_rule r h ready settled (input.Control token control currency window amount_limit usage_limit association scope active) is =
-    set_rules _ (control_reason (history_facts h) control currency window association scope) token
+acts_rule r h ready settled (input.Control token control currency window amount_limit usage_limit association scope offset active) is =
+    set_rules _ (control_reason (history_facts h) control currency window association scope offset) token
 acts_rule r h ready settled (input.Set token set product currency connection timeout application max day_limit active) is =
     set_rules _ (set_reason (history_facts h) set product currency) token
 acts_rule r h ready settled (input.Switch token product on) is = set_rules _ (switch_reason (history_facts h) product) token

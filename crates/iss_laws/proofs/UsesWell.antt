@@ -1,9 +1,9 @@
 -- At the time of every legal book what is open of counted use was counted, so no control has counted less than nothing.
-use Rattle.std.proofs.Common.{◌≡◌, ℕ, ℤ, pos, ◌+ℤ◌, ◌+◌, ◌≤◌, max, Bool, true, false, cond, ◌&&◌, List, [], ◌∷◌, ◌++◌, fold, append_assoc, refl, sym, ap, subst, ◌∙◌, arith}
+use Rattle.std.proofs.Common.{◌≡◌, ℕ, zero, suc, ℤ, pos, negsuc, ◌+ℤ◌, ◌+◌, ◌≤◌, max, Bool, true, false, cond, ◌&&◌, List, [], ◌∷◌, ◌++◌, fold, append_assoc, refl, sym, ap, subst, ◌∙◌, arith}
 use Rattle.std.proofs.lemmas.Int.{ints}
 use Rattle.std.proofs.lemmas.List.{append-nil}
 use Rattle.std.proofs.lemmas.List.Folds.{list_all-map}
-use Rattle.std.specs.Prelude.{◌≤ℤ◌, Some, None}
+use Rattle.std.specs.Prelude.{◌≤ℤ◌, replicate, Some, None}
 use Rattle.std.specs.List.{list_all}
 use Rattle.std.specs.Str.{bytes_eq}
 use Rattle.iss_model.specs.declared.entry.Entry.{Entry}
@@ -14,6 +14,7 @@ use Rattle.iss_model.specs.declared.setting.Window.{Window}
 use Rattle.iss_model.specs.declared.setting.Window.TheVariants as window
 use Rattle.iss_model.specs.declared.txn.Txn.{Txn}
 use Rattle.iss_model.specs.declared.txn.UsageRow.{UsageRow}
+use Rattle.iss_model.specs.Calendar.{window_at}
 use Rattle.iss_model.specs.Sums.{changed_at, int_key, sum_at}
 use Rattle.iss_model.specs.rules.Activity.{TxnNow}
 use Rattle.iss_model.specs.rules.Asks.{usage_of, used_by}
@@ -42,7 +43,7 @@ use Rattle.iss_laws.proofs.OpenUse.{Counting, IsCounting, Pays, is_usage, open_u
 use Rattle.iss_agreement.proofs.Records.{history_more}
 use Rattle.iss_agreement.proofs.StepSums.{among_summed}
 use Rattle.iss_laws.proofs.Rows.{next_summed}
-use Rattle.iss_laws.proofs.Windows.{window_grows, window_is, window_nat}
+use Rattle.iss_laws.proofs.Windows.{window_grows}
 
 -- a step ----
 
@@ -229,39 +230,46 @@ times_count groups put w key e =
 
 -- keys of windows ----
 
--- the last number of a list, or 0
-abbrev last_of : List ℕ → ℕ
-last_of [] = 0
-last_of (x ∷ []) = x
-last_of (x ∷ y ∷ ys) = last_of (y ∷ ys)
+-- the number that the last two places of a key tell
+abbrev number_told : ℕ → ℕ → ℤ
+number_told zero n = negsuc n
+number_told (suc m) n = pos n
 
-last_behind : (user : List ℕ) (n : ℕ) → last_of (user ++ 0 ∷ 1 ∷ n ∷ []) ≡ n
-last_behind [] n = refl
-last_behind (x ∷ []) n = refl
-last_behind (x ∷ y ∷ ys) n = last_behind (y ∷ ys) n
+abbrev end_number : List ℕ → ℤ
+end_number [] = pos 0
+end_number (x ∷ []) = pos 0
+end_number (x ∷ y ∷ []) = number_told x y
+end_number (x ∷ y ∷ z ∷ zs) = end_number (y ∷ z ∷ zs)
 
--- a user's key of a window by its number
-key_is : (w : Window) (user : List ℕ) (at : ℕ) → window_key w (pos 0) user at ≡ user ++ 0 ∷ 1 ∷ window_nat w at ∷ []
-key_is w user at = ap (λ (z : ℤ). user ++ 0 ∷ int_key z) (window_is w at)
+end_behind : (l : List ℕ) (x y : ℕ) → end_number (l ++ x ∷ y ∷ []) ≡ number_told x y
+end_behind [] x y = refl
+end_behind (a ∷ []) x y = refl
+end_behind (a ∷ b ∷ []) x y = refl
+end_behind (a ∷ b ∷ c ∷ l) x y = end_behind (b ∷ c ∷ l) x y
 
-between : (w : Window) (a b last : ℕ) → a ≤ b → b ≤ last → window_nat w a ≡ window_nat w last → window_nat w b ≡ window_nat w last
-between w a b last h k e = squeeze (window_nat w a) (window_nat w b) (window_nat w last) (window_grows w a b h) (window_grows w b last k) e
-  where
-    squeeze : (x y z : ℕ) → x ≤ y → y ≤ z → x ≡ z → y ≡ z
-    squeeze x y z h k e = omega (arith, h, k, e)
+-- a key ends with its number, whatever the user
+key_end : (user : List ℕ) (z : ℤ) → end_number (user ++ 0 ∷ int_key z) ≡ z
+key_end user (pos n) = ap end_number (sym (append_assoc user (0 ∷ []) (1 ∷ n ∷ []))) ∙ end_behind (user ++ 0 ∷ []) 1 n
+key_end user (negsuc n) =
+    ap (λ (l : List ℕ). end_number (user ++ 0 ∷ l)) (sym (append_assoc (replicate (suc n) 0) (1 ∷ []) (0 ∷ n ∷ [])))
+    ∙ ap end_number (sym (append_assoc user (0 ∷ (replicate (suc n) 0 ++ 1 ∷ [])) (0 ∷ n ∷ [])))
+    ∙ end_behind (user ++ 0 ∷ (replicate (suc n) 0 ++ 1 ∷ [])) 0 n
 
--- where a stamp lies in the window of the last moment, those between do too
-window_stays : (w : Window) (one other : List ℕ) (a b last : ℕ) → a ≤ b → b ≤ last → bytes_eq (window_key w (pos 0) one a) (window_key w (pos 0) other last) ≡ true
-    → bytes_eq (window_key w (pos 0) one b) (window_key w (pos 0) other last) ≡ true
-window_stays w one other a b last h k e =
-    let keys : one ++ 0 ∷ 1 ∷ window_nat w a ∷ [] ≡ other ++ 0 ∷ 1 ∷ window_nat w last ∷ [] =
-    sym (key_is w one a) ∙ one_name (window_key w (pos 0) one a) (window_key w (pos 0) other last) e ∙ key_is w other last
+squeezed : (x y z : ℤ) → x ≤ℤ y → y ≤ℤ z → x ≡ z → y ≡ x
+squeezed x y z h k e = omega (arith, ints, h, k, e)
+
+-- if a stamp lies in the window of the last moment, those between do too
+window_stays : (w : Window) (offset : ℤ) (one other : List ℕ) (a b last : ℕ) → a ≤ b → b ≤ last → bytes_eq (window_key w offset one a) (window_key w offset other last) ≡ true
+    → bytes_eq (window_key w offset one b) (window_key w offset other last) ≡ true
+window_stays w offset one other a b last h k e =
+    let keys : window_key w offset one a ≡ window_key w offset other last = one_name (window_key w offset one a) (window_key w offset other last) e in
+    let first : window_at w a offset ≡ window_at w last offset =
+    sym (key_end one (window_at w a offset)) ∙ ap end_number keys ∙ key_end other (window_at w last offset)
     in
-    let first : window_nat w a ≡ window_nat w last = sym (last_behind one (window_nat w a)) ∙ ap last_of keys ∙ last_behind other (window_nat w last) in
-    let same : window_key w (pos 0) one b ≡ window_key w (pos 0) one a =
-    key_is w one b ∙ ap (λ (n : ℕ). one ++ 0 ∷ 1 ∷ n ∷ []) (between w a b last h k first ∙ sym first) ∙ sym (key_is w one a)
+    let same : window_at w b offset ≡ window_at w a offset =
+    squeezed (window_at w a offset) (window_at w b offset) (window_at w last offset) (window_grows w offset a b h) (window_grows w offset b last k) first
     in
-    ap (λ (x : List ℕ). bytes_eq x (window_key w (pos 0) other last)) same ∙ e
+    ap (λ (z : ℤ). bytes_eq (one ++ 0 ∷ int_key z) (window_key w offset other last)) same ∙ e
 
 both_hold : (x y z : Bool) → (x && y) ≡ true → (y ≡ true → z ≡ true) → (x && z) ≡ true
 both_hold true y z h k = k h
@@ -269,16 +277,16 @@ both_hold false y z h k = cc
 
 -- in the window of the time
 counts_on : (groups : List Group) (put : ControlPut) (w : Window) (user : List ℕ) (last : ℕ) (by_amount : Bool) (worth : UsageRow → ℤ) → (w ≡ window.Transaction → ⊥)
-    → CountsOn (counting_of groups put w (window_key w (pos 0) user last) by_amount worth) last
+    → CountsOn (counting_of groups put w (window_key w put.control.offset user last) by_amount worth) last
 counts_on groups put window.Transaction user last by_amount worth other t a b h k l = absurd (other refl)
 counts_on groups put window.Day user last by_amount worth other t a b h k l =
-    both_hold (counts groups put (usage_of t (pos 0) (pos 0) a)) (bytes_eq (window_key window.Day (pos 0) t.user a) (window_key window.Day (pos 0) user last)) _ h (window_stays window.Day t.user user a b last k l)
+    both_hold (counts groups put (usage_of t (pos 0) (pos 0) a)) (bytes_eq (window_key window.Day put.control.offset t.user a) (window_key window.Day put.control.offset user last)) _ h (window_stays window.Day put.control.offset t.user user a b last k l)
 counts_on groups put window.Week user last by_amount worth other t a b h k l =
-    both_hold (counts groups put (usage_of t (pos 0) (pos 0) a)) (bytes_eq (window_key window.Week (pos 0) t.user a) (window_key window.Week (pos 0) user last)) _ h (window_stays window.Week t.user user a b last k l)
+    both_hold (counts groups put (usage_of t (pos 0) (pos 0) a)) (bytes_eq (window_key window.Week put.control.offset t.user a) (window_key window.Week put.control.offset user last)) _ h (window_stays window.Week put.control.offset t.user user a b last k l)
 counts_on groups put window.Month user last by_amount worth other t a b h k l =
-    both_hold (counts groups put (usage_of t (pos 0) (pos 0) a)) (bytes_eq (window_key window.Month (pos 0) t.user a) (window_key window.Month (pos 0) user last)) _ h (window_stays window.Month t.user user a b last k l)
+    both_hold (counts groups put (usage_of t (pos 0) (pos 0) a)) (bytes_eq (window_key window.Month put.control.offset t.user a) (window_key window.Month put.control.offset user last)) _ h (window_stays window.Month put.control.offset t.user user a b last k l)
 counts_on groups put window.Lifetime user last by_amount worth other t a b h k l =
-    both_hold (counts groups put (usage_of t (pos 0) (pos 0) a)) (bytes_eq (window_key window.Lifetime (pos 0) t.user a) (window_key window.Lifetime (pos 0) user last)) _ h (window_stays window.Lifetime t.user user a b last k l)
+    both_hold (counts groups put (usage_of t (pos 0) (pos 0) a)) (bytes_eq (window_key window.Lifetime put.control.offset t.user a) (window_key window.Lifetime put.control.offset user last)) _ h (window_stays window.Lifetime put.control.offset t.user user a b last k l)
 
 -- of a transaction at any time
 counts_on_txn : (groups : List Group) (put : ControlPut) (key : List ℕ) (last : ℕ) (by_amount : Bool) (worth : UsageRow → ℤ) → CountsOn (counting_of groups put window.Transaction key by_amount worth) last
@@ -317,22 +325,22 @@ use_now rs put window.Transaction user legal e = two _ _ (is_not_negative (pos 0
     zero_low : pos 0 ≤ℤ pos 0
     zero_low = omega (arith, ints)
 use_now rs put window.Day user legal e =
-    use_at rs put window.Day (window_key window.Day (pos 0) user (core_of rs).now) legal e (λ by_amount worth. counts_on (groups_of (history_of rs).rows) put window.Day user (core_of rs).now by_amount worth (λ e. never_day e))
+    use_at rs put window.Day (window_key window.Day put.control.offset user (core_of rs).now) legal e (λ by_amount worth. counts_on (groups_of (history_of rs).rows) put window.Day user (core_of rs).now by_amount worth (λ e. never_day e))
   where
     never_day : window.Day ≡ window.Transaction → ⊥
     never_day e = cc
 use_now rs put window.Week user legal e =
-    use_at rs put window.Week (window_key window.Week (pos 0) user (core_of rs).now) legal e (λ by_amount worth. counts_on (groups_of (history_of rs).rows) put window.Week user (core_of rs).now by_amount worth (λ e. never_week e))
+    use_at rs put window.Week (window_key window.Week put.control.offset user (core_of rs).now) legal e (λ by_amount worth. counts_on (groups_of (history_of rs).rows) put window.Week user (core_of rs).now by_amount worth (λ e. never_week e))
   where
     never_week : window.Week ≡ window.Transaction → ⊥
     never_week e = cc
 use_now rs put window.Month user legal e =
-    use_at rs put window.Month (window_key window.Month (pos 0) user (core_of rs).now) legal e (λ by_amount worth. counts_on (groups_of (history_of rs).rows) put window.Month user (core_of rs).now by_amount worth (λ e. never_month e))
+    use_at rs put window.Month (window_key window.Month put.control.offset user (core_of rs).now) legal e (λ by_amount worth. counts_on (groups_of (history_of rs).rows) put window.Month user (core_of rs).now by_amount worth (λ e. never_month e))
   where
     never_month : window.Month ≡ window.Transaction → ⊥
     never_month e = cc
 use_now rs put window.Lifetime user legal e =
-    use_at rs put window.Lifetime (window_key window.Lifetime (pos 0) user (core_of rs).now) legal e (λ by_amount worth. counts_on (groups_of (history_of rs).rows) put window.Lifetime user (core_of rs).now by_amount worth (λ e. never_lifetime e))
+    use_at rs put window.Lifetime (window_key window.Lifetime put.control.offset user (core_of rs).now) legal e (λ by_amount worth. counts_on (groups_of (history_of rs).rows) put window.Lifetime user (core_of rs).now by_amount worth (λ e. never_lifetime e))
   where
     never_lifetime : window.Lifetime ≡ window.Transaction → ⊥
     never_lifetime e = cc

@@ -1,32 +1,38 @@
 -- The window of a later stamp has no smaller number.
-use Rattle.std.proofs.Common.{◌≡◌, ℕ, suc, ℤ, pos, ◌+ℤ◌, ◌*ℤ◌, ◌+◌, ◌-◌, ◌*◌, ◌/◌, ◌≤◌, Bool, true, false, cond, nat_le, nat_lt, List, [], ◌∷◌, length, filter, refl, ap, subst, ◌∙◌, arith, ◌⊎◌, inl, inr}
+use Rattle.std.proofs.Common.{◌≡◌, ℕ, suc, ℤ, pos, negsuc, ◌+ℤ◌, ◌*ℤ◌, ◌≤ℤ◌, ◌+◌, ◌-◌, ◌*◌, ◌/◌, ◌≤◌, Bool, true, false, cond, nat_le, nat_lt, List, [], ◌∷◌, length, filter, refl, ap, subst, ◌∙◌, arith, ◌⊎◌, inl, inr}
 use Rattle.std.proofs.lemmas.Int.{ints}
 use Rattle.std.proofs.lemmas.Bool.Decides.{nat_tests}
 use Rattle.std.specs.Int.{int_div_euclid}
-use Rattle.std.specs.Prelude.{unsigned_abs}
 use Rattle.iss_model.specs.declared.setting.Window.{Window}
 use Rattle.iss_model.specs.declared.setting.Window.TheVariants as window
-use Rattle.iss_model.specs.Calendar.{day_at, days_before_year, is_leap_year, month_in_year, month_number, month_of, month_starts, week_of, window_at, year_of_day}
+use Rattle.iss_model.specs.Calendar.{at_least_0, day_at, days_before_year, is_leap_year, month_in_year, month_number, month_of, month_starts, week_of, window_at, year_of_day}
 
 -- days and weeks ----
 
-no_offset : (at : ℕ) → pos at +ℤ pos 60000 *ℤ pos 0 ≡ pos at
-no_offset at = omega (arith, ints)
+days_grow : (x y : ℤ) → x ≤ℤ y → int_div_euclid x (pos 86400000) ≤ℤ int_div_euclid y (pos 86400000)
+days_grow (pos a) (pos b) h = omega (arith, ints, h)
+days_grow (pos a) (negsuc b) h = absurd (omega (arith, ints, h))
+days_grow (negsuc a) (pos b) h = omega (arith, ints, h)
+days_grow (negsuc a) (negsuc b) h = omega (arith, ints, h)
 
-pub day_is : (at : ℕ) → day_at at (pos 0) ≡ pos (at / 86400000)
-day_is at = ap (λ (z : ℤ). int_div_euclid z (pos 86400000)) (no_offset at)
+plus_grows : (x y : ℤ) (a b : ℤ) → a ≤ℤ b → x ≡ y → a +ℤ x ≤ℤ b +ℤ y
+plus_grows x y a b h e = omega (arith, ints, h, e)
 
-more_days : (d : ℕ) → pos d +ℤ pos 4 ≡ pos (d + 4)
-more_days d = omega (arith, ints)
+pos_grows : (a b : ℕ) → a ≤ b → pos a ≤ℤ pos b
+pos_grows a b h = omega (arith, ints, h)
 
-week_is : (d : ℕ) → week_of (pos d) ≡ pos ((d + 4) / 7)
-week_is d = ap (λ (z : ℤ). int_div_euclid z (pos 7)) (more_days d)
+day_grows : (offset : ℤ) (a b : ℕ) → a ≤ b → day_at a offset ≤ℤ day_at b offset
+day_grows offset a b h =
+    days_grow (pos a +ℤ pos 60000 *ℤ offset) (pos b +ℤ pos 60000 *ℤ offset) (plus_grows (pos 60000 *ℤ offset) (pos 60000 *ℤ offset) (pos a) (pos b) (pos_grows a b h) refl)
 
-day_grows : (a b : ℕ) → a ≤ b → a / 86400000 ≤ b / 86400000
-day_grows a b h = omega (arith, h)
+weeks_grow : (x y : ℤ) → x ≤ℤ y → int_div_euclid x (pos 7) ≤ℤ int_div_euclid y (pos 7)
+weeks_grow (pos a) (pos b) h = omega (arith, ints, h)
+weeks_grow (pos a) (negsuc b) h = absurd (omega (arith, ints, h))
+weeks_grow (negsuc a) (pos b) h = omega (arith, ints, h)
+weeks_grow (negsuc a) (negsuc b) h = omega (arith, ints, h)
 
-week_grows : (a b : ℕ) → a ≤ b → (a + 4) / 7 ≤ (b + 4) / 7
-week_grows a b h = omega (arith, h)
+week_grows : (x y : ℤ) → x ≤ℤ y → week_of x ≤ℤ week_of y
+week_grows x y h = weeks_grow (x +ℤ pos 4) (y +ℤ pos 4) (plus_grows (pos 4) (pos 4) x y h refl)
 
 -- years ----
 
@@ -113,7 +119,7 @@ all_counted p (x ∷ xs) = by (p x) (all_counted p xs)
 at_most_twelve : (year place : ℕ) → month_in_year year place ≤ 12
 at_most_twelve year place = all_counted (λ start. nat_le start place) (month_starts (cond (is_leap_year year) 1 0))
 
--- the list behind its first element
+-- the list after its first element
 abbrev drop_first : List ℕ → List ℕ
 drop_first [] = []
 drop_first (x ∷ xs) = xs
@@ -134,15 +140,6 @@ first_month year place = by (nat_le 0 place) (low place)
 -- the number of the month of a day
 abbrev month_nat : ℕ → ℕ
 month_nat place = month_number (year_of_day place) (month_in_year (year_of_day place) (place - days_before_year (year_of_day place)))
-
-shifted : (d : ℕ) → unsigned_abs (pos d +ℤ pos 719528) ≡ d + 719528
-shifted d = ap unsigned_abs (sum d)
-  where
-    sum : (d : ℕ) → pos d +ℤ pos 719528 ≡ pos (d + 719528)
-    sum d = omega (arith, ints)
-
-month_is : (d : ℕ) → month_of (pos d) ≡ pos (month_nat (d + 719528))
-month_is d = ap (λ (place : ℕ). pos (month_nat place)) (shifted d)
 
 month_grows : (a b : ℕ) → a ≤ b → month_nat a ≤ month_nat b
 month_grows a b h = by (order (year_of_day a) (year_of_day b))
@@ -189,33 +186,21 @@ month_grows a b h = by (order (year_of_day a) (year_of_day b))
 
 -- windows ----
 
--- the number of a window, as a natural number
-abbrev pub window_nat : Window → ℕ → ℕ
-window_nat window.Transaction at = 0
-window_nat window.Day at = at / 86400000
-window_nat window.Week at = (at / 86400000 + 4) / 7
-window_nat window.Month at = month_nat (at / 86400000 + 719528)
-window_nat window.Lifetime at = 0
+from_0_grows : (x y : ℤ) → x ≤ℤ y → at_least_0 x ≤ at_least_0 y
+from_0_grows (pos a) (pos b) h = omega (arith, ints, h)
+from_0_grows (pos a) (negsuc b) h = absurd (omega (arith, ints, h))
+from_0_grows (negsuc a) (pos b) h = omega arith
+from_0_grows (negsuc a) (negsuc b) h = omega arith
 
-pub window_is : (w : Window) (at : ℕ) → window_at w at (pos 0) ≡ pos (window_nat w at)
-window_is window.Transaction at = refl
-window_is window.Day at = day_is at
-window_is window.Week at = ap week_of (day_is at) ∙ week_is (at / 86400000)
-window_is window.Month at = ap month_of (day_is at) ∙ month_is (at / 86400000)
-window_is window.Lifetime at = refl
+month_of_grows : (x y : ℤ) → x ≤ℤ y → month_of x ≤ℤ month_of y
+month_of_grows x y h =
+    pos_grows (month_nat (at_least_0 (x +ℤ pos 719528))) (month_nat (at_least_0 (y +ℤ pos 719528)))
+    (month_grows (at_least_0 (x +ℤ pos 719528)) (at_least_0 (y +ℤ pos 719528)) (from_0_grows (x +ℤ pos 719528) (y +ℤ pos 719528) (plus_grows (pos 719528) (pos 719528) x y h refl)))
 
-pub window_grows : (w : Window) (a b : ℕ) → a ≤ b → window_nat w a ≤ window_nat w b
-window_grows window.Transaction a b h = none
-  where
-    none : 0 ≤ 0
-    none = omega arith
-window_grows window.Day a b h = day_grows a b h
-window_grows window.Week a b h = week_grows (a / 86400000) (b / 86400000) (day_grows a b h)
-window_grows window.Month a b h = month_grows (a / 86400000 + 719528) (b / 86400000 + 719528) (plus (a / 86400000) (b / 86400000) (day_grows a b h))
-  where
-    plus : (x y : ℕ) → x ≤ y → x + 719528 ≤ y + 719528
-    plus x y h = omega (arith, h)
-window_grows window.Lifetime a b h = none
-  where
-    none : 0 ≤ 0
-    none = omega arith
+-- a later stamp's window has no smaller number, at each offset
+pub window_grows : (w : Window) (offset : ℤ) (a b : ℕ) → a ≤ b → window_at w a offset ≤ℤ window_at w b offset
+window_grows window.Transaction offset a b h = pos_grows 0 0 (omega arith)
+window_grows window.Day offset a b h = day_grows offset a b h
+window_grows window.Week offset a b h = week_grows (day_at a offset) (day_at b offset) (day_grows offset a b h)
+window_grows window.Month offset a b h = month_of_grows (day_at a offset) (day_at b offset) (day_grows offset a b h)
+window_grows window.Lifetime offset a b h = pos_grows 0 0 (omega arith)

@@ -60,7 +60,7 @@ verdict_of_sets (allowed s) why = verdict.Approved
 verdict_of_sets (over_limit s) why = verdict.Declined (reason.StandInLimit s.name)
 verdict_of_sets uncovered why = verdict.Declined (failure_reason why)
 
--- An ask that nothing declines is approved where the user's own balance pays. Else the gateway is asked; while the product's switch is on
+-- An ask that nothing declines is approved if the user's own balance pays. Else the gateway is asked; while the product's switch is on
 -- the sets decide.
 abbrev pub funding_ruling : Facts → Ask → Ruling
 funding_ruling f ask =
@@ -81,8 +81,8 @@ event_reason (input.Card token card user product active) at f = card_reason f ca
 event_reason (input.Move token who) at f = move_reason f who
 event_reason (input.Product token product currency funding timeout_ms hold_ms) at f = product_reason f product
 event_reason (input.Group token group mccs) at f = group_reason f group
-event_reason (input.Control token control currency window amount_limit usage_limit association scope active) at f =
-    control_reason f control currency window association scope
+event_reason (input.Control token control currency window amount_limit usage_limit association scope offset active) at f =
+    control_reason f control currency window association scope offset
 event_reason (input.Set token set product currency connection timeout application max day_limit active) at f =
     set_reason f set product currency
 event_reason (input.Switch token product on) at f = switch_reason f product
@@ -127,7 +127,7 @@ abbrev pub is_answer : ℕ → Outcome → Input → Bool
 is_answer number outcome (input.Answer call other) = call.0 == number && outcome_number other == outcome_number outcome
 is_answer number outcome _ = false
 
--- a record lets a call fail so: by its deadline, which has come, or by the answer that the record is; that a switch is on closes no call
+-- how a record lets a call fail: by its deadline, which has come, or by the answer that the record is; a switch that is on closes no call
 abbrev pub may_fail : Record → Opened → Failure → Bool
 may_fail r o failure.Timeout = nat_le o.deadline r.at
 may_fail r o failure.Connection = is_answer o.call.0 outcome.Connection r.input
@@ -144,11 +144,11 @@ abandoned_by token _ = None
 abbrev pub abandonment_reason : Record → Txn → Option Reason
 abandonment_reason r t = if nat_le t.expires r.at then Some reason.Expired else abandoned_by t.token r.input
 
--- a verdict where a test holds
+-- a verdict if a test holds
 abbrev pub only_if : Bool → Verdict → Option Verdict
 only_if b v = if b then Some v else None
 
--- The verdict on the event of a call that a record closes so, on the facts of that moment; none where the record has no cause for it.
+-- The verdict on the event of a call that a record closes, on the facts of that moment; none if the record has no cause for it.
 abbrev pub closing_verdict : Record → Facts → Opened → Txn → How → Option Verdict
 closing_verdict r f o t how.Funded = only_if (is_answer o.call.0 outcome.Funded r.input) verdict.Approved
 closing_verdict r f o t how.Refused = only_if (is_answer o.call.0 outcome.Refused r.input) (verdict.Declined reason.GatewayDeclined)
@@ -160,7 +160,7 @@ abbrev pub call_ruling : Record → Facts → How → Opened → Option Ruling
 call_ruling r f how o =
     option_and_then (λ t. option_map (decided_as o.event) (closing_verdict r f o t how)) (begun_in f o.txn)
 
--- the ruling that goes with an entry of a record, where that closes a call
+-- the ruling that goes with an entry of a record, if that closes a call
 abbrev pub closing_ruling : Record → Facts → Entry → Option Ruling
 closing_ruling r f (entry.Closed call how) = option_and_then (call_ruling r f how) (opened_in f call.0)
 closing_ruling r f _ = None

@@ -12,7 +12,7 @@ ghost use Rattle.iss_laws.specs.StepCalls.{ArePaid, IsClosedAsOpened, IsVoidedAs
 ghost use Rattle.iss_laws.specs.Payable.{ArePayable, CallsStand};
 
 /// The entries of a step close the call of a number as often as it was asked or is opened there, and isn't asked then. They void it as
-/// often as they close it as failed or abandoned, and a notice names a call exactly where its method is void.
+/// often as they close it as failed or abandoned, and a notice names a call exactly if its method is void.
 pub fn calls_are_closed_once()
     ensures counted { (s : CoreState) (r : Record) (n : ℕ) → IfNewAndWell s r (IsClosedAsOpened s r n) }
     ensures voided { (s : CoreState) (r : Record) (n : ℕ) → IfNewAndWell s r (IsVoidedAsClosed s r n) }

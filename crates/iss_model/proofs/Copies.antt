@@ -14,7 +14,7 @@ limit_is None None h = refl
 limit_is (Some x) (Some y) h = ap (λ (n : ℕ). Some n) h
 limit_is _ _ h = elim h [ ]
 
--- what the derived copying of an input gives is equal to it
+-- what the derived copying of an input returns is equal to it
 pub copy_is : (i copy : Input) → (input_clone.ghosts).is_clone i copy → copy ≡ i
 copy_is (input.User t u) (input.User t' u') h = λ k. input.User (h.0 k) (h.1 k)
 copy_is (input.Card t c u p a) (input.Card t' c' u' p' a') h = λ k. input.Card (h.0 k) (h.1.0 k) (h.1.1.0 k) (h.1.1.1.0 k) (h.1.1.1.1 k)
@@ -22,9 +22,9 @@ copy_is (input.Move t w) (input.Move t' w') h = λ k. input.Move (h.0 k) (h.1 k)
 copy_is (input.Product t p c f m n) (input.Product t' p' c' f' m' n') h =
     λ k. input.Product (h.0 k) (h.1.0 k) (h.1.1.0 k) (h.1.1.1.0 k) (h.1.1.1.1.0 k) (h.1.1.1.1.1 k)
 copy_is (input.Group t g m) (input.Group t' g' m') h = λ k. input.Group (h.0 k) (h.1.0 k) (h.1.1 k)
-copy_is (input.Control t v c w m n s o a) (input.Control t' v' c' w' m' n' s' o' a') h =
+copy_is (input.Control t v c w m n s o z a) (input.Control t' v' c' w' m' n' s' o' z' a') h =
     λ k. input.Control (h.0 k) (h.1.0 k) (h.1.1.0 k) (h.1.1.1.0 k) (limit_is m m' h.1.1.1.1.0 k)
-    (limit_is n n' h.1.1.1.1.1.0 k) (h.1.1.1.1.1.1.0 k) (h.1.1.1.1.1.1.1.0 k) (h.1.1.1.1.1.1.1.1 k)
+    (limit_is n n' h.1.1.1.1.1.0 k) (h.1.1.1.1.1.1.0 k) (h.1.1.1.1.1.1.1.0 k) (h.1.1.1.1.1.1.1.1.0 k) (h.1.1.1.1.1.1.1.1.1 k)
 copy_is (input.Set t v p c x y z m d a) (input.Set t' v' p' c' x' y' z' m' d' a') h =
     λ k. input.Set (h.0 k) (h.1.0 k) (h.1.1.0 k) (h.1.1.1.0 k) (h.1.1.1.1.0 k) (h.1.1.1.1.1.0 k) (h.1.1.1.1.1.1.0 k) (h.1.1.1.1.1.1.1.0 k) (h.1.1.1.1.1.1.1.1.0 k) (h.1.1.1.1.1.1.1.1.1 k)
 copy_is (input.Switch t p a) (input.Switch t' p' a') h = λ k. input.Switch (h.0 k) (h.1.0 k) (h.1.1 k)

@@ -1,5 +1,5 @@
 -- Days, weeks and months of a stamp: milliseconds since 1 January 1970 UTC, seen at a fixed offset from UTC.
-use Rattle.std.specs.Prelude.{ℕ, ◌+◌, ◌-◌, ◌*◌, ◌/◌, ◌%◌, Bool, not, ◌&&◌, ◌||◌, ◌==◌, nat_le, nat_lt, ℤ, pos, ◌+ℤ◌, ◌*ℤ◌, unsigned_abs, List, [], ◌∷◌, length, filter, map, if◌then◌else◌}
+use Rattle.std.specs.Prelude.{ℕ, ◌+◌, ◌-◌, ◌*◌, ◌/◌, ◌%◌, Bool, not, ◌&&◌, ◌||◌, ◌==◌, nat_le, nat_lt, ℤ, pos, negsuc, ◌+ℤ◌, ◌*ℤ◌, List, [], ◌∷◌, length, filter, map, if◌then◌else◌}
 use Rattle.std.specs.Int.{int_div_euclid}
 use Rattle.iss_model.specs.declared.setting.Window.{Window}
 use Rattle.iss_model.specs.declared.setting.Window.TheVariants as window
@@ -20,7 +20,7 @@ is_leap_year year = year % 4 == 0 && (not (year % 100 == 0) || year % 400 == 0)
 abbrev pub days_before_year : ℕ → ℕ
 days_before_year year = 365 * year + (year + 3) / 4 - (year + 99) / 100 + (year + 399) / 400
 
--- The year of the day that lies so many days after 1 January of the year 0: its first day isn't later, and that of the next year is.
+-- The year of the day of this number, counted from 1 January of the year 0: its first day isn't later, and that of the next year is.
 -- 400 years have 146097 days, so the quotient is the year, or misses it by one.
 abbrev pub year_of_day : ℕ → ℕ
 year_of_day day =
@@ -43,10 +43,15 @@ month_in_year year place =
 abbrev pub month_number : ℕ → ℕ → ℕ
 month_number year month = 12 * year + month
 
--- the month of a day, from the year 0 on: 1 January 1970 is 719528 days after 1 January of the year 0
+-- a number from 0 on, or 0
+abbrev pub at_least_0 : ℤ → ℕ
+at_least_0 (pos n) = n
+at_least_0 (negsuc n) = 0
+
+-- the month of a day, from the year 0 on: 1 January 1970 is 719528 days after 1 January of the year 0, and a day before that one counts as it
 abbrev pub month_of : ℤ → ℤ
 month_of day =
-    let place = unsigned_abs (day +ℤ pos 719528) in
+    let place = at_least_0 (day +ℤ pos 719528) in
     let year = year_of_day place in
     pos (month_number year (month_in_year year (place - days_before_year year)))
 

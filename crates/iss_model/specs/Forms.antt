@@ -1,6 +1,6 @@
 -- The forms that the fields of an input meet, whatever the book.
-use Rattle.std.specs.Prelude.{ℕ, ◌+◌, Bool, true, ◌&&◌, ◌||◌, nat_le, List, [], ◌∷◌, length, Option, Some, None, is_some, is_none}
-use Rattle.iss_model.specs.declared.limits.TheConstants.{LAST_STAMP, LEAST_AMOUNT, GREATEST_AMOUNT, GREATEST_LIMIT, GREATEST_USAGE, GREATEST_MCC, MOST_MCCS, SHORTEST_TIMEOUT, LONGEST_TIMEOUT, SHORTEST_HOLD, LONGEST_HOLD, FIRST_NUMBER, GREATEST_NUMBER}
+use Rattle.std.specs.Prelude.{ℕ, ◌+◌, ℤ, Bool, true, ◌&&◌, ◌||◌, nat_le, int_le, List, [], ◌∷◌, length, Option, Some, None, is_some, is_none}
+use Rattle.iss_model.specs.declared.limits.TheConstants.{LAST_STAMP, LEAST_AMOUNT, GREATEST_AMOUNT, GREATEST_LIMIT, GREATEST_USAGE, GREATEST_MCC, LEAST_OFFSET, GREATEST_OFFSET, MOST_MCCS, SHORTEST_TIMEOUT, LONGEST_TIMEOUT, SHORTEST_HOLD, LONGEST_HOLD, FIRST_NUMBER, GREATEST_NUMBER}
 use Rattle.iss_model.specs.declared.setting.Window.{Window}
 use Rattle.iss_model.specs.declared.setting.Window.TheVariants as window
 use Rattle.iss_model.specs.declared.setting.Scope.{Scope}
@@ -75,22 +75,26 @@ are_limits window amount_limit usage_limit =
     && (is_some amount_limit || is_some usage_limit)
     && may_count window usage_limit
 
--- a scope names a code of four digits, where it names one
+-- a scope names a code of four digits, if it names one
 abbrev pub is_scope : Scope → Bool
 is_scope scope.All = true
 is_scope (scope.Mcc mcc) = is_mcc mcc
 is_scope (scope.Group group) = true
 is_scope (scope.Mid mid) = true
 
--- each field of an input is of its form; that a name is a token, its type says
+-- an offset from UTC in minutes: 12 hours behind it to 14 hours ahead
+abbrev pub is_offset : ℤ → Bool
+is_offset offset = int_le LEAST_OFFSET offset && int_le offset GREATEST_OFFSET
+
+-- each field of an input is of its form; a name is a token by its type
 abbrev pub is_in_form : Input → Bool
 is_in_form (input.User token user) = true
 is_in_form (input.Card token card user product active) = true
 is_in_form (input.Move token who) = true
 is_in_form (input.Product token product currency funding timeout_ms hold_ms) = is_timeout timeout_ms && is_hold_time hold_ms
 is_in_form (input.Group token group mccs) = are_mccs mccs
-is_in_form (input.Control token control currency window amount_limit usage_limit association scope active) =
-    are_limits window amount_limit usage_limit && is_scope scope
+is_in_form (input.Control token control currency window amount_limit usage_limit association scope offset active) =
+    are_limits window amount_limit usage_limit && is_scope scope && is_offset offset
 is_in_form (input.Set token set product currency connection timeout application max day_limit active) =
     is_limit max && is_limit day_limit
 is_in_form (input.Switch token product on) = true

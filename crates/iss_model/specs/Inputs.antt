@@ -1,5 +1,5 @@
 -- What an input is about, whatever the book.
-use Rattle.std.specs.Prelude.{ℕ, Bool, false, List, [], ◌∷◌, ◌++◌, length, Option, Some, None, if◌then◌else◌}
+use Rattle.std.specs.Prelude.{ℕ, ℤ, pos, negsuc, Bool, false, List, [], ◌∷◌, ◌++◌, length, Option, Some, None, if◌then◌else◌}
 use Rattle.std.specs.Str.{bytes_eq}
 use Rattle.iss_model.specs.declared.setting.Funding.{Funding}
 use Rattle.iss_model.specs.declared.setting.Funding.TheVariants as funding
@@ -21,14 +21,14 @@ use Rattle.iss_model.specs.declared.input.Input.{Input}
 use Rattle.iss_model.specs.declared.input.Input.TheVariants as input
 use Rattle.iss_model.specs.Currencies.{iso_number}
 
--- the event's token, where the input is an event
+-- the event's token, if the input is an event
 abbrev pub event_token : Input → Option (List ℕ)
 event_token (input.User token user) = Some token
 event_token (input.Card token card user product active) = Some token
 event_token (input.Move token who) = Some token
 event_token (input.Product token product currency funding timeout_ms hold_ms) = Some token
 event_token (input.Group token group mccs) = Some token
-event_token (input.Control token control currency window amount_limit usage_limit association scope active) = Some token
+event_token (input.Control token control currency window amount_limit usage_limit association scope offset active) = Some token
 event_token (input.Set token set product currency connection timeout application max day_limit active) = Some token
 event_token (input.Switch token product on) = Some token
 event_token (input.Load token user currency amount) = Some token
@@ -53,6 +53,11 @@ flag_contents b = if b then 1 ∷ [] else 0 ∷ []
 abbrev pub optional_contents : Option ℕ → List ℕ
 optional_contents None = 0 ∷ []
 optional_contents (Some n) = 1 ∷ n ∷ []
+
+-- a whole number, with a mark for those below 0
+abbrev pub int_contents : ℤ → List ℕ
+int_contents (pos n) = 0 ∷ n ∷ []
+int_contents (negsuc n) = 1 ∷ n ∷ []
 
 -- who funds, as a number
 abbrev pub funding_number : Funding → ℕ
@@ -113,7 +118,7 @@ scope_contents (scope.Mcc mcc) = 1 ∷ mcc ∷ []
 scope_contents (scope.Group group) = 2 ∷ with_length group
 scope_contents (scope.Mid mid) = 3 ∷ with_length mid
 
--- All that an input says, as one list: its kind, then its fields. Two inputs say the same exactly where these lists are equal.
+-- All that an input holds, as one list: its kind, then its fields. Two inputs are equal exactly if these lists are equal.
 abbrev pub contents : Input → List ℕ
 contents (input.User token user) = 1 ∷ with_length token ++ with_length user
 contents (input.Card token card user product active) = 2 ∷ with_length token ++ with_length card ++ with_length user ++ with_length product ++ flag_contents active
@@ -121,9 +126,9 @@ contents (input.Move token who) = 3 ∷ with_length token ++ moved_contents who
 contents (input.Product token product currency funding timeout_ms hold_ms) =
     4 ∷ with_length token ++ with_length product ++ iso_number currency ∷ funding_number funding ∷ timeout_ms ∷ hold_ms ∷ []
 contents (input.Group token group mccs) = 5 ∷ with_length token ++ with_length group ++ with_length mccs
-contents (input.Control token control currency window amount_limit usage_limit association scope active) =
+contents (input.Control token control currency window amount_limit usage_limit association scope offset active) =
     6 ∷ with_length token ++ with_length control ++ iso_number currency ∷ window_number window ∷ optional_contents amount_limit ++ optional_contents usage_limit
-    ++ association_contents association ++ scope_contents scope ++ flag_contents active
+    ++ association_contents association ++ scope_contents scope ++ int_contents offset ++ flag_contents active
 contents (input.Set token set product currency connection timeout application max day_limit active) =
     7 ∷ with_length token ++ with_length set ++ with_length product ++ iso_number currency ∷ flag_contents connection ++ flag_contents timeout ++ flag_contents application
     ++ max ∷ day_limit ∷ flag_contents active

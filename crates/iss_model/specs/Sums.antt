@@ -34,7 +34,7 @@ account_currency (account.Network currency) = currency
 account_currency (account.Programme currency) = currency
 account_currency (account.User user currency) = currency
 
--- no token has a byte 0, so two accounts have one key only where they are one account
+-- no token has a byte 0, so two accounts have one key only if they are one account
 abbrev pub account_key : Account → List ℕ
 account_key (account.Gateway currency) = 1 ∷ 0 ∷ iso_number currency ∷ []
 account_key (account.Network currency) = 2 ∷ 0 ∷ iso_number currency ∷ []
@@ -86,16 +86,17 @@ abbrev pub refunded_by : Account → Account → ℕ → ℤ
 refunded_by (account.Network c) (account.User user d) amount = pos amount
 refunded_by _ _ amount = pos 0
 
--- what the programme has paid to a user, less what it got back
+-- what the programme has paid to a user, less what came back
 abbrev pub paid_by : Account → Account → ℕ → ℤ
 paid_by (account.Programme c) (account.User user d) amount = pos amount
 paid_by (account.User user c) (account.Programme d) amount = neg_ℤ (pos amount)
 paid_by _ _ amount = pos 0
 
--- a whole number at the end of a key, so that keys sort as their numbers do: one below 0 begins with as many zeros as it lies below
+-- A whole number at the end of a key, so that keys sort as their numbers do: one below 0 begins with as many zeros as it lies below.
+-- The last two places tell the number too, whatever is before them.
 abbrev pub int_key : ℤ → List ℕ
 int_key (pos n) = 1 ∷ n ∷ []
-int_key (negsuc n) = replicate (suc n) 0 ++ 1 ∷ []
+int_key (negsuc n) = replicate (suc n) 0 ++ 1 ∷ 0 ∷ n ∷ []
 
 -- a product's user on a day of UTC
 abbrev pub stood_key : List ℕ → List ℕ → ℕ → List ℕ

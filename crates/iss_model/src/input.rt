@@ -64,6 +64,8 @@ pub enum Input {
         usage_limit: Option<u32>,
         association: Association,
         scope: Scope,
+        /// How far the clock of its windows is ahead of UTC, in minutes.
+        offset: i16,
         active: bool,
     },
     Set {
@@ -168,6 +170,7 @@ impl Input {
             usage_limit,
             association,
             scope,
+            offset,
             active,
         } = self
         else {
@@ -181,6 +184,7 @@ impl Input {
             usage_limit: *usage_limit,
             association: *association,
             scope: *scope,
+            offset: *offset,
             active: *active,
         })
     }

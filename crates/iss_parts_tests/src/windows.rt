@@ -32,10 +32,27 @@ fn windows_of_an_independent_calendar(rt: HostRuntime) -> Result<(), Fail> {
     ];
     for (at, day, week, month) in table {
         assert!(rt; at <= 253_370_764_799_999);
-        assert_eq!(rt; window(Window::Day, at), day);
-        assert_eq!(rt; window(Window::Week, at), week);
-        assert_eq!(rt; window(Window::Month, at), month);
-        assert_eq!(rt; window(Window::Lifetime, at), 0);
+        assert_eq!(rt; window(Window::Day, at, 0), day);
+        assert_eq!(rt; window(Window::Week, at, 0), week);
+        assert_eq!(rt; window(Window::Month, at, 0), month);
+        assert_eq!(rt; window(Window::Lifetime, at, 0), 0);
     }
+    Ok(())
+}
+
+/// Days, weeks and months of clocks ahead of UTC and behind it.
+#[test]
+fn windows_at_offsets(rt: HostRuntime) -> Result<(), Fail> {
+    assert_eq!(rt; window(Window::Day, 0, -300), -1);
+    assert_eq!(rt; window(Window::Week, 0, -300), 0);
+    assert_eq!(rt; window(Window::Month, 0, -300), 23_640);
+    assert_eq!(rt; window(Window::Day, 66_599_999, 330), 0);
+    assert_eq!(rt; window(Window::Day, 66_600_000, 330), 1);
+    assert_eq!(rt; window(Window::Week, 277_199_999, -300), 0);
+    assert_eq!(rt; window(Window::Week, 277_200_000, -300), 1);
+    assert_eq!(rt; window(Window::Month, 2_721_599_999, -720), 23_641);
+    assert_eq!(rt; window(Window::Month, 2_721_600_000, -720), 23_642);
+    assert_eq!(rt; window(Window::Lifetime, 0, -300), 0);
+    assert_eq!(rt; window(Window::Month, 253_370_764_799_999, 840), 119_989);
     Ok(())
 }

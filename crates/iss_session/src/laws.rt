@@ -34,7 +34,7 @@ pub fn heard_decides_happenings()
         → HeardIsAll read s a b }
 {}
 
-/// A session makes the records that lines would make, at the times at which its inputs are judged: they come behind those that stand,
+/// A session makes the records that lines would make, at the times at which its inputs are judged: they come after those that stand,
 /// each follows on those before it, and what stands is the book of them all.
 #[tactic(auto, using(crate::proofs::JudgedLines::run_of_lines, crate::proofs::JudgedLines::records_of_session, crate::proofs::JudgedLines::legal_session, crate::proofs::JudgedLines::history_of_session))]
 pub fn sessions_judge_lines()
@@ -68,7 +68,7 @@ pub fn sessions_are_good_stretches<S: Showing>()
     ensures last { (s : Session) (j : ℕ) → StartsStand S.starts S.stands j → EndsGood S.starts S.stands j s }
 {}
 
-/// What went out on a channel is what the session says of it, in its order.
+/// What went out on a channel is what the session sends on it, in its order.
 pub fn texts_are_sent()
     ensures part { (read : Readers) (s t : Session) (a b : Outer) (ch : ℕ) (p : Serves read s t a b)
         → WentOut ch (session_steps read s p.happenings) a b }

@@ -1,6 +1,7 @@
 -- A record's spelling has 1 to 8192 bytes.
-use Rattle.std.proofs.Common.{◌≡◌, ℕ, ◌+◌, ◌*◌, ◌≤◌, Bool, true, false, ◌&&◌, List, [], ◌∷◌, ◌++◌, length, refl, sym, subst, ◌∙◌, arith, length-append}
+use Rattle.std.proofs.Common.{◌≡◌, ℕ, ℤ, ◌+◌, ◌*◌, ◌≤◌, Bool, true, false, cond, ◌&&◌, List, [], ◌∷◌, ◌++◌, length, refl, sym, subst, ◌∙◌, arith, length-append}
 use Rattle.std.specs.Prelude.{Option, Some, None, nat_le}
+use Rattle.std.specs.Int.{w16, cast_unsigned}
 use Rattle.std.specs.List.{list_all, flat_map}
 use Rattle.std.proofs.lemmas.Bool.{and_parts}
 use Rattle.std.proofs.lemmas.Bool.Decides.{nat_tests}
@@ -20,7 +21,7 @@ use Rattle.iss_model.specs.Currencies.{iso_number}
 use Rattle.iss_model.specs.Tokens.{is_token, is_token_byte}
 use Rattle.iss_model.specs.Forms.{are_mccs, are_rising, is_in_form, is_stamp}
 use Rattle.iss_model.specs.Inputs.{with_length, flag_contents, moved_contents, association_contents, card_state_number, user_state_number, funding_number, window_number, outcome_number}
-use Rattle.iss_model.specs.texts.Spelling.{number_bytes, currency_bytes, amount_bytes, mcc_bytes, mccs_bytes, limits_bytes, scope_bytes, operation_bytes, field_bytes, spelling, tokens_of, moved_token, association_tokens, scope_tokens, is_record}
+use Rattle.iss_model.specs.texts.Spelling.{number_bytes, currency_bytes, amount_bytes, mcc_bytes, mccs_bytes, limits_bytes, is_utc, offset_bytes, scope_bytes, operation_bytes, field_bytes, spelling, tokens_of, moved_token, association_tokens, scope_tokens, is_record}
 use Rattle.iss_codec.proofs.NumberBytes.{wide_2, wide_4, wide_8}
 use Rattle.iss_journal.specs.Region.{IsBody}
 
@@ -49,6 +50,13 @@ group_length codes h =
 flag_length : (b : Bool) → length (flag_contents b) ≤ 1
 flag_length true = omega arith
 flag_length false = omega arith
+
+offset_length : (offset : ℤ) → length (offset_bytes offset) ≤ 2
+offset_length offset = by (is_utc offset)
+  where
+    by : (b : Bool) → length (cond b [] (number_bytes 2 (cast_unsigned w16 offset))) ≤ 2
+    by true = omega arith
+    by false = omega (arith, wide_2.size (cast_unsigned w16 offset))
 
 limit_length : (amount usage : Option ℕ) → length (limits_bytes amount usage) ≤ 14
 limit_length None None = omega arith
@@ -117,7 +125,7 @@ fields_length (input.Group token group mccs) f h =
     let p = two_names token group h in
     let two = more 37 37 (with_length token) (with_length group) (name_length token p.0) (name_length group p.1) in
     omega (arith, more 74 2002 (with_length token ++ with_length group) (mccs_bytes mccs) two (group_length mccs f))
-fields_length (input.Control token control currency window amount_limit usage_limit association scope active) f h =
+fields_length (input.Control token control currency window amount_limit usage_limit association scope offset active) f h =
     let p = and_parts (is_token token) (list_all is_token (control ∷ association_tokens association ++ scope_tokens scope)) h in
     let q = and_parts (is_token control) (list_all is_token (association_tokens association ++ scope_tokens scope)) p.1 in
     let r = and_parts (list_all is_token (association_tokens association)) (list_all is_token (scope_tokens scope)) (sym (list_all-append is_token (association_tokens association) (scope_tokens scope)) ∙ q.1) in
@@ -130,9 +138,11 @@ fields_length (input.Control token control currency window amount_limit usage_li
     let six = more 91 38 (names ++ currency_bytes currency ++ (window_number window ∷ []) ++ limits) (association_contents association) five (association_length association r.0) in
     let seven =
     more 129 38 (names ++ currency_bytes currency ++ (window_number window ∷ []) ++ limits ++ association_contents association) (scope_bytes scope) six (scope_length scope r.1) in
+    let eight =
+    more 167 1 (names ++ currency_bytes currency ++ (window_number window ∷ []) ++ limits ++ association_contents association ++ scope_bytes scope) (flag_contents active) seven (flag_length active) in
     omega (
       arith,
-      more 167 1 (names ++ currency_bytes currency ++ (window_number window ∷ []) ++ limits ++ association_contents association ++ scope_bytes scope) (flag_contents active) seven (flag_length active),
+      more 168 2 (names ++ currency_bytes currency ++ (window_number window ∷ []) ++ limits ++ association_contents association ++ scope_bytes scope ++ flag_contents active) (offset_bytes offset) eight (offset_length offset),
     )
 fields_length (input.Set token set product currency connection timeout application max day_limit active) f h =
     let p = three_names token set product h in

@@ -37,6 +37,11 @@ const RECORDS: &str =
 {"type":"control","token":"t4","control":"v1","currency":"USD","window":"TRANSACTION","amount_limit":0,"user":"u1","product":null,"mcc":"0411"} 060000000000000009027434027631034801010000000000000000000102753101019b01
 {"type":"control","token":"t4","control":"v1","currency":"USD","window":"LIFETIME","amount_limit":"10000000000.00","usage_limit":1000000,"product":"g","group":"food","active":false} 06000000000000000902743402763103480501000000e8d4a5100001000f42400201670204666f6f6400
 {"type":"control","token":"t4","control":"v1","currency":"USD","window":"WEEK","usage_limit":0,"mid":"m1"} 0600000000000000090274340276310348030001000000000003026d3101
+{"type":"control","token":"t4","control":"v1","currency":"USD","window":"DAY","amount_limit":"100.00","utc_offset":"+00:00"} 06000000000000000902743402763103480201000000000000271000000001
+{"type":"control","token":"t4","control":"v1","currency":"USD","window":"DAY","amount_limit":"100.00","utc_offset":"+05:30"} 12000000000000000902743402763103480201000000000000271000000001014a
+{"type":"control","token":"t4","control":"v1","currency":"USD","window":"DAY","amount_limit":"100.00","utc_offset":"+14:00","active":false} 120000000000000009027434027631034802010000000000002710000000000348
+{"type":"control","token":"t4","control":"v1","currency":"USD","window":"DAY","amount_limit":"100.00","utc_offset":"-00:01"} 12000000000000000902743402763103480201000000000000271000000001ffff
+{"type":"control","token":"t4","control":"v1","currency":"USD","window":"DAY","amount_limit":"100.00","utc_offset":"-12:00"} 12000000000000000902743402763103480201000000000000271000000001fd30
 {"type":"set","token":"t5","set":"s1","product":"g","currency":"USD","connection":true,"max":"100.00","day_limit":"100.00"} 070000000000000009027435027331016703480100000000000000002710000000000000271001
 {"type":"set","token":"t5","set":"s1","product":"g","currency":"JPY","max":0,"day_limit":"1000000000000","active":false} 070000000000000009027435027331016701880000000000000000000000000000e8d4a5100000
 {"type":"switch","token":"t6","product":"g","on":true} 080000000000000009027436016701
@@ -73,7 +78,13 @@ fn lines_and_the_bytes_of_their_records(rt: HostRuntime) -> Result<(), Fail> {
 
 /// Bytes that are no records, in base 16, and why.
 const OTHERS: &str = r#"000000000000000000027431027531 no kind 0
-120000000000000000027431027531 no kind 18
+120000000000000000027431027531 a control that ends early
+12000000000000000902743402763103480201000000000000271000000001 a control of kind 18 without an offset
+120000000000000009027434027631034802010000000000002710000000010000 an offset of 0
+120000000000000009027434027631034802010000000000002710000000010349 an offset of 14 hours and a minute
+12000000000000000902743402763103480201000000000000271000000001fd2f an offset of 12 hours and a minute behind UTC
+06000000000000000902743402763103480201000000000000271000000001014a a control in UTC with an offset
+130000000000000000027431027531 no kind 19
 150000000000000000027431027531 no kind 21
 110000e6707a6eb000 a stamp past the last
 01000000000000000000027531 an empty token

@@ -8,9 +8,9 @@ along : (f : ℤ → ℤ) (x y a b c : ℤ) → a ≡ b → b ≡ f x → x ≡ 
 along f x y a b c p q r s = p ∙ q ∙ ap f r ∙ s
 
 -- the month of the stamp's day is its window
-pub month_window : (kind : Window) (at : ℕ) (day number stored : ℤ) → kind ≡ Month → stored ≡ number → number ≡ month_of day → day ≡ day_at at (pos 0) → stored ≡ window_at kind at (pos 0)
-month_window kind at day number stored k s n d =
-    along month_of day (day_at at (pos 0)) stored number (window_at kind at (pos 0)) s n d (ap (λ (w : Window). window_at w at (pos 0)) (sym k))
+pub month_window : (kind : Window) (at : ℕ) (offset day number stored : ℤ) → kind ≡ Month → stored ≡ number → number ≡ month_of day → day ≡ day_at at offset → stored ≡ window_at kind at offset
+month_window kind at offset day number stored k s n d =
+    along month_of day (day_at at offset) stored number (window_at kind at offset) s n d (ap (λ (w : Window). window_at w at offset) (sym k))
 
 -- one number twice
 pub meets : (a b c : ℤ) → a ≡ b → c ≡ b → a ≡ c

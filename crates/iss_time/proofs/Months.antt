@@ -1,15 +1,16 @@
 -- The month of a civil date.
-use Rattle.std.proofs.Common.{◌≡◌, ℕ, zero, suc, ◌+◌, ◌-◌, ◌<◌, ◌≤◌, nat_le, length, filter, refl, ap, ◌∙◌, arith, ℤ, pos, negsuc, ◌+ℤ◌, ◌*ℤ◌, ◌≤ℤ◌}
+use Rattle.std.proofs.Common.{◌≡◌, ℕ, zero, suc, ◌+◌, ◌-◌, ◌<◌, ◌≤◌, nat_le, length, filter, refl, ap, ◌∙◌, arith, ℤ, pos, negsuc, ◌+ℤ◌, ◌*ℤ◌, ◌≤ℤ◌, FitsSigned, w16}
 use Rattle.std.proofs.lemmas.Bool.Decides.{nat_tests}
 use Rattle.jiff_core.specs.Calendar.{days_of_months, days_in_month, days_from_civil, day_count, days_of_years, IsCivilDate}
-use Rattle.jiff_core.proofs.CalendarLemmas.{days_of_months_table, days_of_months_more, days_from_civil-day_count, day_count-epoch, day_count-lt_year, day_of_year_bound}
+use Rattle.jiff_core.proofs.CalendarLemmas.{days_of_months_table, days_of_months_more, days_from_civil-day_count, day_count-epoch, day_count-next_year, day_count-lt_year, day_of_year_bound}
 use Rattle.jiff_core.proofs.MarchLemmas.{leap_day, days_in_year-leap_day}
 use Rattle.jiff_core.proofs.SignedLemmas.{signed_arith}
-use Rattle.iss_model.specs.Calendar.{days_before_year, year_of_day, month_starts, month_in_year, month_number, month_of, day_at}
+use Rattle.iss_model.specs.Calendar.{at_least_0, days_before_year, year_of_day, month_starts, month_in_year, month_number, month_of, day_at}
+use Rattle.iss_time.specs.declared.windows.TheConstants.{FIRST_DAY}
 use Rattle.iss_time.specs.CivilMonths.{HasMonthOfDate}
 use Rattle.iss_time.proofs.Years.{next_year, days_before, year_of}
 
--- how many months have begun, where there are so many leap days
+-- how many months have begun, with this number of leap days
 abbrev begun : ℕ → ℕ → ℕ
 begun p leap = length (filter (λ start. nat_le start p) (month_starts leap))
 
@@ -85,7 +86,7 @@ counted : (y m d : ℕ) → day_count (pos y) m d ≡ days_of_years (y + 10000) 
 unfolding day_count
 counted y m d = refl
 
--- the number of a month, where the year and the place in it are known
+-- the number of a month, if the year and the place in it are known
 number_of : (place y p m : ℕ) → year_of_day place ≡ y → place - days_before_year y ≡ p → month_in_year y p ≡ m
     → month_number (year_of_day place) (month_in_year (year_of_day place) (place - days_before_year (year_of_day place))) ≡ month_number y m
 number_of place y p m year inside month =
@@ -93,22 +94,45 @@ number_of place y p m year inside month =
     ∙ ap (λ (q : ℕ). month_number y (month_in_year y q)) inside
     ∙ ap (λ (k : ℕ). month_number y k) month
 
--- a date from 1970 on has the number of its month
-pub month_of_date : (year day : ℤ) (m d : ℕ) → IsCivilDate year m d → days_from_civil year m d ≡ day → pos 0 ≤ℤ day → month_of day ≡ pos 12 *ℤ year +ℤ pos m
-month_of_date year (negsuc b) m d date e low = absurd (omega (arith, signed_arith))
-month_of_date (negsuc a) (pos n) m d date e low =
-    let count : n + 4371953 ≡ day_count (negsuc a) m d = omega (arith, signed_arith, rw e at (days_from_civil-day_count (negsuc a) m d)) in
-    let earlier = day_count-lt_year (negsuc a) m d (pos 1970) 1 1 date (omega arith) (omega (arith, signed_arith)) in
-    absurd (omega (arith, day_count-epoch))
-month_of_date (pos y) (pos n) m d date e low =
-    let count : n + 4371953 ≡ day_count (pos y) m d = omega (arith, signed_arith, rw e at (days_from_civil-day_count (pos y) m d)) in
+-- a place in a year from the year 0 on has the number of its month
+month_of_place : (place y m d : ℕ) → IsCivilDate (pos y) m d → place ≡ days_before_year y + (days_of_months (pos y) (m - 1) + (d - 1))
+    → pos (month_number (year_of_day place) (month_in_year (year_of_day place) (place - days_before_year (year_of_day place)))) ≡ pos 12 *ℤ pos y +ℤ pos m
+month_of_place place y m d date at =
     let p = days_of_months (pos y) (m - 1) + (d - 1) in
     let first : 1 ≤ d = date.2.0 in
-    let place : n + 719528 ≡ days_before_year y + p = omega (arith, counted y m d, days_before y) in
     let short : p < 365 + leap_day (pos y) = omega (arith, day_of_year_bound (pos y) m d date, days_in_year-leap_day (pos y)) in
-    let year : year_of_day (n + 719528) ≡ y = year_of y (n + 719528) (omega arith) (omega (arith, next_year y)) in
-    ap pos (number_of (n + 719528) y p m year (omega arith) (month_begun y m d date.1.0 date.1.1 first date.2.1))
+    let year : year_of_day place ≡ y = year_of y place (omega arith) (omega (arith, next_year y)) in
+    ap pos (number_of place y p m year (omega arith) (month_begun y m d date.1.0 date.1.1 first date.2.1))
+
+-- 1 January 1969 is a year before 1 January 1970
+day_count-1969 : day_count (pos 1969) 1 1 ≡ 4371588
+day_count-1969 = omega (arith, day_count-epoch, day_count-next_year (pos 1969) (pos 1970) (omega (arith, signed_arith)) refl)
+
+-- the place of a day shortly before 1970, from the year 0 on
+place_before : (n : ℕ) → n ≤ 29 → at_least_0 (negsuc n +ℤ pos 719528) ≡ 719527 - n
+place_before n le =
+    let there : negsuc n +ℤ pos 719528 ≡ pos (719527 - n) = omega (arith, signed_arith) in ap at_least_0 there
+
+-- a date from the end of 1969 on has the number of its month
+pub month_of_date : (year day : ℤ) (m d : ℕ) → IsCivilDate year m d → days_from_civil year m d ≡ day → FIRST_DAY ≤ℤ day → month_of day ≡ pos 12 *ℤ year +ℤ pos m
+month_of_date (negsuc a) day m d date e low =
+    let count = rw e at (days_from_civil-day_count (negsuc a) m d) in
+    let earlier = day_count-lt_year (negsuc a) m d (pos 1969) 1 1 date (omega arith) (omega (arith, signed_arith)) in
+    absurd (omega (arith, signed_arith, day_count-1969, count))
+month_of_date (pos y) (pos n) m d date e low =
+    let count : n + 4371953 ≡ day_count (pos y) m d = omega (arith, signed_arith, rw e at (days_from_civil-day_count (pos y) m d)) in
+    let first : 1 ≤ d = date.2.0 in
+    month_of_place (n + 719528) y m d date (omega (arith, counted y m d, days_before y))
+month_of_date (pos y) (negsuc n) m d date e low =
+    let few : n ≤ 29 = omega (arith, signed_arith) in
+    let count : 4371953 ≡ suc n + day_count (pos y) m d = omega (arith, signed_arith, rw e at (days_from_civil-day_count (pos y) m d)) in
+    let first : 1 ≤ d = date.2.0 in
+    month_of_place (at_least_0 (negsuc n +ℤ pos 719528)) y m d date (omega (arith, place_before n few, counted y m d, days_before y))
+
+-- the day of a stamp at an offset of two bytes
+day_late : (at : ℕ) (offset : ℤ) → FitsSigned w16 offset → FIRST_DAY ≤ℤ day_at at offset
+day_late at offset fits = omega (arith, signed_arith)
 
 -- a stamp falls in the month of its date
-pub month_of_stamp : (at : ℕ) → HasMonthOfDate at
-month_of_stamp at year month day date e = month_of_date year (day_at at (pos 0)) month day date e (omega (arith, signed_arith))
+pub month_of_stamp : (at : ℕ) (offset : ℤ) → FitsSigned w16 offset → HasMonthOfDate at offset
+month_of_stamp at offset fits year month day date e = month_of_date year (day_at at offset) month day date e (day_late at offset fits)

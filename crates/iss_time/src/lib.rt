@@ -1,4 +1,4 @@
-//! Windows of time: the days, weeks and months over which controls add up, in UTC.
+//! Windows of time: the days, weeks and months over which controls add up, at an offset from UTC.
 //!
 //! It may cite `iss_model` and `jiff`.
 //! It must not cite controls: it knows stamps and windows alone.

@@ -9,39 +9,44 @@ use jiff::civil::Date;
 
 const MILLISECONDS_PER_DAY: i64 = 86_400_000;
 
-/// The day of the greatest stamp, 31 December 9998.
-const LAST_DAY: i64 = 2_932_531;
+const MILLISECONDS_PER_MINUTE: i64 = 60_000;
 
-/// The number of the window of this kind that the stamp falls in, in UTC. A window of one transaction, and a lifetime, have the number 0.
+/// A day after that of the greatest stamp, 31 December 9998, at any offset.
+const LAST_DAY: i64 = 2_932_560;
+
+/// A day before that of the stamp 0 at any offset.
+const FIRST_DAY: i64 = -30;
+
+/// The number of the window of this kind that the stamp falls in, at an offset from UTC in minutes. A window of one transaction, and a lifetime, have the number 0.
 ///
-/// `at` is in milliseconds since 1 January 1970. Days are numbered from that one; weeks begin on Sundays and are numbered from the one that it lies in; months are numbered as 12 times the year, plus the month.
+/// `at` is in milliseconds since 1 January 1970. Days are numbered from that one; weeks begin on Sundays and are numbered from the one that it lies in; months are numbered as 12 times the year, plus the month. Before 1970 the numbers go on downwards.
 #[tactic(auto, using(crate::proofs::Months::month_of_stamp))]
-pub fn window(kind: Window, at: u64) -> i64
+pub fn window(kind: Window, at: u64, offset: i16) -> i64
     requires { IsTrue (is_stamp at) }
-    ensures number { result ≡ window_at kind at (pos 0) }
-    ensures month_of_date { HasMonthOfDate at }
+    ensures number { result ≡ window_at kind at offset }
+    ensures month_of_date { HasMonthOfDate at offset }
 {
     match kind {
         Window::Transaction | Window::Lifetime => 0,
-        Window::Day => day(at),
-        Window::Week => (day(at) + 4).div_euclid(7),
-        Window::Month => month(day(at)),
+        Window::Day => day(at, offset),
+        Window::Week => (day(at, offset) + 4).div_euclid(7),
+        Window::Month => month(day(at, offset)),
     }
 }
 
-/// The number of the stamp's day, from 1 January 1970.
-fn day(at: u64) -> i64
+/// The number of the stamp's day at an offset from UTC, from 1 January 1970.
+fn day(at: u64, offset: i16) -> i64
     requires { IsTrue (is_stamp at) }
-    ensures number { result ≡ day_at at (pos 0) }
-    ensures low { pos 0 ≤ℤ result }
+    ensures number { result ≡ day_at at offset }
+    ensures low { FIRST_DAY ≤ℤ result }
     ensures high { result ≤ℤ LAST_DAY }
 {
-    (at as i64).div_euclid(MILLISECONDS_PER_DAY)
+    (at as i64 + MILLISECONDS_PER_MINUTE * i64::from(offset)).div_euclid(MILLISECONDS_PER_DAY)
 }
 
 /// The number of the month that the day lies in.
 fn month(day: i64) -> i64
-    requires low { pos 0 ≤ℤ day }
+    requires low { FIRST_DAY ≤ℤ day }
     requires high { day ≤ℤ LAST_DAY }
     ensures { result ≡ month_of day }
 {

@@ -19,7 +19,7 @@ use Rattle.iss_model.specs.state.Cores.{ControlKept, control_after_use, control_
 use Rattle.iss_model.proofs.KeptSums.{kept_at-after_change}
 use Rattle.iss_model.proofs.Names.{one_name, its_name}
 use Rattle.iss_velocity.specs.declared.standing.Standing.{Standing}
-use Rattle.iss_velocity.specs.Spanning.{spans_at, number_in, is_single, span_number}
+use Rattle.iss_velocity.specs.Spanning.{number_in, is_single, span_number}
 use Rattle.iss_velocity.specs.Words.{declines_use}
 use Rattle.iss_velocity.specs.Counting.{Users, Past, put_of, counters_at, used_in, used_at, unused, used_more, used_then, counts_in, passes_with}
 use Rattle.iss_velocity.specs.Keeping.{has_no_zero, sums_in, control_at, controls_from, AreKeyed, HaveSmallSums, StaySmall}
@@ -27,8 +27,8 @@ use Rattle.iss_velocity.proofs.Lookups.{get_sums}
 use Rattle.iss_velocity.proofs.SumsKept.{unchanged_sums, changed_sums}
 
 -- a row's span is that of its number
-pub span_is : (control : Control) (w : Window) (row : UsageRow) → span_key control w row ≡ counter_key row.user (number_in (spans_at row.at row.origin) w)
-unfolding spans_at
+pub span_is : (control : Control) (w : Window) (row : UsageRow) → span_key control w row ≡ counter_key row.user (number_in w control.offset row.at row.origin)
+unfolding number_in
 span_is control window.Transaction row = refl
 span_is control window.Day row = refl
 span_is control window.Week row = refl
@@ -79,7 +79,7 @@ mapped_kept : (cs : List ControlKept) → map (λ (c : ControlKept). c) cs ≡ c
 mapped_kept [] = refl
 mapped_kept (c ∷ cs) = ap (λ (ds : List ControlKept). c ∷ ds) (mapped_kept cs)
 
--- the controls stay where nothing was counted
+-- the controls stay if nothing was counted
 pub controls_stay : (users after : Users) (past past' : Past) (ss : List Standing) → AreKeyed users past → AreKeyed after past'
     → ((user : List ℕ) (place : ℕ) (number : ℤ) → has_no_zero user ≡ true → used_at after past' user place number ≡ used_at users past user place number)
     → controls_from after past' 0 ss ≡ controls_from users past 0 ss
@@ -215,7 +215,7 @@ dropped [] i x e = cc
 dropped (y ∷ ys) zero x e = (let one : y ≡ x = cc in ap (λ z. z ∷ ys) one)
 dropped (y ∷ ys) (suc i) x e = dropped ys i x e ∙ (let same : suc (i + 1) ≡ suc i + 1 = omega arith in ap (λ n. x ∷ drop n (y ∷ ys)) same)
 
--- a control that stands declines use as its counter says
+-- a control that stands declines use by its counter
 pub declines_so : (groups : List Group) (row : UsageRow) (first : Bool) (users : Users) (past : Past) (i : ℕ) (s : Standing) → AreKeyed users past → has_no_zero row.user ≡ true
     → declines_use groups row first (control_facts (control_at users past i s))
     ≡ (s.control.active && counts groups (put_of s) row && passes_with s.control (used_at users past row.user i (span_number s row)) row first)
@@ -232,9 +232,9 @@ declines_so groups row first users past i s k plain =
 
 -- what a control has counted of a user in the window of a stamp
 pub used_so : (users : Users) (past : Past) (i : ℕ) (s : Standing) (user : List ℕ) (at : ℕ) (o : Option Used) → AreKeyed users past → has_no_zero user ≡ true
-    → is_single s.control.window ≡ false → o ≡ used_at users past user i (number_in (spans_at at 0) s.control.window)
+    → is_single s.control.window ≡ false → o ≡ used_at users past user i (number_in s.control.window s.control.offset at 0)
     → unwrap_or o unused ≡ used_by (control_facts (control_at users past i s)) s.control.window user at
-unfolding spans_at
+unfolding number_in
 used_so users past i s user at o k plain single e = by s.control.window single e
   where
     sums : (number : ℤ) → o ≡ used_at users past user i number
@@ -246,15 +246,15 @@ used_so users past i s user at o k plain single e = by s.control.window single e
           count = sym (sum_is (λ u. u.count) refl users past k i user number plain) j;
         })
 
-    by : (w : Window) → is_single w ≡ false → o ≡ used_at users past user i (number_in (spans_at at 0) w)
+    by : (w : Window) → is_single w ≡ false → o ≡ used_at users past user i (number_in w s.control.offset at 0)
         → unwrap_or o unused ≡ used_by (control_facts (control_at users past i s)) w user at
     by window.Transaction h f = (let wrong : true ≡ false = h in cc)
-    by window.Day h f = sums (number_in (spans_at at 0) window.Day) f
-    by window.Week h f = sums (number_in (spans_at at 0) window.Week) f
-    by window.Month h f = sums (number_in (spans_at at 0) window.Month) f
-    by window.Lifetime h f = sums (number_in (spans_at at 0) window.Lifetime) f
+    by window.Day h f = sums (number_in window.Day s.control.offset at 0) f
+    by window.Week h f = sums (number_in window.Week s.control.offset at 0) f
+    by window.Month h f = sums (number_in window.Month s.control.offset at 0) f
+    by window.Lifetime h f = sums (number_in window.Lifetime s.control.offset at 0) f
 
--- a control that isn't active, or doesn't count the row, declines nothing; another one where it has counted too much
+-- a control that isn't active, or doesn't count the row, declines nothing; another one declines if it has counted too much
 module _ (groups : List Group) (row : UsageRow) (first : Bool) (users : Users) (past : Past) (i : ℕ) (s : Standing) (k : AreKeyed users past) (plain : has_no_zero row.user ≡ true) where
   pub declines_not : (s.control.active && counts groups (put_of s) row) ≡ false → declines_use groups row first (control_facts (control_at users past i s)) ≡ false
   declines_not h = declines_so groups row first users past i s k plain ∙ neither s.control.active (counts groups (put_of s) row) (passes_with s.control (used_at users past row.user i (span_number s row)) row first) h

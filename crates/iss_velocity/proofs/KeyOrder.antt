@@ -58,18 +58,18 @@ tails (x ∷ u) (y ∷ v) s t p q =
     (tails u v s t (and_parts (nat_lt 0 x) (has_no_zero u) p).1 (and_parts (nat_lt 0 y) (has_no_zero v) q).1)
     ∙ sym (regrouped (nat_cmp x y) (slice_cmp nat_cmp u v) (slice_cmp nat_cmp s t))
 
--- numbers below 0 by how many zeros they begin with
-zeros : (m n : ℕ) → slice_cmp nat_cmp (replicate m 0 ++ 1 ∷ []) (replicate n 0 ++ 1 ∷ []) ≡ nat_cmp n m
-zeros zero zero = refl
-zeros zero (suc n) = sym (zero_above_first n)
+-- numbers below 0 by how many zeros they begin with, and then by what is behind
+zeros : (m n : ℕ) (s t : List ℕ) → slice_cmp nat_cmp (replicate m 0 ++ 1 ∷ s) (replicate n 0 ++ 1 ∷ t) ≡ ordering_then (nat_cmp n m) (slice_cmp nat_cmp s t)
+zeros zero zero s t = refl
+zeros zero (suc n) s t = sym (ap (λ (r : Ordering). ordering_then r (slice_cmp nat_cmp s t)) (zero_above_first n))
   where
     zero_above_first : (n : ℕ) → nat_cmp (suc n) zero ≡ Greater
     zero_above_first n = zero_above (suc n) (grind (arith, nat_tests))
-zeros (suc m) zero = sym (zero_below_next m)
+zeros (suc m) zero s t = sym (ap (λ (r : Ordering). ordering_then r (slice_cmp nat_cmp s t)) (zero_below_next m))
   where
     zero_below_next : (m : ℕ) → nat_cmp zero (suc m) ≡ Less
     zero_below_next m = zero_below (suc m) (grind (arith, nat_tests))
-zeros (suc m) (suc n) = zeros m n ∙ next n m
+zeros (suc m) (suc n) s t = zeros m n s t ∙ ap (λ (r : Ordering). ordering_then r (slice_cmp nat_cmp s t)) (next n m)
   where
     next : (n m : ℕ) → nat_cmp n m ≡ nat_cmp (suc n) (suc m)
     next n m =
@@ -86,11 +86,30 @@ two_tests false false false h = (let wrong : false ≡ true = h refl in cc)
 by_less : (m n : ℕ) → nat_cmp m n ≡ cond (nat_lt m n) Less (cond (nat_lt n m) Greater Equal)
 by_less m n = two_tests (nat_lt m n) (m == n) (nat_lt n m) (λ h. grind (arith, nat_tests))
 
+not_both : (m n : ℕ) → nat_lt m n ≡ true → nat_lt n m ≡ false
+not_both m n h = grind (arith, nat_tests)
+
+first_tells : (less more : Bool) → (less ≡ true → more ≡ false)
+    → ordering_then (cond more Less (cond less Greater Equal)) (cond less Less (cond more Greater Equal)) ≡ cond more Less (cond less Greater Equal)
+first_tells true true h = (let wrong : true ≡ false = h refl in cc)
+first_tells true false h = refl
+first_tells false true h = refl
+first_tells false false h = refl
+
+-- what is behind is equal where the zeros are as many
+settled : (m n : ℕ) → ordering_then (nat_cmp n m) (ordering_then (nat_cmp m n) Equal) ≡ nat_cmp n m
+settled m n =
+    ap (λ (r : Ordering). ordering_then (nat_cmp n m) r) (ended (nat_cmp m n) ∙ by_less m n)
+    ∙ ap (λ (r : Ordering). ordering_then r (cond (nat_lt m n) Less (cond (nat_lt n m) Greater Equal))) (by_less n m)
+    ∙ first_tells (nat_lt m n) (nat_lt n m) (not_both m n) ∙ sym (by_less n m)
+
 pub int_keys : (m n : ℤ) → slice_cmp nat_cmp (int_key m) (int_key n) ≡ int_cmp m n
 int_keys (pos m) (pos n) = ended (nat_cmp m n) ∙ by_less m n
 int_keys (pos m) (negsuc n) = refl
 int_keys (negsuc m) (pos n) = refl
-int_keys (negsuc m) (negsuc n) = zeros (suc m) (suc n) ∙ next_down n m ∙ by_less n m
+int_keys (negsuc m) (negsuc n) =
+    zeros (suc m) (suc n) (0 ∷ m ∷ []) (0 ∷ n ∷ []) ∙ ap (λ (r : Ordering). ordering_then r (slice_cmp nat_cmp (0 ∷ m ∷ []) (0 ∷ n ∷ []))) (next_down n m)
+    ∙ settled m n ∙ by_less n m
   where
     next_down : (n m : ℕ) → nat_cmp (suc n) (suc m) ≡ nat_cmp n m
     next_down n m =
@@ -107,7 +126,7 @@ both_equal Less s = refl
 both_equal Equal s = refl
 both_equal Greater s = refl
 
--- two keys are one where the users and the numbers are
+-- two keys are one if the users and the numbers are
 pub same_key : (u v : List ℕ) (m n : ℤ) → has_no_zero u ≡ true → has_no_zero v ≡ true
     → eq_by_cmp (slice_cmp nat_cmp) (counter_key u m) (counter_key v n) ≡ (bytes_eq u v && int_eq m n)
 same_key u v m n p q =

@@ -8,7 +8,7 @@ ghost use Rattle.iss_velocity.specs.Lists.{rising_from, IsSplit, AreReady};
 ghost use Rattle.iss_velocity.specs.Keeping.{has_no_zero, IsSmallUse, StaySmall, FitsMore, FitMore, StaysSame, IsKeptPast, IsTurned, IsReady, IsCounted};
 
 use crate::past::{Past, past_used};
-use crate::spans::Spans;
+use crate::spans::span_number;
 use crate::standing::Standing;
 use iss_model::{Token, UsageRow, Used};
 use iss_scope::Groups;
@@ -60,7 +60,7 @@ impl Counters {
         &self.list
     }
 
-    /// Adds a row to the counters of the controls that count it. Where allocation fails nothing is counted in another way.
+    /// Adds a row to the counters of the controls that count it. If an allocation fails, nothing is counted in another way.
     pub(crate) fn note(
         &mut self,
         past: &mut Past,
@@ -96,7 +96,7 @@ pub(crate) fn used_by(
     Some(used)
 }
 
-/// What a counter has counted in a span, where that is the one that was noted last.
+/// What a counter has counted in a span, if that is the one that was noted last.
 fn last_used(counter: Option<&Counter>, number: i64) -> Option<Used>
     ensures { result ≡ in_span number (option_copied counter.entry) }
 {
@@ -211,14 +211,13 @@ fn prepare(
     ensures ready { OnOk result (AreReady controls.now groups.now row.now list.old.items past.old list.new.items (length controls.now)) }
     ensures same { StaysSame row.now.user list.old.items past.old list.new.items past.new }
 {
-    let spans = Spans::new(row.at, row.origin);
     let mut next = 0;
     for (place, standing) in controls.iter().enumerate() {
         if !standing.counts(groups, row) {
             next = next_after(list, next, place);
             continue;
         }
-        let number = spans.number(standing.control.window);
+        let number = span_number(&standing.control, row.at, row.origin);
         ready(list, past, next, &row.user, place, number)?;
         next = next_after(list, next, place);
     }
@@ -235,7 +234,7 @@ fn add(list: &mut Vec<Counter>, controls: &[Standing], groups: &Groups, row: &Us
     }
 }
 
-/// A counter with a row, where its control counts the row.
+/// A counter with a row, if its control counts the row.
 fn counted(counter: &Counter, controls: &[Standing], groups: &Groups, row: &UsageRow) -> Counter
     requires { FitsMore controls.now groups.now row.now counter.now }
     ensures { result ≡ counter_then controls.now groups.now row.now counter.now }

@@ -1,47 +1,23 @@
 //! The spans in which controls add up.
 ghost use Rattle.std.specs.Prelude.{◌≡◌, IsTrue};
 ghost use Rattle.iss_model.specs.Forms.{is_stamp};
-ghost use Rattle.iss_velocity.specs.Spanning.{spans_at, number_in, is_single};
+ghost use Rattle.iss_velocity.specs.Spanning.{number_in, is_single};
 
-use iss_model::Window;
+use iss_model::{Control, Window};
 use iss_time::window;
 
-/// The numbers of the spans that a stamp and a transaction fall in, made once for all controls.
-#[derive(Clone, Copy)]
-pub(crate) struct Spans {
-    day: i64,
-    week: i64,
-    month: i64,
-    /// The number of the authorisation's record, which stands for its transaction.
-    origin: i64,
-}
-
-impl Spans {
-    /// The spans of a stamp, in milliseconds since 1970, and of the transaction that a record began.
-    #[tactic(auto, unfolding(crate::specs::Spanning::spans_at))]
-    pub(crate) fn new(at: u64, origin: u32) -> Spans
-        requires { IsTrue (is_stamp at) }
-        ensures { result ≡ spans_at at origin }
-    {
-        Spans {
-            day: window(Window::Day, at),
-            week: window(Window::Week, at),
-            month: window(Window::Month, at),
-            origin: i64::from(origin),
-        }
-    }
-
-    /// The number of the span in which a control of this window adds up.
-    pub(crate) fn number(&self, window: Window) -> i64
-        ensures { result ≡ number_in self.now window }
-    {
-        match window {
-            Window::Transaction => self.origin,
-            Window::Day => self.day,
-            Window::Week => self.week,
-            Window::Month => self.month,
-            Window::Lifetime => 0,
-        }
+/// The number of the span in which a control adds up what a transaction uses at a stamp. The number of the authorisation's record stands for its transaction.
+#[tactic(auto, unfolding(crate::specs::Spanning::number_in))]
+pub(crate) fn span_number(control: &Control, at: u64, origin: u32) -> i64
+    requires { IsTrue (is_stamp at) }
+    ensures { result ≡ number_in control.now.window control.now.offset at origin }
+{
+    match control.window {
+        Window::Transaction => i64::from(origin),
+        Window::Day => window(Window::Day, at, control.offset),
+        Window::Week => window(Window::Week, at, control.offset),
+        Window::Month => window(Window::Month, at, control.offset),
+        Window::Lifetime => 0,
     }
 }
 

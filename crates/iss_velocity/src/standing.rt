@@ -1,4 +1,4 @@
-//! A control that stands, and what it says of a row.
+//! A control that stands, and what it counts of a row.
 ghost use Rattle.std.specs.Prelude.{◌≡◌, ◌&&◌, ◌+ℤ◌, pos};
 ghost use Rattle.std.specs.Str.{bytes_eq};
 ghost use Rattle.iss_model.specs.rules.Controls.{is_associated, counts};
@@ -18,7 +18,7 @@ pub(crate) struct Standing {
     pub(crate) control: Control,
 }
 
-/// At most so much, in minor units, and at most so often.
+/// The most that is allowed: an amount in minor units, and a number of uses.
 #[derive(Clone, Copy)]
 pub(crate) struct Limits {
     pub(crate) amount: Option<u64>,
@@ -85,20 +85,21 @@ impl Standing {
 
     /// Whether another control has all that may not change of this one.
     pub(crate) fn is_fixed_as(&self, other: &Control) -> bool
-        ensures { result ≡ is_same_control self.now.control other.now.currency other.now.window other.now.association other.now.scope }
+        ensures { result ≡ is_same_control self.now.control other.now.currency other.now.window other.now.association other.now.scope other.now.offset }
     {
         is_same_control(&self.control, other)
     }
 }
 
-/// Whether two controls are the same in what may not change: the currency, the window, the association and the scope.
+/// Whether two controls are the same in what may not change: the currency, the window, the association, the scope and the offset.
 pub fn is_same_control(standing: &Control, put: &Control) -> bool
-    ensures { result ≡ is_same_control standing.now put.now.currency put.now.window put.now.association put.now.scope }
+    ensures { result ≡ is_same_control standing.now put.now.currency put.now.window put.now.association put.now.scope put.now.offset }
 {
     standing.currency.number() == put.currency.number()
         && standing.window.number() == put.window.number()
         && is_same_association(&standing.association, &put.association)
         && is_same_scope(&standing.scope, &put.scope)
+        && standing.offset == put.offset
 }
 
 fn is_associated(association: &Association, user: &Token, product: &Token) -> bool
@@ -125,7 +126,7 @@ fn count_with_one(used: &Used) -> i128
     i128::from(used.count) + 1
 }
 
-/// Whether a sum is above a limit, where there is one.
+/// Whether a sum is above a limit, if there is one.
 fn passes(limit: Option<u64>, sum: i128) -> bool
     ensures { result ≡ passes limit sum }
 {

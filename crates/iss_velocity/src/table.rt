@@ -16,15 +16,13 @@ ghost use Rattle.iss_velocity.specs.Keeping.{has_no_zero, used_on, controls_in, 
 use crate::controls::ControlFault;
 use crate::counters::{Counter, Counters, counter_at, find_at, next_after, used_by};
 use crate::past::Past;
-use crate::spans::{Spans, is_single};
+use crate::spans::{is_single, span_number};
 use crate::standing::{Change, Limits, Standing};
+use iss_model::limits::MOST_OF_A_KIND;
 use iss_model::{Control, Token, UsageRow, Used};
 use iss_scope::Groups;
 use std::alloc::{AllocError, Global};
 use std::collections::BTreeMap;
-
-/// The most controls that may stand.
-const MOST: usize = 256;
 
 /// The controls in the order of their first records, the counters of each user, and the spans that have passed.
 #[derive(Drop)]
@@ -63,7 +61,6 @@ impl Table {
         requires keyed { IsTable self.now }
         ensures { result ≡ breach_of groups.now (map control_facts (controls_in self.now)) row.now first }
     {
-        let spans = Spans::new(row.at, row.origin);
         let counters = self.counters_of(&row.user);
         let mut next = 0;
         for (place, standing) in self.controls.iter().enumerate() {
@@ -72,7 +69,7 @@ impl Table {
             if !standing.may_decline(groups, row) {
                 continue;
             }
-            let number = spans.number(standing.control.window);
+            let number = span_number(&standing.control, row.at, row.origin);
             let used = used_by(counter, &self.past, &row.user, place, number);
             if standing.is_over(used, row, first) {
                 return Some(standing.control.name);
@@ -105,11 +102,10 @@ impl Table {
             amount: 0,
             count: 0,
         };
-        let window = standing.control.window;
-        if is_single(window) {
+        if is_single(standing.control.window) {
             return unused;
         }
-        let number = Spans::new(at, 0).number(window);
+        let number = span_number(&standing.control, at, 0);
         let counter = find_at(self.counters_of(user), place);
         used_by(counter, &self.past, user, place, number).unwrap_or(unused)
     }
@@ -156,7 +152,7 @@ impl Table {
     pub(crate) fn is_full(&self) -> bool
         ensures { result ≡ is_full (controls_in self.now) }
     {
-        self.controls.len() >= MOST
+        self.controls.len() >= MOST_OF_A_KIND
     }
 
     /// Adds a control of a new name.
@@ -168,7 +164,7 @@ impl Table {
         ensures refused { OnErr result (controls_in self.new ≡ controls_in self.old) }
         ensures reason { reason_of_result result ≡ put_reason None (controls_in self.old) control.now }
     {
-        if self.controls.len() >= MOST {
+        if self.controls.len() >= MOST_OF_A_KIND {
             return Err(ControlFault::Limit);
         }
         let standing = Standing {

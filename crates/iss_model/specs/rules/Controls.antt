@@ -46,7 +46,7 @@ group_named name groups = find (λ group. bytes_eq group.name name) groups
 
 -- the control that an input sets
 abbrev pub control_of : Input → Option Control
-control_of (input.Control token control currency window amount_limit usage_limit association scope active) =
+control_of (input.Control token control currency window amount_limit usage_limit association scope offset active) =
     Some (record {
       name = control;
       currency = currency;
@@ -55,6 +55,7 @@ control_of (input.Control token control currency window amount_limit usage_limit
       usage_limit = usage_limit;
       association = association;
       scope = scope;
+      offset = offset;
       active = active;
     })
 control_of _ = None
@@ -148,10 +149,6 @@ counts groups put row =
     && is_associated put.control.association row.user row.product
     && covers groups put.control.scope row.mcc row.mid
 
--- the offset of a control's windows from UTC, in minutes
-abbrev pub control_offset : Control → ℤ
-control_offset control = pos 0
-
 -- a user with the number of a window or of a record: keys sort by the bytes of the user's token, then by the number
 abbrev pub counter_key : List ℕ → ℤ → List ℕ
 counter_key user number = user ++ 0 ∷ int_key number
@@ -163,12 +160,12 @@ window_key window offset user at = counter_key user (window_at window at offset)
 -- what a control adds up use over: a user's window, or one transaction, known by the number of its authorisation's record
 abbrev pub span_key : Control → Window → UsageRow → List ℕ
 span_key control window.Transaction row = counter_key row.user (pos row.origin)
-span_key control window.Day row = window_key window.Day (control_offset control) row.user row.at
-span_key control window.Week row = window_key window.Week (control_offset control) row.user row.at
-span_key control window.Month row = window_key window.Month (control_offset control) row.user row.at
-span_key control window.Lifetime row = window_key window.Lifetime (control_offset control) row.user row.at
+span_key control window.Day row = window_key window.Day control.offset row.user row.at
+span_key control window.Week row = window_key window.Week control.offset row.user row.at
+span_key control window.Month row = window_key window.Month control.offset row.user row.at
+span_key control window.Lifetime row = window_key window.Lifetime control.offset row.user row.at
 
--- a usage row changes what a control has counted in the row's span, where the control counts it
+-- a usage row changes what a control has counted in the row's span, if the control counts it
 abbrev pub counted_changes : (UsageRow → ℤ) → List Group → ControlPut → Entry → List Change
 counted_changes worth groups put (entry.Usage row) =
     if counts groups put row then record { key = span_key put.control put.control.window row; by = worth row } ∷ [] else []

@@ -8,7 +8,7 @@ use Rattle.iss_model.specs.rules.Activity.{CallNow, TxnNow, is_asked}
 use Rattle.iss_model.specs.rules.Acts.{expired, Act, Tells, entries_of_acts}
 use Rattle.iss_model.specs.rules.CardActs.{acts_for_gateway, acts_where, end_acts, failed_acts, acts_of_asked}
 use Rattle.iss_model.specs.rules.Facts.{Facts, txn_in, call_in, next_notice}
-use Rattle.iss_model.specs.rules.Pieces.{parts_held, in_all, notice_after_abandonment}
+use Rattle.iss_model.specs.rules.Pieces.{Parts, parts_held, in_all, notice_after_abandonment}
 
 -- what is due, by name: a call's number, or a transaction's token
 pub data DueThing : Type 0 where
@@ -53,12 +53,15 @@ abbrev pub is_quiet : List DueItem → Bool
 is_quiet [] = true
 is_quiet (item ∷ items) = false
 
--- a transaction expires
-abbrev pub expiry_acts : Facts → Txn → List Act
-expiry_acts f t =
-    let parts = parts_held f t in
+-- a transaction that holds these parts expires
+abbrev pub expired_acts : Facts → Txn → Parts → List Act
+expired_acts f t parts =
     end_acts (next_notice f) f t parts reason.Expired
     ++ acts_for_gateway t (acts_where (in_all parts) (Tells (notice_after_abandonment (next_notice f) f t) expired t (in_all parts) parts.g ∷ []))
+
+-- a transaction expires
+abbrev pub expiry_acts : Facts → Txn → List Act
+expiry_acts f t = expired_acts f t (parts_held f t)
 
 -- an expiry, if the transaction is live
 abbrev pub live_expiry_acts : Facts → Option TxnNow → List Act

@@ -1,6 +1,8 @@
 -- Why a setting or a load is declined: the first of its reasons that holds.
-use Rattle.std.specs.Prelude.{ℕ, Bool, false, not, ◌&&◌, ◌==◌, nat_le, List, [], ◌∷◌, length, Option, Some, None, is_some, is_none, if◌then◌else◌}
+use Rattle.std.specs.Prelude.{ℕ, ℤ, Bool, false, not, ◌&&◌, ◌==◌, nat_le, List, [], ◌∷◌, length, Option, Some, None, is_some, is_none, if◌then◌else◌}
 use Rattle.std.specs.Str.{bytes_eq}
+use Rattle.std.specs.Ordering.{int_eq}
+use Rattle.iss_model.specs.declared.limits.TheConstants.{MOST_OF_A_KIND}
 use Rattle.iss_model.specs.declared.currency.Currency.{Currency}
 use Rattle.iss_model.specs.declared.setting.CardState.{CardState}
 use Rattle.iss_model.specs.declared.setting.UserState.{UserState}
@@ -33,13 +35,9 @@ abbrev pub is_some_with : {A : Type 0} → (A → Bool) → Option A → Bool
 is_some_with test None = false
 is_some_with test (Some x) = test x
 
--- there may be so many products with the built-in one, so many groups, controls and sets
-abbrev pub most_things : ℕ
-most_things = 256
-
 -- there are as many as there may be
 abbrev pub is_full : {A : Type 0} → List A → Bool
-is_full xs = nat_le most_things (length xs)
+is_full xs = nat_le MOST_OF_A_KIND (length xs)
 
 -- the user is in a state of which the test holds
 abbrev pub user_is : (UserState → Bool) → Facts → List ℕ → Bool
@@ -94,13 +92,14 @@ group_reason f group =
     ∷ []
     )
 
--- what a control that stands may not change: its currency, window, association and scope
-abbrev pub is_same_control : Control → Currency → Window → Association → Scope → Bool
-is_same_control c currency window association scope =
+-- what a control that stands may not change: its currency, window, association, scope and offset
+abbrev pub is_same_control : Control → Currency → Window → Association → Scope → ℤ → Bool
+is_same_control c currency window association scope offset =
     same_currency c.currency currency
     && window_number c.window == window_number window
     && bytes_eq (association_contents c.association) (association_contents association)
     && bytes_eq (scope_contents c.scope) (scope_contents scope)
+    && int_eq c.offset offset
 
 -- an association names a user that isn't known
 abbrev pub lacks_user : Facts → Association → Bool
@@ -122,10 +121,10 @@ lacks_group f (scope.Group group) = is_none (group_named group f.groups)
 lacks_group f (scope.Mid mid) = false
 
 -- a control that stands keeps all but its limits and its activity; a new one names what is known, and fits in
-abbrev pub put_control_reason : Option ControlNow → Facts → Currency → Window → Association → Scope → Option Reason
-put_control_reason (Some c) f currency window association scope =
-    first_reason ((not (is_same_control c.control currency window association scope), reason.ControlFixed) ∷ [])
-put_control_reason None f currency window association scope =
+abbrev pub put_control_reason : Option ControlNow → Facts → Currency → Window → Association → Scope → ℤ → Option Reason
+put_control_reason (Some c) f currency window association scope offset =
+    first_reason ((not (is_same_control c.control currency window association scope offset), reason.ControlFixed) ∷ [])
+put_control_reason None f currency window association scope offset =
     first_reason (
     (lacks_user f association, reason.UserUnknown)
     ∷ (lacks_product f association, reason.ProductUnknown)
@@ -135,9 +134,9 @@ put_control_reason None f currency window association scope =
     )
 
 -- why a control is declined
-abbrev pub control_reason : Facts → List ℕ → Currency → Window → Association → Scope → Option Reason
-control_reason f control currency window association scope =
-    put_control_reason (control_named control f.controls) f currency window association scope
+abbrev pub control_reason : Facts → List ℕ → Currency → Window → Association → Scope → ℤ → Option Reason
+control_reason f control currency window association scope offset =
+    put_control_reason (control_named control f.controls) f currency window association scope offset
 
 -- a set that stands keeps its product and its currency; a new one is of a known product, in its currency, and fits in
 abbrev pub put_set_reason : Option Set → Facts → List ℕ → Currency → Option Reason

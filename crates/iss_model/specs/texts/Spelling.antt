@@ -1,7 +1,8 @@
 -- The bytes of a record: its kind, its stamp, and its fields in a row. All numbers are big-endian.
 -- How a token is spelled is a parameter of what holds tokens, so that a table can stand in for their texts.
-use Rattle.std.specs.Prelude.{ℕ, Bool, ◌&&◌, List, [], ◌∷◌, ◌++◌, length, get_or, ◌<◌, Option, Some, None}
-use Rattle.std.specs.Int.{bytes_high_first}
+use Rattle.std.specs.Prelude.{ℕ, ℤ, pos, Bool, ◌&&◌, List, [], ◌∷◌, ◌++◌, length, get_or, ◌<◌, Option, Some, None, if◌then◌else◌}
+use Rattle.std.specs.Int.{w16, bytes_high_first, cast_unsigned}
+use Rattle.std.specs.Ordering.{int_eq}
 use Rattle.std.specs.List.{list_all, flat_map}
 use Rattle.iss_model.specs.declared.currency.Currency.{Currency}
 use Rattle.iss_model.specs.declared.setting.Moved.{Moved}
@@ -47,18 +48,26 @@ limit_bytes width (Some limit) = 1 ∷ number_bytes width limit
 abbrev pub limits_bytes : Option ℕ → Option ℕ → List ℕ
 limits_bytes amount_limit usage_limit = limit_bytes 8 amount_limit ++ limit_bytes 4 usage_limit
 
+-- the clock of a control is that of UTC
+abbrev pub is_utc : ℤ → Bool
+is_utc offset = int_eq offset (pos 0)
+
+-- nothing for UTC, and else the offset in two bytes, as a number in two's complement
+abbrev pub offset_bytes : ℤ → List ℕ
+offset_bytes offset = if is_utc offset then [] else number_bytes 2 (cast_unsigned w16 offset)
+
 -- the codes of a group, after their count
 abbrev pub mccs_bytes : List ℕ → List ℕ
 mccs_bytes mccs = number_bytes 2 (length mccs) ++ flat_map mcc_bytes mccs
 
--- the kind of an input
+-- the kind of an input; a control whose clock isn't that of UTC is of a kind of its own
 abbrev pub kind_number : Input → ℕ
 kind_number (input.User token user) = 1
 kind_number (input.Card token card user product active) = 2
 kind_number (input.Move token who) = 3
 kind_number (input.Product token product currency funding timeout_ms hold_ms) = 4
 kind_number (input.Group token group mccs) = 5
-kind_number (input.Control token control currency window amount_limit usage_limit association scope active) = 6
+kind_number (input.Control token control currency window amount_limit usage_limit association scope offset active) = if is_utc offset then 6 else 18
 kind_number (input.Set token set product currency connection timeout application max day_limit active) = 7
 kind_number (input.Switch token product on) = 8
 kind_number (input.Load token user currency amount) = 9
@@ -94,9 +103,9 @@ module _ (token_bytes : List ℕ → List ℕ) where
       token_bytes token ++ token_bytes product ++ currency_bytes currency ++ (funding_number funding ∷ []) ++ number_bytes 4 timeout_ms
       ++ number_bytes 4 hold_ms
   spelled_fields (input.Group token group mccs) = token_bytes token ++ token_bytes group ++ mccs_bytes mccs
-  spelled_fields (input.Control token control currency window amount_limit usage_limit association scope active) =
+  spelled_fields (input.Control token control currency window amount_limit usage_limit association scope offset active) =
       token_bytes token ++ token_bytes control ++ currency_bytes currency ++ (window_number window ∷ []) ++ limits_bytes amount_limit usage_limit
-      ++ spelled_association token_bytes association ++ spelled_scope scope ++ flag_contents active
+      ++ spelled_association token_bytes association ++ spelled_scope scope ++ flag_contents active ++ offset_bytes offset
   spelled_fields (input.Set token set product currency connection timeout application max day_limit active) =
       token_bytes token ++ token_bytes set ++ token_bytes product ++ currency_bytes currency ++ flag_contents connection ++ flag_contents timeout ++ flag_contents application
       ++ amount_bytes max ++ amount_bytes day_limit ++ flag_contents active
@@ -161,7 +170,7 @@ tokens_of (input.Card token card user product active) = token ∷ card ∷ user 
 tokens_of (input.Move token who) = token ∷ moved_token who ∷ []
 tokens_of (input.Product token product currency funding timeout_ms hold_ms) = token ∷ product ∷ []
 tokens_of (input.Group token group mccs) = token ∷ group ∷ []
-tokens_of (input.Control token control currency window amount_limit usage_limit association scope active) =
+tokens_of (input.Control token control currency window amount_limit usage_limit association scope offset active) =
     token ∷ control ∷ association_tokens association ++ scope_tokens scope
 tokens_of (input.Set token set product currency connection timeout application max day_limit active) = token ∷ set ∷ product ∷ []
 tokens_of (input.Switch token product on) = token ∷ product ∷ []

@@ -186,9 +186,9 @@ same_sums m u s t balances held parts sums stood controls h =
 setting_within : (m u : ℕ) (s : CoreState) (i : Input) → SumsAreWithin m u s → SumsAreWithin (m + 0) (u + 0) (after_setting s i)
 setting_within m u s (input.Move token (moved.Card card to)) h = same_sums m u s _ refl refl refl refl refl h.controls h
 setting_within m u s (input.Move token (moved.User user to)) h = same_sums m u s _ refl refl refl refl refl h.controls h
-setting_within m u s (input.Control token control currency window amount_limit usage_limit association scope active) h =
+setting_within m u s (input.Control token control currency window amount_limit usage_limit association scope offset active) h =
     same_sums m u s _ refl refl refl refl refl
-    (made_counted u s.controls (control_put s.count (entry.Conf (input.Control token control currency window amount_limit usage_limit association scope active))) h.controls) h
+    (made_counted u s.controls (control_put s.count (entry.Conf (input.Control token control currency window amount_limit usage_limit association scope offset active))) h.controls) h
 setting_within m u s _ h = same_sums m u s _ refl refl refl refl refl h.controls h
 
 -- an entry takes the sums of money and of use as far as it moves them

@@ -1,8 +1,7 @@
 use Rattle.std.proofs.Common.{◌≡◌, ◌+◌, ◌<◌, ℤ, List, length, sym, ap, ◌∙◌, subst, arith, rules, FitsSigned, w64, to_z, of_z}
 use Rattle.std.proofs.lemmas.Int.{to_z-of_z}
 use Rattle.iss_velocity.specs.declared.counters.Counter.{Counter}
-use Rattle.iss_velocity.specs.declared.spans.Spans.{Spans}
-use Rattle.iss_velocity.specs.Spanning.{number_in, span_number}
+use Rattle.iss_velocity.specs.Spanning.{span_number}
 use Rattle.iss_velocity.specs.Lists.{IsSplit}
 use Rattle.iss_velocity.specs.Keeping.{IsReady}
 use Rattle.iss_velocity.proofs.Walks.{there_is, still_rising}
@@ -32,9 +31,9 @@ returns-in_err-ready-clause-same c =
 pub loop-place-preserved : goal.loop-place-preserved
 loop-place-preserved c =
     let below : c.loop-place.place < length c.args.controls.now = omega arith in
-    let fits : FitsSigned w64 c.number-number.result = search rules in
-    let number : to_z w64 (of_z w64 c.number-number.result) ≡ span_number c.index-controls-place.result c.args.row.now =
-    to_z-of_z w64 c.number-number.result fits ∙ c.number-number.ensures ∙ ap (λ (s : Spans). number_in s c.index-controls-place.result.control.window) c.new-spans.ensures in (
+    let fits : FitsSigned w64 c.span_number-number.result = search rules in
+    let number : to_z w64 (of_z w64 c.span_number-number.result) ≡ span_number c.index-controls-place.result c.args.row.now =
+    to_z-of_z w64 c.span_number-number.result fits ∙ c.span_number-number.ensures in (
       subst (λ (xs : List Counter). IsSplit xs c.next_after-next-in-loop-place.result (c.loop-place.place + 1)) c.deref-in-loop-place.ensures.value c.next_after-next-in-loop-place.ensures,
       (
         stays_then c.args.row.now.user c.args.list.now.items c.loop-place.list.items c.ready.new.list.items c.args.past.now c.loop-place.past c.ready.new.past
