@@ -59,7 +59,7 @@ abbrev pub JudgesOnce : {E F : Type 0} → (E → Option World) → (E → Optio
 JudgesOnce told heard a b store before after queued result =
     (rest : List Queued)
     → ServesTo told heard a b (judging_first store before queued rest) result
-      (λ x. to_judge x.0 (now_of after) (judged_again x.1 (queued_as queued) rest))
+    (λ x. to_judge x.0 (now_of after) (judged_again x.1 (queued_as queued) rest))
 
 -- If the call succeeded, this plan of the input was kept. After a time record the input is to be judged again, and then the others,
 -- whichever they are.
@@ -68,7 +68,7 @@ abbrev pub KeepsPlan : {E F : Type 0} → (E → Option World) → (E → Option
 KeepsPlan told heard a b store planned before after queued result =
     (rest : List Queued)
     → ServesTo told heard a b (judging_first store before queued rest) result
-      (λ next. to_judge next (now_of after) (judged_again planned.is_clock (queued_as queued) rest))
+    (λ next. to_judge next (now_of after) (judged_again planned.is_clock (queued_as queued) rest))
 
 -- If the call failed, judging this input went on in part, whichever others are to be judged then.
 abbrev pub JudgesPart : {E T : Type 0} → (E → Option World) → (E → Option (List Answered)) → E → E → StoreNow → Held → code.Queued → Result T ServeFault → Type 0

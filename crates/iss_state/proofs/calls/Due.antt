@@ -128,9 +128,9 @@ thing_enters_by known s (call_due number) at well =
 thing_enters_by known s (txn_due token) at well =
     if_expired (λ acts. Enters known (docket_of s) None (docketed_by acts)) s token (λ none. enters_none known (docket_of s))
     (λ t stands live.
-        subst (Enters known (docket_of s) None) (sym (expiry_docketed (core_facts s) t.txn))
-        (abandoned_then known reason.Expired (docket_of s) t.txn.token None (entry.Ended t.txn.token ∷ []) well (found_live s.holdings.txns token t stands live)
-        (λ q may new. enters_ended known q t.txn.token may)))
+    subst (Enters known (docket_of s) None) (sym (expiry_docketed (core_facts s) t.txn))
+    (abandoned_then known reason.Expired (docket_of s) t.txn.token None (entry.Ended t.txn.token ∷ []) well (found_live s.holdings.txns token t stands live)
+    (λ q may new. enters_ended known q t.txn.token may)))
 
 pub thing_enters : (known : Known) (s : CoreState) (thing : DueThing) (at : ℕ) → IsWellAmong known (docket_of s)
     → Enters known (docket_of s) None (thing_entries thing at (core_facts s))

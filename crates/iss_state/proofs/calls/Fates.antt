@@ -164,7 +164,7 @@ expired_fate known s n c t well asked =
     let cs : List CallNow = asked_in s.calls t.token in
     let after = opened_alike reason.Expired cs docket n c asked.stands in
     let calls = ap (λ (es : List Entry). (fold docket_after docket es).calls) (expiry_docketed (core_facts s) t)
-        ∙ ap (λ (docket : Docket). docket.calls) (fold-append docket_after docket (closings reason.Expired cs) (entry.Ended t.token ∷ [])) in
+    ∙ ap (λ (docket : Docket). docket.calls) (fold-append docket_after docket (closings reason.Expired cs) (entry.Ended t.token ∷ [])) in
     record {
       now = after.0;
       stands = ap (call_numbered n) calls ∙ after.1;
@@ -185,8 +185,8 @@ acts_fate known s at n c (txn_due token) well asked =
     (λ dead. left_alone s n c (bytes_eq token c.opened.txn) asked.stands
     (λ hit. not_both (has_live s.holdings.txns token) (ap (has_live s.holdings.txns) (one_name token c.opened.txn hit) ∙ well.live n c asked) dead))
     (λ t stands live.
-        subst (λ (k : List ℕ). FateBy s n c (bytes_eq k c.opened.txn) (expiry_acts (core_facts s) t.txn)) (its_token s.holdings.txns token t stands)
-        (expired_fate known s n c t.txn well asked))
+    subst (λ (k : List ℕ). FateBy s n c (bytes_eq k c.opened.txn) (expiry_acts (core_facts s) t.txn)) (its_token s.holdings.txns token t stands)
+    (expired_fate known s n c t.txn well asked))
 
 pub thing_fate : (known : Known) (s : CoreState) (at n : ℕ) (c : CallNow) (thing : DueThing) → IsWellAmong known (docket_of s) → IsAsked s.calls n c
     → Fate (fold after_entry s (thing_entries thing at (core_facts s))).calls n c (hits n c.opened.txn thing)
@@ -203,8 +203,8 @@ sweep_fate known at n c g (item ∷ items) well asked =
     by (hits n c.opened.txn item.thing) (thing_fate known s at n c item.thing well asked)
     (λ still. sweep_fate known at n c (settle core_keeper at g item) items (thing_well known s item.thing at well) still)
     (λ now stands closed.
-        settled_stays (λ s. call_numbered n s.calls ≡ Some now) at (λ s thing h. entries_leave_closed s (thing_entries thing at (core_facts s)) n now h closed)
-        (settle core_keeper at g item) items stands)
+    settled_stays (λ s. call_numbered n s.calls ≡ Some now) at (λ s thing h. entries_leave_closed s (thing_entries thing at (core_facts s)) n now h closed)
+    (settle core_keeper at g item) items stands)
   where
     by : (b : Bool) → Fate (settle core_keeper at g item).world.calls n c b
         → (IsAsked (settle core_keeper at g item).world.calls n c → Fate (fold (settle core_keeper at) (settle core_keeper at g item) items).world.calls n c (list_any (λ i. hits n c.opened.txn i.thing) items))

@@ -136,8 +136,8 @@ account_after_due : (s : CoreState) (i : Input) (at : ℕ) (event : List ℕ) �
 account_after_due s i at event ready accounted =
     (due_stays (λ s. HasTakenUp s i × IsAccounted (docket_of s) event) at
     (λ s thing h. (
-        ready_settled s i thing at h.0,
-        subst (λ (d : Docket). IsAccounted d event) (sym (entries_docket s (thing_entries thing at (core_facts s)))) ((thing_enters h.0.before s thing at h.0.well).keeps event h.1)
+      ready_settled s i thing at h.0,
+      subst (λ (d : Docket). IsAccounted d event) (sym (entries_docket s (thing_entries thing at (core_facts s)))) ((thing_enters h.0.before s thing at h.0.well).keeps event h.1),
     )) s (ready, accounted)).1
 
 -- a step ----
