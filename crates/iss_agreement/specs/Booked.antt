@@ -1,5 +1,5 @@
 -- The sums of a book, as a further record changes them and as a core keeps them.
-use Rattle.std.specs.Prelude.{◌≡◌, ℕ, ℤ, List}
+use Rattle.std.specs.Prelude.{◌≡◌, ℕ, ℤ, ◌+ℤ◌, List}
 use Rattle.iss_model.specs.declared.account.Account.{Account}
 use Rattle.iss_model.specs.declared.account.Part.{Part}
 use Rattle.iss_model.specs.declared.currency.Currency.{Currency}
@@ -26,9 +26,13 @@ record_sum changes key rs r = sum_among changes key (book_entries rs r)
 abbrev pub book_balance : List Record → Account → ℤ
 book_balance rs a = balance_in (book_facts rs) a
 
--- what a further record posts to an account, less what it posts from it
-abbrev pub posted_to : List Record → Record → Account → ℤ
-posted_to rs r a = record_sum balance_changes (account_key a) rs r
+-- an account's balance by that book, with what a further record posts to the account, less what it posts from it
+abbrev pub balance_with : List Record → Record → Account → ℤ
+balance_with rs r a = book_balance rs a +ℤ record_sum balance_changes (account_key a) rs r
+
+-- what is held in a part of a transaction by that book
+abbrev pub book_part : List Record → List ℕ → Part → ℤ
+book_part rs txn p = (book_facts rs).parts (part_key txn p)
 
 -- the changes of the amounts that a control counts, by the groups of a book
 abbrev pub amounts_counted : List Record → ControlPut → Entry → List Change

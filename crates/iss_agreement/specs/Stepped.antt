@@ -1,5 +1,5 @@
 -- What a further record makes of the state and of the book, and how both judge an input.
-use Rattle.std.specs.Prelude.{◌≡◌, ℕ, List, fold, nat_le, Bool, length}
+use Rattle.std.specs.Prelude.{◌≡◌, ℕ, List, fold, nat_le, ◌||◌, Bool, length}
 use Rattle.iss_model.specs.declared.decision.Judged.{Judged}
 use Rattle.iss_model.specs.declared.decision.Judged.TheVariants as judged
 use Rattle.iss_model.specs.declared.entry.Entry.{Entry}
@@ -30,9 +30,13 @@ kept_facts rs = core_facts (core_of rs)
 abbrev pub core_judges : CoreState → Input → ℕ → Judged
 core_judges c i stamp = judge core_keeper c i stamp
 
--- a record is new to a state: its input, judged at its stamp, makes that record
-abbrev pub IsNewToCore : CoreState → Record → Type 0
-IsNewToCore c r = core_judges c r.input r.at ≡ judged.New r
+-- what the state that records make gives for an input at a stamp
+abbrev pub core_gives : List Record → Input → ℕ → Judged
+core_gives rs i stamp = core_judges (core_of rs) i stamp
+
+-- that state takes a record as new: its input, judged at its stamp, gives that record
+abbrev pub CoreTakes : List Record → Record → Type 0
+CoreTakes rs r = core_gives rs r.input r.at ≡ judged.New r
 
 -- the rows of the book of these records
 abbrev pub book_rows : List Record → List Row
@@ -42,17 +46,17 @@ book_rows rs = (history_of rs).rows
 abbrev pub book_entries : List Record → Record → List Entry
 book_entries rs r = (step history_keeper (history_of rs) r).entries
 
--- how the book of these records judges an input at a stamp
-abbrev pub book_judges : List Record → Input → ℕ → Judged
-book_judges rs i stamp = judge history_keeper (history_of rs) i stamp
+-- what the book of these records gives for an input at a stamp
+abbrev pub book_gives : List Record → Input → ℕ → Judged
+book_gives rs i stamp = judge history_keeper (history_of rs) i stamp
 
--- a record is new to the book of these: its input, judged at its stamp, makes that record
-abbrev pub IsNewToBook : List Record → Record → Type 0
-IsNewToBook rs r = book_judges rs r.input r.at ≡ judged.New r
+-- that book takes a record as new: its input, judged at its stamp, gives that record
+abbrev pub BookTakes : List Record → Record → Type 0
+BookTakes rs r = book_gives rs r.input r.at ≡ judged.New r
 
 -- the history when these records, too, have made their entries
-abbrev pub history_with : History → List Record → History
-history_with h rs = fold (λ h r. (step history_keeper h r).world) h rs
+abbrev pub grown_by : List Record → History → History
+grown_by rs h = fold (λ h r. (step history_keeper h r).world) h rs
 
 -- the records that stand in a run
 abbrev pub records_in : Run → List Record
@@ -62,10 +66,6 @@ records_in s = s.history.records
 abbrev pub level_of : Run → ℕ
 level_of s = length s.history.records
 
--- a record fits after these, with no turn
-abbrev pub fits_now : Room → List Record → Record → Bool
-fits_now room rs r = nat_le (need_of r) (free_in room rs)
-
--- a record fits after these, if a turn comes first
-abbrev pub fits_after_turn : Room → List Record → Record → Bool
-fits_after_turn room rs r = nat_le (need_of r) (free_turned room rs)
+-- a record fits the current half, or the other one if a turn comes first
+abbrev pub fits_a_half : Room → List Record → Record → Bool
+fits_a_half room rs r = nat_le (need_of r) (free_in room rs) || nat_le (need_of r) (free_turned room rs)

@@ -10,7 +10,7 @@ ghost use Rattle.iss_model.specs.declared.entry.Entry.{Entry};
 ghost use Rattle.iss_model.specs.declared.decision.Judged.TheVariants.{New, Clock};
 ghost use Rattle.iss_model.specs.declared.input.Input.{Input};
 ghost use Rattle.iss_model.specs.declared.input.Record.{Record};
-ghost use Rattle.iss_model.specs.Sums.{Change, account_key, part_key};
+ghost use Rattle.iss_model.specs.Sums.{Change, account_key};
 ghost use Rattle.iss_model.specs.state.Kept.{kept_at};
 ghost use Rattle.iss_model.specs.rules.Settings.{users_of, cards_of};
 ghost use Rattle.iss_model.specs.rules.Controls.{ControlPut, groups_of, controls_of, sets_of};
@@ -23,8 +23,8 @@ ghost use Rattle.iss_model.specs.state.Cores.{CoreState, no_core, control_facts,
 ghost use Rattle.iss_model.specs.run.Transcripts.{Reading, transcript};
 ghost use Rattle.iss_agreement.specs.Shown.{shown_products, shown_state};
 ghost use Rattle.iss_agreement.specs.Likeness.{AreAlike};
-ghost use Rattle.iss_agreement.specs.Stepped.{IsNewToBook, IsNewToCore, book_entries, book_judges, book_rows, core_after, core_entries, core_judges, kept_facts};
-ghost use Rattle.iss_agreement.specs.Booked.{CountsSinceFirst, amounts_counted, book_balance, book_sum, kept_balance, kept_held, kept_part, kept_stood, posted_to, record_sum, times_counted};
+ghost use Rattle.iss_agreement.specs.Stepped.{BookTakes, CoreTakes, book_entries, book_gives, book_rows, core_after, core_entries, core_gives, core_judges, kept_facts};
+ghost use Rattle.iss_agreement.specs.Booked.{CountsSinceFirst, amounts_counted, balance_with, book_balance, book_part, book_sum, kept_balance, kept_held, kept_part, kept_stood, record_sum, times_counted};
 
 /// The state that is kept entry by entry is the one that the book shows by filters and sums over all its rows.
 /// Book and state tell the same facts, so a further record makes the same entries on both, and both judge an input alike.
@@ -34,7 +34,7 @@ pub fn core_keeps_the_book()
     ensures longer { (rs : List Record) → (r : Record) → core_after (core_of rs) r ≡ core_of (rs ++ r ∷ []) }
     ensures facts { (rs : List Record) → kept_facts rs ≡ book_facts rs }
     ensures entries { (rs : List Record) → (r : Record) → core_entries (core_of rs) r ≡ book_entries rs r }
-    ensures judged { (rs : List Record) → (i : Input) → (stamp : ℕ) → core_judges (core_of rs) i stamp ≡ book_judges rs i stamp }
+    ensures judged { (rs : List Record) → (i : Input) → (stamp : ℕ) → core_gives rs i stamp ≡ book_gives rs i stamp }
 {}
 
 /// Cores that are alike tell the same facts. So a record makes the same entries on both and leaves them alike, and both judge
@@ -68,7 +68,7 @@ pub fn records_add_to_sums()
     ensures sums { (changes : Entry → List Change) (key : List ℕ) (rs : List Record) (r : Record)
         → book_sum changes key (rs ++ r ∷ []) ≡ book_sum changes key rs +ℤ record_sum changes key rs r }
     ensures balance { (a : Account) (rs : List Record) (r : Record)
-        → book_balance (rs ++ r ∷ []) a ≡ book_balance rs a +ℤ posted_to rs r a }
+        → book_balance (rs ++ r ∷ []) a ≡ balance_with rs r a }
 {}
 
 /// What a core answers to each question is what its book answers: each list by filters, each sum over all rows.
@@ -91,7 +91,7 @@ pub fn core_answers_as_its_book()
         → finite.keys (core_of rs).balances ≡ map account_key (accounts_of (history_of rs).rows) }
     ensures held { (rs : List Record) (user : List ℕ) (currency : Currency)
         → kept_held (core_of rs) user currency ≡ held_in (book_facts rs) user currency }
-    ensures part { (rs : List Record) (txn : List ℕ) (p : Part) → kept_part (core_of rs) txn p ≡ (book_facts rs).parts (part_key txn p) }
+    ensures part { (rs : List Record) (txn : List ℕ) (p : Part) → kept_part (core_of rs) txn p ≡ book_part rs txn p }
     ensures cleared { (rs : List Record) → (txn : List ℕ)
         → kept_at (core_of rs).txn_sums.cleared txn ≡ (book_facts rs).cleared txn }
     ensures refunded { (rs : List Record) (txn : List ℕ) → kept_at (core_of rs).txn_sums.refunded txn ≡ (book_facts rs).refunded txn }
@@ -108,11 +108,11 @@ pub fn core_answers_as_its_book()
 /// A record that judging returns, of the input itself or of the time before its answer, is new if it is judged again,
 /// by the book as by the state.
 pub fn judging_is_stable()
-    ensures book { (rs : List Record) (i : Input) (stamp : ℕ) (r : Record) → book_judges rs i stamp ≡ New r → IsNewToBook rs r }
+    ensures book { (rs : List Record) (i : Input) (stamp : ℕ) (r : Record) → book_gives rs i stamp ≡ New r → BookTakes rs r }
     ensures book_clock { (rs : List Record) (i : Input) (stamp : ℕ) (r : Record)
-        → book_judges rs i stamp ≡ Clock r → IsNewToBook rs r }
+        → book_gives rs i stamp ≡ Clock r → BookTakes rs r }
     ensures state { (rs : List Record) (i : Input) (stamp : ℕ) (r : Record)
-        → core_judges (core_of rs) i stamp ≡ New r → IsNewToCore (core_of rs) r }
+        → core_gives rs i stamp ≡ New r → CoreTakes rs r }
     ensures state_clock { (rs : List Record) (i : Input) (stamp : ℕ) (r : Record)
-        → core_judges (core_of rs) i stamp ≡ Clock r → IsNewToCore (core_of rs) r }
+        → core_gives rs i stamp ≡ Clock r → CoreTakes rs r }
 {}

@@ -145,6 +145,11 @@ drill_of_three =
       repeats = 0;
     }
 
+-- and their line
+abbrev pub line_of_three : List ℕ
+line_of_three =
+    report_line "{\"approved\":1,\"declined\":2,\"gateway\":\"-1.14\",\"held\":\"1.14\",\"lines\":27,\"network\":\"0.00\",\"notices\":0,\"programme\":\"0.00\",\"records\":27,\"repeats\":0}"
+
 -- the call of a purchase
 abbrev pub first_call : Opened
 first_call =

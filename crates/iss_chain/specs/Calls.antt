@@ -1,5 +1,5 @@
 -- The entries of each call: those of the rules, without notices, calls to the gateway and decisions.
-use Rattle.std.specs.Prelude.{ℕ, ◌-◌, min, ◌==◌, Bool, ◌&&◌, ◌||◌, List, [], ◌∷◌, ◌++◌, Option, Some, None, if◌then◌else◌}
+use Rattle.std.specs.Prelude.{ℕ, pos, ◌-◌, min, ◌==◌, Bool, ◌&&◌, ◌||◌, List, [], ◌∷◌, ◌++◌, Option, Some, None, if◌then◌else◌}
 use Rattle.iss_model.specs.declared.account.Account.TheVariants as account
 use Rattle.iss_model.specs.declared.account.Part.{Part}
 use Rattle.iss_model.specs.declared.account.Part.TheVariants as part
@@ -8,6 +8,7 @@ use Rattle.iss_model.specs.declared.txn.Txn.{Txn}
 use Rattle.iss_model.specs.declared.entry.Entry.{Entry}
 use Rattle.iss_model.specs.declared.entry.Entry.TheVariants as entry
 use Rattle.iss_model.specs.rules.Activity.{TxnNow, txn_named}
+use Rattle.iss_model.specs.rules.Asks.{usage_of}
 use Rattle.iss_model.specs.rules.Pieces.{only_where, only_gateway, post_entries, hold_entries, user_account, Parts, parts_held, in_all, left_of, taken_to_clear, release_entries, clearing_money_entries, owed_to_programme}
 use Rattle.iss_chain.specs.Values.{ChainNow, chain_facts}
 
@@ -37,6 +38,24 @@ abbrev pub clearing_end_entries : TxnNow → Parts → ℕ → Bool → List Ent
 clearing_end_entries now parts amount last =
     let rest = left_of parts (taken_to_clear parts amount) in
     if now.live && (last || in_all rest == 0) then end_money_entries now.txn rest else []
+
+-- an amount more of a transaction is used
+abbrev pub more_use_entries : Txn → ℕ → ℕ → List Entry
+more_use_entries t amount at = only_where amount (entry.Usage (usage_of t (pos amount) (pos 0) at) ∷ [])
+
+-- for a gateway product the programme pays what a clearing's hold doesn't
+abbrev pub excess_entries : Txn → ℕ → List Entry
+excess_entries t excess = only_gateway t (post_entries t (account.Programme t.currency) (user_account t) excess)
+
+-- a clearing takes from the parts of a hold, and pays the network
+abbrev pub cleared_hold_entries : Txn → Parts → ℕ → ℕ → List Entry
+cleared_hold_entries t parts amount at = clearing_money_entries t (taken_to_clear parts amount) amount at
+
+-- an amount is paid back: this part to the programme, and the rest to the gateway
+abbrev pub paid_back_entries : Txn → ℕ → ℕ → List Entry
+paid_back_entries t programme amount =
+    post_entries t (user_account t) (account.Programme t.currency) programme
+    ++ post_entries t (user_account t) (account.Gateway t.currency) (amount - programme)
 
 -- a refund comes back from the network; for a gateway product the programme first receives what it is owed, and the gateway the rest
 abbrev pub refund_money_entries : Txn → ℕ → ℕ → List Entry

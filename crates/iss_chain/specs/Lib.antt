@@ -3,3 +3,4 @@ pub mod Calls
 pub mod Entering
 pub mod Rows
 pub mod Among
+pub mod OfTheRules

@@ -8,7 +8,8 @@ use Rattle.iss_model.specs.rules.Facts.{Facts}
 use Rattle.iss_model.specs.state.Cores.{CoreState, Holdings, SumsByTxn, no_core, with_txn, with_hold, with_end, with_post, core_facts}
 use Rattle.iss_chain.specs.declared.state.TxnState.{TxnState}
 use Rattle.iss_chain.specs.declared.state.TxnState.TheVariants.{Unknown, Live, Ended}
-use Rattle.std.specs.Prelude.{Option, Some, None, if◌then◌else◌}
+use Rattle.std.specs.Prelude.{◌≡◌, ℕ, List, Option, Some, None, if◌then◌else◌}
+use Rattle.iss_model.specs.declared.account.Account.{Account}
 
 -- the balances, what transactions hold, and what was cleared, refunded and paid of each
 pub record ChainNow : Type 0 where
@@ -45,3 +46,7 @@ chain_facts c = core_facts (record no_core { balances = c.balances; holdings = c
 abbrev pub txn_state : Option TxnNow → TxnState
 txn_state None = Unknown
 txn_state (Some now) = if now.live then Live else Ended
+
+-- a chain is another one after a post
+abbrev pub IsPosted : ChainNow → Account → Account → ℕ → Option (List ℕ) → ChainNow → Type 0
+IsPosted before from to amount txn after = after ≡ chain_after_entry before (entry.Post from to amount txn)

@@ -3,7 +3,7 @@ ghost use Rattle.std.specs.Prelude.{◌≡◌, ◌<◌, length, fold, slice_get,
 ghost use Rattle.std.specs.Option.{option_map};
 ghost use Rattle.iss_model.specs.declared.entry.Entry.TheVariants as entry;
 ghost use Rattle.iss_model.specs.rules.Activity.{txn_named};
-ghost use Rattle.iss_chain.specs.Values.{no_chain, chain_after_entry};
+ghost use Rattle.iss_chain.specs.Values.{IsPosted, no_chain, chain_after_entry};
 ghost use Rattle.iss_chain.specs.Entering.{KeepsSmall, StaysSmall, IsNewTxn, PostFits, AreFit, IsEnterable};
 ghost use Rattle.iss_chain.specs.Rows.{row_sums, rows_in, chain_of, AreKept};
 
@@ -124,7 +124,7 @@ impl Books {
         requires kept { AreKept self.old }
         requires known { PostFits self.old.holds txn.now }
         requires small { KeepsSmall (chain_after_entry (chain_of self.old) (entry.Post from.now to.now amount txn.now)) }
-        ensures entered { OnOk result (chain_of self.new ≡ chain_after_entry (chain_of self.old) (entry.Post from.now to.now amount txn.now)) }
+        ensures entered { OnOk result (IsPosted (chain_of self.old) from.now to.now amount txn.now (chain_of self.new)) }
         ensures unchanged { OnErr result (chain_of self.new ≡ chain_of self.old) }
         ensures kept { AreKept self.new }
     {
@@ -148,7 +148,7 @@ impl Books {
         requires kept { AreKept self.old }
         requires known { IsSome (txn_named txn.now self.old.holds.txns) }
         requires small { KeepsSmall (chain_after_entry (chain_of self.old) (entry.Post from.now to.now amount (Some txn.now))) }
-        ensures entered { OnOk result (chain_of self.new ≡ chain_after_entry (chain_of self.old) (entry.Post from.now to.now amount (Some txn.now))) }
+        ensures entered { OnOk result (IsPosted (chain_of self.old) from.now to.now amount (Some txn.now) (chain_of self.new)) }
         ensures unchanged { OnErr result (chain_of self.new ≡ chain_of self.old) }
         ensures kept { AreKept self.new }
     {

@@ -2,13 +2,12 @@
 //!
 //! An amount is a whole number of minor units, a stamp a number of milliseconds since 1970. If an allocation fails, a part of
 //! a piece may be there.
-ghost use Rattle.std.specs.Prelude.{◌≡◌, ◌-◌, ◌≤◌, ◌<◌, ◌^◌, ◌∷◌, [], ◌++◌, OnOk, pos};
-ghost use Rattle.iss_model.specs.declared.account.Account.TheVariants as account;
+ghost use Rattle.std.specs.Prelude.{◌≡◌, ◌-◌, ◌≤◌, ◌<◌, ◌^◌, ◌++◌, OnOk, pos};
 ghost use Rattle.iss_model.specs.declared.entry.Entry.TheVariants as entry;
 ghost use Rattle.iss_model.specs.rules.Asks.{usage_of};
-ghost use Rattle.iss_model.specs.rules.Pieces.{only_where, only_gateway, post_entries, hold_entries, unhold_entries, use_return_entries, user_account, release_entries, taken_to_clear, clearing_money_entries};
+ghost use Rattle.iss_model.specs.rules.Pieces.{post_entries, hold_entries, unhold_entries, use_return_entries, user_account, release_entries};
 ghost use Rattle.iss_hold.specs.Holdings.{now_of, parts_of, whole_of};
-ghost use Rattle.iss_chain.specs.Calls.{fund_money_entries, reversal_money_entries, end_money_entries, clearing_end_entries, refund_money_entries};
+ghost use Rattle.iss_chain.specs.Calls.{cleared_hold_entries, excess_entries, more_use_entries, paid_back_entries, fund_money_entries, reversal_money_entries, end_money_entries, clearing_end_entries, refund_money_entries};
 
 use iss_hold::Hold;
 use iss_model::{Account, Entry, Funding, Part, Txn, UsageRow};
@@ -112,7 +111,7 @@ fn return_use(out: &mut Vec<Entry>, txn: &Txn, amount: u64) -> Result<(), AllocE
 /// So much more is used of a transaction.
 fn more_use(out: &mut Vec<Entry>, txn: &Txn, amount: u64, at: u64) -> Result<(), AllocError>
     requires { amount < 2 ^ 63 }
-    ensures { OnOk result (out.new.items ≡ out.old.items ++ only_where amount (entry.Usage (usage_of txn.now (pos amount) (pos 0) at) ∷ [])) }
+    ensures { OnOk result (out.new.items ≡ out.old.items ++ more_use_entries txn.now amount at) }
 {
     if amount == 0 {
         return Ok(());
@@ -202,8 +201,7 @@ pub fn end(out: &mut Vec<Entry>, hold: &Hold) -> Result<(), AllocError>
 pub fn clear(out: &mut Vec<Entry>, hold: &Hold, amount: u64, at: u64) -> Result<(), AllocError>
     requires small { whole_of hold.now < 2 ^ 62 }
     requires amount { amount < 2 ^ 63 }
-    ensures { OnOk result (out.new.items ≡ out.old.items
-        ++ clearing_money_entries hold.now.txn (taken_to_clear (parts_of hold.now) amount) amount at) }
+    ensures { OnOk result (out.new.items ≡ out.old.items ++ cleared_hold_entries hold.now.txn (parts_of hold.now) amount at) }
 {
     let txn = &hold.txn;
     let taken = hold.taken_to_clear(amount);
@@ -240,8 +238,7 @@ pub fn end_clearing(
 
 /// The programme pays what a clearing's hold doesn't, for a gateway product.
 fn pay_excess(out: &mut Vec<Entry>, txn: &Txn, excess: u64) -> Result<(), AllocError>
-    ensures { OnOk result (out.new.items ≡ out.old.items
-        ++ only_gateway txn.now (post_entries txn.now (account.Programme txn.now.currency) (user_account txn.now) excess)) }
+    ensures { OnOk result (out.new.items ≡ out.old.items ++ excess_entries txn.now excess) }
 {
     match txn.funding {
         Funding::Account => Ok(()),
@@ -275,8 +272,7 @@ pub fn refund(out: &mut Vec<Entry>, txn: &Txn, owed: u64, amount: u64) -> Result
 /// A refund is paid back: `programme` of it to the programme, the rest to the gateway.
 fn pay_back(out: &mut Vec<Entry>, txn: &Txn, programme: u64, amount: u64) -> Result<(), AllocError>
     requires { programme ≤ amount }
-    ensures { OnOk result (out.new.items ≡ out.old.items ++ (post_entries txn.now (user_account txn.now) (account.Programme txn.now.currency) programme
-        ++ post_entries txn.now (user_account txn.now) (account.Gateway txn.now.currency) (amount - programme))) }
+    ensures { OnOk result (out.new.items ≡ out.old.items ++ paid_back_entries txn.now programme amount) }
 {
     post(
         out,

@@ -23,6 +23,8 @@ use Rattle.iss_model.specs.run.Rooms.{one_journal}
 use Rattle.iss_model.specs.run.Transcripts.{Reading, sound, faulty}
 use Rattle.iss_model.specs.run.Runs.{Run, judgement_in, response, run_after}
 use Rattle.iss_model.specs.texts.DrillLines.{DrillTotals, drill_line}
+use Rattle.iss_drill.specs.declared.run.TheConstants.{FOR_ALL, FOR_EACH}
+use Rattle.iss_drill.specs.declared.setup.TheConstants.{INPUTS}
 use Rattle.iss_drill.specs.declared.fault.DrillFault.{DrillFault}
 use Rattle.iss_drill.specs.declared.fault.DrillFault.TheVariants as drill_fault
 use Rattle.iss_drill.specs.Names.{named}
@@ -83,7 +85,7 @@ repeats_among s (line ∷ lines) = (if is_told_repeat s line then 1 else 0) + re
 
 -- the run of a drill of n events before its first line: a device of 1048576 + 512 n bytes that was formatted with instance 0
 abbrev pub drill_run : ℕ → Run
-drill_run n = record { instance = 0; room = Some (one_journal (1048576 + 512 * n)); history = nothing_yet }
+drill_run n = record { instance = 0; room = Some (one_journal (FOR_ALL + FOR_EACH * n)); history = nothing_yet }
 
 -- the first lines of the set-up, up to this number, which have no stamp
 unfoldable pub setup_lines : ℕ → List Reading
@@ -101,7 +103,7 @@ event_lines s i = sound (event_input i) (Some (stamp_of i)) ∷ answer_lines i (
 
 -- the lines up to an event in a drill of n events: the set-up, and then those of each event on what stands by then
 unfoldable pub lines_up_to : ℕ → ℕ → List Reading
-lines_up_to n zero = setup_lines 23
+lines_up_to n zero = setup_lines INPUTS
 lines_up_to n (suc i) = lines_up_to n i ++ event_lines (run_after (drill_run n) (lines_up_to n i)) (suc i)
 
 -- the lines of a drill of n events

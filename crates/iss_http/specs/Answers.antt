@@ -1,5 +1,5 @@
 -- The gateway's answer, of the bytes that came so far on its channel.
-use Rattle.std.specs.Prelude.{◌≡◌, ◌⊎◌, ℕ, Bool, nat_lt, nat_le, List, ◌++◌, length, take, drop, codes, Option, Some, None, if◌then◌else◌}
+use Rattle.std.specs.Prelude.{◌≡◌, ◌⊎◌, ℕ, Bool, false, nat_lt, nat_le, List, ◌++◌, length, take, drop, codes, Option, Some, None, if◌then◌else◌}
 use Rattle.iss_http.specs.declared.limits.TheConstants.{MOST_HEAD, MOST_BODY}
 use Rattle.iss_http.specs.declared.lengths.ContentLength.{ContentLength}
 use Rattle.iss_http.specs.declared.lengths.ContentLength.TheVariants.{Absent, Bad, Good}
@@ -55,3 +55,11 @@ IsHopelessAnswer bytes = (rest : List ℕ) → response_head (bytes ++ rest) ≡
 abbrev pub IsReadAs : List ℕ → Bool → Reading → Type 0
 IsReadAs bytes over garbled = (answer_read bytes over ≡ garbled) ⊎ IsHopelessAnswer bytes
 IsReadAs bytes over reading = answer_read bytes over ≡ reading
+
+-- what bytes are that no head of an answer begins with: garbled once they are as long as a head may be
+abbrev pub hopeless_answer : List ℕ → Bool → Reading
+hopeless_answer bytes over = if nat_le MOST_HEAD (length bytes) then garbled else unless_over over
+
+-- more of an answer is awaited, or what comes after its bytes doesn't change what they are
+abbrev pub AnswerIsAwaitedOrStays : List ℕ → List ℕ → Bool → Type 0
+AnswerIsAwaitedOrStays bytes rest over = (answer_read bytes false ≡ more) ⊎ (answer_read (bytes ++ rest) over ≡ answer_read bytes false)

@@ -83,3 +83,7 @@ HasFault bytes f = HasFaultAs request bytes f
 -- a client's request has the fault that is told
 abbrev pub IsCause : List ℕ → FeedFault → Type 0
 IsCause bytes f = IsCauseAs request bytes f
+
+-- what bytes are that no head of a request begins with: refused once they are as long as a head may be
+abbrev pub hopeless_request : List ℕ → Request
+hopeless_request bytes = if nat_le MOST_HEAD (length bytes) then faulty HeadLong else more

@@ -18,3 +18,7 @@ sent head text = lines head ++ crlf ++ codes text
 -- a request whose first line is right, with these headers
 abbrev pub posted : List String → String → List ℕ
 posted headers text = sent ("POST /events HTTP/1.1" ∷ headers) text
+
+-- the headers of a message of two bytes that is the last one on its channel
+abbrev pub last_headers : List String
+last_headers = "Content-Type: application/json" ∷ "Content-Length: 2" ∷ "Connection: close" ∷ []

@@ -1,11 +1,11 @@
 //! Worked messages: the checker computes what each of them is.
-ghost use Rattle.std.specs.Prelude.{◌≡◌, ◌∷◌, [], ◌++◌, codes, take, true, false};
+ghost use Rattle.std.specs.Prelude.{◌≡◌, ◌∷◌, [], codes, take, true, false};
 ghost use Rattle.iss_http.specs.declared.faults.HttpFault.TheVariants.{Method, Path, Coding, NoLength, BodyLong};
 ghost use Rattle.iss_http.specs.Requests.{request, more, body, faulty, IsHopelessRequest};
 ghost use Rattle.iss_http.specs.Answers as answers;
 ghost use Rattle.iss_http.specs.Answers.{answer_read, ended, garbled, whole};
 ghost use Rattle.iss_http.specs.Messages.{respond, ask};
-ghost use Rattle.iss_http.specs.Worked.{lines, sent, posted};
+ghost use Rattle.iss_http.specs.Worked.{last_headers, sent, posted};
 
 /// Requests that are taken, and the front of one.
 #[tactic(auto, unfolding(crate::specs::Requests::request, crate::specs::Requests::headed, crate::specs::Heads::request_head, crate::specs::Lengths::content_length, crate::specs::Lengths::length_of, crate::specs::Worked::is_utf8, crate::specs::Worked::is_token_byte, crate::specs::Worked::trim_ows))]
@@ -51,7 +51,7 @@ pub fn worked_answers()
 #[tactic(auto, unfolding(crate::specs::Messages::respond, crate::specs::Messages::ask, crate::specs::Worked::digits))]
 pub fn worked_texts()
     ensures response { respond 409 (codes "{}")
-        ≡ sent ("HTTP/1.1 409 Conflict" ∷ "Content-Type: application/json" ∷ "Content-Length: 2" ∷ "Connection: close" ∷ []) "{}" }
+        ≡ sent ("HTTP/1.1 409 Conflict" ∷ last_headers) "{}" }
     ensures asked { ask (codes "{}")
-        ≡ sent ("POST /jit HTTP/1.1" ∷ "Host: localhost" ∷ "Content-Type: application/json" ∷ "Content-Length: 2" ∷ "Connection: close" ∷ []) "{}" }
+        ≡ sent ("POST /jit HTTP/1.1" ∷ "Host: localhost" ∷ last_headers) "{}" }
 {}

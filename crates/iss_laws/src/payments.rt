@@ -7,8 +7,8 @@ ghost use Rattle.iss_model.specs.state.Cores.{CoreState, no_core};
 ghost use Rattle.iss_agreement.specs.Stepped.{core_after, core_entries};
 ghost use Rattle.iss_state.specs.Sound.{IfNewInForm};
 ghost use Rattle.iss_state.specs.Pending.{IfNewAndWell, IsWell};
-ghost use Rattle.iss_laws.specs.CallEntries.{may_open, names_what_it_voids, opens_none};
-ghost use Rattle.iss_laws.specs.StepCalls.{ArePaid, IsClosedAsOpened, IsVoidedAsClosed};
+ghost use Rattle.iss_laws.specs.CallEntries.{may_open, names_what_it_voids};
+ghost use Rattle.iss_laws.specs.StepCalls.{ArePaid, IsClosedAsOpened, IsVoidedAsClosed, OpensNone};
 ghost use Rattle.iss_laws.specs.Payable.{ArePayable, CallsStand};
 
 /// The entries of a step close the call of a number as often as it was asked or is opened there, and isn't asked then. They void it as
@@ -21,7 +21,7 @@ pub fn calls_are_closed_once()
 
 /// Only an authorisation or an increment opens a call: no other input does, nor anything that falls due before one.
 pub fn only_purchases_open_calls()
-    ensures { (s : CoreState) (r : Record) → may_open r.input ≡ false → IfNewAndWell s r (list_all opens_none (core_entries s r) ≡ true) }
+    ensures { (s : CoreState) (r : Record) → may_open r.input ≡ false → IfNewAndWell s r (OpensNone s r) }
 {}
 
 /// A step with an input in form leaves each call as it was opened, asking for an amount, with a transaction that stands and is of its
@@ -35,5 +35,5 @@ pub fn calls_stay_payable()
 /// In the entries of a step each funded closing has its post, by the facts of any later time, and no other post comes from the gateway.
 pub fn funded_calls_are_paid()
     ensures { (f : Facts) (number : ℕ) (s : CoreState) (r : Record)
-        → IfNewInForm s r (IsWell s → ArePayable s → ArePaid f number s r) }
+        → IfNewInForm s r (IsWell s → ArePaid f number s r) }
 {}

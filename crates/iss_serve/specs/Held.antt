@@ -9,6 +9,7 @@ use Rattle.iss_model.specs.declared.input.Outcome.TheVariants.{Connection}
 use Rattle.iss_model.specs.declared.input.Record.{Record}
 use Rattle.iss_model.specs.Forms.{is_in_form, is_stamp}
 use Rattle.iss_model.specs.rules.Histories.{history_of}
+use Rattle.iss_session.specs.declared.piece.TheConstants.{LONGEST_PIECE}
 use Rattle.iss_session.specs.Desks.{Subject, of_call, of_notice, Task, Waiter, desk_with}
 use Rattle.iss_session.specs.Links.{Link, Heard, outcome, acknowledged}
 use Rattle.iss_session.specs.Sessions.{Session, Queued, Reader, unasked}
@@ -157,7 +158,7 @@ is_heard_numbered _ = true
 -- are awaited, are numbered from 1.
 pub record IsHeld (h : Held) : Type 0 where
   pub clock : IsTrue (is_stamp h.clock)
-  pub room : length h.buffer.items ≡ 4096
+  pub room : length h.buffer.items ≡ LONGEST_PIECE
   pub calls : CallsNumbered h.unreached.items
   pub links : LinksNumbered h.links.links
 

@@ -1,5 +1,6 @@
 -- What a run that serves does, whatever status it ends with.
 use Rattle.std.specs.Prelude.{◌≡◌, ℕ, zero, suc, ◌≤◌, ◌⊎◌, false, true, List, [], ◌∷◌, ◌++◌, Option, Some, Result, Ok, Err, IfErr}
+use Rattle.iss_edge.specs.declared.status.TheConstants.{DONE, INPUT_FAULT, BAD_DEVICE, DISK_FAULT, OUT_OF_MEMORY}
 use Rattle.iss_edge.specs.declared.outside.Channel.{Channel}
 use Rattle.iss_edge.specs.declared.outside.Action.{Action}
 use Rattle.iss_edge.specs.declared.outside.Arrival.TheVariants.{Client}
@@ -27,11 +28,11 @@ use Rattle.iss_serve.specs.Goings.{NoWaitFailed}
 
 -- the exit status of a run that serves
 abbrev pub status_of : {A : Type 0} → Result A ServeFault → ℕ
-status_of (Ok done) = 0
-status_of (Err Wait) = 3
-status_of (Err Device) = 4
-status_of (Err Disk) = 6
-status_of (Err OutOfMemory) = 7
+status_of (Ok done) = DONE
+status_of (Err Wait) = INPUT_FAULT
+status_of (Err Device) = BAD_DEVICE
+status_of (Err Disk) = DISK_FAULT
+status_of (Err OutOfMemory) = OUT_OF_MEMORY
 
 -- the session with which a run begins on a device of this instance that stands for these records, with this many waits to come
 abbrev pub session_on_device : ℕ → ℕ → List Record → List ℕ → Session
@@ -108,10 +109,10 @@ pub record ServeOn (turns status instance : ℕ) (rs : List Record) (s : Session
   pub moments : EachMoment instance rs (records_then rs s happenings) opening later a.world.device
   pub unsynced : EachMomentUnsynced instance rs (records_then rs s happenings) opening later a.world.device
   pub stops : EachStopStands instance rs (records_then rs s happenings) (opening ++ later) a.world.device
-  pub whole : status ≡ 0 → ServedWhole instance rs s happenings (actions_of (opening ++ later)) a.world b.world
-  pub ended : (status ≡ 6 → ⊥)
+  pub whole : status ≡ DONE → ServedWhole instance rs s happenings (actions_of (opening ++ later)) a.world b.world
+  pub ended : (status ≡ DISK_FAULT → ⊥)
       → ReadsAlone a.world b.world ⊎ EndsAtRest instance rs (records_then rs s happenings) (actions_of (opening ++ later)) a.world b.world
-  pub other_device : status ≡ 4 → ⊥
+  pub other_device : status ≡ BAD_DEVICE → ⊥
 
 -- what such a run did, whichever records the device stands for, if any
 abbrev pub ServeRun : ℕ → ℕ → Outer → Outer → Type 0
@@ -140,7 +141,7 @@ abbrev pub ServeEndsWell : Faults → Faults → ℕ → World → World → Typ
 ServeEndsWell before now status a b =
     (instance : ℕ) (rs : List Record) → DeviceStandsFor instance rs a.device
     → (Rose before.disk now.disk → ⊥) → (Rose before.input now.input → ⊥)
-    → (status ≡ 0) ⊎ (status ≡ 7)
+    → (status ≡ DONE) ⊎ (status ≡ OUT_OF_MEMORY)
 
 -- the same, by what an edge tells before the run and after it
 abbrev pub ServeEndsWellOn : {E : Type 0} → (E → Faults) → (E → Option World) → (E → Option (List Answered)) → E → E → ℕ → Type 0

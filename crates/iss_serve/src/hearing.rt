@@ -5,6 +5,7 @@ ghost use Rattle.iss_edge.specs.declared.outside.Answered.TheVariants.{Took};
 ghost use Rattle.iss_edge.specs.World.{Later, Stays};
 ghost use Rattle.iss_edge.specs.Outer.{Adds, ToldBoth};
 ghost use Rattle.iss_model.specs.declared.input.Input.TheVariants as input_of;
+ghost use Rattle.iss_session.specs.declared.piece.TheConstants.{LONGEST_PIECE};
 ghost use Rattle.iss_session.specs.Desks.{waiters_without};
 ghost use Rattle.iss_session.specs.Hearings.{is_reading, is_waiting, link_at, inputs_of, readers_without};
 ghost use Rattle.iss_link.specs.Hearing.{got_in};
@@ -228,8 +229,8 @@ impl Held {
 #[tactic(auto, using(iss_edge::proofs::Outers::told_takes, iss_edge::proofs::Outers::told_untaken))]
 fn take_piece<E: Edge>(edge: &mut E, ch: Channel, buffer: &mut [u8]) -> Option<usize>
     requires ready { (E.channels edge.old).ready ≡ Some ch.0 }
-    requires room { length buffer.old ≡ 4096 }
-    ensures room { length buffer.new ≡ 4096 }
+    requires room { length buffer.old ≡ LONGEST_PIECE }
+    ensures room { length buffer.new ≡ LONGEST_PIECE }
     ensures bound { IfSome result (λ count. count ≤ length buffer.new) }
     ensures told { ToldBoth E.told E.heard (Adds [] (Took ch (got_in buffer.new result) ∷ [])) edge.old edge.new }
     ensures later { Later (E.faults edge.old) (E.faults edge.new) }

@@ -22,6 +22,10 @@ use Rattle.iss_session.specs.Turns.{waits_in}
 abbrev pub session_then : Readers → Session → List Happening → List Happening → Session
 session_then read s a b = session_after read (session_after read s a) b
 
+-- if happenings fit after others, both fit one after the other
+abbrev pub FitThen : Readers → Session → List Happening → List Happening → Type 0
+FitThen read s a b = Fits read (session_after read s a) b → Fits read s (a ++ b)
+
 -- what is done in these happenings, and then in those
 abbrev pub steps_then : Readers → Session → List Happening → List Happening → List Step
 steps_then read s a b = session_steps read s a ++ session_steps read (session_after read s a) b
@@ -55,9 +59,10 @@ AddsRecords read s happenings =
 abbrev pub IsBookOf : List Record → Session → Type 0
 IsBookOf rs s = s.run.history ≡ history_of rs
 
--- and still is, with the records that these happenings make
-abbrev pub AddsToBook : Readers → Session → List Happening → List Record → Type 0
-AddsToBook read s happenings rs = IsBookOf rs s → IsBookOf (rs ++ session_records read s happenings) (session_after read s happenings)
+-- of any records whose book stands, and then those that these happenings make, the book stands after these
+abbrev pub AddsToBook : Readers → Session → List Happening → Type 0
+AddsToBook read s happenings =
+    (rs : List Record) → IsBookOf rs s → IsBookOf (rs ++ session_records read s happenings) (session_after read s happenings)
 
 -- each record that these happenings make follows on those before it
 abbrev pub AddsLegalRecords : Readers → Session → List Happening → Type 0
@@ -83,6 +88,10 @@ StaysGood starts stands j steps = GoesOn starts stands starts j j steps
 abbrev pub StaysGoodUpTo : (starts stands : List ℕ → ℕ → Type 0) → ℕ → Readers → Session → List Happening → Type 0
 StaysGoodUpTo starts stands j read s happenings =
     count (session_after read s happenings) ≤ j → StaysGood starts stands j (session_steps read s happenings)
+
+-- and so are the closes at the end of a session of so many records
+abbrev pub EndsGood : (starts stands : List ℕ → ℕ → Type 0) → ℕ → Session → Type 0
+EndsGood starts stands j s = count s ≤ j → StaysGood starts stands j (last_steps s)
 
 -- what went out on a channel, from one outside to another, is what these steps say
 abbrev pub WentOut : ℕ → List Step → Outer → Outer → Type 0

@@ -1,15 +1,14 @@
 //! Laws of sessions: how they are put together, and what they leave.
-ghost use Rattle.std.specs.Prelude.{◌≡◌, ℕ, ◌+◌, ◌≤◌, List, ◌++◌};
+ghost use Rattle.std.specs.Prelude.{◌≡◌, ℕ, ◌+◌, List, ◌++◌};
 ghost use Rattle.iss_edge.specs.Outer.{Outer};
-ghost use Rattle.iss_model.specs.declared.input.Record.{Record};
 ghost use Rattle.iss_model.specs.run.Runs.{Run};
 ghost use Rattle.iss_session.specs.Items.{Happening};
 ghost use Rattle.iss_session.specs.Desks.{Desk, Gone};
-ghost use Rattle.iss_session.specs.Sessions.{Readers, Session, count};
-ghost use Rattle.iss_session.specs.Happenings.{session_after, session_steps, last_steps, Fits};
+ghost use Rattle.iss_session.specs.Sessions.{Readers, Session};
+ghost use Rattle.iss_session.specs.Happenings.{session_after, session_steps, Fits};
 ghost use Rattle.iss_session.specs.Sendings.{Sends};
 ghost use Rattle.iss_session.specs.Serving.{Serves, ServesAll};
-ghost use Rattle.iss_session.specs.Courses.{AddsLegalRecords, AddsRecords, HeardIsAll, AddsToBook, RisesThrough, RunsAsLines, StartsStand, StaysGood, StaysGoodUpTo, WaitsTakeTurns, WentOut, session_then, steps_then, whole_steps};
+ghost use Rattle.iss_session.specs.Courses.{AddsLegalRecords, AddsRecords, AddsToBook, EndsGood, FitThen, HeardIsAll, RisesThrough, RunsAsLines, StartsStand, StaysGoodUpTo, WaitsTakeTurns, WentOut, session_then, steps_then, whole_steps};
 
 use iss_edge::Showing;
 
@@ -21,7 +20,7 @@ pub fn parts_follow()
     ensures steps { (read : Readers) (s : Session) (a b : List Happening)
         → session_steps read s (a ++ b) ≡ steps_then read s a b }
     ensures fits { (read : Readers) (s : Session) (a b : List Happening) → Fits read s a
-        → Fits read (session_after read s a) b → Fits read s (a ++ b) }
+        → FitThen read s a b }
     ensures sends { (level : ℕ) (d e f : Desk) (g k : List Gone) (a b c : Outer) → Sends level d e g a b
         → Sends level e f k b c → Sends level d f (g ++ k) a c }
     ensures serves { (read : Readers) (s t u : Session) (a b c : Outer) → Serves read s t a b → Serves read t u b c
@@ -45,7 +44,7 @@ pub fn sessions_judge_lines()
         → AddsRecords read s happenings }
     ensures legal { (read : Readers) (s : Session) (happenings : List Happening)
         → AddsLegalRecords read s happenings }
-    ensures history { (read : Readers) (s : Session) (happenings : List Happening) (rs : List Record) → AddsToBook read s happenings rs }
+    ensures history { (read : Readers) (s : Session) (happenings : List Happening) → AddsToBook read s happenings }
 {}
 
 /// The number of records never falls, and neither do the levels at which texts go out.
@@ -66,8 +65,7 @@ pub fn waits_are_turns()
 pub fn sessions_are_good_stretches<S: Showing>()
     ensures steps { (read : Readers) (s : Session) (happenings : List Happening) (j : ℕ)
         → StartsStand S.starts S.stands j → StaysGoodUpTo S.starts S.stands j read s happenings }
-    ensures last { (s : Session) (j : ℕ) → StartsStand S.starts S.stands j → count s ≤ j
-        → StaysGood S.starts S.stands j (last_steps s) }
+    ensures last { (s : Session) (j : ℕ) → StartsStand S.starts S.stands j → EndsGood S.starts S.stands j s }
 {}
 
 /// What went out on a channel is what the session sends on it, in its order.

@@ -1,8 +1,10 @@
 -- Calls of a state, as time passes and answers come.
-use Rattle.std.specs.Prelude.{◌≡◌, ◌<◌, ◌^◌, ℕ, nat_lt, Bool, true, ◌&&◌, List, map, Option, Some, if◌then◌else◌}
+use Rattle.std.specs.Prelude.{◌≡◌, ◌<◌, ◌^◌, ℕ, nat_lt, Bool, true, ◌&&◌, List, map, Option, Some, None, if◌then◌else◌}
 use Rattle.iss_model.specs.declared.call.CallId.{CallId}
 use Rattle.iss_model.specs.declared.call.Opened.{Opened}
+use Rattle.iss_model.specs.declared.call.How.{How}
 use Rattle.iss_model.specs.declared.decision.Answer.{Answer}
+use Rattle.iss_model.specs.declared.decision.Answer.TheVariants as answer
 use Rattle.iss_model.specs.declared.decision.Judged.{Judged}
 use Rattle.iss_model.specs.declared.decision.Judged.TheVariants as judged
 use Rattle.iss_model.specs.declared.input.Input.TheVariants as input
@@ -40,6 +42,10 @@ is_open_at at c t = nat_lt at c.opened.deadline && nat_lt at t.txn.expires
 abbrev pub stays_asked : CoreState → ℕ → ℕ → Bool
 stays_asked s at n = is_some_with is_asked (call_at (after_all_due s at) n)
 
+-- after all that is due at a moment is settled, a call is asked exactly if its deadline and its transaction's expiry are still to come
+abbrev pub EndsOnTime : CoreState → ℕ → ℕ → CallNow → TxnNow → Type 0
+EndsOnTime s at n c t = stays_asked s at n ≡ is_open_at at c t
+
 -- the call of a number is this one after all that is due at a moment is settled
 abbrev pub IsStill : CoreState → ℕ → ℕ → CallNow → Type 0
 IsStill s at n c = call_at (after_all_due s at) n ≡ Some c
@@ -60,6 +66,14 @@ answer_judged s call what at = judgement_at core_keeper s (input.Answer call wha
 abbrev pub IsTold : CoreState → CallId → Outcome → ℕ → Answer → Type 0
 IsTold s call what at told =
     answer_judged s call what at ≡ judgement_as (Some told) (is_quiet (due_items (core_facts s) at)) (input.Answer call what) at
+
+-- an answer to a call that was never opened is told so
+abbrev pub UnknownIsTold : CoreState → CallId → Outcome → ℕ → Type 0
+UnknownIsTold s call what at = call_at s call.0 ≡ None → IsTold s call what at (answer.UnknownCall call)
+
+-- an answer to a call that is closed is told how
+abbrev pub LateIsTold : CoreState → CallId → Outcome → ℕ → CallNow → How → Type 0
+LateIsTold s call what at c how = call_at s call.0 ≡ Some c → c.how ≡ Some how → IsTold s call what at (answer.Late call how)
 
 -- an answer to a call is new if it comes in time, and else a record of the time comes first
 abbrev pub IsNewInTime : CoreState → CallId → Outcome → ℕ → CallNow → TxnNow → Type 0

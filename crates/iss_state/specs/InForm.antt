@@ -3,6 +3,7 @@ use Rattle.std.specs.Prelude.{Bool, List, ℕ, true, ◌&&◌, ◌≡◌}
 use Rattle.std.specs.List.{list_all}
 use Rattle.iss_model.specs.declared.entry.Entry.{Entry}
 use Rattle.iss_model.specs.declared.entry.Entry.TheVariants as entry
+use Rattle.iss_model.specs.declared.input.Input.{Input}
 use Rattle.iss_model.specs.Forms.{is_hold_time, is_in_form, is_stamp, is_timeout}
 use Rattle.iss_model.specs.rules.Activity.{CallNow, TxnNow}
 use Rattle.iss_model.specs.state.Cores.{CoreState, ProductNow}
@@ -42,3 +43,7 @@ AreEntriesInForm es = list_all is_entry_in_form es ≡ true
 -- what holds if a state is in form, and the moment a stamp
 abbrev pub IfInFormAt : CoreState → ℕ → Type 0 → Type 0
 IfInFormAt s at Holds = IsInForm s → is_stamp at ≡ true → Holds
+
+-- what holds if, besides, an input is in form
+abbrev pub IfInFormWith : CoreState → Input → ℕ → Type 0 → Type 0
+IfInFormWith s i at Holds = IsInForm s → is_in_form i ≡ true → is_stamp at ≡ true → Holds

@@ -53,3 +53,7 @@ pub record HasTakenUp (s : CoreState) (i : Input) : Type 0 where
   pub accepted : (event : List ℕ) → event_token i ≡ Some event → is_accepted s.accepted event ≡ true
   pub events_stay : (event : List ℕ) → before.events event ≡ true → is_accepted s.accepted event ≡ true
   pub products_stay : (name : List ℕ) → before.products name ≡ true → is_product s.products name ≡ true
+
+-- so it is in another state
+abbrev pub StaysTakenUp : Input → CoreState → CoreState → Type 0
+StaysTakenUp i s t = HasTakenUp s i → HasTakenUp t i

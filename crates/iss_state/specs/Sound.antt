@@ -3,7 +3,7 @@ use Rattle.std.specs.Prelude.{Bool, List, Some, false, find, is_some, nat_le, na
 use Rattle.std.specs.List.{list_all}
 use Rattle.iss_model.specs.declared.input.Input.{Input}
 use Rattle.iss_model.specs.declared.input.Record.{Record}
-use Rattle.iss_model.specs.declared.limits.TheConstants.{GREATEST_AMOUNT}
+use Rattle.iss_model.specs.declared.limits.TheConstants.{GREATEST_AMOUNT, MOST_RECORDS}
 use Rattle.iss_model.specs.Forms.{is_in_form}
 use Rattle.iss_model.specs.Inputs.{event_token, is_event}
 use Rattle.iss_model.specs.rules.Facts.{Accepted}
@@ -67,3 +67,7 @@ IfReadyInForm n s i Holds = is_in_form i ≡ true → IsReady n s i → Holds
 -- a state that is ready is followed by one that is
 abbrev pub StaysReady : ℕ → Input → CoreState → CoreState → Type 0
 StaysReady n i s t = IsReady n s i → IsReady n t i
+
+-- what holds if a state is sound for no more records than there may be
+abbrev pub IfSoundWithin : ℕ → CoreState → Type 0 → Type 0
+IfSoundWithin n s Holds = n ≤ MOST_RECORDS → IsSoundAt n s → Holds

@@ -3,10 +3,10 @@ ghost use Rattle.std.specs.Prelude.{◌≡◌, ℕ, true, List};
 ghost use Rattle.iss_model.specs.declared.entry.Entry.{Entry};
 ghost use Rattle.iss_model.specs.declared.input.Input.{Input};
 ghost use Rattle.iss_model.specs.declared.input.Record.{Record};
-ghost use Rattle.iss_model.specs.Forms.{is_in_form, is_stamp};
+ghost use Rattle.iss_model.specs.Forms.{is_stamp};
 ghost use Rattle.iss_model.specs.rules.Due.{DueThing};
 ghost use Rattle.iss_model.specs.state.Cores.{CoreState, no_core, with_record, after_entry};
-ghost use Rattle.iss_state.specs.InForm.{AreEntriesInForm, IfInFormAt, IsInForm, is_entry_in_form};
+ghost use Rattle.iss_state.specs.InForm.{AreEntriesInForm, IfInFormAt, IfInFormWith, IsInForm, is_entry_in_form};
 ghost use Rattle.iss_state.specs.After.{after_entries, due_entries, input_entries};
 
 /// The empty state is in form, and stays so where a record at a stamp is taken up and where entries in form are entered.
@@ -20,6 +20,5 @@ pub fn states_stay_in_form()
 /// On a state in form, each entry of a due item that is settled at a stamp is in form, and so is each that an input in form makes at one.
 pub fn entries_are_in_form()
     ensures due { (s : CoreState) (thing : DueThing) (at : ℕ) → IfInFormAt s at (AreEntriesInForm (due_entries s thing at)) }
-    ensures own { (s : CoreState) (i : Input) (at : ℕ) → IsInForm s → is_in_form i ≡ true → is_stamp at ≡ true
-        → AreEntriesInForm (input_entries s i at) }
+    ensures own { (s : CoreState) (i : Input) (at : ℕ) → IfInFormWith s i at (AreEntriesInForm (input_entries s i at)) }
 {}

@@ -8,7 +8,7 @@ ghost use Rattle.iss_model.specs.rules.Histories.{IsLegal};
 ghost use Rattle.iss_model.specs.state.Cores.{CoreState, no_core, with_record, core_of};
 ghost use Rattle.iss_state.specs.Well.{IsRuledOnce, has_live};
 ghost use Rattle.iss_state.specs.Sound.{is_accepted, IsNewEvent};
-ghost use Rattle.iss_state.specs.Pending.{IsWell, AreAllowed, DecideKnown, HasTakenUp};
+ghost use Rattle.iss_state.specs.Pending.{IsWell, AreAllowed, DecideKnown, HasTakenUp, StaysTakenUp};
 ghost use Rattle.iss_state.specs.Dockets.{docket_of};
 ghost use Rattle.iss_state.specs.After.{after_thing, due_entries, input_entries};
 ghost use Rattle.iss_state.specs.Asked.{IfAsked};
@@ -28,8 +28,7 @@ pub fn calls_are_well()
 /// So it is once a record of a new event was taken up, and still while what is due is settled.
 pub fn entries_are_allowed()
     ensures taken { (s : CoreState) (r : Record) → IsWell s → IsNewEvent s r.input → HasTakenUp (with_record s r) r.input }
-    ensures settled { (s : CoreState) (i : Input) (thing : DueThing) (at : ℕ) → HasTakenUp s i
-        → HasTakenUp (after_thing s thing at) i }
+    ensures settled { (s : CoreState) (i : Input) (thing : DueThing) (at : ℕ) → StaysTakenUp i s (after_thing s thing at) }
     ensures due { (s : CoreState) (i : Input) (thing : DueThing) (at : ℕ) → HasTakenUp s i
         → AreAllowed s (due_entries s thing at) }
     ensures own { (s : CoreState) (i : Input) (at : ℕ) → HasTakenUp s i → AreAllowed s (input_entries s i at) }

@@ -1,7 +1,8 @@
 //! What the entries of a record send while clients are served.
-ghost use Rattle.std.specs.Prelude.{◌≡◌, ◌<◌, ◌^◌, true, [], ◌∷◌, ◌++◌, IfOk, OnOk, OnErr};
+ghost use Rattle.std.specs.Prelude.{◌≡◌, ◌<◌, true, [], ◌∷◌, ◌++◌, IfOk, OnOk, OnErr};
 ghost use Rattle.iss_edge.specs.World.{Told, Later, Stays};
 ghost use Rattle.iss_edge.specs.Outer.{Adds, ToldBoth};
+ghost use Rattle.iss_model.specs.declared.limits.TheConstants.{INSTANCES};
 ghost use Rattle.iss_store.specs.Saying.{StaysGood};
 ghost use Rattle.iss_store.specs.Numbers.{is_from_one, is_numbered, AreNumbered};
 ghost use Rattle.iss_store.specs.Serving.{NotesOn, NotesGone, NotesAnswered, SendsSomeOf, SendsOn, CausesGone, tasks_by, tasks_by_each, decision_tasks, request_tasks, notice_tasks, all_gone, has_number, HaveNumbers};
@@ -29,7 +30,7 @@ pub(crate) fn send_entries<E: Edge>(
     served: &Served,
     instance: u64,
 ) -> Result<(Vec<Gone>, Vec<Channel>), AllocError>
-    requires instance { instance < 2 ^ 48 }
+    requires instance { instance < INSTANCES }
     requires numbered { AreNumbered entries.now }
     ensures sends { IfOk result (λ x. ToldBoth E.told E.heard (SendsOn (tasks_by_each instance served.now entries.now) (all_gone x.0.items) x.1.items) edge.old edge.new) }
     ensures part { OnErr result (ToldBoth E.told E.heard (SendsSomeOf (tasks_by_each instance served.now entries.now)) edge.old edge.new) }
@@ -66,7 +67,7 @@ fn send_entry<E: Edge>(
     gone: &mut Vec<Gone>,
     answered: &mut Vec<Channel>,
 ) -> Result<(), AllocError>
-    requires instance { instance < 2 ^ 48 }
+    requires instance { instance < INSTANCES }
     requires numbered { is_numbered entry.now ≡ true }
     requires before { HaveNumbers gone.old.items }
     ensures numbered { OnOk result (HaveNumbers gone.new.items) }
@@ -121,7 +122,7 @@ fn send_request<E: Edge>(
     instance: u64,
     gone: &mut Vec<Gone>,
 ) -> Result<(), AllocError>
-    requires instance { instance < 2 ^ 48 }
+    requires instance { instance < INSTANCES }
     requires numbered { is_from_one opened.now.call.0 ≡ true }
     requires before { HaveNumbers gone.old.items }
     ensures numbered { OnOk result (HaveNumbers gone.new.items) }
@@ -149,7 +150,7 @@ fn send_notice<E: Edge>(
     instance: u64,
     gone: &mut Vec<Gone>,
 ) -> Result<(), AllocError>
-    requires instance { instance < 2 ^ 48 }
+    requires instance { instance < INSTANCES }
     requires numbered { is_from_one notice.now.number ≡ true }
     requires before { HaveNumbers gone.old.items }
     ensures numbered { OnOk result (HaveNumbers gone.new.items) }

@@ -1,8 +1,9 @@
 //! What a store says: what a committed record makes, what is still asked, and answers.
-ghost use Rattle.std.specs.Prelude.{◌≡◌, ◌<◌, ◌^◌, [], ◌∷◌, IfOk, IsErrOf, OnOk, OnErr};
+ghost use Rattle.std.specs.Prelude.{◌≡◌, ◌<◌, [], ◌∷◌, IfOk, IsErrOf, OnOk, OnErr};
 ghost use Rattle.std.specs.List.{flat_map};
 ghost use Rattle.iss_edge.specs.World.{Told, Stays};
 ghost use Rattle.iss_edge.specs.Outer.{Adds, ToldBoth};
+ghost use Rattle.iss_model.specs.declared.limits.TheConstants.{INSTANCES};
 ghost use Rattle.iss_model.specs.texts.AnswerLines.{answer_text};
 ghost use Rattle.iss_texts.specs.TextRows.{Gains, HasAll, said_texts};
 ghost use Rattle.iss_store.specs.Values.{said_of};
@@ -119,7 +120,7 @@ impl Store {
 
 /// Adds the requests of calls.
 fn put_requests(texts: &mut Texts, calls: &[Opened], instance: u64) -> Result<(), AllocError>
-    requires { instance < 2 ^ 48 }
+    requires { instance < INSTANCES }
     ensures { OnOk result (Gains (flat_map (request_texts instance) calls.now) texts.old texts.new) }
 {
     for call in calls {
@@ -130,7 +131,7 @@ fn put_requests(texts: &mut Texts, calls: &[Opened], instance: u64) -> Result<()
 
 /// Adds notices.
 fn put_notices(texts: &mut Texts, notices: &[Notice], instance: u64) -> Result<(), AllocError>
-    requires { instance < 2 ^ 48 }
+    requires { instance < INSTANCES }
     ensures { OnOk result (Gains (flat_map (notice_texts instance) notices.now) texts.old texts.new) }
 {
     for notice in notices {
@@ -142,7 +143,7 @@ fn put_notices(texts: &mut Texts, notices: &[Notice], instance: u64) -> Result<(
 /// Adds what a record that lasts has to say.
 #[tactic(auto, using(crate::proofs::Said::said_timed, crate::proofs::Said::said_untimed))]
 fn put_record(texts: &mut Texts, durable: &Durable, instance: u64) -> Result<(), AllocError>
-    requires { instance < 2 ^ 48 }
+    requires { instance < INSTANCES }
     ensures { OnOk result (Gains (said_texts instance (said_of durable.now)) texts.old texts.new) }
 {
     texts.put_entries(&durable.entries, instance)?;

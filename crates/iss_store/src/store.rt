@@ -17,13 +17,11 @@ use crate::{Durable, PlanFault, Planned, StoreFault};
 use iss_codec::put_record;
 use iss_core::Core;
 use iss_edge::Edge;
+use iss_journal::layout::HEAD;
 use iss_journal::{Frame, Journal};
 use iss_model::{Answer, Input, Judged, Record};
 use std::alloc::{AllocError, Global};
 use std::marker::Model;
-
-/// What a record takes on the device beside its body: its gate, and its length in four bytes.
-pub(crate) const HEAD: u64 = 5;
 
 /// The records on a device, and what they make. Contracts see its core, the place of the end gate, and the place where the
 /// device ends; a store *stands for* records where its core does and they end at that gate.

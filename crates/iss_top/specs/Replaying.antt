@@ -1,5 +1,6 @@
 -- A run on a device on its way: what each line is told on what stands, what was done for it, and what the rest of the input will be told.
 use Rattle.std.specs.Prelude.{◌≡◌, ℕ, ◌+◌, ◌≤◌, ◌==◌, ◌↔◌, ◌⊎◌, Bool, true, false, List, [], ◌∷◌, ◌++◌, length, map, filter, take, Option, Some, IfOk, IfErr, Result, if◌then◌else◌}
+use Rattle.iss_edge.specs.declared.status.TheConstants.{DONE, INPUT_FAULT, DISK_FAULT, INPUT_TOO_LONG}
 use Rattle.iss_edge.specs.declared.outside.Action.{Action}
 use Rattle.iss_edge.specs.declared.outside.Action.TheVariants.{Write, Sync, Emit, Dial, Close}
 use Rattle.iss_edge.specs.World.{World, Told, Faults, Later, Rose}
@@ -172,9 +173,9 @@ pub record GoesWhole (s : StoreNow) (rs : List Record) (told : Response) (a b : 
 pub record RunsAs (tell : List (List ℕ) → Response) (status : ℕ) (opened : StoreNow) (rs : List Record) (took : List ℕ) (a b : World) : Type 0 where
   pub rs' : List Record
   pub records : AreFirstOf rs' (tell (parts_of (a.left 0))).run.history.records
-  pub goes : GoesPart (status ≡ 6) opened rs rs' (tell (parts_of (a.left 0))).texts a b
-  pub whole : status ≡ 0 → (b.left 0 ≡ []) × GoesWhole opened rs (tell (parts_of (a.left 0))) a b
-  pub stopped : (status ≡ 3) ⊎ (status ≡ 8) → GoesWhole opened rs (tell (all_but_last (parts_of (take MOST_INPUT took)))) a b
+  pub goes : GoesPart (status ≡ DISK_FAULT) opened rs rs' (tell (parts_of (a.left 0))).texts a b
+  pub whole : status ≡ DONE → (b.left 0 ≡ []) × GoesWhole opened rs (tell (parts_of (a.left 0))) a b
+  pub stopped : (status ≡ INPUT_FAULT) ⊎ (status ≡ INPUT_TOO_LONG) → GoesWhole opened rs (tell (all_but_last (parts_of (take MOST_INPUT took)))) a b
 
 -- the same since its store was opened on these records
 abbrev pub RunsOnBook : ℕ → StoreNow → List Record → List ℕ → World → World → Type 0
@@ -185,7 +186,7 @@ pub record RunsFrom (status : ℕ) (opened : StoreNow) (a b : World) : Type 0 wh
   pub took : List ℕ
   pub takes : TakesIn took a b
   pub on_book : (rs : List Record) → StandsFor opened rs → RunsOnBook status opened rs took a b
-  pub long : (status ≡ 8) ↔ (length took ≡ MOST_INPUT + 1)
+  pub long : (status ≡ INPUT_TOO_LONG) ↔ (length took ≡ MOST_INPUT + 1)
   pub bound : length took ≤ MOST_INPUT + 1
 
 -- why a line that is taken may end the run: the device, an emit or an allocation failed

@@ -1,6 +1,7 @@
 //! The words of a run, and what they do.
 ghost use Rattle.std.specs.Prelude.{◌≡◌, ◌↔◌, ◌==◌, None, IsTrue};
 ghost use Rattle.std.specs.List.{list_any};
+ghost use Rattle.iss_edge.specs.declared.status.TheConstants.{INPUT_FAULT, BAD_DEVICE, OUTPUT_FAULT, DISK_FAULT};
 ghost use Rattle.iss_edge.specs.World.{Told, Rose};
 ghost use Rattle.iss_edge.specs.Outer.{ToldBoth};
 ghost use Rattle.iss_top.specs.Words.{command_in, statuses, OnDry, OnFormat, OnReplay, OnBalances, OnServe, OnDrill};
@@ -21,10 +22,8 @@ use crate::serving::serve_on_device;
 use crate::stop::status_of;
 use crate::words::{Command, Usage, command_of};
 use iss_edge::Edge;
+use iss_edge::status::USAGE;
 use std::alloc::Global;
-
-/// The status of words that are no command.
-const USAGE: u8 = 2;
 
 /// Does all that the program does, by the words after the program's name, and returns the exit status.
 ///
@@ -46,19 +45,19 @@ pub fn run<E: Edge>(alloc: Global, words: &[String], edge: &mut E) -> u8
     ensures known { IsTrue (list_any (λ status. result == status) (statuses (command_in words.now))) }
 
     // The words decide over 2, and then nothing is done.
-    ensures usage { (result ≡ 2) ↔ (command_in words.now ≡ None) }
-    ensures untouched { result ≡ 2 → edge.new ≡ edge.old }
+    ensures usage { (result ≡ USAGE) ↔ (command_in words.now ≡ None) }
+    ensures untouched { result ≡ USAGE → edge.new ≡ edge.old }
 
     // Of formatting the device's size decides over 4, and then nothing is done.
     ensures other_size { OnFormat (command_in words.now) (λ size instance.
-        (result ≡ 4) ↔ (E.extent edge.old ≡ size → ⊥)) }
+        (result ≡ BAD_DEVICE) ↔ (E.extent edge.old ≡ size → ⊥)) }
     ensures unwritten { OnFormat (command_in words.now) (λ size instance.
-        result ≡ 4 → edge.new ≡ edge.old) }
+        result ≡ BAD_DEVICE → edge.new ≡ edge.old) }
 
     // The outside is at fault where it is blamed.
-    ensures input_fault { result ≡ 3 → Rose (E.faults edge.old).input (E.faults edge.new).input }
-    ensures output_fault { result ≡ 5 → Rose (E.faults edge.old).output (E.faults edge.new).output }
-    ensures disk_fault { result ≡ 6 → Rose (E.faults edge.old).disk (E.faults edge.new).disk }
+    ensures input_fault { result ≡ INPUT_FAULT → Rose (E.faults edge.old).input (E.faults edge.new).input }
+    ensures output_fault { result ≡ OUTPUT_FAULT → Rose (E.faults edge.old).output (E.faults edge.new).output }
+    ensures disk_fault { result ≡ DISK_FAULT → Rose (E.faults edge.old).disk (E.faults edge.new).disk }
 
     // Of a dry run what went out is the transcript of the input's lines, or a prefix of it; 8 comes exactly at its number.
     // Each text of the transcript goes out by an emit of its own, in their order.

@@ -7,9 +7,10 @@ use Rattle.std.specs.BTreeMap as tree
 use Rattle.std.specs.FinMap as map
 use Rattle.iss_model.specs.declared.txn.UsageRow.{UsageRow}
 use Rattle.iss_model.specs.declared.txn.Used.{Used}
+use Rattle.iss_model.specs.rules.Asks.{used_by}
 use Rattle.iss_model.specs.rules.Controls.{Group, counts, counter_key}
 use Rattle.iss_model.specs.state.Kept.{Kept, IsSmall, AreSmall}
-use Rattle.iss_model.specs.state.Cores.{ControlKept}
+use Rattle.iss_model.specs.state.Cores.{ControlKept, control_facts}
 use Rattle.iss_velocity.specs.declared.counters.Counter.{Counter}
 use Rattle.iss_velocity.specs.declared.standing.Standing.{Standing}
 use Rattle.iss_velocity.specs.declared.table.Table.{Table}
@@ -47,6 +48,10 @@ control_at users past place s =
       amounts = sums_in (λ used. used.amount) users past place;
       times = sums_in (λ used. used.count) users past place;
     }
+
+-- what the control at a place has counted of a user in the window of a moment
+abbrev pub used_on : Users → Past → ℕ → Standing → List ℕ → ℕ → Used
+used_on users past place s user at = used_by (control_facts (control_at users past place s)) s.control.window user at
 
 -- the controls from a place on with their sums
 abbrev pub controls_from : Users → Past → ℕ → List Standing → List ControlKept

@@ -1,12 +1,14 @@
 -- What the sums of controls are: sums over the rows that were noted.
-use Rattle.std.specs.Prelude.{◌≡◌, ℕ, nat_le, ℤ, pos, ◌+ℤ◌, Bool, List, fold, slice_get, Some}
+use Rattle.std.specs.Prelude.{◌≡◌, ℕ, nat_le, ℤ, pos, ◌+ℤ◌, Bool, List, [], ◌∷◌, ◌++◌, fold, map, slice_get, Some}
 use Rattle.std.specs.List.{list_all}
+use Rattle.std.specs.Cmp.Lexicographic.{slice_cmp}
+use Rattle.std.specs.Ordering.{nat_cmp, int_cmp, ordering_then}
 use Rattle.iss_model.specs.declared.entry.Entry.TheVariants as entry
 use Rattle.iss_model.specs.declared.txn.UsageRow.{UsageRow}
 use Rattle.iss_model.specs.Sums.{changed_at}
-use Rattle.iss_model.specs.rules.Controls.{Group, ControlPut, counted_changes}
+use Rattle.iss_model.specs.rules.Controls.{Group, ControlPut, counted_changes, counter_key}
 use Rattle.iss_model.specs.state.Kept.{kept_at}
-use Rattle.iss_model.specs.state.Cores.{ControlKept}
+use Rattle.iss_model.specs.state.Cores.{ControlKept, control_after_use}
 
 -- a row that was noted, with the groups that it was noted with
 pub record Noted : Type 0 where
@@ -30,3 +32,24 @@ pub record AreSumsOf (noted : List Noted) (controls : List ControlKept) : Type 0
 -- no row that was noted is of a transaction later than this record
 abbrev pub are_not_later : ℕ → List Noted → Bool
 are_not_later number noted = list_all (λ n. nat_le n.row.origin number) noted
+
+-- the rows that were noted, with one more and its groups
+abbrev pub with_row : List Noted → List Group → UsageRow → List Noted
+with_row noted groups row = noted ++ record { groups = groups; row = row } ∷ []
+
+-- controls after a row was noted with these groups
+abbrev pub controls_after_use : List Group → UsageRow → List ControlKept → List ControlKept
+controls_after_use groups row controls = map (control_after_use groups (entry.Usage row)) controls
+
+-- if controls' sums are those over the rows that were noted, so are other controls'
+abbrev pub StaySums : List Noted → List ControlKept → List ControlKept → Type 0
+StaySums noted before after = AreSumsOf noted before → AreSumsOf noted after
+
+-- the keys of two counters sort by the bytes of the users, then by the numbers of the spans
+abbrev pub SortsByUser : List ℕ → List ℕ → ℤ → ℤ → Type 0
+SortsByUser a b m n =
+    slice_cmp nat_cmp (counter_key a m) (counter_key b n) ≡ ordering_then (slice_cmp nat_cmp a b) (int_cmp m n)
+
+-- if controls' sums are those over the rows that were noted, they are those with one row more after that row
+abbrev pub SumsNote : List Noted → List ControlKept → List Group → UsageRow → Type 0
+SumsNote noted controls groups row = AreSumsOf noted controls → AreSumsOf (with_row noted groups row) (controls_after_use groups row controls)

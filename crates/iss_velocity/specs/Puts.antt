@@ -4,6 +4,7 @@ use Rattle.std.specs.Str.{bytes_eq}
 use Rattle.iss_model.specs.declared.setting.Control.{Control}
 use Rattle.iss_model.specs.declared.decision.Reason.{Reason}
 use Rattle.iss_model.specs.declared.decision.Reason.TheVariants as reason
+use Rattle.iss_model.specs.rules.Controls.{ControlPut}
 use Rattle.iss_model.specs.rules.Reasons.{first_reason, is_full, is_same_control}
 use Rattle.iss_model.specs.state.Cores.{ControlKept}
 use Rattle.iss_velocity.specs.declared.standing.Standing.{Standing}
@@ -65,3 +66,7 @@ fault_reason fault.OutOfMemory = None
 abbrev pub reason_of_result : {A : Type 0} → Result A ControlFault → Option Reason
 reason_of_result (Ok x) = None
 reason_of_result (Err f) = fault_reason f
+
+-- a control that is put for the first time, by the record of this number
+abbrev pub first_put : ℕ → Control → ControlPut
+first_put number control = record { number = number; control = control }

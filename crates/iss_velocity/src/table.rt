@@ -8,10 +8,10 @@ ghost use Rattle.iss_model.specs.state.Cores.{control_facts, control_after_use, 
 ghost use Rattle.iss_model.specs.rules.Asks.{used_by};
 ghost use Rattle.iss_model.specs.rules.Reasons.{is_full};
 ghost use Rattle.iss_velocity.specs.Words.{breach_of, used_of};
-ghost use Rattle.iss_velocity.specs.Puts.{kept_named, put_reason, reason_of_result, kept_after_change, standing_named, standing_after_change};
+ghost use Rattle.iss_velocity.specs.Puts.{first_put, kept_named, put_reason, reason_of_result, kept_after_change, standing_named, standing_after_change};
 ghost use Rattle.iss_velocity.specs.Lists.{rising_from};
 ghost use Rattle.iss_velocity.specs.Counting.{counters_at, by_name};
-ghost use Rattle.iss_velocity.specs.Keeping.{has_no_zero, control_at, controls_in, AreKeyed, IsTable, HaveSmallSums, is_users_plain};
+ghost use Rattle.iss_velocity.specs.Keeping.{has_no_zero, used_on, controls_in, IsTable, HaveSmallSums, is_users_plain};
 
 use crate::controls::ControlFault;
 use crate::counters::{Counter, Counters, counter_at, find_at, next_after, used_by};
@@ -96,7 +96,7 @@ impl Table {
     fn used_at(&self, place: usize, standing: &Standing, user: &Token, at: u64) -> Used
         requires stamp { IsTrue (is_stamp at) }
         requires keyed { IsTable self.now }
-        ensures { result ≡ used_by (control_facts (control_at self.now.users self.now.past place standing.now)) standing.now.control.window user.now at }
+        ensures { result ≡ used_on self.now.users self.now.past place standing.now user.now at }
     {
         let unused = Used {
             amount: 0,
@@ -123,7 +123,7 @@ impl Table {
     pub(crate) fn put(&mut self, number: u32, control: &Control) -> Result<(), ControlFault>
         requires keyed { IsTable self.old }
         ensures keyed { IsTable self.new }
-        ensures put { OnOk result (controls_in self.new ≡ with_control (controls_in self.old) (record { number = number; control = control.now })) }
+        ensures put { OnOk result (controls_in self.new ≡ with_control (controls_in self.old) (first_put number control.now)) }
         ensures refused { OnErr result (controls_in self.new ≡ controls_in self.old) }
         ensures reason { reason_of_result result ≡ put_reason (kept_named control.now.name (controls_in self.old)) (controls_in self.old) control.now }
     {
@@ -160,7 +160,7 @@ impl Table {
         requires keyed { IsTable self.old }
         requires new { kept_named control.now.name (controls_in self.old) ≡ None }
         ensures keyed { IsTable self.new }
-        ensures put { OnOk result (controls_in self.new ≡ with_control (controls_in self.old) (record { number = number; control = control.now })) }
+        ensures put { OnOk result (controls_in self.new ≡ with_control (controls_in self.old) (first_put number control.now)) }
         ensures refused { OnErr result (controls_in self.new ≡ controls_in self.old) }
         ensures reason { reason_of_result result ≡ put_reason None (controls_in self.old) control.now }
     {
