@@ -6,7 +6,7 @@ ghost use Rattle.iss_model.specs.run.Sayings.{asked, noticed};
 ghost use Rattle.iss_event.specs.FormLines.{form_text};
 ghost use Rattle.iss_texts.specs.TextRows.{Gains, HasNone, HasAll, AreEnds, said_texts, entry_texts_at};
 ghost use Rattle.iss_texts.specs.Sending.{Says, SaysSome, SentEach, StopsAt, IsSending};
-ghost use Rattle.iss_edge.specs.Outer.{outer_of};
+ghost use Rattle.iss_edge.specs.Outer.{ToldBoth};
 ghost use Rattle.iss_edge.specs.World.{Told};
 ghost use Rattle.iss_model.specs.declared.limits.TheConstants.{INSTANCES};
 
@@ -127,11 +127,9 @@ impl Texts {
         ensures told { (texts : List (List ℕ)) → HasAll texts self.now → OnOk result (Told (Says texts) (E.told edge.old) (E.told edge.new)) }
         ensures part { (texts : List (List ℕ)) → HasAll texts self.now → OnErr result (Told (SaysSome texts) (E.told edge.old) (E.told edge.new)) }
         ensures sent { (texts : List (List ℕ)) → HasAll texts self.now
-            → OnOk result (Told (SentEach texts)
-            (outer_of (E.told edge.old) (E.heard edge.old)) (outer_of (E.told edge.new) (E.heard edge.new))) }
+            → OnOk result (ToldBoth E.told E.heard (SentEach texts) edge.old edge.new) }
         ensures stopped { (texts : List (List ℕ)) → HasAll texts self.now
-            → OnErr result (Told (StopsAt texts)
-            (outer_of (E.told edge.old) (E.heard edge.old)) (outer_of (E.told edge.new) (E.heard edge.new))) }
+            → OnErr result (ToldBoth E.told E.heard (StopsAt texts) edge.old edge.new) }
         ensures sending { IsSending (E.faults edge.old) (E.faults edge.new) result }
         ensures kept { E.extent edge.new ≡ E.extent edge.old }
         ensures channels { E.channels edge.new ≡ E.channels edge.old }
