@@ -47,7 +47,8 @@ CLAUSE = re.compile(r"^ *(ensures|requires)\s+(\w*)\s*\{")
 
 
 def depth_of(text):
-    """Returns by how much a text opens more braces than it closes."""
+    """Returns by how much a text opens more braces than it closes, past those in its literals."""
+    text = re.sub(r'"(?:[^"\\]|\\.)*"', "", text)
     return text.count("{") - text.count("}")
 
 

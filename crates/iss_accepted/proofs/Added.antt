@@ -1,4 +1,4 @@
--- What is kept where an event is added.
+-- What is kept if an event is added.
 use Rattle.std.proofs.Common.{◌≡◌, ℕ, true, cond, List, [], ◌∷◌, ◌++◌, length, map, find, Option, Some, None, refl, sym, ap, ap₂, subst, ◌∙◌}
 use Rattle.std.specs.Prelude.{IsSome, option_map, is_some}
 use Rattle.std.specs.List.{AllByRecursion}
@@ -22,7 +22,7 @@ pub record Shows (bytes : List ℕ) (rows : List Row) (names : List (List ℕ)) 
   pub kept : IsKept bytes rows names decided
   pub view : events_now (standings_of bytes rows) decided ≡ value
 
--- the same with an input of this stamp and number, where it is an event
+-- the same with an input of this stamp and number, if it is an event
 abbrev pub with_input : EventsNow → Row → Input → EventsNow
 with_input value row i = record value { accepted = value.accepted ++ (cond (is_some (event_token i)) (record { number = row.number; at = row.at; input = i } ∷ []) []) }
 

@@ -1,4 +1,4 @@
--- Decisions by places: they stay where an event is added, and one more is made where an event gets its verdict.
+-- Decisions by places: they stay if an event is added, and one more is made if an event receives its verdict.
 use Rattle.std.proofs.Common.{◌≡◌, ℕ, zero, suc, Bool, true, false, cond, List, [], ◌∷◌, ◌++◌, Option, Some, None, slice_get, get_or, set, refl, sym, ap, ap₂, subst, ◌∙◌}
 use Rattle.std.specs.Prelude.{IsSome, option_map}
 use Rattle.std.specs.List.{AllByRecursion, cons_option}
@@ -21,7 +21,7 @@ nothing_decided ss places none empty =
     subst (λ (ps : List ℕ). AreDecided ss ps) (sym empty)
     (subst (λ (xs : List Standing). AreDecided xs []) (sym none) (record { made = tt; found = λ name. refl }))
 
--- where the decisions at these places are the same in two lists, so are their lists
+-- if the decisions at these places are the same in two lists, so are their lists
 module _ (before after : List Standing) (same : (place : ℕ) → IsSome (decision_at before place) → decision_at after place ≡ decision_at before place) where
   decisions_same : (places : List ℕ) → AllByRecursion (λ place. IsSome (decision_at before place)) places → decisions_at after places ≡ decisions_at before places
   decisions_same [] made = refl
@@ -64,7 +64,7 @@ module _ (ss : List Standing) (y : Standing) (places : List ℕ) (decided : AreD
             ∙ ap (option_and_then decision_made) (sym (find-append (has_name name) ss (y ∷ [])));
       }
 
--- ---- an event gets its verdict
+-- ---- an event receives its verdict
 
 -- the verdict of an event
 abbrev pub with_verdict : Standing → Verdict → Standing

@@ -50,7 +50,7 @@ made_told : (name : List ℕ) (o : Option Verdict) → reply_by (option_map (λ 
 made_told name None = refl
 made_told name (Some v) = refl
 
--- what an event is told, by the standing of its token
+-- the answer to an event, by the standing of its token
 abbrev pub standing_answer : Input → List ℕ → Option Standing → Option Answer
 standing_answer i token None = None
 standing_answer i token (Some s) = cond (same_contents s.event.input i) (Some (answer.Repeat token (reply_of_verdict s.verdict))) (Some (answer.Conflict token s.event.number))

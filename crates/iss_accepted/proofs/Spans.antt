@@ -13,7 +13,7 @@ use Rattle.iss_accepted.specs.declared.row.Row.{Row}
 use Rattle.iss_accepted.specs.Standing.{Standing, IsNamed}
 use Rattle.iss_accepted.specs.Kept.{bytes_of, input_read, record_of, standing_of, standings_of, IsSpelledIn}
 
--- bytes within a buffer stay where more are added to it
+-- bytes within a buffer stay if more are added to it
 part_stays : (bytes more : List ℕ) (start end : ℕ) → start ≤ end → end ≤ length bytes
     → take (end - start) (drop start (bytes ++ more)) ≡ take (end - start) (drop start bytes)
 part_stays bytes more start end begins within =

@@ -44,7 +44,7 @@ same_bool false false f g = refl
 pub in_form : (at : ℕ) (i : Input) → is_stamp at ≡ true → is_in_form i ≡ true → list_all is_token (tokens_of i) ≡ true → is_record (record { at = at; input = i }) ≡ true
 in_form at i stamp form tokens = ap₂ (λ (b c : Bool). b && c) stamp (ap₂ (λ (b c : Bool). b && c) form tokens)
 
--- the bytes of a record are those of its stamp and another input exactly where both inputs say the same
+-- the bytes of a record are those of its stamp and another input exactly if both inputs have the same contents
 bytes_tell : (bytes : List ℕ) (at : ℕ) (a b : Input) → is_record (record { at = at; input = a }) ≡ true → is_record (record { at = at; input = b }) ≡ true
     → bytes ≡ spelling (record { at = at; input = a }) → bytes_eq bytes (spelling (record { at = at; input = b })) ≡ same_contents a b
 bytes_tell bytes at a b h k is =
@@ -83,7 +83,7 @@ found_own name (x ∷ xs) s is = at (bytes_eq (name_of x) name) refl (found_own 
         subst (λ (y : Standing). name_of y ≡ name) (same_Some x s first) (one_name (name_of x) name e)
     at false e rest = rest (rw e at is)
 
--- a name has a place where it is found
+-- a name has a place if it is found
 placed_found : (name : List ℕ) (ss : List Standing) → is_some (place_of name (map name_of ss)) ≡ is_some (standing_named name ss)
 placed_found name [] = refl
 placed_found name (s ∷ ss) =
@@ -220,7 +220,7 @@ module _ (bytes : List ℕ) (rows : List Row) (names : List (List ℕ)) (decided
         same : bytes_eq (bytes_of bytes row) (spelling (record { at = row.at; input = i })) ≡ same_contents (event_of bytes row).input i
         same = bytes_tell (bytes_of bytes row) row.at (event_of bytes row).input i row_spelled.form (in_form row.at i stamped form tokens) row_spelled.spelled
 
-    -- ---- the event gets its verdict
+    -- ---- the event receives its verdict
 
     module _ (verdict : Verdict) (undecided : decision_named token value.decisions ≡ None) where
       -- the row with the verdict

@@ -47,7 +47,7 @@ pub record IsSpelledIn (bytes : List ℕ) (row : Row) : Type 0 where
   pub form : IsTrue (is_record (record_of (event_of bytes row)))
   pub named : IsNamed (standing_of bytes row)
 
--- What an input is told by the row of its token: the reply again where the row's bytes spell it, and else the number of the row's record.
+-- The answer of an input by the row of its token: the reply again if the row's bytes spell it, and else the number of the row's record.
 abbrev pub row_answer : List ℕ → Row → List ℕ → Input → Answer
 row_answer bytes row token i =
     if bytes_eq (bytes_of bytes row) (spelling (record { at = row.at; input = i })) then answer.Repeat token (reply_of_verdict row.verdict)

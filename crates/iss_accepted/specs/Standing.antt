@@ -7,7 +7,7 @@ use Rattle.iss_model.specs.declared.decision.Verdict.{Verdict}
 use Rattle.iss_model.specs.Inputs.{event_token}
 use Rattle.iss_model.specs.rules.Facts.{Accepted, Decision}
 
--- an accepted event, and its verdict where it is decided
+-- an accepted event, and its verdict if it is decided
 pub record Standing : Type 0 where
   pub event : Accepted
   pub verdict : Option Verdict

@@ -1,8 +1,9 @@
 -- What the accepted events are to a caller, and what they tell.
-use Rattle.std.specs.Prelude.{List, [], Option}
+use Rattle.std.specs.Prelude.{◌≡◌, ℕ, List, [], ◌∷◌, ◌++◌, find, is_some, Option, Some, None, if◌then◌else◌}
 use Rattle.iss_model.specs.declared.decision.Answer.{Answer}
+use Rattle.iss_model.specs.declared.decision.Verdict.{Verdict}
 use Rattle.iss_model.specs.declared.input.Input.{Input}
-use Rattle.iss_model.specs.Inputs.{event_token}
+use Rattle.iss_model.specs.Inputs.{event_token, is_event}
 use Rattle.iss_model.specs.rules.Facts.{Facts, Accepted, Decision}
 use Rattle.iss_model.specs.rules.Judging.{token_answer}
 use Rattle.iss_model.specs.state.Cores.{no_core, core_facts}
@@ -16,10 +17,25 @@ pub record EventsNow : Type 0 where
 abbrev pub no_events : EventsNow
 no_events = record { accepted = []; decisions = [] }
 
+-- the events with the input of a record, if it is an event
+abbrev pub with_input : EventsNow → ℕ → ℕ → Input → EventsNow
+with_input e number at i =
+    record e {
+      accepted = e.accepted ++ (if is_some (event_token i) then record { number = number; at = at; input = i } ∷ [] else []);
+    }
+
+-- the events with the verdict of one
+abbrev pub with_decision : EventsNow → List ℕ → Verdict → EventsNow
+with_decision e event verdict = record e { decisions = e.decisions ++ record { event = event; verdict = verdict } ∷ [] }
+
+-- no event of an input's token was accepted
+abbrev pub IsUnknown : EventsNow → Input → Type 0
+IsUnknown e i = (token : List ℕ) → event_token i ≡ Some token → find (λ a. is_event token a.input) e.accepted ≡ None
+
 -- the facts that the events tell, as a core would that keeps nothing else
 abbrev pub events_facts : EventsNow → Facts
 events_facts e = core_facts (record no_core { accepted = e.accepted; decisions = e.decisions })
 
--- what an input is told where it is an event that stands
+-- the answer of an input if it is an event that stands
 abbrev pub answer_in : Facts → Input → Option Answer
 answer_in f i = token_answer f i (event_token i)

@@ -1,10 +1,10 @@
 //! The accepted events.
-ghost use Rattle.std.specs.Prelude.{◌≡◌, [], ◌∷◌, ◌++◌, List, ℕ, Some, None, IsTrue, IsSome, IfOk, OnOk, OnErr, is_some, find, if◌then◌else◌};
+ghost use Rattle.std.specs.Prelude.{◌≡◌, Some, None, IsTrue, IsSome, IfOk, OnOk, OnErr, is_some, find};
 ghost use Rattle.std.specs.Str.{bytes_eq};
 ghost use Rattle.iss_model.specs.Forms.{is_stamp, is_in_form};
-ghost use Rattle.iss_model.specs.Inputs.{event_token, is_event};
+ghost use Rattle.iss_model.specs.Inputs.{is_event};
 ghost use Rattle.iss_model.specs.rules.Facts.{event_reply};
-ghost use Rattle.iss_accepted.specs.Values.{no_events, events_facts, answer_in};
+ghost use Rattle.iss_accepted.specs.Values.{IsUnknown, no_events, events_facts, answer_in, with_decision, with_input};
 
 use crate::row::{Row, push};
 use iss_codec::put_record;
@@ -13,7 +13,7 @@ use iss_model::{Answer, Input, Reply, Token, Verdict};
 use std::alloc::{AllocError, Global};
 use std::marker::Model;
 
-/// Accepted events in the order of their records, each with what it says and its decision. Contracts see the list of the
+/// Accepted events in the order of their records, each with its input and its decision. Contracts see the list of the
 /// events, and that of the decisions in the order in which they were made.
 ///
 /// The row of an event stands at the place of its name.
@@ -59,7 +59,7 @@ impl Events {
         self.names.find(event).is_some()
     }
 
-    /// What is told of an event that is accepted.
+    /// The reply to an event that is accepted.
     pub fn reply(&self, event: &Token) -> Option<Reply>
         ensures { result ≡ event_reply (events_facts self.now) event.now }
     {
@@ -69,7 +69,7 @@ impl Events {
         }
     }
 
-    /// What an input is told where it is an event that stands: its reply again where it says the same, and else the number
+    /// The answer of an input if it is an event that stands: its reply again if all its fields are the same, and else the number
     /// of its first record.
     pub fn answer(&self, alloc: Global, input: &Input) -> Result<Option<Answer>, AllocError>
         requires form { IsTrue (is_in_form input.now) }
@@ -85,16 +85,13 @@ impl Events {
         Ok(Some(told))
     }
 
-    /// Adds the input of a record, where it is an event. Where allocation fails all stays as it was, and so where
+    /// Adds the input of a record, if it is an event. If an allocation fails, all stays as it was, and so if
     /// 2^32 - 1 events stand, as many as places are kept for.
     pub fn add(&mut self, number: u32, at: u64, input: &Input) -> Result<(), AllocError>
         requires form { IsTrue (is_in_form input.now) }
         requires stamp { IsTrue (is_stamp at) }
-        requires new { (token : List ℕ) → event_token input.now ≡ Some token → find (λ a. is_event token a.input) self.old.accepted ≡ None }
-        ensures added { OnOk result (self.new ≡ record self.old {
-          accepted = self.old.accepted
-              ++ (if is_some (event_token input.now) then record { number = number; at = at; input = input.now } ∷ [] else []);
-        }) }
+        requires new { IsUnknown self.old input.now }
+        ensures added { OnOk result (self.new ≡ with_input self.old number at input.now) }
         ensures refused { OnErr result (self.new ≡ self.old) }
     {
         let Some(token) = input.event() else {
@@ -119,11 +116,11 @@ impl Events {
         Ok(())
     }
 
-    /// Notes how an accepted event is decided. Where allocation fails all stays as it was.
+    /// Notes how an accepted event is decided. If an allocation fails, all stays as it was.
     pub fn decide(&mut self, event: &Token, verdict: Verdict) -> Result<(), AllocError>
         requires accepted { IsSome (find (λ a. is_event event.now a.input) self.old.accepted) }
         requires undecided { find (λ d. bytes_eq d.event event.now) self.old.decisions ≡ None }
-        ensures decided { OnOk result (self.new ≡ record self.old { decisions = self.old.decisions ++ record { event = event.now; verdict = verdict } ∷ [] }) }
+        ensures decided { OnOk result (self.new ≡ with_decision self.old event.now verdict) }
         ensures refused { OnErr result (self.new ≡ self.old) }
     {
         let Some(place) = self.names.find_last(event) else {

@@ -12,7 +12,7 @@ use iss_codec::put_record;
 use iss_model::{Answer, Input, Reply, Token, Verdict};
 use std::alloc::{AllocError, Global};
 
-/// An accepted event: its record's number and stamp, where its record's bytes begin and end, and its verdict where it is
+/// An accepted event: its record's number and stamp, where its record's bytes begin and end, and its verdict if it is
 /// decided.
 #[derive(Clone, Copy)]
 pub(crate) struct Row {
@@ -34,7 +34,7 @@ impl Row {
         }
     }
 
-    /// What an input of this event's token is told, where the row's bytes lie in `bytes`.
+    /// The answer of an input of this event's token, if the row's bytes lie in `bytes`.
     pub(crate) fn answer(
         &self,
         alloc: Global,

@@ -107,6 +107,6 @@ module _ {p : Entry → Bool} where
   act_passes (Does event) each = one_passes (each (Deciding event verdict.Done) refl)
   act_passes (Acknowledges notice) each = one_passes (each (Acking notice) refl)
 
-  -- the pieces of acts pass where each item does
+  -- the pieces of acts pass if each item does
   pub hold_passes : (t : Txn) (x : Part) (amount : ℕ) → p (item_entry (Holding t x amount)) ≡ true → EachPasses p (hold_entries t x amount)
   hold_passes t x amount h = some_passes amount (Holding t x amount) h

@@ -156,7 +156,7 @@ judge_history rs i stamp =
 pub core_step : (rs : List Record) (r : Record) → (step core_keeper (core_of rs) r).world ≡ core_of (rs ++ r ∷ [])
 core_step rs r = sym (fold-append (λ (s : CoreState) (x : Record). (step core_keeper s x).world) _ rs (r ∷ []))
 
--- a core is told the transcript of the book
+-- a core writes the transcript of the book
 pub core_transcript : (lines : List Reading) → transcript core_keeper no_core lines ≡ transcript history_keeper nothing_yet lines
 core_transcript lines =
     ap (λ (s : CoreState). transcript core_keeper s lines) (core_history [])

@@ -173,7 +173,7 @@ puts_of rows = filter_map (λ row. control_put row.number row.entry) rows
 abbrev pub AreScopesKnown : List Row → Type 0
 AreScopesKnown rows = list_all (λ put. is_group_known (groups_of rows) put.control.scope) (control_puts_of rows) ≡ true
 
--- the controls where a row puts none
+-- the controls if a row puts none
 shown_as : (rows all : List Row) (upd : ControlKept → ControlKept) → puts_of all ≡ puts_of rows
     → ((put : ControlPut) → shown_control all put ≡ upd (shown_control rows put)) → controls_shown all ≡ map upd (controls_shown rows)
 shown_as rows all upd puts alike =

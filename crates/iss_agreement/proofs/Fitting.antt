@@ -201,7 +201,7 @@ began_standing b h t standing fit =
     no_setting : (t : Txn) (i : Input) → entry.Began t ≡ entry.Conf i → ⊥
     no_setting t i e = cc
 
--- what the bounds of its facts say of a history, with the entries entered
+-- what the bounds of its facts mean for a history, with the entries entered
 based : (b : Bounds) (h : History) (es : List Entry) → Enters b h es → (fold after_entry (shown_state h) es ≡ shown_state (grown h es)) × IsGood (grown h es)
 based b h es all = (all.0, rebase b (grown h es) all.1)
 

@@ -243,7 +243,7 @@ pub never_ended : (b : Bounds) (rows : List Row) (token : List ℕ) → AreStand
 never_ended b rows token standing new =
     none_any (is_row_standing b rows) (λ (row : Row). ends_txn token row.entry) (λ row passes. not_ended b rows token new row.number row.entry (its_entry b rows row passes)) rows standing
 
--- a transaction of the token ended where one began and any row ended it
+-- a transaction of the token ended if one began and any row ended it
 ended_of : (rows : List Row) (token : List ℕ) (t : Txn) (b : Bool) → bytes_eq t.token token ≡ b
     → (b && not (txn_now rows t).live) ≡ (b && list_any (λ row. ends_txn token row.entry) rows)
 ended_of rows token t true h =
@@ -283,7 +283,7 @@ begun_and_ended : (b : Bounds) (rows : List Row) (token : List ℕ) → AreStand
 begun_and_ended b rows token standing true h = refl
 begun_and_ended b rows token standing false h = sym (never_ended b rows token standing h)
 
--- a transaction begins live where no row has ended its token
+-- a transaction begins live if no row has ended its token
 begins_live : (b : Bounds) (rows : List Row) (token : List ℕ) → AreStanding b rows → list_any (λ row. ends_txn token row.entry) rows ≡ list_any (has_ended token) (txns_of rows)
 begins_live b rows token standing =
     sym (ended_any rows rows token ∙ ap (λ (begun : Bool). begun && list_any (λ (row : Row). ends_txn token row.entry) rows) refl ∙ begun_and_ended b rows token standing (is_begun rows token) refl)
@@ -396,7 +396,7 @@ and_true : (b : Bool) → (b && true) ≡ b
 and_true true = refl
 and_true false = refl
 
--- the pending notices where a row acknowledges none
+-- the pending notices if a row acknowledges none
 still_waiting : (rows : List Row) (n : ℕ) (e : Entry) → ((number : ℕ) → acknowledges number e ≡ false) → (notices : List Notice) → filter (waits (rows ++ row_of n e)) notices ≡ filter (waits rows) notices
 still_waiting rows n e none notices =
     filter-alike (waits (rows ++ row_of n e)) (waits rows) (λ notice. waits-more rows n e notice ∙ ap (λ (b : Bool). waits rows notice && not b) (none notice.number) ∙ and_true (waits rows notice)) notices

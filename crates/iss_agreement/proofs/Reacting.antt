@@ -1,4 +1,4 @@
--- Two keepers of which one shows the other react alike to each input, and are told one transcript.
+-- Two keepers of which one shows the other react alike to each input, and write one transcript.
 use Rattle.std.proofs.Common.{◌≡◌, ℕ, List, [], ◌∷◌, ◌++◌, map, refl, ap, ◌∙◌}
 use Rattle.std.specs.Prelude.{unwrap_or}
 use Rattle.std.specs.List.{flat_map}
@@ -21,7 +21,7 @@ use Rattle.iss_agreement.proofs.Keepers.{step-kept, step-shown, judge-shown}
 abbrev pub shown_reaction : {W V : Type 0} → (W → V) → Reaction W → Reaction V
 shown_reaction show r = record { world = show r.world; said = r.said }
 
--- what one keeper is told, as the other shows it
+-- what stands and the texts of one keeper, as the other shows it
 abbrev pub shown_told : {W V : Type 0} → (W → V) → LineReply W → LineReply V
 shown_told show t = record { world = show t.world; texts = t.texts }
 

@@ -26,7 +26,7 @@ use Rattle.iss_model.proofs.Names.{one_name}
 use Rattle.iss_model.proofs.Lists.{map-map, neither}
 use Rattle.iss_agreement.proofs.CoreOfBook.{core_history}
 
--- what stands at each key where keys alone matter
+-- what stands at each key when keys alone matter
 abbrev Mark : Type 0
 Mark = Unit {0}
 
@@ -63,7 +63,7 @@ the_mark : (found : Option Mark) → is_some found ≡ true → Some tt ≡ foun
 the_mark None h = cc
 the_mark (Some mark) h = refl
 
--- a key that is there is found as before where it is put again
+-- a key that is there is found as before if it is put again
 found_before : (key name : List ℕ) (marks : List (List ℕ × Mark)) (b : Bool) → is_some (find order key marks) ≡ true → eq_by_cmp order name key ≡ b
     → cond b (Some tt) (find order name marks) ≡ find order name marks
 found_before key name marks true h e =
@@ -119,7 +119,7 @@ found_here : (here : Bool) (later : Option Mark) → is_some (cond here (Some tt
 found_here true later = refl
 found_here false later = refl
 
--- an account is among accounts where its key is among theirs
+-- an account is among accounts if its key is among theirs
 account_found : (key : List ℕ) (accounts : List Account) → is_some (find order key (account_marks accounts)) ≡ list_any (λ b. bytes_eq key (account_key b)) accounts
 account_found key [] = refl
 account_found key (a ∷ accounts) =
@@ -190,7 +190,7 @@ entered_all sums accounts (row ∷ rows) kept =
     (sym (fold-append accounts_with_once accounts (posted_accounts row.entry) (flat_map (λ (row : Row). posted_accounts row.entry) rows)))
     (entered_all (after_changes sums (balance_changes row.entry)) (fold accounts_with_once accounts (posted_accounts row.entry)) rows (entered sums accounts row.entry kept))
 
--- nothing is kept where nothing was posted
+-- nothing is kept if nothing was posted
 none_kept : AreKeptFor nothing_kept []
 none_kept =
     record {

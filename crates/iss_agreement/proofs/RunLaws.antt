@@ -30,7 +30,7 @@ pub clock_follows : (h : History) (i : Input) (stamp : ℕ) (r : Record) → jud
 clock_follows h i stamp r e =
     record { stamp = not_before history_keeper h stamp r.at (clock_at history_keeper h i stamp r e); is_new = clock_again history_keeper h i stamp r e }
 
--- what may follow a record that is made only where one more may come, and it fits
+-- what may follow a record that is made only if one more may come, and it fits
 fitting : (h : History) (i : Input) (stamp : ℕ) (may fit : Bool) (spent full : Answer) (r : Record) (j : Judged) (rest : List Record) → record_made j ≡ Some r
     → (reaction_as history_keeper h i stamp j).world ≡ (step history_keeper h r).world → Follows h r
     → IsLegalAfter (reaction_as history_keeper h i stamp (cond may (cond fit j (judged.Told full)) (judged.Told spent))).world rest
@@ -50,7 +50,7 @@ fitting_in None h i stamp r j rest made next follows legal =
 fitting_in (Some room) h i stamp r j rest made next follows legal =
     fitting h i stamp (nat_lt (length h.records) MOST_RECORDS) (fits room h.records r) answer.Spent _ r j rest made next follows legal
 
--- a line's record, where it makes one, follows on what stands
+-- a line's record, if it makes one, follows on what stands
 judged_legal : (room : Option Room) (h : History) (i : Input) (stamp : ℕ) (j : Judged) (rest : List Record) → judge history_keeper h i stamp ≡ j
     → IsLegalAfter (reaction_as history_keeper h i stamp (judgement_within room h.records j)).world rest
     → IsLegalAfter h (option_to_list (record_made (judgement_within room h.records j)) ++ rest)
@@ -105,11 +105,11 @@ no_room rs (Some r) = refl
 abbrev dry_after : History → Run
 dry_after h = record { instance = 0; room = None; history = h }
 
--- what a line is told that was judged so
+-- the texts of a line with this judgement
 abbrev line_said : History → Input → ℕ → Judged → List Text
 line_said h i stamp j = at_level (length (reaction_as history_keeper h i stamp j).world.records) (map (said_text_at 0) (reaction_as history_keeper h i stamp j).said)
 
--- the same, and what the lines after it are told in this room
+-- the same, and the texts of the lines after it in this room
 abbrev line_on : History → Input → ℕ → List Reading → Judged → Option Room → List Text
 line_on h i stamp lines j room =
     line_said h i stamp j ++ line_texts (record { instance = 0; room = room; history = (reaction_as history_keeper h i stamp j).world }) lines

@@ -145,7 +145,7 @@ now_other : (puts : List ControlPut) (p x : ControlPut) → bytes_eq x.control.n
 now_other puts p x differs =
     now_more puts p x ∙ ap (λ (b : Bool). cond b (record (control_now puts x) { control = control_replaced (control_now puts x).control p.control }) (control_now puts x)) (name-sym p.control.name x.control.name ∙ differs)
 
--- the scopes are known after a control that is put, where its own is known or it stood before
+-- the scopes are known after a control that is put, if its own is known or it stood before
 put_known : (groups : List Group) (puts : List ControlPut) (p : ControlPut) (b : Bool) → list_any (λ k. bytes_eq k.control.name p.control.name) (firsts put_name puts) ≡ b
     → (b ≡ false → knows groups p ≡ true) → list_all (knows groups) (map (control_now puts) (firsts put_name puts)) ≡ true
     → list_all (knows groups) (map (control_now (puts ++ p ∷ [])) (firsts put_name (puts ++ p ∷ []))) ≡ true
@@ -160,7 +160,7 @@ put_known groups puts p false new own known =
     ∙ list_all-append (knows groups) (map (control_now puts) (firsts put_name puts)) (p ∷ [])
     ∙ both_true (list_all (knows groups) (map (control_now puts) (firsts put_name puts))) (knows groups p && true) known (both_true (knows groups p) true (own refl) refl)
 
--- a control of this name stands where one was put
+-- a control of this name stands if one was put
 control_found : (rows : List Row) (name : List ℕ) → is_some (control_named name (controls_of rows)) ≡ list_any (λ k. bytes_eq k.control.name name) (firsts put_name (puts_of rows))
 control_found rows name =
     is-some-find (λ (c : ControlNow). bytes_eq c.control.name name) (controls_of rows)

@@ -18,6 +18,10 @@ use Rattle.iss_model.specs.state.Cores.{CoreState, ProductNow, ControlKept, begu
 abbrev pub shown_product : List Row → Product → ProductNow
 shown_product rows product = record { product = product; on = is_switched rows product.name }
 
+-- the products of a book, each with its switch
+abbrev pub shown_products : List Row → List ProductNow
+shown_products rows = map (shown_product rows) (products_of rows)
+
 -- a control with what it has counted over the whole book
 abbrev pub shown_control : List Row → ControlPut → ControlKept
 shown_control rows put =
@@ -47,7 +51,7 @@ shown_state h =
       accepted = events_of h.records;
       decisions = filter_map (λ row. decision_of row.entry) h.rows;
       cardholders = record { users = users_of h.rows; cards = cards_of h.rows };
-      products = map (shown_product h.rows) (products_of h.rows);
+      products = shown_products h.rows;
       groups = groups_of h.rows;
       controls = map (shown_control h.rows) (control_puts_of h.rows);
       stand_ins = record { sets = sets_of h.rows; stood = kept_of stood_changes h.rows };

@@ -10,34 +10,31 @@ ghost use Rattle.iss_model.specs.declared.entry.Entry.{Entry};
 ghost use Rattle.iss_model.specs.declared.decision.Judged.TheVariants.{New, Clock};
 ghost use Rattle.iss_model.specs.declared.input.Input.{Input};
 ghost use Rattle.iss_model.specs.declared.input.Record.{Record};
-ghost use Rattle.iss_model.specs.Sums.{Change, account_key, balance_changes, user_key, part_key, stood_key, sum_at};
+ghost use Rattle.iss_model.specs.Sums.{Change, account_key, part_key};
 ghost use Rattle.iss_model.specs.state.Kept.{kept_at};
-ghost use Rattle.iss_model.specs.rules.Settings.{users_of, cards_of, products_of};
-ghost use Rattle.iss_model.specs.rules.Controls.{ControlPut, groups_of, controls_of, sets_of, counted_changes};
+ghost use Rattle.iss_model.specs.rules.Settings.{users_of, cards_of};
+ghost use Rattle.iss_model.specs.rules.Controls.{ControlPut, groups_of, controls_of, sets_of};
 ghost use Rattle.iss_model.specs.rules.Activity.{txns_of, calls_of, notices_of, pending_of};
-ghost use Rattle.iss_model.specs.rules.Facts.{balance_in, held_in, part_in, stand_in_sum, reply_in};
+ghost use Rattle.iss_model.specs.rules.Facts.{held_in, stand_in_sum, reply_in};
 ghost use Rattle.iss_model.specs.rules.Asks.{used_in};
 ghost use Rattle.iss_model.specs.texts.BalanceLines.{accounts_of};
-ghost use Rattle.iss_model.specs.rules.Histories.{book_facts, events_of, history_facts, history_keeper, history_of, nothing_yet, time_of};
-ghost use Rattle.iss_model.specs.rules.Stepping.{step};
-ghost use Rattle.iss_model.specs.rules.Judging.{judge};
+ghost use Rattle.iss_model.specs.rules.Histories.{book_facts, events_of, history_keeper, history_of, nothing_yet, time_of};
 ghost use Rattle.iss_model.specs.state.Cores.{CoreState, no_core, control_facts, core_facts, core_keeper, core_of};
 ghost use Rattle.iss_model.specs.run.Transcripts.{Reading, transcript};
-ghost use Rattle.iss_agreement.specs.Shown.{shown_product, shown_state};
-ghost use Rattle.iss_agreement.specs.Laws.{rows_since, sum_among};
+ghost use Rattle.iss_agreement.specs.Shown.{shown_products, shown_state};
 ghost use Rattle.iss_agreement.specs.Likeness.{AreAlike};
+ghost use Rattle.iss_agreement.specs.Stepped.{IsNewToBook, IsNewToCore, book_entries, book_judges, book_rows, core_after, core_entries, core_judges, kept_facts};
+ghost use Rattle.iss_agreement.specs.Booked.{CountsSinceFirst, amounts_counted, book_balance, book_sum, kept_balance, kept_held, kept_part, kept_stood, posted_to, record_sum, times_counted};
 
 /// The state that is kept entry by entry is the one that the book shows by filters and sums over all its rows.
 /// Book and state tell the same facts, so a further record makes the same entries on both, and both judge an input alike.
 #[tactic(auto, using(crate::proofs::CoreOfBook::core_history, crate::proofs::CoreOfBook::core_step, crate::proofs::CoreOfBook::facts_history, crate::proofs::CoreOfBook::entries_history, crate::proofs::CoreOfBook::judge_history))]
 pub fn core_keeps_the_book()
     ensures state { (rs : List Record) → core_of rs ≡ shown_state (history_of rs) }
-    ensures longer { (rs : List Record) → (r : Record) → (step core_keeper (core_of rs) r).world ≡ core_of (rs ++ r ∷ []) }
-    ensures facts { (rs : List Record) → core_facts (core_of rs) ≡ book_facts rs }
-    ensures entries { (rs : List Record) → (r : Record)
-        → (step core_keeper (core_of rs) r).entries ≡ (step history_keeper (history_of rs) r).entries }
-    ensures judged { (rs : List Record) → (i : Input) → (stamp : ℕ)
-        → judge core_keeper (core_of rs) i stamp ≡ judge history_keeper (history_of rs) i stamp }
+    ensures longer { (rs : List Record) → (r : Record) → core_after (core_of rs) r ≡ core_of (rs ++ r ∷ []) }
+    ensures facts { (rs : List Record) → kept_facts rs ≡ book_facts rs }
+    ensures entries { (rs : List Record) → (r : Record) → core_entries (core_of rs) r ≡ book_entries rs r }
+    ensures judged { (rs : List Record) → (i : Input) → (stamp : ℕ) → core_judges (core_of rs) i stamp ≡ book_judges rs i stamp }
 {}
 
 /// Cores that are alike tell the same facts. So a record makes the same entries on both and leaves them alike, and both judge
@@ -46,15 +43,12 @@ pub fn core_keeps_the_book()
 pub fn alike_cores_stay_alike()
     ensures itself { (c : CoreState) → AreAlike c c }
     ensures facts { (c d : CoreState) → AreAlike c d → core_facts c ≡ core_facts d }
-    ensures entries { (c d : CoreState) → (r : Record) → AreAlike c d
-        → (step core_keeper c r).entries ≡ (step core_keeper d r).entries }
-    ensures worlds { (c d : CoreState) → (r : Record) → AreAlike c d
-        → AreAlike (step core_keeper c r).world (step core_keeper d r).world }
-    ensures judged { (c d : CoreState) → (i : Input) → (stamp : ℕ) → AreAlike c d
-        → judge core_keeper c i stamp ≡ judge core_keeper d i stamp }
+    ensures entries { (c d : CoreState) → (r : Record) → AreAlike c d → core_entries c r ≡ core_entries d r }
+    ensures worlds { (c d : CoreState) → (r : Record) → AreAlike c d → AreAlike (core_after c r) (core_after d r) }
+    ensures judged { (c d : CoreState) → (i : Input) → (stamp : ℕ) → AreAlike c d → core_judges c i stamp ≡ core_judges d i stamp }
 {}
 
-/// Lines are told on a core what they are told on its book.
+/// The texts of lines on a core are those on its book.
 #[tactic(auto, using(crate::proofs::CoreOfBook::core_transcript))]
 pub fn a_core_is_told_its_transcript()
     ensures { (lines : List Reading) → transcript core_keeper no_core lines ≡ transcript history_keeper nothing_yet lines }
@@ -63,25 +57,18 @@ pub fn a_core_is_told_its_transcript()
 /// What a control counts by origin over the whole book is what it counts in the rows of records later than its first.
 #[tactic(auto, using(crate::proofs::Since::amounts_since, crate::proofs::Since::times_since))]
 pub fn controls_count_since_their_first_record()
-    ensures amounts { (rs : List Record) → (put : ControlPut) → (key : List ℕ)
-        → sum_at (counted_changes (λ row. row.amount) (groups_of (history_of rs).rows) put) key (history_of rs).rows
-        ≡ sum_at (counted_changes (λ row. row.amount) (groups_of (history_of rs).rows) put) key (rows_since put.number (history_of rs).rows) }
-    ensures times { (rs : List Record) → (put : ControlPut) → (key : List ℕ)
-        → sum_at (counted_changes (λ row. row.count) (groups_of (history_of rs).rows) put) key (history_of rs).rows
-        ≡ sum_at (counted_changes (λ row. row.count) (groups_of (history_of rs).rows) put) key (rows_since put.number (history_of rs).rows) }
+    ensures amounts { (rs : List Record) (put : ControlPut) → CountsSinceFirst (amounts_counted rs put) put rs }
+    ensures times { (rs : List Record) (put : ControlPut) → CountsSinceFirst (times_counted rs put) put rs }
 {}
 
 /// A further record adds to each sum of the book what its entries change there. So an account's balance grows by what the
 /// entries post to it, less what they post from it.
 #[tactic(auto, using(crate::proofs::StepSums::summed_more, crate::proofs::StepSums::balance_more))]
 pub fn records_add_to_sums()
-    ensures sums { (changes : Entry → List Change) → (key : List ℕ) → (rs : List Record) → (r : Record)
-        → sum_at changes key (history_of (rs ++ r ∷ [])).rows
-        ≡ sum_at changes key (history_of rs).rows +ℤ sum_among changes key (step history_keeper (history_of rs) r).entries }
-    ensures balance { (a : Account) → (rs : List Record) → (r : Record)
-        → balance_in (history_facts (history_of (rs ++ r ∷ []))) a
-        ≡ balance_in (book_facts rs) a
-        +ℤ sum_among balance_changes (account_key a) (step history_keeper (history_of rs) r).entries }
+    ensures sums { (changes : Entry → List Change) (key : List ℕ) (rs : List Record) (r : Record)
+        → book_sum changes key (rs ++ r ∷ []) ≡ book_sum changes key rs +ℤ record_sum changes key rs r }
+    ensures balance { (a : Account) (rs : List Record) (r : Record)
+        → book_balance (rs ++ r ∷ []) a ≡ book_balance rs a +ℤ posted_to rs r a }
 {}
 
 /// What a core answers to each question is what its book answers: each list by filters, each sum over all rows.
@@ -90,48 +77,42 @@ pub fn core_answers_as_its_book()
     ensures time { (rs : List Record) → (core_of rs).now ≡ time_of rs }
     ensures count { (rs : List Record) → (core_of rs).count ≡ length rs }
     ensures events { (rs : List Record) → (core_of rs).accepted ≡ events_of rs }
-    ensures reply { (rs : List Record) → (event : List ℕ)
-        → reply_in (core_facts (core_of rs)) event ≡ reply_in (book_facts rs) event }
+    ensures reply { (rs : List Record) → (event : List ℕ) → reply_in (kept_facts rs) event ≡ reply_in (book_facts rs) event }
     ensures users { (rs : List Record) → (core_of rs).cardholders.users ≡ users_of (history_of rs).rows }
     ensures cards { (rs : List Record) → (core_of rs).cardholders.cards ≡ cards_of (history_of rs).rows }
-    ensures products { (rs : List Record)
-        → (core_of rs).products ≡ map (shown_product (history_of rs).rows) (products_of (history_of rs).rows) }
+    ensures products { (rs : List Record) → (core_of rs).products ≡ shown_products (book_rows rs) }
     ensures groups { (rs : List Record) → (core_of rs).groups ≡ groups_of (history_of rs).rows }
     ensures controls { (rs : List Record) → map control_facts (core_of rs).controls ≡ controls_of (history_of rs).rows }
     ensures sets { (rs : List Record) → (core_of rs).stand_ins.sets ≡ sets_of (history_of rs).rows }
-    ensures used { (rs : List Record) → (control : List ℕ) → (user : List ℕ) → (at : ℕ)
-        → used_in (core_facts (core_of rs)) control user at ≡ used_in (book_facts rs) control user at }
-    ensures balance { (rs : List Record) → (a : Account)
-        → kept_at (core_of rs).balances (account_key a) ≡ balance_in (book_facts rs) a }
+    ensures used { (rs : List Record) (control user : List ℕ) (at : ℕ)
+        → used_in (kept_facts rs) control user at ≡ used_in (book_facts rs) control user at }
+    ensures balance { (rs : List Record) → (a : Account) → kept_balance (core_of rs) a ≡ book_balance rs a }
     ensures accounts { (rs : List Record)
         → finite.keys (core_of rs).balances ≡ map account_key (accounts_of (history_of rs).rows) }
-    ensures held { (rs : List Record) → (user : List ℕ) → (currency : Currency)
-        → kept_at (core_of rs).holdings.held (user_key user currency) ≡ held_in (book_facts rs) user currency }
-    ensures part { (rs : List Record) → (txn : List ℕ) → (part : Part)
-        → kept_at (core_of rs).holdings.parts (part_key txn part) ≡ (book_facts rs).parts (part_key txn part) }
+    ensures held { (rs : List Record) (user : List ℕ) (currency : Currency)
+        → kept_held (core_of rs) user currency ≡ held_in (book_facts rs) user currency }
+    ensures part { (rs : List Record) (txn : List ℕ) (p : Part) → kept_part (core_of rs) txn p ≡ (book_facts rs).parts (part_key txn p) }
     ensures cleared { (rs : List Record) → (txn : List ℕ)
         → kept_at (core_of rs).txn_sums.cleared txn ≡ (book_facts rs).cleared txn }
-    ensures refunded { (rs : List Record) → (txn : List ℕ)
-        → kept_at (core_of rs).txn_sums.refunded txn ≡ (book_facts rs).refunded txn }
+    ensures refunded { (rs : List Record) (txn : List ℕ) → kept_at (core_of rs).txn_sums.refunded txn ≡ (book_facts rs).refunded txn }
     ensures paid { (rs : List Record) → (txn : List ℕ)
         → kept_at (core_of rs).txn_sums.paid txn ≡ (book_facts rs).paid txn }
-    ensures stood { (rs : List Record) → (product : List ℕ) → (user : List ℕ) → (at : ℕ)
-        → kept_at (core_of rs).stand_ins.stood (stood_key product user at) ≡ stand_in_sum (book_facts rs) product user at }
+    ensures stood { (rs : List Record) (product user : List ℕ) (at : ℕ)
+        → kept_stood (core_of rs) product user at ≡ stand_in_sum (book_facts rs) product user at }
     ensures txns { (rs : List Record) → (core_of rs).holdings.txns ≡ txns_of (history_of rs).rows }
     ensures calls { (rs : List Record) → (core_of rs).calls ≡ calls_of (history_of rs).rows }
     ensures notices { (rs : List Record) → (core_of rs).outbox.made ≡ length (notices_of (history_of rs).rows) }
     ensures pending { (rs : List Record) → (core_of rs).outbox.pending ≡ pending_of (history_of rs).rows }
 {}
 
-/// A record that judging gives, of the input itself or of the time before its answer, is new where it is judged again,
+/// A record that judging returns, of the input itself or of the time before its answer, is new if it is judged again,
 /// by the book as by the state.
 pub fn judging_is_stable()
-    ensures book { (rs : List Record) → (i : Input) → (stamp : ℕ) → (r : Record)
-        → judge history_keeper (history_of rs) i stamp ≡ New r → judge history_keeper (history_of rs) r.input r.at ≡ New r }
-    ensures book_clock { (rs : List Record) → (i : Input) → (stamp : ℕ) → (r : Record)
-        → judge history_keeper (history_of rs) i stamp ≡ Clock r → judge history_keeper (history_of rs) r.input r.at ≡ New r }
-    ensures state { (rs : List Record) → (i : Input) → (stamp : ℕ) → (r : Record)
-        → judge core_keeper (core_of rs) i stamp ≡ New r → judge core_keeper (core_of rs) r.input r.at ≡ New r }
-    ensures state_clock { (rs : List Record) → (i : Input) → (stamp : ℕ) → (r : Record)
-        → judge core_keeper (core_of rs) i stamp ≡ Clock r → judge core_keeper (core_of rs) r.input r.at ≡ New r }
+    ensures book { (rs : List Record) (i : Input) (stamp : ℕ) (r : Record) → book_judges rs i stamp ≡ New r → IsNewToBook rs r }
+    ensures book_clock { (rs : List Record) (i : Input) (stamp : ℕ) (r : Record)
+        → book_judges rs i stamp ≡ Clock r → IsNewToBook rs r }
+    ensures state { (rs : List Record) (i : Input) (stamp : ℕ) (r : Record)
+        → core_judges (core_of rs) i stamp ≡ New r → IsNewToCore (core_of rs) r }
+    ensures state_clock { (rs : List Record) (i : Input) (stamp : ℕ) (r : Record)
+        → core_judges (core_of rs) i stamp ≡ Clock r → IsNewToCore (core_of rs) r }
 {}

@@ -1,3 +1,4 @@
 pub mod Readings
-pub mod Digits
+pub mod PaddedDigits
+pub mod Bounds
 pub mod RoundTrips

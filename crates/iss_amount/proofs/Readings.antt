@@ -7,9 +7,9 @@ use Rattle.iss_model.specs.declared.currency.Currency.{Currency}
 use Rattle.iss_model.specs.Forms.{is_limit, is_amount}
 use Rattle.iss_model.specs.Currencies.{decimals_of}
 use Rattle.iss_model.specs.Amounts.{value_after, is_digit, is_whole_text, is_amount_text, digits_value, amount_digits, point_place, limit_read, amount_read, if_form}
-use Rattle.iss_amount.specs.Reading.{limit_after, limit_of_units}
+use Rattle.iss_amount.specs.Reading.{limit_of_units}
 
--- a limit read from a text with so many decimals
+-- a limit read from a text with this number of decimals
 abbrev pub limit_in : List ℕ → ℕ → Option ℕ
 limit_in text places = cond (is_amount_text text places) (if_form is_limit (digits_value (amount_digits text places))) None
 
@@ -27,10 +27,6 @@ either : (b : Bool) (o : Option ℕ) → o ≡ None → cond b o None ≡ None
 either true o h = h
 either false o h = refl
 
--- more digits never make it a limit again
-pub stays_great : (n : ℕ) (ds : List ℕ) → 1000000000000 < n → limit_after n ds ≡ None
-stays_great n ds h = either (list_all is_digit ds) _ (value_above n ds h)
-
 more_digits : (units : List ℕ) (ds : List ℕ) → 1000000000000 < digits_value units → if_form is_limit (digits_value (units ++ ds)) ≡ None
 more_digits units ds h = ap (if_form is_limit) (fold-append _ 0 units ds) ∙ value_above (digits_value units) ds h
 
@@ -38,7 +34,7 @@ no_units : (whole point rest : Bool) (units ds : List ℕ) → cond whole (if_fo
 no_units false point rest units ds e = refl
 no_units true point rest units ds e = either (point && rest) _ (more_digits units ds (is_above _ e))
 
--- where the whole units are none or too many, the text is no limit
+-- if the whole units are none or too many, the text is no limit
 pub units_missing : (text : List ℕ) (places : ℕ) → 0 < places → limit_of_units (take (point_place text places) text) ≡ None → limit_in text places ≡ None
 units_missing text places some e =
     let pointed : nat_eq places 0 ≡ false = grind (arith, nat_tests) in

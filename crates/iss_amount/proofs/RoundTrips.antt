@@ -16,7 +16,7 @@ use Rattle.iss_model.specs.Currencies.{decimals_of, unit_of}
 use Rattle.iss_model.specs.Amounts.{value_after, is_digit, is_whole_text, is_amount_text, digits_value, amount_digits, point_place, minor_units, limit_read, amount_read, if_form, amount_text, decimals_text}
 use Rattle.iss_amount.specs.Laws.{IsReadAgain, IsWrittenAgain}
 
--- an amount of a form, read from a text with so many decimals
+-- an amount of a form, read from a text with this number of decimals
 abbrev read_in : (ℕ → Bool) → List ℕ → ℕ → Option ℕ
 read_in form text places = cond (is_amount_text text places) (if_form form (digits_value (amount_digits text places))) None
 
@@ -104,7 +104,7 @@ reads text places some e =
 
 -- ---- each number of decimals
 
--- a number's text in a currency with so many decimals
+-- a number's text in a currency with this number of decimals
 abbrev text_in : ℕ → ℕ → ℕ → List ℕ
 text_in places unit n = decimal (n / unit) ++ decimals_text places n
 

@@ -4,7 +4,7 @@ use Rattle.iss_model.specs.declared.currency.Currency.{Currency}
 use Rattle.iss_model.specs.Forms.{is_amount, is_limit}
 use Rattle.iss_model.specs.Amounts.{amount_read, limit_read, amount_text}
 
--- the text of an amount is read as that amount, by an event's amount where it may be one, and by a limit likewise
+-- the text of an amount is read as that amount, by an event's amount if it may be one, and by a limit likewise
 pub record IsReadAgain (amount : ℤ) (c : Currency) : Type 0 where
   pub amount_again : (n : ℕ) → amount ≡ pos n → IsTrue (is_amount n) → amount_read (amount_text amount c) c ≡ Some n
   pub limit_again : (n : ℕ) → amount ≡ pos n → IsTrue (is_limit n) → limit_read (amount_text amount c) c ≡ Some n

@@ -7,9 +7,11 @@
 #![tactic(auto)]
 
 mod currency;
+mod digits;
 mod reading;
 mod writing;
 
 pub use currency::{code, decimals, from_code};
+pub use digits::number_in;
 pub use reading::{read, read_limit, whole, whole_limit};
 pub use writing::write;

@@ -1,20 +1,16 @@
 //! Amounts read from text, and from whole numbers of units.
 ghost use Rattle.std.specs.Prelude.{◌≡◌};
 ghost use Rattle.iss_model.specs.Forms.{is_amount, is_limit};
-ghost use Rattle.iss_model.specs.Amounts.{is_unpadded, if_form, amount_read, limit_read, whole_amount_read, whole_limit_read};
+ghost use Rattle.iss_model.specs.Amounts.{if_form, amount_read, limit_read, whole_amount_read, whole_limit_read};
 ghost use Rattle.iss_amount.specs.Reading.{limit_after, limit_of_units};
 ghost use Rattle.iss_amount.specs.Laws.{IsWrittenAgain};
 
 use crate::currency::{decimals, unit};
+use crate::digits::{number_after, number_in};
 use iss_model::Currency;
+use iss_model::limits::{GREATEST_AMOUNT, GREATEST_LIMIT, LEAST_AMOUNT};
 
-/// The greatest amount of an event, in minor units.
-const GREATEST_AMOUNT: u64 = 1_000_000_000;
-
-/// The greatest limit, in minor units.
-const GREATEST_LIMIT: u64 = 1_000_000_000_000;
-
-/// The minor units of an event's amount such as `10.00`: `None` where the text isn't well formed in the currency, or they aren't 1 to 10^9.
+/// The minor units of an event's amount such as `10.00`: `None` if the text isn't well formed in the currency, or they aren't 1 to 10^9.
 #[tactic(auto, using(crate::proofs::RoundTrips::amount_written_again))]
 pub fn read(text: &[u8], currency: Currency) -> Option<u64>
     ensures number { result ≡ amount_read text.now currency }
@@ -24,7 +20,7 @@ pub fn read(text: &[u8], currency: Currency) -> Option<u64>
     checked_amount(amount)
 }
 
-/// The minor units of a limit such as `10.00`: `None` where the text isn't well formed in the currency, or they are above 10^12.
+/// The minor units of a limit such as `10.00`: `None` if the text isn't well formed in the currency, or they are above 10^12.
 #[tactic(auto, using(crate::proofs::RoundTrips::limit_written_again))]
 pub fn read_limit(text: &[u8], currency: Currency) -> Option<u64>
     ensures number { result ≡ limit_read text.now currency }
@@ -42,7 +38,7 @@ pub fn read_limit(text: &[u8], currency: Currency) -> Option<u64>
     read_after(units, &text[point + 1..])
 }
 
-/// The minor units of so many whole units: `None` where they aren't 1 to 10^9.
+/// The minor units of `units` whole units: `None` if they aren't 1 to 10^9.
 pub fn whole(units: u64, currency: Currency) -> Option<u64>
     ensures { result ≡ whole_amount_read units currency }
 {
@@ -50,7 +46,7 @@ pub fn whole(units: u64, currency: Currency) -> Option<u64>
     checked_amount(amount)
 }
 
-/// The minor units of so many whole units: `None` where they are above 10^12.
+/// The minor units of `units` whole units: `None` if they are above 10^12.
 pub fn whole_limit(units: u64, currency: Currency) -> Option<u64>
     ensures { result ≡ whole_limit_read units currency }
 {
@@ -58,57 +54,30 @@ pub fn whole_limit(units: u64, currency: Currency) -> Option<u64>
     checked_limit(limit)
 }
 
-/// The number, where it is an amount of an event.
+/// The number, if it is an amount of an event.
 fn checked_amount(n: u64) -> Option<u64>
     ensures { result ≡ if_form is_amount n }
 {
-    (1..=GREATEST_AMOUNT).contains(&n).then_some(n)
+    (LEAST_AMOUNT..=GREATEST_AMOUNT).contains(&n).then_some(n)
 }
 
-/// The number, where it is a limit.
+/// The number, if it is a limit.
 fn checked_limit(n: u64) -> Option<u64>
     ensures { result ≡ if_form is_limit n }
 {
     (n <= GREATEST_LIMIT).then_some(n)
 }
 
-/// The number of a text of digits with no leading zero.
+/// The limit that a text of digits with no leading zero spells.
 fn read_units(text: &[u8]) -> Option<u64>
     ensures { result ≡ limit_of_units text.now }
 {
-    if is_unpadded(text) {
-        read_after(0, text)
-    } else {
-        None
-    }
+    number_in(0, GREATEST_LIMIT, text)
 }
 
-/// There are digits, with no zero before another.
-fn is_unpadded(digits: &[u8]) -> bool
-    ensures { result ≡ is_unpadded digits.now }
-{
-    match digits {
-        [] => false,
-        [_] => true,
-        [first, ..] => *first != b'0',
-    }
-}
-
-/// The number that digits spell after those of `start`, up to the greatest limit.
-#[tactic(auto, using(crate::proofs::Readings::stays_great))]
+/// The limit that digits spell after those of `start`.
 fn read_after(start: u64, digits: &[u8]) -> Option<u64>
     ensures { result ≡ limit_after start digits.now }
 {
-    let mut number = start;
-    for byte in digits {
-        // More digits never bring it down again.
-        if number > GREATEST_LIMIT {
-            return None;
-        }
-        if !byte.is_ascii_digit() {
-            return None;
-        }
-        number = 10 * number + u64::from(*byte - b'0');
-    }
-    checked_limit(number)
+    number_after(start, 0, GREATEST_LIMIT, digits)
 }

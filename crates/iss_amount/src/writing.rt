@@ -8,7 +8,7 @@ use crate::currency::{decimals, unit};
 use iss_model::Currency;
 use std::alloc::{AllocError, Global};
 
-/// The text of an amount in minor units: a minus sign where it is negative, the whole units, and the currency's decimals.
+/// The text of an amount in minor units: a minus sign if it is negative, the whole units, and the currency's decimals.
 #[tactic(auto, using(crate::proofs::RoundTrips::read_again))]
 pub fn write(alloc: Global, amount: i64, currency: Currency) -> Result<String, AllocError>
     ensures text { IfOk result (λ text. string_bytes text ≡ amount_text amount currency) }

@@ -31,17 +31,17 @@ use Rattle.iss_model.specs.rules.Activity.{is_asked}
 use Rattle.iss_model.specs.rules.Histories.{History, nothing_yet, history_facts, history_keeper}
 use Rattle.iss_model.specs.run.Sayings.{Said, decided, asked, noticed, answered, reaction}
 
--- an input, the stamp that its line gives, or 0, and what is said of it
+-- an input, the stamp that its line has, or 0, and what is said of it
 pub record Step : Type 0 where
   pub input : Input
   pub at : ℕ
   pub said : List Said
 
--- a step whose line gives no stamp
+-- a step whose line has no stamp
 abbrev pub step : Input → List Said → Step
 step i said = record { input = i; at = 0; said = said }
 
--- a step whose line gives a stamp
+-- a step whose line has a stamp
 abbrev pub step_at : ℕ → Input → List Said → Step
 step_at at i said = record { input = i; at = at; said = said }
 
@@ -94,7 +94,7 @@ abbrev pub tally_of : Facts → Tally
 tally_of f =
     record { calls = length (filter is_asked f.calls); notices = length f.pending; records = f.count }
 
--- what is said is what the script says, step by step, and then its balances, calls, notices and records stand
+-- what is said is what the script expects, step by step, and then its balances, calls, notices and records stand
 abbrev pub Plays : Script → Type 0
 Plays s =
     let f = history_facts (history_after nothing_yet s.steps) in
@@ -116,7 +116,7 @@ abbrev pub dollars : ℤ → ℤ → ℤ → ℤ → ℤ → Sheet
 dollars gateway network programme user held =
     record { currency = Usd; gateway = gateway; network = network; programme = programme; user = user; held = held }
 
--- so many open calls, pending notices and records
+-- the numbers of open calls, pending notices and records
 abbrev pub tally : ℕ → ℕ → ℕ → Tally
 tally calls notices records = record { calls = calls; notices = notices; records = records }
 
@@ -146,7 +146,7 @@ abbrev pub local_control : Window → ℤ → Input
 local_control window offset =
     input.Control (codes "t4") (codes "v1") Usd window (Some 10000) None association.Anybody scope.All offset true
 
--- the set s1 of product g: up to 100.00 a purchase and a day where the gateway can't be reached
+-- the set s1 of product g: up to 100.00 a purchase and a day if the gateway can't be reached
 abbrev pub connection_set : Input
 connection_set = input.Set (codes "t5") (codes "s1") (codes "g") Usd true false false 10000 10000 true
 
@@ -202,7 +202,7 @@ card_for token card user product = input.Card (codes token) (codes card) (codes 
 abbrev pub load_of : String → String → ℕ → Input
 load_of token user amount = input.Load (codes token) (codes user) Usd amount
 
--- a product in US dollars, funded by the gateway, with so many milliseconds for an answer and holds of a week
+-- a product in US dollars, funded by the gateway, with this many milliseconds for an answer and holds of a week
 abbrev pub product_of : String → String → ℕ → Input
 product_of token product timeout_ms = input.Product (codes token) (codes product) Usd funding.Gateway timeout_ms 604800000
 
@@ -218,7 +218,7 @@ card_move token to = input.Move (codes token) (moved.Card (codes "c1") to)
 abbrev pub user_move : String → UserState → Input
 user_move token to = input.Move (codes token) (moved.User (codes "u1") to)
 
--- a control in US dollars of each day, of at most so much, of whom and where it says
+-- a control in US dollars of each day, with this amount limit, association and scope
 abbrev pub control_of : String → String → ℕ → Association → Scope → Input
 control_of token control limit association scope =
     input.Control (codes token) (codes control) Usd window.Day (Some limit) None association scope (pos 0) true
@@ -235,7 +235,7 @@ approved_reply token = decided (codes token) verdict.Approved ∷ []
 abbrev pub declined_reply : String → Reason → List Said
 declined_reply token why = decided (codes token) (verdict.Declined why) ∷ []
 
--- the gateway is asked at a stamp about a purchase of user u1 with a card, and has so many milliseconds to answer
+-- the gateway is asked at a stamp about a purchase of user u1 with a card, and has this many milliseconds to answer
 abbrev pub request_by : String → ℕ → Method → ℕ → String → String → ℕ → ℕ → List Said
 request_by card timeout_ms method number event txn amount at =
     asked (record {
@@ -275,7 +275,7 @@ notice_about user number method txn call amount gateway =
 abbrev pub notice : ℕ → Method → String → Option CallId → ℕ → ℕ → List Said
 notice number method txn call amount gateway = notice_about "u1" number method txn call amount gateway
 
--- the event stands with the same contents, and is told its reply again
+-- the event stands with the same contents, and gets the same reply
 abbrev pub repeat_reply : String → Reply → List Said
 repeat_reply token reply = answered (answer.Repeat (codes token) reply) ∷ []
 

@@ -30,7 +30,7 @@ funded_by_the_gateway =
       tally = tally 0 0 5;
     }
 
--- an open call counts against a control, and a refused one gives its use back
+-- an open call counts against a control, and a refused one returns its use
 abbrev pub refused_by_the_gateway : Script
 refused_by_the_gateway =
     record {

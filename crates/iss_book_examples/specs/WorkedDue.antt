@@ -28,7 +28,7 @@ clearing_of_a_pending_purchase =
       tally = tally 0 2 5;
     }
 
--- the repeat of a pending purchase at its deadline makes the time record, and then is told the decision
+-- the repeat of a pending purchase at its deadline makes the time record, and its answer is then the decision
 abbrev pub repeat_at_the_deadline : Script
 repeat_at_the_deadline =
     record {

@@ -2,7 +2,7 @@
 use Rattle.std.specs.Prelude.{ℕ}
 use Rattle.iss_model.specs.rules.Pieces.{Parts}
 
--- so much by the gateway, by the programme and of the user's own
+-- the gateway's part, the programme's and the user's own
 abbrev pub parts_of : ℕ → ℕ → ℕ → Parts
 parts_of g p s = record { g = g; p = p; s = s }
 

@@ -39,7 +39,7 @@ purchase_of_more =
       tally = tally 0 0 4;
     }
 
--- a purchase that is sent again is told its reply again, and changes nothing
+-- a purchase that is sent again gets the same reply, and changes nothing
 abbrev pub repeated_purchase : Script
 repeated_purchase =
     record {

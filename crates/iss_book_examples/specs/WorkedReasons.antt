@@ -1,4 +1,4 @@
--- Which reason comes first where several hold, and each test by itself.
+-- Which reason comes first if several hold, and each test by itself.
 use Rattle.std.specs.Prelude.{ℕ, pos, true, [], ◌∷◌, codes, replicate, Some, None}
 use Prim.Native.String.{String}
 use Rattle.iss_model.specs.declared.currency.Currency.TheVariants.{Usd, Eur}
@@ -154,7 +154,7 @@ one_set =
       active = true;
     }
 
--- there are so many products, groups, controls and sets; for these lists it doesn't matter that names come twice
+-- this number of products, groups, controls and sets; for these lists it doesn't matter that names come twice
 abbrev pub facts_with : ℕ → Facts
 facts_with n =
     record (history_facts nothing_yet) {

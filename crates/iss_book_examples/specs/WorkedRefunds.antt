@@ -1,4 +1,4 @@
--- Who gets money back.
+-- Who receives refunded money.
 use Rattle.std.specs.Prelude.{pos, [], ◌∷◌, ◌++◌, Some, None}
 use Rattle.iss_model.specs.declared.call.Method.TheVariants as method
 use Rattle.iss_model.specs.declared.input.Outcome.TheVariants as outcome

@@ -32,7 +32,7 @@ second_half = record { halved = true; size = 100; second = true; point = 1; imag
 abbrev pub one_user_more : Room → List Record → Judged
 one_user_more room rs = where_it_fits (Some room) rs user_record (judged.New user_record)
 
--- the user is told how much is free
+-- the answer is how much is free
 abbrev pub told_free : ℕ → Judged
 told_free free = judged.Told (answer.Full free 20)
 

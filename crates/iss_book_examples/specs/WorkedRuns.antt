@@ -1,4 +1,4 @@
--- Runs on devices: their lines, and the texts that they are told, each with its level.
+-- Runs on devices: their lines, and the texts that they write, each with its level.
 use Rattle.std.specs.Prelude.{◌≡◌, ℕ, pos, neg_ℤ, List, [], ◌∷◌, ◌++◌, codes, Some, None}
 use Prim.Native.String.{String}
 use Rattle.iss_model.specs.declared.currency.Currency.{Currency}
@@ -32,7 +32,7 @@ line_at at i = sound i (Some at)
 abbrev pub text_at : ℕ → String → Text
 text_at level text = record { level = level; bytes = codes text ++ 10 ∷ [] }
 
--- a run that begins so is told these texts
+-- these lines make a run write these texts
 abbrev pub Writes : Run → List Reading → List Text → Type 0
 Writes s lines texts = transcript_of s lines ≡ texts
 

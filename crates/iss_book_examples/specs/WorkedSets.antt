@@ -29,7 +29,7 @@ set_that_is_fixed =
       tally = tally 0 0 4;
     }
 
--- any set stands in where the gateway is switched off; put again it decides by its new limits and its new activity
+-- any set stands in if the gateway is switched off; put again it decides by its new limits and its new activity
 abbrev pub set_put_again : Script
 set_put_again =
     record {

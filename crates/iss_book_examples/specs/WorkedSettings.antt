@@ -85,7 +85,7 @@ control_at_rest =
       tally = tally 0 0 10;
     }
 
--- a control of one purchase a day gives a declined one back
+-- a control of one purchase a day doesn't count a declined one
 abbrev pub use_given_back : Script
 use_given_back =
     record {

@@ -12,7 +12,7 @@ use Rattle.iss_book_examples.specs.Scripts.{request, notice, call_number, done_r
 use Prim.Native.String.{String}
 pub use Rattle.std.specs.Fmt.{digits}
 
--- what is said is worded so, with a line feed after it
+-- what is said has this wording, with a line feed after it
 abbrev pub Reads : List Said → String → Type 0
 Reads said text = map said_text said ≡ (codes text ++ 10 ∷ []) ∷ []
 

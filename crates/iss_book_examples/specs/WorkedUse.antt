@@ -1,4 +1,4 @@
--- When use counts, and when it is given back. Each control is of at most 10.00 a day.
+-- When use counts, and when it is returned. Each control is of at most 10.00 a day.
 use Rattle.std.specs.Prelude.{pos, [], ◌∷◌, ◌++◌, codes, Some}
 use Rattle.iss_model.specs.declared.currency.Currency.TheVariants.{Usd}
 use Rattle.iss_model.specs.declared.setting.Window.TheVariants as window
@@ -7,7 +7,7 @@ use Rattle.iss_model.specs.declared.input.Outcome.TheVariants as outcome
 use Rattle.iss_model.specs.declared.decision.Reason.TheVariants as reason
 use Rattle.iss_book_examples.specs.Scripts.{Script, step, step_at, dollars, owes, tally, new_user, card_of, gateway_product, load, amount_control, purchase, increment, reversal, clearing, call_number, gateway_answer, done_reply, approved_reply, declined_reply, request, notice}
 
--- a purchase that the gateway refuses after midnight gives its use back to the day on which it was made
+-- a purchase that the gateway refuses after midnight returns its use to the day on which it was made
 abbrev pub refused_after_midnight : Script
 refused_after_midnight =
     record {
@@ -24,7 +24,7 @@ refused_after_midnight =
       tally = tally 0 0 7;
     }
 
--- a reversal gives use back to the day of the purchase, on that day and after midnight
+-- a reversal returns use to the day of the purchase, on that day and after midnight
 abbrev pub reversed_on_the_day_and_after : Script
 reversed_on_the_day_and_after =
     record {
@@ -43,7 +43,7 @@ reversed_on_the_day_and_after =
       tally = tally 0 0 9;
     }
 
--- an increment that the gateway refuses gives its use back to its own day, and not to its purchase's
+-- an increment that the gateway refuses returns its use to its own day, and not to its purchase's
 abbrev pub increment_refused_the_next_day : Script
 increment_refused_the_next_day =
     record {
@@ -62,7 +62,7 @@ increment_refused_the_next_day =
       tally = tally 1 0 9;
     }
 
--- a call that is abandoned gives its use back
+-- a call that is abandoned returns its use
 abbrev pub use_of_an_abandoned_call : Script
 use_of_an_abandoned_call =
     record {

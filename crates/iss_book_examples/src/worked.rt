@@ -21,7 +21,7 @@ ghost use Rattle.iss_book_examples.specs.WorkedDue.{clearing_of_a_pending_purcha
 ghost use Rattle.iss_book_examples.specs.WorkedSettings.{states_of_a_user, settings_declined, control_at_rest, use_given_back};
 ghost use Rattle.iss_book_examples.specs.WorkedRefunds.{refund_of_a_stand_in, partly_released_stand_in, switched_off_without_a_set};
 
-/// Each script is told just what its steps say, and its balances, calls, notices and records stand then.
+/// Each script sends just what its steps expect, and its balances, calls, notices and records stand then.
 #[tactic(auto, unfolding(iss_model::specs::rules::Stepping::step, iss_model::specs::rules::Judging::judge, iss_model::specs::run::Sayings::reaction))]
 pub fn worked_scripts()
     ensures purchase_of_all { Plays purchase_of_all }

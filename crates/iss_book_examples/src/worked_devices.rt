@@ -1,4 +1,4 @@
-//! Worked runs on devices: the checker computes what each is told, and when.
+//! Worked runs on devices: the checker computes what each writes, and when.
 ghost use Rattle.std.specs.Prelude.{◌≡◌, ◌∷◌, [], length, codes};
 ghost use Rattle.iss_model.specs.rules.Histories.{nothing_yet};
 ghost use Rattle.iss_model.specs.texts.BalanceLines.{balance_lines};

@@ -42,7 +42,7 @@ pub fn worked_full_lists()
     ensures set_that_stands { set_reason (facts_with 256) (codes "s1") (codes "default") Usd ≡ None }
 {}
 
-/// What a control counts, keeps, and gets when it is put again.
+/// What a control counts, keeps, and takes over when it is put again.
 #[tactic(auto, unfolding(iss_model::specs::rules::Stepping::step, iss_model::specs::rules::Judging::judge, iss_model::specs::run::Sayings::reaction))]
 pub fn worked_counting()
     ensures control_in_another_currency { Plays control_in_another_currency }

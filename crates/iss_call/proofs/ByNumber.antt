@@ -97,7 +97,7 @@ asked_ids (c ∷ cs) =
       | false ↦ asked_ids cs
     ]
 
--- a set of the numbers of all keys gives the asked calls by number
+-- a set of the numbers of all keys lists the asked calls by number
 pub by_number : (set : BTreeSet ℕ) (keys : List (ℕ × ℕ)) (cs : List CallNow) → AreNumbered 1 cs → keys ≡ in_order by_deadline (asked_keys deadline_key cs)
     → IsFromIterResult nat_cmp (map (λ k. k.1) keys) set → map id_of set.keys ≡ map (λ c. c.opened.call) (filter is_asked cs)
 by_number set keys cs a e from =

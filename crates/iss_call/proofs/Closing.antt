@@ -24,7 +24,7 @@ past i n e = grind (arith, nat_tests)
 within : (i n : ℕ) → true ≡ nat_lt i n → i < n
 within i n e = grind (arith, nat_tests)
 
--- what a look-up in the vector gives is what the list has
+-- what a look-up in the vector returns is what the list has
 pub got : (xs : List Call) (i : ℕ) (r : Option (Bor Call)) → is_some r ≡ nat_lt i (length xs) → IfSome r (λ x. x.now ≡ get_or xs i x.now)
     → option_map (λ call. now_of call.now) r ≡ slice_get (map now_of xs) i
 got xs i None e h = sym (slice_get-map now_of xs i ∙ ap (option_map now_of) (slice_get_past xs i (past i (length xs) e)))

@@ -192,7 +192,7 @@ pub things : (ks : List (ℕ × ℕ)) → map (λ id. call_due id.0) (map call_o
 things [] = refl
 things (k ∷ ks) = ap (λ rest. call_due k.1 ∷ rest) (things ks)
 
--- a key that comes first says whether any deadline has come
+-- a key that comes first tells whether any deadline has come
 le_by : (a b : ℕ) (r s : Ordering) → MatchOrdering r (a < b) (a ≡ b) (b < a) → ordering_then r s ≡ Less → a ≤ b
 le_by a b Less s m e = omega (arith, m)
 le_by a b Equal s m e = omega (arith, m)
@@ -215,7 +215,7 @@ come_by : (now : ℕ) (k : ℕ × ℕ) (ks : List (ℕ × ℕ)) (t : Bool) → h
 come_by now k ks true e all = refl
 come_by now k ks false e all = ap (λ (rest : List (ℕ × ℕ)). not (is_quiet (map item_of rest))) (sym (none_come now k ks e all))
 
--- whether the first deadline has come says whether any has
+-- whether the first deadline has come tells whether any has
 first_come : (now : ℕ) (ks : List (ℕ × ℕ)) (k : ℕ × ℕ) → slice_get ks 0 ≡ Some k → AreRising by_deadline ks → nat_le k.0 now ≡ not (is_quiet (map item_of (filter (has_come now) ks)))
 first_come now [] k e a = cc
 first_come now (x ∷ ks) k e a =

@@ -87,7 +87,7 @@ later_above txn k n (y ∷ ks) own h r all = (
   later_above txn k (suc y.1) ks own (omega (arith, h, r.0)) r.1 all.1,
 )
 
--- keys of one transaction rise where their numbers do
+-- keys of one transaction rise if their numbers do
 rise_together : (txn : List ℕ) (n : ℕ) (ks : List (List ℕ × ℕ)) → NumbersRise n ks → AllByRecursion (λ y. is_of txn y ≡ true) ks → AreRising by_txn ks
 rise_together txn n [] r all = tt
 rise_together txn n (k ∷ ks) r all = (later_above txn k (suc k.1) ks all.0 (omega arith) r.1 all.1, rise_together txn (suc k.1) ks r.1 all.1)

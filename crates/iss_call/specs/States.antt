@@ -20,7 +20,7 @@ abbrev pub state_by : Option How → CallState
 state_by None = call_state.Asked
 state_by (Some how) = call_state.Closed how
 
--- the state of a call, unknown where there is none
+-- the state of a call, unknown if there is none
 abbrev pub state_of : Option CallNow → CallState
 state_of None = call_state.Unknown
 state_of (Some c) = state_by c.how
@@ -37,7 +37,7 @@ calls_due calls now = fold items_with [] (filter (λ item. nat_le item.since now
 abbrev pub asked_of : List CallNow → List ℕ → List CallNow
 asked_of calls txn = filter (λ c. is_asked c && bytes_eq c.opened.txn txn) calls
 
--- the calls of these numbers as they were opened, where there are such
+-- the calls of these numbers as they were opened, if there are such
 abbrev pub looked_up : List CallNow → List CallId → List Opened
 looked_up calls [] = []
 looked_up calls (id ∷ ids) = option_to_list (option_map (λ (c : CallNow). c.opened) (call_numbered id.0 calls)) ++ looked_up calls ids

@@ -50,7 +50,7 @@ impl Calls {
         })
     }
 
-    /// Asks a call of the next number. To close it takes no memory. Where allocation fails all stays as it was.
+    /// Asks a call of the next number. To close it takes no memory. If an allocation fails, all stays as it was.
     pub fn ask(&mut self, opened: &Opened) -> Result<(), AllocError>
         requires next { opened.now.call.0 ≡ length self.old + 1 }
         ensures asked { OnOk result (self.new ≡ self.old ++ record { opened = opened.now; how = None } ∷ []) }
@@ -83,7 +83,7 @@ impl Calls {
         }
     }
 
-    /// A call as it stands, `None` exactly where it was never asked.
+    /// A call as it stands, `None` exactly if it was never asked.
     pub fn get(&self, id: CallId) -> Option<&Call>
         ensures { option_map (λ call. now_of call.now) result ≡ call_numbered id.0 self.now }
     {
@@ -91,7 +91,7 @@ impl Calls {
         calls.get((id.0 as usize).checked_sub(1)?)
     }
 
-    /// The state of a call, `Unknown` exactly where it was never asked.
+    /// The state of a call, `Unknown` exactly if it was never asked.
     pub fn state(&self, id: CallId) -> CallState
         ensures { result ≡ state_in self.now id.0 }
     {
@@ -101,7 +101,7 @@ impl Calls {
         }
     }
 
-    /// A call as it was opened, `None` exactly where it was never asked.
+    /// A call as it was opened, `None` exactly if it was never asked.
     pub fn opened(&self, id: CallId) -> Option<&Opened>
         ensures { option_copied result ≡ option_map (λ c. c.opened) (call_numbered id.0 self.now) }
     {
@@ -185,7 +185,7 @@ impl Calls {
         self.opened_of(alloc, &ids)
     }
 
-    /// The calls of these numbers as they were opened, where there are such.
+    /// The calls of these numbers as they were opened, if there are such.
     fn opened_of(&self, alloc: Global, ids: &[CallId]) -> Result<Vec<Opened>, AllocError>
         ensures { IfOk result (λ v. v.items ≡ looked_up self.now ids.now) }
     {

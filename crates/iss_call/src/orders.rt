@@ -17,7 +17,7 @@ pub(crate) struct Orders {
 }
 
 impl Orders {
-    /// Enters a call into both orders, or into neither where allocation fails.
+    /// Enters a call into both orders, or into neither if an allocation fails.
     pub(crate) fn enter(
         &mut self,
         number: u32,

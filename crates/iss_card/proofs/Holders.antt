@@ -14,7 +14,7 @@ use Rattle.iss_card.specs.Standings.{have_holders}
 abbrev pub is_user : List User → List ℕ → Bool
 is_user users name = is_some (user_named name users)
 
--- who stands goes on to stand where a user is added
+-- who stands goes on to stand if a user is added
 user_stays : (name : List ℕ) (users : List User) (new : User) → is_user users name ≡ true → is_user (users ++ new ∷ []) name ≡ true
 user_stays name (u ∷ us) new stands = at (bytes_eq u.name name) refl (user_stays name us new)
   where

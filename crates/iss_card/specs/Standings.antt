@@ -35,7 +35,7 @@ is_unknown (Known user product card holder) = false
 abbrev pub have_holders : List User → List Card → Bool
 have_holders users cards = list_all (λ card. is_some (user_named card.user users)) cards
 
--- the reason that a fault gives; a failed allocation gives none
+-- the reason of a fault; a failed allocation has none
 abbrev pub fault_reason : CardFault → Option Reason
 fault_reason fault.UserUnknown = Some reason.UserUnknown
 fault_reason fault.CardUnknown = Some reason.CardUnknown
@@ -44,7 +44,7 @@ fault_reason (fault.MoveUser from to) = Some (reason.MoveUser from to)
 fault_reason (fault.MoveCard from to) = Some (reason.MoveCard from to)
 fault_reason fault.OutOfMemory = None
 
--- the reason that a result gives
+-- the reason of a result
 abbrev pub reason_of_result : {A : Type 0} → Result A CardFault → Option Reason
 reason_of_result (Ok x) = None
 reason_of_result (Err fault) = fault_reason fault

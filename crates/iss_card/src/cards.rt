@@ -58,7 +58,7 @@ impl Cards {
         }
     }
 
-    /// Adds an active user. `Exists` where there is one of that name.
+    /// Adds an active user. `Exists` if there is one of that name.
     pub fn add_user(&mut self, user: &Token) -> Result<(), CardFault>
         ensures added { OnOk result (self.new ≡ with_user self.old user.now) }
         ensures refused { OnErr result (self.new ≡ self.old) }
@@ -75,8 +75,8 @@ impl Cards {
         Ok(())
     }
 
-    /// Adds a card of a user, which is active or waits to be activated. `UserUnknown` where there is no such user, else `Exists`
-    /// where there is a card of that name. Whether the product exists isn't checked.
+    /// Adds a card of a user, which is active or waits to be activated. `UserUnknown` if there is no such user, else `Exists`
+    /// if there is a card of that name. Whether the product exists isn't checked.
     pub fn add_card(
         &mut self,
         card: &Token,
@@ -104,7 +104,7 @@ impl Cards {
         Ok(())
     }
 
-    /// Moves a user to a state. `UserUnknown` where there is no such user, `MoveUser` where the move isn't allowed.
+    /// Moves a user to a state. `UserUnknown` if there is no such user, `MoveUser` if the move isn't allowed.
     pub fn move_user(&mut self, user: &Token, to: UserState) -> Result<(), CardFault>
         ensures moved { OnOk result (self.new ≡ with_user_moved self.old user.now to) }
         ensures refused { OnErr result (self.new ≡ self.old) }
@@ -125,7 +125,7 @@ impl Cards {
         Ok(())
     }
 
-    /// Moves a card to a state. `CardUnknown` where there is no such card, `MoveCard` where the move isn't allowed.
+    /// Moves a card to a state. `CardUnknown` if there is no such card, `MoveCard` if the move isn't allowed.
     pub fn move_card(&mut self, card: &Token, to: CardState) -> Result<(), CardFault>
         ensures moved { OnOk result (self.new ≡ with_card_moved self.old card.now to) }
         ensures refused { OnErr result (self.new ≡ self.old) }
@@ -165,14 +165,14 @@ impl Cards {
         }
     }
 
-    /// The card of that name as it stands, or `None` where there is none.
+    /// The card of that name as it stands, or `None` if there is none.
     pub fn card(&self, name: &Token) -> Option<Card>
         ensures { result ≡ card_named name.now self.now.cards }
     {
         self.issued.get(name).copied()
     }
 
-    /// A user's state, or `None` where there is no user of that name.
+    /// A user's state, or `None` if there is no user of that name.
     pub fn user(&self, user: &Token) -> Option<UserState>
         ensures { result ≡ option_map (λ found. found.state) (user_named user.now self.now.users) }
     {

@@ -39,7 +39,7 @@ made_of : (first between second all : List Entry) → list_all is_passed_over be
 made_of first between second all passed h =
     record { between = between; after = h.after; whole = ap (λ (es : List Entry). first ++ (between ++ es)) h.whole; between_passed = passed; after_passed = h.passed }
 
--- what is told and done at last is passed over
+-- what is told and done at last makes no entry of a chain
 done_passed : (own none : Bool) (number : ℕ) (news : News) (t : Txn) (amount gateway : ℕ) (token : List ℕ)
     → list_all is_passed_over (entries_of_acts (cond own [] (cond none [] (Tells number news t amount gateway ∷ [])) ++ Does token ∷ [])) ≡ true
 done_passed true none number news t amount gateway token = refl

@@ -35,7 +35,7 @@ has_its_parts c name now named =
     its_own part.P = omega arith
     its_own part.S = omega arith
 
--- entries that are made of a known transaction fit where they do for what it holds
+-- entries that are made of a known transaction fit if they do for what it holds
 for_known : (c : ChainNow) (name : List ℕ) (make : TxnNow → Parts → List Entry)
     → ((now : TxnNow) → Has c now.txn (parts_held (chain_facts c) now.txn) → AreFit c (make now (parts_held (chain_facts c) now.txn)))
     → AreFit c (entries_for c (txn_named name c.holdings.txns) make)

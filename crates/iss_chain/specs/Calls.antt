@@ -32,13 +32,13 @@ reversal_money_entries t parts amount =
 abbrev pub end_money_entries : Txn → Parts → List Entry
 end_money_entries t parts = release_entries t parts (in_all parts) ++ entry.Ended t.token ∷ []
 
--- a clearing ends a live transaction where it is the last one, or nothing is held after it
+-- a clearing ends a live transaction if it is the last one, or nothing is held after it
 abbrev pub clearing_end_entries : TxnNow → Parts → ℕ → Bool → List Entry
 clearing_end_entries now parts amount last =
     let rest = left_of parts (taken_to_clear parts amount) in
     if now.live && (last || in_all rest == 0) then end_money_entries now.txn rest else []
 
--- a refund comes back from the network; for a gateway product the programme gets first what it is owed, and the gateway the rest
+-- a refund comes back from the network; for a gateway product the programme first receives what it is owed, and the gateway the rest
 abbrev pub refund_money_entries : Txn → ℕ → ℕ → List Entry
 refund_money_entries t owed amount =
     let programme = min amount owed in
@@ -48,7 +48,7 @@ refund_money_entries t owed amount =
     ++ post_entries t (user_account t) (account.Gateway t.currency) (amount - programme)
     )
 
--- the entries that are made of a transaction and the parts that it holds, where it is known
+-- the entries that are made of a transaction and the parts that it holds, if it is known
 abbrev pub entries_for : ChainNow → Option TxnNow → (TxnNow → Parts → List Entry) → List Entry
 entries_for c None make = []
 entries_for c (Some now) make = make now (parts_held (chain_facts c) now.txn)

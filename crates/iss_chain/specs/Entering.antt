@@ -21,13 +21,13 @@ pub record AreSumsSmall (sums : SumsByTxn) : Type 0 where
   pub refunded : AreSmall sums.refunded
   pub paid : AreSmall sums.paid
 
--- so does each sum that a chain keeps
+-- each sum that a chain keeps lies there too
 pub record KeepsSmall (c : ChainNow) : Type 0 where
   pub balances : AreSmall c.balances
   pub held : AreSmall c.holdings.held
   pub txn_sums : AreSumsSmall c.txn_sums
 
--- and so does each sum after each of these entries
+-- and each sum after each of these entries does too
 abbrev pub StaysSmall : ChainNow → List Entry → Type 0
 StaysSmall c [] = Unit {0}
 StaysSmall c (e ∷ es) = KeepsSmall (chain_after_entry c e) × StaysSmall (chain_after_entry c e) es

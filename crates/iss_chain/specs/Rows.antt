@@ -59,11 +59,11 @@ txn_sums_of txns rows =
 abbrev pub by_place : ℕ → ℕ → Ordering
 by_place a b = nat_cmp a b
 
--- the sums at a place, where a post was made for the transaction there
+-- the sums at a place, if a post was made for the transaction there
 abbrev pub row_in : BTreeMap ℕ (Option PostSums) → ℕ → Option PostSums
 row_in sums place = unwrap_or (tree.get by_place sums place) None
 
--- what stands at so many places, from one on
+-- what stands at this number of places, from one on
 abbrev pub rows_from : (ℕ → Option PostSums) → ℕ → ℕ → List (Option PostSums)
 rows_from row place zero = []
 rows_from row place (suc count) = row place ∷ rows_from row (suc place) count

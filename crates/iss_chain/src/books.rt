@@ -59,7 +59,7 @@ impl Books {
         Ok(())
     }
 
-    /// Enters one entry. Where allocation fails nothing changes.
+    /// Enters one entry. If an allocation fails, nothing changes.
     pub(crate) fn enter(&mut self, entry: &Entry) -> Result<(), AllocError>
         requires kept { AreKept self.old }
         requires enterable { IsEnterable (chain_of self.old) entry.now }
@@ -113,7 +113,7 @@ impl Books {
         Ok(())
     }
 
-    /// Moves money, and counts it for its transaction where it has one.
+    /// Moves money, and counts it for its transaction if it has one.
     fn post(
         &mut self,
         from: &Account,

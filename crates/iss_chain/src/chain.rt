@@ -26,7 +26,7 @@ use std::marker::Model;
 
 /// All transactions, with their money and their holds. Contracts see the part of the core's state that it keeps.
 ///
-/// A call on a transaction that isn't known makes no entry and changes nothing. Where allocation fails in a call that
+/// A call on a transaction that isn't known makes no entry and changes nothing. If an allocation fails in a call that
 /// consumes the chain, the chain is gone.
 #[derive(Drop)]
 pub struct Chain {
@@ -121,11 +121,11 @@ impl Chain {
         Ok((self, entries))
     }
 
-    /// The network gets an amount: from the gateway's part first, then from the programme's, then from the user's own, and
-    /// the rest from the programme for a gateway product, else from the user's balance. A live transaction ends where the
+    /// The network receives an amount: from the gateway's part first, then from the programme's, then from the user's own, and
+    /// the rest from the programme for a gateway product, else from the user's balance. A live transaction ends if the
     /// clearing is the last one or nothing is held after it.
     ///
-    /// Also returned is the place in the entries where those of ending begin; their count where it doesn't end.
+    /// Also returned is the place in the entries where those of ending begin; their count if it doesn't end.
     pub fn clear(
         mut self,
         alloc: Global,
@@ -144,7 +144,7 @@ impl Chain {
         Ok((self, entries, place))
     }
 
-    /// An amount comes back from the network to the user; for a gateway product the programme then gets what it is owed,
+    /// An amount comes back from the network to the user; for a gateway product the programme then receives what it is owed,
     /// and the gateway the rest.
     pub fn refund(
         mut self,
@@ -172,7 +172,7 @@ impl Chain {
         Ok((self, entries))
     }
 
-    /// Enters one entry: what began, was posted, held or ended; others change nothing. Where allocation fails all stays as
+    /// Enters one entry: what began, was posted, held or ended; others change nothing. If an allocation fails, all stays as
     /// it was.
     pub fn enter(&mut self, entry: &Entry) -> Result<(), AllocError>
         requires { IsEnterable self.old entry.now }
@@ -182,7 +182,7 @@ impl Chain {
         self.books.enter(entry)
     }
 
-    /// Enters entries one by one. Where allocation fails those before it stay entered.
+    /// Enters entries one by one. If an allocation fails, those before it stay entered.
     pub fn enter_all(&mut self, entries: &[Entry]) -> Result<(), AllocError>
         requires fit { AreFit self.old entries.now }
         requires small { StaysSmall self.old entries.now }
@@ -191,7 +191,7 @@ impl Chain {
         self.books.enter_all(entries)
     }
 
-    /// A transaction with what it holds, `None` exactly where it is unknown.
+    /// A transaction with what it holds, `None` exactly if it is unknown.
     pub fn hold(&self, txn: &Token) -> Option<Hold>
         ensures txn { option_map now_of result ≡ txn_named txn.now self.now.holdings.txns }
         ensures parts { IfSome result (λ hold. parts_of hold ≡ parts_held (chain_facts self.now) hold.txn) }
@@ -200,7 +200,7 @@ impl Chain {
         self.books.holds.get(txn)
     }
 
-    /// What the programme has paid for a transaction, hasn't got back and doesn't hold. Of an unknown one it is nothing.
+    /// What the programme has paid for a transaction, less what came back and what it holds. Of an unknown one it is nothing.
     pub fn owed(&self, txn: &Token) -> u64
         ensures { IfSome (txn_named txn.now self.now.holdings.txns) (λ t. result ≡ owed_to_programme (chain_facts self.now) t.txn) }
     {
@@ -218,7 +218,7 @@ impl Chain {
         }
     }
 
-    /// The transaction of a token, `None` exactly where it isn't known.
+    /// The transaction of a token, `None` exactly if it isn't known.
     pub fn txn(&self, txn: &Token) -> Option<Txn>
         ensures { result ≡ option_map (λ t. t.txn) (txn_named txn.now self.now.holdings.txns) }
     {
@@ -240,7 +240,7 @@ impl Chain {
         self.books.over(txn, amount)
     }
 
-    /// What an account has, in minor units: 0 where no post was made.
+    /// What an account has, in minor units: 0 if no post was made.
     pub fn balance(&self, account: &Account) -> i64
         ensures { result ≡ balance_in (chain_facts self.now) account.now }
     {
@@ -286,7 +286,7 @@ impl Chain {
     }
 }
 
-/// The entries of money that comes in: none where it is nothing.
+/// The entries of money that comes in: none if it is nothing.
 fn load(
     alloc: Global,
     user: &Token,

@@ -27,8 +27,8 @@ pub fn a_chain_is_part_of_the_core()
     ensures owed { (s : CoreState) (t : Txn) → owed_to_programme (chain_facts (chain_part s)) t ≡ owed_to_programme (core_facts s) t }
 {}
 
-/// The entries of the rules are those that a chain makes, with what it passes over between and after them: calls to the
-/// gateway, notices, use that is given back, and decisions.
+/// The entries of the rules are those that a chain makes, with others between and after them: calls to the
+/// gateway, notices, use that is returned, and decisions.
 pub fn the_rules_make_its_entries()
     ensures funded { (o : Opened) (t : Txn) → AreMadeOf [] (fund_money_entries t part.G o.amount) (act_entries (Funds o t)) }
     ensures stood { (number : ℕ) (ask : Ask) (at : ℕ) (s : Set) → AreMadeOf [] (fund_money_entries ask.txn part.P ask.amount)

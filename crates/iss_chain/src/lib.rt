@@ -3,7 +3,7 @@
 //! An amount is a whole number of minor units, a stamp a number of milliseconds since 1970.
 //!
 //! It may cite `iss_model`, `iss_hold` and `iss_ledger`.
-//! It must not cite what decides, asks the gateway or gives notice: that is the core's.
+//! It must not cite what decides, asks the gateway or makes notices: that is the core's.
 #![tactic(auto)]
 
 mod books;

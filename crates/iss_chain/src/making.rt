@@ -56,7 +56,7 @@ impl Books {
         Ok(entries)
     }
 
-    /// What a clearing takes, pays and counts as use, and the end where it ends its transaction; with the place where
+    /// What a clearing takes, pays and counts as use, and the end if it ends its transaction; with the place where
     /// the entries of ending begin.
     pub(crate) fn clear(
         &self,
@@ -134,7 +134,7 @@ impl Books {
     }
 }
 
-/// What the programme has paid for a transaction, hasn't got back and doesn't hold.
+/// What the programme has paid for a transaction, less what came back and what it holds.
 fn owed(paid: i64, held: u64) -> u64
     requires paid { IsSmall paid }
     requires held { held < 2 ^ 62 }

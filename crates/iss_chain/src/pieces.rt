@@ -1,6 +1,6 @@
 //! The pieces that entries are made of, each added after those that are made already. What comes to nothing is left out.
 //!
-//! An amount is a whole number of minor units, a stamp a number of milliseconds since 1970. Where allocation fails a part of
+//! An amount is a whole number of minor units, a stamp a number of milliseconds since 1970. If an allocation fails, a part of
 //! a piece may be there.
 ghost use Rattle.std.specs.Prelude.{◌≡◌, ◌-◌, ◌≤◌, ◌<◌, ◌^◌, ◌∷◌, [], ◌++◌, OnOk, pos};
 ghost use Rattle.iss_model.specs.declared.account.Account.TheVariants as account;
@@ -221,7 +221,7 @@ pub fn clear(out: &mut Vec<Entry>, hold: &Hold, amount: u64, at: u64) -> Result<
     more_use(out, txn, taken.rest, at)
 }
 
-/// A clearing ends a live transaction where it is the last one, or nothing is held after it.
+/// A clearing ends a live transaction if it is the last one, or nothing is held after it.
 pub fn end_clearing(
     out: &mut Vec<Entry>,
     hold: &Hold,
@@ -255,7 +255,7 @@ fn pay_excess(out: &mut Vec<Entry>, txn: &Txn, excess: u64) -> Result<(), AllocE
     }
 }
 
-/// A refund comes back from the network; for a gateway product the programme gets first what it is owed.
+/// A refund comes back from the network; for a gateway product the programme first receives what it is owed.
 pub fn refund(out: &mut Vec<Entry>, txn: &Txn, owed: u64, amount: u64) -> Result<(), AllocError>
     ensures { OnOk result (out.new.items ≡ out.old.items ++ refund_money_entries txn.now owed amount) }
 {
@@ -272,7 +272,7 @@ pub fn refund(out: &mut Vec<Entry>, txn: &Txn, owed: u64, amount: u64) -> Result
     }
 }
 
-/// A refund is paid back: so much to the programme, the rest to the gateway.
+/// A refund is paid back: `programme` of it to the programme, the rest to the gateway.
 fn pay_back(out: &mut Vec<Entry>, txn: &Txn, programme: u64, amount: u64) -> Result<(), AllocError>
     requires { programme ≤ amount }
     ensures { OnOk result (out.new.items ≡ out.old.items ++ (post_entries txn.now (user_account txn.now) (account.Programme txn.now.currency) programme

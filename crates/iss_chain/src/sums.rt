@@ -11,7 +11,7 @@ pub(crate) struct PostSums {
     pub(crate) cleared: i64,
     /// What came back from the network.
     pub(crate) refunded: i64,
-    /// What the programme paid to the user, less what it got back.
+    /// What the programme paid to the user, less what came back.
     pub(crate) paid: i64,
 }
 

@@ -72,7 +72,7 @@ module _ {K : Type 0} (order : K → K → Ordering) (o : IsTotalOrder order) wh
     to_high : (n : ℕ) → n < 2 ^ 64 → is_gt (by_place order (key, n) high) ≡ false
     to_high n less = ap (λ (k : K × ℕ). is_gt (by_place order (key, n) k)) at_high ∙ same_key key n (2 ^ 64 - 1) (omega (arith, less))
 
-    -- where the range is empty a key has no place
+    -- if the range is empty a key has no place
     pub no_first : result ≡ [] → (n : ℕ) → n < 2 ^ 64 → has order s.keys key n ≡ false
     no_first none n less = range.5 none (key, n) (from_low n, to_high n less)
 

@@ -340,7 +340,7 @@ module _ {T : Type 0} (test : T → Bool) where
   first_by e es place true own least above there rest = first_here e es place (is_eq (nat_cmp place e.0)) refl own (least own) above there
   first_by e es place false own least above there rest = first_later e es place (is_eq (nat_cmp place e.0)) refl own there rest
 
-  -- where none that passes stands at a lesser place
+  -- if none that passes stands at a lesser place
   pub stands_first : (es : List (ℕ × T)) (place most : ℕ) → AllByRecursion (λ k. k < most) (keys_of es) → IsStrictlySortedBy nat_cmp (keys_of es)
       → passes test (lookup (is_at (nat_cmp place)) es) ≡ true → ((n : ℕ) → n < most → passes test (lookup (is_at (nat_cmp n)) es) ≡ true → place ≤ n) → StandsFirst test place es
   unfolding IsStrictlySortedBy
@@ -354,7 +354,7 @@ module _ {T : Type 0} (test : T → Bool) where
   none_later e es n true h above none = ap (passes test) (subst (λ (m : ℕ). lookup (is_at (nat_cmp m)) es ≡ None) (sym (same_number n e.0 h)) (none_above e.0 es above))
   none_later e es n false h above none = sym (ap (λ (b : Bool). passes test (cond b (Some e.1) (lookup (is_at (nat_cmp n)) es))) h) ∙ none
 
-  -- where none that passes stands at any place
+  -- if none that passes stands at any place
   pub none_stands : (es : List (ℕ × T)) (most : ℕ) → AllByRecursion (λ k. k < most) (keys_of es) → IsStrictlySortedBy nat_cmp (keys_of es)
       → ((n : ℕ) → n < most → passes test (lookup (is_at (nat_cmp n)) es) ≡ false) → AllByRecursion (λ x. test x ≡ false) (values_of es)
   unfolding IsStrictlySortedBy
@@ -384,7 +384,7 @@ module _ {T : Type 0} (test : T → Bool) where
   pub first_found : (place : ℕ) (es : List (ℕ × T)) → (s : StandsFirst test place es) → find test (values_of es) ≡ Some s.thing
   first_found place es s = ap (λ (xs : List (ℕ × T)). find test (values_of xs)) s.cut ∙ found_by place s.thing s.front s.rest s.others s.own
 
-  -- where none passes, none is found, and none goes
+  -- if none passes, none is found, and none goes
   pub none_found : (xs : List T) → AllByRecursion (λ x. test x ≡ false) xs → find test xs ≡ None
   none_found [] none = refl
   none_found (x ∷ xs) none = ap (λ (b : Bool). cond b (Some x) (find test xs)) none.0 ∙ none_found xs none.1

@@ -55,6 +55,11 @@ pub record ChangesFirst {T : Type 0} (test : T → Bool) (R : T → T → Type 0
   pub still : test is ≡ true
   pub changed : R was is
 
+-- the first thing on a channel received these bytes, and told this of them
+abbrev pub FirstReceives : {T Told : Type 0} → (T → Channel) → (T → List ℕ → Told → T → Type 0) → Channel → List ℕ → List T → List T → Told → Type 0
+FirstReceives channel_of receives ch piece before after told =
+    ChangesFirst (is_on channel_of ch) (λ x y. receives x piece told y) before after
+
 -- things at places, each found by its channel
 pub record IsKept {T : Type 0} (channel_of : T → Channel) (next : ℕ) (things : BTreeMap ℕ T) (places : List (ℕ × ℕ)) : Type 0 where
   pub placed : ArePlaced (record { next = next; entries = things.entries })

@@ -2,7 +2,7 @@
 ghost use Rattle.std.specs.Prelude.{◌≡◌, ◌<◌, ◌++◌, ◌∷◌, [], Some, false, not, map, find, filter, length, IfOk, IfSome, IfNone, OnOk, OnErr};
 ghost use Rattle.std.specs.List.{AllByRecursion};
 ghost use Rattle.std.specs.Option.{option_copied};
-ghost use Rattle.iss_channels.specs.Placed.{things_of, thing_at, is_on, one_more, ArePlaced, Takes, ChangesFirst};
+ghost use Rattle.iss_channels.specs.Placed.{things_of, thing_at, is_on, one_more, ArePlaced, Takes, FirstReceives};
 
 use crate::{OnChannel, Places, Receives};
 use iss_edge::Channel;
@@ -47,7 +47,7 @@ impl<T: OnChannel + Drop> ByChannel<T> {
         self.next
     }
 
-    /// One thing more, after the others. Where allocation fails all stays as it was.
+    /// One thing more, after the others. If an allocation fails, all stays as it was.
     pub fn push(&mut self, thing: T) -> Result<(), AllocError>
         ensures pushed { OnOk result (self.new ≡ one_more self.old thing) }
         ensures things { OnOk result (things_of self.new ≡ things_of self.old ++ thing ∷ []) }
@@ -55,7 +55,7 @@ impl<T: OnChannel + Drop> ByChannel<T> {
         ensures placed { ArePlaced self.new }
     {
         let place = self.next;
-        // So many never come: a place counts for want of memory here.
+        // There are never 2^64 things: a missing place counts as a failed allocation.
         let Some(next) = place.checked_add(1) else {
             return Err(AllocError);
         };
@@ -123,10 +123,9 @@ impl<T: OnChannel + Drop> ByChannel<T> {
 }
 
 impl<T: Receives + Drop> ByChannel<T> {
-    /// Has the first thing on a channel receive the next bytes. `None` exactly where nothing is on it.
+    /// Has the first thing on a channel receive the next bytes. `None` exactly if nothing is on it.
     pub fn receive(&mut self, alloc: Global, ch: Channel, piece: &[u8]) -> Option<T::Told>
-        ensures received { IfSome result (λ told. ChangesFirst (is_on T.channel_of ch) (λ x y. T.receives x piece.now told y)
-            (things_of self.old) (things_of self.new)) }
+        ensures received { IfSome result (FirstReceives T.channel_of T.receives ch piece.now (things_of self.old) (things_of self.new)) }
         ensures none { IfNone result (AllByRecursion (λ x. is_on T.channel_of ch x ≡ false) (things_of self.old)) }
         ensures unchanged { IfNone result (self.new ≡ self.old) }
     {

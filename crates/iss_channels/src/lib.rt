@@ -1,6 +1,6 @@
 //! Things that are kept by channel, in the order in which they came, each found by a logarithm of how many stand.
 //!
-//! More than one may have a channel, so that no call asks what stands. An owner that looks its things up by another key too keeps
+//! More than one may have a channel, so no call asks what stands. An owner that looks its things up by another key too keeps
 //! their places by that key beside them.
 //!
 //! It may cite `iss_edge`, for channels alone.

@@ -40,7 +40,7 @@ impl<K: Ord + Copy + Drop> Places<K> {
         Some(*place)
     }
 
-    /// A key has this place too. Where allocation fails all stays as it was.
+    /// A key has this place too. If an allocation fails, all stays as it was.
     pub fn add(&mut self, key: &K, place: u64) -> Result<(), AllocError>
         ensures added { OnOk result (Puts K.cmp key.now place true self.old self.new) }
         ensures unchanged { OnErr result (self.new ≡ self.old) }

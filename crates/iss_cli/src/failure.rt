@@ -3,6 +3,9 @@
 ghost use Rattle.std.specs.Prelude.{◌≡◌, ◌↔◌, ◌≤◌, IsSome, IfSome};
 ghost use Rattle.iss_cli.specs.Failure.{status_of};
 
+use iss_edge::status::{
+    BAD_DEVICE, DISK_FAULT, INPUT_FAULT, INPUT_TOO_LONG, OUT_OF_MEMORY, OUTPUT_FAULT, USAGE,
+};
 use thiserror::Error;
 
 /// Why the program did not do what was asked for.
@@ -26,17 +29,17 @@ pub enum Failure {
 
 /// The failure that a status stands for.
 pub fn failure_of(status: u8) -> Option<Failure>
-    ensures known { IsSome result ↔ ((2 ≤ status) × (status ≤ 8)) }
+    ensures known { IsSome result ↔ ((USAGE ≤ status) × (status ≤ INPUT_TOO_LONG)) }
     ensures told { IfSome result (λ failure. status_of failure ≡ status) }
 {
     match status {
-        2 => Some(Failure::Usage),
-        3 => Some(Failure::Input),
-        4 => Some(Failure::Device),
-        5 => Some(Failure::Output),
-        6 => Some(Failure::Disk),
-        7 => Some(Failure::Memory),
-        8 => Some(Failure::InputTooLong),
+        USAGE => Some(Failure::Usage),
+        INPUT_FAULT => Some(Failure::Input),
+        BAD_DEVICE => Some(Failure::Device),
+        OUTPUT_FAULT => Some(Failure::Output),
+        DISK_FAULT => Some(Failure::Disk),
+        OUT_OF_MEMORY => Some(Failure::Memory),
+        INPUT_TOO_LONG => Some(Failure::InputTooLong),
         _ => None,
     }
 }

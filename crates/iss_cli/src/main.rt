@@ -1,23 +1,18 @@
 //! The program: hands its words and the real outside to `run`, and ends with the status that this answers.
 //!
-//! It may cite `iss_top`, `iss_real` and std's streams and files.
+//! It may cite `iss_top`, `iss_real`, the statuses of `iss_edge` and std's streams and files.
 //! It must not cite the model: all that it decides is in `iss_top`.
 #![tactic(auto)]
 
 mod failure;
 
 use failure::failure_of;
+use iss_edge::status::{OUT_OF_MEMORY, USAGE};
 use iss_real::{Device, RealEdge, Sockets, words_of};
 use iss_top::{Command, command_of, run};
 use std::fs::{File, Files};
 use std::io;
 use std::process::ExitCode;
-
-/// The status where the words are no command.
-const USAGE: u8 = 2;
-
-/// The status where there was no memory.
-const OUT_OF_MEMORY: u8 = 7;
 
 fn main(rt: HostRuntime) -> ExitCode {
     let status = match words_of(&rt) {

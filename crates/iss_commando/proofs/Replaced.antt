@@ -19,7 +19,7 @@ found p (x ∷ xs) = at (p x) (found p xs)
     at true e = refl
     at false e = e
 
--- a set that is put gets what may be replaced of the one of its name
+-- a set that is put takes over what may be replaced of the one of its name
 pub with_known : (sets : List Set) (put s : Set) → Some s ≡ set_named put.name sets → map (set_after_put put) sets ≡ with_set sets put
 with_known sets put s e =
     ap (λ (b : Bool). if b then map (set_after_put put) sets else sets ++ put ∷ [])

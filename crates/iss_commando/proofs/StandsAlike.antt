@@ -1,4 +1,4 @@
--- What the sets say is what the rule says of facts that tell the same.
+-- What the sets decide is what the rule decides of facts that tell the same.
 use Rattle.std.proofs.Common.{◌≡◌, ℕ, ℤ, List, sym}
 use Rattle.iss_model.specs.declared.call.Failure.{Failure}
 use Rattle.iss_model.specs.declared.setting.Set.{Set}

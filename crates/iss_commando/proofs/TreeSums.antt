@@ -52,7 +52,7 @@ changed_by m n key by sum was u e f =
 pub small_rise : (before : ℤ) (amount : ℕ) → IsSmall before → IsSmall (before +ℤ pos amount) → amount < 2 ^ 63
 small_rise before amount h k = omega (arith, ints)
 
--- the sum at a key after a change is small where all are
+-- the sum at a key after a change is small if all are
 pub small_at : (sums inside : Kept) (key named : List ℕ) (by : ℤ) → inside ≡ sums → named ≡ key
     → AreSmall (after_change sums (record { key = key; by = by })) → IsSmall (kept_at inside named +ℤ by)
 small_at sums inside key named by e f h =

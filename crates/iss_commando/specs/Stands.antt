@@ -1,13 +1,18 @@
--- What the sets say of an amount that the gateway didn't decide.
-use Rattle.std.specs.Prelude.{ℕ, ℤ, pos, ◌+ℤ◌, int_le, Bool, ◌&&◌, nat_le, List, find, Option, Some, None, if◌then◌else◌}
+-- What the sets decide of an amount that the gateway didn't decide.
+use Rattle.std.specs.Prelude.{◌≡◌, ℕ, ℤ, pos, ◌+ℤ◌, int_le, Bool, ◌&&◌, nat_le, List, find, Option, Some, None, if◌then◌else◌}
 use Rattle.std.specs.Str.{bytes_eq}
 use Rattle.iss_model.specs.declared.call.Failure.{Failure}
 use Rattle.iss_model.specs.declared.setting.Set.{Set}
 use Rattle.iss_model.specs.Sums.{stood_key}
+use Rattle.iss_model.specs.rules.Asks.{Ask}
 use Rattle.iss_model.specs.rules.StandIns as rule
 use Rattle.iss_model.specs.rules.StandIns.{covers_failure}
 use Rattle.iss_commando.specs.declared.stand.Stand.{Stand}
 use Rattle.iss_commando.specs.declared.stand.Stand.TheVariants.{Yes, Limit, No}
+
+-- what holds if an ask is of this product and user, and for this amount
+abbrev pub IfAsks : Ask → List ℕ → List ℕ → ℕ → Type 0 → Type 0
+IfAsks ask product user amount Holds = ask.txn.product ≡ product → ask.txn.user ≡ user → ask.amount ≡ amount → Holds
 
 -- an active set of the product that covers the failure
 abbrev pub is_for : List ℕ → Failure → Set → Bool
@@ -17,7 +22,7 @@ is_for product why s = s.active && bytes_eq s.product product && covers_failure 
 abbrev pub is_allowed : Set → ℤ → ℕ → Bool
 is_allowed s stood amount = nat_le amount s.max && int_le (stood +ℤ pos amount) (pos s.day_limit)
 
--- what a set that was found says, where one was found
+-- what a set that was found decides, if one was found
 abbrev pub stand_by : ℤ → ℕ → Option Set → rule.Stand
 stand_by stood amount None = rule.uncovered
 stand_by stood amount (Some s) = if is_allowed s stood amount then rule.allowed s else rule.over_limit s

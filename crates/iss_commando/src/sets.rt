@@ -13,18 +13,16 @@ ghost use Rattle.iss_model.specs.state.Kept.{nothing_kept, kept_at, AreSmall};
 ghost use Rattle.iss_model.specs.state.Cores.{with_set, set_after_put};
 ghost use Rattle.iss_commando.specs.Trees.{after_stood};
 ghost use Rattle.iss_commando.specs.Puts.{is_fixed};
-ghost use Rattle.iss_commando.specs.Stands.{is_for, stand_on, stand_named};
+ghost use Rattle.iss_commando.specs.Stands.{IfAsks, is_for, stand_on, stand_named};
 
 use crate::day::DayKey;
 use crate::stand::{Stand, is_for, stand_by};
 use crate::sums::{add_to, sum_at};
+use iss_model::limits::MOST_OF_A_KIND;
 use iss_model::{Failure, Set, Token};
 use std::alloc::{AllocError, Global};
 use std::collections::BTreeMap;
 use std::marker::Model;
-
-/// The most sets that may stand.
-const MOST: usize = 256;
 
 /// Why a set wasn't put.
 #[derive(Clone, Copy, Debug, PartialEq, Eq)]
@@ -108,7 +106,7 @@ impl Sets {
         add_to(&mut self.stood, DayKey::new(product, user, at), amount)
     }
 
-    /// The set of that name, or `None` where there is none.
+    /// The set of that name, or `None` if there is none.
     pub fn get(&self, name: &Token) -> Option<&Set>
         ensures { option_map (λ found. found.now) result ≡ set_named name.now self.now.sets }
     {
@@ -119,10 +117,10 @@ impl Sets {
     pub fn is_full(&self) -> bool
         ensures { result ≡ is_full self.now.sets }
     {
-        self.sets.len() >= MOST
+        self.sets.len() >= MOST_OF_A_KIND
     }
 
-    /// What the sets say of an amount that the gateway didn't decide, for a product's user on a stamp's day: the first
+    /// What the sets decide of an amount that the gateway didn't decide, for a product's user on a stamp's day: the first
     /// active set of the product that covers the failure decides.
     pub fn stands(
         &self,
@@ -135,8 +133,7 @@ impl Sets {
         requires { IsTrue (is_stamp at) }
         ensures answer { result ≡ stand_named (stand_on self.now.sets (kept_at self.now.stood) product.now user.now amount failure at) }
         ensures by_rule { (f : Facts) → (ask : Ask) → f.sets ≡ self.now.sets → f.stood ≡ kept_at self.now.stood
-            → ask.txn.product ≡ product.now → ask.txn.user ≡ user.now → ask.amount ≡ amount
-            → result ≡ stand_named (stand f ask failure at) }
+            → IfAsks ask product.now user.now amount (result ≡ stand_named (stand f ask failure at)) }
     {
         let Some(set) = deciding(&self.sets, product, failure) else {
             return Stand::No;

@@ -1,16 +1,16 @@
-//! What a set says of an amount.
+//! What a set decides of an amount.
 ghost use Rattle.std.specs.Prelude.{◌≡◌, Some};
 ghost use Rattle.iss_model.specs.rules.StandIns.{covers_failure};
 ghost use Rattle.iss_commando.specs.Stands.{is_for, stand_by, stand_named};
 
 use iss_model::{Failure, Set, Token};
 
-/// What the sets of a product say where the gateway didn't decide.
+/// What the sets of a product decide if the gateway didn't.
 #[derive(Clone, Copy)]
 pub enum Stand {
     /// The set of this name allows the amount.
     Yes(Token),
-    /// The set of this name decides, and doesn't allow so much.
+    /// The set of this name decides, and doesn't allow the amount.
     Limit(Token),
     /// No set covers the failure.
     No,
@@ -35,7 +35,7 @@ fn covers(set: &Set, failure: Failure) -> bool
     }
 }
 
-/// What a set that decides says of an amount where so much stood in on that day.
+/// What a set that was found decides of an amount, if `stood` stood in on that day.
 pub(crate) fn stand_by(set: &Set, stood: i64, amount: u64) -> Stand
     ensures { result ≡ stand_named (stand_by stood amount (Some set.now)) }
 {

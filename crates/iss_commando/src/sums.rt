@@ -8,7 +8,7 @@ use crate::day::DayKey;
 use std::alloc::AllocError;
 use std::collections::BTreeMap;
 
-/// The sum at a key, 0 where there is none.
+/// The sum at a key, 0 if there is none.
 #[tactic(auto, using(crate::proofs::TreeSums::get_in))]
 pub(crate) fn sum_at(sums: &BTreeMap<DayKey, i64>, key: &DayKey) -> i64
     ensures { result ≡ kept_at (kept_in sums.now) key.now }
@@ -16,7 +16,7 @@ pub(crate) fn sum_at(sums: &BTreeMap<DayKey, i64>, key: &DayKey) -> i64
     sums.get(key).copied().unwrap_or(0)
 }
 
-/// Adds to the sum at a key. Only a new key takes memory; where allocation fails the sums stay as they were.
+/// Adds to the sum at a key. Only a new key takes memory; if an allocation fails, the sums stay as they were.
 pub(crate) fn add_to(
     sums: &mut BTreeMap<DayKey, i64>,
     key: DayKey,

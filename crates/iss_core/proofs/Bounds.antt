@@ -1,4 +1,4 @@
--- What a state in order gives to whoever makes entries on it.
+-- What a state in order tells whoever makes entries on it.
 use Rattle.std.proofs.Common.{◌≡◌, ℕ, ◌+◌, ◌^◌, ◌<◌, ◌≤◌, Bool, true, false, cond, not, ◌||◌, ◌&&◌, nat_lt, nat_eq, suc, List, [], ◌∷◌, map, filter, length, take, drop, ◌++◌, ◌-◌, refl, sym, ap, ap₂, subst, ◌∙◌, arith}
 use Rattle.std.specs.Prelude.{Option, Some, None, is_some, is_none, Result, Ok, Err, OnOk}
 use Rattle.std.specs.List.{list_all, list_any}
@@ -94,7 +94,7 @@ pub added_as : {A E : Type 0} (r : Result A E) (old new xs ys : List Entry) → 
 added_as (Ok x) old new xs ys h e = h ∙ ap (λ (es : List Entry). old ++ es) e
 added_as (Err x) old new xs ys h e = tt
 
--- what was added stands behind what was there
+-- what was added stands after what was there
 pub sliced : (old own all : List Entry) (start : ℕ) → all ≡ old ++ own → start ≡ length old → take (length all - start) (drop start all) ≡ own
 sliced old own all start e at =
     ap (λ (n : ℕ). take n (drop start all)) (sym (length-drop start all)) ∙ take-length (drop start all)

@@ -1,4 +1,4 @@
--- Due items and their names: what is found under a name gives the item again.
+-- Due items and their names: what is found under a name is the item again.
 use Rattle.std.proofs.Common.{◌≡◌, ℕ, nat_lt, nat_le, ◌==◌, Bool, true, false, cond, not, ◌&&◌, ◌||◌, List, [], ◌∷◌, ◌++◌, map, fold, filter, suc, ◌+◌, ◌<◌, ◌≤◌, length, drop, get_or, add-one, drop-cons, refl, sym, ap, subst, append_assoc, ◌∙◌, arith}
 use Rattle.std.specs.Prelude.{Option, Some, None}
 use Rattle.std.specs.Str.{bytes_eq}
@@ -167,7 +167,7 @@ things_until : (calls : List CallNow) (ids : List CallId) → map (λ item. item
 things_until calls [] = refl
 things_until calls (id ∷ ids) = ap (λ (rest : List DueThing). call_due id.0 ∷ rest) (things_until calls ids)
 
--- What went out, and then what is to come, where the calls before a transaction and the transaction went out.
+-- What went out, and then what is to come, if the calls before a transaction and the transaction went out.
 pub next_out : (calls : List CallNow) (txns : List TxnNow) (made : List Due) (ids : List CallId) (token : List ℕ) (tokens : List (List ℕ))
     → AreOrdered (txn_items txns (token ∷ tokens))
     → map thing_of ((made ++ map Call (calls_until calls (expiry_of (txn_named token txns)) ids)) ++ Txn token ∷ [])
@@ -186,7 +186,7 @@ next_out calls txns made ids token tokens o =
     regrouped : {A : Type 0} (a b c d : List A) → ((a ++ b) ++ c) ++ d ≡ a ++ (b ++ (c ++ d))
     regrouped a b c d = simp append_assoc
 
--- what went out where the other calls go out after all transactions
+-- what went out if the other calls go out after all transactions
 pub last_out : (calls : List CallNow) (made : List Due) (ids : List CallId)
     → map thing_of (made ++ map Call ids) ≡ map thing_of made ++ map (λ item. item.thing) (call_items calls ids)
 last_out calls made ids = map-append thing_of made (map Call ids) ∙ ap (λ (out : List DueThing). map thing_of made ++ out) (sym (things_until calls ids))

@@ -33,7 +33,7 @@ nothing_due : (items : List DueItem) → is_quiet items ≡ true → items ≡ [
 nothing_due [] h = refl
 nothing_due (item ∷ items) h = cc
 
--- where nothing is due, nothing is settled
+-- if nothing is due, nothing is settled
 pub settled_nothing : (s : CoreState) (at : ℕ) → is_quiet (due_items (core_facts s) at) ≡ true → after_due core_keeper s at ≡ record { world = s; entries = [] }
 settled_nothing s at quiet =
     ap (λ (items : List DueItem). fold (settle core_keeper at) (record { world = s; entries = [] }) items) (nothing_due (due_items (core_facts s) at) quiet)
@@ -44,13 +44,13 @@ event_no_ack : (i : Input) (token : List ℕ) → event_token i ≡ Some token �
 event_no_ack (input.Ack notice) token h = cc
 event_no_ack _ token h = refl
 
--- whatever an input is told, a time record goes before it where something is due
+-- whatever the answer of an input, a time record goes before it if something is due
 some_answer : (a b : Answer) (i : Input) (at : ℕ) → is_ack i ≡ false → judgement_as (Some a) false i at ≡ judgement_as (Some b) false i at
 some_answer a b i at h =
     ap (λ (t : Bool). cond (false || t) (judged.Told a) (judged.Clock (record { at = at; input = input.Time }))) h
     ∙ sym (ap (λ (t : Bool). cond (false || t) (judged.Told b) (judged.Clock (record { at = at; input = input.Time }))) h)
 
--- an event that stands is told something, on whatever facts
+-- an event that stands has an answer, on whatever facts
 either_answer : (f g : Facts) (i : Input) (token : List ℕ) (o : Option Accepted) (at : ℕ) → is_ack i ≡ false
     → judgement_as (repeat_or_conflict f i token o) false i at ≡ judgement_as (repeat_or_conflict g i token o) false i at
 either_answer f g i token None at h = refl
@@ -82,7 +82,7 @@ event_judged s i token at named =
 
 -- ---- what is no event
 
--- an acknowledgement is told its answer, or is new
+-- an acknowledgement has its answer, or is new
 pub ack_told : (s : CoreState) (notice : ℕ) (a : Answer) (at : ℕ) → Some a ≡ notice_answer (core_facts s) notice → judged.Told a ≡ judgement_at core_keeper s (input.Ack notice) at
 ack_told s notice a at e =
     sym (whatever (is_quiet (due_items (core_facts s) at)))
@@ -95,7 +95,7 @@ ack_told s notice a at e =
 pub ack_new : (s : CoreState) (notice at : ℕ) → None ≡ notice_answer (core_facts s) notice → judged.New (record { at = at; input = input.Ack notice }) ≡ judgement_at core_keeper s (input.Ack notice) at
 ack_new s notice at e = ap (λ (o : Option Answer). judgement_as o (is_quiet (due_items (core_facts s) at)) (input.Ack notice) at) e
 
--- a time is new where something is due
+-- a time is new if something is due
 pub time_judged : (s : CoreState) (at : ℕ) (b : Bool) → is_quiet (due_items (core_facts s) at) ≡ b
     → judgement_at core_keeper s input.Time at ≡ cond b (judged.Told answer.Idle) (judged.New (record { at = at; input = input.Time }))
 time_judged s at b e =
@@ -105,7 +105,7 @@ time_judged s at b e =
     by true = refl
     by false = refl
 
--- ---- what judging gives
+-- ---- what judging returns
 
 pub gives_next : (c : CoreNow) (i : Input) (stamp : ℕ) (j : Judged) → j ≡ judge core_keeper c.state i stamp → GivesNext c j
 gives_next c i stamp (judged.New r) e = new_again core_keeper c.state i stamp r (sym e)
@@ -115,7 +115,7 @@ gives_next c i stamp (judged.Told a) e = tt
 later_stamp : (a b : ℕ) → is_stamp a ≡ true → is_stamp b ≡ true → is_stamp (max a b) ≡ true
 later_stamp a b h k = grind (arith, nat_tests)
 
--- a record that judging gives is of the input or of a time, at that moment
+-- a record that judging returns is of the input or of a time, at that moment
 formed_as : (o : Option Answer) (quiet : Bool) (i : Input) (at : ℕ) (j : Judged) → j ≡ judgement_as o quiet i at → is_in_form i ≡ true → is_stamp at ≡ true → GivesInForm j
 formed_as None quiet i at j e form stamp = subst GivesInForm (sym e) (form, stamp)
 formed_as (Some a) quiet i at j e form stamp = subst GivesInForm (sym e) (by (quiet || is_ack i))

@@ -153,7 +153,7 @@ some_due items (x ∷ xs) =
     or_some true = refl
     or_some false = refl
 
--- something is due where a call or a transaction is
+-- something is due if a call or a transaction is
 either_due : (s : CoreState) (at : ℕ) (a b : Bool) → a ≡ not (is_quiet (calls_due s.calls at)) → b ≡ not (is_quiet (txns_due s.holdings at))
     → (a || b) ≡ not (is_quiet (due_items (core_facts s) at))
 either_due s at a b d e =

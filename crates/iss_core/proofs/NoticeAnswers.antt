@@ -1,4 +1,4 @@
--- What an acknowledgement is told, by the notice that is found.
+-- The answer to an acknowledgement, by the notice that is found.
 use Rattle.std.proofs.Common.{◌≡◌, ℕ, suc, zero, ◌≤◌, Bool, true, false, cond, ◌||◌, nat_le, List, [], ◌∷◌, find, refl, sym, ap, ◌∙◌, arith}
 use Rattle.std.specs.Prelude.{◌&&◌, Some, None, ◌==◌}
 use Rattle.std.specs.List.{list_any}

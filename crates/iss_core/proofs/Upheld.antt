@@ -39,7 +39,7 @@ use Rattle.iss_core.specs.Sweeps.{HasOwnNames}
 
 -- ---- entering
 
--- what each entry needs, gathered from what the laws say of the list
+-- what each entry needs, gathered from what the laws tell of the list
 pub gathered : (s : CoreState) (es : List Entry) → AreEnterable s es → AreAllowed s es → list_all is_entry_in_form es ≡ true → list_all (decides_accepted s.accepted) es ≡ true → MayAllEnter s es
 gathered s [] enterable allowed formed decides = tt
 gathered s (e ∷ es) enterable allowed formed decides =

@@ -33,7 +33,7 @@ abbrev pub purchase_ask : Facts → Purchase → Card → Product → Ask
 purchase_ask f p card product =
     first_ask p.token p.amount p.at (txn_begun f card product p.token p.currency p.mcc p.mid p.at)
 
--- a purchase as an ask, where its card and product are known
+-- a purchase as an ask, if its card and product are known
 abbrev pub card_ask : Facts → Purchase → Option Card → Option Ask
 card_ask f p known =
     option_and_then (λ card. option_map (purchase_ask f p card) (product_named card.product f.products)) known

@@ -21,13 +21,13 @@ is_setting (input.Set token set product currency connection timeout application 
 is_setting (input.Switch token product on) = true
 is_setting _ = false
 
--- the reason that a fault of products gives; a failed allocation gives none
+-- the reason of a fault of products; a failed allocation has none
 abbrev pub product_fault_reason : ProductFault → Option Reason
 product_fault_reason product.Exists = Some reason.Exists
 product_fault_reason product.Limit = Some reason.Limit
 product_fault_reason product.OutOfMemory = None
 
--- the reason that a fault of sets gives; a failed allocation gives none
+-- the reason of a fault of sets; a failed allocation has none
 abbrev pub set_fault_reason : SetFault → Option Reason
 set_fault_reason set.Fixed = Some reason.SetFixed
 set_fault_reason set.Limit = Some reason.Limit

@@ -22,7 +22,7 @@ stood_entries number ask at set =
     ∷ entry.Decided ask.event verdict.Approved
     ∷ []
 
--- what the sets say by name, as entries: the first notice has this number
+-- what the sets decide by name, as entries: the first notice has this number
 abbrev pub named_stand_entries : Stand → ℕ → Ask → Failure → ℕ → List Entry
 named_stand_entries (Yes set) number ask why at = stood_entries number ask at set
 named_stand_entries (Limit set) number ask why at = declined_ask_entries ask (reason.StandInLimit set)

@@ -1,4 +1,4 @@
--- What a core is, and what it says of a list of records.
+-- What a core is, and what it tells of a list of records.
 use Rattle.std.specs.Prelude.{◌≡◌, ℕ, List, [], ◌∷◌, ◌++◌, IsTrue}
 use Rattle.iss_model.specs.declared.input.Record.{Record}
 use Rattle.iss_model.specs.declared.entry.Entry.{Entry}
@@ -24,13 +24,13 @@ StandsFor c rs = AreAlike c.state (core_of rs)
 abbrev pub IsNext : CoreNow → Record → Type 0
 IsNext c r = judge core_keeper c.state r.input r.at ≡ judged.New r
 
--- the record that judging gives, where it gives one, is next
+-- the record that judging returns, if it returns one, is next
 abbrev pub GivesNext : CoreNow → Judged → Type 0
 GivesNext c (judged.New r) = IsNext c r
 GivesNext c (judged.Clock r) = IsNext c r
 GivesNext c (judged.Told a) = Unit {0}
 
--- the record that judging gives, where it gives one, has its input and its stamp in form
+-- the record that judging returns, if it returns one, has its input and its stamp in form
 abbrev pub GivesInForm : Judged → Type 0
 GivesInForm (judged.New r) = IsTrue (is_in_form r.input) × IsTrue (is_stamp r.at)
 GivesInForm (judged.Clock r) = IsTrue (is_in_form r.input) × IsTrue (is_stamp r.at)

@@ -1,4 +1,4 @@
--- What is told of calls and notices.
+-- Calls and notices as a core's calls return them.
 use Rattle.std.specs.Prelude.{ℕ, ◌==◌, List, find, filter, map, Option}
 use Rattle.iss_model.specs.declared.call.CallId.{CallId}
 use Rattle.iss_model.specs.declared.call.Notice.{Notice}

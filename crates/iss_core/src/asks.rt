@@ -58,7 +58,7 @@ impl Ask {
         usage(&self.txn, self.amount as i64, count, self.at)
     }
 
-    /// The use that it gives back: its own, negated, at its own stamp.
+    /// The use that it returns: its own, negated, at its own stamp.
     pub(crate) fn given_back(&self) -> UsageRow
         requires { self.now.amount < 2 ^ 63 }
         ensures { result ≡ ask_given_back (ask_of self.now) }
@@ -163,7 +163,7 @@ impl State {
         }
     }
 
-    /// The gateway is asked, save where the product's switch is on: then the programme stands in.
+    /// The gateway is asked, save while the product's switch is on: then the programme stands in.
     fn put_gateway_ask(&self, out: &mut Vec<Entry>, ask: &Ask) -> Result<(), AllocError>
         requires order { IsInOrder (state_of self.now) }
         requires amount { IsTrue (is_amount ask.now.amount) }

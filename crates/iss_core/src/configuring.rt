@@ -1,4 +1,4 @@
-//! Settings take effect. Each call on a part could refuse one for a reason that was asked before, so that want of memory alone is left.
+//! Settings take effect. Each call on a part could refuse one for a reason that was asked before, so only an allocation can fail.
 ghost use Rattle.std.specs.Prelude.{◌≡◌, ◌∷◌, ◌++◌, [], None, OnOk};
 ghost use Rattle.iss_model.specs.state.Cores.{after_setting, with_user, with_card, with_user_moved, with_card_moved, with_product, with_control, with_set};
 ghost use Rattle.iss_model.specs.rules.Reasons.{user_reason, card_reason, move_reason, product_reason, group_reason, control_reason, set_reason};

@@ -95,7 +95,7 @@ impl State {
     }
 
     /// The entries of a due thing: a call that isn't answered has failed, a transaction expires, and what an earlier one
-    /// has settled is passed over.
+    /// has settled makes nothing.
     pub(crate) fn put_due(
         &self,
         alloc: Global,

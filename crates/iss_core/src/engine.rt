@@ -1,6 +1,6 @@
 //! The core: it judges inputs and takes up records.
-ghost use Rattle.std.specs.Prelude.{◌≡◌, ◌^◌, ◌<◌, List, [], IfOk, IsTrue};
-ghost use Rattle.iss_model.specs.declared.limits.TheConstants.{MOST_RECORDS};
+ghost use Rattle.std.specs.Prelude.{◌≡◌, ◌<◌, List, [], IfOk, IsTrue};
+ghost use Rattle.iss_model.specs.declared.limits.TheConstants.{INSTANCES, MOST_RECORDS};
 ghost use Rattle.iss_model.specs.declared.input.Record.{Record};
 ghost use Rattle.iss_model.specs.Forms.{is_in_form, is_stamp};
 ghost use Rattle.iss_model.specs.rules.Judging.{judge};
@@ -42,7 +42,7 @@ impl Model for Core {
 impl Core {
     /// A core without a record, for the device of this instance.
     pub fn new(alloc: Global, instance: u64) -> Result<Core, AllocError>
-        requires { instance < 2 ^ 48 }
+        requires { instance < INSTANCES }
         ensures value { IfOk result (λ c. c ≡ record { instance = instance; state = no_core }) }
         ensures stands { IfOk result (λ c. StandsFor c []) }
     {
@@ -52,10 +52,10 @@ impl Core {
         })
     }
 
-    /// Whether an input is new at a stamp, and what it is told where it isn't. The stamp counts as the core's time where
+    /// Whether an input is new at a stamp, and its answer if it isn't. The stamp counts as the core's time if
     /// it is earlier.
     ///
-    /// A new input is returned as its record. Where an input other than an acknowledgement isn't new and something is due,
+    /// A new input is returned as its record. If an input other than an acknowledgement isn't new and something is due,
     /// the record of a time is returned, which goes before the input's answer.
     pub fn judge(&self, alloc: Global, input: &Input, at: u64) -> Result<Judged, AllocError>
         requires input_form { IsTrue (is_in_form input.now) }
@@ -70,7 +70,7 @@ impl Core {
     }
 
     /// Takes up a record that is next, and returns the core after it with the entries that it makes: first those of all
-    /// that is due at its stamp, and then its own. Where an allocation fails the core is gone.
+    /// that is due at its stamp, and then its own. If an allocation fails, the core is gone.
     pub fn step(
         mut self,
         alloc: Global,

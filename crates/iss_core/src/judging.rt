@@ -52,7 +52,7 @@ impl State {
         }
     }
 
-    /// An input that has no answer is new. One that has is told it, after a time record where something is due.
+    /// An input that has no answer is new. One that has an answer receives it, after a time record if something is due.
     fn judged(&self, answer: Option<Answer>, input: &Input, at: u64) -> Result<Judged, AllocError>
         requires { is_ack input.now ≡ false }
         ensures { IfOk result (λ j. j ≡ judgement_as answer (is_quiet (due_items (facts_of self.now) at)) input.now at) }
@@ -69,7 +69,7 @@ impl State {
         Ok(Judged::Told(answer))
     }
 
-    /// An answer to a call that was never opened, or is closed, is told so. One to a call that is asked is new until the
+    /// The answer to a call that was never opened, or is closed, is refused. One to a call that is asked is new until the
     /// call's deadline and its transaction's expiry; from then on it comes too late.
     fn judge_answer(&self, call: CallId, outcome: Outcome, at: u64) -> Result<Judged, AllocError>
         requires { IsWell (state_of self.now) }
@@ -98,7 +98,7 @@ impl State {
         }))
     }
 
-    /// What an acknowledgement is told of a notice that was never made, or is acknowledged.
+    /// The answer to an acknowledgement of a notice that was never made, or is acknowledged.
     fn notice_answer(&self, notice: u32) -> Option<Answer>
         ensures { result ≡ notice_answer (facts_of self.now) notice }
     {

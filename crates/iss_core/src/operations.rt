@@ -184,7 +184,7 @@ impl State {
         put_decided(out, &operation.token, Verdict::Done)
     }
 
-    /// A clearing is declined, or takes its amount. It ends a live transaction where it is the last one, or nothing is held
+    /// A clearing is declined, or takes its amount. It ends a live transaction if it is the last one, or nothing is held
     /// after it.
     pub(crate) fn put_clearing(
         &self,

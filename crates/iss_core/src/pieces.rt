@@ -56,7 +56,7 @@ pub(crate) fn put_notice(
     }
 }
 
-/// The same, where the amount isn't 0.
+/// The same, if the amount isn't 0.
 pub(crate) fn put_notice_of_some(
     out: &mut Vec<Entry>,
     number: u32,
@@ -116,7 +116,7 @@ pub(crate) fn put_void(
     Ok(())
 }
 
-/// A call is closed, voided, its use given back, and its event declined.
+/// A call is closed, voided, its use returned, and its event declined.
 pub(crate) fn put_abandoned(
     out: &mut Vec<Entry>,
     number: u32,
@@ -133,7 +133,7 @@ pub(crate) fn put_abandoned(
     put_decided(out, &opened.event, Verdict::Declined(*why))
 }
 
-/// An ask is declined: its use is given back, and with an authorisation its transaction ends.
+/// An ask is declined: its use is returned, and with an authorisation its transaction ends.
 pub(crate) fn put_declined_ask(
     out: &mut Vec<Entry>,
     ask: &Ask,

@@ -60,7 +60,7 @@ impl State {
         })
     }
 
-    /// Counts a record, and notes its input where it is an event, which is a new one.
+    /// Counts a record, and notes its input if it is an event, which is a new one.
     pub(crate) fn take_up(&mut self, accepted: &Record) -> Result<(), AllocError>
         requires room { self.old.count + 1 < 2 ^ 32 }
         requires input_form { IsTrue (is_in_form accepted.now.input) }

@@ -42,7 +42,7 @@ impl Core {
         self.instance
     }
 
-    /// What an account has, in minor units: 0 where no money was moved to it or from it.
+    /// What an account has, in minor units: 0 if no money was moved to it or from it.
     pub fn balance(&self, account: &Account) -> i64
         ensures value { result ≡ balance_in (core_facts self.now.state) account.now }
         ensures on_book { (rs : List Record) → StandsFor self.now rs
@@ -60,7 +60,7 @@ impl Core {
         self.state.chain.held_by(user, currency)
     }
 
-    /// What a control has counted of a user in the window of a stamp, `None` exactly where there is no such control. A
+    /// What a control has counted of a user in the window of a stamp, `None` exactly if there is no such control. A
     /// control of single transactions has counted nothing here.
     pub fn used(&self, control: &Token, user: &Token, at: u64) -> Option<Used>
         requires { IsTrue (is_stamp at) }
@@ -71,7 +71,7 @@ impl Core {
         self.state.controls.used(control, user, at)
     }
 
-    /// The state of a call, `Unknown` exactly where it was never asked.
+    /// The state of a call, `Unknown` exactly if it was never asked.
     pub fn call(&self, call: CallId) -> CallState
         ensures value { result ≡ called.state_of (call_in (core_facts self.now.state) call.0) }
         ensures on_book { (rs : List Record) → StandsFor self.now rs
@@ -80,7 +80,7 @@ impl Core {
         self.state.calls.state(call)
     }
 
-    /// A call as it was opened, `None` exactly where it was never asked.
+    /// A call as it was opened, `None` exactly if it was never asked.
     pub fn opened(&self, call: CallId) -> Option<&Opened>
         ensures value { option_copied result ≡ option_map (λ c. c.opened) (call_in (core_facts self.now.state) call.0) }
         ensures on_book { (rs : List Record) → StandsFor self.now rs
@@ -89,7 +89,7 @@ impl Core {
         self.state.calls.opened(call)
     }
 
-    /// A notice, `None` exactly where there is none of that number or it is acknowledged.
+    /// A notice, `None` exactly if there is none of that number or it is acknowledged.
     pub fn notice(&self, number: u32) -> Option<&Notice>
         ensures value { option_copied result ≡ pending_notice (core_facts self.now.state) number }
         ensures on_book { (rs : List Record) → StandsFor self.now rs
@@ -98,7 +98,7 @@ impl Core {
         self.state.notices.get(number)
     }
 
-    /// How an event was decided, or that it is pending. `None` where there is no such event.
+    /// How an event was decided, or that it is pending. `None` if there is no such event.
     pub fn reply(&self, event: &Token) -> Option<Reply>
         ensures value { result ≡ event_reply (core_facts self.now.state) event.now }
         ensures on_book { (rs : List Record) → StandsFor self.now rs

@@ -1,5 +1,5 @@
 -- From the device to the store that was opened on it, and back at the end.
-use Rattle.std.proofs.Common.{◌≡◌, ℕ, List, ◌∷◌, ◌++◌, length, take, Option, Ok, sym, ap, subst, ◌∙◌, append_assoc, arith}
+use Rattle.std.proofs.Common.{◌≡◌, ℕ, List, ◌∷◌, ◌++◌, length, take, Option, sym, ap, subst, ◌∙◌, append_assoc, arith}
 use Rattle.std.specs.Prelude.{Some, ◌^◌, ◌<◌}
 use Rattle.std.proofs.lemmas.List.{take_all, length-map}
 use Rattle.std.proofs.Math.Seq.{take-append_seam}
@@ -83,7 +83,7 @@ rests_stands instance size rs device sized small history rests =
 pub stands_opened : (instance : ℕ) (rs : List Record) (s : StoreNow) (a b : World) → OpenedAs s a b → DeviceStandsFor instance rs a.device → IsOpenedOn instance (length a.device) rs s
 stands_opened instance rs s a b opening stands = opened_on instance rs s a.device opening.size stands opening.opens
 
--- what is told of the opening, and of what came behind it
+-- what is told of the opening, and of what came after it
 pub record Behind (s : StoreNow) (R : World → World → Type 0) (a d : World) : Type 0 where
   pub between : World
   pub opening : OpenedAs s a between

@@ -1,15 +1,14 @@
 -- What a stop leaves stands firmly: the next run may begin with it.
-use Rattle.std.proofs.Common.{◌≡◌, ℕ, ◌+◌, ◌<◌, ◌≤◌, ◌^◌, ◌⊎◌, inl, inr, true, List, [], ◌∷◌, ◌++◌, length, take, drop, set, refl, sym, ap, subst, ◌∙◌, append_assoc, arith, length-append}
+use Rattle.std.proofs.Common.{◌≡◌, ℕ, ◌+◌, inl, inr, List, [], ◌∷◌, ◌++◌, length, take, drop, set, refl, sym, ap, subst, ◌∙◌, arith, length-append}
 use Rattle.std.proofs.lemmas.Bool.{and_parts}
 use Rattle.std.specs.List.{list_all}
 use Rattle.std.proofs.lemmas.List.{append_cancel_left, take-append-drop, length-take-le, take_all, length-map}
 use Rattle.std.proofs.lemmas.List.Folds.{list_all-append}
 use Rattle.std.proofs.Math.Seq.{take-add}
-use Rattle.iss_edge.specs.Disk.{Disk, after_actions, IsAtRest, IsImage}
-use Rattle.iss_edge.specs.Stretches.{Step, actions_of, SentUpTo, ShowsUpTo}
+use Rattle.iss_edge.specs.Disk.{Disk, IsAtRest}
+use Rattle.iss_edge.specs.Stretches.{Step, SentUpTo, ShowsUpTo}
 use Rattle.iss_edge.proofs.StretchLemmas.{sent_weaker}
-use Rattle.iss_journal.specs.Region.{Region, bytes_before_gate, Shows, ShowsClosed, LeavesBehind, ShowsFirmly}
-use Rattle.iss_journal.specs.Header.{IsSize}
+use Rattle.iss_journal.specs.Region.{Region, bytes_before_gate, ShowsClosed, LeavesBehind, ShowsFirmly}
 use Rattle.iss_journal.specs.Opening.{OpenedOrOneMore, WasLeft}
 use Rattle.iss_journal.proofs.Closings.{shows_closed, gate_byte}
 use Rattle.iss_journal.proofs.Records.{one_list}
@@ -21,7 +20,7 @@ use Rattle.iss_store.specs.Standing.{region_of, bodies_of, AreHistory, DeviceSta
 use Rattle.iss_store.specs.Goings.{AreFirstOf}
 use Rattle.iss_store.proofs.NextRecords.{first_bodies}
 use Rattle.iss_store.proofs.Regions.{take_bodies, bodies_more}
-use Rattle.iss_device.specs.Moments.{BeginsAtRest, MomentStands, EachMoment, StandsFirmly, StopStands, EachStopStands}
+use Rattle.iss_device.specs.Moments.{BeginsAtRest, EachMoment, StandsFirmly, StopStands, EachStopStands}
 use Rattle.iss_device.proofs.Devices.{shows_stands}
 
 -- ---- the first ones of a history are one
@@ -106,7 +105,7 @@ module _ (instance : ℕ) (rs made : List Record) (device : List ℕ) (first : A
         firm = inr (r, (more, subst (λ (n : ℕ). LeavesBehind (region_of instance n) (bodies_of now) (spelling r) image) (sym left.shows.ends.whole) left));
       }
 
-  -- ---- behind the opening
+  -- ---- after the opening
 
   later_stands : (before : List Step) (image : List ℕ) → DeviceStandsFor instance rs device → ShowsUpTo (StandsIn region made) (length rs) (length made) before image → StopStands instance rs made before image
   later_stands before image stands shows =

@@ -1,6 +1,5 @@
--- What a stop leaves at each moment, within the opening and behind it, and where a run ends.
+-- What a stop leaves at each moment, within the opening and after it, and where a run ends.
 use Rattle.std.proofs.Common.{◌≡◌, ℕ, inl, inr, Bool, true, false, not, ◌&&◌, List, [], ◌∷◌, ◌++◌, length, take, refl, sym, ap, subst, ◌∙◌, append-nil, append_assoc, arith}
-use Rattle.std.specs.Prelude.{◌⊎◌}
 use Rattle.std.proofs.lemmas.List.{append_cancel_left, take_all, length-map}
 use Rattle.iss_edge.specs.declared.outside.Action.{Action}
 use Rattle.iss_edge.specs.declared.outside.Action.TheVariants.{Write, Sync, Emit, Dial, Close}
@@ -9,7 +8,7 @@ use Rattle.iss_edge.specs.Puts.{syncs_after}
 use Rattle.iss_edge.specs.Disk.{Disk, after_action, after_actions, IsAtRest, IsImage}
 use Rattle.iss_edge.specs.Stretches.{Step, actions_of, SentUpTo, ShowsUpTo, IsGood, GoesOn, with_levels}
 use Rattle.iss_edge.proofs.StretchLemmas.{EndsInSecond, front_of_two, actions_of-append, actions_of-leveled, after_actions-append, after_both, sent_append, sent_weaker, sent_leveled}
-use Rattle.iss_journal.specs.Region.{Region, ShowsClosed, ShowsFirmly, RestsFirst}
+use Rattle.iss_journal.specs.Region.{Region, ShowsClosed, ShowsFirmly}
 use Rattle.iss_journal.specs.Opening.{OpensFirst, OpenedOrOneMore}
 use Rattle.iss_model.specs.declared.input.Record.{Record}
 use Rattle.iss_model.specs.texts.Spelling.{spelling}
@@ -19,7 +18,7 @@ use Rattle.iss_store.specs.Goings.{AreFirstOf, Goes, GoesPart}
 use Rattle.iss_store.specs.Opening.{AreOnDevice, SyncsFirst, OpensGood, OpenedAs}
 use Rattle.iss_store.proofs.NextRecords.{first_self, first_bodies}
 use Rattle.iss_store.proofs.Goings.{goes_rests}
-use Rattle.iss_device.specs.Moments.{BeginsAtRest, BeginsUnsynced, IsWithin, MomentStands, EachMoment, AsBefore, EachMomentUnsynced, EndsAtRest}
+use Rattle.iss_device.specs.Moments.{BeginsAtRest, EachMoment, AsBefore, EachMomentUnsynced, EndsAtRest}
 use Rattle.iss_device.proofs.Devices.{stands_opened, region_opened}
 
 -- what an opening starts with may be said of more records
@@ -145,7 +144,7 @@ module _ (instance : ℕ) (rs : List Record) (s : StoreNow) (a b : World) (openi
     later_good =
         subst (λ (r : Region). IsGood (RestsIn r now) (StandsIn r now) (length rs) (length now) part.steps) region_is (part.good now (first_self now))
 
-    -- a moment behind the opening
+    -- a moment after the opening
     moment_later : (disk : Disk) → IsAtRest disk → OpensFirst region (bodies_of now) a.device disk.bytes (length rs) → (before rest : List Step) (image : List ℕ)
         → IsImage (after_actions disk (actions_of before)) image → EndsInSecond opening_steps part.steps before rest
         → ShowsUpTo (StandsIn region now) (length rs) (length now) before image

@@ -27,7 +27,7 @@ pub record BeginsUnsynced (instance : ℕ) (rs : List Record) (device : List ℕ
 abbrev pub IsWithin : List Step → List Step → Type 0
 IsWithin opening before = (later : List Step) × (opening ≡ before ++ later)
 
--- What a stop leaves at a moment of a run, once these steps were done: the records that stood and so many of those that it makes,
+-- What a stop leaves at a moment of a run, once these steps were done: the records that stood and some first ones of those that it makes,
 -- at least as many as the level of each text of which a byte went out, with nothing or the next of them left behind; or, as long as
 -- the steps are those of the opening, the records that stood, with what was left behind them at the start, or with that one too.
 abbrev pub MomentStands : ℕ → List Record → List Record → List Step → List Step → List ℕ → List ℕ → Type 0
@@ -66,8 +66,8 @@ pub record StandsFirmly (instance : ℕ) (rs : List Record) (device : List ℕ) 
   pub firm : ShowsClosed (region_of instance (length device)) (bodies_of rs) device
       ⊎ ((r : Record) × (AreHistory (rs ++ r ∷ []) × LeavesBehind (region_of instance (length device)) (bodies_of rs) (spelling r) device))
 
--- What a stop leaves stands firmly for some first ones of the records that the run made, or for one more than those that stood, which was
--- left behind at the start. They are at least as many as the level of each text of which a byte went out.
+-- What a stop leaves stands firmly for the first ones of these records, or for those that stood and any one more. They are at least as many
+-- as those that stood, and as the level of each text of which a byte went out.
 pub record StopStands (instance : ℕ) (rs made : List Record) (before : List Step) (image : List ℕ) : Type 0 where
   pub now : List Record
   pub firm : StandsFirmly instance now image

@@ -1,6 +1,7 @@
 -- Which devices are refused, and what was done then.
 use Rattle.std.specs.Prelude.{◌≡◌, ◌⊎◌, ℕ, List, ◌++◌}
 use Rattle.iss_edge.specs.declared.outside.Action.{Action}
+use Rattle.iss_edge.specs.declared.status.TheConstants.{BAD_DEVICE, DISK_FAULT, OUT_OF_MEMORY}
 use Rattle.iss_edge.specs.World.{World}
 use Rattle.iss_journal.specs.Header.{IsUnformatted}
 use Rattle.iss_model.specs.declared.input.Record.{Record}
@@ -27,20 +28,20 @@ pub record IsStore (device : List ℕ) : Type 0 where
   pub rs : List Record
   pub stands : DeviceStandsFor instance rs device
 
--- Status 4 comes only where the device stands for no records by one of these faults; nothing was done then but maybe a sync, and the
+-- The status of a bad device comes only where the device stands for no records by one of these faults; nothing was done then but maybe a sync, and the
 -- device reads as before. On such a device no other status comes but by a fault of the disk or of memory, and at any status no byte was
 -- taken, and nothing was sent. So any further status comes only on a device that stands for records.
 pub record RefusesExactly (status : ℕ) (a b : World) : Type 0 where
-  pub only : status ≡ 4 → IsNoStore a.device × ReadsAlone a b
-  pub there : IsNoStore a.device → (status ≡ 4) ⊎ ((status ≡ 6) ⊎ (status ≡ 7))
+  pub only : status ≡ BAD_DEVICE → IsNoStore a.device × ReadsAlone a b
+  pub there : IsNoStore a.device → (status ≡ BAD_DEVICE) ⊎ ((status ≡ DISK_FAULT) ⊎ (status ≡ OUT_OF_MEMORY))
   pub untouched : IsNoStore a.device → OnDeviceAlone a b
-  pub others : (status ≡ 4 → ⊥) → (status ≡ 6 → ⊥) → (status ≡ 7 → ⊥) → IsStore a.device
+  pub others : (status ≡ BAD_DEVICE → ⊥) → (status ≡ DISK_FAULT → ⊥) → (status ≡ OUT_OF_MEMORY → ⊥) → IsStore a.device
 
 -- the exit status of a run whose device doesn't open so
 abbrev pub opening_status : OpenFault → ℕ
-opening_status NotFormatted = 4
-opening_status (BadRecord gate) = 4
-opening_status (BadSpelling gate) = 4
-opening_status (BadHistory gate) = 4
-opening_status Disk = 6
-opening_status OutOfMemory = 7
+opening_status NotFormatted = BAD_DEVICE
+opening_status (BadRecord gate) = BAD_DEVICE
+opening_status (BadSpelling gate) = BAD_DEVICE
+opening_status (BadHistory gate) = BAD_DEVICE
+opening_status Disk = DISK_FAULT
+opening_status OutOfMemory = OUT_OF_MEMORY

@@ -67,7 +67,7 @@ counts_more xs i x a b c lt is p q =
     let next : take (i + 1) xs ≡ take i xs ++ x ∷ [] = take_more xs i x lt ∙ ap (λ (y : Entry). take i xs ++ y ∷ []) (sym is) in
     subst (λ (l : List Entry). Counts l a c) (sym next) (counts_then (take i xs) (x ∷ []) a b c p q)
 
--- where there is room for a whole list, there is room for one entry behind some of it
+-- if there is room for a whole list, there is room for one entry after some of it
 room_at : (most more i a b : ℕ) (test : Entry → Bool) (xs : List Entry) → length xs ≡ more → i < more → a + more < most → b ≡ a + among test (take i xs) → b + 1 < most
 room_at most more i a b test xs e lt room is =
     let few : among test (take i xs) ≤ i = omega (arith, among_few test (take i xs), length-take i xs) in

@@ -22,7 +22,7 @@ next_is n = omega arith
 
 -- ---- the set-up
 
--- so many lines of the set-up were given since a store and a tally began, on a device of this size
+-- this number of lines of the set-up was given since a store and a tally began, on a device of this size
 pub record IsSetUp (number : ℕ) (t0 t : Tally) (s0 s : StoreNow) (size0 size : ℕ) : Type 0 where
   pub lines : t.lines ≡ number
   pub few : IsFew number t

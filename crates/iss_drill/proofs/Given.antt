@@ -238,7 +238,7 @@ told_few told lines t u few tells =
     once : (lines t u one : ℕ) → one ≤ 1 → t ≤ lines → u ≡ t + one → u ≤ lines + 1
     once lines t u one le few is = omega (arith, le, few, is)
 
--- so it is behind the record of a time
+-- so it is after the record of a time
 pub clock_few : (lines : ℕ) (t m u : Tally) → IsFew lines t → IsFew (lines + 1) m → m.repeats ≡ t.repeats → ((told : Bool) × TellsAnswer told m u) → IsFew (lines + 1) u
 clock_few lines t m u few kept same told =
     record {

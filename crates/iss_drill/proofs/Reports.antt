@@ -10,7 +10,7 @@ use Rattle.iss_drill.specs.Names.{named}
 use Rattle.iss_drill.specs.Drills.{held_of_users}
 use Rattle.iss_jit.proofs.Objects.{next, object_is}
 
--- members that are put one after the other behind commas
+-- members that are put one after the other, each after a comma
 abbrev pub put_on : List ℕ → List Member → List ℕ
 put_on text [] = text
 put_on text (m ∷ ms) = put_on (text ++ next m) ms
@@ -25,7 +25,7 @@ whole_line m ms =
     ∙ sym (append_assoc ((123 ∷ member_text m) ++ flat_map next ms) (125 ∷ []) (10 ∷ []))
     ∙ ap (λ (t : List ℕ). t ++ (10 ∷ [])) (object_is m ms)
 
--- the first member of a drill's line, and those behind it
+-- the first member of a drill's line, and those after it
 abbrev pub others_of : List Member → List Member
 others_of [] = []
 others_of (m ∷ ms) = ms

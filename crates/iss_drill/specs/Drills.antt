@@ -23,6 +23,8 @@ use Rattle.iss_model.specs.run.Rooms.{one_journal}
 use Rattle.iss_model.specs.run.Transcripts.{Reading, sound, faulty}
 use Rattle.iss_model.specs.run.Runs.{Run, judgement_in, response, run_after}
 use Rattle.iss_model.specs.texts.DrillLines.{DrillTotals, drill_line}
+use Rattle.iss_drill.specs.declared.run.TheConstants.{FOR_ALL, FOR_EACH}
+use Rattle.iss_drill.specs.declared.setup.TheConstants.{INPUTS}
 use Rattle.iss_drill.specs.declared.fault.DrillFault.{DrillFault}
 use Rattle.iss_drill.specs.declared.fault.DrillFault.TheVariants as drill_fault
 use Rattle.iss_drill.specs.Names.{named}
@@ -42,13 +44,13 @@ abbrev pub call_opened : List Entry → Option CallId
 call_opened [] = None
 call_opened (e ∷ entries) = option_or (opened_of e) (call_opened entries)
 
--- the entries of the record that judging came to, where it came to one
+-- the entries of the record that judging came to, if it came to one
 abbrev pub entries_as : History → Judged → List Entry
 entries_as h (judged.New r) = (step history_keeper h r).entries
 entries_as h (judged.Clock r) = (step history_keeper h r).entries
 entries_as h (judged.Told a) = []
 
--- the call that an input opens in a run at a stamp, where it opens one
+-- the call that an input opens in a run at a stamp, if it opens one
 abbrev pub call_opened_in : Run → Input → ℕ → Option CallId
 call_opened_in s i stamp = call_opened (entries_as s.history (judgement_in s i stamp))
 
@@ -63,18 +65,18 @@ tells_repeat (judged.Told a) = is_repeat a
 tells_repeat (judged.New r) = false
 tells_repeat (judged.Clock r) = false
 
--- the same where the record of a time may go before the answer
+-- the same if the record of a time may go before the answer
 abbrev pub tells_repeat_as : History → Input → ℕ → Judged → Bool
 tells_repeat_as h i stamp (judged.New r) = false
 tells_repeat_as h i stamp (judged.Clock r) = tells_repeat (judge history_keeper (step history_keeper h r).world i stamp)
 tells_repeat_as h i stamp (judged.Told a) = is_repeat a
 
--- a line is told a repeat
+-- a line's answer is a repeat
 abbrev pub is_told_repeat : Run → Reading → Bool
 is_told_repeat s (sound i at) = let stamp = unwrap_or at 0 in tells_repeat_as s.history i stamp (judgement_in s i stamp)
 is_told_repeat s (faulty text) = false
 
--- how many of these lines are told a repeat
+-- how many of these lines have a repeat as their answer
 abbrev pub repeats_among : Run → List Reading → ℕ
 repeats_among s [] = 0
 repeats_among s (line ∷ lines) = (if is_told_repeat s line then 1 else 0) + repeats_among (response s line).run lines
@@ -83,25 +85,25 @@ repeats_among s (line ∷ lines) = (if is_told_repeat s line then 1 else 0) + re
 
 -- the run of a drill of n events before its first line: a device of 1048576 + 512 n bytes that was formatted with instance 0
 abbrev pub drill_run : ℕ → Run
-drill_run n = record { instance = 0; room = Some (one_journal (1048576 + 512 * n)); history = nothing_yet }
+drill_run n = record { instance = 0; room = Some (one_journal (FOR_ALL + FOR_EACH * n)); history = nothing_yet }
 
--- the first lines of the set-up, so many, which have no stamp
+-- the first lines of the set-up, up to this number, which have no stamp
 unfoldable pub setup_lines : ℕ → List Reading
 setup_lines zero = []
 setup_lines (suc number) = setup_lines number ++ sound (setup_input (suc number)) None ∷ []
 
--- the answer of the call that an event opened, at the event's stamp, where it opened one
+-- the answer of the call that an event opened, at the event's stamp, if it opened one
 abbrev pub answer_lines : ℕ → Option CallId → List Reading
 answer_lines i None = []
 answer_lines i (Some call) = sound (input.Answer call (outcome_of (drawn i))) (Some (stamp_of i)) ∷ []
 
--- the line of an event, and then that of the answer, where the event opens a call on what stands
+-- the line of an event, and then that of the answer, if the event opens a call on what stands
 abbrev pub event_lines : Run → ℕ → List Reading
 event_lines s i = sound (event_input i) (Some (stamp_of i)) ∷ answer_lines i (call_opened_in s (event_input i) (stamp_of i))
 
 -- the lines up to an event in a drill of n events: the set-up, and then those of each event on what stands by then
 unfoldable pub lines_up_to : ℕ → ℕ → List Reading
-lines_up_to n zero = setup_lines 23
+lines_up_to n zero = setup_lines INPUTS
 lines_up_to n (suc i) = lines_up_to n i ++ event_lines (run_after (drill_run n) (lines_up_to n i)) (suc i)
 
 -- the lines of a drill of n events
@@ -129,7 +131,7 @@ is_notice_made _ = false
 abbrev pub rows_with : (Entry → Bool) → List Row → ℕ
 rows_with test rows = length (filter (λ row. test row.entry) rows)
 
--- what is held in US dollars of the users of the first digits, so many, together
+-- what is held in US dollars of the users of the first digits, up to this number, together
 unfoldable pub held_of_users : Facts → ℕ → ℤ
 held_of_users f zero = pos 0
 held_of_users f (suc digit) = held_of_users f digit +ℤ held_in f (named (codes "u") digit) Usd
@@ -160,7 +162,7 @@ drill_totals n =
 abbrev pub drill_text : ℕ → List ℕ
 drill_text n = drill_line (drill_totals n)
 
--- no count of faults has fallen, and where the drill's line didn't go out, the count of output rose
+-- no count of faults has fallen, and if the drill's line didn't go out, the count of output rose
 pub record DrillCause {T : Type 0} (before now : Faults) (result : Result T DrillFault) : Type 0 where
   pub later : Later before now
   pub output : IsErrOf result drill_fault.Output → Rose before.output now.output

@@ -5,7 +5,7 @@ use Rattle.std.specs.Prelude.{ℕ, zero, suc, ◌+◌, ◌*◌, ◌/◌, ◌%◌
 abbrev pub next_state : ℕ → ℕ
 next_state x = (x * 1103515245 + 12345) % 2 ^ 31
 
--- the state after so many steps
+-- the state after this number of steps
 unfoldable pub state_at : ℕ → ℕ
 state_at zero = 1
 state_at (suc i) = next_state (state_at i)

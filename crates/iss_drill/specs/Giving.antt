@@ -30,17 +30,17 @@ run_with run r = record run { room = room_left run.room run.history.records (Som
 abbrev pub IsCallNumbered : CallId → Type 0
 IsCallNumbered call = is_from_one call.0 ≡ true
 
--- a record was kept: its entries were counted, and the store stands behind it
+-- a record was kept: its entries were counted, and the store stands after it
 pub record Keeps (run : Run) (r : Record) (before after : Tally) (s : StoreNow) (opened : Option CallId) : Type 0 where
   pub counts : Counts (step history_keeper run.history r).entries before after
   pub stands : StandsAtRun s (run_with run r)
   pub call : opened ≡ call_opened (step history_keeper run.history r).entries
 
--- one more is counted where this holds
+-- one more is counted if this holds
 abbrev pub one_if : Bool → ℕ
 one_if counts = if counts then 1 else 0
 
--- an answer was told, and counted where it is a repeat
+-- an answer was told, and counted if it is a repeat
 pub record TellsAnswer (is_repeat : Bool) (before after : Tally) : Type 0 where
   pub approved : after.approved ≡ before.approved
   pub declined : after.declined ≡ before.declined
@@ -48,7 +48,7 @@ pub record TellsAnswer (is_repeat : Bool) (before after : Tally) : Type 0 where
   pub lines : after.lines ≡ before.lines
   pub repeats : after.repeats ≡ before.repeats + one_if is_repeat
 
--- an input was taken at a stamp that is judged so: its entries and its repeat were counted, and the store stands at what then stands
+-- an input of this judgement was taken at a stamp: its entries and its repeat were counted, and the store stands at what then stands
 pub record Takes (run : Run) (i : Input) (at : ℕ) (j : Judged) (before after : Tally) (s : StoreNow) (opened : Option CallId) : Type 0 where
   pub middle : Tally
   pub counts : Counts (entries_as run.history j) before middle

@@ -1,5 +1,6 @@
 -- What a drill sets up: a product that the gateway funds, a Commando Mode set and a control, and ten users with a card each.
 use Rattle.std.specs.Prelude.{ℕ, pos, ◌+◌, ◌-◌, ◌==◌, nat_lt, true, false, codes, Some, None, if◌then◌else◌}
+use Rattle.iss_model.specs.declared.limits.TheConstants.{DEFAULT_TIMEOUT, DEFAULT_HOLD}
 use Rattle.iss_model.specs.declared.currency.Currency.TheVariants.{Usd}
 use Rattle.iss_model.specs.declared.setting.Funding.TheVariants as funding
 use Rattle.iss_model.specs.declared.setting.Window.TheVariants.{Day}
@@ -11,7 +12,7 @@ use Rattle.iss_drill.specs.Names.{named}
 
 -- a product that the gateway funds, with three seconds for its answer and a week for what is held
 abbrev pub product_input : Input
-product_input = input.Product (named (codes "x") 1) (codes "d") Usd funding.Gateway 3000 604800000
+product_input = input.Product (named (codes "x") 1) (codes "d") Usd funding.Gateway DEFAULT_TIMEOUT DEFAULT_HOLD
 
 -- a set of that product for a gateway that can't be reached: 50.00 for one purchase, 200.00 for a day
 abbrev pub set_input : Input

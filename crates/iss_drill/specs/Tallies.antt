@@ -20,13 +20,13 @@ pub record Counts (entries : List Entry) (before after : Tally) : Type 0 where
   pub lines : after.lines ≡ before.lines
   pub repeats : after.repeats ≡ before.repeats
 
--- so many entries more can be counted
+-- this number of entries more can be counted
 pub record Room (more : ℕ) (t : Tally) : Type 0 where
   pub approved : t.approved + more < 2 ^ 128
   pub declined : t.declined + more < 2 ^ 128
   pub notices : t.notices + more < 2 ^ 128
 
--- so many lines can have been counted: each has fewer entries than a list can have
+-- this number of lines can have been counted: each has fewer entries than a list can have
 pub record IsFew (lines : ℕ) (t : Tally) : Type 0 where
   pub approved : t.approved ≤ lines * 2 ^ 64
   pub declined : t.declined ≤ lines * 2 ^ 64

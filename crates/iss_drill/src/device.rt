@@ -3,7 +3,7 @@ ghost use Rattle.std.specs.Prelude.{◌≡◌, vec_len};
 
 use iss_edge::{Arrival, Channel, Edge, Failed};
 
-/// The bytes of a device. What is sent is let go, and nothing comes in. It tells nothing of what is done, so that nothing is kept of it.
+/// The bytes of a device. What is sent is dropped, and nothing comes in. It tells nothing of what is done, so nothing is kept of it.
 #[derive(Drop)]
 pub(crate) struct Quiet {
     bytes: Vec<u8>,

@@ -24,7 +24,7 @@ fn own_event(number: u32, drawn: u32) -> Input
     }
 }
 
-/// The event of this number: the one before it again where that is drawn, or its own.
+/// The event of this number: the one before it again if that is drawn, or its own.
 pub(crate) fn next_event(number: u32, drawn: u32, last: Input) -> Input
     requires first { 1 ≤ number }
     requires small { drawn < 32768 }

@@ -18,7 +18,7 @@ use iss_store::{PlanFault, Planned, Routes, Store};
 use std::alloc::{AllocError, Global};
 
 /// Gives the store an input at a stamp, and counts what it comes to. Returns the store after it, and the call that it opened,
-/// where it opened one. A call on a device in memory fails for want of memory alone.
+/// if it opened one. A call on a device in memory fails only if an allocation does.
 #[tactic(auto, using(crate::proofs::Given::given_few))]
 pub(crate) fn give<E: Edge>(
     alloc: Global,
@@ -88,7 +88,7 @@ fn take<E: Edge>(
     }
 }
 
-/// Makes the record of a plan last, and then sends what it says.
+/// Makes the record of a plan last, and then sends what comes of it.
 fn keep<E: Edge>(
     alloc: Global,
     store: Store,
@@ -119,7 +119,7 @@ fn keep<E: Edge>(
     }
 }
 
-/// Tells an input that isn't new its answer once the time is taken up.
+/// Sends an input that isn't new its answer, after the time is taken up.
 fn tell_left<E: Edge>(
     alloc: Global,
     store: &Store,
@@ -143,7 +143,7 @@ fn tell_left<E: Edge>(
     }
 }
 
-/// Tells an input its answer, and counts it where it is a repeat.
+/// Sends an input its answer, and counts it if it is a repeat.
 fn tell<E: Edge>(
     alloc: Global,
     store: &Store,

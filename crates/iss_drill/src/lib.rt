@@ -9,6 +9,7 @@ mod events;
 mod fault;
 mod generator;
 mod giving;
+pub mod limits;
 mod names;
 mod report;
 mod run;

@@ -5,7 +5,7 @@ ghost use Rattle.iss_model.specs.Amounts.{amount_text};
 ghost use Rattle.iss_model.specs.rules.Facts.{held_in};
 ghost use Rattle.iss_model.specs.state.Cores.{core_facts};
 ghost use Rattle.iss_model.specs.state.Kept.{IsSmall};
-ghost use Rattle.iss_model.specs.texts.Wordings.{in_quotes, member_text, with_text, with_number};
+ghost use Rattle.iss_model.specs.texts.Wordings.{member_text, with_text, with_number};
 ghost use Rattle.iss_model.specs.texts.DrillLines.{drill_line};
 ghost use Rattle.iss_drill.specs.Names.{named};
 ghost use Rattle.iss_drill.specs.Drills.{held_of_users};
@@ -15,6 +15,7 @@ use crate::names::named;
 use crate::tally::Tally;
 use iss_amount::write;
 use iss_core::Core;
+use iss_jit::{put_name, put_quoted};
 use iss_model::{Account, Currency};
 use itoa::Buffer;
 use std::alloc::{AllocError, Global};
@@ -111,20 +112,4 @@ fn put_amount(alloc: Global, out: &mut Vec<u8>, name: &str, amount: i64) -> Resu
     put_name(out, b',', name)?;
     let text = write(alloc, amount, Currency::Usd)?;
     put_quoted(out, text.as_bytes())
-}
-
-fn put_name(out: &mut Vec<u8>, before: u8, name: &str) -> Result<(), AllocError>
-    ensures { OnOk result (out.new.items ≡ out.old.items ++ (before ∷ (in_quotes name.now ++ 58 ∷ []))) }
-{
-    out.push(before)?;
-    put_quoted(out, name.as_bytes())?;
-    out.extend_from_slice(b":")
-}
-
-fn put_quoted(out: &mut Vec<u8>, text: &[u8]) -> Result<(), AllocError>
-    ensures { OnOk result (out.new.items ≡ out.old.items ++ in_quotes text.now) }
-{
-    out.push(b'"')?;
-    out.extend_from_slice(text)?;
-    out.extend_from_slice(b"\"")
 }

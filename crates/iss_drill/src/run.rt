@@ -1,11 +1,13 @@
 //! A drill, from an empty device to its line.
 ghost use Rattle.std.specs.Prelude.{◌≡◌, ◌+◌, ◌*◌, ◌<◌, ◌≤◌, ◌^◌, [], ◌∷◌, ◌++◌, ℕ, List, None, IfOk, OnOk, OnErr, IsTrue, IsSomeAnd, vec_len};
 ghost use Rattle.iss_edge.specs.World.{Told};
+ghost use Rattle.iss_journal.specs.declared.layout.TheConstants.{LEAST_SIZE, GREATEST_SIZE};
 ghost use Rattle.iss_model.specs.Forms.{is_in_form};
 ghost use Rattle.iss_model.specs.run.Transcripts.{Reading, sound};
 ghost use Rattle.iss_model.specs.run.Runs.{Run, run_after};
 ghost use Rattle.iss_texts.specs.Sending.{Says, SaysSome};
 ghost use Rattle.iss_store.specs.Standing.{StandsFor};
+ghost use Rattle.iss_drill.specs.declared.limits.TheConstants.{MOST_EVENTS};
 ghost use Rattle.iss_drill.specs.Generated.{drawn};
 ghost use Rattle.iss_drill.specs.Setup.{setup_input};
 ghost use Rattle.iss_drill.specs.Events.{event_input};
@@ -27,9 +29,10 @@ use iss_model::Input;
 use iss_store::Store;
 use std::alloc::{AllocError, Global};
 
-/// What a device has for the set-up, in bytes, and for each event.
+/// What a device has for the set-up, in bytes.
 const FOR_ALL: u32 = 1_048_576;
 
+/// What it has more for each event, in bytes.
 const FOR_EACH: u32 = 512;
 
 /// The time from one event to the next, in milliseconds.
@@ -40,7 +43,7 @@ const MINUTE: u64 = 60_000;
 #[tactic(auto, using(crate::proofs::Sending::told_drilled, crate::proofs::Sending::told_undrilled, iss_texts::proofs::ToldSaying::told_none))]
 pub fn drill<E: Edge>(alloc: Global, n: u32, edge: &mut E) -> Result<(), DrillFault>
     requires least { 1 ≤ n }
-    requires most { n ≤ 100000 }
+    requires most { n ≤ MOST_EVENTS }
     ensures drilled { OnOk result (Told (Says (drill_text n ∷ [])) (E.told edge.old) (E.told edge.new)) }
     ensures part { OnErr result (Told (SaysSome (drill_text n ∷ [])) (E.told edge.old) (E.told edge.new)) }
     ensures cause { DrillCause (E.faults edge.old) (E.faults edge.new) result }
@@ -54,7 +57,7 @@ pub fn drill<E: Edge>(alloc: Global, n: u32, edge: &mut E) -> Result<(), DrillFa
 
 /// The line of a drill.
 fn drilled(alloc: Global, n: u32) -> Result<Vec<u8>, AllocError>
-    requires most { n ≤ 100000 }
+    requires most { n ≤ MOST_EVENTS }
     ensures { IfOk result (λ line. line.items ≡ drill_text n) }
 {
     let mut tally = Tally::new();
@@ -65,9 +68,9 @@ fn drilled(alloc: Global, n: u32) -> Result<Vec<u8>, AllocError>
     drill_line(alloc, &totals)
 }
 
-/// A store without a record, and its device, of so many bytes. A call on a device in memory fails for want of memory alone.
+/// A store without a record, and its device of `size` bytes. A call on a device in memory fails only if an allocation does.
 fn fresh_store(alloc: Global, size: u32) -> Result<(Store, Quiet), AllocError>
-    requires { 17 ≤ size }
+    requires { LEAST_SIZE ≤ size }
     ensures stands { IfOk result (λ x. StandsFor x.0 []) }
     ensures size { IfOk result (λ x. x.0.place.to ≡ size) }
     ensures extent { IfOk result (λ x. ⟦<Quiet as Edge>⟧.extent x.1 ≡ size) }
@@ -79,10 +82,10 @@ fn fresh_store(alloc: Global, size: u32) -> Result<(Store, Quiet), AllocError>
     Ok((store, device))
 }
 
-/// Makes a device one of instance 0 that stands for no records, and opens it. It fails for want of memory alone, as the device does.
+/// Makes a device one of instance 0 that stands for no records, and opens it. It fails only if an allocation does.
 fn format_and_open<E: Edge>(alloc: Global, edge: &mut E) -> Result<Store, AllocError>
-    requires least { 17 ≤ E.extent edge.old }
-    requires most { E.extent edge.old ≤ 2 ^ 32 }
+    requires least { LEAST_SIZE ≤ E.extent edge.old }
+    requires most { E.extent edge.old ≤ GREATEST_SIZE }
     ensures stands { IfOk result (λ store. (device : List ℕ)
         → IsSomeAnd (E.told edge.new) (λ world. device ≡ world.device) → StandsFor store []) }
     ensures size { IfOk result (λ store. store.place.to ≡ E.extent edge.old) }
@@ -116,9 +119,9 @@ fn set_up(
     requires size { ⟦<Quiet as Edge>⟧.extent device.old ≡ fresh.place.to }
     requires start { tally.old.lines ≡ 0 }
     requires few { IsFew 0 tally.old }
-    ensures given { (start : Run) → HasGiven start [] tally.old fresh → IfOk result (λ s. HasGiven start (setup_lines 23) tally.new s) }
-    ensures lines { OnOk result (tally.new.lines ≡ 23) }
-    ensures few { OnOk result (IsFew 23 tally.new) }
+    ensures given { (start : Run) → HasGiven start [] tally.old fresh → IfOk result (λ s. HasGiven start (setup_lines INPUTS) tally.new s) }
+    ensures lines { OnOk result (tally.new.lines ≡ INPUTS) }
+    ensures few { OnOk result (IsFew INPUTS tally.new) }
     ensures kept { ⟦<Quiet as Edge>⟧.extent device.new ≡ ⟦<Quiet as Edge>⟧.extent device.old }
     ensures size { IfOk result (λ s. s.place.to ≡ fresh.place.to) }
 {
@@ -138,7 +141,7 @@ fn give_setup(
     tally: &mut Tally,
 ) -> Result<Store, AllocError>
     requires least { 1 ≤ number }
-    requires most { number ≤ 23 }
+    requires most { number ≤ INPUTS }
     requires size { ⟦<Quiet as Edge>⟧.extent device.old ≡ store.place.to }
     requires room { tally.old.lines < 2 ^ 20 }
     requires few { IsFew tally.old.lines tally.old }
@@ -161,13 +164,13 @@ fn give_events(
     device: &mut Quiet,
     tally: &mut Tally,
 ) -> Result<Store, AllocError>
-    requires most { n ≤ 100000 }
+    requires most { n ≤ MOST_EVENTS }
     requires size { ⟦<Quiet as Edge>⟧.extent device.old ≡ ready.place.to }
-    requires start { tally.old.lines ≡ 23 }
-    requires few { IsFew 23 tally.old }
-    ensures given { HasGiven (drill_run n) (setup_lines 23) tally.old ready
+    requires start { tally.old.lines ≡ INPUTS }
+    requires few { IsFew INPUTS tally.old }
+    ensures given { HasGiven (drill_run n) (setup_lines INPUTS) tally.old ready
         → IfOk result (λ s. HasGiven (drill_run n) (drill_lines n) tally.new s) }
-    ensures lines { OnOk result (tally.new.lines ≤ 23 + 2 * n) }
+    ensures lines { OnOk result (tally.new.lines ≤ INPUTS + 2 * n) }
 {
     let mut store = ready;
     let mut generator = Generator::new();
@@ -181,7 +184,7 @@ fn give_events(
     Ok(store)
 }
 
-/// Gives the event of this number, and then the answer of the call that it opens, where it opens one.
+/// Gives the event of this number, and then the answer of the call that it opens, if it opens one.
 fn give_event(
     alloc: Global,
     store: Store,
@@ -191,7 +194,7 @@ fn give_event(
     y: u32,
     tally: &mut Tally,
 ) -> Result<Store, AllocError>
-    requires most { number ≤ 100000 }
+    requires most { number ≤ MOST_EVENTS }
     requires size { ⟦<Quiet as Edge>⟧.extent device.old ≡ store.place.to }
     requires form { IsTrue (is_in_form event.now) }
     requires room { tally.old.lines + 1 < 2 ^ 20 }

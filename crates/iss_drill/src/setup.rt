@@ -5,6 +5,7 @@ ghost use Rattle.iss_model.specs.Forms.{is_in_form};
 ghost use Rattle.iss_drill.specs.Setup.{product_input, set_input, control_input, user_input, card_input, setup_input};
 
 use crate::names::{lettered, named};
+use iss_model::limits::{DEFAULT_HOLD, DEFAULT_TIMEOUT};
 use iss_model::{Association, Currency, Funding, Input, Scope, Window};
 
 /// How many inputs set a drill up.
@@ -14,7 +15,7 @@ pub(crate) const INPUTS: u32 = 23;
 #[tactic(auto, unfolding(crate::specs::Setup::setup_input))]
 pub(crate) fn setup_input(number: u32) -> Input
     requires least { 1 ≤ number }
-    requires most { number ≤ 23 }
+    requires most { number ≤ INPUTS }
     ensures value { result ≡ setup_input number }
     ensures form { IsTrue (is_in_form result) }
 {
@@ -35,8 +36,8 @@ fn product() -> Input
         product: lettered(b'd'),
         currency: Currency::Usd,
         funding: Funding::Gateway,
-        timeout_ms: 3000,
-        hold_ms: 604_800_000,
+        timeout_ms: DEFAULT_TIMEOUT,
+        hold_ms: DEFAULT_HOLD,
     }
 }
 

@@ -51,7 +51,7 @@ impl Tally {
         }
     }
 
-    /// Counts an answer where it is a repeat.
+    /// Counts an answer if it is a repeat.
     #[tactic(auto, using(crate::proofs::Counting::tells_repeat, crate::proofs::Counting::tells_other))]
     pub(crate) fn count_answer(&mut self, answer: &Answer)
         requires { self.old.repeats < 2 ^ 20 }

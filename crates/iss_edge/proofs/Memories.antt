@@ -1,11 +1,10 @@
 -- Why the calls of an outside in memory do what is said of them.
-use Rattle.std.proofs.Common.{◌≡◌, ℕ, ◌+◌, ◌-◌, ◌<◌, ◌≤◌, min, Bool, false, cond, List, [], ◌∷◌, ◌++◌, length, take, drop, Result, Ok, Err, OnOk, OnErr, inl, inr, refl, sym, ap, ◌∙◌, eq-eqb, arith, length-drop, drop-drop}
-use Rattle.std.proofs.lemmas.Bool.{ne_eqb}
-use Rattle.std.proofs.lemmas.List.{take-append-drop, length-take-le, nil_from_length}
+use Rattle.std.proofs.Common.{◌≡◌, ℕ, ◌+◌, ◌≤◌, false, List, [], ◌∷◌, ◌++◌, length, take, drop, Result, Ok, Err, OnOk, OnErr, inl, inr, refl, sym, arith, length-drop}
+use Rattle.std.proofs.lemmas.List.{take-append-drop, length-take-le}
 use Rattle.iss_edge.specs.declared.outside.Channel.{Channel}
 use Rattle.iss_edge.specs.declared.outside.Action.{Action}
 use Rattle.iss_edge.specs.declared.outside.Action.TheVariants.{Write, Emit}
-use Rattle.iss_edge.specs.Calls.{Takes, EmitsPart, WritesPart}
+use Rattle.iss_edge.specs.Calls.{EmitsPart, WritesPart}
 use Rattle.iss_edge.specs.declared.outside.Script.{Script}
 use Rattle.iss_edge.proofs.Splices.{spliced_same}
 

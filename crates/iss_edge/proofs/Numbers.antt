@@ -1,12 +1,12 @@
 -- The numbers of channels in memory: which are open, and which are to come.
 use Rattle.std.proofs.Common.{◌≡◌, ℕ, ◌+◌, ◌≤◌, ◌<◌, ◌==◌, Bool, true, false, not, ◌&&◌, ◌||◌, cond, List, [], ◌∷◌, ◌++◌, nat_le, nat_lt, Option, refl, sym, ap, subst, ◌∙◌, arith}
-use Rattle.std.specs.List.{list_any, list_all, filter}
-use Rattle.std.proofs.lemmas.Bool.{ne_eqb, eqb-true, ltb-true, leb-true, lt-ltb, and_parts, and_from}
+use Rattle.std.specs.List.{list_all, filter}
+use Rattle.std.proofs.lemmas.Bool.{ne_eqb, ltb-true, leb-true, lt-ltb, and_parts, and_from}
 use Rattle.std.proofs.lemmas.List.Folds.{list_any-append, list_all-append}
 use Rattle.iss_edge.specs.declared.outside.Channel.{Channel}
 use Rattle.iss_edge.specs.declared.outside.Script.{Script}
 use Rattle.iss_edge.specs.declared.outside.Script.TheVariants.{Client, More, Ended, Time, Idle}
-use Rattle.iss_edge.specs.Channels.{Channels, is_among, is_open, IsUnused, without}
+use Rattle.iss_edge.specs.Channels.{is_among, IsUnused, without}
 use Rattle.iss_edge.specs.Memory.{is_client_number, is_dialled_number, are_to_come}
 
 not_true : (b : Bool) → not b ≡ true → b ≡ false
@@ -39,7 +39,7 @@ filter_all test keep (n ∷ numbers) all =
     either true here all = rw here all
     either false here all = all
 
--- what is to come may come where fewer numbers are known
+-- what is to come may come if fewer numbers are known
 to_come_fewer : (items : List Script) (known fewer : List ℕ) → ((ch : ℕ) → is_among known ch ≡ false → is_among fewer ch ≡ false) → are_to_come known items ≡ true → are_to_come fewer items ≡ true
 to_come_fewer [] known fewer less come = refl
 to_come_fewer (Client ch ∷ items) known fewer less come =

@@ -8,7 +8,7 @@ use Rattle.iss_edge.specs.declared.outside.Answered.{Answered}
 use Rattle.iss_edge.specs.declared.outside.Answered.TheVariants.{Waited, Took, Dialled, Emitted}
 use Rattle.iss_edge.specs.World.{World, Told}
 use Rattle.iss_edge.specs.Calls.{Same, Waits, Takes, Emits, SendsPrefix, EmitsPart, Dials, Closes, Hears, HearsNothing}
-use Rattle.iss_edge.specs.Outer.{Outer, outer_of, Adds, torn_actions, IsTornFrom, Tears}
+use Rattle.iss_edge.specs.Outer.{Outer, outer_of, Adds, Tears}
 
 told_none : {W : Type 0} (R : W → W → Type 0) (x : Option W) → Told R x None
 told_none R None = tt
@@ -37,7 +37,7 @@ adds_then xs ys is js a b c p q =
       heard = q.heard ∙ ap (λ (t : List Answered). t ++ js) p.heard ∙ append_assoc a.heard is js;
     }
 
--- an answer alone, where nothing was done
+-- an answer alone, if nothing was done
 told_answer : (R : World → World → Type 0) (answer : Answered) → ((a b : World) → R a b → (b.device ≡ a.device) × (b.trace ≡ a.trace))
     → (x y : Option World) (h k : Option (List Answered)) → Told R x y → Told (Hears answer) h k → Told (Adds [] (answer ∷ [])) (outer_of x h) (outer_of y k)
 told_answer R answer still =

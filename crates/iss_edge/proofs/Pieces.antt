@@ -1,5 +1,5 @@
 -- Bytes that are taken from pieces that came on channels.
-use Rattle.std.proofs.Common.{◌≡◌, ℕ, ◌+◌, ◌≤◌, ◌<◌, ◌==◌, min, Bool, true, false, not, ◌&&◌, suc, cond, List, [], ◌∷◌, ◌++◌, length, take, drop, get_or, refl, sym, ap, ◌∙◌, append_assoc, append-nil, arith, length-append}
+use Rattle.std.proofs.Common.{◌≡◌, ℕ, ◌+◌, ◌<◌, ◌==◌, min, Bool, true, false, not, ◌&&◌, suc, cond, List, [], ◌∷◌, ◌++◌, length, take, drop, get_or, refl, sym, ap, ◌∙◌, append_assoc, append-nil, arith, length-append}
 use Rattle.std.specs.Prelude.{slice_set}
 use Rattle.std.proofs.lemmas.Bool.{ne_eqb, eqb-true, and_parts}
 use Rattle.std.proofs.lemmas.List.{take-append-drop, length-take-le, nil_from_length, take-set, drop-set}
@@ -25,7 +25,7 @@ none_here false rest e = refl
 none_here true [] e = refl
 none_here true (b ∷ bs) e = cc
 
--- nothing is left where no piece has more
+-- nothing is left if no piece has more
 pub left_on-none : (ch : ℕ) (pieces : List Piece) → next_rest ch pieces ≡ [] → left_on pieces ch ≡ []
 left_on-none ch [] e = refl
 left_on-none ch (p ∷ pieces) e = first (p.ch.0 == ch) p.rest (left_on pieces ch) (next_rest ch pieces) e (left_on-none ch pieces)

@@ -29,7 +29,7 @@ torn_moment P n put puts d ok rest h image is =
     let torn : IsTorn put.at put.bytes d.bytes image = torn_image d put.at put.bytes ok image rest h.0 is in
     subst (P n) (sym torn.is) (h.2 torn.torn torn.whole)
 
--- once the sync of the first put was tried
+-- after the sync of the first put was tried
 synced_moment : (P : ℕ → List ℕ → Type 0) (n : ℕ) (put : Put) (puts : List Put) (d : Disk) (ok : Bool) → IsAtRest d → Holds P n d.bytes (put ∷ puts) → (image : List ℕ) → IsImage (after_actions d (Write put.at put.bytes true ∷ Sync ok ∷ [])) image → P (syncs_after n (Sync ok ∷ [])) image
 synced_moment P n put puts d true rest h image is =
     let now = after_actions d (Write put.at put.bytes true ∷ Sync true ∷ []) in

@@ -95,7 +95,7 @@ arrival_of (Ended ch) = arrival.Ready ch
 arrival_of (Time at) = arrival.Time at
 arrival_of Idle = arrival.Idle
 
--- what the next wait brings, which is the end where nothing is to come any more
+-- what the next wait brings, which is the end if nothing is to come any more
 abbrev pub next_arrival : List Script → Arrival
 next_arrival [] = arrival.End
 next_arrival (item ∷ items) = arrival_of item

@@ -1,5 +1,5 @@
 -- The channels of an edge, and which count of failures a call on one of them raises.
-use Rattle.std.specs.Prelude.{◌≡◌, ℕ, ◌==◌, Bool, true, false, not, ◌||◌, List, [], ◌∷◌, ◌++◌, Option, Some, None, if◌then◌else◌}
+use Rattle.std.specs.Prelude.{◌≡◌, ℕ, ◌==◌, Bool, false, not, ◌||◌, List, [], ◌∷◌, ◌++◌, Option, Some, None, if◌then◌else◌}
 use Rattle.std.specs.List.{list_any, filter}
 use Rattle.iss_edge.specs.declared.outside.Channel.{Channel}
 use Rattle.iss_edge.specs.declared.outside.Arrival.{Arrival}
@@ -39,7 +39,7 @@ ComesUnused channels (Time at) = Unit {0}
 ComesUnused channels Idle = Unit {0}
 ComesUnused channels End = Unit {0}
 
--- the channels once a wait brought this, or failed
+-- the channels after a wait brought this, or failed
 abbrev pub after_wait : Option Arrival → Channels → Channels
 after_wait (Some (Client ch)) channels = record channels { clients = channels.clients ++ ch.0 ∷ [] }
 after_wait (Some (Ready ch)) channels = record channels { ready = Some ch.0 }
@@ -48,7 +48,7 @@ after_wait (Some Idle) channels = channels
 after_wait (Some End) channels = channels
 after_wait None channels = channels
 
--- the channels once a dial opened this one, or failed
+-- the channels after a dial opened this one, or failed
 abbrev pub after_dial : Option Channel → Channels → Channels
 after_dial (Some ch) channels = record channels { dialled = channels.dialled ++ ch.0 ∷ [] }
 after_dial None channels = channels
@@ -57,7 +57,7 @@ after_dial None channels = channels
 abbrev pub without : ℕ → List ℕ → List ℕ
 without ch numbers = filter (λ number. not (number == ch)) numbers
 
--- the channels once this one was closed
+-- the channels after this one was closed
 abbrev pub after_close : Channel → Channels → Channels
 after_close ch channels =
     record channels { clients = without ch.0 channels.clients; dialled = without ch.0 channels.dialled }

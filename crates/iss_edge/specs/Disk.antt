@@ -24,7 +24,7 @@ pub record Disk : Type 0 where
 abbrev pub disk_at_rest : List ℕ → Disk
 disk_at_rest bytes = record { bytes = bytes; touched = λ place. false; failed = λ place. false }
 
--- the device once this was done
+-- the device after this was done
 abbrev pub after_action : Disk → Action → Disk
 after_action d (Write at bytes ok) =
     record {
@@ -43,7 +43,7 @@ abbrev pub after_actions : Disk → List Action → Disk
 after_actions d [] = d
 after_actions d (action ∷ actions) = after_actions (after_action d action) actions
 
--- A place is settled where no write touched it since the last sync that succeeded, and the last write that did succeeded.
+-- A place is settled if no write touched it since the last sync that succeeded, and the last write that did succeeded.
 abbrev pub is_settled : Disk → ℕ → Bool
 is_settled d place = not (d.touched place) && not (d.failed place)
 

@@ -1,23 +1,26 @@
 -- The channels of an outside in memory.
 use Rattle.std.specs.Prelude.{ℕ, ◌==◌, Bool, true, false, not, ◌&&◌, List, [], ◌∷◌, ◌++◌, drop, Option, Some, None, nat_le, nat_lt, ◌+◌, if◌then◌else◌}
-use Rattle.std.specs.List.{list_all}
-use Rattle.iss_edge.specs.declared.outside.Channel.{Channel}
 use Rattle.iss_edge.specs.declared.outside.Script.{Script}
 use Rattle.iss_edge.specs.declared.outside.Script.TheVariants.{Client, More, Ended, Time, Idle}
 use Rattle.iss_edge.specs.declared.memory.piece.Piece.{Piece}
-use Rattle.iss_edge.specs.World.{Faults}
+use Rattle.iss_edge.specs.World.{World, Faults}
+use Rattle.iss_edge.specs.declared.memory.network.TheConstants.{GREATEST_CLIENT, FIRST_DIALLED}
 use Rattle.iss_edge.specs.Channels.{Channels, is_among}
 
--- the bytes that are to come, where channel 0 alone has some
+-- the bytes that are to come, if channel 0 alone has some
 abbrev pub alone_on_input : List ℕ → ℕ → List ℕ
 alone_on_input bytes ch = if ch == 0 then bytes else []
+
+-- what an outside in memory tells before its first call, with this device, these bytes to come on channel 0, and this script
+abbrev pub first_world : List ℕ → List ℕ → List Script → World
+first_world device input script = record { device = device; left = alone_on_input input; arrivals = script; trace = [] }
 
 -- a value that is told as long as the test holds
 abbrev pub told_if : {A : Type 0} → Bool → A → Option A
 told_if true x = Some x
 told_if false x = None
 
--- the counts where no call can fail but those on the device, on input and on output
+-- the counts if no call can fail but those on the device, on input and on output
 abbrev pub stream_faults : ℕ → ℕ → ℕ → Faults
 stream_faults disk input output =
     record { disk = disk; input = input; output = output; peer = 0; link = 0 }
@@ -47,7 +50,7 @@ abbrev pub next_rest : ℕ → List Piece → List ℕ
 next_rest ch [] = []
 next_rest ch (piece ∷ pieces) = if has_more_on ch piece then piece.rest else next_rest ch pieces
 
--- the pieces once so many bytes of that piece were taken
+-- the pieces after this number of bytes of that piece was taken
 abbrev pub after_take : ℕ → ℕ → List Piece → List Piece
 after_take ch count [] = []
 after_take ch count (piece ∷ pieces) =
@@ -56,13 +59,13 @@ after_take ch count (piece ∷ pieces) =
 
 -- clients come on these numbers
 abbrev pub is_client_number : ℕ → Bool
-is_client_number ch = nat_le 1 ch && nat_le ch 1000000
+is_client_number ch = nat_le 1 ch && nat_le ch GREATEST_CLIENT
 
--- dials give these numbers, where so many channels were dialled
+-- the numbers that dials return, after this number of dials
 abbrev pub is_dialled_number : ℕ → ℕ → Bool
-is_dialled_number dials ch = nat_lt 1000000 ch && nat_lt ch (dials + 1000001)
+is_dialled_number dials ch = nat_lt GREATEST_CLIENT ch && nat_lt ch (dials + FIRST_DIALLED)
 
--- clients are to come on numbers of theirs, each on one that was none of these and that no client before it came on
+-- clients are to come on numbers of theirs, each on one that is not known and that no client before it came on
 abbrev pub are_to_come : List ℕ → List Script → Bool
 are_to_come known [] = true
 are_to_come known (Client ch ∷ items) =

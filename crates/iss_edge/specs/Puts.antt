@@ -19,7 +19,7 @@ abbrev pub after_puts : List ℕ → List Put → List ℕ
 after_puts bytes [] = bytes
 after_puts bytes (put ∷ puts) = after_puts (splice put.at put.bytes bytes) puts
 
--- the actions of these puts where all went well
+-- the actions of these puts if all went well
 abbrev pub actions_of_puts : List Put → List Action
 actions_of_puts [] = []
 actions_of_puts (put ∷ puts) = Write put.at put.bytes true ∷ Sync true ∷ actions_of_puts puts

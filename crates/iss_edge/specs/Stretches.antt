@@ -14,7 +14,7 @@ abbrev pub actions_of : List Step → List Action
 actions_of [] = []
 actions_of (step ∷ steps) = step.action ∷ actions_of steps
 
--- the level that counts: that of the text, where a byte of it went out
+-- the level that counts: that of the text, if a byte of it went out
 abbrev pub sent_level : Action → ℕ → ℕ
 sent_level (Write at bytes ok) level = 0
 sent_level (Sync ok) level = 0
@@ -59,7 +59,7 @@ abbrev pub StretchesJoin : (starts stands mids : List ℕ → ℕ → Type 0) �
 StretchesJoin starts stands mids =
     (j k l : ℕ) (a b : List Step) → GoesOn starts stands mids j k a → IsGood mids stands k l b → IsGood starts stands j l (a ++ b)
 
--- and where the run goes on after the second one too, it goes on after both
+-- and if the run goes on after the second one too, it goes on after both
 abbrev pub StretchesGoOn : (starts stands mids ends : List ℕ → ℕ → Type 0) → Type 0
 StretchesGoOn starts stands mids ends =
     (j k l : ℕ) (a b : List Step) → GoesOn starts stands mids j k a → GoesOn mids stands ends k l b → GoesOn starts stands ends j l (a ++ b)

@@ -18,6 +18,10 @@ Told R (Some a) None = Unit {0}
 Told R None (Some b) = ⊥
 Told R (Some a) (Some b) = R a b
 
+-- what this reads of an edge is the same after a call as before it
+abbrev pub Stays : {E A : Type 0} → (E → A) → E → E → Type 0
+Stays part before after = part after ≡ part before
+
 -- how often calls have failed: on the device, on input, on output, on clients' channels and on dialled channels
 pub record Faults : Type 0 where
   pub disk : ℕ
@@ -38,7 +42,7 @@ pub record Later (before now : Faults) : Type 0 where
 abbrev pub Rose : ℕ → ℕ → Type 0
 Rose before now = (before < now) ⊎ (now ≡ 2 ^ 64 - 1)
 
--- no count has fallen, and where the call failed its own count rose
+-- no count has fallen, and if the call failed its own count rose
 pub record HasCause {T E : Type 0} (kind : Faults → ℕ) (before now : Faults) (result : Result T E) : Type 0 where
   pub later : Later before now
   pub failed : OnErr result (Rose (kind before) (kind now))

@@ -4,7 +4,7 @@ ghost use Rattle.std.specs.Prelude.{◌≡◌, ◌↔◌, IsTrue, length};
 
 use std::marker::Model;
 
-/// A list of bytes, made from a `Vec` and given back as one without taking memory.
+/// A list of bytes, made from a `Vec` and returned as one without allocating.
 #[derive(Debug, Drop)]
 pub struct Bytes {
     kept: Vec<u8>,

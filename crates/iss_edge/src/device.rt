@@ -1,7 +1,7 @@
 //! Work on the device whose moments can be told, and the laws of stretches.
 
-ghost use Rattle.std.specs.Prelude.{◌≡◌, ℕ, ◌+◌, ◌≤◌, List, length, OnOk, OnErr};
-ghost use Rattle.iss_edge.specs.World.{Told, HasCause};
+ghost use Rattle.std.specs.Prelude.{ℕ, ◌+◌, ◌≤◌, List, length, OnOk, OnErr};
+ghost use Rattle.iss_edge.specs.World.{Told, HasCause, Stays};
 ghost use Rattle.iss_edge.specs.Calls.{HearsNothing};
 ghost use Rattle.iss_edge.specs.Puts.{one_put, Puts, PutsPart};
 ghost use Rattle.iss_edge.specs.Stretches.{StretchesJoin, StretchesGoOn};
@@ -16,8 +16,8 @@ pub fn put<E: Edge>(edge: &mut E, at: u64, bytes: &[u8]) -> Result<(), Failed>
     ensures part { OnErr result (Told (PutsPart (one_put at bytes.now)) (E.told edge.old) (E.told edge.new)) }
     ensures cause { HasCause (λ f. f.disk) (E.faults edge.old) (E.faults edge.new) result }
     ensures heard { Told HearsNothing (E.heard edge.old) (E.heard edge.new) }
-    ensures kept { E.extent edge.new ≡ E.extent edge.old }
-    ensures channels { E.channels edge.new ≡ E.channels edge.old }
+    ensures kept { Stays E.extent edge.old edge.new }
+    ensures channels { Stays E.channels edge.old edge.new }
 {
     edge.write_at(at, bytes)?;
     edge.sync()

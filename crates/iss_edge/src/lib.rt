@@ -10,6 +10,7 @@ mod device;
 mod edge;
 mod memory;
 mod outside;
+pub mod status;
 
 pub use bytes::Bytes;
 pub use counts::{Fault, FaultCounts};

@@ -4,7 +4,7 @@ ghost use Rattle.std.specs.Prelude.{◌≡◌, ◌+◌, ◌^◌, ◌-◌, ◌≤
 ghost use Rattle.std.proofs.Common.{sym};
 ghost use Rattle.iss_edge.specs.Channels.{no_channels};
 ghost use Rattle.iss_edge.specs.Disk.{splice};
-ghost use Rattle.iss_edge.specs.Memory.{alone_on_input, told_if, stream_faults, left_on, are_clients_apart};
+ghost use Rattle.iss_edge.specs.Memory.{first_world, told_if, stream_faults, left_on, are_clients_apart};
 
 use crate::{Action, Answered, Arrival, Bytes, Channel, Edge, Failed, Fault, FaultCounts, Script};
 use network::{Network, arrive, open_channel};
@@ -42,8 +42,7 @@ impl MemoryEdge {
         fails: Vec<u64>,
     ) -> Result<MemoryEdge, AllocError>
         requires { are_clients_apart script.items ≡ true }
-        ensures told { IfOk result (λ m. ⟦<MemoryEdge as Edge>⟧.told m
-            ≡ Some (record { device = device.items; left = alone_on_input input.items; arrivals = script.items; trace = [] })) }
+        ensures told { IfOk result (λ m. ⟦<MemoryEdge as Edge>⟧.told m ≡ Some (first_world device.items input.items script.items)) }
         ensures heard { IfOk result (λ m. ⟦<MemoryEdge as Edge>⟧.heard m ≡ Some []) }
         ensures faults { IfOk result (λ m. ⟦<MemoryEdge as Edge>⟧.faults m ≡ stream_faults 0 0 0) }
         ensures extent { IfOk result (λ m. ⟦<MemoryEdge as Edge>⟧.extent m ≡ vec_len device) }
@@ -196,7 +195,7 @@ impl Edge for MemoryEdge {
     ghost sized = { λ m. sym m.device.ok.0 };
 }
 
-/// Counts a call that may fail, and says whether it is one of those that are to.
+/// Counts a call that may fail, and returns whether it is one of those that are to.
 fn fails_now(calls: &mut u64, fails: &[u64]) -> bool
     ensures counted { calls.new ≡ min (calls.old + 1) (2 ^ 64 - 1) }
     ensures named { IsTrue result ↔ Contains fails.now calls.new }

@@ -28,11 +28,11 @@ pub enum Arrival {
 /// What was done to the outside, in the order in which it was done.
 #[derive(Debug, Drop)]
 pub enum Action {
-    /// These bytes were written to the device from this place on. Where it failed, what stands there is open.
+    /// These bytes were written to the device from this place on. If it failed, what stands there is open.
     Write { at: u64, bytes: Bytes, ok: bool },
     /// All that was written was to be made to last.
     Sync { ok: bool },
-    /// These bytes went out on the channel. Where it failed, they are a prefix of what was to go out.
+    /// These bytes went out on the channel. If it failed, they are a prefix of what was to go out.
     Emit { ch: Channel, bytes: Bytes, ok: bool },
     /// This channel was opened from our side.
     Dial { ch: Channel },

@@ -1,4 +1,4 @@
--- What a client's line says is an event: no client says what time it is, what a gateway answered, or that a notice is acknowledged.
+-- What a client's line spells is an event: no client tells what time it is, what a gateway answered, or that a notice is acknowledged.
 use Rattle.std.proofs.Common.{◌≡◌, refl, ℕ, Bool, true, false, cond, nat_lt, List, length, Option, Some, None, Result, Ok, Err, IfOk, IfSome}
 use Rattle.std.specs.Prelude.{is_some, option_and_then}
 use Rattle.std.proofs.lemmas.Bool.{false≢true}

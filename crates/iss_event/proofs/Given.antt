@@ -105,7 +105,7 @@ group-gives P d h =
 
 -- ---- the limits of a control
 
--- the amount limit is in form, and it is there where it isn't excused
+-- the amount limit is in form, and it is there if it isn't excused
 record IsAmountLimit (excused : Bool) (limit : Option ℕ) : Type 0 where
   pub form : is_none_or is_limit limit ≡ true
   pub said : (is_some limit || excused) ≡ true
@@ -123,7 +123,7 @@ amount_limit : (currency : Currency) (excused : Bool) (d : Data) → IfOk (requi
 unfolding required_field_unless
 amount_limit currency excused d = amount_limit_found currency excused (field name.AmountLimit d)
 
--- the usage limit is in form and allowed, and said where its field is there
+-- the usage limit is in form and allowed, and read if its field is there
 record IsUsageLimit (w : Window) (there : Bool) (limit : Option ℕ) : Type 0 where
   pub form : is_none_or is_usage_limit limit ≡ true
   pub allowed : may_count w limit ≡ true

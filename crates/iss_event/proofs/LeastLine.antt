@@ -24,23 +24,23 @@ always : {A F : Type 0} (r : Result A F) (P : Type 0) → P → IfOk r (λ found
 always (Ok x) P h = h
 always (Err fault) P h = tt
 
--- what holds where the first step gives something holds where both do
+-- what holds if the first step returns something holds if both do
 then_always : {A B F : Type 0} (r : Result A F) (f : A → Result B F) (P : Type 0) → IfOk r (λ found. P) → IfOk (r >>= f) (λ found. P)
 then_always (Ok x) f P h = always (f x) P h
 then_always (Err fault) f P h = tt
 
--- and it holds where a bad field is called a fault
+-- and it holds if a bad field is called a fault
 fault_always : {A : Type 0} (r : Result A Name) (P : Type 0) → IfOk r (λ found. P) → IfOk (as_fault r) (λ found. P)
 fault_always (Ok x) P h = h
 fault_always (Err name) P h = tt
 
--- what holds where the field is there holds where it is found in form
+-- what holds if the field is there holds if it is found in form
 where_found : (o : Option Data) (form : Data → Option Kind) (fault : Name) (P : Type 0) → (is_some o ≡ true → P)
     → IfOk (ok_or (option_and_then form (option_and_then unless_null o)) fault) (λ kind. P)
 where_found None form fault P h = tt
 where_found (Some d) form fault P h = always (ok_or (option_and_then form (unless_null d)) fault) P (h refl)
 
--- what holds where the object has a member `type` holds where it is opened
+-- what holds if the object has a member `type` holds if it is opened
 opened-member : (mode : Mode) (o : Option Data) (P : Type 0) → (has_member (name_text name.Kind) o ≡ true → P) → IfOk (opened_if_found mode o) (λ opened. P)
 unfolding opened_object required_field field
 opened-member mode None P h = tt
@@ -49,7 +49,7 @@ opened-member mode (Some d) P h =
     (then_always (required_field (kind_of mode) name.Kind d) (λ kind. Ok (record { kind = kind; stamp = stamp_said mode kind d; object = d })) P
     (where_found (get (name_text name.Kind) d) (kind_of mode) name.Kind P h))
 
--- what holds of a line that is opened holds where long ones are refused
+-- what holds of a line that is opened holds if long ones are refused
 unless_long : (b : Bool) (r : Result Opened FormFault) (P : Type 0) → IfOk r (λ opened. P) → IfOk (cond b (Err Long) r) (λ opened. P)
 unless_long true r P h = tt
 unless_long false r P h = h
@@ -64,7 +64,7 @@ line_read-least : (mode : Mode) (line : List ℕ) → IfOk (line_read mode line)
 unfolding line_read
 line_read-least mode line = then_always (opened_line mode line) (λ opened. as_fault (said_line opened)) (4 ≤ length line) (opened-least mode line)
 
--- a line that says something has at least four bytes
+-- a line that spells something has at least four bytes
 pub least_line : (mode : Mode) (line : List ℕ) (said : Line) → line_read mode line ≡ Ok said → 4 ≤ length line
 least_line mode line said is = subst (λ (r : Result Line FormFault). IfOk r (λ found. 4 ≤ length line)) is (line_read-least mode line)
 

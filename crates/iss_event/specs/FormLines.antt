@@ -6,11 +6,11 @@ use Rattle.iss_event.specs.declared.line.FormFault.{FormFault}
 use Rattle.iss_event.specs.declared.line.FormFault.TheVariants.{Long, Json, Field}
 use Rattle.iss_field.specs.Names.{name_text}
 
--- what is told of a line with this fault
+-- the text of a line with this fault
 abbrev pub fault_members : List ℕ → List Member
 fault_members fault = with_text (codes "fault") fault ∷ with_text (codes "reply") (codes "form") ∷ []
 
--- what is told of a bad field
+-- the text of a bad field
 abbrev pub field_members : Name → List Member
 field_members name =
     with_text (codes "fault") (codes "FIELD") ∷ with_text (codes "field") (name_text name) ∷ with_text (codes "reply") (codes "form") ∷ []

@@ -2,7 +2,7 @@
 use Rattle.std.specs.Prelude.{ℕ, ℤ, pos, Bool, true, false, ◌&&◌, codes, List, Option, Some, None, is_some, is_none, Result, Ok, Err}
 use Rattle.serde_json.specs.Data.{Data}
 use Rattle.serde_json.specs.Find.{as_bool}
-use Rattle.iss_model.specs.declared.limits.TheConstants.{SHORTEST_TIMEOUT, LONGEST_TIMEOUT, SHORTEST_HOLD, LONGEST_HOLD, GREATEST_USAGE, FIRST_NUMBER, GREATEST_NUMBER}
+use Rattle.iss_model.specs.declared.limits.TheConstants.{DEFAULT_TIMEOUT, DEFAULT_HOLD, SHORTEST_TIMEOUT, LONGEST_TIMEOUT, SHORTEST_HOLD, LONGEST_HOLD, GREATEST_USAGE, FIRST_NUMBER, GREATEST_NUMBER}
 use Rattle.iss_model.specs.declared.currency.Currency.{Currency}
 use Rattle.iss_model.specs.declared.input.Input.{Input}
 use Rattle.iss_model.specs.declared.input.Input.TheVariants as input
@@ -31,7 +31,7 @@ user_input d = do
   user ← required_field token_of name.User d
   Ok (input.User token user)
 
--- a card is made, of the product `default` and active where the line doesn't say otherwise
+-- a card is made, of the product `default` and active if the line doesn't tell otherwise
 unfoldable pub card_input : Data → Result Input Name
 card_input d = do
   token ← required_field token_of name.Token d
@@ -69,18 +69,18 @@ move_input d = do
   who ← whose_move card (is_some (field name.User d)) d
   Ok (input.Move token who)
 
--- a product is made, with three seconds for an answer and seven days for a hold where the line doesn't say otherwise
+-- a product is made, with three seconds for an answer and seven days for a hold if the line doesn't tell otherwise
 unfoldable pub product_input : Data → Result Input Name
 product_input d = do
   token ← required_field token_of name.Token d
   product ← required_field token_of name.Product d
   currency ← required_field currency_of name.Currency d
   funding ← required_field funding_of name.Funding d
-  timeout_ms ← optional_field_or (whole_within SHORTEST_TIMEOUT LONGEST_TIMEOUT) 3000 name.TimeoutMs d
-  hold_ms ← optional_field_or (whole_within SHORTEST_HOLD LONGEST_HOLD) 604800000 name.HoldMs d
+  timeout_ms ← optional_field_or (whole_within SHORTEST_TIMEOUT LONGEST_TIMEOUT) DEFAULT_TIMEOUT name.TimeoutMs d
+  hold_ms ← optional_field_or (whole_within SHORTEST_HOLD LONGEST_HOLD) DEFAULT_HOLD name.HoldMs d
   Ok (input.Product token product currency funding timeout_ms hold_ms)
 
--- codes get a name
+-- a group of codes is made
 unfoldable pub group_input : Data → Result Input Name
 group_input d = do
   token ← required_field token_of name.Token d
@@ -131,7 +131,7 @@ scope_said d = do
   mid ← optional_field (form_if (is_none mcc && is_none group) token_of) name.Mid d
   Ok (scope_named mcc group mid)
 
--- a control is made, or changes its limits; it is in UTC, and active, where the line doesn't say otherwise
+-- a control is made, or changes its limits; it is in UTC, and active, if the line doesn't tell otherwise
 unfoldable pub control_input : Data → Result Input Name
 control_input d = do
   token ← required_field token_of name.Token d
@@ -145,7 +145,7 @@ control_input d = do
   active ← optional_field_or as_bool true name.Active d
   Ok (input.Control token control currency window limits.0 limits.1 association scope offset active)
 
--- a Commando Mode set is made, or changed; it covers nothing, and is active, where the line doesn't say otherwise
+-- a Commando Mode set is made, or changed; it covers nothing, and is active, if the line doesn't tell otherwise
 unfoldable pub set_input : Data → Result Input Name
 set_input d = do
   token ← required_field token_of name.Token d
@@ -211,14 +211,14 @@ reversal_input d = do
   o ← operation_said d
   Ok (input.Reversal o.token o.txn o.currency o.amount)
 
--- a merchant collects; further clearings may come where the line doesn't say that this is the last
+-- a merchant collects; further clearings may come if the line doesn't tell that this is the last
 unfoldable pub clearing_input : Data → Result Input Name
 clearing_input d = do
   o ← operation_said d
   last ← optional_field_or as_bool false name.Last d
   Ok (input.Clearing o.token o.txn o.currency o.amount last)
 
--- a merchant gives back
+-- a merchant refunds an amount
 unfoldable pub refund_input : Data → Result Input Name
 refund_input d = do
   o ← operation_said d
@@ -239,7 +239,7 @@ ack_input d = do
   notice ← required_field (whole_within FIRST_NUMBER GREATEST_NUMBER) name.Notice d
   Ok (input.Ack notice)
 
--- what a line of this kind says
+-- the input of a line of this kind
 abbrev pub input_of_kind : Kind → Data → Result Input Name
 input_of_kind kind.User d = user_input d
 input_of_kind kind.Card d = card_input d

@@ -30,14 +30,14 @@ kind_of_text text =
     else if bytes_eq text (codes "switch") then Some kind.Switch
     else None
 
--- the kind, where a line of that mode may be of it: no client says what a gateway answered or that time went by
+-- the kind, if a line of that mode may be of it: no client tells what a gateway answered or that time went by
 abbrev pub kind_in : Mode → Kind → Option Kind
 kind_in Client kind.Answer = None
 kind_in Client kind.Ack = None
 kind_in Client kind.Time = None
 kind_in mode k = Some k
 
--- a time says when it is, and nothing else; the other kinds may leave it out
+-- a time has a stamp, and nothing else; the other kinds may leave it out
 abbrev pub may_lack_stamp : Kind → Bool
 may_lack_stamp kind.Time = false
 may_lack_stamp _ = true

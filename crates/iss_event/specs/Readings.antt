@@ -1,4 +1,4 @@
--- What a line says.
+-- What a line spells.
 use Rattle.std.specs.Prelude.{◌≡◌, ℕ, List, length, nat_lt, Option, Some, None, Result, Ok, Err, if◌then◌else◌}
 use Rattle.serde_json.specs.Data.{Data}
 use Rattle.iss_model.specs.declared.limits.TheConstants.{LAST_STAMP, LONGEST_LINE}
@@ -25,7 +25,7 @@ abbrev pub as_fault : {A : Type 0} → Result A Name → Result A FormFault
 as_fault (Ok x) = Ok x
 as_fault (Err name) = Err (Field name)
 
--- when it happened; a client's member `at` says nothing
+-- when it happened; a client's member `at` counts for nothing
 abbrev pub stamp_said : Mode → Kind → Data → Result (Option ℕ) Name
 stamp_said Lines kind d = required_field_unless (may_lack_stamp kind) (whole_within 0 LAST_STAMP) name.At d
 stamp_said Client kind d = Ok None
@@ -36,29 +36,29 @@ pub record Opened : Type 0 where
   pub stamp : Result (Option ℕ) Name
   pub object : Data
 
--- the object of a line, where its type is good
+-- the object of a line, if its type is good
 unfoldable pub opened_object : Mode → Data → Result Opened Name
 opened_object mode d = do
   kind ← required_field (kind_of mode) name.Kind d
   Ok (record { kind = kind; stamp = stamp_said mode kind d; object = d })
 
--- the object, where there is one
+-- the object, if there is one
 abbrev pub opened_if_found : Mode → Option Data → Result Opened FormFault
 opened_if_found mode None = Err Json
 opened_if_found mode (Some d) = as_fault (opened_object mode d)
 
--- the object that a line is, where it isn't too long and its type is good
+-- the object that a line is, if it isn't too long and its type is good
 unfoldable pub opened_line : Mode → List ℕ → Result Opened FormFault
 opened_line mode line = if nat_lt LONGEST_LINE (length line) then Err Long else opened_if_found mode (object_of line)
 
--- what the object says after its type: its stamp, and then the fields of its kind
+-- what the object spells after its type: its stamp, and then the fields of its kind
 unfoldable pub said_line : Opened → Result Line Name
 said_line opened = do
   at ← opened.stamp
   said ← input_of_kind opened.kind opened.object
   Ok (record { input = said; at = at })
 
--- What a line says, or its first fault: too long, no JSON object, no such type, a bad stamp, or the first bad field of its kind.
+-- What a line spells, or its first fault: too long, no JSON object, no such type, a bad stamp, or the first bad field of its kind.
 unfoldable pub line_read : Mode → List ℕ → Result Line FormFault
 line_read mode line = do
   opened ← opened_line mode line

@@ -7,7 +7,7 @@ use Rattle.iss_model.specs.declared.decision.Reply.{Reply}
 use Rattle.iss_model.specs.declared.decision.Reply.TheVariants.{Decided, Pending}
 use Rattle.iss_model.specs.texts.Wordings.{card_state_text, user_state_text, reason_text}
 
--- what the reason is about, which its text says after its name
+-- what the reason is about, which its text names after its own name
 abbrev pub detail_text : Reason → List ℕ
 detail_text (MoveCard from to) = card_state_text from ++ codes ":" ++ card_state_text to
 detail_text (MoveUser from to) = user_state_text from ++ codes ":" ++ user_state_text to

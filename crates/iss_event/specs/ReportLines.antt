@@ -29,14 +29,14 @@ unfoldable pub counts_text : ℕ → ℕ → ℕ → List ℕ
 counts_text calls notices records =
     line_of (with_number (codes "calls") calls ∷ with_number (codes "notices") notices ∷ with_number (codes "records") records ∷ [])
 
--- the balance and the hold are what these facts say of the account
+-- the balance and the hold are those of the account by these facts
 abbrev pub IsShown : Facts → Account → ℤ → ℤ → Type 0
 IsShown f (account.Gateway currency) balance held = balance ≡ balance_in f (account.Gateway currency)
 IsShown f (account.Network currency) balance held = balance ≡ balance_in f (account.Network currency)
 IsShown f (account.Programme currency) balance held = balance ≡ balance_in f (account.Programme currency)
 IsShown f (account.User user currency) balance held = (balance ≡ balance_in f (account.User user currency)) × (held ≡ held_in f user currency)
 
--- the counts are what these facts say
+-- the counts are those of these facts
 pub record AreCounts (f : Facts) (calls notices records : ℕ) : Type 0 where
   pub calls_open : calls ≡ length (filter is_asked f.calls)
   pub notices_pending : notices ≡ length f.pending

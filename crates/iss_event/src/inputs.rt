@@ -1,4 +1,4 @@
-//! What a line of each type says.
+//! The input of a line of each type.
 ghost use Rattle.std.specs.Prelude.{◌≡◌, IfOk};
 ghost use Rattle.iss_field.specs.Seen.{seen};
 ghost use Rattle.iss_event.specs.Inputs.{answer_input, ack_input, input_of_kind};
@@ -19,7 +19,7 @@ use std::alloc::{AllocError, Global};
 /// The numbers of calls and notices.
 const NUMBERS: NumberForm = NumberForm(FIRST_NUMBER, GREATEST_NUMBER);
 
-/// What a line of that kind says, or the name of its first bad field.
+/// The input of a line of that kind, or the name of its first bad field.
 pub(crate) fn input_of_kind(
     alloc: Global,
     kind: Kind,

@@ -69,7 +69,7 @@ pub(crate) fn kind_of_text(text: &str) -> Option<Kind>
     }
 }
 
-/// The kind, where a line of that mode may be of it.
+/// The kind, if a line of that mode may be of it.
 pub(crate) fn kind_in(mode: Mode, kind: Kind) -> Option<Kind>
     ensures { result ≡ kind_in mode kind }
 {

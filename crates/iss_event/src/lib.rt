@@ -1,6 +1,6 @@
-//! Event lines: what a line of input says, and the lines that are told.
+//! Event lines: the inputs that lines spell, and the lines that are sent.
 //!
-//! A line is one JSON object. What its bytes mean, and which fault is told of a bad line, are definitions in `specs/`,
+//! A line is one JSON object. What its bytes mean, and which fault a bad line has, are definitions in `specs/`,
 //! apart from the code.
 //!
 //! It may cite `iss_model`, `iss_amount`, `iss_field`, `itoa`, `json` and `serde_json`.

@@ -1,4 +1,4 @@
-//! What reading a line gives.
+//! What reading a line returns.
 use crate::kind::Kind;
 use iss_field::{Name, Object};
 use iss_model::Input;
@@ -8,11 +8,11 @@ use iss_model::Input;
 pub enum Mode {
     /// Standard input.
     Lines,
-    /// A client's request, which says neither when it happens nor what a gateway answered.
+    /// A client's request, which tells neither when it happens nor what a gateway answered.
     Client,
 }
 
-/// What a line says.
+/// What a line spells.
 #[derive(Drop)]
 pub struct Line {
     pub input: Input,

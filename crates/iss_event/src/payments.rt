@@ -1,4 +1,4 @@
-//! The fields of each type of line about money, in order. A bad field gives its name.
+//! The fields of each type of line about money, in order. For a bad field, its name is returned.
 ghost use Rattle.std.specs.Prelude.{◌≡◌};
 ghost use Rattle.iss_field.specs.Seen.{seen};
 ghost use Rattle.iss_event.specs.Inputs.{load_input, authorization_input, operation_said, increment_input, reversal_input, clearing_input, refund_input};

@@ -13,7 +13,7 @@ use iss_field::{Name, Object, Scratch, WholeForm};
 use iss_model::limits::{LAST_STAMP, LONGEST_LINE};
 use std::alloc::Global;
 
-/// What a line says, without the line feed that ends it, or its first fault: `Long`, `Json`, or the first bad field in the
+/// What a line spells, without the line feed that ends it, or its first fault: `Long`, `Json`, or the first bad field in the
 /// order `type`, `at` and then that of its type. A line is one JSON object (RFC 8259).
 pub fn read_line(alloc: Global, line: &[u8], mode: Mode) -> Result<Line, LineFault>
     ensures read { Reads (line_read mode line.now) result }
@@ -98,7 +98,7 @@ fn may_lack_stamp(kind: Kind) -> bool
 }
 
 impl OpenLine<'_> {
-    /// What the line says, or its first bad field after its type.
+    /// What the line spells, or its first bad field after its type.
     #[tactic(auto, unfolding(crate::specs::Readings::said_line))]
     fn read(&self, alloc: Global) -> Result<Line, LineFault>
         ensures { Reads (as_fault (said_line (opened_as self.now))) result }

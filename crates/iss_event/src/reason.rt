@@ -34,7 +34,7 @@ fn put_move(out: &mut Vec<u8>, from: &str, to: &str) -> Result<(), AllocError>
     out.extend_from_slice(to.as_bytes())
 }
 
-/// The reason's name, with a colon where something follows.
+/// The reason's name, with a colon if something follows.
 #[tactic(auto, unfolding(iss_model::specs::texts::Wordings::reason_text))]
 fn reason_name(reason: &Reason) -> &'static str
     ensures { reason_text reason.now ≡ result.now ++ detail_text reason.now }

@@ -10,7 +10,7 @@ use iss_model::Account;
 use itoa::Buffer;
 use std::alloc::{AllocError, Global};
 
-/// The line of an account with its balance and, where it is a user's, what is held of it, in minor units, with its line
+/// The line of an account with its balance and, if it is a user's, what is held of it, in minor units, with its line
 /// feed.
 pub fn balance_line(
     alloc: Global,

@@ -1,4 +1,4 @@
-//! The fields of each type of line that sets something, in order. A bad field gives its name.
+//! The fields of each type of line that sets something, in order. For a bad field, its name is returned.
 ghost use Rattle.std.specs.Prelude.{◌≡◌, IfOk, codes, is_some, option_and_then};
 ghost use Rattle.iss_field.specs.declared.name.Name.TheVariants as name;
 ghost use Rattle.iss_field.specs.Fields.{field};
@@ -11,16 +11,11 @@ use iss_field::{
     NumberForm, Object, OffsetForm, TokenForm, UserStateForm, WholeForm, WindowForm,
 };
 use iss_model::limits::{
-    GREATEST_USAGE, LONGEST_HOLD, LONGEST_TIMEOUT, SHORTEST_HOLD, SHORTEST_TIMEOUT,
+    DEFAULT_HOLD, DEFAULT_TIMEOUT, GREATEST_USAGE, LONGEST_HOLD, LONGEST_TIMEOUT, SHORTEST_HOLD,
+    SHORTEST_TIMEOUT,
 };
 use iss_model::{Association, Currency, Input, Mccs, Moved, Scope, Token, Window};
 use std::alloc::{AllocError, Global};
-
-/// How long a gateway has to answer, in milliseconds, where a product's line doesn't say.
-const DEFAULT_TIMEOUT_MS: u64 = 3_000;
-
-/// How long an authorisation holds its amount, in milliseconds, where a product's line doesn't say: seven days.
-const DEFAULT_HOLD_MS: u64 = 604_800_000;
 
 #[tactic(auto, unfolding(crate::specs::Inputs::user_input))]
 pub(crate) fn user_input(line: &Object<'_>) -> Result<Input, Name>
@@ -96,9 +91,9 @@ pub(crate) fn product_input(line: &Object<'_>) -> Result<Input, Name>
     let currency = line.required(Name::Currency, CurrencyForm)?;
     let funding = line.required(Name::Funding, FundingForm)?;
     let timeout = WholeForm(SHORTEST_TIMEOUT, LONGEST_TIMEOUT);
-    let timeout_ms = line.optional_or(Name::TimeoutMs, timeout, DEFAULT_TIMEOUT_MS)?;
+    let timeout_ms = line.optional_or(Name::TimeoutMs, timeout, DEFAULT_TIMEOUT)?;
     let hold = WholeForm(SHORTEST_HOLD, LONGEST_HOLD);
-    let hold_ms = line.optional_or(Name::HoldMs, hold, DEFAULT_HOLD_MS)?;
+    let hold_ms = line.optional_or(Name::HoldMs, hold, DEFAULT_HOLD)?;
     Ok(Input::Product {
         token,
         product,
@@ -119,7 +114,7 @@ pub(crate) fn group_input(
     Ok(group_of(line, mccs))
 }
 
-/// The group of a line whose field of codes says these.
+/// The group of a line whose field of codes holds these.
 #[tactic(auto, unfolding(crate::specs::Inputs::group_input, iss_field::specs::Fields::required_field))]
 fn group_of(line: &Object<'_>, mccs: Option<Mccs>) -> Result<Input, Name>
     requires { mccs ≡ option_and_then mccs_of (field name.Mccs (seen line.now.value)) }

@@ -1,4 +1,4 @@
-//! The lines that are told, as bytes after those that are there. Where an allocation fails a part of a line may be there.
+//! The lines that are sent, as bytes after those that are there. If an allocation fails, a part of a line may be there.
 ghost use Rattle.std.specs.Prelude.{◌≡◌, ◌++◌, IfOk, OnOk, decimal};
 ghost use Rattle.iss_model.specs.texts.AnswerLines.{answer_text, how_text, acked_line, time_line};
 ghost use Rattle.iss_model.specs.texts.Wordings.{reply_line, fault_line};

@@ -27,7 +27,7 @@ pub optional_or-is : {A : Type 0} (form : Data → Option A) (absent : A) (name 
 unfolding optional_field_or
 optional_or-is form absent name d P given h = found_or-is form absent name (field name d) P given h
 
--- what holds of the value, where there is one
+-- what holds of the value, if there is one
 some_of : {A : Type 0} (o : Option A) (P : A → Type 0) → IfSome o P → IfSome (option_map Some o) (λ found. IfSome found P)
 some_of None P h = tt
 some_of (Some x) P h = h
@@ -49,7 +49,7 @@ pub required_unless-is : {A : Type 0} (excused : Bool) (form : Data → Option A
 unfolding required_field_unless
 required_unless-is excused form name d P h = unless-is excused form name (field name d) P h
 
--- what a form takes where the field may be there
+-- what a form takes if the field may be there
 pub form_if-is : {A : Type 0} (allowed : Bool) (form : Data → Option A) (d : Data) (P : A → Type 0) → IfSome (form d) P → IfSome (form_if allowed form d) P
 form_if-is true form d P h = h
 form_if-is false form d P h = tt

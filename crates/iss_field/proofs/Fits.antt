@@ -1,4 +1,4 @@
--- The numbers of items and of members fit where those of the first and of the rest do.
+-- The numbers of items and of members fit if those of the first and of the rest do.
 use Rattle.std.proofs.Common.{◌≡◌, ℕ, ◌^◌, ◌&&◌, ℤ, nat_lt, nat_le, List, Bool, true, false, cond, Float, is_some, Option, Some, None, option_map, option_and_then, refl}
 use Rattle.std.specs.Float.{binary64, float_is_finite}
 use Rattle.fast_float.specs.Text.{Parts, digits_of, nearest, with_sign}

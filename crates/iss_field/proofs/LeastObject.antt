@@ -32,7 +32,7 @@ unfolding lex
 text-lexemes m [] = omega arith
 text-lexemes m (x ∷ xs) = byte-lexemes m (class x) x xs (λ next. lex next xs) (length xs) (λ next. text-lexemes next xs)
 
--- one more, where the token is good
+-- one more, if the token is good
 abbrev one_more : Bool → ℕ → ℕ
 one_more good n = cond good (suc n) n
 
@@ -46,12 +46,12 @@ one_more-above : (b : Bool) (n m : ℕ) → n ≤ m → one_more b n ≤ suc m
 one_more-above true n m h = omega arith
 one_more-above false n m h = omega arith
 
--- what comes before other tokens, where it is allowed, is one good token at most
+-- what comes before other tokens, if it is allowed, is one good token at most
 allowed-good : (b : Bool) (t : Token) (k : Place → List Token) (next : Place) (n : ℕ) → good (k next) ≤ n → good (if_allowed b t k next) ≤ suc n
 allowed-good true t k next n h = one_more-above (is_good t) (good (k next)) n h
 allowed-good false t k next n h = omega arith
 
--- a token's lexeme gives at most one good token
+-- a token's lexeme makes at most one good token
 token-good : (p : Place) (t : Token) (b : Bool) (k : Place → List Token) (n : ℕ) → ((next : Place) → good (k next) ≤ n) → good (place_token p t b k) ≤ suc n
 token-good p begin_object b k n h = allowed-good (may_begin p) begin_object k fresh n (h fresh)
 token-good p end_object b k n h = allowed-good (may_close p) end_object k after_value n (h after_value)
@@ -141,7 +141,7 @@ has_member-of_kept : (b : Bool) (d : Data) (name : List ℕ) → has_member name
 has_member-of_kept true d name h = h
 has_member-of_kept false d name h = cc
 
--- where the object that a text is has a member, what the text reads to has it
+-- if the object that a text is has a member, what the text reads to has it
 has_member-of_object : (b : Bool) (name : List ℕ) (o : Option Data) → has_member name (option_and_then if_object (cond b o None)) ≡ true → has_member name o ≡ true
 has_member-of_object false name o h = cc
 has_member-of_object true name None h = cc

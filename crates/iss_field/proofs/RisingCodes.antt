@@ -88,7 +88,7 @@ above a b h = grind (arith, nat_tests)
 below : (a b : ℕ) → nat_lt a b ≡ false → (a == b) ≡ false → b + 1 ≤ a
 below a b h g = grind (arith, nat_tests)
 
--- what it says that codes rise from a first one on
+-- codes rise from a first one on
 record Rises (low x : ℕ) (xs : List ℕ) : Type 0 where
   pub least : nat_le low x ≡ true
   pub code : is_mcc x ≡ true
@@ -134,7 +134,7 @@ one_more : (k : ℕ) (ks : List ℕ) → IsOneMore ks (insert_key nat_cmp ks k)
 one_more k [] = record { some = omega arith; least = omega arith; most = omega arith }
 one_more k (x ∷ xs) = placed_length (nat_lt k x) (k == x) x k xs (insert_key nat_cmp xs k) (one_more k xs)
 
--- these codes rise, are no fewer than so many, and at most so many more
+-- these codes rise, and there are at least `few` of them and at most `more` more
 record AreCodes (few more : ℕ) (codes : List ℕ) : Type 0 where
   pub rise : are_rising 0 codes ≡ true
   pub least : few ≤ length codes
@@ -171,7 +171,7 @@ grown : (ds : Items) (codes : List ℕ) → 1 ≤ length codes → IfSome (codes
 grown no_items codes h = h
 grown (item d ds) codes h = grown_then (mcc_of d) codes ds (grown ds)
 
--- there is a code where there is an item
+-- there is a code if there is an item
 some_codes : (ds : Items) → 1 ≤ item_count ds → IfSome (codes_with [] ds) HasSome
 some_codes no_items h = absurd (omega (arith, h))
 some_codes (item d ds) h = grown_then (mcc_of d) [] ds (grown ds)
@@ -215,7 +215,7 @@ unfolding mccs_of mccs_of_items
 none_of_object None = refl
 none_of_object (Some ms) = refl
 
--- the codes of a value are those of its items, where it is an array
+-- the codes of a value are those of its items, if it is an array
 pub value_codes : (j : Json) → mccs_of (data_of j) ≡ option_and_then (λ js. mccs_of_items (data_items js)) (find.as_array j)
 unfolding data_of mccs_of
 value_codes json.null = refl
@@ -230,7 +230,7 @@ seen_count : {A : Type 0} (vs : List (Value A)) → item_count (seen_items vs) �
 seen_count [] = refl
 seen_count (v ∷ vs) = ap suc (seen_count vs)
 
--- codes are taken where there are 1 to 1000
+-- codes are taken if there are 1 to 1000
 pub counted : {A : Type 0} (vs : List (Value A)) (b : Bool) → (nat_le 1 (length vs) && nat_le (length vs) MOST_MCCS) ≡ b
     → mccs_of_items (seen_items vs) ≡ cond b (codes_with [] (seen_items vs)) None
 unfolding mccs_of_items

@@ -1,4 +1,4 @@
--- What the value of a field says is of the form that inputs have.
+-- What the value of a field holds is of the form that inputs have.
 use Rattle.std.proofs.Common.{◌≡◌, ℕ, ◌-◌, ◌*◌, ◌<◌, ◌≤◌, ◌==◌, ◌&&◌, nat_le, ℤ, Bool, true, false, List, [], ◌∷◌, length, Option, Some, None, option_and_then, IfSome, cond, refl, sym, ap, ◌∙◌, arith}
 use Rattle.std.specs.List.{list_all}
 use Rattle.std.proofs.lemmas.Bool.Decides.{nat_tests}

@@ -9,7 +9,7 @@ use Rattle.serde_json.specs.Find.{as_object}
 abbrev pub json_of : List ℕ → Option Data
 json_of bytes = if is_utf8 bytes then read bytes else None
 
--- the value, where it is an object
+-- the value, if it is an object
 abbrev pub if_object : Data → Option Data
 if_object d = if is_some (as_object d) then Some d else None
 

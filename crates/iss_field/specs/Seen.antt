@@ -9,7 +9,7 @@ use Rattle.json.specs.declared.value.Value.{Value}
 use Rattle.serde_json.specs.Data.{Data, array, Items, no_items, item, no_members}
 use Rattle.serde_json.specs.Read.{max_depth, of_json, of_items, of_members}
 
--- the data, where all numbers fit, and else an empty array, of which no field has a form
+-- the data, if all numbers fit, and else an empty array, of which no field has a form
 abbrev pub if_fit : Option Data → Data
 if_fit None = array no_items
 if_fit (Some d) = d

@@ -1,4 +1,4 @@
--- What the value of a field says, by the field's form.
+-- What the value of a field holds, by the field's form.
 use Rattle.std.specs.Prelude.{ℕ, suc, ◌+◌, ◌-◌, ◌*◌, ◌==◌, ◌&&◌, nat_le, ℤ, pos, neg_ℤ, List, [], ◌∷◌, codes, length, find, Option, Some, None, option_and_then, if◌then◌else◌}
 use Rattle.std.specs.List.{list_all}
 use Rattle.std.specs.Str.{bytes_eq}
@@ -24,7 +24,7 @@ use Rattle.iss_model.specs.Forms.{is_offset}
 use Rattle.iss_model.specs.Amounts.{is_digit, digits_value, if_form, amount_read, whole_amount_read, limit_read, whole_limit_read}
 use Rattle.iss_model.specs.texts.Wordings.{card_state_text, user_state_text}
 
--- the text, where it is a token
+-- the text, if it is a token
 abbrev pub if_token : List ℕ → Option (List ℕ)
 if_token text = if is_token text then Some text else None
 
@@ -40,7 +40,7 @@ currency_of d = option_and_then currencies.currency_of (as_str d)
 abbrev pub whole_of : Data → Option ℕ
 whole_of d = option_and_then as_u64 (as_number d)
 
--- the amount that a text spells in a currency, or of so many whole units of it where there is no text
+-- the amount that a text spells in a currency, or of this number of whole units of it if there is no text
 abbrev pub text_or_units : Currency → Option (List ℕ) → Option ℕ → Option ℕ
 text_or_units c (Some text) units = amount_read text c
 text_or_units c None units = option_and_then (λ n. whole_amount_read n c) units
@@ -49,7 +49,7 @@ text_or_units c None units = option_and_then (λ n. whole_amount_read n c) units
 unfoldable pub amount_of : Currency → Data → Option ℕ
 amount_of c d = text_or_units c (as_str d) (whole_of d)
 
--- the limit that a text spells in a currency, or of so many whole units of it where there is no text
+-- the limit that a text spells in a currency, or of this number of whole units of it if there is no text
 abbrev pub limit_text_or_units : Currency → Option (List ℕ) → Option ℕ → Option ℕ
 limit_text_or_units c (Some text) units = limit_read text c
 limit_text_or_units c None units = option_and_then (λ n. whole_limit_read n c) units
@@ -75,7 +75,7 @@ abbrev pub item_count : Items → ℕ
 item_count no_items = 0
 item_count (item d ds) = suc (item_count ds)
 
--- codes with those of the items, each at its place among them and once; none where an item isn't a code
+-- codes with those of the items, each at its place among them and once; none if an item isn't a code
 abbrev pub codes_with : List ℕ → Items → Option (List ℕ)
 codes_with codes no_items = Some codes
 codes_with codes (item d ds) = option_and_then (λ code. codes_with (insert_key nat_cmp codes code) ds) (mcc_of d)

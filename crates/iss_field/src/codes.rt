@@ -50,7 +50,7 @@ fn digit(byte: u8) -> Option<u16>
     }
 }
 
-/// The codes of an array of 1 to 1000, rising and each once, or `None` where it is no such array.
+/// The codes of an array of 1 to 1000, rising and each once, or `None` if it is no such array.
 pub(crate) fn mccs(alloc: Global, found: &Value<'_>) -> Result<Option<Mccs>, AllocError>
     ensures { IfOk result (λ codes. codes ≡ mccs_of (seen found.now)) }
 {
@@ -82,14 +82,14 @@ fn mccs_of_items(alloc: Global, items: &[Value<'_>]) -> Result<Option<Mccs>, All
     }
 }
 
-/// Whether a group may have so many codes.
+/// Whether a group may have `count` codes.
 fn is_count(count: usize) -> bool
     ensures { result ≡ (nat_le 1 count && nat_le count MOST_MCCS) }
 {
     (1..=MOST_MCCS).contains(&count)
 }
 
-/// The codes of the items, or `None` where one isn't a code.
+/// The codes of the items, or `None` if one isn't a code.
 fn codes_of(alloc: Global, items: &[Value<'_>]) -> Result<Option<BTreeSet<u16>>, AllocError>
     ensures { IfOk result (λ codes. option_map (λ set. set.keys) codes ≡ codes_with [] (seen_items items.now)) }
 {

@@ -15,17 +15,17 @@ use std::alloc::{AllocError, Global};
 
 /// A form that a field may have.
 pub trait Form: Copy {
-    /// What a field in this form says.
+    /// What a field in this form holds.
     type Said: Drop;
 
     ghost said: { Self → Data → Option Self.Said };
 
-    /// What that value says, or `None` where it isn't of the form.
+    /// What that value holds, or `None` if it isn't of the form.
     fn read(self, found: &Value<'_>) -> Option<Self::Said>
         ensures { result ≡ said self (seen found.now) };
 }
 
-/// The form, where the field may be there at all.
+/// The form, if the field may be there at all.
 #[derive(Clone, Copy)]
 pub struct FormIf<F>(pub bool, pub F);
 
@@ -47,14 +47,14 @@ impl Object<'_> {
         field(&self.value, name).is_some()
     }
 
-    /// What the field says, where it is there and of that form.
+    /// What the field holds, if it is there and of that form.
     pub fn in_form<F: Form>(&self, name: Name, form: F) -> Option<F::Said>
         ensures { result ≡ option_and_then (F.said form) (field name (seen self.now.value)) }
     {
         field(&self.value, name).and_then(|found| form.read(found))
     }
 
-    /// What the field says, which has to be there. A bad field gives its name.
+    /// What the field holds, which has to be there. For a bad field, its name is returned.
     #[tactic(auto, unfolding(crate::specs::Fields::required_field))]
     pub fn required<F: Form>(&self, name: Name, form: F) -> Result<F::Said, Name>
         ensures { result ≡ required_field (F.said form) name (seen self.now.value) }
@@ -62,7 +62,7 @@ impl Object<'_> {
         self.in_form(name, form).ok_or(name)
     }
 
-    /// What the field says, which has to be there unless it is excused.
+    /// What the field holds, which has to be there unless it is excused.
     #[tactic(auto, unfolding(crate::specs::Fields::required_field_unless))]
     pub fn required_unless<F: Form>(
         &self,
@@ -79,7 +79,7 @@ impl Object<'_> {
         }
     }
 
-    /// What the field says, where it is there.
+    /// What the field holds, if it is there.
     #[tactic(auto, unfolding(crate::specs::Fields::optional_field))]
     pub fn optional<F: Form>(&self, name: Name, form: F) -> Result<Option<F::Said>, Name>
         ensures { result ≡ optional_field (F.said form) name (seen self.now.value) }
@@ -90,7 +90,7 @@ impl Object<'_> {
         }
     }
 
-    /// What the field says, or `absent` where it isn't there.
+    /// What the field holds, or `absent` if it isn't there.
     #[tactic(auto, unfolding(crate::specs::Fields::optional_field_or))]
     pub fn optional_or<F: Form>(
         &self,
@@ -106,7 +106,7 @@ impl Object<'_> {
         }
     }
 
-    /// The merchant category codes of a field, rising and each once: `None` where it isn't an array of 1 to 1000 of them.
+    /// The merchant category codes of a field, rising and each once: `None` if it isn't an array of 1 to 1000 of them.
     pub fn mccs(&self, alloc: Global, name: Name) -> Result<Option<Mccs>, AllocError>
         ensures { IfOk result (λ codes. codes ≡ option_and_then mccs_of (field name (seen self.now.value))) }
     {

@@ -104,7 +104,7 @@ fn is_finite(negative: bool, numeral: &Numeral<'_>) -> bool
     numeral.to_float::<f64>(negative).is_finite()
 }
 
-/// The whole number that a number's text spells, where it fits 64 bits.
+/// The whole number that a number's text spells, if it fits 64 bits.
 pub(crate) fn whole_number(text: &str) -> Option<u64>
     ensures { result ≡ option_and_then as_u64 (number_of text.now) }
 {

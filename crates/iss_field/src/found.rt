@@ -7,7 +7,7 @@ ghost use Rattle.iss_field.specs.Seen.{seen, fits};
 use crate::fitting::whole_number;
 use json::Value;
 
-/// The last member of that name, where the value is an object.
+/// The last member of that name, if the value is an object.
 pub(crate) fn member<'v, 'a>(line: &'v Value<'a>, name: &str) -> Option<&'v Value<'a>>
     requires { fits (value_view line.now) ≡ true }
     ensures { option_map (λ found. seen found.now) result ≡ get name.now (seen line.now) }
@@ -23,7 +23,7 @@ pub(crate) fn is_null(found: &Value<'_>) -> bool
     found.is_null()
 }
 
-/// The value's text, where it is one.
+/// The value's text, if it is one.
 #[tactic(auto, using(crate::proofs::Views::text_seen))]
 pub fn text<'v, 'a>(found: &'v Value<'a>) -> Option<&'a str>
     ensures { option_map (λ text. text.now) result ≡ as_str (seen found.now) }
@@ -31,7 +31,7 @@ pub fn text<'v, 'a>(found: &'v Value<'a>) -> Option<&'a str>
     found.as_str()
 }
 
-/// The value's flag, where it is one.
+/// The value's flag, if it is one.
 #[tactic(auto, using(crate::proofs::Views::flag_seen))]
 pub(crate) fn flag(found: &Value<'_>) -> Option<bool>
     ensures { result ≡ as_bool (seen found.now) }
@@ -39,7 +39,7 @@ pub(crate) fn flag(found: &Value<'_>) -> Option<bool>
     found.as_bool()
 }
 
-/// The value as a whole number, where it is one that fits 64 bits.
+/// The value as a whole number, if it is one that fits 64 bits.
 #[tactic(auto, using(crate::proofs::Views::whole_seen))]
 pub(crate) fn whole(found: &Value<'_>) -> Option<u64>
     ensures { result ≡ option_and_then as_u64 (as_number (seen found.now)) }

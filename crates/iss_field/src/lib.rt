@@ -1,4 +1,4 @@
-//! Fields of a line: bytes as one JSON object, its members by name, and what their values say by their forms.
+//! Fields of a line: bytes as one JSON object, its members by name, and what their values hold by their forms.
 //!
 //! A field is required or may be left out, and has a form. What each form takes is a definition in `specs/`.
 //!

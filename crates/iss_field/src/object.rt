@@ -21,7 +21,7 @@ pub struct Object<'a> {
 }
 
 impl<'a> Object<'a> {
-    /// The object that the bytes are (RFC 8259), or `None` where they aren't one.
+    /// The object that the bytes are (RFC 8259), or `None` if they aren't one.
     pub fn read(
         alloc: Global,
         scratch: &'a mut Scratch,
@@ -36,7 +36,7 @@ impl<'a> Object<'a> {
     }
 }
 
-/// The object that the bytes are, or `None` where they aren't one.
+/// The object that the bytes are, or `None` if they aren't one.
 fn object_of<'a>(
     alloc: Global,
     scratch: &'a mut Scratch,

@@ -42,7 +42,7 @@ turned_test Less = refl
 turned_test Equal = refl
 turned_test Greater = refl
 
--- a key is found in the tree's order where it is in that of the expiries
+-- a key is found in the tree's order if it is in that of the expiries
 same_test : (k : Reverse (ℕ × ℕ)) (q : Reverse (ℕ × ℕ)) → is_at (by_later k) q ≡ is_at (by_expiry k.0) q.0
 same_test k q = ap is_eq (by_expiry_total.antisymm q.0 k.0) ∙ turned_test (by_expiry k.0 q.0)
 

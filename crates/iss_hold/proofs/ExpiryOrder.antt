@@ -154,7 +154,7 @@ come_due now hs =
 pub due_things : (now : ℕ) (hs : List Hold) → map (λ token. txn_due token) (map (λ e. e.1) (come_of now (expiries hs))) ≡ map (λ item. item.thing) (txns_due (holdings_of hs) now)
 due_things now hs = things (come_of now (expiries hs)) ∙ ap (λ (items : List DueItem). map (λ item. item.thing) items) (come_due now hs)
 
--- whether the first one has come says whether any has
+-- whether the first one has come tells whether any has
 pub first_come : (now : ℕ) (es : List Expiry) (k : ℕ × ℕ) (token : List ℕ) → slice_get es 0 ≡ Some (k, token) → nat_le k.0 now ≡ not (is_quiet (map item_of (come_of now es)))
 first_come now [] k token e = cc
 first_come now (a ∷ es) k token e =

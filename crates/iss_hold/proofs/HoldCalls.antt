@@ -105,7 +105,7 @@ three_gone hs i h p q r a b c at ha hb hc =
     (same_txn q (part_of q h1 - b) h1 ∙ same_txn p (part_of p h - a) h)
     ∙ sym (fold_on (holdings_of hs) (unhold_entries h.txn p a ++ unhold_entries h.txn q b) (unhold_entries h.txn r c))
 
--- what a taking of an amount lets go of a hold, and the entries that say so
+-- what a taking of an amount lets go of a hold, and its entries
 abbrev pub IsTaking : (Parts → ℕ → Parts) → (Parts → Txn → List Entry) → Type 0
 IsTaking take entries = (hs : List Hold) (i : ℕ) (h : Hold) (amount : ℕ) → slice_get hs i ≡ Some h
     → holdings_of (set hs i (without_parts (take (parts_of h) amount) h)) ≡ fold with_hold (holdings_of hs) (entries (take (parts_of h) amount) h.txn)
@@ -216,7 +216,7 @@ module _ {name : List ℕ} {hs : List Hold} {i : ℕ} {h : Hold} (at : IsAt name
   added p amount e f =
       ap holdings_of (f ∙ ap (λ (x : Hold). set hs i x) e) ∙ more_held hs i h p amount at.is_there ∙ made_there (λ t. hold_entries t p amount)
 
-  -- what all holds of the user come to is small where the holdings are said to stay so
+  -- what all holds of the user come to is small if the holdings are small and stay so
   pub more_low : (p : Part) (amount : ℕ) {k : Hold} → k ≡ with_part p (part_of p h + amount) h → AreLow (after_holds s name (λ t. hold_entries t p amount)).held
       → total_of k.txn.user (iso_number k.txn.currency) (set hs i k) < 2 ^ 62
   more_low p amount {k} e low =

@@ -16,7 +16,7 @@ use Rattle.iss_hold.specs.declared.hold.Hold.{Hold}
 use Rattle.iss_hold.specs.Holdings.{part_of, whole_of, part_sums, user_sums, sums_from}
 use Rattle.iss_hold.specs.Indexes.{names, is_of, total_of}
 
--- user keys are one where user and currency are
+-- user keys are one if user and currency are
 both_and : (a b : Bool) → (a && (b && true)) ≡ (a && b)
 both_and true true = refl
 both_and true false = refl

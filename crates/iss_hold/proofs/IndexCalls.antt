@@ -23,7 +23,7 @@ then_eq Less s = refl
 then_eq Equal s = refl
 then_eq Greater s = refl
 
--- two keys of users are one where both parts are
+-- two keys of users are one if both parts are
 pub user_test : (a b : List ℕ × ℕ) → is_at (by_user a) b ≡ (bytes_eq a.0 b.0 && (a.1 == b.1))
 user_test a b =
     then_eq (slice_cmp nat_cmp a.0 b.0) (nat_cmp a.1 b.1)

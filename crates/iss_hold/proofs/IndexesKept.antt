@@ -49,7 +49,7 @@ no_origin number (h ∷ hs) = ap (λ (b : Bool). (number == h.txn.origin) || b) 
 
 -- ---- a new expiry
 
--- what each expiry is like is kept where one more is put among them
+-- what each expiry is like is kept if one more is put among them
 all_with : (P : Expiry → Type 0) (x : Expiry) (es : List Expiry) → P x → AllByRecursion P es → AllByRecursion P (with_expiry es x)
 all_with P x [] own all = (own, tt)
 all_with P x (a ∷ es) own all =
@@ -159,7 +159,7 @@ indexed_same {hs} a found same stay entries rising =
       rising = rising;
     }
 
--- a hold takes the place of another of its transaction, where the sums agree again
+-- a hold takes the place of another of its transaction, if the sums agree again
 pub indexed_set : {hs : List Hold} {places : List (List ℕ)} {sums new_sums : BTreeMap (List ℕ × ℕ) ℕ} {order : BTreeMap (Reverse (ℕ × ℕ)) ℕ} {i : ℕ} {h k : Hold}
     → AreIndexed hs places sums order → IsReplaced hs i h k → AreSummed (set hs i k) new_sums → AreIndexed (set hs i k) places new_sums order
 indexed_set {hs} {places} {sums} {new_sums} {order} {i} {h} {k} a s summed =

@@ -16,7 +16,7 @@ use Rattle.iss_hold.specs.Expiries.{Expiry, item_of}
 use Rattle.iss_hold.specs.Indexes.{names, by_expiry, with_name, with_token}
 use Rattle.iss_hold.proofs.ExpiryOrder.{come_of, first_come}
 
--- entries by expiry, each with what a function gives of its value
+-- entries by expiry, each with what a function returns of its value
 abbrev mapped : {V W : Type 0} → (V → W) → List ((ℕ × ℕ) × V) → List ((ℕ × ℕ) × W)
 mapped f es = map (λ e. (e.0, f e.1)) es
 
@@ -90,7 +90,7 @@ same_keys ns es xs h =
     ∙ ap (λ (ys : List ((ℕ × ℕ) × Option (List ℕ))). keys_of ys) h
     ∙ keys_mapped (λ (t : List ℕ). Some t) xs
 
--- whether the first one has come says whether any has
+-- whether the first one has come tells whether any has
 pub first_named : (now : ℕ) (ns : List (List ℕ)) (es : List ((ℕ × ℕ) × ℕ)) (xs : List Expiry) (k : ℕ × ℕ) (place : ℕ) → map (with_name ns) es ≡ map with_token xs → slice_get es 0 ≡ Some (k, place)
     → nat_le k.0 now ≡ not (is_quiet (map item_of (come_of now xs)))
 first_named now ns [] xs k place h f = cc
@@ -172,7 +172,7 @@ last_by ns now k place left listed all (x ∷ xs) h whole come =
     ∙ ap (λ (b : Bool). map (λ t. txn_due t) (listed ++ map (λ e. e.1) (cond b (x ∷ come_of now xs) []))) (sym has)
     ∙ whole
 
--- where one hasn't come all is listed
+-- if one hasn't come, all is listed
 pub listed_before : {ns : List (List ℕ)} {now : ℕ} {k : ℕ × ℕ} {place : ℕ} {left : List ((ℕ × ℕ) × ℕ)} {listed : List (List ℕ)} {all : List DueThing}
     → AreListed ns now ((k, place) ∷ left) listed all → now < k.0 → map (λ t. txn_due t) listed ≡ all
 listed_before {ns} {now} {k} {place} {left} {listed} {all} a come = last_by ns now k place left listed all a.rest a.named a.whole (above k.0 now come)
@@ -185,6 +185,6 @@ end_by : (ns : List (List ℕ)) (now : ℕ) (listed : List (List ℕ)) (all : Li
 end_by ns now listed all [] h whole = ap (λ (ts : List (List ℕ)). map (λ t. txn_due t) ts) (sym (append-nil listed)) ∙ whole
 end_by ns now listed all (x ∷ xs) h whole = cc
 
--- and where none is left
+-- and if none is left
 pub listed_all : {ns : List (List ℕ)} {now : ℕ} {listed : List (List ℕ)} {all : List DueThing} → AreListed ns now [] listed all → map (λ t. txn_due t) listed ≡ all
 listed_all {ns} {now} {listed} {all} a = end_by ns now listed all a.rest a.named a.whole

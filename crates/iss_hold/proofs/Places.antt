@@ -93,7 +93,7 @@ has_place_by name h hs false e rest = same_some (place_in name (names hs)) ∙ r
     same_some None = refl
     same_some (Some j) = refl
 
--- a name has a place where its transaction was started
+-- a name has a place if its transaction was started
 pub has_place : (name : List ℕ) (hs : List Hold) → is_some (place_in name (names hs)) ≡ is_some (txn_named name (map now_of hs))
 has_place name [] = refl
 has_place name (h ∷ hs) = has_place_by name h hs (bytes_eq h.txn.token name) refl (has_place name hs)

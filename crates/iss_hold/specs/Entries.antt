@@ -9,7 +9,7 @@ use Rattle.iss_model.specs.Sums.{part_key}
 use Rattle.iss_model.specs.state.Kept.{kept_at}
 use Rattle.iss_model.specs.rules.Activity.{TxnNow, txn_named}
 use Rattle.iss_model.specs.rules.Facts.{not_below}
-use Rattle.iss_model.specs.rules.Pieces.{Parts, in_all, unhold_entries}
+use Rattle.iss_model.specs.rules.Pieces.{Parts, in_all, taken_to_clear, taken_to_release, unhold_entries}
 use Rattle.iss_model.specs.state.Cores.{Holdings, with_hold}
 use Rattle.iss_hold.specs.declared.hold.Taken.{Taken}
 
@@ -48,11 +48,19 @@ release_unhold_entries taken t = unhold_entries t part.P taken.p ++ unhold_entri
 abbrev pub taken_in_all : Parts → ℕ → Taken
 taken_in_all taken amount = record { g = taken.g; p = taken.p; s = taken.s; rest = amount - in_all taken }
 
+-- what a clearing of an amount takes of a transaction's parts
+abbrev pub cleared_parts : Holdings → List ℕ → ℕ → Parts
+cleared_parts h txn amount = taken_to_clear (parts_in h txn) amount
+
+-- what a release of an amount takes of them
+abbrev pub released_parts : Holdings → List ℕ → ℕ → Parts
+released_parts h txn amount = taken_to_release (parts_in h txn) amount
+
 -- the parts that were taken
 abbrev pub parts_taken : Taken → Parts
 parts_taken taken = record { g = taken.g; p = taken.p; s = taken.s }
 
--- a part of a hold changes by an amount, which is negative where it is let go
+-- a part of a hold changes by an amount, which is negative if it is let go
 abbrev pub change_entries : Part → ℤ → Txn → List Entry
 change_entries part amount t = entry.Hold t.token t.user t.currency part amount ∷ []
 

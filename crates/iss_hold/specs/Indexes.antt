@@ -45,7 +45,7 @@ by_user a b = ordering_then (slice_cmp nat_cmp a.0 b.0) (nat_cmp a.1 b.1)
 abbrev pub by_expiry : (ℕ × ℕ) → (ℕ × ℕ) → Ordering
 by_expiry a b = ordering_then (nat_cmp a.0 b.0) (nat_cmp a.1 b.1)
 
--- the tree's own order begins with the last expiry, so that a new one, which is mostly the last, is soon found its place
+-- the tree's own order begins with the last expiry, so the place of a new one, which is mostly the last, is soon found
 abbrev pub by_later : Reverse (ℕ × ℕ) → Reverse (ℕ × ℕ) → Ordering
 by_later a b = by_expiry b.0 a.0
 
@@ -64,7 +64,7 @@ pub record IsAt (name : List ℕ) (holds : List Hold) (place : ℕ) (hold : Hold
 pub record ArePlaced (holds : List Hold) (places : List (List ℕ)) : Type 0 where
   pub same : places ≡ names holds
 
--- each user's sum is what the user's holds come to, it stands where there is one, and it is small
+-- each user's sum is what the user's holds come to, it stands if there is one, and it is small
 pub record AreSummed (holds : List Hold) (sums : BTreeMap (List ℕ × ℕ) ℕ) : Type 0 where
   pub summed : (user : List ℕ) (number : ℕ) → unwrap_or (tree.get by_user sums (user, number)) 0 ≡ total_of user number holds
   pub standing : (i : ℕ) (hold : Hold) → slice_get holds i ≡ Some hold → IsSome (tree.get by_user sums (hold.txn.user, iso_number hold.txn.currency))

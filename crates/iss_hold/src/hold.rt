@@ -73,7 +73,7 @@ impl Hold {
         hold
     }
 
-    /// The hold with a part changed by an amount, which is negative where it is let go.
+    /// The hold with a part changed by an amount, which is negative if it is let go.
     pub(crate) fn with_change(&self, part: Part, amount: i64) -> Hold
         requires covered { IsCovered amount (part_of part self.now) }
         requires fits { (pos (part_of part self.now) +ℤ amount) <ℤ pos (2 ^ 64) }

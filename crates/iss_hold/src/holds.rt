@@ -8,12 +8,12 @@ ghost use Rattle.iss_model.specs.state.Kept.{nothing_kept, kept_at};
 ghost use Rattle.iss_model.specs.rules.Activity.{txn_named};
 ghost use Rattle.iss_model.specs.rules.Facts.{not_below};
 ghost use Rattle.iss_model.specs.rules.Due.{txn_due, is_quiet};
-ghost use Rattle.iss_model.specs.rules.Pieces.{hold_entries, unhold_entries, in_all, taken_to_clear, taken_to_release};
+ghost use Rattle.iss_model.specs.rules.Pieces.{hold_entries, unhold_entries};
 ghost use Rattle.iss_model.specs.state.Cores.{with_txn, with_end};
 ghost use Rattle.iss_hold.specs.Bounds.{AreLow};
 ghost use Rattle.iss_hold.specs.Holdings.{now_of, tokens, parts_of, whole_of};
 ghost use Rattle.iss_hold.specs.Indexes.{place_in};
-ghost use Rattle.iss_hold.specs.Entries.{live_now, after_holds, change_entries, IsCovered, parts_in, clearing_unhold_entries, release_unhold_entries};
+ghost use Rattle.iss_hold.specs.Entries.{live_now, after_holds, change_entries, IsCovered, parts_in, cleared_parts, released_parts, taken_in_all, clearing_unhold_entries, release_unhold_entries};
 ghost use Rattle.iss_hold.specs.Expiries.{txns_due};
 
 use crate::hold::{Hold, Taken};
@@ -66,7 +66,7 @@ impl Holds {
         })
     }
 
-    /// A transaction with what it holds, `None` exactly where it wasn't started.
+    /// A transaction with what it holds, `None` exactly if it wasn't started.
     pub fn get(&self, txn: &Token) -> Option<Hold>
         ensures txn { option_map (λ hold. now_of hold) result ≡ txn_named txn.now self.now.txns }
         ensures parts { IfSome result (λ hold. parts_of hold ≡ parts_in self.now txn.now) }
@@ -76,7 +76,7 @@ impl Holds {
         Some(self.table.holds.at(place as usize))
     }
 
-    /// The place of a transaction in the order in which they began, `None` exactly where it wasn't started.
+    /// The place of a transaction in the order in which they began, `None` exactly if it wasn't started.
     pub fn place(&self, txn: &Token) -> Option<usize>
         ensures place { result ≡ place_in txn.now (tokens self.now.txns) }
         ensures once { IsDistinct bytes_eq (tokens self.now.txns) }
@@ -95,7 +95,7 @@ impl Holds {
         self.table.holds.at(place)
     }
 
-    /// The transaction of a token, `None` exactly where it wasn't started.
+    /// The transaction of a token, `None` exactly if it wasn't started.
     pub fn txn(&self, txn: &Token) -> Option<Txn>
         ensures { result ≡ option_map (λ t. t.txn) (txn_named txn.now self.now.txns) }
     {
@@ -109,8 +109,8 @@ impl Holds {
         self.get(txn).is_some_and(|hold| hold.live)
     }
 
-    /// Begins a transaction, which holds nothing yet. The later calls on it take no memory. Where allocation
-    /// fails all stays as it was, and so where 2^32 - 1 transactions stand, as many as places are kept for.
+    /// Begins a transaction, which holds nothing yet. The later calls on it take no memory. If an allocation
+    /// fails, all stays as it was, and so if 2^32 - 1 transactions stand, as many as places are kept for.
     pub fn start(&mut self, txn: &Txn) -> Result<(), AllocError>
         requires unknown { txn_named txn.now.token self.old.txns ≡ None }
         requires origin { list_any (λ t. txn.now.origin == t.txn.origin) self.old.txns ≡ false }
@@ -151,7 +151,7 @@ impl Holds {
         self.table.change(place, less);
     }
 
-    /// Changes a part of a transaction by an amount, which is negative where it is let go.
+    /// Changes a part of a transaction by an amount, which is negative if it is let go.
     pub fn change(&mut self, txn: &Token, part: Part, amount: i64)
         requires started { IsSome (txn_named txn.now self.old.txns) }
         requires covered { IsCovered amount (not_below (kept_at self.old.parts (part_key txn.now part))) }
@@ -167,9 +167,8 @@ impl Holds {
     /// user's own.
     pub fn take_clear(&mut self, txn: &Token, amount: u64) -> Taken
         requires { IsSome (txn_named txn.now self.old.txns) }
-        ensures holdings { self.new ≡ after_holds self.old txn.now (clearing_unhold_entries (taken_to_clear (parts_in self.old txn.now) amount)) }
-        ensures taken { let taken = taken_to_clear (parts_in self.old txn.now) amount in
-            result ≡ record { g = taken.g; p = taken.p; s = taken.s; rest = amount - in_all taken } }
+        ensures holdings { self.new ≡ after_holds self.old txn.now (clearing_unhold_entries (cleared_parts self.old txn.now amount)) }
+        ensures taken { result ≡ taken_in_all (cleared_parts self.old txn.now amount) amount }
     {
         let (place, hold) = self.table.hold_of(txn);
         let taken = hold.taken_to_clear(amount);
@@ -182,9 +181,8 @@ impl Holds {
     /// user's own.
     pub fn take_release(&mut self, txn: &Token, amount: u64) -> Taken
         requires { IsSome (txn_named txn.now self.old.txns) }
-        ensures holdings { self.new ≡ after_holds self.old txn.now (release_unhold_entries (taken_to_release (parts_in self.old txn.now) amount)) }
-        ensures taken { let taken = taken_to_release (parts_in self.old txn.now) amount in
-            result ≡ record { g = taken.g; p = taken.p; s = taken.s; rest = amount - in_all taken } }
+        ensures holdings { self.new ≡ after_holds self.old txn.now (release_unhold_entries (released_parts self.old txn.now amount)) }
+        ensures taken { result ≡ taken_in_all (released_parts self.old txn.now amount) amount }
     {
         let (place, hold) = self.table.hold_of(txn);
         let taken = hold.taken_to_release(amount);

@@ -51,14 +51,14 @@ pub(crate) fn begin_sum(
     Ok(())
 }
 
-/// The place of one thing more after so many.
+/// The place of one thing more after `count` of them.
 pub(crate) fn place_after(count: usize) -> Result<u32, AllocError>
     ensures { IfOk result (λ place. place ≡ count) }
 {
     u32::try_from(count).map_err(|_| AllocError)
 }
 
-/// Enters a transaction's place, by its expiry and by its token, or neither where allocation fails.
+/// Enters a transaction's place, by its expiry and by its token, or neither if an allocation fails.
 pub(crate) fn enter(
     places: &mut Names,
     order: &mut BTreeMap<Reverse<(u64, u32)>, u32>,

@@ -76,7 +76,7 @@ impl HoldList {
         hold_of(&self.names, &self.rows[place])
     }
 
-    /// Adds the hold of a transaction that begins. Where allocation fails all stays as it was.
+    /// Adds the hold of a transaction that begins. If an allocation fails, all stays as it was.
     pub(crate) fn add(&mut self, txn: &Txn) -> Result<(), AllocError>
         ensures added { OnOk result (self.new ≡ self.old ++ begun txn.now ∷ []) }
         ensures refused { OnErr result (self.new ≡ self.old) }
@@ -175,7 +175,7 @@ fn row_of(names: &mut Names, txn: &Txn) -> Result<Row, AllocError>
     })
 }
 
-/// The place of a name, which is added where it has none.
+/// The place of a name, which is added if it has none.
 fn place_of(names: &mut Names, name: &Token) -> Result<u32, AllocError>
     ensures there { IfOk result (λ place. slice_get names.new place ≡ Some name.now) }
     ensures grown { IsGrown names.old names.new }

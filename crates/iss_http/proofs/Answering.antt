@@ -42,7 +42,7 @@ pub answer_read_again : {E : Type 0} (bytes : List ℕ) (over : Bool) (came : Re
 answer_read_again bytes over came (Ok said) is e = subst (λ (x : Reading). IsReadAs bytes over x) (sym e) is
 answer_read_again bytes over came (Err f) is e = tt
 
--- once the bytes are over nothing waits for more
+-- after the bytes are over nothing waits for more
 over_size : (status : ℕ) (rest : List ℕ) (size : ContentLength) → is_more (sized_body status rest true size) ≡ false
 over_size status rest Absent = by (nat_lt 16384 (length rest))
   where

@@ -53,7 +53,7 @@ no_end_before bytes = by_head (response_head (take 8192 bytes))
         either_not is_ended (has (codes "transfer-encoding") h.headers) garbled (sized_body h.status (drop h.size bytes) false (content_length h.headers)) refl
         (by_size h.status (drop h.size bytes) (content_length h.headers))
 
--- where no byte came and none will, there is no answer
+-- if no byte came and none will, there is no answer
 pub nothing_ended : answer_read [] true ≡ ended
 unfolding answer_read response_head
 nothing_ended = refl

@@ -60,7 +60,7 @@ start_lines line end more clean there =
     ap head_lines (is.split more)
     ∙ start_step line part end (head_lines (ended_lines more)) (field_lines (ended_lines more)) is there
 
--- the bytes of a message, with more behind it
+-- the bytes of a message, with more after it
 abbrev pub message_bytes : List LineEnd → List ℕ → LineEnd → List Field → LineEnd → List ℕ → List ℕ
 message_bytes es line end fs last rest = print_blank es ++ (line ++ (print_end end ++ (print_section fs last ++ rest)))
 

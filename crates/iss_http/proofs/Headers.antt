@@ -20,7 +20,7 @@ unfolding is_token_byte
 no_colon b true colon token = absurd (false≢true (ap is_token_byte (sym (eqb-true b 58 colon)) ∙ token))
 no_colon b false colon token = refl
 
--- the first place that passes, behind bytes that don't
+-- the first place that passes, after bytes that don't
 pub first_place : (p : ℕ → Bool) (xs : List ℕ) (y : ℕ) (ys : List ℕ) → list_all (λ b. not (p b)) xs ≡ true → p y ≡ true
     → position_or_len p (xs ++ y ∷ ys) ≡ length xs
 first_place p [] y ys none at = ap (λ (t : Bool). cond (not t) (1 + prefix_len (λ b. not (p b)) ys) 0) at

@@ -1,4 +1,4 @@
--- What comes behind the longest message changes nothing, so it needn't be kept.
+-- What comes after the longest message changes nothing, so it needn't be kept.
 use Rattle.std.proofs.Common.{◌≡◌, refl, sym, ap, subst, Vec, Global, ◌∙◌, ℕ, ◌+◌, ◌≤◌, ◌<◌, Bool, true, false, List, ◌++◌, length, take, drop, Option, Some, None, append_assoc, arith, inl, inr}
 use Rattle.std.specs.Prelude.{◌-◌, not, ◌||◌, nat_lt, nat_le, if◌then◌else◌, bytes_eq, codes, Result, Ok, Err, IfOk, IfErr, IfNone, option_map}
 use Rattle.std.proofs.lemmas.Bool.{false≢true, cases_lt, ltb-false, leb-false, le-leb}

@@ -1,4 +1,4 @@
--- What comes behind the longest answer changes nothing, so it needn't be kept.
+-- What comes after the longest answer changes nothing, so it needn't be kept.
 use Rattle.std.proofs.Common.{◌≡◌, refl, sym, ap, ◌∙◌, ℕ, ◌+◌, ◌≤◌, Bool, true, false, List, ◌++◌, length, take, drop, Option, Some, None, append_assoc, arith, inl, inr}
 use Rattle.std.specs.Prelude.{◌-◌, nat_lt, nat_le, if◌then◌else◌, codes}
 use Rattle.std.proofs.lemmas.Bool.{false≢true, cases_lt, ltb-false, leb-false, lt-ltb}

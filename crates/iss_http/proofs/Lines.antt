@@ -115,7 +115,7 @@ abbrev pub has_line : List (List ℕ) → Bool
 has_line [] = false
 has_line (line ∷ lines) = true
 
--- the first line that ended, and what is behind it
+-- the first line that ended, and what is after it
 pub record Behind (bytes : List ℕ) : Type 0 where
   pub part : List ℕ
   pub rest : List ℕ

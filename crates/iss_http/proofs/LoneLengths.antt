@@ -4,7 +4,7 @@ use Rattle.iss_http.specs.declared.lengths.ContentLength.{ContentLength}
 use Rattle.iss_http.specs.declared.lengths.ContentLength.TheVariants.{Absent, Bad, Good}
 use Rattle.iss_http.specs.Lengths.{length_of, good_length, lone_length}
 
--- what the length is after these values, where it was this one before
+-- what the length is after these values, if it was this one before
 abbrev pub more_length : ContentLength → List (List ℕ) → ContentLength
 more_length Absent texts = lone_length texts
 more_length Bad [] = Bad

@@ -120,7 +120,7 @@ few_headers fs good few =
     (le-leb (length (map field_text fs)) 64 (omega (arith, few, length-map fs field_text)))
     ∙ headers_of_fields fs good
 
--- a head of the grammar is read, whatever is behind it
+-- a head of the grammar is read, whatever is after it
 pub head_read : (buf : List ℕ) (h : RequestHead) (rest : List ℕ) → ReadsRequest buf h rest → length h.fields ≤ 64 → request_head buf ≡ Some (head_in h)
 unfolding request_head
 head_read buf h rest x few =

@@ -24,7 +24,7 @@ line_in h = print_version h.minor ++ 32 ∷ (h.digits ++ print_reason h.reason)
 abbrev pub head_in : ResponseHead → own.ResponseHead
 head_in h = record { status = digits_value 10 h.digits; headers = map header_in h.fields; size = length (print_response h) }
 
--- what the line of a response says
+-- what the line of a response tells
 record IsLineRead (line : List ℕ) (status : ℕ) : Type 0 where
   pub read : status_line line ≡ Some status
   pub clean : list_all is_clean line ≡ true
@@ -88,7 +88,7 @@ size_in h =
       length-append section [],
     )
 
--- a head of the grammar is read, whatever is behind it
+-- a head of the grammar is read, whatever is after it
 pub response_read : (buf : List ℕ) (h : ResponseHead) (rest : List ℕ) → ReadsResponse buf h rest → length h.fields ≤ 64 → response_head buf ≡ Some (head_in h)
 unfolding response_head
 response_read buf h rest x few =

@@ -19,7 +19,7 @@ use Rattle.iss_http.proofs.RequestHeads.{test_there}
 use Rattle.iss_http.proofs.RequestsBack.{minor_of, first_there, second_there, few_there}
 use Rattle.iss_http.proofs.ResponseHeads.{regroup}
 
--- a phrase behind a space, or nothing
+-- a phrase after a space, or nothing
 record IsPhrase (bytes : List ℕ) : Type 0 where
   pub reason : Option (List ℕ)
   pub is : bytes ≡ print_reason reason

@@ -61,7 +61,7 @@ field_step f part rest line there =
     ∙ ap (λ (t : Bool). if t then Some (no_lines (suc (length part))) else option_map (with_field (field_text f) (suc (length part))) rest) there
     ∙ ap (λ (n : ℕ). option_map (with_field (field_text f) n) rest) line.size
 
--- the lines of a section, with anything behind it
+-- the lines of a section, with anything after it
 pub section_lines : (fs : List Field) (last : LineEnd) (rest : List ℕ) → AllByRecursion IsField fs
     → field_lines (ended_lines (print_section fs last ++ rest)) ≡ Some (section_of fs last)
 section_lines [] lf rest all = refl

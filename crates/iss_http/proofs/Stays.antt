@@ -1,4 +1,4 @@
--- A request or an answer that came whole stays so, whatever comes behind it.
+-- A request or an answer that came whole stays so, whatever comes after it.
 use Rattle.std.proofs.Common.{◌≡◌, refl, sym, ap, subst, ◌∙◌, ℕ, ◌≤◌, ◌<◌, Bool, true, false, List, [], ◌++◌, length, take, drop, Option, Some, None, append_assoc, append-nil, arith, inl, inr}
 use Rattle.std.specs.Prelude.{◌⊎◌, ◌-◌, not, ◌||◌, nat_lt, nat_le, if◌then◌else◌, bytes_eq, codes}
 use Rattle.std.proofs.lemmas.Bool.{false≢true, cases_lt, leb-true, leb-false, le-leb, ltb-true, lt-ltb}

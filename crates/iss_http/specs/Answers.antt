@@ -1,5 +1,6 @@
 -- The gateway's answer, of the bytes that came so far on its channel.
 use Rattle.std.specs.Prelude.{◌≡◌, ◌⊎◌, ℕ, Bool, nat_lt, nat_le, List, ◌++◌, length, take, drop, codes, Option, Some, None, if◌then◌else◌}
+use Rattle.iss_http.specs.declared.limits.TheConstants.{MOST_HEAD, MOST_BODY}
 use Rattle.iss_http.specs.declared.lengths.ContentLength.{ContentLength}
 use Rattle.iss_http.specs.declared.lengths.ContentLength.TheVariants.{Absent, Bad, Good}
 use Rattle.iss_http.specs.Heads.{ResponseHead, response_head}
@@ -10,18 +11,18 @@ pub data Reading : Type 0 where
   more ended garbled : Reading
   whole : ℕ → List ℕ → Reading
 
--- where more is wanted: nothing more comes once the bytes ended
+-- more is wanted, or nothing more comes since the bytes are over
 abbrev pub unless_over : Bool → Reading
 unless_over over = if over then ended else more
 
--- a body of this length, once it came
+-- a body of this length, after it came
 abbrev pub body_within : ℕ → List ℕ → Bool → ℕ → Reading
 body_within status rest over size =
-    if nat_lt 16384 size then garbled else if nat_le size (length rest) then whole status (take size rest) else unless_over over
+    if nat_lt MOST_BODY size then garbled else if nat_le size (length rest) then whole status (take size rest) else unless_over over
 
 -- with no length, the body is all that comes, up to 16384 bytes
 abbrev pub open_body : ℕ → List ℕ → Bool → Reading
-open_body status rest over = if nat_lt 16384 (length rest) then garbled else if over then whole status rest else more
+open_body status rest over = if nat_lt MOST_BODY (length rest) then garbled else if over then whole status rest else more
 
 -- by the length of the body
 abbrev pub sized_body : ℕ → List ℕ → Bool → ContentLength → Reading
@@ -39,18 +40,18 @@ headed bytes over h = headed_with h (sized_body h.status (drop h.size bytes) ove
 
 -- by the head, if there is one in the first 8192 bytes
 abbrev pub read_by : List ℕ → Bool → Option ResponseHead → Reading
-read_by bytes over None = if nat_le 8192 (length bytes) then garbled else unless_over over
+read_by bytes over None = if nat_le MOST_HEAD (length bytes) then garbled else unless_over over
 read_by bytes over (Some h) = headed bytes over h
 
--- what the bytes are, and whether they are over, where a bad head is told as late as may be
+-- what the bytes are, and whether they are over, if a bad head is told as late as may be
 unfoldable pub answer_read : List ℕ → Bool → Reading
-answer_read bytes over = read_by bytes over (response_head (take 8192 bytes))
+answer_read bytes over = read_by bytes over (response_head (take MOST_HEAD bytes))
 
--- whatever comes behind them, the bytes begin with no head of a response
+-- whatever comes after them, the bytes begin with no head of a response
 unfoldable pub IsHopelessAnswer : List ℕ → Type 0
 IsHopelessAnswer bytes = (rest : List ℕ) → response_head (bytes ++ rest) ≡ None
 
--- the bytes are read as this; they may be garbled already where no bytes behind them mend their head
+-- the bytes are read as this; they may be garbled already if no bytes after them mend their head
 abbrev pub IsReadAs : List ℕ → Bool → Reading → Type 0
 IsReadAs bytes over garbled = (answer_read bytes over ≡ garbled) ⊎ IsHopelessAnswer bytes
 IsReadAs bytes over reading = answer_read bytes over ≡ reading

@@ -5,6 +5,7 @@ use Rattle.std.specs.Str.{is_utf8, all_ascii_digits}
 use Rattle.std.specs.Char.{is_ascii}
 use Rattle.std.specs.Str.Parse.{digits_value}
 use Rattle.httparse.specs.Grammar.{is_token, is_uri_byte, is_value_byte, trim_ows}
+use Rattle.iss_http.specs.declared.limits.TheConstants.{MOST_HEADERS}
 
 -- the parts that a byte divides the bytes into
 abbrev pub split_at : ℕ → List ℕ → List (List ℕ)
@@ -86,7 +87,7 @@ header_of line =
     if is_token name && nat_lt (position_or_len is_colon line) (length line) && list_all is_value_byte raw
     then Some (record { name = name; value = trim_ows raw }) else None
 
--- all of them, where each is there
+-- all of them, if each is there
 abbrev pub all_of : {A : Type 0} → List (Option A) → Option (List A)
 all_of [] = Some []
 all_of (None ∷ xs) = None
@@ -94,7 +95,7 @@ all_of (Some x ∷ xs) = option_map (λ ys. x ∷ ys) (all_of xs)
 
 -- at most 64 field lines, each a header
 abbrev pub headers_of : List (List ℕ) → Option (List Header)
-headers_of lines = if nat_le (length lines) 64 then all_of (map header_of lines) else None
+headers_of lines = if nat_le (length lines) MOST_HEADERS then all_of (map header_of lines) else None
 
 -- HTTP/1.0 or HTTP/1.1
 abbrev pub is_version : List ℕ → Bool
@@ -142,7 +143,7 @@ abbrev pub is_reason : List ℕ → Bool
 is_reason [] = true
 is_reason (b ∷ phrase) = b == 32 && list_all is_value_byte phrase
 
--- the status that a response's first line gives in three digits
+-- the status that a response's first line has in three digits
 abbrev pub status_line : List ℕ → Option ℕ
 status_line line =
     let digits = take 3 (drop 9 line) in

@@ -4,6 +4,7 @@ use Rattle.iss_http.specs.declared.faults.HttpFault.{HttpFault}
 use Rattle.iss_http.specs.declared.faults.HttpFault.TheVariants.{Head, HeadLong, Method, Path, Coding, NoLength, BodyLong}
 use Rattle.iss_http.specs.declared.faults.FeedFault.{FeedFault}
 use Rattle.iss_http.specs.declared.faults.FeedFault.TheVariants.{Http, OutOfMemory}
+use Rattle.iss_http.specs.declared.limits.TheConstants.{MOST_HEAD, MOST_BODY}
 use Rattle.iss_http.specs.declared.lengths.ContentLength.{ContentLength}
 use Rattle.iss_http.specs.declared.lengths.ContentLength.TheVariants.{Absent, Bad, Good}
 use Rattle.iss_http.specs.Heads.{RequestHead, request_head}
@@ -15,12 +16,12 @@ pub data Request : Type 0 where
   body : List ℕ → Request
   faulty : HttpFault → Request
 
--- a body of this length, once it came
+-- a body of this length, after it came
 abbrev pub body_within : List ℕ → ℕ → Request
 body_within rest size =
-    if nat_lt 16384 size then faulty BodyLong else if nat_le size (length rest) then body (take size rest) else more
+    if nat_lt MOST_BODY size then faulty BodyLong else if nat_le size (length rest) then body (take size rest) else more
 
--- by the length of the body, where there is a good one
+-- by the length of the body, if there is a good one
 abbrev pub sized_body : List ℕ → ContentLength → Request
 sized_body rest Absent = faulty NoLength
 sized_body rest Bad = faulty NoLength
@@ -40,37 +41,37 @@ headed path bytes h = headed_with path h (sized_body (drop h.size bytes) (conten
 
 -- by the head, if there is one in the first 8192 bytes
 abbrev pub read_by : List ℕ → List ℕ → Option RequestHead → Request
-read_by path bytes None = if nat_le 8192 (length bytes) then faulty HeadLong else more
+read_by path bytes None = if nat_le MOST_HEAD (length bytes) then faulty HeadLong else more
 read_by path bytes (Some h) = headed path bytes h
 
--- what the bytes are as a request to this path, where a bad head is told as late as may be
+-- what the bytes are as a request to this path, if a bad head is told as late as may be
 abbrev pub request_at : List ℕ → List ℕ → Request
-request_at path bytes = read_by path bytes (request_head (take 8192 bytes))
+request_at path bytes = read_by path bytes (request_head (take MOST_HEAD bytes))
 
 -- what the bytes are as a client's request, which goes to the path of events
 unfoldable pub request : List ℕ → Request
 request bytes = request_at (codes "/events") bytes
 
--- whatever comes behind them, the bytes begin with no head
+-- whatever comes after them, the bytes begin with no head
 unfoldable pub IsHopelessRequest : List ℕ → Type 0
 IsHopelessRequest bytes = (rest : List ℕ) → request_head (bytes ++ rest) ≡ None
 
--- what a reader answers where nothing is wrong: no body yet, or this one
+-- what a reader answers if nothing is wrong: no body yet, or this one
 abbrev pub answered : Option (List ℕ) → Request
 answered None = more
 answered (Some text) = body text
 
--- what an answer says that the bytes are
+-- what the bytes are by an answer
 abbrev pub told : {A : Type 0} → (A → List ℕ) → Result (Option A) HttpFault → Request
 told text (Ok said) = answered (option_map text said)
 told text (Err f) = faulty f
 
--- the bytes, read so, have this fault; a bad head is told only where no bytes behind them mend it
+-- the bytes, read in this way, have this fault; a bad head is told only if no bytes after them mend it
 abbrev pub HasFaultAs : (List ℕ → Request) → List ℕ → HttpFault → Type 0
 HasFaultAs read bytes Head = IsHopelessRequest bytes
 HasFaultAs read bytes f = read bytes ≡ faulty f
 
--- the bytes, read so, have the fault that is told
+-- the bytes, read in this way, have the fault that is told
 abbrev pub IsCauseAs : (List ℕ → Request) → List ℕ → FeedFault → Type 0
 IsCauseAs read bytes (Http f) = HasFaultAs read bytes f
 IsCauseAs read bytes OutOfMemory = ⊤

@@ -1,4 +1,4 @@
--- The parts of a head by the offsets that httparse gives.
+-- The parts of a head by the offsets that httparse returns.
 use Rattle.std.specs.Prelude.{◌≡◌, ◌≤◌, ℕ, List, map, take, length, Some, None, slice_range}
 use Rattle.httparse.specs.declared.spans.Span.{Span}
 use Rattle.httparse.specs.declared.spans.HeaderSpan.{HeaderSpan}

@@ -31,12 +31,13 @@ pub struct AnswerReader {
 
 impl Model for AnswerReader {
     ghost use Rattle.std.specs.Prelude.{List, ℕ, length, ◌≤◌};
+    ghost use Rattle.iss_http.specs.declared.limits.TheConstants.{MOST_ANSWER};
 
     ghost Value = { List ℕ };
 
     ghost view = { λ r. r.bytes.items };
 
-    ghost invariant = { λ r. length r.bytes.items ≤ 24577 };
+    ghost invariant = { λ r. length r.bytes.items ≤ MOST_ANSWER };
 }
 
 impl AnswerReader {
@@ -49,20 +50,20 @@ impl AnswerReader {
         })
     }
 
-    /// Takes the next bytes, and gives the answer once it is whole; what comes behind it is passed over.
+    /// Takes the next bytes, and returns the answer when it is whole; what comes after it is ignored.
     ///
-    /// `None` where the bytes that came aren't yet an answer. `Garbled` comes where they never become one that is taken;
-    /// for a bad head it may come as soon as no bytes behind them mend it. However much comes, at most 24577 bytes are
+    /// `None` if the bytes that came aren't yet an answer. `Garbled` comes if they never become one that is taken;
+    /// for a bad head it may come as soon as no bytes after them mend it. However much comes, at most 24577 bytes are
     /// kept. After another answer than `None` the reader isn't fed again.
     pub fn feed(&mut self, alloc: Global, piece: &[u8]) -> Result<Option<Answer>, AllocError>
         ensures answer { IfOk result (λ said. IsReadAs (self.old ++ piece.now) false (heard said)) }
         ensures kept { IfOk result (λ said. IfNone said (self.new ≡ self.old ++ piece.now)) }
-        ensures bounded { length self.new ≤ 24577 }
+        ensures bounded { length self.new ≤ MOST_ANSWER }
     {
         feed_bytes(&mut self.bytes, alloc, piece)
     }
 
-    /// The answer that the bytes are, now that no more come: `Ended` where more of them might still have made one.
+    /// The answer that the bytes are, now that no more come: `Ended` if more of them might still have made one.
     pub fn end(&self, alloc: Global) -> Result<Answer, AllocError>
         ensures { IfOk result (λ said. IsReadAs self.now true (reading_of said)) }
     {
@@ -76,10 +77,10 @@ fn feed_bytes(
     alloc: Global,
     piece: &[u8],
 ) -> Result<Option<Answer>, AllocError>
-    requires { length bytes.old.items ≤ 24577 }
+    requires { length bytes.old.items ≤ MOST_ANSWER }
     ensures answer { IfOk result (λ said. IsReadAs (bytes.old.items ++ piece.now) false (heard said)) }
     ensures kept { IfOk result (λ said. IfNone said (bytes.new.items ≡ bytes.old.items ++ piece.now)) }
-    ensures bounded { length bytes.new.items ≤ 24577 }
+    ensures bounded { length bytes.new.items ≤ MOST_ANSWER }
 {
     keep(bytes, piece, MOST_ANSWER)?;
     answer_so_far(alloc, bytes)
@@ -174,7 +175,7 @@ fn open_body(status: u16, rest: &[u8], over: bool) -> Came<'_>
     }
 }
 
-/// A body of so many bytes.
+/// A body of `size` bytes.
 fn body_within(status: u16, rest: &[u8], over: bool, size: u64) -> Came<'_>
     ensures { came_as result ≡ body_within status rest.now over size }
 {

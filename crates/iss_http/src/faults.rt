@@ -3,7 +3,7 @@
 /// A fault of a request.
 #[derive(Clone, Copy, PartialEq, Eq, Debug)]
 pub enum HttpFault {
-    /// No head of at most 64 header lines begins so (RFC 9112).
+    /// No head of at most 64 header lines begins with these bytes (RFC 9112).
     Head,
     /// 8192 bytes came that aren't a whole head yet.
     HeadLong,
@@ -19,7 +19,7 @@ pub enum HttpFault {
     BodyLong,
 }
 
-/// Why a reader gives no body.
+/// Why a reader returns no body.
 #[derive(Clone, Copy, PartialEq, Eq, Debug)]
 pub enum FeedFault {
     /// The bytes that came are no request that is taken.

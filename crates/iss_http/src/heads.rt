@@ -27,7 +27,7 @@ pub(crate) fn no_headers() -> Headers {
 /// The bytes that a head may have.
 #[tactic(auto, using(crate::proofs::Cuts::take_within))]
 pub(crate) fn front(bytes: &[u8]) -> &[u8]
-    ensures { result.now ≡ take 8192 bytes.now }
+    ensures { result.now ≡ take MOST_HEAD bytes.now }
 {
     &bytes[..bytes.len().min(MOST_HEAD)]
 }
@@ -35,7 +35,7 @@ pub(crate) fn front(bytes: &[u8]) -> &[u8]
 /// The head of a request that the bytes begin with.
 #[tactic(auto, using(crate::proofs::Found::request_whole, crate::proofs::Found::request_part, crate::proofs::Found::request_hopeless))]
 pub(crate) fn find_request(bytes: &[u8], headers: &mut [HeaderSpan]) -> Found<RequestSpans>
-    requires { length headers.old ≡ 64 }
+    requires { length headers.old ≡ MOST_HEADERS }
     ensures { IsRequestFound bytes.now headers.new result }
 {
     match httparse::spans::parse_request(bytes, headers) {
@@ -48,7 +48,7 @@ pub(crate) fn find_request(bytes: &[u8], headers: &mut [HeaderSpan]) -> Found<Re
 /// The head of a response that the bytes begin with.
 #[tactic(auto, using(crate::proofs::FoundResponses::response_whole, crate::proofs::FoundResponses::response_part, crate::proofs::FoundResponses::response_hopeless))]
 pub(crate) fn find_response(bytes: &[u8], headers: &mut [HeaderSpan]) -> Found<ResponseSpans>
-    requires { length headers.old ≡ 64 }
+    requires { length headers.old ≡ MOST_HEADERS }
     ensures { IsResponseFound bytes.now headers.new result }
 {
     match httparse::spans::parse_response(bytes, headers) {

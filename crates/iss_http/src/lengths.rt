@@ -4,23 +4,21 @@ ghost use Rattle.iss_http.specs.Lengths.{number_after, length_of, good_length, c
 ghost use Rattle.iss_http.specs.Spans.{headers_at};
 
 use crate::heads::{is_named, part};
+use crate::limits::MOST_DIGITS;
 use httparse::spans::HeaderSpan;
 
-/// The most digits of a length.
-const MOST_DIGITS: usize = 10;
-
-/// What the headers say of the body's length.
+/// The body's length by the headers.
 #[derive(Clone, Copy, PartialEq, Eq, Debug)]
 pub(crate) enum ContentLength {
-    /// No header gives it.
+    /// No header has it.
     Absent,
-    /// More than one header gives it, or one whose value isn't 1 to 10 digits.
+    /// More than one header has it, or one whose value isn't 1 to 10 digits.
     Bad,
     /// So many bytes.
     Good(u64),
 }
 
-/// What the headers say of the body's length.
+/// The body's length by the headers.
 #[tactic(auto, using(crate::proofs::LoneLengths::first_length, crate::proofs::LoneLengths::no_more), unfolding(crate::specs::Lengths::content_length))]
 pub(crate) fn content_length(bytes: &[u8], headers: &[HeaderSpan]) -> ContentLength
     ensures { result ≡ content_length (headers_at bytes.now headers.now) }
@@ -37,7 +35,7 @@ pub(crate) fn content_length(bytes: &[u8], headers: &[HeaderSpan]) -> ContentLen
     length
 }
 
-/// The length that a header's value gives.
+/// The length that a header's value spells.
 fn length_in(text: &[u8]) -> ContentLength
     ensures { result ≡ good_length (length_of text.now) }
 {

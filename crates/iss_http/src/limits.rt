@@ -1,5 +1,8 @@
 //! The limits of a message.
 
+/// The most digits of a length.
+pub(crate) const MOST_DIGITS: usize = 10;
+
 /// The most header lines of a head.
 pub(crate) const MOST_HEADERS: usize = 64;
 
@@ -10,7 +13,7 @@ pub(crate) const MOST_HEAD: usize = 8192;
 pub(crate) const MOST_BODY: u64 = 16384;
 
 /// The most bytes of a request that are looked at: a head and a body.
-pub(crate) const MOST_REQUEST: usize = 24576;
+pub(crate) const MOST_REQUEST: usize = MOST_HEAD + MOST_BODY as usize;
 
 /// The most bytes of an answer that are looked at: a head, a body, and a byte that shows a body without length as too long.
-pub(crate) const MOST_ANSWER: usize = 24577;
+pub(crate) const MOST_ANSWER: usize = MOST_REQUEST + 1;

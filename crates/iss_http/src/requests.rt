@@ -24,12 +24,13 @@ pub struct Reader {
 
 impl Model for Reader {
     ghost use Rattle.std.specs.Prelude.{List, ℕ, length, ◌≤◌};
+    ghost use Rattle.iss_http.specs.declared.limits.TheConstants.{MOST_REQUEST};
 
     ghost Value = { List ℕ };
 
     ghost view = { λ r. r.bytes.items };
 
-    ghost invariant = { λ r. length r.bytes.items ≤ 24576 };
+    ghost invariant = { λ r. length r.bytes.items ≤ MOST_REQUEST };
 }
 
 impl Reader {
@@ -42,10 +43,10 @@ impl Reader {
         })
     }
 
-    /// Takes the next bytes, and gives the body once the request is whole; what comes behind it is passed over.
+    /// Takes the next bytes, and returns the body when the request is whole; what comes after it is ignored.
     ///
-    /// `None` where the bytes that came aren't yet a request. A fault is the first that they have, in the order of
-    /// `HttpFault`; `Head` comes in place of `None` or `HeadLong`, and only where no bytes behind them make a head. However
+    /// `None` if the bytes that came aren't yet a request. A fault is the first that they have, in the order of
+    /// `HttpFault`; `Head` comes in place of `None` or `HeadLong`, and only if no bytes after them make a head. However
     /// much comes, at most 24576 bytes are kept. After another answer than `None` the reader isn't fed again.
     #[tactic(auto, unfolding(crate::specs::Requests::request))]
     pub fn feed(&mut self, alloc: Global, piece: &[u8]) -> Result<Option<Vec<u8>>, FeedFault>
@@ -53,7 +54,7 @@ impl Reader {
             (λ said. request (self.old ++ piece.now) ≡ answered (option_map (λ text. text.items) said)) }
         ensures fault { IfErr result (IsCause (self.old ++ piece.now)) }
         ensures kept { IfOk result (λ said. IfNone said (self.new ≡ self.old ++ piece.now)) }
-        ensures bounded { length self.new ≤ 24576 }
+        ensures bounded { length self.new ≤ MOST_REQUEST }
     {
         feed_bytes(EVENTS, &mut self.bytes, alloc, piece)
     }
@@ -66,12 +67,12 @@ fn feed_bytes(
     alloc: Global,
     piece: &[u8],
 ) -> Result<Option<Vec<u8>>, FeedFault>
-    requires { length bytes.old.items ≤ 24576 }
+    requires { length bytes.old.items ≤ MOST_REQUEST }
     ensures body { IfOk result
         (λ said. request_at path.now (bytes.old.items ++ piece.now) ≡ answered (option_map (λ text. text.items) said)) }
     ensures fault { IfErr result (IsCauseAs (request_at path.now) (bytes.old.items ++ piece.now)) }
     ensures kept { IfOk result (λ said. IfNone said (bytes.new.items ≡ bytes.old.items ++ piece.now)) }
-    ensures bounded { length bytes.new.items ≤ 24576 }
+    ensures bounded { length bytes.new.items ≤ MOST_REQUEST }
 {
     let Ok(()) = keep(bytes, piece, MOST_REQUEST) else {
         return Err(FeedFault::OutOfMemory);
@@ -137,7 +138,7 @@ fn body_behind<'b>(
     sized_body(behind(bytes, head.len), content_length(start, headers))
 }
 
-/// What the bytes behind the head are, by the length of the body.
+/// What the bytes after the head are, by the length of the body.
 fn sized_body(rest: &[u8], length: ContentLength) -> Result<Option<&[u8]>, HttpFault>
     ensures { told (λ text. text.now) result ≡ sized_body rest.now length }
 {

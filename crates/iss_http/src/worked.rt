@@ -31,7 +31,7 @@ pub fn worked_faults()
     ensures long { request (posted ("Content-Length: 16385" ∷ []) "") ≡ faulty BodyLong }
 {}
 
-/// A head that begins with a space, whatever comes behind it.
+/// A head that begins with a space, whatever comes after it.
 #[tactic(auto, using(crate::proofs::Hopeless::space_first))]
 pub fn worked_hopeless()
     ensures { IsHopelessRequest (codes " POST /events HTTP/1.1") }

@@ -1,4 +1,4 @@
--- Names that groups of slots and a tree find still are found where one more is put behind them.
+-- Names that groups of slots and a tree find still are found if one more is put after them.
 use Rattle.std.proofs.Common.{◌≡◌, ℕ, zero, suc, ◌+◌, ◌-◌, ◌<◌, ◌≤◌, ◌==◌, Bool, true, false, not, ◌&&◌, cond, List, [], ◌∷◌, ◌++◌, length, find, Option, Some, None, slice_get, get_or, set, take, replicate, BTreeMap, ⊎_elim, refl, sym, ap, ap₂, subst, ◌∙◌, arith, rules}
 use Rattle.std.specs.BTreeMap.{get}
 use Rattle.std.specs.Cmp.Lexicographic.{slice_cmp}
@@ -92,7 +92,7 @@ same_number n = grind (arith)
 at_more : (names : List (List ℕ)) (k q : List ℕ) (i : ℕ) → i < length names → is_at (names ++ k ∷ []) i q ≡ is_at names i q
 at_more names k q i lt = ap (is_name q) (get_more names k i lt)
 
--- the name behind all others
+-- the name after all others
 at_last : (names : List (List ℕ)) (k q : List ℕ) → is_at (names ++ k ∷ []) (length names) q ≡ bytes_eq k q
 at_last names k q = ap (is_name q) (get_last names k)
 
@@ -126,7 +126,7 @@ free_has tag names q s free =
     never true a = refl
     never false a = refl
 
--- the slot of the last name, which has it where the tag is its own
+-- the slot of the last name, which has it if the tag is its own
 last_has : (tag : ℕ) (names : List (List ℕ)) (k q : List ℕ) (own place : ℕ) → place ≡ length names
     → slot_has tag (names ++ k ∷ []) q (record { tag = own; rank = place + 1 }) ≡ ((own == tag) && bytes_eq k q)
 last_has tag names k q own place is =
@@ -216,7 +216,7 @@ unfound : (o r : Option ℕ) → option_or o r ≡ None → o ≡ None
 unfound None r e = refl
 unfound (Some n) r e = absurd (none-some n (sym e))
 
--- the place of each name where one more stands behind them
+-- the place of each name if one more stands after them
 last_place : (names : List (List ℕ)) (k q : List ℕ) (place : ℕ) → place ≡ length names → place_of k names ≡ None
     → place_of q (names ++ k ∷ []) ≡ cond (bytes_eq k q) (Some place) (place_of q names)
 last_place names k q place is none = place-last q k names none ∙ ap (λ (n : ℕ). cond (bytes_eq k q) (Some n) (place_of q names)) (sym is)
@@ -258,7 +258,7 @@ module _ (before after : List Group) (others : BTreeMap (List ℕ) ℕ) (k : Lis
   own_within : AreWithin (length names) (slots_at before (group_of (length before) (hash_of k)))
   own_within = within_at (length names) before (group_of (length before) (hash_of k)) found.within
 
-  -- what the group of a name gives, whether or not it is the one that was filled
+  -- what the group of a name finds, whether or not it is the one that was filled
   stays_in : (q : List ℕ) → bytes_eq k q ≡ false
       → in_slots (tag_of (hash_of q)) (names ++ k ∷ []) q (slots_at after (group_of (length after) (hash_of q)))
       ≡ in_slots (tag_of (hash_of q)) names q (slots_at before (group_of (length before) (hash_of q)))
@@ -443,7 +443,7 @@ new_at (n ∷ names) (suc i) d apart lt =
 
 -- ---- what is kept
 
--- names with one more behind them, and its place put
+-- names with one more after them, and its place put
 pub kept_more : (before after : List Group) (others others_after : BTreeMap (List ℕ) ℕ) (names now : List (List ℕ)) (k : List ℕ) (place : ℕ)
     → AreKept before others names → PutsName before others after others_after k place → place ≡ length names → place_of k names ≡ None
     → now ≡ names ++ k ∷ [] → AreKept after others_after now

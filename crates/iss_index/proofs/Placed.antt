@@ -1,4 +1,4 @@
--- What the place of a name says of a list of things that have names.
+-- What the place of a name tells of a list of things that have names.
 use Rattle.std.proofs.Common.{◌≡◌, ℕ, zero, suc, ◌<◌, Bool, true, false, cond, List, [], ◌∷◌, ◌++◌, length, map, find, Option, Some, None, slice_get, get_or, set, refl, sym, ap, ap₂, subst, ◌∙◌, arith}
 use Rattle.std.specs.Prelude.{IfSome}
 use Rattle.std.specs.List.{AllByRecursion, IsDistinct}
@@ -65,7 +65,7 @@ place_there (n ∷ ns) name (suc i) is = at (bytes_eq name n) refl (place_there 
         let next : later (place_of name ns) ≡ Some (suc i) = rw e at is in
         rest (later_is (place_of name ns) i next)
 
--- the place of a name where a name that the list lacks is added to it
+-- the place of a name if a name that the list lacks is added to it
 pub place-last : (q k : List ℕ) (ns : List (List ℕ)) → place_of k ns ≡ None
     → place_of q (ns ++ k ∷ []) ≡ cond (bytes_eq k q) (Some (length ns)) (place_of q ns)
 place-last q k [] none = ap (λ (b : Bool). cond b (Some zero) None) (name-sym q k)
@@ -122,7 +122,7 @@ lacked_at n [] i name lacks is = absurd (none-some name is)
 lacked_at n (m ∷ ns) zero name lacks is = subst (λ (k : List ℕ). bytes_eq n k ≡ false) (same_Some m name is) lacks.0
 lacked_at n (m ∷ ns) (suc i) name lacks is = lacked_at n ns i name lacks.1 is
 
--- where no name stands twice, a name that stands at a place has it
+-- if no name stands twice, a name that stands at a place has it
 pub place_here : (ns : List (List ℕ)) (i : ℕ) (name : List ℕ) → IsDistinct bytes_eq ns → slice_get ns i ≡ Some name → place_of name ns ≡ Some i
 place_here [] i name apart is = absurd (none-some name is)
 place_here (n ∷ ns) zero name apart is =
@@ -283,7 +283,7 @@ module _ {A : Type 0} (nm : A → List ℕ) where
   names-len [] = refl
   names-len (x ∷ xs) = ap (λ (n : ℕ). suc n) (names-len xs)
 
-  -- What the place of a name says of the things.
+  -- What the place of a name tells of the things.
   module _ (xs : List A) (name : List ℕ) where
     pub found-within : (i : ℕ) → Some i ≡ place_of name (map nm xs) → i < length xs
     found-within i is =

@@ -25,7 +25,7 @@ is_zero (Some s) = s.rank == 0
 abbrev pub tag_of : ℕ → ℕ
 tag_of hash = hash % 2 ^ 32
 
--- the group, of so many, that a hash points to
+-- the group, of this number of groups, that a hash points to
 abbrev pub group_of : ℕ → ℕ → ℕ
 group_of count hash = hash / 2 ^ 32 % count
 
@@ -65,7 +65,7 @@ found_in groups others names name =
     option_or (in_slots (tag_of (hash_of name)) names name (slots_at groups (group_of (length groups) (hash_of name))))
     (get (slice_cmp nat_cmp) others name)
 
--- no slot has a place behind so many
+-- no slot has a place beyond this number of places
 abbrev pub AreWithin : ℕ → List Slot → Type 0
 AreWithin count slots = AllByRecursion (λ s. s.rank ≤ count) slots
 
@@ -75,7 +75,7 @@ pub record AreFound (groups : List Group) (others : BTreeMap (List ℕ) ℕ) (na
   pub clear : (name : List ℕ) → has_room (slots_at groups (group_of (length groups) (hash_of name))) ≡ true → get (slice_cmp nat_cmp) others name ≡ None
   pub within : AllByRecursion (λ g. AreWithin (length names) g.slots) groups
 
--- A name was put behind these: groups and a tree that found them all find it too.
+-- A name was put after these: groups and a tree that found them all find it too.
 abbrev pub PutsName : List Group → BTreeMap (List ℕ) ℕ → List Group → BTreeMap (List ℕ) ℕ → List ℕ → ℕ → Type 0
 PutsName before others after others_after name place =
     (names : List (List ℕ)) → AreFound before others names → place ≡ length names → place_of name names ≡ None
@@ -97,13 +97,13 @@ PutsPlace before after name place = PutsName before.groups.items before.others a
 abbrev pub has_room_for : List Group → List ℕ → Bool
 has_room_for groups name = has_room (slots_at groups (group_of (length groups) (hash_of name)))
 
--- a free slot got the place of a name
+-- a free slot took the place of a name
 pub record FillsSlot (before after : List Slot) (tag place : ℕ) : Type 0 where
   pub at : ℕ
   pub free : option_map (λ s. s.rank) (slice_get before at) ≡ Some 0
   pub now : after ≡ set before at (record { tag = tag; rank = place + 1 })
 
--- a free slot of the group that a name's hash points to got its place
+-- a free slot of the group that a name's hash points to took its place
 pub record FillsGroup (before after : List Group) (name : List ℕ) (place : ℕ) : Type 0 where
   pub slots : List Slot
   pub fills : FillsSlot (slots_at before (group_of (length before) (hash_of name))) slots (tag_of (hash_of name)) place

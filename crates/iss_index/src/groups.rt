@@ -80,7 +80,7 @@ fn free_slot(slots: &[Slot]) -> Option<usize>
 }
 
 impl Group {
-    /// The place of the name of that hash, where it has a slot here.
+    /// The place of the name of that hash, if it has a slot here.
     pub(crate) fn place_of(&self, hash: u64, names: &[Token], name: &Token) -> Option<u32>
         ensures { result ≡ in_slots (tag_of hash) names.now name.now self.now.slots }
     {

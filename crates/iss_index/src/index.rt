@@ -1,7 +1,7 @@
 //! A list of named things, each found by its name.
-ghost use Rattle.std.specs.Prelude.{◌≡◌, [], ◌∷◌, ◌++◌, None, IfSome, map, find, option_map, OnOk, OnErr};
+ghost use Rattle.std.specs.Prelude.{◌≡◌, [], ◌∷◌, ◌++◌, None, map, find, option_map, OnOk, OnErr};
 ghost use Rattle.std.specs.Str.{bytes_eq};
-ghost use Rattle.iss_index.specs.Places.{changed_at};
+ghost use Rattle.iss_index.specs.Places.{MakesThis, changed_at};
 
 use crate::Names;
 use iss_model::{Named, Token};
@@ -36,7 +36,7 @@ impl<T: Named + Drop> Index<T> {
         }
     }
 
-    /// The thing of that name, or `None` where there is none.
+    /// The thing of that name, or `None` if there is none.
     pub fn get(&self, name: &Token) -> Option<&T>
         ensures { option_map (λ found. found.now) result ≡ find (λ t. bytes_eq (T.name_of t) name.now) self.now }
     {
@@ -44,7 +44,7 @@ impl<T: Named + Drop> Index<T> {
         Some(&self.things[place as usize])
     }
 
-    /// Adds a thing of a new name after the others. Where allocation fails all stays as it was.
+    /// Adds a thing of a new name after the others. If an allocation fails, all stays as it was.
     pub fn add(&mut self, thing: T) -> Result<(), AllocError>
         requires { find (λ t. bytes_eq (T.name_of t) (T.name_of thing)) self.old ≡ None }
         ensures added { OnOk result (self.new ≡ self.old ++ thing ∷ []) }
@@ -57,13 +57,13 @@ impl<T: Named + Drop> Index<T> {
         Ok(())
     }
 
-    /// Puts a thing in the place of the one of its name. Does nothing where there is none.
+    /// Puts a thing in the place of the one of its name. Does nothing if there is none.
     ///
-    /// Names are distinct, so any change that makes `thing` of the one that is found gives the same list where it is made to
+    /// Names are distinct, so any change that makes `thing` of the one that is found gives the same list if it is made to
     /// each thing of that name.
     pub fn set(&mut self, thing: T)
         ensures placed { self.new ≡ changed_at T.name_of (T.name_of thing) (λ t. thing) self.old }
-        ensures changed { (change : T → T) → IfSome (find (λ t. bytes_eq (T.name_of t) (T.name_of thing)) self.old) (λ t. change t ≡ thing)
+        ensures changed { (change : T → T) → MakesThis T.name_of change thing self.old
             → self.new ≡ changed_at T.name_of (T.name_of thing) change self.old }
     {
         let Some(place) = self.names.find(thing.name()) else {

@@ -61,7 +61,7 @@ impl Names {
         &self.names[place]
     }
 
-    /// The place of a name, counted from 0, or `None` where it wasn't added.
+    /// The place of a name, counted from 0, or `None` if it wasn't added.
     pub fn find(&self, name: &Token) -> Option<u32>
         ensures value { result ≡ place_of name.now self.now }
         ensures apart { IsDistinct bytes_eq self.now }
@@ -69,7 +69,7 @@ impl Names {
         self.places.find(&self.names, name)
     }
 
-    /// The same, where the name is likely to be the last one.
+    /// The same, for a name that is likely to be the last one.
     pub fn find_last(&self, name: &Token) -> Option<u32>
         ensures value { result ≡ place_of name.now self.now }
         ensures apart { IsDistinct bytes_eq self.now }
@@ -80,7 +80,7 @@ impl Names {
         }
     }
 
-    /// Adds a new name after the others, and tells its place. Where allocation fails all stays as it was, and so where
+    /// Adds a new name after the others, and returns its place. If an allocation fails, all stays as it was, and so if
     /// 2^32 - 1 names stand, as many as places are kept for.
     pub fn add(&mut self, name: &Token) -> Result<u32, AllocError>
         requires { place_of name.now self.old ≡ None }
@@ -96,7 +96,7 @@ impl Names {
         Ok(place)
     }
 
-    /// Makes more groups where one name more is to have them.
+    /// Makes more groups if one name more is to have them.
     fn widen(&mut self) -> Result<(), AllocError>
         requires { length self.old + 1 < 2 ^ 32 }
         ensures { self.new ≡ self.old }
@@ -108,7 +108,7 @@ impl Names {
     }
 }
 
-/// The place of one name more after so many.
+/// The place of one name more after `count` of them.
 fn place_after(count: usize) -> Result<u32, AllocError>
     ensures value { IfOk result (λ place. place ≡ count) }
     ensures few { IfOk result (λ place. place + 1 < 2 ^ 32) }
@@ -119,7 +119,7 @@ fn place_after(count: usize) -> Result<u32, AllocError>
     }
 }
 
-/// The last place, where the name there is this one.
+/// The last place, if the name there is this one.
 fn last_place(names: &[Token], name: &Token) -> Option<u32>
     ensures { IfSome result (λ place. is_at names.now place name.now ≡ true) }
 {

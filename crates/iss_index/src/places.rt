@@ -15,7 +15,7 @@ use std::collections::BTreeMap;
 const LOAD: usize = 5;
 /// How many times as many groups there are then.
 const GROWTH: usize = 4;
-/// How many groups the first names are given.
+/// How many groups the first names have.
 const FIRST_GROUPS: usize = 16;
 
 /// The places of names in a list that stands elsewhere.
@@ -78,7 +78,7 @@ impl Places {
         self.others.get(name).copied()
     }
 
-    /// Notes the place of a name that has none. Where allocation fails all stays as it was.
+    /// Notes the place of a name that has none. If an allocation fails, all stays as it was.
     pub(crate) fn put(&mut self, name: &Token, place: u32) -> Result<(), AllocError>
         requires few { place + 1 < 2 ^ 32 }
         ensures put { OnOk result (PutsPlace self.old self.new name.now place) }
@@ -108,7 +108,7 @@ impl Places {
     }
 }
 
-/// The group, of so many, that a hash points to.
+/// The group, of `count`, that a hash points to.
 fn group_of(count: usize, hash: u64) -> usize
     requires { 0 < count }
     ensures value { result ≡ group_of count hash }

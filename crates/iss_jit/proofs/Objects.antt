@@ -37,7 +37,7 @@ pieces_after old name text before = quoted_after (old ++ (before ∷ (in_quotes 
 
 -- ---- members of an object
 
--- a member behind a comma
+-- a member after a comma
 abbrev pub next : Member → List ℕ
 next m = 44 ∷ member_text m
 
@@ -45,11 +45,11 @@ joined : (m : Member) (ms : List Member) → member_text m ++ flat_map next ms �
 joined m [] = append-nil (member_text m)
 joined m (n ∷ ms) = ap (λ (t : List ℕ). member_text m ++ (44 ∷ t)) (joined n ms)
 
--- the first member after a brace, the others behind commas, and a brace
+-- the first member after a brace, the others after commas, and a brace
 pub object_is : (m : Member) (ms : List Member) → (123 ∷ member_text m) ++ flat_map next ms ++ (125 ∷ []) ≡ object_text (m ∷ ms)
 object_is m ms = ap (λ (t : List ℕ). 123 ∷ (t ++ (125 ∷ []))) (joined m ms)
 
--- members that are put one after the other behind commas
+-- members that are put one after the other, each after a comma
 abbrev after : List ℕ → List Member → List ℕ
 after text [] = text
 after text (m ∷ ms) = after (text ++ next m) ms
@@ -70,7 +70,7 @@ object_after old m ms =
     ∙ append_assoc old ((123 ∷ member_text m) ++ flat_map next ms) (125 ∷ [])
     ∙ ap (λ (t : List ℕ). old ++ t) (object_is m ms)
 
--- an object whose first member is put behind a brace
+-- an object whose first member is put after a brace
 abbrev pub opened_with : List ℕ → List Member → List ℕ
 opened_with old [] = old ++ (123 ∷ [])
 opened_with old (m ∷ ms) = after (old ++ (123 ∷ member_text m)) ms

@@ -1,4 +1,4 @@
--- Answers that say what was asked.
+-- Answers that repeat what was asked.
 use Rattle.std.specs.Prelude.{◌≡◌, ℕ, pos, IsTrue, true, codes, Some}
 use Rattle.serde_json.specs.Data.{Data, string}
 use Rattle.serde_json.specs.Find.{get}
@@ -13,6 +13,6 @@ pub record IsEcho (instance : ℕ) (o : Opened) (d : Data) : Type 0 where
   pub token : get (codes "token") d ≡ Some (string (token_text instance o.call.0))
   pub amount : get (codes "amount") d ≡ Some (string (amount_text (pos o.amount) o.currency))
 
--- a value with the request's own token and amount funds the call, where that is an amount of an event
+-- a value with the request's own token and amount funds the call, if that is an amount of an event
 pub record FundsEchoes (instance : ℕ) (o : Opened) : Type 0 where
   pub funds : (d : Data) → IsTrue (is_amount o.amount) → IsEcho instance o d → is_funding instance o d ≡ true

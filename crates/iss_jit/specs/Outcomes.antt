@@ -25,7 +25,7 @@ uuid_of d = option_and_then parsed (as_str d)
 abbrev pub whole_of : Data → Option ℕ
 whole_of d = option_and_then as_u64 (as_number d)
 
--- the amount that a text spells in a currency, or of so many whole units of it where there is no text
+-- the amount that a text spells in a currency, or of this number of whole units of it if there is no text
 abbrev pub text_or_units : Currency → Option (List ℕ) → Option ℕ → Option ℕ
 text_or_units c (Some text) units = amount_read text c
 text_or_units c None units = option_and_then (λ n. whole_amount_read n c) units
@@ -46,7 +46,7 @@ has_amount o d = is_some_with (λ amount. amount == o.amount) (option_and_then (
 unfoldable pub is_funding : ℕ → Opened → Data → Bool
 is_funding instance o d = has_token instance o d && has_amount o d
 
--- Funded where the status is 200 and the body funds the call, Refused where the status is 402, and else no answer that decides
+-- Funded if the status is 200 and the body funds the call, Refused if the status is 402, and else no answer that decides
 unfoldable pub outcome_of : ℕ → Opened → ℕ → List ℕ → Outcome
 outcome_of instance o status body =
     if status == 402 then Refused

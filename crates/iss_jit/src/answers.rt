@@ -1,5 +1,6 @@
 //! What a gateway's answer to a call comes to.
-ghost use Rattle.std.specs.Prelude.{◌≡◌, ◌≢◌, ◌<◌, ◌^◌, ◌↔◌, IfOk, option_map};
+ghost use Rattle.std.specs.Prelude.{◌≡◌, ◌≢◌, ◌<◌, ◌↔◌, IfOk, option_map};
+ghost use Rattle.iss_model.specs.declared.limits.TheConstants.{INSTANCES};
 ghost use Rattle.serde_json.specs.Read.{read as read_text};
 ghost use Rattle.serde_json.specs.View.{view};
 ghost use Rattle.iss_model.specs.declared.input.Outcome.TheVariants as outcome;
@@ -21,8 +22,8 @@ const REFUSED: u16 = 402;
 
 /// What an HTTP answer with this status and body to the request of a call comes to.
 ///
-/// `Funded` exactly where the status is 200 and the body is a JSON object of RFC 8259 with the call's token, a UUID of
-/// RFC 9562 in any spelling, and its amount; `Refused` exactly where the status is 402; else `Application`. Of members of
+/// `Funded` exactly if the status is 200 and the body is a JSON object of RFC 8259 with the call's token, a UUID of
+/// RFC 9562 in any spelling, and its amount; `Refused` exactly if the status is 402; else `Application`. Of members of
 /// one name the last counts.
 #[tactic(auto, using(crate::proofs::Echoes::echo), unfolding(crate::specs::Outcomes::outcome_of))]
 pub fn answer(
@@ -32,7 +33,7 @@ pub fn answer(
     opened: &Opened,
     instance: u64,
 ) -> Result<Outcome, AllocError>
-    requires { instance < 2 ^ 48 }
+    requires { instance < INSTANCES }
     ensures value { IfOk result (λ said. said ≡ outcome_of instance opened.now status body.now) }
     ensures refused { IfOk result (λ said. (said ≡ outcome.Refused) ↔ (status ≡ 402)) }
     ensures never_connection { IfOk result (λ said. said ≢ outcome.Connection) }
@@ -54,7 +55,7 @@ fn is_funding_body(
     opened: &Opened,
     instance: u64,
 ) -> Result<bool, AllocError>
-    requires { instance < 2 ^ 48 }
+    requires { instance < INSTANCES }
     ensures { IfOk result
         (λ funds. funds ≡ is_some_with (is_funding instance opened.now) (json_of body.now)) }
 {
@@ -67,7 +68,7 @@ fn is_funding_body(
 /// Whether the value is an object with the call's token and amount.
 #[tactic(auto, unfolding(crate::specs::Outcomes::is_funding))]
 fn is_funding(value: &Value, opened: &Opened, instance: u64) -> bool
-    requires { instance < 2 ^ 48 }
+    requires { instance < INSTANCES }
     ensures { result ≡ is_funding instance opened.now (view value.now) }
 {
     has_token(value, opened, instance) && has_amount(value, opened)
@@ -75,7 +76,7 @@ fn is_funding(value: &Value, opened: &Opened, instance: u64) -> bool
 
 #[tactic(auto, unfolding(crate::specs::Outcomes::has_token))]
 fn has_token(value: &Value, opened: &Opened, instance: u64) -> bool
-    requires { instance < 2 ^ 48 }
+    requires { instance < INSTANCES }
     ensures { result ≡ has_token instance opened.now (view value.now) }
 {
     match value.get("token").and_then(uuid_of) {
@@ -115,7 +116,7 @@ fn amount_of(value: &Value, currency: Currency) -> Option<u64>
     }
 }
 
-/// The JSON value that the bytes are, or `None` where they are none.
+/// The JSON value that the bytes are, or `None` if they are none.
 #[tactic(auto, unfolding(crate::specs::Outcomes::json_of))]
 fn value_of(alloc: Global, body: &[u8]) -> Result<Option<Value>, AllocError>
     ensures { IfOk result (λ found. option_map view found ≡ json_of body.now) }

@@ -13,4 +13,5 @@ mod money;
 mod texts;
 
 pub use answers::answer;
+pub use members::{put_name, put_quoted};
 pub use texts::{notice_text, put_notice, put_request, request_text};

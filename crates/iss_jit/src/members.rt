@@ -1,6 +1,7 @@
 //! The members of a text's object, each after what was written before.
-ghost use Rattle.std.specs.Prelude.{◌≡◌, ◌<◌, ◌^◌, [], ◌∷◌, ◌++◌, pos, codes, OnOk};
+ghost use Rattle.std.specs.Prelude.{◌≡◌, ◌<◌, [], ◌∷◌, ◌++◌, pos, codes, OnOk};
 ghost use Rattle.std.specs.List.{flat_map};
+ghost use Rattle.iss_model.specs.declared.limits.TheConstants.{INSTANCES};
 ghost use Rattle.iss_model.specs.Currencies.{currency_code};
 ghost use Rattle.iss_model.specs.Amounts.{amount_text, last_digits};
 ghost use Rattle.iss_model.specs.texts.GatewayTexts.{method_text, token_text, token_members};
@@ -67,7 +68,7 @@ pub(crate) fn put_number(out: &mut Vec<u8>, name: &str, number: u32) -> Result<(
 
 /// Adds the token of a call.
 pub(crate) fn put_call(out: &mut Vec<u8>, call: CallId, instance: u64) -> Result<(), AllocError>
-    requires { instance < 2 ^ 48 }
+    requires { instance < INSTANCES }
     ensures { OnOk result (out.new.items ≡ out.old.items
         ++ (44 ∷ member_text (with_text (codes "token") (token_text instance call.0)))) }
 {
@@ -76,13 +77,13 @@ pub(crate) fn put_call(out: &mut Vec<u8>, call: CallId, instance: u64) -> Result
     put_text(out, "token", text.as_bytes())
 }
 
-/// Adds the token of the call that a notice ends, where it ends one.
+/// Adds the token of the call that a notice ends, if it ends one.
 pub(crate) fn put_ended(
     out: &mut Vec<u8>,
     call: Option<CallId>,
     instance: u64,
 ) -> Result<(), AllocError>
-    requires { instance < 2 ^ 48 }
+    requires { instance < INSTANCES }
     ensures { OnOk result (out.new.items ≡ out.old.items
         ++ flat_map (λ m. 44 ∷ member_text m) (token_members instance call)) }
 {
@@ -100,7 +101,8 @@ fn put_text(out: &mut Vec<u8>, name: &str, text: &[u8]) -> Result<(), AllocError
     put_quoted(out, text)
 }
 
-fn put_name(out: &mut Vec<u8>, before: u8, name: &str) -> Result<(), AllocError>
+/// Adds a name and a colon, after the brace that opens the object or after a comma.
+pub fn put_name(out: &mut Vec<u8>, before: u8, name: &str) -> Result<(), AllocError>
     ensures { OnOk result (out.new.items
         ≡ out.old.items ++ (before ∷ (in_quotes name.now ++ 58 ∷ []))) }
 {
@@ -109,7 +111,8 @@ fn put_name(out: &mut Vec<u8>, before: u8, name: &str) -> Result<(), AllocError>
     out.extend_from_slice(b":")
 }
 
-fn put_quoted(out: &mut Vec<u8>, text: &[u8]) -> Result<(), AllocError>
+/// Adds a text in quotes, which has no byte that needs an escape.
+pub fn put_quoted(out: &mut Vec<u8>, text: &[u8]) -> Result<(), AllocError>
     ensures { OnOk result (out.new.items ≡ out.old.items ++ in_quotes text.now) }
 {
     out.push(b'"')?;

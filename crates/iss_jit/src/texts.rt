@@ -1,5 +1,6 @@
-//! The texts of requests and notices, after those that are there. Where an allocation fails a part of a text may be there.
-ghost use Rattle.std.specs.Prelude.{◌≡◌, ◌<◌, ◌^◌, ◌++◌, IfOk, OnOk};
+//! The texts of requests and notices, after those that are there. If an allocation fails, a part of a text may be there.
+ghost use Rattle.std.specs.Prelude.{◌≡◌, ◌<◌, ◌++◌, IfOk, OnOk};
+ghost use Rattle.iss_model.specs.declared.limits.TheConstants.{INSTANCES};
 ghost use Rattle.iss_model.specs.texts.GatewayTexts.{request_text, notice_text};
 
 use crate::members::{
@@ -10,7 +11,7 @@ use std::alloc::{AllocError, Global};
 
 /// The text that asks the gateway of an instance for the funds of a call, without a line feed.
 pub fn request_text(alloc: Global, opened: &Opened, instance: u64) -> Result<Vec<u8>, AllocError>
-    requires { instance < 2 ^ 48 }
+    requires { instance < INSTANCES }
     ensures { IfOk result (λ text. text.items ≡ request_text instance opened.now) }
 {
     let mut text = Vec::new(alloc);
@@ -18,9 +19,9 @@ pub fn request_text(alloc: Global, opened: &Opened, instance: u64) -> Result<Vec
     Ok(text)
 }
 
-/// The text that gives a notice to the gateway of an instance, without a line feed.
+/// The text of a notice to the gateway of an instance, without a line feed.
 pub fn notice_text(alloc: Global, notice: &Notice, instance: u64) -> Result<Vec<u8>, AllocError>
-    requires { instance < 2 ^ 48 }
+    requires { instance < INSTANCES }
     ensures { IfOk result (λ text. text.items ≡ notice_text instance notice.now) }
 {
     let mut text = Vec::new(alloc);
@@ -30,7 +31,7 @@ pub fn notice_text(alloc: Global, notice: &Notice, instance: u64) -> Result<Vec<
 
 /// Adds the text of a request.
 pub fn put_request(out: &mut Vec<u8>, opened: &Opened, instance: u64) -> Result<(), AllocError>
-    requires { instance < 2 ^ 48 }
+    requires { instance < INSTANCES }
     ensures { OnOk result (out.new.items ≡ out.old.items ++ request_text instance opened.now) }
 {
     put_amount(out, b'{', "amount", opened.amount, opened.currency)?;
@@ -49,7 +50,7 @@ pub fn put_request(out: &mut Vec<u8>, opened: &Opened, instance: u64) -> Result<
 
 /// Adds the text of a notice.
 pub fn put_notice(out: &mut Vec<u8>, notice: &Notice, instance: u64) -> Result<(), AllocError>
-    requires { instance < 2 ^ 48 }
+    requires { instance < INSTANCES }
     ensures { OnOk result (out.new.items ≡ out.old.items ++ notice_text instance notice.now) }
 {
     put_amount(out, b'{', "amount", notice.amount, notice.currency)?;

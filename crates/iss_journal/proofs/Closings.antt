@@ -4,7 +4,7 @@ use Rattle.std.proofs.lemmas.List.{get_or_at, set_split, set-set}
 use Rattle.iss_edge.specs.declared.outside.Action.{Action}
 use Rattle.iss_edge.specs.World.{World, Told}
 use Rattle.iss_edge.specs.Calls.{Same}
-use Rattle.iss_edge.specs.Disk.{Disk, after_actions, splice}
+use Rattle.iss_edge.specs.Disk.{after_actions, splice}
 use Rattle.iss_edge.specs.Puts.{one_put, after_puts, actions_of_puts, Ran, Puts, PutsPart, Holds}
 use Rattle.iss_edge.specs.Stretches.{Step, actions_of, StandsUpTo, GoesOn}
 use Rattle.iss_edge.proofs.Tolds.{told_map, told_then}
@@ -37,7 +37,7 @@ pub shows_firm : (region : Region) (bodies : List (List ℕ)) (image : List ℕ)
 shows_firm region bodies image firm =
     elim firm [ inl closed ↦ shows_closed region bodies image closed | inr left ↦ left.1.shows ]
 
--- a record that is left behind a gate: where that is 0 the records are shown closed, else it was left so
+-- a record that is left behind a gate: if that is 0 the records are shown closed, else it was left so
 module _ (region : Region) (bodies : List (List ℕ)) (start image : List ℕ) (j : ℕ) (same : image ≡ start) (body : List ℕ) (left : LeavesBehind region (take j bodies) body image) where
   left_by_gate : (gate : ℕ) → left.shows.gate ≡ gate → OpenedOrOneMore region bodies start image j
   left_by_gate zero is =
@@ -145,7 +145,7 @@ module _ (region : Region) (bodies : List (List ℕ)) (j : ℕ) (place : Place) 
         stands_at (splice place.gate (0 ∷ []) image) (inl (closed_now image shows)),
       )
 
-  -- where the end gate is 0 already
+  -- if the end gate is 0 already
   closed_here : get_or start place.gate 0 ≡ 0 → (image : List ℕ) → OpensFirst region bodies start image j → RestsFirst region bodies image j
   closed_here none image opens =
       closed_by_byte region (take j bodies) image (ap (λ (n : ℕ). get_or image n 0) (sym here_is) ∙ ap (λ (l : List ℕ). get_or l place.gate 0) opens.same ∙ none) (shows_firm region (take j bodies) image opens.firm)

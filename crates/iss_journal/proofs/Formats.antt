@@ -1,4 +1,4 @@
--- What formatting leaves at each of its moments, and what a header says.
+-- What formatting leaves at each of its moments, and what a header tells.
 use Rattle.std.proofs.Common.{◌≡◌, ℕ, zero, suc, ◌+◌, ◌/◌, ◌%◌, ◌^◌, ◌<◌, ◌≤◌, List, [], ◌∷◌, ◌++◌, length, take, drop, get_or, Option, Some, None, IfSome, Ok, Err, inl, inr, refl, sym, ap, ◌∙◌, subst, append-nil, arith, length-append, length-drop}
 use Rattle.std.specs.Int.{w64, to_be_bytes, from_be_bytes}
 use Rattle.std.proofs.lemmas.Nat.{from_be_bytes-to_be_bytes_8}
@@ -76,7 +76,7 @@ first_gate instance start syncs (suc zero) image least is =
 first_gate instance start syncs (suc (suc byte)) image least is =
     inl (unformatted (suc (suc byte)) (tail_of instance ++ drop 16 (drop 1 start)) image is (λ one. omega (arith, one)))
 
--- the bytes once the tail stands after a closed first byte
+-- the bytes after the tail stands after a closed first byte
 abbrev closed_first : ℕ → List ℕ → List ℕ
 closed_first instance start = splice 1 (tail_of instance) (splice 0 (0 ∷ []) start)
 
@@ -162,7 +162,7 @@ format_whole instance a b size small made =
 abbrev pub Sized : ℕ → Option World → Type 0
 Sized size x = IfSome x (λ world. length world.device ≡ size)
 
--- what follows where the first world told has a device of this size
+-- what follows if the first world told has a device of this size
 pub told_sized : (size : ℕ) (R S : World → World → Type 0) (x y : Option World) → Sized size x → ((a b : World) → length a.device ≡ size → R a b → S a b) → Told R x y → Told S x y
 told_sized size R S None None sized f p = tt
 told_sized size R S (Some a) None sized f p = tt
@@ -226,7 +226,7 @@ instance_back instance bytes small is =
     ∙ ap (λ (l : List ℕ). from_be_bytes w64 l) (sym (top_bytes instance small))
     ∙ from_be_bytes-to_be_bytes_8 instance (omega arith)
 
--- what a read of the header says, and a size that is no device's
+-- what a read of the header tells, and a size that is no device's
 read_front : (buf : List ℕ) (device : List ℕ) → length buf ≡ 16 → buf ≡ take (length buf) (drop 0 device) → buf ≡ take 16 device
 read_front buf device size read = read ∙ ap (λ (n : ℕ). take n device) size
 

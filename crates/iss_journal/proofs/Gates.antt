@@ -73,7 +73,7 @@ gate_open region bodies body rest image is_body room ends =
           ∙ ap (λ (l : List ℕ). l ++ 0 ∷ rest) (sym (front-push region bodies body));
     }
 
--- a record after a gate that is neither open nor looked behind is left there
+-- a record after a gate that is not open is left there
 pub gate_shut : (region : Region) (bodies : List (List ℕ)) (body : List ℕ) (gate : ℕ) (rest image : List ℕ) → (gate ≡ 1 → ⊥) → IsBody body → length (bytes_before_gate region bodies) + length (append_bytes body) < region.to → EndsWith region bodies gate (append_bytes body ++ rest) image → LeavesBehind region bodies body image
 gate_shut region bodies body gate rest image shut is_body room ends =
     record {

@@ -28,7 +28,7 @@ length-spelled body = length-append (to_be_bytes w32 (length body)) body
 pub length-behind : (body : List ℕ) → length (append_bytes body) ≡ 5 + length body
 length-behind body = omega (arith, length-append (with_length body) (0 ∷ []), length-spelled body)
 
--- two bodies with whatever follows, where all of it is the same
+-- two bodies with whatever follows, if all of it is the same
 pub record SameSpelled (x y X Y : List ℕ) : Type 0 where
   pub body : x ≡ y
   pub rest : X ≡ Y

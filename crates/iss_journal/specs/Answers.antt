@@ -5,7 +5,7 @@ use Rattle.iss_journal.specs.declared.fault.JournalFault.{JournalFault}
 use Rattle.iss_journal.specs.declared.fault.JournalFault.TheVariants.{Disk, NotFormatted, BadRecord, Full, OutOfMemory}
 use Rattle.iss_journal.specs.Place.{Place, free_at}
 
--- no count of faults has fallen, and where the answer is a fault of the disk, the disk's count rose
+-- no count of faults has fallen, and if the answer is a fault of the disk, the disk's count rose
 pub record DiskCause {T : Type 0} (before now : Faults) (result : Result T JournalFault) : Type 0 where
   pub later : Later before now
   pub disk : IsErrOf result Disk → Rose before.disk now.disk
@@ -19,7 +19,7 @@ DiskAlone (Err (BadRecord place)) = ⊥
 DiskAlone (Err (Full free need)) = ⊥
 DiskAlone (Err OutOfMemory) = ⊥
 
--- Full exactly where what is to be written needs more than is free, with both numbers, else a fault of the disk alone
+-- Full exactly if what is to be written needs more than is free, with both numbers, else a fault of the disk alone
 abbrev pub FullByNeed : {T : Type 0} → Place → List ℕ → Result T JournalFault → Type 0
 FullByNeed place frame (Ok value) = length frame ≤ free_at place
 FullByNeed place frame (Err Disk) = length frame ≤ free_at place
@@ -29,7 +29,7 @@ FullByNeed place frame (Err NotFormatted) = ⊥
 FullByNeed place frame (Err (BadRecord at)) = ⊥
 FullByNeed place frame (Err OutOfMemory) = ⊥
 
--- where the answer is Full, this holds
+-- if the answer is Full, this holds
 abbrev pub OnFull : {T : Type 0} → Result T JournalFault → Type 0 → Type 0
 OnFull (Err (Full free need)) P = P
 OnFull (Err Disk) P = Unit {0}

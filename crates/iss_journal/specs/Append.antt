@@ -3,6 +3,7 @@ use Rattle.std.specs.Prelude.{◌≡◌, ℕ, ◌+◌, List, [], ◌∷◌, ◌+
 use Rattle.iss_edge.specs.World.{World}
 use Rattle.iss_edge.specs.Puts.{Put, one_put, actions_of_puts, Puts, PutsPart}
 use Rattle.iss_edge.specs.Stretches.{Step, actions_of, IsGood, GoesOn}
+use Rattle.iss_journal.specs.declared.layout.TheConstants.{GATE}
 use Rattle.iss_journal.specs.Place.{Place}
 use Rattle.iss_journal.specs.Region.{Region, IsBody, bytes_before_gate, append_bytes, RestsFirst, StandsFirst}
 
@@ -15,9 +16,9 @@ pub record ComesNext (region : Region) (bodies : List (List ℕ)) (j : ℕ) (bod
 
 -- first the frame after the gate, and then the open gate
 unfoldable pub append_puts : ℕ → List ℕ → List Put
-append_puts gate frame = one_put (gate + 1) frame ++ one_put gate (1 ∷ [])
+append_puts gate frame = one_put (gate + GATE) frame ++ one_put gate (1 ∷ [])
 
--- These puts were made, or a prefix of their actions, and that is good from j records to one more, where the journal holds j and the
+-- These puts were made, or a prefix of their actions, and that is good from j records to one more, if the journal holds j and the
 -- frame is that of the next one: each image of each moment shows the old records, maybe with the new one left behind, or also the new one.
 pub record AppendsGood (place : Place) (frame : List ℕ) (a b : World) : Type 0 where
   pub part : PutsPart (append_puts place.gate frame) a b

@@ -9,6 +9,7 @@ use Rattle.iss_edge.specs.Puts.{one_put, PutsPart}
 use Rattle.iss_edge.specs.Stretches.{Step, actions_of, IsGood, GoesOn}
 use Rattle.iss_journal.specs.declared.fault.JournalFault.{JournalFault}
 use Rattle.iss_journal.specs.declared.fault.JournalFault.TheVariants.{Disk, NotFormatted, BadRecord, Full, OutOfMemory}
+use Rattle.iss_journal.specs.declared.layout.TheConstants.{GATE, LENGTH, HEAD, LONGEST_BODY}
 use Rattle.iss_journal.specs.Place.{Place}
 use Rattle.iss_journal.specs.Region.{Region, IsBody, with_length, need_of, bytes_before_gate, Shows, ShowsClosed, LeavesBehind, ShowsFirmly, RestsFirst}
 
@@ -22,15 +23,15 @@ pub record RecordAt (place : Place) (body device : List ℕ) : Type 0 where
 pub record WrongLength (place : Place) (device : List ℕ) : Type 0 where
   pub n : ℕ
   pub small : n < 2 ^ 32
-  pub there : take 4 (drop (place.gate + 1) device) ≡ to_be_bytes w32 n
-  pub wrong : (n ≡ 0) ⊎ (8192 < n) ⊎ (place.to ≤ place.gate + 5 + n)
+  pub there : take LENGTH (drop (place.gate + GATE) device) ≡ to_be_bytes w32 n
+  pub wrong : (n ≡ 0) ⊎ (LONGEST_BODY < n) ⊎ (place.to ≤ place.gate + HEAD + n)
 
 -- the gate is open, and the region ends before a record could, or the length there is wrong
 pub record BadAt (place : Place) (device : List ℕ) : Type 0 where
   pub open_gate : slice_index device place.gate ≡ 1
-  pub why : (place.to ≤ place.gate + 5) ⊎ WrongLength place device
+  pub why : (place.to ≤ place.gate + HEAD) ⊎ WrongLength place device
 
--- the next record's body, nothing exactly at a gate that is not open, or a bad record exactly where its length is wrong
+-- the next record's body, nothing exactly at a gate that is not open, or a bad record exactly if its length is wrong
 abbrev pub Finds : Place → Result (Option (List ℕ)) JournalFault → World → World → Type 0
 Finds place (Ok None) a b = slice_index a.device place.gate ≡ 1 → ⊥
 Finds place (Ok (Some body)) a b = RecordAt place body a.device
@@ -63,8 +64,8 @@ pub record WasLeft (region : Region) (bodies : List (List ℕ)) (body start : Li
   pub left : LeavesBehind region bodies body start
   pub other : slice_index start (length (bytes_before_gate region bodies)) ≡ 0 → ⊥
 
--- What a stop may leave within an opening: the first i of these records with an end gate of 0, or with the record left behind that was so
--- at the start, after an end gate other than 0, or also that one.
+-- What a stop may leave within an opening: the first i of these records with an end gate of 0, or with a record left behind if it was left
+-- there at the start, after an end gate other than 0, or also that one.
 abbrev pub OpenedOrOneMore : Region → List (List ℕ) → List ℕ → List ℕ → ℕ → Type 0
 OpenedOrOneMore region bodies start image i =
     ShowsClosed region (take i bodies) image
@@ -76,7 +77,7 @@ pub record IsEndGate (region : Region) (bodies : List (List ℕ)) (place : Place
   pub here : length (bytes_before_gate region bodies) ≡ place.gate
   pub to : region.to ≡ place.to
 
--- The end gate was made 0, or a part of that was done, or nothing, and that is good where the end gate of the first j records stands
+-- The end gate was made 0, or a part of that was done, or nothing, and that is good if the end gate of the first j records stands
 -- at this place: each image of each moment shows them, with nothing left behind or what was, or also the record that was left behind.
 pub record ClosesGood (place : Place) (a b : World) : Type 0 where
   pub part : PutsPart (one_put place.gate (0 ∷ [])) a b
@@ -100,10 +101,10 @@ pub record ReadsGate (at gate : ℕ) (a b : World) : Type 0 where
   pub there : slice_index a.device at ≡ gate
   pub same : Same a b
 
--- This gate stands at this place, and after it this length in four bytes, or 0 where the region ends before a record could. Nothing
+-- This gate stands at this place, and after it this length in four bytes, or 0 if the region ends before a record could. Nothing
 -- of what is told has changed.
 pub record ReadsHead (place : Place) (gate n : ℕ) (a b : World) : Type 0 where
   pub there : slice_index a.device place.gate ≡ gate
   pub small : n < 2 ^ 32
-  pub length_there : ((place.to ≤ place.gate + 5) × (n ≡ 0)) ⊎ (take 4 (drop (place.gate + 1) a.device) ≡ to_be_bytes w32 n)
+  pub length_there : ((place.to ≤ place.gate + HEAD) × (n ≡ 0)) ⊎ (take LENGTH (drop (place.gate + GATE) a.device) ≡ to_be_bytes w32 n)
   pub same : Same a b

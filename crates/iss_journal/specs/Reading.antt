@@ -1,4 +1,4 @@
--- What a scan has read, and what a device shows once it has come to an end.
+-- What a scan has read, and what a device shows after it has come to an end.
 use Rattle.std.specs.Prelude.{◌≡◌, ℕ, ◌+◌, ◌<◌, ◌≤◌, List, [], ◌∷◌, ◌++◌, length, take, drop, slice_index}
 use Rattle.iss_journal.specs.Place.{Place}
 use Rattle.iss_journal.specs.Region.{Region, AreBodies, need_of, bytes_before_gate, Shows}

@@ -1,6 +1,7 @@
 -- A journal on a region of a device: records after gates, and what a device shows of them.
 use Rattle.std.specs.Prelude.{◌≡◌, ◌⊎◌, ℕ, ◌+◌, ◌<◌, ◌≤◌, List, [], ◌∷◌, ◌++◌, length, take, slice_set}
 use Rattle.std.specs.Int.{w32, to_be_bytes}
+use Rattle.iss_journal.specs.declared.layout.TheConstants.{HEAD, LONGEST_BODY}
 
 -- where a journal stands: the bytes below it, the place where its region ends, and the size of the device
 pub record Region : Type 0 where
@@ -11,7 +12,7 @@ pub record Region : Type 0 where
 -- a record's body has 1 to 8192 bytes
 pub record IsBody (body : List ℕ) : Type 0 where
   pub some : 1 ≤ length body
-  pub most : length body ≤ 8192
+  pub most : length body ≤ LONGEST_BODY
 
 -- each of these is a record's body
 abbrev pub AreBodies : List (List ℕ) → Type 0
@@ -28,7 +29,7 @@ append_bytes body = with_length body ++ 0 ∷ []
 
 -- how many bytes a record takes after the gate before it, with the closed gate that follows it
 abbrev pub need_of : List ℕ → ℕ
-need_of body = 5 + length body
+need_of body = HEAD + length body
 
 -- these records, each after an open gate
 abbrev pub frames : List (List ℕ) → List ℕ

@@ -13,7 +13,7 @@ pub enum JournalFault {
     Disk,
     /// The device's size or header is that of no formatted device.
     NotFormatted,
-    /// Behind the open gate at this place stands no record: the length there is 0, over 8192, or passes the region's end.
+    /// No record stands after the open gate at this place: the length there is 0, over 8192, or passes the region's end.
     BadRecord(u64),
     /// What is to be written needs more bytes than are free.
     Full { free: u64, need: u64 },

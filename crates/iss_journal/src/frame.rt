@@ -2,7 +2,9 @@
 
 ghost use Rattle.std.specs.Prelude.{◌≡◌, ◌≤◌, length, IfOk};
 ghost use Rattle.iss_journal.specs.Region.{append_bytes};
+ghost use Rattle.iss_journal.specs.declared.layout.TheConstants.{LONGEST_BODY};
 
+use crate::layout::HEAD;
 use std::alloc::{AllocError, Global};
 use std::marker::Model;
 
@@ -30,10 +32,10 @@ impl Frame {
     /// The frame of a body of 1 to 8192 bytes.
     pub fn of(alloc: Global, body: &[u8]) -> Result<Frame, AllocError>
         requires some { 1 ≤ length body.now }
-        requires most { length body.now ≤ 8192 }
+        requires most { length body.now ≤ LONGEST_BODY }
         ensures { IfOk result (λ frame. frame ≡ append_bytes body.now) }
     {
-        let mut bytes = Vec::with_capacity(alloc, body.len() + 5)?;
+        let mut bytes = Vec::with_capacity(alloc, body.len() + HEAD as usize)?;
         bytes.extend_from_slice(&(body.len() as u32).to_be_bytes())?;
         bytes.extend_from_slice(body)?;
         bytes.push(CLOSED)?;

@@ -1,8 +1,9 @@
 //! The journal's end, where a record is added.
 
-ghost use Rattle.std.specs.Prelude.{◌≡◌, ◌+◌, ◌<◌, ◌≤◌, ◌^◌, length, OnOk, IfOk, IsErrOf};
-ghost use Rattle.iss_edge.specs.World.{Told};
+ghost use Rattle.std.specs.Prelude.{◌≡◌, ◌+◌, ◌<◌, ◌≤◌, length, OnOk, IfOk, IsErrOf};
+ghost use Rattle.iss_edge.specs.World.{Told, Stays};
 ghost use Rattle.iss_edge.specs.Calls.{Same, HearsNothing};
+ghost use Rattle.iss_journal.specs.declared.layout.TheConstants.{INSTANCES};
 ghost use Rattle.iss_journal.specs.Place.{free_at};
 ghost use Rattle.iss_journal.specs.Answers.{DiskCause, DiskAlone, FullByNeed, OnFull};
 ghost use Rattle.iss_journal.specs.Append.{AppendsGood, AppendsGoing};
@@ -13,14 +14,9 @@ ghost use Rattle.iss_journal.specs.Formatting.{Formats, FormatsGood};
 use crate::JournalFault;
 use crate::frame::{CLOSED, Frame, OPEN};
 use crate::header::{instance_of, tail_of};
+use crate::layout::{GATE, GREATEST_SIZE, HEADER, LEAST_SIZE};
 use iss_edge::{Edge, put};
 use std::marker::Model;
-
-/// The fewest bytes that a device has: a header and an end gate.
-const LEAST: u64 = 17;
-
-/// The most bytes that a device has.
-const MOST: u64 = 1 << 32;
 
 /// A journal that can take more records: contracts see its end gate's place and the place where its region ends.
 #[derive(Debug, Drop)]
@@ -46,16 +42,16 @@ impl Journal {
     /// formatted, or one of this instance that stands for no records.
     #[tactic(auto, using(iss_edge::proofs::ToldPuts::hears_nothing))]
     pub fn format<E: Edge>(edge: &mut E, instance: u64) -> Result<(), JournalFault>
-        requires least { 17 ≤ E.extent edge.old }
-        requires most { E.extent edge.old ≤ 2 ^ 32 }
-        requires small { instance < 2 ^ 48 }
+        requires least { LEAST_SIZE ≤ E.extent edge.old }
+        requires most { E.extent edge.old ≤ GREATEST_SIZE }
+        requires small { instance < INSTANCES }
         ensures formatted { OnOk result (Told (Formats instance) (E.told edge.old) (E.told edge.new)) }
         ensures moments { Told (FormatsGood instance) (E.told edge.old) (E.told edge.new) }
         ensures alone { DiskAlone result }
         ensures cause { DiskCause (E.faults edge.old) (E.faults edge.new) result }
         ensures heard { Told HearsNothing (E.heard edge.old) (E.heard edge.new) }
-        ensures kept { E.extent edge.new ≡ E.extent edge.old }
-        ensures channels { E.channels edge.new ≡ E.channels edge.old }
+        ensures kept { Stays E.extent edge.old edge.new }
+        ensures channels { Stays E.channels edge.old edge.new }
     {
         let tail = tail_of(instance);
         put(edge, 0, &[CLOSED])?;
@@ -69,20 +65,20 @@ impl Journal {
     pub fn instance<E: Edge>(edge: &mut E) -> Result<u64, JournalFault>
         ensures read { Told (ReadsInstance result) (E.told edge.old) (E.told edge.new) }
         ensures same { Told Same (E.told edge.old) (E.told edge.new) }
-        ensures small { IfOk result (λ instance. instance < 2 ^ 48) }
+        ensures small { IfOk result (λ instance. instance < INSTANCES) }
         ensures size { IfOk result (λ instance. IsSize (E.extent edge.old)) }
         ensures no_size { (IsSize (E.extent edge.old) → ⊥) → IsErrOf result NotFormatted }
         ensures faults { DiskOrUnformatted result }
         ensures cause { DiskCause (E.faults edge.old) (E.faults edge.new) result }
         ensures heard { Told HearsNothing (E.heard edge.old) (E.heard edge.new) }
-        ensures kept { E.extent edge.new ≡ E.extent edge.old }
-        ensures channels { E.channels edge.new ≡ E.channels edge.old }
+        ensures kept { Stays E.extent edge.old edge.new }
+        ensures channels { Stays E.channels edge.old edge.new }
     {
         let size = edge.size();
-        if size < LEAST || MOST < size {
+        if size < LEAST_SIZE || GREATEST_SIZE < size {
             return Err(JournalFault::NotFormatted);
         }
-        let mut header = [0; 16];
+        let mut header = [0; HEADER];
         edge.read_at(0, &mut header)?;
         match instance_of(header) {
             Some(instance) => Ok(instance),
@@ -98,11 +94,11 @@ impl Journal {
         Journal { gate, to }
     }
 
-    /// How many bytes are left behind the end gate.
+    /// How many bytes are free after the end gate.
     pub fn free(&self) -> u64
         ensures { result ≡ free_at self.now }
     {
-        self.to - 1 - self.gate
+        self.to - GATE - self.gate
     }
 
     /// Adds the frame's record. It makes the frame last after the end gate, and then opens the gate, so that a stop at any
@@ -121,15 +117,15 @@ impl Journal {
             (Told (AppendsGoing self.old frame.now) (E.told edge.old) (E.told edge.new)) }
         ensures cause { DiskCause (E.faults edge.old) (E.faults edge.new) result }
         ensures heard { Told HearsNothing (E.heard edge.old) (E.heard edge.new) }
-        ensures kept { E.extent edge.new ≡ E.extent edge.old }
-        ensures channels { E.channels edge.new ≡ E.channels edge.old }
+        ensures kept { Stays E.extent edge.old edge.new }
+        ensures channels { Stays E.channels edge.old edge.new }
     {
         let free = self.free();
         let need = frame.as_slice().len() as u64;
         if free < need {
             return Err(JournalFault::Full { free, need });
         }
-        put(edge, self.gate + 1, frame.as_slice())?;
+        put(edge, self.gate + GATE, frame.as_slice())?;
         put(edge, self.gate, &[OPEN])?;
         self.gate += need;
         Ok(())

@@ -12,6 +12,7 @@ mod frame;
 mod header;
 mod journal;
 mod laws;
+pub mod layout;
 mod reads;
 mod scan;
 

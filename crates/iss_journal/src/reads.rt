@@ -2,17 +2,18 @@
 
 ghost use Rattle.std.specs.Prelude.{◌≡◌, ◌+◌, ◌^◌, ◌<◌, ◌≤◌, ◌∷◌, length, IfOk, OnErr};
 ghost use Rattle.std.specs.Int.{w32, to_be_bytes};
-ghost use Rattle.iss_edge.specs.World.{Told, HasCause};
+ghost use Rattle.iss_edge.specs.World.{Told, HasCause, Stays};
 ghost use Rattle.iss_edge.specs.Calls.{Same, Reads, HearsNothing};
 ghost use Rattle.iss_journal.specs.Answers.{DiskCause, DiskOrMemory};
 ghost use Rattle.iss_journal.specs.Opening.{ReadsGate, ReadsHead};
 
 use crate::JournalFault;
+use crate::layout::HEAD;
 use iss_edge::{Bytes, Edge, Failed};
 use std::alloc::Global;
 
-/// How many bytes stand before a record's body: a gate and a length.
-pub(crate) const HEAD: u64 = 5;
+/// How long a buffer for a gate and a length is.
+const HEAD_LEN: usize = HEAD as usize;
 
 /// A gate and the length after it.
 #[derive(Clone, Copy)]
@@ -29,15 +30,15 @@ pub(crate) fn read_gate<E: Edge>(edge: &mut E, at: u64) -> Result<u8, Failed>
     ensures unchanged { OnErr result (Told Same (E.told edge.old) (E.told edge.new)) }
     ensures cause { HasCause (λ f. f.disk) (E.faults edge.old) (E.faults edge.new) result }
     ensures heard { Told HearsNothing (E.heard edge.old) (E.heard edge.new) }
-    ensures kept { E.extent edge.new ≡ E.extent edge.old }
-    ensures channels { E.channels edge.new ≡ E.channels edge.old }
+    ensures kept { Stays E.extent edge.old edge.new }
+    ensures channels { Stays E.channels edge.old edge.new }
 {
     let mut buf = [0; 1];
     edge.read_at(at, &mut buf)?;
     Ok(buf[0])
 }
 
-/// The gate at this place and the length after it, or 0 where the region ends before a record could.
+/// The gate at this place and the length after it, or 0 if the region ends before a record could.
 #[tactic(auto, using(crate::proofs::Readings::reads_short, crate::proofs::Readings::reads_head))]
 pub(crate) fn read_head<E: Edge>(edge: &mut E, at: u64, to: u64) -> Result<Head, Failed>
     requires gate { at < to }
@@ -47,14 +48,14 @@ pub(crate) fn read_head<E: Edge>(edge: &mut E, at: u64, to: u64) -> Result<Head,
     ensures unchanged { OnErr result (Told Same (E.told edge.old) (E.told edge.new)) }
     ensures cause { HasCause (λ f. f.disk) (E.faults edge.old) (E.faults edge.new) result }
     ensures heard { Told HearsNothing (E.heard edge.old) (E.heard edge.new) }
-    ensures kept { E.extent edge.new ≡ E.extent edge.old }
-    ensures channels { E.channels edge.new ≡ E.channels edge.old }
+    ensures kept { Stays E.extent edge.old edge.new }
+    ensures channels { Stays E.channels edge.old edge.new }
 {
     if to - at <= HEAD {
         let gate = read_gate(edge, at)?;
         return Ok(Head { gate, length: 0 });
     }
-    let mut buf = [0; 5];
+    let mut buf = [0; HEAD_LEN];
     edge.read_at(at, &mut buf)?;
     Ok(head_of(buf))
 }
@@ -74,8 +75,8 @@ pub(crate) fn read_body<E: Edge>(
     ensures faults { DiskOrMemory result }
     ensures cause { DiskCause (E.faults edge.old) (E.faults edge.new) result }
     ensures heard { Told HearsNothing (E.heard edge.old) (E.heard edge.new) }
-    ensures kept { E.extent edge.new ≡ E.extent edge.old }
-    ensures channels { E.channels edge.new ≡ E.channels edge.old }
+    ensures kept { Stays E.extent edge.old edge.new }
+    ensures channels { Stays E.channels edge.old edge.new }
 {
     let mut body = vec![in alloc; 0; len]?;
     edge.read_at(at, body.as_mut_slice())?;
@@ -83,7 +84,7 @@ pub(crate) fn read_body<E: Edge>(
 }
 
 /// A gate and a length as five bytes spell them.
-fn head_of(bytes: [u8; 5]) -> Head
+fn head_of(bytes: [u8; HEAD_LEN]) -> Head
     ensures spelled { bytes ≡ result.gate ∷ to_be_bytes w32 result.length }
     ensures small { result.length < 2 ^ 32 }
 {

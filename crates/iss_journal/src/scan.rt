@@ -1,20 +1,18 @@
 //! Reading a journal from its first record to its end.
 
 ghost use Rattle.std.specs.Prelude.{◌≡◌, ◌↔◌, ◌+◌, ◌<◌, ◌≤◌, IsTrue, OnOk, OnErr, IfOk};
-ghost use Rattle.iss_edge.specs.World.{Told};
+ghost use Rattle.iss_edge.specs.World.{Told, Stays};
 ghost use Rattle.iss_edge.specs.Calls.{Same, Syncs, SyncsPart, HearsNothing};
 ghost use Rattle.iss_journal.specs.Answers.{DiskCause, DiskAlone};
 ghost use Rattle.iss_journal.specs.Opening.{Finds, MovesOn, ClosesGood, ClosesGoing};
 
 use crate::frame::{CLOSED, OPEN};
-use crate::reads::{HEAD, read_body, read_gate, read_head};
+use crate::layout::{HEAD, LONGEST_BODY};
+use crate::reads::{read_body, read_gate, read_head};
 use crate::{Journal, JournalFault};
 use iss_edge::{Bytes, Edge, put};
 use std::alloc::Global;
 use std::marker::Model;
-
-/// The most bytes that a body has.
-const MOST: u64 = 8192;
 
 /// A journal that is being read: contracts see the place of the next gate and the place where its region ends.
 #[derive(Debug, Drop)]
@@ -45,15 +43,15 @@ impl Scan {
         ensures alone { DiskAlone result }
         ensures cause { DiskCause (E.faults edge.old) (E.faults edge.new) result }
         ensures heard { Told HearsNothing (E.heard edge.old) (E.heard edge.new) }
-        ensures kept { E.extent edge.new ≡ E.extent edge.old }
-        ensures channels { E.channels edge.new ≡ E.channels edge.old }
+        ensures kept { Stays E.extent edge.old edge.new }
+        ensures channels { Stays E.channels edge.old edge.new }
     {
         edge.sync()?;
         Ok(Scan { gate: from, to })
     }
 
-    /// The next record's body, or `None` exactly at a gate that is not open. `BadRecord` names an open gate exactly where the
-    /// length after it is 0, over 8192, or passes the region's end. Where it does not give a body the scan is as before.
+    /// The next record's body, or `None` exactly at a gate that is not open. `BadRecord` names an open gate exactly if the
+    /// length after it is 0, over 8192, or passes the region's end. If it returns no body, the scan is as before.
     #[tactic(auto, using(crate::proofs::Scans::finds_no_disk, crate::proofs::Scans::finds_no_memory, crate::proofs::Scans::finds_shut, crate::proofs::Scans::finds_wrong, crate::proofs::Scans::finds_body, crate::proofs::Scans::head_same, crate::proofs::Scans::same_then_told, crate::proofs::Scans::body_same, iss_edge::proofs::ToldPuts::hears_nothing))]
     pub fn next<E: Edge>(
         &mut self,
@@ -68,8 +66,8 @@ impl Scan {
         ensures same { Told Same (E.told edge.old) (E.told edge.new) }
         ensures cause { DiskCause (E.faults edge.old) (E.faults edge.new) result }
         ensures heard { Told HearsNothing (E.heard edge.old) (E.heard edge.new) }
-        ensures kept { E.extent edge.new ≡ E.extent edge.old }
-        ensures channels { E.channels edge.new ≡ E.channels edge.old }
+        ensures kept { Stays E.extent edge.old edge.new }
+        ensures channels { Stays E.channels edge.old edge.new }
     {
         let head = read_head(edge, self.gate, self.to)?;
         if head.gate != OPEN {
@@ -83,7 +81,7 @@ impl Scan {
         Ok(Some(body))
     }
 
-    /// The journal, once `next` has answered `None`. Where the end gate is another than 0 it becomes 0, so that the record
+    /// The journal, once `next` has answered `None`. If the end gate isn't 0, it becomes 0, so that the record
     /// after it, if one was left there, never stands.
     #[tactic(auto, using(crate::proofs::Closings::close_shut, crate::proofs::Closings::close_shut_good, crate::proofs::Closings::close_part, crate::proofs::Closings::close_done, crate::proofs::Closings::close_done_good, crate::proofs::Closings::close_unread, iss_edge::proofs::ToldPuts::hears_nothing))]
     pub fn finish<E: Edge>(self, edge: &mut E) -> Result<Journal, JournalFault>
@@ -95,8 +93,8 @@ impl Scan {
         ensures alone { DiskAlone result }
         ensures cause { DiskCause (E.faults edge.old) (E.faults edge.new) result }
         ensures heard { Told HearsNothing (E.heard edge.old) (E.heard edge.new) }
-        ensures kept { E.extent edge.new ≡ E.extent edge.old }
-        ensures channels { E.channels edge.new ≡ E.channels edge.old }
+        ensures kept { Stays E.extent edge.old edge.new }
+        ensures channels { Stays E.channels edge.old edge.new }
     {
         let gate = read_gate(edge, self.gate)?;
         if gate == CLOSED {
@@ -107,10 +105,10 @@ impl Scan {
     }
 }
 
-/// Whether a body may have this length, where this many bytes are left from its gate on.
+/// Whether a body may have this length, if this many bytes are left from its gate on.
 fn is_length(length: u32, room: u64) -> bool
-    ensures { IsTrue result ↔ ((0 < length) × (length ≤ 8192) × (5 + length < room)) }
+    ensures { IsTrue result ↔ ((0 < length) × (length ≤ LONGEST_BODY) × (HEAD + length < room)) }
 {
     let length = u64::from(length);
-    0 < length && length <= MOST && HEAD + length < room
+    0 < length && length <= LONGEST_BODY && HEAD + length < room
 }

@@ -1,4 +1,4 @@
--- Each authorisation and increment of a legal list of records is approved exactly where it is to be: its rulings are those that the rules want, and it is decided once.
+-- Each authorisation and increment of a legal list of records is approved exactly if it is to be: its rulings are those that the rules want, and it is decided once.
 use Rattle.std.proofs.Common.{◌≡◌, ℕ, suc, ◌+◌, ◌≤◌, Bool, true, false, not, cond, ◌&&◌, ◌||◌, List, [], ◌∷◌, ◌++◌, length, filter, refl, sym, ap, ap₂, ◌∙◌, arith}
 use Rattle.std.specs.Prelude.{Option, Some, None, find, option_map, option_and_then}
 use Rattle.std.specs.List.{list_any, filter_map, cons_option}
@@ -89,7 +89,7 @@ row_decisions test event (row ∷ rows) = by row.entry ∙ ap (λ (b : Bool). de
     by (entry.Decided other v) = refl
     by _ = refl
 
--- a ruling, where there is one, approves
+-- a ruling, if there is one, approves
 abbrev option_approves : List ℕ → Option Ruling → Bool
 option_approves event o = is_some_with (approves event) o
 
@@ -182,7 +182,7 @@ or_false : (b : Bool) → (b || false) ≡ b
 or_false true = refl
 or_false false = refl
 
--- the ask of an event, where there is one
+-- the ask of an event, if there is one
 abbrev IsOf : List ℕ → Option Ask → Type 0
 IsOf token ask = (x : Ask) → ask ≡ Some x → x.event ≡ token
 
@@ -196,7 +196,7 @@ ask_other event token f None None its h = refl
 ask_other event token f None (Some x) its h =
     ap (λ (b : Bool). b || false) (funding_other event f x (ap (λ (t : List ℕ). bytes_eq t event) (its x refl) ∙ h))
 
--- an ask's rulings approve its event exactly where no reason held and it is paid at once
+-- an ask's rulings approve its event exactly if no reason held and it is paid at once
 ask_own : (token : List ℕ) (f : Facts) (ask : Option Ask) → IsOf token ask → list_any (approves token) (ask_rulings f token None ask) ≡ is_some_with (is_paid_at_once f) ask
 ask_own token f None its = refl
 ask_own token f (Some x) its =
@@ -223,7 +223,7 @@ own_other event i at f h = event_other event (event_token i) (event_reason i at 
 abbrev decision_approves : List ℕ → Decision → Bool
 decision_approves event d = bytes_eq d.event event && is_approval d.verdict
 
--- an event that isn't decided gets no verdict, whatever its test
+-- an event that isn't decided has no verdict, whatever its test
 none_decided : (test : Verdict → Bool) (event : List ℕ) (ds : List Decision) → decided_times ds event ≡ 0 → list_any (λ d. bytes_eq d.event event && test d.verdict) ds ≡ false
 none_decided test event [] h = refl
 none_decided test event (d ∷ ds) h = by (bytes_eq d.event event) (none_decided test event ds) h

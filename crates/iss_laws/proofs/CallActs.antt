@@ -29,7 +29,7 @@ use Rattle.iss_laws.specs.CallEntries.{closes_void, is_call, is_void_method, may
 use Rattle.iss_laws.specs.Pairs.{is_gateway}
 use Rattle.iss_laws.proofs.CallCounting.{among_append}
 
--- as many void notices of a call as closings that want one, and a notice names a call exactly where it is void
+-- as many void notices of a call as closings that want one, and a notice names a call exactly if it is void
 pub record Voids (n : ℕ) (es : List Entry) : Type 0 where
   pub voided : times_among (voids n) es ≡ times_among (closes_void n) es
   pub told : list_all names_what_it_voids es ≡ true

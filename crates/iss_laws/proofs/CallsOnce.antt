@@ -38,7 +38,7 @@ use Rattle.iss_laws.proofs.Rows.{entries_of_next, next_number, next_rows, next_t
 
 -- over all records ----
 
--- each row is told so
+-- each row that names a call voids it
 abbrev are_told : List Row → Bool
 are_told rows = list_all (λ row. names_what_it_voids row.entry) rows
 
@@ -156,7 +156,7 @@ void_alike n (entry.Closed call how) hows closed voided few less rest = by (nat_
     by false b e few = none_more voided _ (rest (few_more closed few))
 void_alike n _ hows closed voided few less rest = none_more voided _ (rest (few_more closed few))
 
--- where a number is closed once at most, it is closed as void as its first closing says
+-- if a number is closed once at most, it is closed as void as its first closing says
 void_times : (n : ℕ) (rows : List Row) → times (closes n) rows ≤ 1 → times (closes_void n) rows ≡ one_of (is_void (how_closed n rows))
 void_times n [] few = refl
 void_times n (row ∷ rows) few =
@@ -220,7 +220,7 @@ all_from : {A : Type 0} (q : A → Bool) (xs : List A) → Each (λ x. q x ≡ t
 all_from q [] h = refl
 all_from q (x ∷ xs) h = both_so (q x) (list_all q xs) h.0 (all_from q xs h.1)
 
--- a call as it stands in rows: how it was closed they say
+-- a call as it stands in rows: they hold how it was closed
 record IsNow (rows : List Row) (calls : List CallNow) (c : CallNow) : Type 0 where
   stands : call_numbered c.opened.call.0 calls ≡ Some c
   closed : how_closed c.opened.call.0 rows ≡ c.how

@@ -62,7 +62,7 @@ accepted_first a more event e =
     ap (λ (o : Option (List ℕ)). is_some (cond (is_text event o) (Some a) (find (λ (a : Accepted). is_event event a.input) more))) e
     ∙ ap (λ (b : Bool). is_some (cond b (Some a) (find (λ (a : Accepted). is_event event a.input) more))) (its_name event)
 
--- where the sums are right for all that was accepted, the law holds of each
+-- if the sums are right for all that was accepted, the law holds of each
 all_decided : (h : History) (full : List Accepted)
     → ((event : List ℕ) → is_accepted full event ≡ true → times (decides event) h.rows + calls_asked_for (history_facts h) event ≡ 1)
     → (more : List Accepted) → ((event : List ℕ) → is_accepted more event ≡ true → is_accepted full event ≡ true)

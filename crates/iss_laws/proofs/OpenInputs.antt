@@ -170,7 +170,7 @@ module _ (k : Counting) (counting : IsCounting k) (last : ℕ) (by : Cause) (at 
       same : (n : ℕ) → pos n ≤ℤ (pos n +ℤ neg_ℤ (pos 0))
       same n = omega (arith, ints)
 
-  -- what a call may open is freed where it is closed, and opened by what settles its ask
+  -- what a call may open is freed if it is closed, and opened by what settles its ask
   closed : (o : Opened) (t : Txn) (w : How) → IsAskedCall (core_facts s) o t → Within k s (entry.Closed o.call w ∷ []) (neg_ℤ (pos (opens k (call_ask o t))))
   closed o t w asked =
       of_asked (λ o t. Within k s (entry.Closed o.call w ∷ []) (neg_ℤ (pos (opens k (call_ask o t))))) asked
@@ -185,7 +185,7 @@ module _ (k : Counting) (counting : IsCounting k) (last : ℕ) (by : Cause) (at 
       even : (n : ℕ) → (neg_ℤ (pos n) +ℤ pos n) ≤ℤ pos 0
       even n = omega (arith, ints)
 
-  -- the stamp of an ask counts where its transaction's does
+  -- the stamp of an ask counts if its transaction's does
   first_counts : (ask : Ask) → IsFirstAsk (core_facts s) by at ask → k.counts_at ask.txn ask.txn.at ≡ true → k.counts_at ask.txn ask.at ≡ true
   first_counts ask first counts =
       let f : Facts = core_facts s in

@@ -41,7 +41,7 @@ use Rattle.iss_laws.proofs.OpenUse.{Counting, IsCounting, Knows, Pays, Within, b
 pub post_free : (t : Txn) (from to : Account) (n : ℕ) → EachPasses is_free (post_entries t from to n)
 post_free t from to n = where_passes n (one_passes refl)
 
--- a transaction is known where the docket is the same
+-- a transaction is known if the docket is the same
 pub knows_after : (s : CoreState) (es : List Entry) (t : Txn) → (fold after_entry s es).holdings.txns ≡ s.holdings.txns → Knows s.holdings.txns t → Knows (fold after_entry s es).holdings.txns t
 knows_after s es t same knows = subst (λ (txns : List TxnNow). Knows txns t) (sym same) knows
 
@@ -212,7 +212,7 @@ later_asked n how calls m (c ∷ cs) less grow asked = (
     further : (a n b : ℕ) → a + 1 ≤ n → n ≤ b → a + 1 ≤ b + 1
     further a n b h k = omega (arith, h, k)
 
--- what is given back with a call or an ask is what it may open
+-- what is returned with a call or an ask is what it may open
 given_back : (c y m f : Bool) (n : ℕ) → neg_ℤ (cond c (cond m (neg_ℤ (pos n)) (neg_ℤ (cond f (pos 1) (pos 0)))) (pos 0)) ≤ℤ pos (cond (c || y) (cond m n (cond f 1 0)) 0)
 given_back true y true f n = omega (arith, ints)
 given_back true y false true n = omega (arith, ints)
@@ -310,7 +310,7 @@ none_first n = omega (arith, ints)
 none_last : (n : ℕ) → (pos n +ℤ pos 0) ≤ℤ pos n
 none_last n = omega (arith, ints)
 
--- free entries before, and behind
+-- free entries before, and after
 pub free_first : (k : Counting) → IsCounting k → (s : CoreState) (xs ys : List Entry) (n : ℕ) → EachPasses is_free xs → Within k (fold after_entry s xs) ys (pos n) → Within k s (xs ++ ys) (pos n)
 free_first k counting s xs ys n free h = weaker k s (xs ++ ys) (pos 0 +ℤ pos n) (pos n) (none_first n) (both_within k s xs ys (pos 0) (pos n) (free_pays k counting s xs free) h)
 
@@ -343,7 +343,7 @@ asked_again product f ask = ap (λ (b : Bool). record { event = ask.event; txn =
     by true = refl
     by false = refl
 
--- use is counted with an ask, where its stamp counts if its transaction's does
+-- use is counted with an ask, if its stamp counts whenever its transaction's does
 asked_enough : (x y m f : Bool) (n : ℕ) → (y ≡ true → x ≡ true) → (neg_ℤ (cond x (cond m (pos n) (cond f (pos 1) (pos 0))) (pos 0)) +ℤ pos (cond (x || y) (cond m n (cond f 1 0)) 0)) ≤ℤ pos 0
 asked_enough true y true f n h = omega (arith, ints)
 asked_enough true y false true n h = omega (arith, ints)

@@ -53,7 +53,7 @@ abbrev pub is_usage : Entry → Bool
 is_usage (entry.Usage row) = true
 is_usage _ = false
 
--- use of a transaction changes the sum where its stamp counts, and nothing else does
+-- use of a transaction changes the sum if its stamp counts, and nothing else does
 pub record IsCounting (k : Counting) : Type 0 where
   pub use_ : (t : Txn) (amount count : ℤ) (at : ℕ) → changed_at k.key (k.changes (entry.Usage (usage_of t amount count at))) ≡ cond (k.counts_at t at) (cond k.by_amount amount count) (pos 0)
   pub others : (e : Entry) → is_usage e ≡ false → changed_at k.key (k.changes e) ≡ pos 0
@@ -69,11 +69,11 @@ weight k o = cond k.by_amount o.amount (cond (is_authorization o.method) 1 0)
 abbrev pub ask_weight : Counting → Ask → ℕ
 ask_weight k ask = cond k.by_amount ask.amount (cond ask.is_first 1 0)
 
--- what a transaction holds counts where its own stamp does, and amounts are counted
+-- what a transaction holds counts if its own stamp does, and amounts are counted
 abbrev pub holds_there : Counting → Txn → Bool
 holds_there k t = k.by_amount && k.counts_at t t.at
 
--- what is asked at a stamp counts where the stamp or the transaction's own does
+-- what is asked at a stamp counts if the stamp or the transaction's own does
 abbrev pub reaches : Counting → Txn → ℕ → Bool
 reaches k t at = k.counts_at t at || k.counts_at t t.at
 
@@ -128,7 +128,7 @@ held_other k parts token p x (t ∷ ts) e =
     (whole_same parts token p x t.txn.token (name-sym token t.txn.token ∙ both.0)))
     (held_other k parts token p x ts both.1)
 
--- what a hold changes of a sum where the one of its token is first, by what it changes there
+-- what a hold changes of a sum if the one of its token is first, by what it changes there
 more_there : (b : Bool) (a c n x : ℕ) → a ≤ c + n → cond b a 0 + x ≤ (cond b c 0 + x) + cond b n 0
 more_there true a c n x h = omega (arith, h)
 more_there false a c n x h = omega arith
@@ -306,7 +306,7 @@ calls_ended k token txns (c ∷ cs) =
 
 -- entries within a budget ----
 
--- entries open no more than the use that they count, and so much
+-- what entries open is no more than the use that they count and this amount more
 pub record Within (k : Counting) (s : CoreState) (es : List Entry) (more : ℤ) : Type 0 where
   pub le : pos (open_use k (fold after_entry s es)) ≤ℤ ((pos (open_use k s) +ℤ more) +ℤ used k es)
 

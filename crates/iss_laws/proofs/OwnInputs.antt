@@ -57,7 +57,7 @@ use Rattle.iss_laws.proofs.OwnPieces.{Adds, AddsSame, AreOfFunding, amount_where
 abbrev pub funding_of : List TxnNow → List ℕ → Option Funding
 funding_of txns token = option_map (λ t. t.txn.funding) (txn_named token txns)
 
--- a test of tokens says of each transaction that stands whether the user's own balance pays it
+-- a test of tokens tells of each transaction that stands whether the user's own balance pays it
 pub record Agrees (own : List ℕ → Bool) (txns : List TxnNow) : Type 0 where
   pub at : (token : List ℕ) (f : Funding) → funding_of txns token ≡ Some f → own token ≡ is_account_funded f
 
@@ -86,7 +86,7 @@ entries_funding : (s : CoreState) (es : List Entry) (token : List ℕ) (f : Fund
 entries_funding s [] token f e = e
 entries_funding s (e ∷ es) token f h = entries_funding (after_entry s e) es token f (entry_funding s e token f h)
 
--- what agrees behind entries agrees before them
+-- what agrees after entries agrees before them
 pub agrees_before : (own : List ℕ → Bool) (s : CoreState) (es : List Entry) → Agrees own (fold after_entry s es).holdings.txns → Agrees own s.holdings.txns
 agrees_before own s es h = record { at = λ token f e. h.at token f (entries_funding s es token f e) }
 
@@ -97,7 +97,7 @@ its_funding s t its =
     (ap (funding_of s.holdings.txns) (its_token s.holdings.txns its.token its.now its.stands) ∙ ap (option_map (λ (t : TxnNow). t.txn.funding)) its.stands)
 
 module _ (own : List ℕ → Bool) (key : List ℕ) where
-  -- and what it holds is such as its funding gives
+  -- and what it holds is such as its funding makes it
   parts_of_funding : (s : CoreState) (t : Txn) → IsHeldWell s → IsTxnOf (core_facts s) t → own t.token ≡ is_account_funded t.funding → AreOfFunding own key t (parts_held (core_facts s) t)
   parts_of_funding s t held of_facts its =
       record {

@@ -29,7 +29,7 @@ balance_by key es = sum_among balance_changes (4 ∷ key) es
 abbrev pub owned_by : (List ℕ → Bool) → List ℕ → List Entry → ℤ
 owned_by own key es = sum_among (own_changes own) key es
 
--- entries add so much to both
+-- entries add these amounts to both
 pub record Adds (own : List ℕ → Bool) (key : List ℕ) (es : List Entry) (balance owned : ℤ) : Type 0 where
   pub to_balance : balance_by key es ≡ balance
   pub to_owned : owned_by own key es ≡ owned
@@ -95,7 +95,7 @@ either_same false h k = k
 
 -- posts and holds of a transaction ----
 
--- an amount where a test holds
+-- an amount if a test holds
 abbrev pub amount_where : Bool → ℤ → ℤ
 amount_where b z = cond b z (pos 0)
 
@@ -128,7 +128,7 @@ module _ (own : List ℕ → Bool) (key : List ℕ) (t : Txn) where
   before_none : (z : ℤ) → (z +ℤ (pos 0 +ℤ pos 0)) +ℤ pos 0 ≡ z
   before_none z = omega (arith, ints)
 
-  -- what where_own gives, at the key
+  -- what where_own returns, at the key
   owned_where : (a b : Bool) (z : ℤ) → bytes_eq (user_key t.user t.currency) key ≡ b
       → changed_at key (cond a (record { key = user_key t.user t.currency; by = z } ∷ []) []) +ℤ pos 0 ≡ amount_where a (amount_where b z)
   owned_where true b z e = ap (λ (b : Bool). (cond b z (pos 0) +ℤ pos 0) +ℤ pos 0) e ∙ alone (cond b z (pos 0))
@@ -191,7 +191,7 @@ module _ (own : List ℕ → Bool) (key : List ℕ) (t : Txn) where
 
   -- pieces ----
 
-  -- parts are such as the funding gives
+  -- parts are such as the funding makes them
   pub record AreOfFunding (x : Parts) : Type 0 where
     pub own_alone : own t.token ≡ true → x.g + x.p ≡ 0
     pub others : own t.token ≡ false → x.s ≡ 0

@@ -103,7 +103,7 @@ pub entries_payable : (s : CoreState) (es : List Entry) → AllPayable s es → 
 entries_payable s [] needs h = h
 entries_payable s (e ∷ es) needs h = entries_payable (after_entry s e) es needs.1 (entry_payable s e needs.0 h)
 
--- where no call is opened, nothing is needed
+-- if no call is opened, nothing is needed
 pub none_needed : (s : CoreState) (es : List Entry) → list_all opens_none es ≡ true → AllPayable s es
 none_needed s [] h = tt
 none_needed s (entry.Opened o ∷ es) h = cc

@@ -258,7 +258,7 @@ key_end user (negsuc n) =
 squeezed : (x y z : ℤ) → x ≤ℤ y → y ≤ℤ z → x ≡ z → y ≡ x
 squeezed x y z h k e = omega (arith, ints, h, k, e)
 
--- where a stamp lies in the window of the last moment, those between do too
+-- if a stamp lies in the window of the last moment, those between do too
 window_stays : (w : Window) (offset : ℤ) (one other : List ℕ) (a b last : ℕ) → a ≤ b → b ≤ last → bytes_eq (window_key w offset one a) (window_key w offset other last) ≡ true
     → bytes_eq (window_key w offset one b) (window_key w offset other last) ≡ true
 window_stays w offset one other a b last h k e =

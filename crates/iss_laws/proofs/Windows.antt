@@ -119,7 +119,7 @@ all_counted p (x ∷ xs) = by (p x) (all_counted p xs)
 at_most_twelve : (year place : ℕ) → month_in_year year place ≤ 12
 at_most_twelve year place = all_counted (λ start. nat_le start place) (month_starts (cond (is_leap_year year) 1 0))
 
--- the list behind its first element
+-- the list after its first element
 abbrev drop_first : List ℕ → List ℕ
 drop_first [] = []
 drop_first (x ∷ xs) = xs

@@ -1,4 +1,4 @@
--- An authorisation or increment is approved exactly where the rules gave no reason, and the user's own balance pays, its call was funded,
+-- An authorisation or increment is approved exactly if the rules gave no reason, and the user's own balance pays, its call was funded,
 -- or a set stood in.
 use Rattle.std.specs.Prelude.{ℕ, ◌+◌, Bool, true, false, not, ◌&&◌, ◌||◌, List, [], ◌∷◌, ◌++◌, length, Option, Some, None, if◌then◌else◌}
 use Rattle.std.specs.Str.{bytes_eq}
@@ -52,7 +52,7 @@ abbrev pub is_paid_at_once : Facts → Ask → Bool
 is_paid_at_once f ask =
     is_account_funded ask.txn.funding || is_named_in f.switched ask.txn.product && stands_in (stand f ask failure.Switch ask.at)
 
--- a call that a record closes so is paid: the record is the answer that funds it, or it failed and a set stands in
+-- a call that a record closes in this way is paid: the record is the answer that funds it, or it failed and a set stands in
 abbrev pub is_paid_closing : Record → Facts → Opened → Txn → How → Bool
 is_paid_closing r f o t how.Funded = is_answer o.call.0 outcome.Funded r.input
 is_paid_closing r f o t how.Refused = false
@@ -83,7 +83,7 @@ abbrev pub facts_at_turn : List Record → Record → List Row → Facts
 facts_at_turn before r rows =
     history_facts (after_due history_keeper (history_keeper.take_up (book_after before rows) r) r.at).world
 
--- An ask is to be approved where no reason held, and it is paid at once or its call is.
+-- An ask is to be approved if no reason held, and it is paid at once or its call is.
 abbrev pub is_to_be_approved : Facts → Option Reason → Option Ask → Bool → Bool
 is_to_be_approved f (Some why) ask call_is_paid = false
 is_to_be_approved f None ask call_is_paid = is_some_with (is_paid_at_once f) ask || call_is_paid
@@ -92,8 +92,8 @@ is_to_be_approved f None ask call_is_paid = is_some_with (is_paid_at_once f) ask
 abbrev pub agree : Bool → Bool → Bool
 agree a b = if a then b else not b
 
--- the event of a record that comes after the first ones and before the rest, where it is an authorisation or increment, is approved
--- exactly where it is to be
+-- the event of a record that comes after the first ones and before the rest, if it is an authorisation or increment, is approved
+-- exactly if it is to be
 abbrev pub is_approved_rightly : History → List Record → Record → List Record → Input → Bool
 is_approved_rightly h before r rs (input.Authorization token card currency amount mcc mid) =
     let f = facts_at_turn before r h.rows in
@@ -107,12 +107,12 @@ is_approved_rightly h before r rs (input.Increment token txn currency amount) =
     (is_to_be_approved f (increment_reason f (txn_in f txn) currency ask) ask (records_pay_for token before (r ∷ rs) h.rows))
 is_approved_rightly h before r rs _ = true
 
--- so is each of them
+-- each of them is like that
 abbrev pub are_approved_rightly : History → List Record → List Record → Bool
 are_approved_rightly h before [] = true
 are_approved_rightly h before (r ∷ rs) =
     is_approved_rightly h before r rs r.input && are_approved_rightly h (before ++ r ∷ []) rs
 
--- each authorisation and increment of the book is approved exactly where it is to be
+-- each authorisation and increment of the book is approved exactly if it is to be
 abbrev pub approved_rightly : History → Bool
 approved_rightly h = are_approved_rightly h [] h.records

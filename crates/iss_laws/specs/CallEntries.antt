@@ -75,7 +75,7 @@ abbrev pub names_call : ℕ → Entry → Bool
 names_call number (entry.Notice notice) = is_call number notice.call
 names_call number _ = false
 
--- a notice names a call exactly where its method is void
+-- a notice names a call exactly if its method is void
 abbrev pub names_what_it_voids : Entry → Bool
 names_what_it_voids (entry.Notice notice) = if is_void_method notice.method then is_some notice.call else is_none notice.call
 names_what_it_voids _ = true

@@ -1,4 +1,4 @@
--- Each call to the gateway is opened once and closed at most once. It has one notice of the method void exactly where it failed or was
+-- Each call to the gateway is opened once and closed at most once. It has one notice of the method void exactly if it failed or was
 -- abandoned, and no other notice names it; nothing closes or names a call that wasn't opened, and a void notice names one. Each funded
 -- closing has a post of its own, the first after it and in its record, of the call's amount from the gateway to its user; and no other post
 -- comes from the gateway.
@@ -24,7 +24,7 @@ is_funded how.Refused = false
 is_funded (how.Failed why) = false
 is_funded how.Abandoned = false
 
--- 1 where a test holds, and 0 elsewhere
+-- 1 if a test holds, and else 0
 abbrev pub one_where : Bool → ℕ
 one_where b = if b then 1 else 0
 

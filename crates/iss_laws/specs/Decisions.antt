@@ -3,8 +3,8 @@
 -- A record's own event is ruled by `own_rulings`: it is declined with the first reason that holds (`event_reason`) on the book at
 -- the record's stamp, what is due being settled. Without one it is done, or the user's own balance pays and it is approved, or the gateway
 -- is asked, or, while the product's switch is on, the sets decide. The event of a call that a record closes is decided in that record
--- (`closing_verdict`): approved where the call was funded, declined as the gateway's where it was refused, as the sets stand where it
--- failed, and with what ended or reversed its transaction where it was abandoned. Nothing else is decided, and nobody else is asked.
+-- (`closing_verdict`): approved if the call was funded, declined as the gateway's if it was refused, as the sets stand if it
+-- failed, and with what ended or reversed its transaction if it was abandoned. Nothing else is decided, and nobody else is asked.
 use Rattle.std.specs.Prelude.{◌≡◌, ℕ, ◌+◌, ◌==◌, nat_le, List, [], ◌∷◌, ◌++◌, length, map, filter}
 use Rattle.iss_model.specs.declared.entry.Entry.{Entry}
 use Rattle.iss_model.specs.declared.entry.Row.{Row}

@@ -12,3 +12,4 @@ pub mod CallEntries
 pub mod Pairs
 pub mod Payable
 pub mod Rulings
+pub mod StepCalls

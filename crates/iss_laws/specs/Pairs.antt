@@ -27,7 +27,7 @@ pays o from to amount txn =
     && amount == o.amount
     && is_text o.txn txn
 
--- a post pays this call, where there is one
+-- a post pays this call, if there is one
 abbrev pub pays_call : Option CallNow → Account → Account → ℕ → Option (List ℕ) → Bool
 pays_call None from to amount txn = false
 pays_call (Some c) from to amount txn = pays c.opened from to amount txn

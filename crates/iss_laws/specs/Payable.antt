@@ -5,7 +5,7 @@ use Rattle.iss_model.specs.rules.Activity.{CallNow, TxnNow, call_numbered, is_as
 use Rattle.iss_model.specs.rules.Reasons.{is_some_with}
 use Rattle.iss_model.specs.state.Cores.{CoreState}
 
--- 1 where a call of this number is asked, and 0 elsewhere
+-- 1 if a call of this number is asked, and else 0
 abbrev pub asked_at : List CallNow → ℕ → ℕ
 asked_at calls number = if is_some_with is_asked (call_numbered number calls) then 1 else 0
 
@@ -17,7 +17,7 @@ pub record IsPayable (txns : List TxnNow) (o : Opened) : Type 0 where
   pub of_currency : its.txn.currency ≡ o.currency
   pub asks : (o.amount == 0) ≡ false
 
--- each call of a state is so
+-- each call of a state is like that
 abbrev pub ArePayable : CoreState → Type 0
 ArePayable s = (n : ℕ) (c : CallNow) → call_numbered n s.calls ≡ Some c → IsPayable s.holdings.txns c.opened
 

@@ -1,6 +1,6 @@
 -- What a record rules: it decides events, or asks the gateway about one. What the rules have it rule: of each event whose call it closes,
 -- and then of its own.
-use Rattle.std.specs.Prelude.{ℕ, Bool, false, ◌&&◌, ◌==◌, nat_le, List, [], ◌∷◌, ◌++◌, Option, Some, None, option_map, option_and_then, if◌then◌else◌}
+use Rattle.std.specs.Prelude.{◌≡◌, ℕ, Bool, false, ◌&&◌, ◌==◌, nat_le, List, [], ◌∷◌, ◌++◌, Option, Some, None, option_map, option_and_then, if◌then◌else◌}
 use Rattle.std.specs.List.{filter_map, cons_option}
 use Rattle.std.specs.Str.{bytes_eq}
 use Rattle.iss_model.specs.declared.call.Failure.{Failure}
@@ -24,12 +24,13 @@ use Rattle.iss_model.specs.Inputs.{event_token, outcome_number}
 use Rattle.iss_model.specs.rules.Asks.{Ask, call_ask}
 use Rattle.iss_model.specs.rules.CardReasons.{is_account_funded, authorization_reason, increment_reason, reversal_reason, clearing_reason, refund_reason}
 use Rattle.iss_model.specs.rules.Facts.{Facts, txn_in, call_in}
-use Rattle.iss_model.specs.rules.Histories.{History, history_facts, history_keeper}
+use Rattle.iss_model.specs.rules.Histories.{History, history_facts, history_keeper, history_of}
 use Rattle.iss_model.specs.rules.Pieces.{failure_reason}
 use Rattle.iss_model.specs.rules.Reasons.{user_reason, card_reason, move_reason, product_reason, group_reason, control_reason, set_reason, switch_reason, load_reason}
 use Rattle.iss_model.specs.rules.Settings.{is_named_in}
 use Rattle.iss_model.specs.rules.StandIns.{Stand, allowed, over_limit, uncovered, stand}
 use Rattle.iss_model.specs.rules.Stepping.{authorization_ask, increment_ask, after_due}
+use Rattle.iss_agreement.specs.Stepped.{book_entries}
 
 -- an event is decided, or the gateway is asked about it
 pub data Ruling : Type 0 where
@@ -59,7 +60,7 @@ verdict_of_sets (allowed s) why = verdict.Approved
 verdict_of_sets (over_limit s) why = verdict.Declined (reason.StandInLimit s.name)
 verdict_of_sets uncovered why = verdict.Declined (failure_reason why)
 
--- An ask that nothing declines is approved where the user's own balance pays. Else the gateway is asked; while the product's switch is on
+-- An ask that nothing declines is approved if the user's own balance pays. Else the gateway is asked; while the product's switch is on
 -- the sets decide.
 abbrev pub funding_ruling : Facts → Ask → Ruling
 funding_ruling f ask =
@@ -126,7 +127,7 @@ abbrev pub is_answer : ℕ → Outcome → Input → Bool
 is_answer number outcome (input.Answer call other) = call.0 == number && outcome_number other == outcome_number outcome
 is_answer number outcome _ = false
 
--- a record lets a call fail so: by its deadline, which has come, or by the answer that the record is; that a switch is on closes no call
+-- how a record lets a call fail: by its deadline, which has come, or by the answer that the record is; a switch that is on closes no call
 abbrev pub may_fail : Record → Opened → Failure → Bool
 may_fail r o failure.Timeout = nat_le o.deadline r.at
 may_fail r o failure.Connection = is_answer o.call.0 outcome.Connection r.input
@@ -143,11 +144,11 @@ abandoned_by token _ = None
 abbrev pub abandonment_reason : Record → Txn → Option Reason
 abandonment_reason r t = if nat_le t.expires r.at then Some reason.Expired else abandoned_by t.token r.input
 
--- a verdict where a test holds
+-- a verdict if a test holds
 abbrev pub only_if : Bool → Verdict → Option Verdict
 only_if b v = if b then Some v else None
 
--- The verdict on the event of a call that a record closes so, on the facts of that moment; none where the record has no cause for it.
+-- The verdict on the event of a call that a record closes, on the facts of that moment; none if the record has no cause for it.
 abbrev pub closing_verdict : Record → Facts → Opened → Txn → How → Option Verdict
 closing_verdict r f o t how.Funded = only_if (is_answer o.call.0 outcome.Funded r.input) verdict.Approved
 closing_verdict r f o t how.Refused = only_if (is_answer o.call.0 outcome.Refused r.input) (verdict.Declined reason.GatewayDeclined)
@@ -159,7 +160,7 @@ abbrev pub call_ruling : Record → Facts → How → Opened → Option Ruling
 call_ruling r f how o =
     option_and_then (λ t. option_map (decided_as o.event) (closing_verdict r f o t how)) (begun_in f o.txn)
 
--- the ruling that goes with an entry of a record, where that closes a call
+-- the ruling that goes with an entry of a record, if that closes a call
 abbrev pub closing_ruling : Record → Facts → Entry → Option Ruling
 closing_ruling r f (entry.Closed call how) = option_and_then (call_ruling r f how) (opened_in f call.0)
 closing_ruling r f _ = None
@@ -179,3 +180,7 @@ abbrev pub rulings_due : History → Record → List Entry → List Ruling
 rulings_due before r entries =
     let up = history_keeper.take_up before r in
     closing_rulings r up entries ++ own_rulings r.input r.at (history_facts (after_due history_keeper up r.at).world)
+
+-- a further record on the book of these rules as the rules have it
+abbrev pub RulesAsDue : List Record → Record → Type 0
+RulesAsDue rs r = rulings_of (book_entries rs r) ≡ rulings_due (history_of rs) r (book_entries rs r)

@@ -22,11 +22,11 @@ pays_itself (Some now) = is_account_funded now.txn.funding
 abbrev pub is_own : Facts → List ℕ → Bool
 is_own f txn = pays_itself (txn_in f txn)
 
--- an amount at a key, where a test holds
+-- an amount at a key, if a test holds
 abbrev pub where_own : Bool → List ℕ → ℤ → List Change
 where_own own key by = if own then record { key = key; by = by } ∷ [] else []
 
--- what an entry adds to what a user owns, where the first tells which transactions the user's own balance pays
+-- what an entry adds to what a user owns, if the test tells which transactions the user's own balance pays
 abbrev pub own_changes : (List ℕ → Bool) → Entry → List Change
 own_changes own (entry.Post (account.Programme c) (account.User user d) amount None) = record { key = user_key user d; by = pos amount } ∷ []
 own_changes own (entry.Post (account.User user c) (account.Network d) amount (Some txn)) =

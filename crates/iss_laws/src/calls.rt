@@ -6,7 +6,7 @@ ghost use Rattle.iss_state.specs.Sound.{AreInForm};
 ghost use Rattle.iss_laws.specs.Calls.{each_call_once, each_stands_once};
 
 /// On the book of every legal list of records each call to the gateway is opened once and closed at most once; it has one notice of the
-/// method void exactly where it failed or was abandoned, and no other notice names it; and no other call is closed or named. Where the
+/// method void exactly if it failed or was abandoned, and no other notice names it; and no other call is closed or named. If the
 /// fields of the records meet their forms, and so no call is of 0, each funded closing has a post of its own, the first after it and in its
 /// record, of the call's amount from the gateway to its user; and no other post comes from the gateway.
 #[tactic(auto, using(crate::proofs::CallsOnce::law_once, crate::proofs::CallsPaid::law_calls))]

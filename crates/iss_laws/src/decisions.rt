@@ -7,8 +7,8 @@ ghost use Rattle.iss_laws.specs.Decisions.{DecidesByTheRules};
 
 /// On the book of every legal list of records each record decides what the rules have it decide, in the same order, and nothing else:
 /// the event of each call that it closes, by how it closes it, and then its own, which is declined with the first reason that holds at its
-/// turn. So an authorisation or increment is approved exactly where no reason held and the user's own balance pays, its call was funded, or
-/// a set stood in; and each decline has the one reason of the rules. The gateway is asked about an event exactly where they have it asked.
+/// turn. So an authorisation or increment is approved exactly if no reason held and the user's own balance pays, its call was funded, or
+/// a set stood in; and each decline has the one reason of the rules. The gateway is asked about an event exactly if they have it asked.
 #[tactic(auto, using(crate::proofs::RuledRecords::law_rules, crate::proofs::ApprovedRecords::law_approved))]
 pub fn records_decide_by_the_rules()
     ensures rulings { (rs : List Record) → IsLegal rs → DecidesByTheRules (history_of rs) }

@@ -95,7 +95,7 @@ small_change before amount h k = omega (arith, ints)
 pub moved_fits : (m : Kept) (from to : Account) (amount : ℕ) → AreSmall m → AreSmall (after_post m from to amount) → moved_amount from to amount < 2 ^ 63
 moved_fits m from to amount h k = small_change (kept_at m (account_key to)) (moved_amount from to amount) (h (account_key to)) (first_small m from to amount h k)
 
--- the same, where the keys, the amounts and the sums have other names
+-- the same, if the keys, the amounts and the sums have other names
 module _ (m first : Kept) (from to : Account) (amount : ℕ) (debited credited : List ℕ) (less more : ℤ)
     (to_is : credited ≡ account_key to) (from_is : debited ≡ account_key from)
     (more_is : more ≡ pos (moved_amount from to amount)) (less_is : less ≡ neg_ℤ (pos (moved_amount from to amount)))

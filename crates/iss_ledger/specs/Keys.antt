@@ -11,7 +11,7 @@ kind_of (account.Network c) = 2
 kind_of (account.Programme c) = 3
 kind_of (account.User user c) = 4
 
--- an account's user, where it has one
+-- an account's user, if it has one
 abbrev pub user_of : Account → List ℕ
 user_of (account.User user c) = user
 user_of _ = []

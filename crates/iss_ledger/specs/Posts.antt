@@ -10,6 +10,6 @@ use Rattle.iss_model.specs.state.Kept.{Kept, after_changes}
 abbrev pub after_post : Kept → Account → Account → ℕ → Kept
 after_post sums from to amount = after_changes sums (balance_changes (entry.Post from to amount None))
 
--- what a post moves: nothing where both accounts are one
+-- what a post moves: nothing if both accounts are one
 abbrev pub moved_amount : Account → Account → ℕ → ℕ
 moved_amount from to amount = if bytes_eq (account_key from) (account_key to) then 0 else amount

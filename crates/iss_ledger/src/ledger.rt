@@ -43,7 +43,7 @@ impl Ledger {
         })
     }
 
-    /// Moves an amount of minor units from one account to another. Where allocation fails all stays as it was.
+    /// Moves an amount of minor units from one account to another. If an allocation fails, all stays as it was.
     pub fn post(&mut self, from: &Account, to: &Account, amount: u64) -> Result<(), AllocError>
         requires { AreSmall (after_post self.old from.now to.now amount) }
         ensures posted { OnOk result (self.new ≡ after_post self.old from.now to.now amount) }
@@ -52,7 +52,7 @@ impl Ledger {
         post(&mut self.balances, from, to, amount)
     }
 
-    /// What an account has, in minor units: 0 where no post was made.
+    /// What an account has, in minor units: 0 if no post was made.
     pub fn balance(&self, account: &Account) -> i64
         ensures { result ≡ kept_at self.now (account_key account.now) }
     {

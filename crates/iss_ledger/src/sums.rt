@@ -13,7 +13,7 @@ use iss_model::Account;
 use std::alloc::AllocError;
 use std::collections::BTreeMap;
 
-/// The sum at a key, 0 where there is none.
+/// The sum at a key, 0 if there is none.
 #[tactic(auto, using(crate::proofs::TreeSums::get_in))]
 pub(crate) fn sum_at(sums: &BTreeMap<AccountKey, i64>, key: &AccountKey) -> i64
     requires { IsInOrder sums.now }
@@ -22,7 +22,7 @@ pub(crate) fn sum_at(sums: &BTreeMap<AccountKey, i64>, key: &AccountKey) -> i64
     sums.get(key).copied().unwrap_or(0)
 }
 
-/// Moves an amount from one account to another. Where allocation fails the sums stay as they were.
+/// Moves an amount from one account to another. If an allocation fails, the sums stay as they were.
 pub(crate) fn post(
     sums: &mut BTreeMap<AccountKey, i64>,
     from: &Account,
@@ -47,7 +47,7 @@ pub(crate) fn post(
     debited
 }
 
-/// What a post moves: nothing where both accounts are one.
+/// What a post moves: nothing if both accounts are one.
 fn moved(from: &Account, to: &Account, amount: u64) -> i64
     requires { moved_amount from.now to.now amount < 2 ^ 63 }
     ensures { result ≡ pos (moved_amount from.now to.now amount) }
@@ -59,7 +59,7 @@ fn moved(from: &Account, to: &Account, amount: u64) -> i64
     }
 }
 
-/// Adds to the sum at a key. Where allocation fails the sums stay as they were.
+/// Adds to the sum at a key. If an allocation fails, the sums stay as they were.
 #[tactic(auto, using(crate::proofs::TreeSums::sums_put))]
 fn change(sums: &mut BTreeMap<AccountKey, i64>, key: AccountKey, by: i64) -> Result<(), AllocError>
     requires order { IsInOrder sums.old }

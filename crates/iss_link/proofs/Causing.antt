@@ -48,7 +48,7 @@ abbrev is_application : Outcome → Bool
 is_application Application = true
 is_application _ = false
 
--- what a notice is told by a whole answer
+-- what a whole answer means for a notice
 either_told : (test : Heard → Bool) (b : Bool) (n : ℕ) → test (acknowledged n) ≡ false → test (dropped n) ≡ false → test (cond b (acknowledged n) (dropped n)) ≡ false
 either_told test true n p q = p
 either_told test false n p q = q

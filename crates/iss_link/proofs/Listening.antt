@@ -185,7 +185,7 @@ rose_on : (kind : Fault) (f g h : Faults) → Later f g → Later g h → Rose (
 rose_on kind f g h first second rose =
     rose_later (count_of kind f) (count_of kind f) (count_of kind g) (count_of kind h) (omega arith) (count_later kind f g first) (count_later kind g h second) rose
 
--- memory was wanting behind the take
+-- an allocation failed after the take
 pub listens_err : {E : Type 0} (before after : LinksNow) (ch : Channel) (result : Result rust.Heard E) (e : E) (channels : Channels) (f g : Faults) (x y : Option Outer) (buffer : List ℕ) (count : Option ℕ)
     → result ≡ Err e → length buffer ≡ 4096 → IfSome count (λ n. n ≤ length buffer) → (count ≡ None → Rose (count_of (take_fault channels ch) f) (count_of (take_fault channels ch) g))
     → Told (Adds [] (Took ch (got_in buffer count) ∷ [])) x y → Listens before after ch result channels f g x y

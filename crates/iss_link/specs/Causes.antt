@@ -8,7 +8,7 @@ use Rattle.iss_jit.specs.Outcomes.{outcome_of}
 use Rattle.iss_session.specs.Desks.{of_call, of_notice}
 use Rattle.iss_session.specs.Links.{Link, Heard, unfinished, outcome, acknowledged, dropped, link_reading, heard_as}
 
--- what is heard of a link once a take brought this
+-- what is heard of a link after a take brought this
 abbrev pub heard_then : ℕ → Link → Option (List ℕ) → Bool → Heard
 heard_then instance link got early = heard_as (outcome_of instance) link.subject (link_reading link got early)
 
@@ -17,7 +17,7 @@ abbrev pub AreMore : Link → Option (List ℕ) → Type 0
 AreMore link (Some (b ∷ piece)) = answer_read (link.bytes ++ b ∷ piece) false ≡ more
 AreMore link _ = ⊥
 
--- nothing is heard only where bytes came and the answer isn't whole
+-- nothing is heard only if bytes came and the answer isn't whole
 abbrev pub UnfinishedOnlyAt : Type 0
 UnfinishedOnlyAt =
     (instance : ℕ) (link : Link) (got : Option (List ℕ)) (early : Bool) → heard_then instance link got early ≡ unfinished → AreMore link got
@@ -28,7 +28,7 @@ IsCutOff link None = Unit {0}
 IsCutOff link (Some []) = answer_read (link.bytes ++ []) true ≡ ended
 IsCutOff link (Some (b ∷ piece)) = ⊥
 
--- a call isn't connected only where its channel failed or ended early
+-- a call isn't connected only if its channel failed or ended early
 abbrev pub ConnectionOnlyAt : Type 0
 ConnectionOnlyAt =
     (instance : ℕ) (link : Link) (call : CallId) (got : Option (List ℕ)) (early : Bool)
@@ -41,7 +41,7 @@ pub record IsWholeAs (P : ℕ → List ℕ → Type 0) (reading : Reading) : Typ
   pub is : reading ≡ whole status body
   pub so : P status body
 
--- an answer decides nothing exactly where it can't be understood, or is whole and neither funds the call nor refuses it
+-- an answer decides nothing exactly if it can't be understood, or is whole and neither funds the call nor refuses it
 abbrev pub ApplicationExactly : Type 0
 ApplicationExactly =
     (instance : ℕ) (o : Opened) (reading : Reading)
@@ -60,7 +60,7 @@ AcknowledgedExactly =
     (instance n : ℕ) (reading : Reading)
     → (heard_as (outcome_of instance) (of_notice n) reading ≡ acknowledged n) ↔ IsWholeAs (λ status body. status ≡ 200) reading
 
--- A notice isn't acknowledged exactly where its channel failed, ended early, gave what can't be understood or a whole answer of another status.
+-- A notice isn't acknowledged exactly if its channel failed, ended early, sent what can't be understood or a whole answer of another status.
 abbrev pub DroppedExactly : Type 0
 DroppedExactly =
     (instance n : ℕ) (reading : Reading)

@@ -24,6 +24,10 @@ pub record LinksNow : Type 0 where
   pub instance : ℕ
   pub links : List Link
 
+-- these links, of this instance
+abbrev pub links_at : ℕ → List Link → LinksNow
+links_at instance links = record { instance = instance; links = links }
+
 -- what an answer is about
 abbrev pub subject_of : About → Subject
 subject_of (about.Call opened) = of_call opened
@@ -34,7 +38,7 @@ abbrev pub bytes_of : Option (List ℕ) → List ℕ
 bytes_of None = []
 bytes_of (Some bytes) = bytes
 
--- there is a reader only where a byte came
+-- there is a reader only if a byte came
 abbrev pub HasBegun : Option (List ℕ) → Type 0
 HasBegun None = Unit {0}
 HasBegun (Some bytes) = is_empty bytes ≡ false

@@ -1,19 +1,20 @@
 //! An answer on a watched channel: one take, and what its bytes come to.
-ghost use Rattle.std.specs.Prelude.{◌≡◌, ◌<◌, ◌≤◌, ◌^◌, ℕ, List, length, [], ◌∷◌, Some, None, IfOk, IfSome, IfErr, IsSome, OnErr};
+ghost use Rattle.std.specs.Prelude.{◌≡◌, ◌<◌, ◌≤◌, ◌^◌, ℕ, List, length, [], ◌∷◌, Some, None, IfOk, IfSome, IsSome, OnErr, IfErr};
 ghost use Rattle.iss_edge.specs.declared.outside.Answered.TheVariants.{Took};
-ghost use Rattle.iss_edge.specs.World.{Told, Later, Rose};
-ghost use Rattle.iss_edge.specs.Channels.{count_of, take_fault};
-ghost use Rattle.iss_edge.specs.Outer.{outer_of, Adds};
+ghost use Rattle.iss_edge.specs.World.{Later, Stays};
+ghost use Rattle.iss_edge.specs.Outer.{Adds, ToldBoth};
 ghost use Rattle.iss_channels.specs.Placed.{things_of};
+ghost use Rattle.iss_model.specs.declared.limits.TheConstants.{INSTANCES};
 ghost use Rattle.iss_http.specs.Heard.{reading_of};
 ghost use Rattle.iss_jit.specs.Outcomes.{outcome_of};
 ghost use Rattle.iss_model.specs.declared.call.Opened.{Opened};
 ghost use Rattle.iss_model.specs.declared.input.Outcome.{Outcome};
-ghost use Rattle.iss_session.specs.Desks.{of_call, of_notice};
-ghost use Rattle.iss_session.specs.Links.{heard_as, outcome};
+ghost use Rattle.iss_session.specs.Desks.{of_notice};
+ghost use Rattle.iss_session.specs.Links.{heard_as};
+ghost use Rattle.iss_session.specs.declared.piece.TheConstants.{LONGEST_PIECE};
 ghost use Rattle.iss_session.specs.Hearings.{link_at};
-ghost use Rattle.iss_link.specs.Values.{subject_of, heard_of};
-ghost use Rattle.iss_link.specs.Hearing.{Reads, Listens, got_in, channels_after};
+ghost use Rattle.iss_link.specs.Values.{subject_of, heard_of, links_at};
+ghost use Rattle.iss_link.specs.Hearing.{Reads, ListensOn, MeansOutcome, TakeFaultRose, got_in, channels_after};
 
 use crate::Heard;
 use crate::watched::{About, Watched};
@@ -27,7 +28,7 @@ use std::alloc::{AllocError, Global};
 /// The status of a gateway that acknowledges a notice: OK of RFC 9110.
 const ACKNOWLEDGED: u16 = 200;
 
-/// Takes once from a watched channel that is ready, and gives what its bytes come to. Once that is an answer, the channel is closed and
+/// Takes once from a watched channel that is ready, and returns what its bytes come to. After a whole answer, the channel is closed and
 /// watched no longer.
 pub(crate) fn listen<E: Edge>(
     links: &mut ByChannel<Watched>,
@@ -39,16 +40,15 @@ pub(crate) fn listen<E: Edge>(
 ) -> Result<Heard, AllocError>
     requires watched { IsSome (link_at ch (things_of links.old)) }
     requires ready { (E.channels edge.old).ready ≡ Some ch.0 }
-    requires room { length buffer.old ≡ 4096 }
-    requires instance { instance < 2 ^ 48 }
-    ensures room { length buffer.new ≡ 4096 }
-    ensures listens { Listens (record { instance = instance; links = things_of links.old }) (record { instance = instance; links = things_of links.new })
-        ch result (E.channels edge.old) (E.faults edge.old) (E.faults edge.new)
-        (outer_of (E.told edge.old) (E.heard edge.old)) (outer_of (E.told edge.new) (E.heard edge.new)) }
+    requires room { length buffer.old ≡ LONGEST_PIECE }
+    requires instance { instance < INSTANCES }
+    ensures room { length buffer.new ≡ LONGEST_PIECE }
+    ensures listens { ListensOn E.channels E.faults E.told E.heard edge.old edge.new
+        (links_at instance (things_of links.old)) (links_at instance (things_of links.new)) ch result }
     ensures later { Later (E.faults edge.old) (E.faults edge.new) }
-    ensures kept { E.extent edge.new ≡ E.extent edge.old }
+    ensures kept { Stays E.extent edge.old edge.new }
     ensures channels { IfOk result (λ said. E.channels edge.new ≡ channels_after ch (heard_of said) (E.channels edge.old)) }
-    ensures still { OnErr result (E.channels edge.new ≡ E.channels edge.old) }
+    ensures still { OnErr result (Stays E.channels edge.old edge.new) }
 {
     let about = about(links, ch);
     let got = take(edge, ch, buffer);
@@ -72,19 +72,17 @@ fn about(links: &ByChannel<Watched>, ch: Channel) -> About
     watched.about
 }
 
-/// Takes the next bytes of a channel into a buffer, none at their end, and gives how many came. `None` where it failed.
+/// Takes the next bytes of a channel into a buffer, none at their end, and returns how many came. `None` if it failed.
 fn take<E: Edge>(edge: &mut E, ch: Channel, buffer: &mut [u8]) -> Option<usize>
     requires ready { (E.channels edge.old).ready ≡ Some ch.0 }
-    requires room { length buffer.old ≡ 4096 }
-    ensures room { length buffer.new ≡ 4096 }
+    requires room { length buffer.old ≡ LONGEST_PIECE }
+    ensures room { length buffer.new ≡ LONGEST_PIECE }
     ensures bound { IfSome result (λ count. count ≤ length buffer.new) }
-    ensures told { Told (Adds [] (Took ch (got_in buffer.new result) ∷ []))
-        (outer_of (E.told edge.old) (E.heard edge.old)) (outer_of (E.told edge.new) (E.heard edge.new)) }
-    ensures failed { result ≡ None → Rose (count_of (take_fault (E.channels edge.old) ch) (E.faults edge.old))
-        (count_of (take_fault (E.channels edge.old) ch) (E.faults edge.new)) }
+    ensures told { ToldBoth E.told E.heard (Adds [] (Took ch (got_in buffer.new result) ∷ [])) edge.old edge.new }
+    ensures failed { result ≡ None → TakeFaultRose ch (E.channels edge.old) (E.faults edge.old) (E.faults edge.new) }
     ensures later { Later (E.faults edge.old) (E.faults edge.new) }
-    ensures kept { E.extent edge.new ≡ E.extent edge.old }
-    ensures channels { E.channels edge.new ≡ E.channels edge.old }
+    ensures kept { Stays E.extent edge.old edge.new }
+    ensures channels { Stays E.channels edge.old edge.new }
 {
     match edge.take(ch, buffer) {
         Ok(count) => Some(count),
@@ -92,7 +90,7 @@ fn take<E: Edge>(edge: &mut E, ch: Channel, buffer: &mut [u8]) -> Option<usize>
     }
 }
 
-/// What a channel's bytes are once a take brought these, or failed, which ends them.
+/// What a channel's bytes are after a take brought these, or failed, which ends them.
 fn read(
     links: &mut ByChannel<Watched>,
     alloc: Global,
@@ -128,7 +126,7 @@ fn feed(
 
 /// What an answer means for what it is about.
 fn hear(alloc: Global, about: &About, answer: &Answer, instance: u64) -> Result<Heard, AllocError>
-    requires { instance < 2 ^ 48 }
+    requires { instance < INSTANCES }
     ensures { IfOk result (λ said. heard_of said ≡ heard_as (outcome_of instance) (subject_of about.now) (reading_of answer.now)) }
 {
     match about {
@@ -147,8 +145,8 @@ fn outcome(
     answer: &Answer,
     instance: u64,
 ) -> Result<Outcome, AllocError>
-    requires { instance < 2 ^ 48 }
-    ensures { IfOk result (λ said. heard_as (outcome_of instance) (of_call opened.now) (reading_of answer.now) ≡ outcome opened.now.call said) }
+    requires { instance < INSTANCES }
+    ensures { IfOk result (MeansOutcome instance opened.now answer.now) }
 {
     match answer {
         Answer::Whole(status, body) => jit_answer(alloc, *status, body, opened, instance),

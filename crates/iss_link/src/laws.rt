@@ -1,14 +1,10 @@
 //! Laws of what is heard on links.
-ghost use Rattle.std.specs.Prelude.{◌≡◌, ℕ, ◌≤◌, List};
-ghost use Rattle.iss_edge.specs.declared.outside.Channel.{Channel};
-ghost use Rattle.iss_edge.specs.Stretches.{GoesOn, with_levels};
-ghost use Rattle.iss_session.specs.Links.{Heard};
-ghost use Rattle.iss_link.specs.Hearing.{closing};
+ghost use Rattle.iss_link.specs.Hearing.{ClosingsAreGood};
 ghost use Rattle.iss_link.specs.Causes.{UnfinishedOnlyAt, ConnectionOnlyAt, ApplicationExactly, RefusedExactly, AcknowledgedExactly, DroppedExactly};
 
 use iss_edge::Showing;
 
-/// What each answer on a link comes by: nothing only where bytes came and no answer is whole; a call that isn't connected only where the
+/// What each answer on a link comes by: nothing only if bytes came and no answer is whole; a call that isn't connected only if the
 /// take failed or the bytes ended early; a refusal, an answer that can't be understood, an acknowledgement and none exactly so.
 
 pub fn answers_are_caused()
@@ -20,9 +16,8 @@ pub fn answers_are_caused()
     ensures dropped { DroppedExactly }
 {}
 
-/// What is done where a link is listened to is a stretch that is good from j to j: a stop within it leaves a device that shows the j
+/// What is done when a link is listened to is a stretch that is good from j to j: a stop within it leaves a device that shows the j
 /// records, and the run may go on.
 pub fn answers_are_good_stretches<S: Showing>()
-    ensures { (ch : Channel) → (said : Heard) → (j level : ℕ) → ((bytes : List ℕ) → S.starts bytes j → S.stands bytes j)
-        → GoesOn S.starts S.stands S.starts j j (with_levels level (closing ch said)) }
+    ensures { ClosingsAreGood S.starts S.stands }
 {}

@@ -1,21 +1,19 @@
 //! The channels on which the gateway's answers are awaited.
 ghost use Rattle.std.specs.Prelude.{◌≡◌, ◌<◌, ◌^◌, ◌++◌, [], map, length, Some, IfOk, OnOk, OnErr, IsSome};
-ghost use Rattle.iss_edge.specs.World.{Later};
-ghost use Rattle.iss_edge.specs.Outer.{outer_of};
+ghost use Rattle.iss_edge.specs.World.{Later, Stays};
+ghost use Rattle.iss_model.specs.declared.limits.TheConstants.{INSTANCES};
 ghost use Rattle.iss_session.specs.Hearings.{link_at, links_of};
 ghost use Rattle.iss_link.specs.Values.{gone_as, heard_of, state_on};
-ghost use Rattle.iss_link.specs.Hearing.{Listens, channels_after};
+ghost use Rattle.iss_link.specs.Hearing.{ListensOn, channels_after};
 
 use crate::answers::listen;
 use crate::watched::{About, Watched};
 use crate::{Gone, Heard, LinkState};
 use iss_channels::ByChannel;
 use iss_edge::{Channel, Edge};
+use iss_session::piece::LONGEST_PIECE;
 use std::alloc::{AllocError, Global};
 use std::marker::Model;
-
-/// How many bytes a take may bring.
-const PIECE: usize = 4096;
 
 /// The channels on which the gateway's answers are awaited, each with what it is about and the bytes that came on it. Contracts see
 /// the instance, and the links in the order in which they were watched.
@@ -41,17 +39,17 @@ impl Model for Links {
 impl Links {
     /// No channel is watched.
     pub fn new(alloc: Global, instance: u64) -> Result<Links, AllocError>
-        requires { instance < 2 ^ 48 }
+        requires { instance < INSTANCES }
         ensures { IfOk result (λ links. links ≡ record { instance = instance; links = [] }) }
     {
         Ok(Links {
             instance,
             watched: ByChannel::new(alloc),
-            buffer: zeros(alloc, PIECE)?,
+            buffer: zeros(alloc, LONGEST_PIECE)?,
         })
     }
 
-    /// Watches the channel on which a request or a notice went out. Where allocation fails all stays as it was.
+    /// Watches the channel on which a request or a notice went out. If an allocation fails, all stays as it was.
     pub fn watch(&mut self, gone: &Gone) -> Result<(), AllocError>
         ensures watched { OnOk result (self.new ≡ record self.old { links = self.old.links ++ links_of (gone_as gone.now) }) }
         ensures unchanged { OnErr result (self.new ≡ self.old) }
@@ -63,7 +61,7 @@ impl Links {
         }
     }
 
-    /// How far the answer on a channel has come, `None` exactly where the channel isn't watched.
+    /// How far the answer on a channel has come, `None` exactly if the channel isn't watched.
     pub fn state(&self, ch: Channel) -> Option<LinkState>
         ensures { result ≡ state_on ch self.now.links }
     {
@@ -71,10 +69,10 @@ impl Links {
         Some(watched.state())
     }
 
-    /// Takes once from a watched channel that is ready, and gives what was heard.
+    /// Takes once from a watched channel that is ready, and returns what was heard.
     ///
-    /// `Nothing` only where bytes came and the answer isn't whole; `Connection` only where the take failed or the bytes ended before a
-    /// whole answer. After each answer but `Nothing` the channel is closed and watched no longer. Where an allocation fails, the
+    /// `Nothing` only if bytes came and the answer isn't whole; `Connection` only if the take failed or the bytes ended before a
+    /// whole answer. After each answer but `Nothing` the channel is closed and watched no longer. If an allocation fails, the
     /// take was made, and what is watched is open.
     pub fn ready<E: Edge>(
         &mut self,
@@ -84,12 +82,11 @@ impl Links {
     ) -> Result<Heard, AllocError>
         requires watched { IsSome (link_at ch self.old.links) }
         requires ready { (E.channels edge.old).ready ≡ Some ch.0 }
-        ensures listens { Listens self.old self.new ch result (E.channels edge.old) (E.faults edge.old) (E.faults edge.new)
-            (outer_of (E.told edge.old) (E.heard edge.old)) (outer_of (E.told edge.new) (E.heard edge.new)) }
+        ensures listens { ListensOn E.channels E.faults E.told E.heard edge.old edge.new self.old self.new ch result }
         ensures later { Later (E.faults edge.old) (E.faults edge.new) }
-        ensures kept { E.extent edge.new ≡ E.extent edge.old }
+        ensures kept { Stays E.extent edge.old edge.new }
         ensures channels { IfOk result (λ said. E.channels edge.new ≡ channels_after ch (heard_of said) (E.channels edge.old)) }
-        ensures still { OnErr result (E.channels edge.new ≡ E.channels edge.old) }
+        ensures still { OnErr result (Stays E.channels edge.old edge.new) }
     {
         listen(
             &mut self.watched,
@@ -109,7 +106,7 @@ impl Links {
     }
 }
 
-/// So many zeros.
+/// Zeros, in the number given.
 fn zeros(alloc: Global, size: usize) -> Result<Vec<u8>, AllocError>
     ensures { IfOk result (λ bytes. length bytes.items ≡ size) }
 {

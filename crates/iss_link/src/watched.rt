@@ -20,7 +20,7 @@ pub(crate) enum About {
     Notice(u32),
 }
 
-/// A channel on which an answer is awaited, with its bytes so far. Room for these is made once the first of them come.
+/// A channel on which an answer is awaited, with its bytes so far. Room for these is made when the first of them come.
 #[derive(Drop)]
 pub(crate) struct Watched {
     pub(crate) ch: Channel,
@@ -81,7 +81,7 @@ impl Watched {
         }
     }
 
-    /// Takes the next bytes, none at their end, and gives the answer once it is whole. Where that is none yet the bytes are kept.
+    /// Takes the next bytes, none at their end, and returns the answer when it is whole. Until then the bytes are kept.
     pub(crate) fn feed(&mut self, alloc: Global, piece: &[u8]) -> Result<Option<Answer>, AllocError>
         ensures read { IfOk result (λ said. IsReadAs (self.old.bytes ++ piece.now) (is_empty piece.now) (heard said)) }
         ensures kept { IfOk result (λ said. IfNone said (self.new ≡ joined self.old piece.now)) }

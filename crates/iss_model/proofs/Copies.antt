@@ -14,7 +14,7 @@ limit_is None None h = refl
 limit_is (Some x) (Some y) h = ap (λ (n : ℕ). Some n) h
 limit_is _ _ h = elim h [ ]
 
--- what the derived copying of an input gives is equal to it
+-- what the derived copying of an input returns is equal to it
 pub copy_is : (i copy : Input) → (input_clone.ghosts).is_clone i copy → copy ≡ i
 copy_is (input.User t u) (input.User t' u') h = λ k. input.User (h.0 k) (h.1 k)
 copy_is (input.Card t c u p a) (input.Card t' c' u' p' a') h = λ k. input.Card (h.0 k) (h.1.0 k) (h.1.1.0 k) (h.1.1.1.0 k) (h.1.1.1.1 k)

@@ -36,7 +36,7 @@ kept_at-after_changes sums (c ∷ cs) key =
     ∙ ap (λ (z : ℤ). z +ℤ changed_at key cs) (kept_at-after_change sums c key)
     ∙ regrouped (kept_at sums key) (cond (bytes_eq c.key key) c.by (pos 0)) (changed_at key cs)
 
--- two ways to say what an entry changes, which come to the same at each key
+-- two definitions of what an entry changes, which come to the same at each key
 abbrev pub ChangeAlike : (Entry → List Change) → (Entry → List Change) → Type 0
 ChangeAlike f g = (e : Entry) (key : List ℕ) → changed_at key (f e) ≡ changed_at key (g e)
 

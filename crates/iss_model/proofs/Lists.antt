@@ -17,14 +17,14 @@ pub map-same : {A : Type 0} (f : A → A) → ((x : A) → f x ≡ x) → (xs : 
 map-same f same [] = refl
 map-same f same (x ∷ xs) = λ i. same x i ∷ map-same f same xs i
 
--- where nothing is found in a list, nothing is filtered from it
+-- if nothing is found in a list, nothing is filtered from it
 pub none_found : {A B : Type 0} (p : A → Bool) (f : A → Option B) → ((x : A) → p x ≡ true → f x ≡ None) → (xs : List A) → list_all p xs ≡ true → filter_map f xs ≡ []
 none_found p f each [] h = refl
 none_found {B = B} p f each (x ∷ xs) h =
     let parts = and_parts (p x) (list_all p xs) h in
     ap (λ (o : Option B). cons_option o (filter_map f xs)) (each x parts.0) ∙ none_found p f each xs parts.1
 
--- where the test of a thing fails at each element, none is found
+-- if the test of a thing fails at each element, none is found
 pub none_any : {A : Type 0} (p q : A → Bool) → ((x : A) → p x ≡ true → q x ≡ false) → (xs : List A) → list_all p xs ≡ true → list_any q xs ≡ false
 none_any p q each [] h = refl
 none_any p q each (x ∷ xs) h =
@@ -53,19 +53,19 @@ find_passes p q (y ∷ ys) x h e =
 pub any_grows : {A : Type 0} (p : A → Bool) (xs ys : List A) → list_any p xs ≡ true → list_any p (xs ++ ys) ≡ true
 any_grows p xs ys h = list_any-append p xs ys ∙ ap (λ (b : Bool). b || list_any p ys) h
 
--- where it fails that one of two tests passes, both fail
+-- if it fails that one of two tests passes, both fail
 pub neither : (a b : Bool) → (a || b) ≡ false → (a ≡ false) × (b ≡ false)
 neither true b h = cc
 neither false b h = (refl, h)
 
--- two functions that agree where a test fails, on a list of which none passes
+-- two functions that agree if a test fails, on a list of which none passes
 pub map-apart : {A B : Type 0} (q : A → Bool) (f g : A → B) → ((x : A) → q x ≡ false → f x ≡ g x) → (xs : List A) → list_any q xs ≡ false → map f xs ≡ map g xs
 map-apart q f g alike [] h = refl
 map-apart q f g alike (x ∷ xs) h =
     let parts = neither (q x) (list_any q xs) h in
     λ i. alike x parts.0 i ∷ map-apart q f g alike xs parts.1 i
 
--- two functions that agree where a test passes, on a list of which all pass
+-- two functions that agree if a test passes, on a list of which all pass
 pub map-where : {A B : Type 0} (q : A → Bool) (f g : A → B) → ((x : A) → q x ≡ true → f x ≡ g x) → (xs : List A) → list_all q xs ≡ true → map f xs ≡ map g xs
 map-where q f g alike [] h = refl
 map-where q f g alike (x ∷ xs) h =

@@ -1,4 +1,4 @@
--- Names are equal as lists where they are equal as texts.
+-- Names are equal as lists if they are equal as texts.
 use Rattle.std.proofs.Common.{◌≡◌, ℕ, Bool, true, false, List, refl, sym, ◌⊎◌, inl, inr}
 use Rattle.std.specs.Bool.{one_answer}
 use Rattle.std.specs.Str.{bytes_eq}

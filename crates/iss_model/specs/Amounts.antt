@@ -25,7 +25,7 @@ is_unpadded digits = nat_lt 0 (length digits) && (length digits == 1 || not (sli
 abbrev pub value_after : ℕ → List ℕ → ℕ
 value_after start digits = fold (λ value digit. 10 * value + (digit - 48)) start digits
 
--- where the point of an amount with so many decimals stands
+-- where the point of an amount with this number of decimals stands
 abbrev pub point_place : List ℕ → ℕ → ℕ
 point_place text decimals = length text - (decimals + 1)
 
@@ -42,11 +42,11 @@ abbrev pub amount_digits : List ℕ → ℕ → List ℕ
 amount_digits text decimals =
     if decimals == 0 then text else take (point_place text decimals) text ++ drop (point_place text decimals + 1) text
 
--- the number, where it is of this form
+-- the number, if it is of this form
 abbrev pub if_form : (ℕ → Bool) → ℕ → Option ℕ
 if_form form n = if form n then Some n else None
 
--- the minor units of a text that is well formed in its currency, where they are of this form
+-- the minor units of a text that is well formed in its currency, if they are of this form
 abbrev pub minor_units : (ℕ → Bool) → List ℕ → Currency → Option ℕ
 minor_units form text c =
     if is_amount_text text (decimals_of c) then if_form form (digits_value (amount_digits text (decimals_of c))) else None
@@ -67,17 +67,17 @@ whole_amount_read n c = if_form is_amount (n * unit_of c)
 abbrev pub whole_limit_read : ℕ → Currency → Option ℕ
 whole_limit_read n c = if_form is_limit (n * unit_of c)
 
--- the last digits of a number, so many of them, with leading zeros where it has fewer
+-- the last digits of a number, as many as are asked for, with leading zeros if it has fewer
 abbrev pub last_digits : ℕ → ℕ → List ℕ
 last_digits zero n = []
 last_digits (suc places) n = last_digits places (n / 10) ++ (48 + n % 10) ∷ []
 
--- a point and the decimals, where the currency has some
+-- a point and the decimals, if the currency has some
 abbrev pub decimals_text : ℕ → ℕ → List ℕ
 decimals_text zero n = []
 decimals_text (suc places) n = 46 ∷ last_digits (suc places) n
 
--- an amount as text: a minus sign where it is negative, the whole units, and exactly the currency's decimals
+-- an amount as text: a minus sign if it is negative, the whole units, and exactly the currency's decimals
 abbrev pub amount_text : ℤ → Currency → List ℕ
 amount_text amount c =
     (if int_lt amount (pos 0) then 45 ∷ [] else [])

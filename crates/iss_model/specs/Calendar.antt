@@ -20,7 +20,7 @@ is_leap_year year = year % 4 == 0 && (not (year % 100 == 0) || year % 400 == 0)
 abbrev pub days_before_year : ℕ → ℕ
 days_before_year year = 365 * year + (year + 3) / 4 - (year + 99) / 100 + (year + 399) / 400
 
--- The year of the day that lies so many days after 1 January of the year 0: its first day isn't later, and that of the next year is.
+-- The year of the day of this number, counted from 1 January of the year 0: its first day isn't later, and that of the next year is.
 -- 400 years have 146097 days, so the quotient is the year, or misses it by one.
 abbrev pub year_of_day : ℕ → ℕ
 year_of_day day =

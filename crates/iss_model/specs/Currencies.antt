@@ -24,7 +24,7 @@ currency_code Aud = codes "AUD"
 currency_code Jpy = codes "JPY"
 currency_code Kwd = codes "KWD"
 
--- how many decimals a currency has, as its minor unit says
+-- how many decimals a currency has, by its minor unit
 abbrev pub decimals_of : Currency → ℕ
 decimals_of Usd = 2
 decimals_of Eur = 2

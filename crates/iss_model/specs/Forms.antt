@@ -75,7 +75,7 @@ are_limits window amount_limit usage_limit =
     && (is_some amount_limit || is_some usage_limit)
     && may_count window usage_limit
 
--- a scope names a code of four digits, where it names one
+-- a scope names a code of four digits, if it names one
 abbrev pub is_scope : Scope → Bool
 is_scope scope.All = true
 is_scope (scope.Mcc mcc) = is_mcc mcc
@@ -86,7 +86,7 @@ is_scope (scope.Mid mid) = true
 abbrev pub is_offset : ℤ → Bool
 is_offset offset = int_le LEAST_OFFSET offset && int_le offset GREATEST_OFFSET
 
--- each field of an input is of its form; that a name is a token, its type says
+-- each field of an input is of its form; a name is a token by its type
 abbrev pub is_in_form : Input → Bool
 is_in_form (input.User token user) = true
 is_in_form (input.Card token card user product active) = true

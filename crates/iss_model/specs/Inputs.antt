@@ -21,7 +21,7 @@ use Rattle.iss_model.specs.declared.input.Input.{Input}
 use Rattle.iss_model.specs.declared.input.Input.TheVariants as input
 use Rattle.iss_model.specs.Currencies.{iso_number}
 
--- the event's token, where the input is an event
+-- the event's token, if the input is an event
 abbrev pub event_token : Input → Option (List ℕ)
 event_token (input.User token user) = Some token
 event_token (input.Card token card user product active) = Some token
@@ -118,7 +118,7 @@ scope_contents (scope.Mcc mcc) = 1 ∷ mcc ∷ []
 scope_contents (scope.Group group) = 2 ∷ with_length group
 scope_contents (scope.Mid mid) = 3 ∷ with_length mid
 
--- All that an input says, as one list: its kind, then its fields. Two inputs say the same exactly where these lists are equal.
+-- All that an input holds, as one list: its kind, then its fields. Two inputs are equal exactly if these lists are equal.
 abbrev pub contents : Input → List ℕ
 contents (input.User token user) = 1 ∷ with_length token ++ with_length user
 contents (input.Card token card user product active) = 2 ∷ with_length token ++ with_length card ++ with_length user ++ with_length product ++ flag_contents active

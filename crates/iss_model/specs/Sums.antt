@@ -34,7 +34,7 @@ account_currency (account.Network currency) = currency
 account_currency (account.Programme currency) = currency
 account_currency (account.User user currency) = currency
 
--- no token has a byte 0, so two accounts have one key only where they are one account
+-- no token has a byte 0, so two accounts have one key only if they are one account
 abbrev pub account_key : Account → List ℕ
 account_key (account.Gateway currency) = 1 ∷ 0 ∷ iso_number currency ∷ []
 account_key (account.Network currency) = 2 ∷ 0 ∷ iso_number currency ∷ []
@@ -86,7 +86,7 @@ abbrev pub refunded_by : Account → Account → ℕ → ℤ
 refunded_by (account.Network c) (account.User user d) amount = pos amount
 refunded_by _ _ amount = pos 0
 
--- what the programme has paid to a user, less what it got back
+-- what the programme has paid to a user, less what came back
 abbrev pub paid_by : Account → Account → ℕ → ℤ
 paid_by (account.Programme c) (account.User user d) amount = pos amount
 paid_by (account.User user c) (account.Programme d) amount = neg_ℤ (pos amount)

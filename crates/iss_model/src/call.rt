@@ -1,5 +1,6 @@
 //! Calls to the customer's gateway, and the notices that it is sent.
-ghost use Rattle.std.specs.Prelude.{◌≡◌, ◌<◌, ◌^◌};
+ghost use Rattle.std.specs.Prelude.{◌≡◌, ◌<◌};
+ghost use Rattle.iss_model.specs.declared.limits.TheConstants.{INSTANCES};
 ghost use Rattle.iss_model.specs.texts.CallTokens.{call_uuid};
 
 use crate::{Currency, Token};
@@ -12,7 +13,7 @@ pub struct CallId(pub u32);
 impl CallId {
     /// The call's token: a UUID of RFC 9562, version 8, with the instance in its first 48 bits and the number in its last 62.
     pub fn uuid(self, instance: u64) -> Uuid
-        requires { instance < 2 ^ 48 }
+        requires { instance < INSTANCES }
         ensures { result ≡ call_uuid instance self.0 }
     {
         let [_, _, a, b, c, d, e, f] = instance.to_be_bytes();

@@ -31,7 +31,7 @@ impl Currency {
         }
     }
 
-    /// The currency of this numeric code, or `None` where none has it.
+    /// The currency of this numeric code, or `None` if none has it.
     pub fn from_number(number: u16) -> Option<Currency>
         ensures { result ≡ currency_numbered number }
     {

@@ -28,7 +28,7 @@ pub enum Reason {
     GatewayTimeout,
     GatewayApplication,
     GatewaySwitch,
-    /// The Commando Mode set that didn't allow so much.
+    /// The Commando Mode set that didn't allow the amount.
     StandInLimit(Token),
     Reversed,
     Cleared,
@@ -43,7 +43,7 @@ pub enum Verdict {
     Declined(Reason),
 }
 
-/// What is told of an event.
+/// The reply to an event.
 #[derive(Clone, Copy)]
 pub enum Reply {
     Decided(Verdict),
@@ -51,7 +51,7 @@ pub enum Reply {
     Pending,
 }
 
-/// What an input is told that makes no record of its own.
+/// The answer to an input that makes no record of its own.
 #[derive(Clone, Copy)]
 pub enum Answer {
     /// The event stands with the same contents.
@@ -72,7 +72,7 @@ pub enum Answer {
     Spent,
 }
 
-/// What judging an input gives.
+/// What judging an input returns.
 #[derive(Drop)]
 pub enum Judged {
     /// The input's own record.

@@ -15,7 +15,7 @@ pub enum Entry {
     Closed(CallId, How),
     /// An event was decided.
     Decided(Token, Verdict),
-    /// Money moved between two accounts, for a transaction where there is one.
+    /// Money moved between two accounts, for a transaction if there is one.
     Post {
         from: Account,
         to: Account,

@@ -1,7 +1,7 @@
 //! The model of the issuer: its types, and the definitions of its book that every contract cites.
 //!
 //! A *record* is an accepted input with its stamp. A *row* of the *book* is an entry with the number of its record.
-//! What a record does to the book, and what is told, are definitions in `specs/`.
+//! What a record does to the book, and what is sent, are definitions in `specs/`.
 //!
 //! It may cite `uuid`.
 //! It must not cite any other crate of the workspace, and nothing of files, lines or HTTP.

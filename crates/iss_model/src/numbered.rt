@@ -16,7 +16,7 @@ pub trait Numbered {
     fn number(self) -> u8
         ensures { result ≡ as_number self };
 
-    /// The thing of this number, or `None` where no thing has it.
+    /// The thing of this number, or `None` if no thing has it.
     fn from_number(number: u8) -> Option<Self>
         ensures { result ≡ numbered number };
 }

@@ -29,7 +29,7 @@ pub struct TxnSums {
     pub cleared: u64,
     /// What came back from the network to its user.
     pub refunded: u64,
-    /// What the programme has paid to its user, less what it got back.
+    /// What the programme has paid to its user, less what came back.
     pub paid: u64,
 }
 

@@ -3,6 +3,7 @@ ghost use Rattle.std.specs.Prelude.{◌≡◌, ◌↔◌, IsTrue, IsSome, IfSome
 ghost use Rattle.std.specs.List.{list_all};
 ghost use Rattle.iss_model.specs.Tokens.{is_token, is_token_byte};
 
+use crate::limits::LONGEST_TOKEN;
 use crate::words;
 use std::cmp::Ordering;
 use std::hash::{Hash, Hasher};
@@ -11,12 +12,13 @@ use std::marker::Model;
 /// 1 to 36 bytes, each an ASCII letter, a digit, `-` or `_`. Contracts see the list of these bytes.
 #[derive(Clone, Copy)]
 pub struct Token {
-    bytes: [u8; 36],
+    bytes: [u8; LONGEST_TOKEN],
     len: u8,
 }
 
 impl Model for Token {
     ghost use Rattle.std.specs.Prelude.{List, ℕ, take, length, replicate, ◌++◌, ◌-◌};
+    ghost use Rattle.iss_model.specs.declared.limits.TheConstants.{LONGEST_TOKEN};
     ghost use Rattle.iss_model.specs.Padding.{IsPadded, padded_back, padded_len};
     ghost use Rattle.iss_model.specs.Tokens.{IsKept};
 
@@ -26,13 +28,13 @@ impl Model for Token {
 
     ghost invariant = { λ t. IsKept t.bytes t.len };
 
-    ghost inverse = { λ text. record { bytes = text ++ replicate (36 - length text) 0; len = length text } };
+    ghost inverse = { λ text. record { bytes = text ++ replicate (LONGEST_TOKEN - length text) 0; len = length text } };
 
     ghost inverse_ok = { λ a h. λ i. record { bytes = padded_back a.bytes a.len h.padded i; len = padded_len a.bytes a.len h.padded i } };
 }
 
 impl Token {
-    /// The token that a text spells, or `None` exactly where it spells none.
+    /// The token that a text spells, or `None` exactly if it spells none.
     pub fn new(text: &[u8]) -> Option<Token>
         ensures spelled { IsSome result ↔ IsTrue (is_token text.now) }
         ensures value { IfSome result (λ token. token ≡ text.now) }
@@ -40,7 +42,7 @@ impl Token {
         if !is_spelled_as_token(text) {
             return None;
         }
-        let mut bytes = [0; 36];
+        let mut bytes = [0; LONGEST_TOKEN];
         bytes[..text.len()].copy_from_slice(text);
         Some(Token {
             bytes,
@@ -72,7 +74,7 @@ impl Token {
 fn is_spelled_as_token(text: &[u8]) -> bool
     ensures { result ≡ is_token text.now }
 {
-    !text.is_empty() && text.len() <= 36 && all_allowed(text)
+    !text.is_empty() && text.len() <= LONGEST_TOKEN && all_allowed(text)
 }
 
 fn all_allowed(text: &[u8]) -> bool

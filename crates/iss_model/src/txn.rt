@@ -22,7 +22,7 @@ pub struct Txn {
     pub expires: u64,
 }
 
-/// A change of what velocity controls count, made at an ask or given back later.
+/// A change of what velocity controls count, made at an ask or returned later.
 #[derive(Clone, Copy)]
 pub struct UsageRow {
     pub txn: Token,
@@ -33,9 +33,9 @@ pub struct UsageRow {
     pub currency: Currency,
     pub mcc: u16,
     pub mid: Token,
-    /// In minor units; negative where use is given back.
+    /// In minor units; negative if use is returned.
     pub amount: i64,
-    /// 1 for an authorisation, 0 for what follows it, -1 where one is given back.
+    /// 1 for an authorisation, 0 for what follows it, -1 if one is returned.
     pub count: i64,
     /// In milliseconds since 1970.
     pub at: u64,

@@ -4,10 +4,11 @@ ghost use Rattle.std.specs.Ordering.{nat_cmp};
 ghost use Rattle.std.specs.Cmp.Lexicographic.{slice_cmp};
 ghost use Rattle.std.specs.Slice.Scan.{big_endian};
 
+use crate::limits::LONGEST_TOKEN;
 use std::cmp::Ordering;
 
 /// The order of two arrays by their first bytes that differ.
-pub(crate) fn order(a: &[u8; 36], b: &[u8; 36]) -> Ordering
+pub(crate) fn order(a: &[u8; LONGEST_TOKEN], b: &[u8; LONGEST_TOKEN]) -> Ordering
     ensures { result ≡ slice_cmp nat_cmp a.now b.now }
 {
     for i in 0..4 {
@@ -20,8 +21,8 @@ pub(crate) fn order(a: &[u8; 36], b: &[u8; 36]) -> Ordering
 }
 
 /// The eight bytes from `at` on as a big-endian number.
-fn word(bytes: &[u8; 36], at: usize) -> u64
-    requires { at + 8 ≤ 36 }
+fn word(bytes: &[u8; LONGEST_TOKEN], at: usize) -> u64
+    requires { at + 8 ≤ LONGEST_TOKEN }
     ensures { result ≡ big_endian 0 (take 8 (drop at bytes.now)) }
 {
     u64::from_be_bytes([
@@ -37,7 +38,7 @@ fn word(bytes: &[u8; 36], at: usize) -> u64
 }
 
 /// The last four bytes as a big-endian number.
-fn last_bytes(bytes: &[u8; 36]) -> u32
+fn last_bytes(bytes: &[u8; LONGEST_TOKEN]) -> u32
     ensures { result ≡ big_endian 0 (take 4 (drop 32 bytes.now)) }
 {
     u32::from_be_bytes([bytes[32], bytes[33], bytes[34], bytes[35]])

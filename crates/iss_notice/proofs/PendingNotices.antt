@@ -202,7 +202,7 @@ pub refused_already : (p m : Bool) → p ≡ false → m ≡ true
     → (IsErrOf {T = Unit {0}} {E = NoticeFault} (Err fault.Already) fault.Already → IsTrue (m && not p)) × (IsTrue (m && not p) → IsErrOf {T = Unit {0}} {E = NoticeFault} (Err fault.Already) fault.Already)
 refused_already p m h k = (λ e. ap (λ (b : Bool). m && not b) h ∙ ap (λ (b : Bool). b && true) k, λ e. refl)
 
--- the outbox once a number is taken out of what is kept
+-- the outbox after a number is taken out of what is kept
 pub outbox_less : (made n : ℕ) (old new : BTreeMap ℕ Notice) (o : Outbox) → AreKept made old → record { made = made; pending = values old } ≡ o
     → new.entries ≡ remove_entry (is_at (nat_cmp n)) old.entries → record { made = made; pending = values new } ≡ with_acked o n
 outbox_less made n old new o a e entries =

@@ -49,7 +49,7 @@ impl Notices {
         })
     }
 
-    /// Adds a notice of the next number. Where allocation fails all stays as it was.
+    /// Adds a notice of the next number. If an allocation fails, all stays as it was.
     pub fn add(&mut self, notice: &Notice) -> Result<(), AllocError>
         requires next { notice.now.number ≡ self.old.made + 1 }
         ensures added { OnOk result (self.new ≡ with_notice self.old notice.now) }
@@ -92,7 +92,7 @@ impl Notices {
         self.pending.values().copied().collect(alloc)
     }
 
-    /// A notice, `None` exactly where there is none of that number or it is acknowledged.
+    /// A notice, `None` exactly if there is none of that number or it is acknowledged.
     pub fn get(&self, number: u32) -> Option<&Notice>
         ensures { option_copied result ≡ pending_notice number self.now }
     {

@@ -1,4 +1,4 @@
--- What the entries of a map by name say of the products that they list.
+-- What the entries of a map by name tell of the products that they list.
 use Rattle.std.proofs.Common.{◌≡◌, ℕ, Bool, true, false, List, [], ◌∷◌, ◌++◌, Option, Some, None, refl, sym, ap, ap₂, subst, ◌∙◌}
 use Rattle.std.specs.List.{AllByRecursion, IsDistinct}
 use Rattle.std.specs.Option.{option_map, option_map_or}

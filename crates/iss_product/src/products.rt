@@ -7,12 +7,10 @@ ghost use Rattle.iss_model.specs.state.Cores.{with_product, with_switch};
 ghost use Rattle.iss_product.specs.Listed.{products_in, switched_in};
 
 use indexmap::IndexMap;
+use iss_model::limits::{DEFAULT_HOLD, DEFAULT_TIMEOUT, MOST_OF_A_KIND};
 use iss_model::{Currency, Funding, Product, Token};
 use std::alloc::{AllocError, Global};
 use std::marker::Model;
-
-/// The most products that may stand, the built-in one among them.
-const MOST: usize = 256;
 
 /// Why a product wasn't added.
 #[derive(Clone, Copy, Debug, PartialEq, Eq)]
@@ -82,7 +80,7 @@ impl Products {
         Ok(())
     }
 
-    /// Turns a product's switch. False exactly where there is no product of that name.
+    /// Turns a product's switch. False exactly if there is no product of that name.
     pub fn set_switch(&mut self, name: &Token, on: bool) -> bool
         ensures known { result ≡ is_some (product_named name.now (products_in self.old)) }
         ensures turned { self.new ≡ with_switch self.old name.now on }
@@ -123,7 +121,7 @@ impl Products {
     pub fn is_full(&self) -> bool
         ensures { result ≡ is_full self.now }
     {
-        self.len() >= MOST
+        self.len() >= MOST_OF_A_KIND
     }
 
     fn push(&mut self, product: &Product) -> Result<(), AllocError>
@@ -150,8 +148,8 @@ fn default_product() -> Product
         name,
         currency: Currency::Usd,
         funding: Funding::Account,
-        timeout_ms: 3000,
-        hold_ms: 604_800_000,
+        timeout_ms: DEFAULT_TIMEOUT,
+        hold_ms: DEFAULT_HOLD,
     }
 }
 

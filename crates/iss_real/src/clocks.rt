@@ -1,7 +1,7 @@
 //! The time that is told, by the system's two clocks.
 
-ghost use Rattle.std.specs.Prelude.{◌≡◌, ◌+◌, ◌-◌, ◌<◌, ◌≤◌, ℕ, max, Some, None};
-ghost use Rattle.iss_real.specs.Clocks.{IsTold, IsSteady, IsAhead, jump_seen};
+ghost use Rattle.std.specs.Prelude.{◌≡◌, ◌-◌, None};
+ghost use Rattle.iss_real.specs.Clocks.{IsTold, TellsSteady, HoldsJump, BelievesJump};
 
 use std::io;
 use std::io::ErrorKind;
@@ -34,14 +34,9 @@ impl Clocks {
     /// that has passed since by the monotonic clock. Once the jump has lasted, the least that it was ahead by is believed.
     fn time_at(&mut self, elapsed: u64, time: u64) -> u64
         ensures first { self.old.offset ≡ None → IsTold time (time - elapsed) None result self.new.offset self.new.jumped }
-        ensures steady { (known : ℕ) → self.old.offset ≡ Some known → IsSteady AHEAD known elapsed time
-            → IsTold time (max (time - elapsed) known) None result self.new.offset self.new.jumped }
-        ensures held { let jump = jump_seen self.old.jumped elapsed time in
-            (known : ℕ) → self.old.offset ≡ Some known → IsAhead AHEAD known elapsed time → elapsed - jump.0 < BELIEVED
-            → IsTold (elapsed + known) known (Some jump) result self.new.offset self.new.jumped }
-        ensures believed { let jump = jump_seen self.old.jumped elapsed time in
-            (known : ℕ) → self.old.offset ≡ Some known → IsAhead AHEAD known elapsed time → BELIEVED ≤ elapsed - jump.0
-            → IsTold (elapsed + jump.1) jump.1 None result self.new.offset self.new.jumped }
+        ensures steady { TellsSteady AHEAD self.old self.new elapsed time result }
+        ensures held { HoldsJump AHEAD BELIEVED self.old self.new elapsed time result }
+        ensures believed { BelievesJump AHEAD BELIEVED self.old self.new elapsed time result }
     {
         let offset = time.saturating_sub(elapsed);
         let known = self.offset.unwrap_or(offset);

@@ -1,4 +1,4 @@
--- What a report says of an account is what the facts say.
+-- What a report shows of an account is what the facts hold.
 use Rattle.std.proofs.Common.{◌≡◌, ℤ}
 use Rattle.iss_model.specs.declared.account.Account.{Account}
 use Rattle.iss_model.specs.declared.account.Account.TheVariants as account

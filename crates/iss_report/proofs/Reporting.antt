@@ -23,7 +23,7 @@ lines_more f xs i x a b c within is p q =
     ap (map f) (take_more xs i x within ∙ ap (λ y. take i xs ++ y ∷ []) (sym is)) ∙ map-append f (take i xs) (x ∷ []) in
     subst (λ (ts : List (List ℕ)). Gains ts a c) (sym here) (gains_then (map f (take i xs)) (f x ∷ []) a b c p q)
 
--- what a core says of these accounts, and its counts
+-- what a core tells of these accounts, and its counts
 abbrev lines_by : Facts → List Account → List (List ℕ)
 lines_by f accounts = map (account_line f) accounts ++ count_line f ∷ []
 

@@ -1,4 +1,4 @@
--- What a report says is held, and when its texts are whole.
+-- What a report shows as held, and when its texts are whole.
 use Rattle.std.specs.Prelude.{ℕ, ℤ, pos, List}
 use Rattle.iss_model.specs.declared.account.Account.{Account}
 use Rattle.iss_model.specs.declared.account.Account.TheVariants as account

@@ -11,13 +11,13 @@ use Rattle.iss_scope.specs.declared.groups.GroupFault.TheVariants as fault
 abbrev pub group_of : MerchantGroup → Group
 group_of g = record { name = g.name; mccs = g.mccs }
 
--- the reason that a fault gives; a failed allocation gives none
+-- the reason of a fault; a failed allocation has none
 abbrev pub fault_reason : GroupFault → Option Reason
 fault_reason fault.Exists = Some reason.Exists
 fault_reason fault.Limit = Some reason.Limit
 fault_reason fault.OutOfMemory = None
 
--- the reason that a result gives
+-- the reason of a result
 abbrev pub reason_of_result : {A : Type 0} → Result A GroupFault → Option Reason
 reason_of_result (Ok x) = None
 reason_of_result (Err f) = fault_reason f

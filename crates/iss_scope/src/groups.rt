@@ -6,12 +6,10 @@ ghost use Rattle.iss_model.specs.rules.Reasons.{first_reason, is_full};
 ghost use Rattle.iss_scope.specs.Merchants.{reason_of_result};
 
 use iss_index::Index;
+use iss_model::limits::MOST_OF_A_KIND;
 use iss_model::{Mccs, Named, Token};
 use std::alloc::{AllocError, Global};
 use std::marker::Model;
-
-/// The most groups that may stand.
-const MOST: usize = 256;
 
 /// Why a group wasn't added.
 #[derive(Clone, Copy, Debug, PartialEq, Eq)]
@@ -68,7 +66,7 @@ impl Groups {
         }
     }
 
-    /// Adds a group of merchant category codes. `Exists` where there is a group of that name, else `Limit` where there are 256.
+    /// Adds a group of merchant category codes. `Exists` if there is a group of that name, else `Limit` if there are 256.
     pub fn add(&mut self, alloc: Global, name: &Token, mccs: &[u16]) -> Result<(), GroupFault>
         ensures added { OnOk result (self.new ≡ self.old ++ record { name = name.now; mccs = mccs.now } ∷ []) }
         ensures refused { OnErr result (self.new ≡ self.old) }
@@ -102,7 +100,7 @@ impl Groups {
     pub fn is_full(&self) -> bool
         ensures { result ≡ is_full self.now }
     {
-        self.len >= MOST
+        self.len >= MOST_OF_A_KIND
     }
 
     /// Whether there is a group of that name.
@@ -112,7 +110,7 @@ impl Groups {
         self.by_name.get(name).is_some()
     }
 
-    /// Whether the group of that name holds a code. False where there is no such group.
+    /// Whether the group of that name holds a code. False if there is no such group.
     pub fn holds(&self, name: &Token, mcc: u16) -> bool
         ensures { result ≡ holds_mcc mcc (group_named name.now self.now) }
     {

@@ -9,6 +9,7 @@ use Rattle.iss_model.specs.declared.input.Outcome.TheVariants.{Connection}
 use Rattle.iss_model.specs.declared.input.Record.{Record}
 use Rattle.iss_model.specs.Forms.{is_in_form, is_stamp}
 use Rattle.iss_model.specs.rules.Histories.{history_of}
+use Rattle.iss_session.specs.declared.piece.TheConstants.{LONGEST_PIECE}
 use Rattle.iss_session.specs.Desks.{Subject, of_call, of_notice, Task, Waiter, desk_with}
 use Rattle.iss_session.specs.Links.{Link, Heard, outcome, acknowledged}
 use Rattle.iss_session.specs.Sessions.{Session, Queued, Reader, unasked}
@@ -78,6 +79,22 @@ idle s h = to_judge s h []
 abbrev pub sending : StoreNow → HeldNow → List Queued → List Task → Stage
 sending s h first tasks = record { store = s; held = h; ready = None; first = first; tasks = tasks }
 
+-- with what is held, this input is to be judged next, and then the others
+abbrev pub judging_first : StoreNow → Held → code.Queued → List Queued → Stage
+judging_first s h first rest = to_judge s (now_of h) (queued_as first ∷ rest)
+
+-- with what is held, these inputs are left to judge
+abbrev pub left_to_judge : Held → List Queued → StoreNow → Stage
+left_to_judge h rest s = to_judge s (now_of h) rest
+
+-- with what is held, nothing is left to judge first
+abbrev pub resting : Held → StoreNow → Stage
+resting h s = idle s (now_of h)
+
+-- with what is held, the input that was heard is to be judged, if there is one
+abbrev pub judging_heard : StoreNow → Held → Option code.Queued → Stage
+judging_heard s h heard = to_judge s (now_of h) (queued_maybe heard)
+
 -- a channel is to be taken from
 abbrev pub taking : StoreNow → HeldNow → Channel → Stage
 taking s h ch = record { store = s; held = h; ready = Some ch; first = []; tasks = [] }
@@ -141,7 +158,7 @@ is_heard_numbered _ = true
 -- are awaited, are numbered from 1.
 pub record IsHeld (h : Held) : Type 0 where
   pub clock : IsTrue (is_stamp h.clock)
-  pub room : length h.buffer.items ≡ 4096
+  pub room : length h.buffer.items ≡ LONGEST_PIECE
   pub calls : CallsNumbered h.unreached.items
   pub links : LinksNumbered h.links.links
 

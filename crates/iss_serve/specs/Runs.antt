@@ -1,16 +1,25 @@
 -- A run that serves, from the store that was opened on, whatever records it stands for.
-use Rattle.std.specs.Prelude.{◌≡◌, ℕ, List}
-use Rattle.iss_edge.specs.Outer.{Outer}
+use Rattle.std.specs.Prelude.{◌≡◌, ℕ, Bool, List, Option, Result, IfOk, IfErr, OnOk, OnErr}
+use Rattle.iss_edge.specs.declared.outside.Answered.{Answered}
+use Rattle.iss_edge.specs.declared.outside.Channel.{Channel}
+use Rattle.iss_edge.specs.World.{World}
+use Rattle.iss_edge.specs.Outer.{Outer, ToldBoth}
 use Rattle.iss_model.specs.declared.input.Record.{Record}
 use Rattle.iss_model.specs.rules.Histories.{history_of}
-use Rattle.iss_session.specs.Sessions.{Session, session_of}
+use Rattle.iss_session.specs.Desks.{Task}
+use Rattle.iss_session.specs.Sessions.{Session, Queued, session_of}
 use Rattle.iss_session_examples.specs.Program.{program_readers}
-use Rattle.iss_store.specs.Values.{StoreNow, room_of}
+use Rattle.iss_store.specs.Values.{StoreNow, Plan, room_of}
 use Rattle.iss_store.specs.Standing.{StandsFor, AreHistory, region_under}
-use Rattle.iss_serve.specs.Held.{Stage, session_at}
+use Rattle.iss_serve.specs.declared.fault.ServeFault.{ServeFault}
+use Rattle.iss_serve.specs.declared.held.Held.{Held}
+use Rattle.iss_serve.specs.declared.held.Queued as code
+use Rattle.iss_serve.specs.Causes.{IsOfDisk}
+use Rattle.iss_serve.specs.Held.{Stage, session_at, now_of, queued_as, to_judge, idle, sending, taking, judging_first, left_to_judge, judging_heard, IsOf}
+use Rattle.iss_serve.specs.Judged.{judged_again}
 use Rattle.iss_serve.specs.Goings.{Goes, GoesPart, GoesToEnd, records_in}
 
--- where the store stood for some records, a run went on to where it stands for these
+-- if the store stood for some records, a run went on to where it stands for these
 pub record ServesFrom (x y : Stage) (rs : List Record) (a b : Outer) : Type 0 where
   pub now : List Record
   pub stands : StandsFor y.store now
@@ -26,7 +35,79 @@ pub record ServesOn (x y : Stage) (a b : Outer) : Type 0 where
 pub record ServesSome (failed : Type 0) (x : Stage) (a b : Outer) : Type 0 where
   pub on_book : (rs : List Record) → StandsFor x.store rs → GoesPart failed program_readers (region_under x.store) (session_at x rs) a b
 
--- the session with which a run on a store begins, where the store stands for these records
+-- If the call succeeded, the run went on from this stage to the one to which its result leads.
+abbrev pub ServesTo : {E T F : Type 0} → (E → Option World) → (E → Option (List Answered)) → E → E → Stage → Result T F → (T → Stage) → Type 0
+ServesTo told heard a b from result to = IfOk result (λ x. ToldBoth told heard (ServesOn from (to x)) a b)
+
+-- If the call failed, the run went on in part from this stage, and might have gone on, unless a call on the device failed.
+abbrev pub ServesInPart : {E T : Type 0} → (E → Option World) → (E → Option (List Answered)) → E → E → Stage → Result T ServeFault → Type 0
+ServesInPart told heard a b from result = IfErr result (λ why. ToldBoth told heard (ServesSome (IsOfDisk why) from) a b)
+
+-- If memory was short, the run went on in part from this stage, and might have gone on.
+abbrev pub ServesShort : {E T F : Type 0} → (E → Option World) → (E → Option (List Answered)) → E → E → Stage → Result T F → Type 0
+ServesShort told heard a b from result = OnErr result (ToldBoth told heard (ServesSome ⊥ from) a b)
+
+-- If the call succeeded, this input was judged, and the others are left to judge, whichever they are.
+abbrev pub JudgesFirst : {E F : Type 0} → (E → Option World) → (E → Option (List Answered)) → E → E
+    → StoreNow → Held → Held → code.Queued → Result StoreNow F → Type 0
+JudgesFirst told heard a b store before after queued result =
+    (rest : List Queued) → ServesTo told heard a b (judging_first store before queued rest) result (left_to_judge after rest)
+
+-- If the call succeeded, this input was judged once. It is to be judged again if the result says so, and then the others, whichever they are.
+abbrev pub JudgesOnce : {E F : Type 0} → (E → Option World) → (E → Option (List Answered)) → E → E
+    → StoreNow → Held → Held → code.Queued → Result (StoreNow × Bool) F → Type 0
+JudgesOnce told heard a b store before after queued result =
+    (rest : List Queued)
+    → ServesTo told heard a b (judging_first store before queued rest) result
+      (λ x. to_judge x.0 (now_of after) (judged_again x.1 (queued_as queued) rest))
+
+-- If the call succeeded, this plan of the input was kept. After a time record the input is to be judged again, and then the others,
+-- whichever they are.
+abbrev pub KeepsPlan : {E F : Type 0} → (E → Option World) → (E → Option (List Answered)) → E → E
+    → StoreNow → Plan → Held → Held → code.Queued → Result StoreNow F → Type 0
+KeepsPlan told heard a b store planned before after queued result =
+    (rest : List Queued)
+    → ServesTo told heard a b (judging_first store before queued rest) result
+      (λ next. to_judge next (now_of after) (judged_again planned.is_clock (queued_as queued) rest))
+
+-- If the call failed, judging this input went on in part, whichever others are to be judged then.
+abbrev pub JudgesPart : {E T : Type 0} → (E → Option World) → (E → Option (List Answered)) → E → E → StoreNow → Held → code.Queued → Result T ServeFault → Type 0
+JudgesPart told heard a b store before queued result =
+    (rest : List Queued) → ServesInPart told heard a b (judging_first store before queued rest) result
+
+-- If the call succeeded, these texts went out, and the inputs are left to judge, whichever they are.
+abbrev pub SendsFirst : {E T F : Type 0} → (E → Option World) → (E → Option (List Answered)) → E → E → StoreNow → Held → Held → List Task → Result T F → Type 0
+SendsFirst told heard a b store before after tasks result =
+    (first : List Queued)
+    → OnOk result (ToldBoth told heard (ServesOn (sending store (now_of before) first tasks) (to_judge store (now_of after) first)) a b)
+
+-- If memory was short, some of these texts went out, whichever inputs are to be judged then.
+abbrev pub SendsFirstPart : {E T F : Type 0} → (E → Option World) → (E → Option (List Answered)) → E → E → StoreNow → Held → List Task → Result T F → Type 0
+SendsFirstPart told heard a b store before tasks result =
+    (first : List Queued) → ServesShort told heard a b (sending store (now_of before) first tasks) result
+
+-- Whatever store the links are of: if the call succeeded, the run went on from this stage to judging what was heard.
+abbrev pub HearsFrom : {E F : Type 0} → (E → Option World) → (E → Option (List Answered)) → E → E
+    → Held → Held → (StoreNow → Stage) → Result (Option code.Queued) F → Type 0
+HearsFrom told heard a b before after from result =
+    (store : StoreNow) → IsOf store before → ServesTo told heard a b (from store) result (judging_heard store after)
+
+-- The same of a channel that is taken from, and of any store.
+abbrev pub HearsOfAny : {E F : Type 0} → (E → Option World) → (E → Option (List Answered)) → E → E
+    → Held → Held → Channel → Result (Option code.Queued) F → Type 0
+HearsOfAny told heard a b before after ch result =
+    (store : StoreNow) → ServesTo told heard a b (taking store (now_of before) ch) result (judging_heard store after)
+
+-- Whatever store the links are of: if memory was short, the run went on in part from this stage.
+abbrev pub HearsShort : {E T F : Type 0} → (E → Option World) → (E → Option (List Answered)) → E → E → Held → (StoreNow → Stage) → Result T F → Type 0
+HearsShort told heard a b before from result = (store : StoreNow) → IsOf store before → ServesShort told heard a b (from store) result
+
+-- What came on this channel was passed over, whatever the store.
+abbrev pub PassesOver : {E : Type 0} → (E → Option World) → (E → Option (List Answered)) → E → E → Held → Held → Channel → Type 0
+PassesOver told heard a b before after ch =
+    (store : StoreNow) → ToldBoth told heard (ServesOn (taking store (now_of before) ch) (idle store (now_of after))) a b
+
+-- the session with which a run on a store begins, if the store stands for these records
 abbrev pub session_on : StoreNow → ℕ → List Record → Session
 session_on s turns rs = session_of (record { instance = s.core.instance; room = room_of s; history = history_of rs }) turns
 
@@ -36,10 +117,10 @@ pub record EndsWith (s : StoreNow) (turns : ℕ) (rs : List Record) (a b : Outer
   pub goes : GoesToEnd program_readers (region_under s) (session_on s turns rs) last a b
   pub history : AreHistory (records_in last)
 
--- A run with so many turns went on to its end since its store was opened, whatever records that stood for.
+-- A run with this many turns went on to its end since its store was opened, whatever records that stood for.
 pub record ServesToEnd (s : StoreNow) (turns : ℕ) (a b : Outer) : Type 0 where
   pub on_book : (rs : List Record) → StandsFor s rs → EndsWith s turns rs a b
 
--- A run with so many turns ended by a fault since its store was opened, and might have gone on, unless this failed.
+-- A run with this many turns ended by a fault since its store was opened, and might have gone on, unless this failed.
 pub record ServesUpTo (failed : Type 0) (s : StoreNow) (turns : ℕ) (a b : Outer) : Type 0 where
   pub on_book : (rs : List Record) → StandsFor s rs → GoesPart failed program_readers (region_under s) (session_on s turns rs) a b

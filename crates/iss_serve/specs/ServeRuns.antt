@@ -1,10 +1,12 @@
 -- What a run that serves does, whatever status it ends with.
-use Rattle.std.specs.Prelude.{◌≡◌, ℕ, zero, suc, ◌≤◌, ◌⊎◌, false, true, List, [], ◌∷◌, ◌++◌, Some, Result, Ok, Err, IfErr}
+use Rattle.std.specs.Prelude.{◌≡◌, ℕ, zero, suc, ◌≤◌, ◌⊎◌, false, true, List, [], ◌∷◌, ◌++◌, Option, Some, Result, Ok, Err, IfErr}
+use Rattle.iss_edge.specs.declared.status.TheConstants.{DONE, INPUT_FAULT, BAD_DEVICE, DISK_FAULT, OUT_OF_MEMORY}
 use Rattle.iss_edge.specs.declared.outside.Channel.{Channel}
 use Rattle.iss_edge.specs.declared.outside.Action.{Action}
 use Rattle.iss_edge.specs.declared.outside.Arrival.TheVariants.{Client}
+use Rattle.iss_edge.specs.declared.outside.Answered.{Answered}
 use Rattle.iss_edge.specs.declared.outside.Answered.TheVariants.{Waited}
-use Rattle.iss_edge.specs.Outer.{Outer}
+use Rattle.iss_edge.specs.Outer.{Outer, ToldBoth}
 use Rattle.iss_edge.specs.World.{World, Faults, Later, Rose, sent_on}
 use Rattle.iss_edge.specs.Stretches.{Step, actions_of}
 use Rattle.iss_model.specs.declared.input.Record.{Record}
@@ -26,13 +28,13 @@ use Rattle.iss_serve.specs.Goings.{NoWaitFailed}
 
 -- the exit status of a run that serves
 abbrev pub status_of : {A : Type 0} → Result A ServeFault → ℕ
-status_of (Ok done) = 0
-status_of (Err Wait) = 3
-status_of (Err Device) = 4
-status_of (Err Disk) = 6
-status_of (Err OutOfMemory) = 7
+status_of (Ok done) = DONE
+status_of (Err Wait) = INPUT_FAULT
+status_of (Err Device) = BAD_DEVICE
+status_of (Err Disk) = DISK_FAULT
+status_of (Err OutOfMemory) = OUT_OF_MEMORY
 
--- the session with which a run begins on a device of this instance that stands for these records, with so many waits to come
+-- the session with which a run begins on a device of this instance that stands for these records, with this many waits to come
 abbrev pub session_on_device : ℕ → ℕ → List Record → List ℕ → Session
 session_on_device turns instance rs device = session_of (run_on_device instance rs device) turns
 
@@ -67,14 +69,14 @@ pub record SentInPart (ch : ℕ) (said : List Step) (a b : World) : Type 0 where
   pub unsent : List ℕ
   pub sent : sent_on ch a.trace ++ sent_on ch (actions_of said) ≡ sent_on ch b.trace ++ unsent
 
--- No channel is left open that was dialled or sent on, and none that a client came on: each was closed, and behind that nothing was sent on it.
+-- No channel is left open that was dialled or sent on, and none that a client came on: each was closed, and after that nothing was sent on it.
 pub record AllClosed (s : Session) (happenings : List Happening) : Type 0 where
   pub dialled : (n : ℕ) → left_open n false (actions_of (all_steps_said s happenings)) ≡ false
   pub clients : (before after : List Happening) (item : Item) (ch : Channel) → item.answer ≡ Waited (Some (Client ch)) → happenings ≡ before ++ hears item ∷ after
       → left_open ch.0 true (actions_of (all_steps_said (session_then s (before ++ hears item ∷ [])) after)) ≡ false
 
 -- What a run did that served to its end: no wait failed, nothing was left to hear, each channel has exactly the bytes that the session says, each was closed
--- behind its last bytes, and the device stands for the records that stood and those that the session made. If the run began at rest, the
+-- after its last bytes, and the device stands for the records that stood and those that the session made. If the run began at rest, the
 -- next one begins there.
 pub record ServedWhole (instance : ℕ) (rs : List Record) (s : Session) (happenings : List Happening) (actions : List Action) (a b : World) : Type 0 where
   pub came : NoWaitFailed happenings
@@ -84,12 +86,12 @@ pub record ServedWhole (instance : ℕ) (rs : List Record) (s : Session) (happen
   pub stands : DeviceStandsFor instance (records_then rs s happenings) b.device
   pub ends : EndsAtRest instance rs (records_then rs s happenings) actions a b
 
--- What a run with this status and so many turns did that began with the session s, on a device that stands for these records. What it heard
--- is what its session called for, in at most so many waits. The opening of the device writes to it and syncs it, and no more. What was done
--- on channels behind it is what the session says, or a first part of it; and so are the bytes on each channel. At whatever moment it stops,
--- where the device stood firmly for them it stands for the records that stood and a first part of those that the session makes, which are
--- a history, at least as many as the level of each text of which a byte went out; within the opening one more may stand, which is left
--- behind. So it does of a device with unsynced writes, once a sync of the opening has succeeded. The next run may begin with what a stop
+-- What a run with this status did that began with the session s, on a device that stands for these records. It heard what its session called
+-- for, and waited at most as often as it has turns. The opening of the device writes to it and syncs it, and no more. What was done
+-- on channels after it is what the session says, or a first part of it; and so are the bytes on each channel. Assume that the device stood
+-- firmly for its records. Then at whatever moment the run stops, the device stands for them and a first part of those that the session
+-- makes. These are a history, at least as many as the level of each text of which a byte went out; within the opening one more may stand,
+-- which is left behind. So it does of a device with unsynced writes, once a sync of the opening has succeeded. The next run may begin with what a stop
 -- leaves. At 0 all of it was done. Unless a call on the device failed, nothing was done but maybe a sync, or the run ended where the next
 -- one begins.
 pub record ServeOn (turns status instance : ℕ) (rs : List Record) (s : Session) (a b : Outer) : Type 0 where
@@ -107,18 +109,18 @@ pub record ServeOn (turns status instance : ℕ) (rs : List Record) (s : Session
   pub moments : EachMoment instance rs (records_then rs s happenings) opening later a.world.device
   pub unsynced : EachMomentUnsynced instance rs (records_then rs s happenings) opening later a.world.device
   pub stops : EachStopStands instance rs (records_then rs s happenings) (opening ++ later) a.world.device
-  pub whole : status ≡ 0 → ServedWhole instance rs s happenings (actions_of (opening ++ later)) a.world b.world
-  pub ended : (status ≡ 6 → ⊥)
+  pub whole : status ≡ DONE → ServedWhole instance rs s happenings (actions_of (opening ++ later)) a.world b.world
+  pub ended : (status ≡ DISK_FAULT → ⊥)
       → ReadsAlone a.world b.world ⊎ EndsAtRest instance rs (records_then rs s happenings) (actions_of (opening ++ later)) a.world b.world
-  pub other_device : status ≡ 4 → ⊥
+  pub other_device : status ≡ BAD_DEVICE → ⊥
 
--- whichever records the device stands for, if any
+-- what such a run did, whichever records the device stands for, if any
 abbrev pub ServeRun : ℕ → ℕ → Outer → Outer → Type 0
 ServeRun turns status a b =
     (instance : ℕ) (rs : List Record) → DeviceStandsFor instance rs a.world.device
     → ServeOn turns status instance rs (session_on_device turns instance rs a.world.device) a b
 
--- what holds of the worlds, where what was heard is told beside them
+-- what holds of the worlds, when what was heard is told beside them
 abbrev pub OfWorlds : (World → World → Type 0) → Outer → Outer → Type 0
 OfWorlds R a b = R a.world b.world
 
@@ -134,9 +136,13 @@ pub record EndsCaused {A : Type 0} (before now : Faults) (result : Result A Serv
   pub later : Later before now
   pub cause : IfErr result (EndingCause before now)
 
--- where no count on the device or on input rose, and the device stands for records, the status is 0 or 7; peers and links may fail
+-- if no count on the device or on input rose, and the device stands for records, the status is 0 or 7; peers and links may fail
 abbrev pub ServeEndsWell : Faults → Faults → ℕ → World → World → Type 0
 ServeEndsWell before now status a b =
     (instance : ℕ) (rs : List Record) → DeviceStandsFor instance rs a.device
     → (Rose before.disk now.disk → ⊥) → (Rose before.input now.input → ⊥)
-    → (status ≡ 0) ⊎ (status ≡ 7)
+    → (status ≡ DONE) ⊎ (status ≡ OUT_OF_MEMORY)
+
+-- the same, by what an edge tells before the run and after it
+abbrev pub ServeEndsWellOn : {E : Type 0} → (E → Faults) → (E → Option World) → (E → Option (List Answered)) → E → E → ℕ → Type 0
+ServeEndsWellOn faults told heard a b status = ToldBoth told heard (OfWorlds (ServeEndsWell (faults a) (faults b) status)) a b

@@ -1,8 +1,8 @@
 //! The end of a run that serves: every channel that is still open is closed.
 ghost use Rattle.std.specs.Prelude.{[], map, OnOk, OnErr};
 ghost use Rattle.iss_edge.specs.declared.outside.Action.TheVariants.{Close};
-ghost use Rattle.iss_edge.specs.World.{Told, Later};
-ghost use Rattle.iss_edge.specs.Outer.{outer_of, Adds};
+ghost use Rattle.iss_edge.specs.World.{Later};
+ghost use Rattle.iss_edge.specs.Outer.{Adds, ToldBoth};
 ghost use Rattle.iss_serve.specs.Closings.{open_channels};
 ghost use Rattle.iss_serve.specs.Held.{now_of};
 
@@ -12,10 +12,8 @@ use std::alloc::{AllocError, Global};
 
 /// Closes the clients whose requests aren't whole, the clients that wait, and the channels to the gateway.
 pub(crate) fn close_all<E: Edge>(alloc: Global, held: &Held, edge: &mut E) -> Result<(), AllocError>
-    ensures closed { OnOk result (Told (Adds (map Close (open_channels (now_of held.now))) [])
-        (outer_of (E.told edge.old) (E.heard edge.old)) (outer_of (E.told edge.new) (E.heard edge.new))) }
-    ensures unchanged { OnErr result (Told (Adds [] [])
-        (outer_of (E.told edge.old) (E.heard edge.old)) (outer_of (E.told edge.new) (E.heard edge.new))) }
+    ensures closed { OnOk result (ToldBoth E.told E.heard (Adds (map Close (open_channels (now_of held.now))) []) edge.old edge.new) }
+    ensures unchanged { OnErr result (ToldBoth E.told E.heard (Adds [] []) edge.old edge.new) }
     ensures later { Later (E.faults edge.old) (E.faults edge.new) }
 {
     let reading = held.clients.channels(alloc)?;
@@ -29,8 +27,7 @@ pub(crate) fn close_all<E: Edge>(alloc: Global, held: &Held, edge: &mut E) -> Re
 
 /// Closes these channels.
 fn close_each<E: Edge>(edge: &mut E, channels: &[Channel])
-    ensures closed { Told (Adds (map Close channels.now) [])
-        (outer_of (E.told edge.old) (E.heard edge.old)) (outer_of (E.told edge.new) (E.heard edge.new)) }
+    ensures closed { ToldBoth E.told E.heard (Adds (map Close channels.now) []) edge.old edge.new }
     ensures later { Later (E.faults edge.old) (E.faults edge.new) }
 {
     for ch in channels {

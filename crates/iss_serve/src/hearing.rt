@@ -1,21 +1,22 @@
 //! What a wait brings: a client, a channel that is ready, the time, or nothing.
-ghost use Rattle.std.specs.Prelude.{◌≡◌, ◌<◌, ◌≤◌, ℕ, List, [], ◌∷◌, Some, None, true, false, length, IfOk, IfErr, OnErr, IfSome, IsSome};
+ghost use Rattle.std.specs.Prelude.{◌≡◌, ◌<◌, ◌≤◌, [], ◌∷◌, Some, None, true, false, length, IfOk, IfSome, IsSome};
 ghost use Rattle.iss_edge.specs.declared.outside.Action.TheVariants.{Close};
 ghost use Rattle.iss_edge.specs.declared.outside.Answered.TheVariants.{Took};
-ghost use Rattle.iss_edge.specs.World.{Told, Later};
-ghost use Rattle.iss_edge.specs.Outer.{outer_of, Adds};
+ghost use Rattle.iss_edge.specs.World.{Later, Stays};
+ghost use Rattle.iss_edge.specs.Outer.{Adds, ToldBoth};
 ghost use Rattle.iss_model.specs.declared.input.Input.TheVariants as input_of;
-ghost use Rattle.iss_session.specs.Desks.{Task, Waiter, to_reply, desk_with, waiters_without};
+ghost use Rattle.iss_session.specs.declared.piece.TheConstants.{LONGEST_PIECE};
+ghost use Rattle.iss_session.specs.Desks.{waiters_without};
 ghost use Rattle.iss_session.specs.Hearings.{is_reading, is_waiting, link_at, inputs_of, readers_without};
-ghost use Rattle.iss_session.specs.Sendings.{Sends};
 ghost use Rattle.iss_link.specs.Hearing.{got_in};
 ghost use Rattle.iss_session.specs.Sessions.{unasked};
 ghost use Rattle.iss_link.specs.Values.{heard_of};
 ghost use Rattle.iss_store.specs.Numbers.{is_from_one};
+ghost use Rattle.iss_store.specs.Serving.{SendsReply};
 ghost use Rattle.iss_store.specs.Values.{StoreNow};
-ghost use Rattle.iss_serve.specs.Causes.{IsServeCaused, IsOfDisk};
-ghost use Rattle.iss_serve.specs.Held.{now_of, queued_maybe, queued_as, IsQueuedInForm, idle, to_judge, taking, arrived, is_heard_numbered, IsHeld, IsStillHeld, IsOf};
-ghost use Rattle.iss_serve.specs.Runs.{ServesOn, ServesSome};
+ghost use Rattle.iss_serve.specs.Causes.{IsServeCaused};
+ghost use Rattle.iss_serve.specs.Held.{now_of, queued_maybe, queued_as, IsQueuedInForm, resting, taking, arrived, is_heard_numbered, IsHeld, IsStillHeld, IsOf};
+ghost use Rattle.iss_serve.specs.Runs.{HearsFrom, HearsOfAny, HearsShort, PassesOver, ServesInPart, ServesShort};
 
 use crate::ServeFault;
 use crate::held::{Held, Queued};
@@ -42,14 +43,11 @@ impl Held {
         ensures instance { IfOk result (λ heard. self.new.links.instance ≡ self.old.links.instance) }
         ensures turns { IfOk result (λ heard. self.new.turns < self.old.turns) }
         ensures forms { IfOk result (λ heard. IfSome heard IsQueuedInForm) }
-        ensures hears { (store : StoreNow) → IsOf store self.old
-            → IfOk result (λ heard. Told (ServesOn (idle store (now_of self.old)) (to_judge store (now_of self.new) (queued_maybe heard)))
-            (outer_of (E.told edge.old) (E.heard edge.old)) (outer_of (E.told edge.new) (E.heard edge.new))) }
+        ensures hears { HearsFrom E.told E.heard edge.old edge.new self.old self.new (resting self.old) result }
         ensures part { (store : StoreNow) → IsOf store self.old
-            → IfErr result (λ why. Told (ServesSome (IsOfDisk why) (idle store (now_of self.old)))
-            (outer_of (E.told edge.old) (E.heard edge.old)) (outer_of (E.told edge.new) (E.heard edge.new))) }
+            → ServesInPart E.told E.heard edge.old edge.new (resting self.old store) result }
         ensures caused { IsServeCaused (E.faults edge.old) (E.faults edge.new) result }
-        ensures kept { E.extent edge.new ≡ E.extent edge.old }
+        ensures kept { Stays E.extent edge.old edge.new }
     {
         self.turns -= 1;
         let Ok(arrival) = edge.wait() else {
@@ -86,14 +84,10 @@ impl Held {
         ensures still { IfOk result (λ heard. IsStillHeld self.old self.new) }
         ensures settled { IfOk result (λ heard. self.new.unreached.items ≡ []) }
         ensures forms { IfOk result (λ heard. IfSome heard IsQueuedInForm) }
-        ensures hears { (store : StoreNow) → IsOf store self.old
-            → IfOk result (λ heard. Told (ServesOn (arrived store (now_of self.old) ch) (to_judge store (now_of self.new) (queued_maybe heard)))
-            (outer_of (E.told edge.old) (E.heard edge.old)) (outer_of (E.told edge.new) (E.heard edge.new))) }
-        ensures part { (store : StoreNow) → IsOf store self.old
-            → OnErr result (Told (ServesSome ⊥ (arrived store (now_of self.old) ch))
-            (outer_of (E.told edge.old) (E.heard edge.old)) (outer_of (E.told edge.new) (E.heard edge.new))) }
+        ensures hears { HearsFrom E.told E.heard edge.old edge.new self.old self.new (λ store. arrived store (now_of self.old) ch) result }
+        ensures part { HearsShort E.told E.heard edge.old edge.new self.old (λ store. arrived store (now_of self.old) ch) result }
         ensures later { Later (E.faults edge.old) (E.faults edge.new) }
-        ensures kept { E.extent edge.new ≡ E.extent edge.old }
+        ensures kept { Stays E.extent edge.old edge.new }
     {
         if self.clients.is_reading(ch) {
             return self.take_request(alloc, edge, ch);
@@ -122,13 +116,10 @@ impl Held {
         ensures still { IfOk result (λ heard. IsStillHeld self.old self.new) }
         ensures settled { IfOk result (λ heard. self.new.unreached.items ≡ []) }
         ensures forms { IfOk result (λ heard. IfSome heard IsQueuedInForm) }
-        ensures hears { (store : StoreNow)
-            → IfOk result (λ heard. Told (ServesOn (taking store (now_of self.old) ch) (to_judge store (now_of self.new) (queued_maybe heard)))
-            (outer_of (E.told edge.old) (E.heard edge.old)) (outer_of (E.told edge.new) (E.heard edge.new))) }
-        ensures part { (store : StoreNow) → OnErr result (Told (ServesSome ⊥ (taking store (now_of self.old) ch))
-            (outer_of (E.told edge.old) (E.heard edge.old)) (outer_of (E.told edge.new) (E.heard edge.new))) }
+        ensures hears { HearsOfAny E.told E.heard edge.old edge.new self.old self.new ch result }
+        ensures part { (store : StoreNow) → ServesShort E.told E.heard edge.old edge.new (taking store (now_of self.old) ch) result }
         ensures later { Later (E.faults edge.old) (E.faults edge.new) }
-        ensures kept { E.extent edge.new ≡ E.extent edge.old }
+        ensures kept { Stays E.extent edge.old edge.new }
     {
         let Some(count) = take_piece(edge, ch, &mut self.buffer) else {
             self.lose_client(edge, ch);
@@ -156,10 +147,9 @@ impl Held {
     fn lose_client<E: Edge>(&mut self, edge: &mut E, ch: Channel)
         ensures now { now_of self.new ≡ record (now_of self.old) { clients = readers_without ch self.old.clients } }
         ensures still { IsStillHeld self.old self.new }
-        ensures told { Told (Adds (Close ch ∷ []) [])
-            (outer_of (E.told edge.old) (E.heard edge.old)) (outer_of (E.told edge.new) (E.heard edge.new)) }
+        ensures told { ToldBoth E.told E.heard (Adds (Close ch ∷ []) []) edge.old edge.new }
         ensures later { Later (E.faults edge.old) (E.faults edge.new) }
-        ensures kept { E.extent edge.new ≡ E.extent edge.old }
+        ensures kept { Stays E.extent edge.old edge.new }
     {
         self.clients.remove(ch);
         edge.close(ch);
@@ -169,11 +159,9 @@ impl Held {
     pub(crate) fn answer_client<E: Edge>(&mut self, edge: &mut E, ch: Channel, text: &[u8])
         ensures now { now_of self.new ≡ record (now_of self.old) { served = waiters_without ch self.old.served } }
         ensures still { IsStillHeld self.old self.new }
-        ensures sends { (level : ℕ) → (tasks : List Task) → (waiting : List Waiter)
-            → Told (Sends level (desk_with (to_reply ch text.now ∷ tasks) waiting) (desk_with tasks (waiters_without ch waiting)) [])
-            (outer_of (E.told edge.old) (E.heard edge.old)) (outer_of (E.told edge.new) (E.heard edge.new)) }
+        ensures sends { SendsReply E.told E.heard edge.old edge.new ch text.now }
         ensures later { Later (E.faults edge.old) (E.faults edge.new) }
-        ensures kept { E.extent edge.new ≡ E.extent edge.old }
+        ensures kept { Stays E.extent edge.old edge.new }
     {
         reply(edge, ch, text);
         self.served.forget(ch);
@@ -188,10 +176,9 @@ impl Held {
         requires ready { (E.channels edge.old).ready ≡ Some ch.0 }
         ensures still { IsStillHeld self.old self.new }
         ensures settled { self.new.unreached.items ≡ [] }
-        ensures hears { (store : StoreNow) → Told (ServesOn (taking store (now_of self.old) ch) (idle store (now_of self.new)))
-            (outer_of (E.told edge.old) (E.heard edge.old)) (outer_of (E.told edge.new) (E.heard edge.new)) }
+        ensures hears { PassesOver E.told E.heard edge.old edge.new self.old self.new ch }
         ensures later { Later (E.faults edge.old) (E.faults edge.new) }
-        ensures kept { E.extent edge.new ≡ E.extent edge.old }
+        ensures kept { Stays E.extent edge.old edge.new }
     {
         match take_piece(edge, ch, &mut self.buffer) {
             Some(_) => {}
@@ -204,10 +191,9 @@ impl Held {
     fn lose_waiter<E: Edge>(&mut self, edge: &mut E, ch: Channel)
         ensures now { now_of self.new ≡ record (now_of self.old) { served = waiters_without ch self.old.served } }
         ensures still { IsStillHeld self.old self.new }
-        ensures told { Told (Adds (Close ch ∷ []) [])
-            (outer_of (E.told edge.old) (E.heard edge.old)) (outer_of (E.told edge.new) (E.heard edge.new)) }
+        ensures told { ToldBoth E.told E.heard (Adds (Close ch ∷ []) []) edge.old edge.new }
         ensures later { Later (E.faults edge.old) (E.faults edge.new) }
-        ensures kept { E.extent edge.new ≡ E.extent edge.old }
+        ensures kept { Stays E.extent edge.old edge.new }
     {
         self.served.forget(ch);
         edge.close(ch);
@@ -229,14 +215,10 @@ impl Held {
         ensures still { IfOk result (λ heard. IsStillHeld self.old self.new) }
         ensures settled { IfOk result (λ heard. self.new.unreached.items ≡ []) }
         ensures forms { IfOk result (λ heard. IfSome heard IsQueuedInForm) }
-        ensures hears { (store : StoreNow) → IsOf store self.old
-            → IfOk result (λ heard. Told (ServesOn (taking store (now_of self.old) ch) (to_judge store (now_of self.new) (queued_maybe heard)))
-            (outer_of (E.told edge.old) (E.heard edge.old)) (outer_of (E.told edge.new) (E.heard edge.new))) }
-        ensures part { (store : StoreNow) → IsOf store self.old
-            → OnErr result (Told (ServesSome ⊥ (taking store (now_of self.old) ch))
-            (outer_of (E.told edge.old) (E.heard edge.old)) (outer_of (E.told edge.new) (E.heard edge.new))) }
+        ensures hears { HearsFrom E.told E.heard edge.old edge.new self.old self.new (λ store. taking store (now_of self.old) ch) result }
+        ensures part { HearsShort E.told E.heard edge.old edge.new self.old (λ store. taking store (now_of self.old) ch) result }
         ensures later { Later (E.faults edge.old) (E.faults edge.new) }
-        ensures kept { E.extent edge.new ≡ E.extent edge.old }
+        ensures kept { Stays E.extent edge.old edge.new }
     {
         let heard = self.links.ready(alloc, edge, ch)?;
         Ok(queued_of(&heard))
@@ -247,13 +229,12 @@ impl Held {
 #[tactic(auto, using(iss_edge::proofs::Outers::told_takes, iss_edge::proofs::Outers::told_untaken))]
 fn take_piece<E: Edge>(edge: &mut E, ch: Channel, buffer: &mut [u8]) -> Option<usize>
     requires ready { (E.channels edge.old).ready ≡ Some ch.0 }
-    requires room { length buffer.old ≡ 4096 }
-    ensures room { length buffer.new ≡ 4096 }
+    requires room { length buffer.old ≡ LONGEST_PIECE }
+    ensures room { length buffer.new ≡ LONGEST_PIECE }
     ensures bound { IfSome result (λ count. count ≤ length buffer.new) }
-    ensures told { Told (Adds [] (Took ch (got_in buffer.new result) ∷ []))
-        (outer_of (E.told edge.old) (E.heard edge.old)) (outer_of (E.told edge.new) (E.heard edge.new)) }
+    ensures told { ToldBoth E.told E.heard (Adds [] (Took ch (got_in buffer.new result) ∷ [])) edge.old edge.new }
     ensures later { Later (E.faults edge.old) (E.faults edge.new) }
-    ensures kept { E.extent edge.new ≡ E.extent edge.old }
+    ensures kept { Stays E.extent edge.old edge.new }
 {
     match edge.take(ch, buffer) {
         Ok(count) => Some(count),

@@ -1,5 +1,6 @@
 //! What is held while a run serves.
-ghost use Rattle.std.specs.Prelude.{◌≡◌, ◌<◌, ◌^◌, ◌∷◌, [], true, length, IfOk, OnOk};
+ghost use Rattle.std.specs.Prelude.{◌≡◌, ◌<◌, ◌∷◌, [], true, length, IfOk, OnOk};
+ghost use Rattle.iss_model.specs.declared.limits.TheConstants.{INSTANCES};
 ghost use Rattle.iss_store.specs.Serving.{has_number, HaveNumbers};
 ghost use Rattle.iss_serve.specs.Held.{now_of, noted, IsHeld, IsStillHeld};
 
@@ -7,11 +8,9 @@ use crate::clients::Clients;
 use iss_edge::Channel;
 use iss_link::{Gone, Links};
 use iss_model::{CallId, Input};
+use iss_session::piece::LONGEST_PIECE;
 use iss_store::Served;
 use std::alloc::{AllocError, Global};
-
-/// How many bytes a take may bring.
-const PIECE: usize = 4096;
 
 /// An input that is to be judged, and for a client's line the channel that it came on.
 #[derive(Drop)]
@@ -40,9 +39,9 @@ pub(crate) struct Held {
 }
 
 impl Held {
-    /// Nothing is held, and so many waits are left.
+    /// Nothing is held, and `turns` waits are left.
     pub(crate) fn new(alloc: Global, instance: u64, turns: u32) -> Result<Held, AllocError>
-        requires { instance < 2 ^ 48 }
+        requires { instance < INSTANCES }
         ensures now { IfOk result (λ held. now_of held ≡ record {
           clients = [];
           served = [];
@@ -60,7 +59,7 @@ impl Held {
             unreached: Vec::new(alloc),
             clock: 0,
             turns,
-            buffer: zeros(alloc, PIECE)?,
+            buffer: zeros(alloc, LONGEST_PIECE)?,
         })
     }
 

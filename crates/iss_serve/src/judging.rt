@@ -1,16 +1,14 @@
 //! Inputs are judged one after the other. What a record makes lasts before anything of it goes out.
-ghost use Rattle.std.specs.Prelude.{◌≡◌, ◌<◌, ◌∷◌, List, [], true, IfOk, IfErr, OnErr, OnOk};
-ghost use Rattle.iss_edge.specs.World.{Told, Later};
-ghost use Rattle.iss_edge.specs.Outer.{outer_of};
+ghost use Rattle.std.specs.Prelude.{◌≡◌, ◌<◌, [], true, IfOk, OnOk};
+ghost use Rattle.iss_edge.specs.World.{Told, Later, Stays};
 ghost use Rattle.iss_session.specs.Judgements.{answer_tasks};
-ghost use Rattle.iss_session.specs.Sessions as session;
 ghost use Rattle.iss_store.specs.Planning.{IsPlanOf};
 ghost use Rattle.iss_store.specs.Saying.{IsDurableOf};
 ghost use Rattle.iss_store.specs.Serving.{tasks_of_record};
-ghost use Rattle.iss_serve.specs.Causes.{IsServeCaused, IsOfDisk};
-ghost use Rattle.iss_serve.specs.Held.{now_of, queued_as, answers_unreached, IsQueuedInForm, idle, to_judge, sending, CallsNumbered, IsHeld, IsStillHeld, IsOf, records_left};
-ghost use Rattle.iss_serve.specs.Judged.{Judges, Settles, judged_again, waiting_for, IsPlannedFor};
-ghost use Rattle.iss_serve.specs.Runs.{ServesOn, ServesSome};
+ghost use Rattle.iss_serve.specs.Causes.{IsServeCaused};
+ghost use Rattle.iss_serve.specs.Held.{now_of, queued_as, answers_unreached, IsQueuedInForm, judging_first, left_to_judge, resting, CallsNumbered, IsHeld, IsStillHeld, IsOf, records_left};
+ghost use Rattle.iss_serve.specs.Judged.{Judges, Settles, waiting_for, IsPlannedFor};
+ghost use Rattle.iss_serve.specs.Runs.{ServesTo, ServesInPart, JudgesFirst, JudgesOnce, JudgesPart, KeepsPlan, SendsFirst, SendsFirstPart};
 
 use crate::ServeFault;
 use crate::hearing::answer;
@@ -33,13 +31,11 @@ pub(crate) fn judge_all<E: Edge>(
     requires held { IsHeld held.old }
     requires instance { IsOf store held.old }
     requires form { IsQueuedInForm first.now }
-    ensures judged { IfOk result (λ next. Told (ServesOn (to_judge store (now_of held.old) (queued_as first.now ∷ [])) (idle next (now_of held.new)))
-        (outer_of (E.told edge.old) (E.heard edge.old)) (outer_of (E.told edge.new) (E.heard edge.new))) }
-    ensures part { IfErr result (λ why. Told (ServesSome (IsOfDisk why) (to_judge store (now_of held.old) (queued_as first.now ∷ [])))
-        (outer_of (E.told edge.old) (E.heard edge.old)) (outer_of (E.told edge.new) (E.heard edge.new))) }
+    ensures judged { ServesTo E.told E.heard edge.old edge.new (judging_first store held.old first.now []) result (resting held.new) }
+    ensures part { ServesInPart E.told E.heard edge.old edge.new (judging_first store held.old first.now []) result }
     ensures settles { IfOk result (λ next. Settles store next held.old held.new) }
     ensures caused { IsServeCaused (E.faults edge.old) (E.faults edge.new) result }
-    ensures kept { E.extent edge.new ≡ E.extent edge.old }
+    ensures kept { Stays E.extent edge.old edge.new }
 {
     let next = judge(alloc, store, held, first, edge)?;
     judge_unreached(alloc, next, held, edge)
@@ -55,13 +51,11 @@ pub(crate) fn judge_unreached<E: Edge>(
     requires size { E.extent edge.old ≡ store.place.to }
     requires held { IsHeld held.old }
     requires instance { IsOf store held.old }
-    ensures judged { IfOk result (λ next. Told (ServesOn (idle store (now_of held.old)) (idle next (now_of held.new)))
-        (outer_of (E.told edge.old) (E.heard edge.old)) (outer_of (E.told edge.new) (E.heard edge.new))) }
-    ensures part { IfErr result (λ why. Told (ServesSome (IsOfDisk why) (idle store (now_of held.old)))
-        (outer_of (E.told edge.old) (E.heard edge.old)) (outer_of (E.told edge.new) (E.heard edge.new))) }
+    ensures judged { ServesTo E.told E.heard edge.old edge.new (resting held.old store) result (resting held.new) }
+    ensures part { ServesInPart E.told E.heard edge.old edge.new (resting held.old store) result }
     ensures settles { IfOk result (λ next. Settles store next held.old held.new) }
     ensures caused { IsServeCaused (E.faults edge.old) (E.faults edge.new) result }
-    ensures kept { E.extent edge.new ≡ E.extent edge.old }
+    ensures kept { Stays E.extent edge.old edge.new }
 {
     let mut next = store;
     'calls: while !held.unreached.is_empty() {
@@ -83,13 +77,13 @@ fn judge_each<E: Edge>(
     requires held { IsHeld held.old }
     requires numbered { CallsNumbered calls.now }
     requires instance { IsOf store held.old }
-    ensures judged { IfOk result (λ next. Told (ServesOn (to_judge store (now_of held.old) (answers_unreached calls.now)) (idle next (now_of held.new)))
-        (outer_of (E.told edge.old) (E.heard edge.old)) (outer_of (E.told edge.new) (E.heard edge.new))) }
-    ensures part { IfErr result (λ why. Told (ServesSome (IsOfDisk why) (to_judge store (now_of held.old) (answers_unreached calls.now)))
-        (outer_of (E.told edge.old) (E.heard edge.old)) (outer_of (E.told edge.new) (E.heard edge.new))) }
+    ensures judged { ServesTo E.told E.heard edge.old edge.new
+        (left_to_judge held.old (answers_unreached calls.now) store) result (resting held.new) }
+    ensures part { ServesInPart E.told E.heard edge.old edge.new
+        (left_to_judge held.old (answers_unreached calls.now) store) result }
     ensures judges { IfOk result (λ next. Judges store next held.old held.new) }
     ensures caused { IsServeCaused (E.faults edge.old) (E.faults edge.new) result }
-    ensures kept { E.extent edge.new ≡ E.extent edge.old }
+    ensures kept { Stays E.extent edge.old edge.new }
 {
     let mut next = store;
     for call in calls {
@@ -99,7 +93,7 @@ fn judge_each<E: Edge>(
     Ok(next)
 }
 
-/// Judges an input. Where a time record goes before its answer, that is made first, and the input is judged again.
+/// Judges an input. If a time record goes before its answer, that is made first, and the input is judged again.
 fn judge<E: Edge>(
     alloc: Global,
     store: Store,
@@ -111,13 +105,11 @@ fn judge<E: Edge>(
     requires held { IsHeld held.old }
     requires instance { IsOf store held.old }
     requires form { IsQueuedInForm queued.now }
-    ensures judged { (rest : List session.Queued) → IfOk result (λ next. Told (ServesOn (to_judge store (now_of held.old) (queued_as queued.now ∷ rest)) (to_judge next (now_of held.new) rest))
-        (outer_of (E.told edge.old) (E.heard edge.old)) (outer_of (E.told edge.new) (E.heard edge.new))) }
-    ensures part { (rest : List session.Queued) → IfErr result (λ why. Told (ServesSome (IsOfDisk why) (to_judge store (now_of held.old) (queued_as queued.now ∷ rest)))
-        (outer_of (E.told edge.old) (E.heard edge.old)) (outer_of (E.told edge.new) (E.heard edge.new))) }
+    ensures judged { JudgesFirst E.told E.heard edge.old edge.new store held.old held.new queued.now result }
+    ensures part { JudgesPart E.told E.heard edge.old edge.new store held.old queued.now result }
     ensures judges { IfOk result (λ next. Judges store next held.old held.new) }
     ensures caused { IsServeCaused (E.faults edge.old) (E.faults edge.new) result }
-    ensures kept { E.extent edge.new ≡ E.extent edge.old }
+    ensures kept { Stays E.extent edge.old edge.new }
 {
     let mut next = store;
     'again: loop {
@@ -129,7 +121,7 @@ fn judge<E: Edge>(
     }
 }
 
-/// Judges an input once, and tells whether it is to be judged again, behind a time record that was made first.
+/// Judges an input once, and tells whether it is to be judged again, after a time record that was made first.
 fn judge_once<E: Edge>(
     alloc: Global,
     store: Store,
@@ -141,14 +133,12 @@ fn judge_once<E: Edge>(
     requires held { IsHeld held.old }
     requires instance { IsOf store held.old }
     requires form { IsQueuedInForm queued.now }
-    ensures judged { (rest : List session.Queued) → IfOk result (λ x. Told (ServesOn (to_judge store (now_of held.old) (queued_as queued.now ∷ rest)) (to_judge x.0 (now_of held.new) (judged_again x.1 (queued_as queued.now) rest)))
-        (outer_of (E.told edge.old) (E.heard edge.old)) (outer_of (E.told edge.new) (E.heard edge.new))) }
-    ensures part { (rest : List session.Queued) → IfErr result (λ why. Told (ServesSome (IsOfDisk why) (to_judge store (now_of held.old) (queued_as queued.now ∷ rest)))
-        (outer_of (E.told edge.old) (E.heard edge.old)) (outer_of (E.told edge.new) (E.heard edge.new))) }
+    ensures judged { JudgesOnce E.told E.heard edge.old edge.new store held.old held.new queued.now result }
+    ensures part { JudgesPart E.told E.heard edge.old edge.new store held.old queued.now result }
     ensures judges { IfOk result (λ x. Judges store x.0 held.old held.new) }
     ensures again { IfOk result (λ x. x.1 ≡ true → records_left x.0 < records_left store) }
     ensures caused { IsServeCaused (E.faults edge.old) (E.faults edge.new) result }
-    ensures kept { E.extent edge.new ≡ E.extent edge.old }
+    ensures kept { Stays E.extent edge.old edge.new }
 {
     match store.plan(alloc, &queued.input, held.clock) {
         Ok(planned) => {
@@ -178,14 +168,12 @@ fn keep<E: Edge>(
     requires instance { IsOf store held.old }
     requires plan { IsPlanOf store planned }
     requires planned_for { IsPlannedFor store held.old.clock queued.now.input planned }
-    ensures judged { (rest : List session.Queued) → IfOk result (λ next. Told (ServesOn (to_judge store (now_of held.old) (queued_as queued.now ∷ rest)) (to_judge next (now_of held.new) (judged_again planned.is_clock (queued_as queued.now) rest)))
-        (outer_of (E.told edge.old) (E.heard edge.old)) (outer_of (E.told edge.new) (E.heard edge.new))) }
-    ensures part { (rest : List session.Queued) → IfErr result (λ why. Told (ServesSome (IsOfDisk why) (to_judge store (now_of held.old) (queued_as queued.now ∷ rest)))
-        (outer_of (E.told edge.old) (E.heard edge.old)) (outer_of (E.told edge.new) (E.heard edge.new))) }
+    ensures judged { KeepsPlan E.told E.heard edge.old edge.new store planned held.old held.new queued.now result }
+    ensures part { JudgesPart E.told E.heard edge.old edge.new store held.old queued.now result }
     ensures judges { IfOk result (λ next. Judges store next held.old held.new) }
     ensures less { IfOk result (λ next. records_left next < records_left store) }
     ensures caused { IsServeCaused (E.faults edge.old) (E.faults edge.new) result }
-    ensures kept { E.extent edge.new ≡ E.extent edge.old }
+    ensures kept { Stays E.extent edge.old edge.new }
 {
     let more = planned.more();
     let (next, durable) = store.commit(alloc, edge, planned)?;
@@ -203,13 +191,13 @@ fn release<E: Edge>(
     edge: &mut E,
 ) -> Result<(), AllocError>
     requires last { IsDurableOf store.now durable }
-    ensures released { (first : List session.Queued) → OnOk result (Told (ServesOn (sending store.now (now_of held.old) first (tasks_of_record store.now durable held.old.served)) (to_judge store.now (now_of held.new) first))
-        (outer_of (E.told edge.old) (E.heard edge.old)) (outer_of (E.told edge.new) (E.heard edge.new))) }
-    ensures part { (first : List session.Queued) → OnErr result (Told (ServesSome ⊥ (sending store.now (now_of held.old) first (tasks_of_record store.now durable held.old.served)))
-        (outer_of (E.told edge.old) (E.heard edge.old)) (outer_of (E.told edge.new) (E.heard edge.new))) }
+    ensures released { SendsFirst E.told E.heard edge.old edge.new
+        store.now held.old held.new (tasks_of_record store.now durable held.old.served) result }
+    ensures part { SendsFirstPart E.told E.heard edge.old edge.new
+        store.now held.old (tasks_of_record store.now durable held.old.served) result }
     ensures still { OnOk result (IsStillHeld held.old held.new) }
     ensures later { Later (E.faults edge.old) (E.faults edge.new) }
-    ensures kept { E.extent edge.new ≡ E.extent edge.old }
+    ensures kept { Stays E.extent edge.old edge.new }
 {
     let gone = store.release_served(alloc, edge, durable, &mut held.served)?;
     held.note_all(&gone)
@@ -224,14 +212,14 @@ fn tell<E: Edge>(
     answer: &Answer,
     edge: &mut E,
 ) -> Result<(), AllocError>
-    ensures told { (first : List session.Queued) → OnOk result (Told (ServesOn (sending store.now (now_of held.old) first (answer_tasks queued.now.client answer.now)) (to_judge store.now (now_of held.new) first))
-        (outer_of (E.told edge.old) (E.heard edge.old)) (outer_of (E.told edge.new) (E.heard edge.new))) }
-    ensures part { (first : List session.Queued) → OnErr result (Told (ServesSome ⊥ (sending store.now (now_of held.old) first (answer_tasks queued.now.client answer.now)))
-        (outer_of (E.told edge.old) (E.heard edge.old)) (outer_of (E.told edge.new) (E.heard edge.new))) }
+    ensures told { SendsFirst E.told E.heard edge.old edge.new
+        store.now held.old held.new (answer_tasks queued.now.client answer.now) result }
+    ensures part { SendsFirstPart E.told E.heard edge.old edge.new
+        store.now held.old (answer_tasks queued.now.client answer.now) result }
     ensures still { OnOk result (IsStillHeld held.old held.new) }
     ensures unreached { OnOk result (held.new.unreached.items ≡ held.old.unreached.items) }
     ensures later { Later (E.faults edge.old) (E.faults edge.new) }
-    ensures kept { E.extent edge.new ≡ E.extent edge.old }
+    ensures kept { Stays E.extent edge.old edge.new }
 {
     let Some(ch) = queued.client else {
         return Ok(());

@@ -1,14 +1,14 @@
 //! A run that serves.
 ghost use Rattle.std.specs.Prelude.{◌≡◌, ◌<◌, [], IfOk, IfErr, OnOk};
-ghost use Rattle.iss_edge.specs.World.{Told};
-ghost use Rattle.iss_edge.specs.Outer.{outer_of};
+ghost use Rattle.iss_edge.specs.World.{Stays};
+ghost use Rattle.iss_edge.specs.Outer.{ToldBoth};
 ghost use Rattle.iss_store.specs.Serving.{tasks_pending};
 ghost use Rattle.iss_serve.specs.Causes.{IsServeCaused, IsOfDisk};
-ghost use Rattle.iss_serve.specs.Held.{now_of, idle, sending, IsHeld, IsOf};
+ghost use Rattle.iss_serve.specs.Held.{now_of, resting, sending, IsHeld, IsOf};
 ghost use Rattle.iss_serve.specs.Judged.{Settles};
 ghost use Rattle.iss_device.specs.Refusals.{RefusesExactly};
-ghost use Rattle.iss_serve.specs.Runs.{ServesOn, ServesSome, ServesToEnd, ServesUpTo};
-ghost use Rattle.iss_serve.specs.ServeRuns.{status_of, ServeRun, OfWorlds, EndsCaused, ServeEndsWell};
+ghost use Rattle.iss_serve.specs.Runs.{ServesTo, ServesInPart, ServesToEnd, ServesUpTo};
+ghost use Rattle.iss_serve.specs.ServeRuns.{status_of, ServeRun, OfWorlds, EndsCaused, ServeEndsWellOn};
 
 use crate::ServeFault;
 use crate::closing::close_all;
@@ -18,24 +18,21 @@ use iss_edge::Edge;
 use iss_store::Store;
 use std::alloc::Global;
 
-/// Opens the device, sends again what still waits for the gateway, and then waits at most so many times for what comes next: a client, a
+/// Opens the device, sends again what still waits for the gateway, and then waits at most `turns` times for what comes next: a client, a
 /// channel that is ready, or the time. In the end every channel that is still open is closed.
 ///
 /// A client or a channel to the gateway that fails ends nothing but itself.
 ///
 /// # Errors
 ///
-/// `Device` where the device stands for no records, `Wait` where a wait failed, `Disk` where a call on the device did, and
+/// `Device` if the device stands for no records, `Wait` if a wait failed, `Disk` if a call on the device did, and
 /// `OutOfMemory`.
 #[tactic(auto, using(crate::proofs::ToldServes::told_unopened_serve, crate::proofs::ToldServes::told_unopened_refuses, crate::proofs::ToldServes::told_served, crate::proofs::ToldServes::told_served_refuses, crate::proofs::ToldServes::caused_by_opening, crate::proofs::ToldServes::caused_behind, crate::proofs::ToldServes::told_ends_well))]
 pub fn serve<E: Edge>(alloc: Global, turns: u32, edge: &mut E) -> Result<(), ServeFault>
-    ensures serving { Told (ServeRun turns (status_of result))
-        (outer_of (E.told edge.old) (E.heard edge.old)) (outer_of (E.told edge.new) (E.heard edge.new)) }
-    ensures refused { Told (OfWorlds (RefusesExactly (status_of result)))
-        (outer_of (E.told edge.old) (E.heard edge.old)) (outer_of (E.told edge.new) (E.heard edge.new)) }
+    ensures serving { ToldBoth E.told E.heard (ServeRun turns (status_of result)) edge.old edge.new }
+    ensures refused { ToldBoth E.told E.heard (OfWorlds (RefusesExactly (status_of result))) edge.old edge.new }
     ensures caused { EndsCaused (E.faults edge.old) (E.faults edge.new) result }
-    ensures complete { Told (OfWorlds (ServeEndsWell (E.faults edge.old) (E.faults edge.new) (status_of result)))
-        (outer_of (E.told edge.old) (E.heard edge.old)) (outer_of (E.told edge.new) (E.heard edge.new)) }
+    ensures complete { ServeEndsWellOn E.faults E.told E.heard edge.old edge.new (status_of result) }
 {
     let store = Store::open(alloc, edge)?;
     serve_on(alloc, store, turns, edge)
@@ -49,10 +46,8 @@ fn serve_on<E: Edge>(
     edge: &mut E,
 ) -> Result<(), ServeFault>
     requires size { E.extent edge.old ≡ store.place.to }
-    ensures whole { OnOk result (Told (ServesToEnd store turns)
-        (outer_of (E.told edge.old) (E.heard edge.old)) (outer_of (E.told edge.new) (E.heard edge.new))) }
-    ensures part { IfErr result (λ why. Told (ServesUpTo (IsOfDisk why) store turns)
-        (outer_of (E.told edge.old) (E.heard edge.old)) (outer_of (E.told edge.new) (E.heard edge.new))) }
+    ensures whole { OnOk result (ToldBoth E.told E.heard (ServesToEnd store turns) edge.old edge.new) }
+    ensures part { IfErr result (λ why. ToldBoth E.told E.heard (ServesUpTo (IsOfDisk why) store turns) edge.old edge.new) }
     ensures caused { IsServeCaused (E.faults edge.old) (E.faults edge.new) result }
 {
     let mut held = Held::new(alloc, store.core().instance(), turns)?;
@@ -72,13 +67,12 @@ fn resume<E: Edge>(
     requires size { E.extent edge.old ≡ store.place.to }
     requires held { IsHeld held.old }
     requires instance { IsOf store held.old }
-    ensures resumed { IfOk result (λ next. Told (ServesOn (sending store (now_of held.old) [] (tasks_pending store)) (idle next (now_of held.new)))
-        (outer_of (E.told edge.old) (E.heard edge.old)) (outer_of (E.told edge.new) (E.heard edge.new))) }
-    ensures part { IfErr result (λ why. Told (ServesSome (IsOfDisk why) (sending store (now_of held.old) [] (tasks_pending store)))
-        (outer_of (E.told edge.old) (E.heard edge.old)) (outer_of (E.told edge.new) (E.heard edge.new))) }
+    ensures resumed { ServesTo E.told E.heard edge.old edge.new
+        (sending store (now_of held.old) [] (tasks_pending store)) result (resting held.new) }
+    ensures part { ServesInPart E.told E.heard edge.old edge.new (sending store (now_of held.old) [] (tasks_pending store)) result }
     ensures settles { IfOk result (λ next. Settles store next held.old held.new) }
     ensures caused { IsServeCaused (E.faults edge.old) (E.faults edge.new) result }
-    ensures kept { E.extent edge.new ≡ E.extent edge.old }
+    ensures kept { Stays E.extent edge.old edge.new }
 {
     let gone = store.resume_served(alloc, edge)?;
     held.note_all(&gone)?;
@@ -96,10 +90,8 @@ fn wait_on<E: Edge>(
     requires held { IsHeld held.old }
     requires instance { IsOf store held.old }
     requires settled { held.old.unreached.items ≡ [] }
-    ensures waited { IfOk result (λ next. Told (ServesOn (idle store (now_of held.old)) (idle next (now_of held.new)))
-        (outer_of (E.told edge.old) (E.heard edge.old)) (outer_of (E.told edge.new) (E.heard edge.new))) }
-    ensures part { IfErr result (λ why. Told (ServesSome (IsOfDisk why) (idle store (now_of held.old)))
-        (outer_of (E.told edge.old) (E.heard edge.old)) (outer_of (E.told edge.new) (E.heard edge.new))) }
+    ensures waited { ServesTo E.told E.heard edge.old edge.new (resting held.old store) result (resting held.new) }
+    ensures part { ServesInPart E.told E.heard edge.old edge.new (resting held.old store) result }
     ensures settled { IfOk result (λ next. held.new.unreached.items ≡ []) }
     ensures turns { IfOk result (λ next. held.new.turns ≡ 0) }
     ensures caused { IsServeCaused (E.faults edge.old) (E.faults edge.new) result }
@@ -123,17 +115,15 @@ fn turn<E: Edge>(
     requires instance { IsOf store held.old }
     requires settled { held.old.unreached.items ≡ [] }
     requires turns { 0 < held.old.turns }
-    ensures turned { IfOk result (λ next. Told (ServesOn (idle store (now_of held.old)) (idle next (now_of held.new)))
-        (outer_of (E.told edge.old) (E.heard edge.old)) (outer_of (E.told edge.new) (E.heard edge.new))) }
-    ensures part { IfErr result (λ why. Told (ServesSome (IsOfDisk why) (idle store (now_of held.old)))
-        (outer_of (E.told edge.old) (E.heard edge.old)) (outer_of (E.told edge.new) (E.heard edge.new))) }
+    ensures turned { ServesTo E.told E.heard edge.old edge.new (resting held.old store) result (resting held.new) }
+    ensures part { ServesInPart E.told E.heard edge.old edge.new (resting held.old store) result }
     ensures held { IfOk result (λ next. IsHeld held.new) }
     ensures instance { IfOk result (λ next. IsOf next held.new) }
     ensures settled { IfOk result (λ next. held.new.unreached.items ≡ []) }
     ensures turns { IfOk result (λ next. held.new.turns < held.old.turns) }
     ensures to { IfOk result (λ next. next.place.to ≡ store.place.to) }
     ensures caused { IsServeCaused (E.faults edge.old) (E.faults edge.new) result }
-    ensures kept { E.extent edge.new ≡ E.extent edge.old }
+    ensures kept { Stays E.extent edge.old edge.new }
 {
     match held.hear(alloc, edge)? {
         Some(queued) => judge_all(alloc, store, held, &queued, edge),

@@ -1,4 +1,4 @@
--- Each channel that a session is given is closed behind the last bytes that go out on it.
+-- Each channel that a session receives is closed after the last bytes that go out on it.
 use Rattle.std.proofs.Common.{◌≡◌, refl, sym, ap, subst, ◌∙◌, ℕ, Bool, true, false, not, List, [], ◌∷◌, ◌++◌, map, Some, append_assoc, eq-eqb}
 use Rattle.std.specs.Prelude.{◌==◌, ◌||◌, ◌&&◌}
 use Rattle.std.proofs.lemmas.Bool.{false≢true}
@@ -74,7 +74,7 @@ third_shut true false true c e = refl
 third_shut true false false true e = refl
 third_shut true false false false e = absurd (false≢true e)
 
--- where nothing comes next, no text is to go out, and nothing is to be judged
+-- if nothing comes next, no text is to go out, and nothing is to be judged
 over_tasks : (s : Session) (tasks : List Task) → next_by s tasks ≡ nothing → tasks ≡ []
 over_tasks s [] e = refl
 over_tasks s (to_dial subject text ∷ tasks) e = absurd cc
@@ -103,7 +103,7 @@ held_so : (n : ℕ) (was : Bool) (s : Session) (c : Change) → Keeps n s c → 
 held_so n true s c keeps held e = keeps.held (held refl) e
 held_so n false s c keeps held e = keeps.opened e
 
--- a channel that is open only where it is held is closed at the end, behind all that goes out on it
+-- a channel that is open only if it is held is closed at the end, after all that goes out on it
 pub all_closed : (read : Readers) → ReadsEvents read → (n : ℕ) (was : Bool) (s : Session) (hs : List Happening) → Fits read s hs
     → IsComplete (session_after read s hs) → AreEvents s.queue → (was ≡ true → IsHeld n s)
     → left_open n was (actions_of (session_steps read s hs ++ last_steps (session_after read s hs))) ≡ false
@@ -130,7 +130,7 @@ client_held read s item ch (task ∷ tasks) is a = never task (ap (is_answer_to 
     never (to_send to subject text) e = absurd (false≢true e)
     never (to_reply to text) e = absurd (false≢true e)
 
--- a client's channel is closed behind all that goes out on it
+-- a client's channel is closed after all that goes out on it
 pub client_closed : (read : Readers) → ReadsEvents read → (s : Session) (before after : List Happening) (item : Item) (ch : Channel)
     → item.answer ≡ Waited (Some (Client ch)) → Fits read s (before ++ hears item ∷ after) → IsComplete (session_after read s (before ++ hears item ∷ after))
     → AreEvents s.queue

@@ -39,7 +39,7 @@ busy_change : (read : Readers) (s : Session) (tasks : List Task) (item : Item) �
 busy_change read s [] item next = unanswerable item.answer next.answers
 busy_change read s (task ∷ tasks) item next = refl
 
--- a session whose desk is this, once this became of texts to the gateway
+-- a session with this desk, after this became of texts to the gateway
 abbrev pub with_desk : Session → Desk → List Gone → Session
 with_desk s d gone = record s { links = s.links ++ flat_map links_of gone; queue = s.queue ++ flat_map queued_of gone; desk = d }
 

@@ -31,7 +31,7 @@ task_channels (to_dial subject text ∷ tasks) = task_channels tasks
 task_channels (to_send ch subject text ∷ tasks) = ch ∷ task_channels tasks
 task_channels (to_reply ch text ∷ tasks) = ch ∷ task_channels tasks
 
--- a client's channel, where an input has one
+-- a client's channel, if an input has one
 abbrev pub and_client : Option Channel → List Channel → List Channel
 and_client None channels = channels
 and_client (Some ch) channels = ch ∷ channels

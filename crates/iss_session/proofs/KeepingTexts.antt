@@ -66,7 +66,7 @@ emit_shut n level ch text false torn e = torn_shut n level ch torn e
 abbrev after_gone : Session → Desk → List Gone → Session
 after_gone s d gone = record s { links = s.links ++ flat_map links_of gone; queue = s.queue ++ flat_map queued_of gone; desk = d }
 
--- what a desk's change holds, where its desk holds these texts and clients
+-- what a desk's change holds, if its desk holds these texts and clients
 desk_holds : (n : ℕ) (s : Session) (d : Desk) (gone : List Gone) → (is_among n (task_channels s.desk.tasks) ≡ true → IsHeld n (after_gone s d gone))
     → (is_among n (map waiter_channel s.desk.waiting) ≡ true → IsHeld n (after_gone s d gone)) → HoldsMore n s (after_gone s d gone)
 desk_holds n s d gone tasks waiting =
@@ -149,7 +149,7 @@ client_waits n (Some ch) (Some token) rest s t event waiting queue h =
     ∙ mapped_second waiter_channel n s.desk.waiting (record { event = token; ch = ch } ∷ []) (alone n ch y)))
     (λ o. queues (ap (λ (qs : List Queued). is_among n (client_channels qs)) queue ∙ or_rest (ch.0 == n) (is_among n (client_channels rest)) o h))
 
--- a client that is told an answer has a text that is to go out
+-- a client that receives an answer has a text that is to go out
 client_told : (n : ℕ) (client : Option Channel) (a : Answer) (rest : List Queued) (t : Session) → t.desk.tasks ≡ answer_tasks client a → t.queue ≡ rest
     → is_among n (and_client client (client_channels rest)) ≡ true → IsHeld n t
 client_told n None a rest t tasks queue h = queues (ap (λ (qs : List Queued). is_among n (client_channels qs)) queue ∙ h)
@@ -190,7 +190,7 @@ keeps_input : (n : ℕ) (s : Session) (q : Queued) (queue : List Queued) → s.d
 unfolding judged_input
 keeps_input n s q queue none is event = keeps_so n s q queue (judgement_in s.run q.input s.clock) none is event
 
--- where an input is judged, no text is to go out
+-- if an input is judged, no text is to go out
 judging_none : (s : Session) (tasks : List Task) → next_by s tasks ≡ judging → tasks ≡ []
 judging_none s [] e = refl
 judging_none s (to_dial subject text ∷ tasks) e = absurd cc

@@ -51,7 +51,7 @@ response_replies : (o : Option Waiter) (line : List ℕ) → AreReplies (respons
 response_replies None line = tt
 response_replies (Some w) line = tt
 
--- what an account's entry says goes to clients alone
+-- what an account's entry sends goes to clients alone
 entry_replies : (instance : ℕ) (waiting : List Waiter) (e : Entry) → is_account_entry e ≡ true → AreReplies (flat_map (tasks_of instance waiting) (said_by e))
 entry_replies instance waiting (entry.Decided event verdict) is =
     let line = reply_line event (Decided verdict) in
@@ -118,7 +118,7 @@ local_waiting : (s : Session) (ch : Channel) (got : Option (List ℕ)) → IsLoc
 local_waiting s ch None l = record { links = l.links; tasks = l.tasks }
 local_waiting s ch (Some piece) l = l
 
--- where nothing is watched, no take is on a link
+-- if nothing is watched, no take is on a link
 local_link : (read : Readers) (s : Session) (ch : Channel) (got : Option (List ℕ)) (early : Bool) → IsLocal s
     → IsLocal (after_link read s ch got early (link_at ch s.links)).session
 local_link read s ch got early l =

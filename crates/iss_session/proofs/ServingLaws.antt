@@ -131,7 +131,7 @@ sends_serves read s e gone a b p =
       done = all_still added (subst AreStill (ap actions_of steps) (steps_still read s (all_heard p.items))) ∙ ap actions_of (sym steps);
     }
 
--- an input was judged, and its record put on the device, where it made one
+-- an input was judged, and its record put on the device, if it made one
 pub judged_serves : (read : Readers) (s : Session) (a b : Outer) (added : List Action) → next_of s ≡ judging
     → b.heard ≡ a.heard → b.world.trace ≡ a.world.trace ++ added → channel_actions added ≡ [] → Serves read s (judged_first s s.queue) a b
 judged_serves read s a b added next heard grew none =
@@ -189,7 +189,7 @@ pub serves_all_sent : (read : Readers) (run : Run) (turns : ℕ) (t : Session) (
     ≡ sent_on ch a.world.trace ++ sent_on ch (actions_of (session_steps read (session_of run turns) p.happenings ++ last_steps t))
 serves_all_sent read run turns t a b ch p = sent_done ch a.world.trace b.world.trace p.added _ p.grew p.done
 
--- where a fault ended it, a prefix of that
+-- if a fault ended it, a prefix of that
 pub record SentUpToFault (read : Readers) (s : Session) (a b : Outer) (ch : ℕ) (happenings : List Happening) : Type 0 where
   pub unsent : List ℕ
   pub sent : sent_on ch a.world.trace ++ sent_on ch (actions_of (session_steps read s happenings)) ≡ sent_on ch b.world.trace ++ unsent

@@ -74,7 +74,7 @@ by_parts_is : (s : Session) (queue : List Queued) → next_idle s queue ≡ by_p
 by_parts_is s [] = refl
 by_parts_is s (q ∷ queue) = refl
 
--- where a wait comes next, a turn is left
+-- if a wait comes next, a turn is left
 turn_left : (a : Option Arrival) (queue : List Queued) (ready : Option Channel) (turns : ℕ)
     → is_answer_to (by_parts queue ready turns) (Waited a) ≡ true → suc (one_less turns) ≡ turns
 turn_left a [] None zero e = absurd (false≢true e)

@@ -20,7 +20,7 @@ is_account_entry (entry.Opened o) = false
 is_account_entry (entry.Notice n) = false
 is_account_entry _ = true
 
--- each entry of the book is such a one
+-- each entry of the book is an account's entry
 abbrev pub is_account_book : List Row → Bool
 is_account_book rows = list_all (λ row. is_account_entry row.entry) rows
 

@@ -61,7 +61,7 @@ abbrev pub next_of_tasks : List Task → Next
 next_of_tasks [] = nothing
 next_of_tasks (task ∷ tasks) = next_for task
 
--- what becomes of a text that doesn't go out: its call isn't reached; a notice waits for the next run, and nobody is told
+-- what becomes of a text that doesn't go out: its call isn't reached; a notice waits for the next run, and nothing is sent
 abbrev pub gone_unsent : Subject → List Gone
 gone_unsent (of_call o) = unreached o.call ∷ []
 gone_unsent (of_notice n) = []
@@ -70,7 +70,7 @@ gone_unsent (of_notice n) = []
 abbrev pub waiters_without : Channel → List Waiter → List Waiter
 waiters_without ch waiters = filter (λ w. not (same_channel w.ch ch)) waiters
 
--- The first text's call is answered so; `d` has the texts behind it. A channel to the gateway is closed where its text didn't go out whole,
+-- The first text's call has this answer; `d` has the texts after it. A channel to the gateway is closed if its text didn't go out whole,
 -- and a client's channel after its response, whether that went out whole or not.
 abbrev pub task_change : ℕ → Desk → Task → Item → Answered → DeskChange
 task_change level d (to_dial subject text) item (Dialled (Some ch)) =
@@ -89,7 +89,7 @@ abbrev pub desk_change_by : ℕ → Desk → List Task → Item → DeskChange
 desk_change_by level d [] item = desk_change_to d [] []
 desk_change_by level d (task ∷ tasks) item = task_change level (desk_with tasks d.waiting) task item item.answer
 
--- a desk by one item, where so many records stand
+-- a desk by one item, at this number of records
 abbrev pub desk_change : ℕ → Desk → Item → DeskChange
 desk_change level d item = desk_change_by level d d.tasks item
 

@@ -17,12 +17,12 @@ abbrev pub session_change : Readers → Session → Happening → Change
 session_change read s (hears item) = after_item read s item s.desk.tasks
 session_change read s judges = change_to (judged_first s s.queue) []
 
--- a client's bytes may be answered early only where no head begins with them, whatever comes behind them
+-- a client's bytes may be answered early only if no head begins with them, whatever comes after them
 abbrev pub MayAnswerEarly : Session → Channel → Option (List ℕ) → Bool → Type 0
 MayAnswerEarly s ch (Some (b ∷ piece)) true = is_reading ch s.readers ≡ true → IsHopelessRequest (bytes_on ch s.readers ++ b ∷ piece)
 MayAnswerEarly s ch _ _ = Unit {0}
 
--- and so may the gateway's
+-- so may the gateway's bytes
 abbrev pub MayEndEarly : Option Link → Option (List ℕ) → Bool → Type 0
 MayEndEarly None got early = Unit {0}
 MayEndEarly (Some link) got early = MayReadEarly link got early
@@ -32,7 +32,7 @@ abbrev pub MayEndEarlyOn : Session → Channel → Option (List ℕ) → Bool �
 MayEndEarlyOn s ch got early =
     is_reading ch s.readers ≡ false → is_waiting ch s.desk.waiting ≡ false → MayEndEarly (link_at ch s.links) got early
 
--- what an item says of being early is allowed
+-- what an item tells of being early is allowed
 abbrev pub MayBeEarly : Session → Item → Answered → Type 0
 MayBeEarly s item (Took ch got) = MayAnswerEarly s ch got item.early × MayEndEarlyOn s ch got item.early
 MayBeEarly s item _ = Unit {0}

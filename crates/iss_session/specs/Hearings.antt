@@ -53,7 +53,7 @@ is_linked ch links = list_any (λ l. same_channel l.ch ch) links
 abbrev pub is_listened_to : Session → Channel → Bool
 is_listened_to s ch = is_reading ch s.readers || is_waiting ch s.desk.waiting || is_linked ch s.links
 
--- What a wait brought. A channel that is ready and that nobody listens to is passed over; a time later than the last stamp counts as that.
+-- What a wait brought. A channel that is ready and that nobody listens to changes nothing; a time later than the last stamp counts as that.
 abbrev pub after_arrival : Session → Option Arrival → Session
 after_arrival s None = record s { turns = 0 }
 after_arrival s (Some (Client ch)) = record s { readers = s.readers ++ record { ch = ch; bytes = [] } ∷ [] }
@@ -103,7 +103,7 @@ abbrev pub bytes_on : Channel → List Reader → List ℕ
 bytes_on ch [] = []
 bytes_on ch (r ∷ readers) = if same_channel r.ch ch then r.bytes else bytes_on ch readers
 
--- a client's line is to be judged, or its fault is told
+-- a client's line is to be judged, or its fault is sent
 abbrev pub after_line : Session → Channel → Result Input (List ℕ) → Session
 after_line s ch (Ok i) = with_queued s (record { input = i; client = Some ch })
 after_line s ch (Err line) = with_tasks s (to_reply ch (respond 400 line) ∷ [])
@@ -115,7 +115,7 @@ after_request read s ch bytes (body text) = after_line (record s { readers = rea
 after_request read s ch bytes (faulty fault) =
     with_tasks (record s { readers = readers_without ch s.readers }) (to_reply ch (fault_response fault) ∷ [])
 
--- bytes that no head begins with may be told so at once
+-- bytes that no head begins with may be refused at once
 abbrev pub request_early : Bool → Request → Request
 request_early early r = if early then faulty Head else r
 
@@ -131,21 +131,21 @@ after_reading read s ch (Some (b ∷ piece)) early =
     let bytes = bytes_on ch s.readers ++ b ∷ piece in
     change_to (after_request read s ch bytes (request_early early (request bytes))) []
 
--- What a take brought on the channel of a client that waits. Bytes and an end are passed over; one that fails is closed, and waits no longer.
+-- What a take brought on the channel of a client that waits. Bytes and an end are ignored; one that fails is closed, and waits no longer.
 abbrev pub after_waiting : Session → Channel → Option (List ℕ) → Change
 after_waiting s ch None = change_to (record s { desk = desk_with s.desk.tasks (waiters_without ch s.desk.waiting) }) (close_steps s ch)
 after_waiting s ch (Some piece) = change_to s []
 
 -- Answers of the gateway
 
--- what is to be judged once a link heard this
+-- what is to be judged after a link heard this
 abbrev pub inputs_of : Heard → List Queued
 inputs_of unfinished = []
 inputs_of (outcome call o) = unasked (input.Answer call o) ∷ []
 inputs_of (acknowledged n) = unasked (input.Ack n) ∷ []
 inputs_of (dropped n) = []
 
--- a link is closed once its answer was heard
+-- a link is closed after its answer was heard
 abbrev pub link_steps : Session → Channel → Heard → List Step
 link_steps s ch unfinished = []
 link_steps s ch _ = close_steps s ch
@@ -195,7 +195,7 @@ abbrev pub after_desk : Session → DeskChange → Change
 after_desk s d =
     change_to (record s { links = s.links ++ flat_map links_of d.gone; queue = s.queue ++ flat_map queued_of d.gone; desk = d.desk }) d.steps
 
--- an answer of the outside is for the first text, where there is one, and else for a wait or a take
+-- an answer of the outside is for the first text, if there is one, and else for a wait or a take
 abbrev pub after_item : Readers → Session → Item → List Task → Change
 after_item read s item [] = after_hearing read s item item.answer
 after_item read s item (task ∷ tasks) = after_desk s (desk_change (count s) s.desk item)

@@ -5,11 +5,12 @@ use Rattle.iss_edge.specs.declared.outside.Action.{Action}
 use Rattle.iss_edge.specs.declared.outside.Action.TheVariants.{Emit}
 use Rattle.iss_edge.specs.declared.outside.Answered.{Answered}
 use Rattle.iss_edge.specs.declared.outside.Answered.TheVariants.{Waited, Took, Dialled, Emitted}
+use Rattle.iss_session.specs.declared.piece.TheConstants.{LONGEST_PIECE}
 use Rattle.iss_edge.specs.Outer.{torn_actions, IsTornFrom}
 use Rattle.iss_edge.specs.Stretches.{Step, with_levels}
 
--- One answer of the outside. Where bytes were taken that no head begins with, `early` says whether they are answered so at once;
--- where an emit failed, `torn` is the prefix of its text that went out, if an action was added for it.
+-- One answer of the outside. If bytes were taken that no head begins with, `early` tells whether they are answered at once;
+-- if an emit failed, `torn` is the prefix of its text that went out, if an action was added for it.
 pub record Item : Type 0 where
   pub answer : Answered
   pub early : Bool
@@ -48,7 +49,7 @@ same_channel a b = a.0 == b.0
 -- a take brings at most 4096 bytes, or fails
 abbrev pub is_piece : Option (List ℕ) → Bool
 is_piece None = true
-is_piece (Some bytes) = nat_le (length bytes) 4096
+is_piece (Some bytes) = nat_le (length bytes) LONGEST_PIECE
 
 -- this is an answer to the call that comes next
 abbrev pub is_answer_to : Next → Answered → Bool
@@ -67,7 +68,7 @@ abbrev pub emit_steps : ℕ → Channel → List ℕ → Bool → Option (List �
 emit_steps level ch text true torn = leveled level (Emit ch text true) ∷ []
 emit_steps level ch text false torn = with_levels level (torn_actions ch torn)
 
--- where an emit failed, what went out is a prefix of its text
+-- if an emit failed, what went out is a prefix of its text
 abbrev pub IsTornEmit : Next → Answered → Option (List ℕ) → Type 0
 IsTornEmit (emits ch text) (Emitted to false) torn = IsTornFrom text torn
 IsTornEmit _ _ torn = Unit {0}

@@ -24,7 +24,7 @@ status_of (Full free need) = 507
 status_of Spent = 507
 status_of _ = 200
 
--- the client is told why its event isn't new; what the gateway or the clock gave is told to nobody
+-- the client receives why its event isn't new; what the gateway or the clock brought is answered to nobody
 abbrev pub answer_tasks : Option Channel → Answer → List Task
 answer_tasks None a = []
 answer_tasks (Some ch) a = to_reply ch (respond (status_of a) (answer_text a)) ∷ []
@@ -51,14 +51,14 @@ session_with s r waiting queue =
       desk = desk_with (flat_map (tasks_of s.run.instance waiting) (reaction_to_record history_keeper s.run.history r).said) waiting;
     }
 
--- An input is judged so, with these to be judged after it. A new one makes its record, and its client waits. Where a time record goes before
+-- An input has this judgement, with these to be judged after it. A new one makes its record, and its client waits. If a time record goes before
 -- its answer, that is made first, and the input is judged again.
 abbrev pub judged_so : Session → Queued → List Queued → Judged → Session
 judged_so s q queue (New r) = session_with s r (s.desk.waiting ++ waiters_of q.client (event_token q.input)) queue
 judged_so s q queue (Clock r) = session_with s r s.desk.waiting (q ∷ queue)
 judged_so s q queue (Told a) = with_tasks (record s { queue = queue }) (answer_tasks q.client a)
 
--- an input is judged at the later of the time that came last and the time of the book; its record is made only where it fits
+-- an input is judged at the later of the time that came last and the time of the book; its record is made only if it fits
 unfoldable pub judged_input : Session → Queued → List Queued → Session
 judged_input s q queue = judged_so s q queue (judgement_in s.run q.input s.clock)
 

@@ -12,3 +12,4 @@ pub mod Serving
 pub mod Accounts
 pub mod Accepted
 pub mod Turns
+pub mod Courses

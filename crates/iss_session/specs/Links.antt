@@ -27,12 +27,12 @@ pub data Heard : Type 0 where
 abbrev pub reading_early : Bool → Reading → Reading
 reading_early early reading = if early then garbled else reading
 
--- what a link's bytes are read as once a take brought this; one that failed ends them
+-- what a link's bytes are read as after a take brought this; one that failed ends them
 abbrev pub link_reading : Link → Option (List ℕ) → Bool → Reading
 link_reading link None early = ended
 link_reading link (Some piece) early = reading_early early (answer_read (link.bytes ++ piece) (is_empty piece))
 
--- What that means for the link's subject; `read` gives the outcome of a whole answer to a call. A notice is acknowledged by status 200 alone,
+-- What that means for the link's subject; `read` returns the outcome of a whole answer to a call. A notice is acknowledged by status 200 alone,
 -- with any body.
 abbrev pub heard_as : (Opened → ℕ → List ℕ → Outcome) → Subject → Reading → Heard
 heard_as read subject more = unfinished
@@ -57,12 +57,12 @@ links_with ch piece [] = []
 links_with ch piece (link ∷ links) =
     if same_channel link.ch ch then record link { bytes = link.bytes ++ piece } ∷ links else link ∷ links_with ch piece links
 
--- the links after a take: the bytes more on this channel, or without it once its answer was heard
+-- the links after a take: the bytes more on this channel, or without it after its answer was heard
 abbrev pub links_after : Channel → List ℕ → List Link → Heard → List Link
 links_after ch piece links unfinished = links_with ch piece links
 links_after ch piece links _ = links_without ch links
 
--- garbled may be told early only of bytes that no head begins with, whatever comes behind them
+-- garbled may be told early only of bytes that no head begins with, whatever comes after them
 abbrev pub MayReadEarly : Link → Option (List ℕ) → Bool → Type 0
 MayReadEarly link (Some piece) true = IsHopelessAnswer (link.bytes ++ piece)
 MayReadEarly link _ _ = Unit {0}

@@ -13,8 +13,8 @@ open_after n was (Emit ch bytes ok) = was || ch.0 == n
 open_after n was (Dial ch) = was || ch.0 == n
 open_after n was (Close ch) = was && not (ch.0 == n)
 
--- Whether the channel of a number is left open by these actions. Where it was open before and isn't after them, it was closed, and nothing was
--- sent on it behind that.
+-- Whether the channel of a number is left open by these actions. If it was open before and isn't after them, it was closed, and nothing was
+-- sent on it after that.
 abbrev pub left_open : ℕ → Bool → List Action → Bool
 left_open n was [] = was
 left_open n was (action ∷ actions) = left_open n (open_after n was action) actions

@@ -6,7 +6,7 @@ use Rattle.iss_edge.specs.Stretches.{actions_of}
 use Rattle.iss_session.specs.Items.{Item}
 use Rattle.iss_session.specs.Desks.{Subject, Desk, Gone, reached, gone_unsent, desk_after, desk_steps, desk_gone, FitsDesk}
 
--- Where so many records stand, a desk went from d to e, and this became of texts to the gateway. What was heard and done is just that.
+-- At this number of records, a desk went from d to e, and this became of texts to the gateway. What was heard and done is just that.
 pub record Sends (level : ℕ) (d e : Desk) (gone : List Gone) (a b : Outer) : Type 0 where
   pub items : List Item
   pub heard : b.heard ≡ a.heard ++ map (λ item. item.answer) items

@@ -12,7 +12,7 @@ use Rattle.iss_session.specs.Happenings.{session_after, session_steps, last_step
 abbrev pub channel_actions : List Action → List Action
 channel_actions actions = filter is_still actions
 
--- A session went from s to t: what was heard fits, and what was done on channels is just what it says.
+-- A session went from s to t: what was heard fits, and what was done on channels is just what it tells.
 pub record Serves (read : Readers) (s t : Session) (a b : Outer) : Type 0 where
   pub happenings : List Happening
   pub heard : b.heard ≡ a.heard ++ answers_of happenings
@@ -22,7 +22,7 @@ pub record Serves (read : Readers) (s t : Session) (a b : Outer) : Type 0 where
   pub grew : b.world.trace ≡ a.world.trace ++ added
   pub done : channel_actions added ≡ actions_of (session_steps read s happenings)
 
--- The same where a fault ended it: the last actions of the session may not have been done.
+-- The same if a fault ended it: the last actions of the session may not have been done.
 pub record ServesPart (read : Readers) (s : Session) (a b : Outer) : Type 0 where
   pub happenings : List Happening
   pub heard : b.heard ≡ a.heard ++ answers_of happenings

@@ -66,7 +66,7 @@ abbrev pub response_to : Option Waiter → List ℕ → List Task
 response_to None line = []
 response_to (Some w) line = to_reply w.ch (respond 200 line) ∷ []
 
--- the client that waits for this event, where one does
+-- the client that waits for this event, if one does
 abbrev pub waiter_for : List ℕ → List Waiter → Option Waiter
 waiter_for event waiting = find (λ w. bytes_eq w.event event) waiting
 

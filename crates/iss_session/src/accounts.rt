@@ -1,18 +1,15 @@
 //! Runs whose book has no product of the gateway.
-ghost use Rattle.std.specs.Prelude.{◌≡◌, ℕ, List, true};
+ghost use Rattle.std.specs.Prelude.{◌≡◌, ℕ, List};
 ghost use Rattle.iss_model.specs.declared.input.Record.{Record};
 ghost use Rattle.iss_model.specs.rules.Histories.{history_of};
 ghost use Rattle.iss_model.specs.run.Runs.{Run};
 ghost use Rattle.iss_session.specs.Items.{Happening};
-ghost use Rattle.iss_session.specs.Sessions.{Readers, session_of};
-ghost use Rattle.iss_session.specs.Happenings.{session_after};
-ghost use Rattle.iss_session.specs.Accounts.{has_no_gateway, IsLocal};
+ghost use Rattle.iss_session.specs.Sessions.{Readers};
+ghost use Rattle.iss_session.specs.Courses.{IsLocalWithNoGateway, run_session};
 
 /// A run that begins on the book of some records, and whose book has no product of the gateway in the end, sends the gateway nothing
 /// and awaits nothing of it.
 pub fn accounts_stay_local()
-    ensures { (read : Readers) → (run : Run) → (turns : ℕ) → (rs : List Record) → (happenings : List Happening)
-        → run.history ≡ history_of rs
-        → has_no_gateway (session_after read (session_of run turns) happenings).run.history.rows ≡ true
-        → IsLocal (session_after read (session_of run turns) happenings) }
+    ensures { (read : Readers) (run : Run) (turns : ℕ) (rs : List Record) (happenings : List Happening)
+        → run.history ≡ history_of rs → IsLocalWithNoGateway (run_session read run turns happenings) }
 {}

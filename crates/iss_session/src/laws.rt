@@ -1,88 +1,79 @@
 //! Laws of sessions: how they are put together, and what they leave.
 ghost use Rattle.std.specs.Prelude.{◌≡◌, ℕ, ◌+◌, ◌≤◌, List, ◌++◌};
 ghost use Rattle.iss_edge.specs.Outer.{Outer};
-ghost use Rattle.iss_edge.specs.Stretches.{actions_of, GoesOn};
-ghost use Rattle.iss_edge.specs.World.{sent_on};
 ghost use Rattle.iss_model.specs.declared.input.Record.{Record};
-ghost use Rattle.iss_model.specs.rules.Histories.{history_of, IsLegalAfter};
-ghost use Rattle.iss_model.specs.run.Runs.{Run, run_after};
-ghost use Rattle.iss_session.specs.Items.{Happening, items_of};
+ghost use Rattle.iss_model.specs.run.Runs.{Run};
+ghost use Rattle.iss_session.specs.Items.{Happening};
 ghost use Rattle.iss_session.specs.Desks.{Desk, Gone};
-ghost use Rattle.iss_session.specs.Sessions.{Readers, Session, count, session_of};
-ghost use Rattle.iss_session.specs.Happenings.{session_after, session_steps, last_steps, Fits, IsComplete};
-ghost use Rattle.iss_session.specs.Accepted.{lines_judged, session_records};
-ghost use Rattle.iss_session.specs.Levels.{LevelsRise};
-ghost use Rattle.iss_session.specs.Turns.{waits_in};
+ghost use Rattle.iss_session.specs.Sessions.{Readers, Session, count};
+ghost use Rattle.iss_session.specs.Happenings.{session_after, session_steps, last_steps, Fits};
 ghost use Rattle.iss_session.specs.Sendings.{Sends};
 ghost use Rattle.iss_session.specs.Serving.{Serves, ServesAll};
+ghost use Rattle.iss_session.specs.Courses.{AddsLegalRecords, AddsRecords, HeardIsAll, AddsToBook, RisesThrough, RunsAsLines, StartsStand, StaysGood, StaysGoodUpTo, WaitsTakeTurns, WentOut, session_then, steps_then, whole_steps};
 
 use iss_edge::Showing;
 
 /// Two parts that follow each other are one: of what is heard, of what is done, of a desk's work and of a session's.
 #[tactic(auto, using(crate::proofs::Compositions::after_append, crate::proofs::Compositions::steps_append, crate::proofs::Compositions::fits_append, crate::proofs::SendingLaws::sends_then, crate::proofs::ServingLaws::serves_then))]
 pub fn parts_follow()
-    ensures after { (read : Readers) → (s : Session) → (a b : List Happening)
-        → session_after read s (a ++ b) ≡ session_after read (session_after read s a) b }
-    ensures steps { (read : Readers) → (s : Session) → (a b : List Happening)
-        → session_steps read s (a ++ b) ≡ session_steps read s a ++ session_steps read (session_after read s a) b }
-    ensures fits { (read : Readers) → (s : Session) → (a b : List Happening) → Fits read s a
+    ensures after { (read : Readers) (s : Session) (a b : List Happening)
+        → session_after read s (a ++ b) ≡ session_then read s a b }
+    ensures steps { (read : Readers) (s : Session) (a b : List Happening)
+        → session_steps read s (a ++ b) ≡ steps_then read s a b }
+    ensures fits { (read : Readers) (s : Session) (a b : List Happening) → Fits read s a
         → Fits read (session_after read s a) b → Fits read s (a ++ b) }
-    ensures sends { (level : ℕ) → (d e f : Desk) → (g k : List Gone) → (a b c : Outer) → Sends level d e g a b
+    ensures sends { (level : ℕ) (d e f : Desk) (g k : List Gone) (a b c : Outer) → Sends level d e g a b
         → Sends level e f k b c → Sends level d f (g ++ k) a c }
-    ensures serves { (read : Readers) → (s t u : Session) → (a b c : Outer) → Serves read s t a b → Serves read t u b c
+    ensures serves { (read : Readers) (s t u : Session) (a b c : Outer) → Serves read s t a b → Serves read t u b c
         → Serves read s u a c }
 {}
 
 /// What is heard, with how each bad head was told and what each failed emit tore off, decides what a session goes through.
 #[tactic(auto, using(crate::proofs::Deciding::heard_decides))]
 pub fn heard_decides_happenings()
-    ensures { (read : Readers) → (s : Session) → (a b : List Happening) → Fits read s a → Fits read s b
-        → IsComplete (session_after read s a) → IsComplete (session_after read s b) → items_of a ≡ items_of b → a ≡ b }
+    ensures { (read : Readers) (s : Session) (a b : List Happening) → Fits read s a → Fits read s b
+        → HeardIsAll read s a b }
 {}
 
-/// A session makes the records that lines would make, at the times at which its inputs are judged: they come behind those that stand,
+/// A session makes the records that lines would make, at the times at which its inputs are judged: they come after those that stand,
 /// each follows on those before it, and what stands is the book of them all.
 #[tactic(auto, using(crate::proofs::JudgedLines::run_of_lines, crate::proofs::JudgedLines::records_of_session, crate::proofs::JudgedLines::legal_session, crate::proofs::JudgedLines::history_of_session))]
 pub fn sessions_judge_lines()
-    ensures run { (read : Readers) → (s : Session) → (happenings : List Happening)
-        → (session_after read s happenings).run ≡ run_after s.run (lines_judged read s happenings) }
-    ensures records { (read : Readers) → (s : Session) → (happenings : List Happening)
-        → (session_after read s happenings).run.history.records ≡ s.run.history.records ++ session_records read s happenings }
-    ensures legal { (read : Readers) → (s : Session) → (happenings : List Happening)
-        → IsLegalAfter s.run.history (session_records read s happenings) }
-    ensures history { (read : Readers) → (s : Session) → (happenings : List Happening) → (rs : List Record) → s.run.history ≡ history_of rs
-        → (session_after read s happenings).run.history ≡ history_of (rs ++ session_records read s happenings) }
+    ensures run { (read : Readers) (s : Session) (happenings : List Happening)
+        → RunsAsLines read s happenings }
+    ensures records { (read : Readers) (s : Session) (happenings : List Happening)
+        → AddsRecords read s happenings }
+    ensures legal { (read : Readers) (s : Session) (happenings : List Happening)
+        → AddsLegalRecords read s happenings }
+    ensures history { (read : Readers) (s : Session) (happenings : List Happening) (rs : List Record) → AddsToBook read s happenings rs }
 {}
 
 /// The number of records never falls, and neither do the levels at which texts go out.
 #[tactic(auto, using(crate::proofs::StillSteps::levels_rise))]
 pub fn levels_never_fall()
-    ensures { (read : Readers) → (s : Session) → (happenings : List Happening)
-        → LevelsRise (count s) (count (session_after read s happenings)) (session_steps read s happenings) }
+    ensures { (read : Readers) (s : Session) (happenings : List Happening)
+        → RisesThrough read s happenings }
 {}
 
 /// A session waits no more often than it has turns.
 #[tactic(auto, using(crate::proofs::Waits::waits_within))]
 pub fn waits_are_turns()
-    ensures { (read : Readers) → (s : Session) → (happenings : List Happening) → Fits read s happenings
-        → waits_in happenings + (session_after read s happenings).turns ≤ s.turns }
+    ensures { (read : Readers) (s : Session) (happenings : List Happening) → WaitsTakeTurns read s happenings }
 {}
 
 /// What a session does up to j records, and the closes at its end, are stretches that are good from j to j: a stop within them
 /// leaves a device that shows the j records, and no text went out before its record stood.
 pub fn sessions_are_good_stretches<S: Showing>()
-    ensures steps { (read : Readers) → (s : Session) → (happenings : List Happening) → (j : ℕ)
-        → ((bytes : List ℕ) → S.starts bytes j → S.stands bytes j) → count (session_after read s happenings) ≤ j
-        → GoesOn S.starts S.stands S.starts j j (session_steps read s happenings) }
-    ensures last { (s : Session) → (j : ℕ) → ((bytes : List ℕ) → S.starts bytes j → S.stands bytes j) → count s ≤ j
-        → GoesOn S.starts S.stands S.starts j j (last_steps s) }
+    ensures steps { (read : Readers) (s : Session) (happenings : List Happening) (j : ℕ)
+        → StartsStand S.starts S.stands j → StaysGoodUpTo S.starts S.stands j read s happenings }
+    ensures last { (s : Session) (j : ℕ) → StartsStand S.starts S.stands j → count s ≤ j
+        → StaysGood S.starts S.stands j (last_steps s) }
 {}
 
-/// What went out on a channel is what the session says of it, in its order.
+/// What went out on a channel is what the session sends on it, in its order.
 pub fn texts_are_sent()
-    ensures part { (read : Readers) → (s t : Session) → (a b : Outer) → (ch : ℕ) → (p : Serves read s t a b)
-        → sent_on ch b.world.trace ≡ sent_on ch a.world.trace ++ sent_on ch (actions_of (session_steps read s p.happenings)) }
-    ensures whole { (read : Readers) → (run : Run) → (turns : ℕ) → (t : Session) → (a b : Outer) → (ch : ℕ)
-        → (p : ServesAll read run turns t a b) → sent_on ch b.world.trace ≡ sent_on ch a.world.trace
-        ++ sent_on ch (actions_of (session_steps read (session_of run turns) p.happenings ++ last_steps t)) }
+    ensures part { (read : Readers) (s t : Session) (a b : Outer) (ch : ℕ) (p : Serves read s t a b)
+        → WentOut ch (session_steps read s p.happenings) a b }
+    ensures whole { (read : Readers) (run : Run) (turns : ℕ) (t : Session) (a b : Outer) (ch : ℕ)
+        (p : ServesAll read run turns t a b) → WentOut ch (whole_steps read run turns p.happenings t) a b }
 {}

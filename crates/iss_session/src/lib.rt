@@ -1,4 +1,4 @@
-//! What a server says to whom, after whatever it heard, as definitions with their laws.
+//! What a server sends to whom, after whatever it heard, as definitions with their laws.
 //!
 //! It may cite `iss_edge`, `iss_model`, `iss_http` and the laws of book and state.
 //! It must not cite any body of the program, nor how JSON is read.
@@ -7,6 +7,7 @@
 mod accounts;
 mod channels;
 mod laws;
+pub mod piece;
 
 pub use accounts::accounts_stay_local;
 pub use channels::channels_are_closed;

@@ -9,7 +9,7 @@ use Rattle.iss_event.specs.FormLines.{form_text}
 use Rattle.iss_jit.specs.Outcomes.{outcome_of}
 use Rattle.iss_session.specs.Sessions.{Readers}
 
--- the input that a line says, or the line that tells its fault
+-- the input that a line spells, or the line that tells its fault
 abbrev pub line_as : Result Line FormFault → Result Input (List ℕ)
 line_as (Ok line) = Ok line.input
 line_as (Err fault) = Err (form_text fault)

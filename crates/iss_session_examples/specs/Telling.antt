@@ -106,7 +106,7 @@ sent_to_gateway n rest = dialled n ∷ goes_out n ∷ rest
 
 -- What is sent
 
--- a client's request with a body of so many bytes
+-- a client's request with a body of this length
 abbrev pub post : String → String → List ℕ
 post size body = codes "POST /events HTTP/1.1\r\nHost: x\r\nContent-Length: " ++ codes size ++ codes "\r\n\r\n" ++ codes body
 

@@ -63,7 +63,7 @@ another_path =
       records = 0;
     }
 
--- no head begins with a space, and that is told at once
+-- no head begins with a space, and that is answered at once
 abbrev pub space_before_the_head : WorkedSession
 space_before_the_head =
     record {
@@ -74,7 +74,7 @@ space_before_the_head =
       records = 0;
     }
 
--- an event, the same again, and a line that says what time it is, which no client may: one record
+-- an event, the same again, and a line with the time, which no client may send: one record
 abbrev pub three_clients : WorkedSession
 three_clients =
     record {

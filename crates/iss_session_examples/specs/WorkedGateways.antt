@@ -123,7 +123,7 @@ too_late =
       records = 5;
     }
 
--- bytes behind a whole request, and the end behind them, are passed over, and so is a channel that nobody listens to
+-- bytes after a whole request, and the end after them, are ignored, and so is a channel that nobody listens to
 abbrev pub bytes_behind_a_request : WorkedSession
 bytes_behind_a_request =
     record {

@@ -6,8 +6,8 @@ use Rattle.iss_model.specs.declared.entry.Entry.{Entry}
 use Rattle.iss_model.specs.declared.entry.Entry.TheVariants as entry
 use Rattle.iss_model.specs.rules.Activity.{CallNow, txn_named}
 use Rattle.iss_model.specs.rules.Asks.{is_authorization}
-use Rattle.iss_state.specs.Dockets.{Docket}
-use Rattle.iss_state.specs.Well.{has_live, is_decided, IsAsked, NoneAskedOf, NonePendingOf, NoneAskedFor, NoneOpenedFor, Known}
+use Rattle.iss_state.specs.Dockets.{Docket, docket_after}
+use Rattle.iss_state.specs.Well.{has_live, is_decided, IsAsked, NoneAskedOf, NonePendingOf, NoneAskedFor, NoneOpenedFor, Known, IsWellAmong}
 
 -- A call that is opened has the next number, and a live transaction with no authorisation's call asked. Its event is
 -- neither decided nor has a call. That of an authorisation is the only asked call of its transaction.
@@ -49,3 +49,7 @@ is_of_known known (entry.Began t) = known.events t.token && known.products t.pro
 is_of_known known (entry.Opened o) = known.events o.event
 is_of_known known (entry.Decided event verdict) = known.events event
 is_of_known known _ = true
+
+-- an entry keeps a docket well among what is known
+abbrev pub KeepsWell : Known → Docket → Entry → Type 0
+KeepsWell known d e = IsWellAmong known d → IsWellAmong known (docket_after d e)

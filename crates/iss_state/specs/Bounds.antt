@@ -1,8 +1,8 @@
 -- How far the sums of a state reach, and how far an entry takes them.
-use Rattle.std.specs.Prelude.{List, [], nat_abs, neg_ℤ, pos, ℕ, ℤ, ◌+◌, ◌∷◌, ◌≤ℤ◌}
+use Rattle.std.specs.Prelude.{List, [], fold, nat_abs, neg_ℤ, pos, ℕ, ℤ, ◌+◌, ◌∷◌, ◌≤ℤ◌}
 use Rattle.iss_model.specs.declared.entry.Entry.{Entry}
 use Rattle.iss_model.specs.declared.entry.Entry.TheVariants as entry
-use Rattle.iss_model.specs.state.Cores.{ControlKept, CoreState}
+use Rattle.iss_model.specs.state.Cores.{ControlKept, CoreState, after_entry}
 use Rattle.iss_model.specs.state.Kept.{Kept, kept_at}
 
 -- a sum lies within a bound on either side of 0
@@ -46,3 +46,12 @@ moved_use _ = 0
 abbrev pub total_of : (Entry → ℕ) → List Entry → ℕ
 total_of f [] = 0
 total_of f (e ∷ es) = f e + total_of f es
+
+-- sums that lay within these bounds of money and use lie within those, each moved as far as an entry moves it
+abbrev pub IsWithinAfter : ℕ → ℕ → CoreState → Entry → Type 0
+IsWithinAfter money used s e = SumsAreWithin (money + moved_money e) (used + moved_use e) (after_entry s e)
+
+-- and so after entries, each moved as far as they move it together
+abbrev pub AreWithinAfter : ℕ → ℕ → CoreState → List Entry → Type 0
+AreWithinAfter money used s es =
+    SumsAreWithin (money + total_of moved_money es) (used + total_of moved_use es) (fold after_entry s es)

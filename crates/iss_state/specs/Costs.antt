@@ -3,10 +3,13 @@ use Rattle.std.specs.Prelude.{Bool, false, length, true, ℕ, ◌*◌, ◌+◌, 
 use Rattle.iss_model.specs.declared.input.Input.{Input}
 use Rattle.iss_model.specs.declared.input.Input.TheVariants as input
 use Rattle.iss_model.specs.rules.Acts.{Act, act_entries}
-use Rattle.iss_model.specs.state.Cores.{CoreState}
+use Rattle.iss_model.specs.state.Cores.{CoreState, core_facts}
 use Rattle.iss_acts.specs.Causes.{Cause, ComesOf, FallsDue}
+use Rattle.iss_acts.specs.Items.{may_begin}
+use Rattle.iss_acts.specs.Sources.{IsMade}
 use Rattle.iss_acts.specs.Stages.{Frees, Fresh, Keeps, Leaves, Over, Seeks, Stage, stage_after}
-use Rattle.iss_state.specs.Effects.{Effect, HoldsParts}
+use Rattle.iss_state.specs.After.{input_entries}
+use Rattle.iss_state.specs.Effects.{Effect, HoldsParts, Paid}
 use Rattle.iss_state.specs.Needs.{Stands}
 use Rattle.iss_state.specs.Stakes.{IsOrderlyState, at_least_one}
 
@@ -25,6 +28,10 @@ input_use (input.Authorization token card currency amount mcc mid) = 4 * at_leas
 input_use (input.Increment token txn currency amount) = 4 * at_least_one amount
 input_use (input.Clearing token txn currency amount last) = amount
 input_use _ = 0
+
+-- an input's own entries are paid from what was at stake, and by what the input brings
+abbrev pub InputIsPaid : CoreState → Input → ℕ → Type 0
+InputIsPaid s i at = Paid (input_money i) (input_use i) s (input_entries s i at)
 
 -- an input begins no transaction
 abbrev pub begins_none : Input → Bool
@@ -71,3 +78,9 @@ pub record Spends (by : Cause) (g : Stage) (q : CoreState) (a : Act) : Type 0 wh
   pub effect : Effect q (act_entries a) moved used up down
   pub money : moved + 2 * up + money_left by (stage_after g a) ≤ 2 * down + money_left by g
   pub usage : used + up + use_left by (stage_after g a) ≤ down + use_left by g
+
+-- Each act that comes of a cause at a moment, at any stage, and begins no transaction costs no more than its stage leaves to the next one.
+abbrev pub ActsArePaid : Cause → ℕ → CoreState → Type 0
+ActsArePaid by at s =
+    (stage : Stage) → (before : CoreState) → (act : Act) → IsMade (core_facts s) by at stage act → may_begin act ≡ false
+    → IsPayable s stage before → Spends by stage before act

@@ -6,7 +6,7 @@ use Rattle.iss_model.specs.declared.txn.Txn.{Txn}
 use Rattle.iss_model.specs.rules.Pieces.{Parts}
 use Rattle.iss_model.specs.state.Cores.{CoreState, after_entry}
 use Rattle.iss_state.specs.Bounds.{moved_money, moved_use, total_of}
-use Rattle.iss_state.specs.Needs.{AllFit, begun_txns}
+use Rattle.iss_state.specs.Needs.{AllFit, Stands, begun_txns}
 use Rattle.iss_state.specs.Stakes.{IsOrderlyState, at_least_one, at_stake, part_held}
 
 -- What entries do that begin no transaction: how far they take the sums of money and of use, and what they put at stake and take from it. Each fits.
@@ -37,3 +37,11 @@ pub record HoldsParts (s : CoreState) (t : Txn) (parts : Parts) : Type 0 where
   pub of_gateway : parts.g ≤ part_held s.holdings.parts t.token part.G
   pub of_programme : parts.p ≤ part_held s.holdings.parts t.token part.P
   pub of_user : parts.s ≤ part_held s.holdings.parts t.token part.S
+
+-- what holds if a state is orderly, and a transaction stands in it
+abbrev pub IfStands : CoreState → Txn → Type 0 → Type 0
+IfStands s t Holds = IsOrderlyState s → Stands s t → Holds
+
+-- what holds if, besides, the transaction holds at least these parts
+abbrev pub IfHolds : CoreState → Txn → Parts → Type 0 → Type 0
+IfHolds s t parts Holds = IfStands s t (HoldsParts s t parts → Holds)

@@ -16,3 +16,11 @@ pub record HasFewNumbers (records : ℕ) (s : CoreState) : Type 0 where
 pub record HasNoFewer (s later : CoreState) : Type 0 where
   pub calls : length s.calls ≤ length later.calls
   pub notices : s.outbox.made ≤ later.outbox.made
+
+-- numbers that are few for these records stay so in another state
+abbrev pub StaysFew : ℕ → CoreState → CoreState → Type 0
+StaysFew n s t = HasFewNumbers n s → HasFewNumbers n t
+
+-- numbers that are few for these records are few in another state for one record more
+abbrev pub IsFewForOneMore : ℕ → CoreState → CoreState → Type 0
+IsFewForOneMore n s t = HasFewNumbers n s → HasFewNumbers (n + 1) t

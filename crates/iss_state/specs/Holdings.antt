@@ -3,6 +3,8 @@ use Rattle.std.specs.Prelude.{◌≡◌, ℕ, suc, ℤ, pos, negsuc, ◌≤ℤ�
 use Rattle.iss_model.specs.declared.account.Part.{Part}
 use Rattle.iss_model.specs.declared.account.Part.TheVariants as part
 use Rattle.iss_model.specs.declared.entry.Entry.{Entry}
+use Rattle.iss_model.specs.declared.input.Record.{Record}
+use Rattle.iss_agreement.specs.Stepped.{core_after, core_entries}
 use Rattle.iss_model.specs.declared.entry.Entry.TheVariants as entry
 use Rattle.iss_model.specs.declared.setting.Funding.{Funding}
 use Rattle.iss_model.specs.Sums.{part_key}
@@ -75,6 +77,10 @@ abbrev pub AllKeepHeld : CoreState → List Entry → Type 0
 AllKeepHeld s [] = Unit {0}
 AllKeepHeld s (e ∷ es) = KeepsHeld s e × AllKeepHeld (after_entry s e) es
 
+-- on a state whose transactions hold well, each of these entries finds what it needs
+abbrev pub KeepHeldWell : CoreState → List Entry → Type 0
+KeepHeldWell s es = IsHeldWell s → AllKeepHeld s es
+
 -- how often entries end a transaction
 abbrev pub ended_times : List ℕ → List Entry → ℕ
 ended_times token [] = 0
@@ -87,3 +93,8 @@ has_ended txns token = is_some_with (λ t. not t.live) (txn_named token txns)
 -- how often a transaction may still end
 abbrev pub ends_left : List TxnNow → List ℕ → ℕ
 ends_left txns token = if has_ended txns token then 0 else 1
+
+-- a record ends a transaction no more often than it might still end before, less how often it may after
+abbrev pub EndsOnce : CoreState → Record → List ℕ → Type 0
+EndsOnce s r token =
+    ends_left (core_after s r).holdings.txns token + ended_times token (core_entries s r) ≤ ends_left s.holdings.txns token

@@ -1,5 +1,5 @@
 -- States and entries whose fields are of their forms.
-use Rattle.std.specs.Prelude.{Bool, true, ◌&&◌, ◌≡◌}
+use Rattle.std.specs.Prelude.{Bool, List, ℕ, true, ◌&&◌, ◌≡◌}
 use Rattle.std.specs.List.{list_all}
 use Rattle.iss_model.specs.declared.entry.Entry.{Entry}
 use Rattle.iss_model.specs.declared.entry.Entry.TheVariants as entry
@@ -34,3 +34,11 @@ is_entry_in_form (entry.Opened o) = is_stamp o.at
 is_entry_in_form (entry.Usage row) = is_stamp row.at
 is_entry_in_form (entry.Stood set product user amount at) = is_stamp at
 is_entry_in_form _ = true
+
+-- each of these entries is in form
+abbrev pub AreEntriesInForm : List Entry → Type 0
+AreEntriesInForm es = list_all is_entry_in_form es ≡ true
+
+-- what holds if a state is in form, and the moment a stamp
+abbrev pub IfInFormAt : CoreState → ℕ → Type 0 → Type 0
+IfInFormAt s at Holds = IsInForm s → is_stamp at ≡ true → Holds

@@ -13,3 +13,7 @@ pub mod Allowed
 pub mod Pending
 pub mod Few
 pub mod Holdings
+pub mod After
+pub mod Asked
+pub mod Begun
+pub mod Payments

@@ -1,13 +1,15 @@
 -- What holds of every core: what is asked, what is decided, and what its next entries need.
 use Rattle.std.specs.Prelude.{◌≡◌, ℕ, Bool, true, false, List, [], ◌∷◌, map, Some, is_some}
+use Rattle.std.specs.List.{list_all}
 use Rattle.iss_model.specs.declared.entry.Entry.{Entry}
 use Rattle.iss_model.specs.declared.entry.Entry.TheVariants as entry
 use Rattle.iss_model.specs.declared.input.Input.{Input}
+use Rattle.iss_model.specs.declared.input.Record.{Record}
 use Rattle.iss_model.specs.Inputs.{event_token}
 use Rattle.iss_model.specs.rules.Facts.{Accepted}
 use Rattle.iss_model.specs.rules.Settings.{product_named}
 use Rattle.iss_model.specs.state.Cores.{CoreState, ProductNow, after_entry}
-use Rattle.iss_state.specs.Sound.{is_accepted}
+use Rattle.iss_state.specs.Sound.{IsNewEvent, is_accepted}
 use Rattle.iss_state.specs.Allowed.{IsAllowed}
 use Rattle.iss_state.specs.Dockets.{docket_of}
 use Rattle.iss_state.specs.Well.{IsAccounted, Known, IsWellAmong}
@@ -34,6 +36,14 @@ AreAllowed s (e ∷ es) = IsAllowed (docket_of s) e × AreAllowed (after_entry s
 abbrev pub decides_accepted : List Accepted → Entry → Bool
 decides_accepted accepted (entry.Decided event verdict) = is_accepted accepted event
 decides_accepted accepted _ = true
+
+-- each event that these entries decide was accepted
+abbrev pub DecideKnown : CoreState → List Entry → Type 0
+DecideKnown s es = list_all (decides_accepted s.accepted) es ≡ true
+
+-- what holds if a record's input is no event that was accepted before, and the state is well
+abbrev pub IfNewAndWell : CoreState → Record → Type 0 → Type 0
+IfNewAndWell s r Holds = IsNewEvent s r.input → IsWell s → Holds
 
 -- A record with this input was taken up, and hasn't made its own entries yet: its event is accepted, and wasn't known before.
 pub record HasTakenUp (s : CoreState) (i : Input) : Type 0 where

@@ -8,7 +8,7 @@ use Rattle.iss_model.specs.Forms.{is_in_form}
 use Rattle.iss_model.specs.Inputs.{event_token, is_event}
 use Rattle.iss_model.specs.rules.Facts.{Accepted}
 use Rattle.iss_model.specs.rules.Settings.{is_named_in}
-use Rattle.iss_model.specs.state.Cores.{CoreState}
+use Rattle.iss_model.specs.state.Cores.{CoreState, with_record}
 use Rattle.iss_state.specs.Bounds.{SumsAreWithin}
 use Rattle.iss_state.specs.Needs.{begun_txns}
 use Rattle.iss_state.specs.Stakes.{IsOrderlyState, at_stake, txn_tokens}
@@ -41,6 +41,10 @@ pub record IsSoundAt (records : ℕ) (s : CoreState) : Type 0 where
 abbrev pub IsNewEvent : CoreState → Input → Type 0
 IsNewEvent s i = (token : List ℕ) → event_token i ≡ Some token → is_accepted s.accepted token ≡ false
 
+-- what holds if a record's input is in form, and no event that was accepted before
+abbrev pub IfNewInForm : CoreState → Record → Type 0 → Type 0
+IfNewInForm s r Holds = is_in_form r.input ≡ true → IsNewEvent s r.input → Holds
+
 -- each of these records has an input in form
 abbrev pub AreInForm : List Record → Type 0
 AreInForm rs = list_all (λ r. is_in_form r.input) rs ≡ true
@@ -51,3 +55,15 @@ pub record IsReady (records : ℕ) (s : CoreState) (i : Input) : Type 0 where
   pub accepted : (token : List ℕ) → event_token i ≡ Some token → is_accepted s.accepted token ≡ true
   pub unnamed : (token : List ℕ) → event_token i ≡ Some token → is_named_in (txn_tokens s.holdings.txns) token ≡ false
   pub earlier : list_all (λ t. nat_lt t.origin s.count) (begun_txns s) ≡ true
+
+-- a state with a record taken up is ready for the record's entries
+abbrev pub IsReadyWith : ℕ → CoreState → Record → Type 0
+IsReadyWith n s r = IsReady n (with_record s r) r.input
+
+-- what holds if an input is in form, and a state is ready for its entries
+abbrev pub IfReadyInForm : ℕ → CoreState → Input → Type 0 → Type 0
+IfReadyInForm n s i Holds = is_in_form i ≡ true → IsReady n s i → Holds
+
+-- a state that is ready is followed by one that is
+abbrev pub StaysReady : ℕ → Input → CoreState → CoreState → Type 0
+StaysReady n i s t = IsReady n s i → IsReady n t i

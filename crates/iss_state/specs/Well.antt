@@ -1,5 +1,5 @@
 -- What holds of the transactions, the calls and the decisions of every core.
-use Rattle.std.specs.Prelude.{◌≡◌, ℕ, Bool, true, false, ◌&&◌, List, [], ◌∷◌, length, filter, Some, None, is_some, ◌⊎◌}
+use Rattle.std.specs.Prelude.{◌≡◌, ◌+◌, ℕ, Bool, true, false, ◌&&◌, List, [], ◌∷◌, length, filter, Some, None, is_some, ◌⊎◌}
 use Rattle.std.specs.List.{list_any}
 use Rattle.std.specs.Str.{bytes_eq}
 use Rattle.iss_model.specs.rules.Activity.{TxnNow, CallNow, txn_named, call_numbered, is_asked}
@@ -34,6 +34,10 @@ decided_times ds event = length (filter (λ d. bytes_eq d.event event) ds)
 -- how many calls are asked for an event
 abbrev pub asked_times : List CallNow → List ℕ → ℕ
 asked_times calls event = length (filter (λ c. is_asked c && bytes_eq c.opened.event event) calls)
+
+-- an event is ruled once: it is decided and no call is asked for it, or it isn't decided and one call is
+abbrev pub IsRuledOnce : Docket → List ℕ → Type 0
+IsRuledOnce d event = decided_times d.decisions event + asked_times d.calls event ≡ 1
 
 -- the call of this number stands and is asked
 pub record IsAsked (calls : List CallNow) (n : ℕ) (c : CallNow) : Type 0 where

@@ -1,19 +1,18 @@
 //! What entering an entry needs holds of each entry of each list.
-ghost use Rattle.std.specs.Prelude.{◌≡◌, ℕ, ◌<◌, ◌≤◌, true};
+ghost use Rattle.std.specs.Prelude.{ℕ, ◌<◌, ◌≤◌};
 ghost use Rattle.iss_model.specs.declared.input.Input.{Input};
 ghost use Rattle.iss_model.specs.declared.limits.TheConstants.{MOST_RECORDS};
-ghost use Rattle.iss_model.specs.Forms.{is_in_form};
-ghost use Rattle.iss_model.specs.rules.Due.{DueThing, thing_entries};
-ghost use Rattle.iss_model.specs.rules.Stepping.{entries_of};
-ghost use Rattle.iss_model.specs.state.Cores.{CoreState, core_facts};
-ghost use Rattle.iss_state.specs.Sound.{IsSoundAt, IsReady};
+ghost use Rattle.iss_model.specs.rules.Due.{DueThing};
+ghost use Rattle.iss_model.specs.state.Cores.{CoreState};
+ghost use Rattle.iss_state.specs.Sound.{IfReadyInForm, IsSoundAt};
 ghost use Rattle.iss_state.specs.Entering.{AreEnterable};
+ghost use Rattle.iss_state.specs.After.{due_entries, input_entries};
 
 /// Each entry of a due item, and each of a record's own, fits the state that it is entered into: what it names stands, what it lets go is there,
 /// a new number is the next one, and it leaves small sums.
 pub fn entries_can_be_entered()
-    ensures due { (n : ℕ) → (s : CoreState) → (thing : DueThing) → (at : ℕ) → n ≤ MOST_RECORDS → IsSoundAt n s
-        → AreEnterable s (thing_entries thing at (core_facts s)) }
-    ensures own { (n : ℕ) → (s : CoreState) → (i : Input) → (at : ℕ) → n < MOST_RECORDS → is_in_form i ≡ true → IsReady n s i
-        → AreEnterable s (entries_of i at (core_facts s)) }
+    ensures due { (n : ℕ) (s : CoreState) (thing : DueThing) (at : ℕ) → n ≤ MOST_RECORDS → IsSoundAt n s
+        → AreEnterable s (due_entries s thing at) }
+    ensures own { (n : ℕ) (s : CoreState) (i : Input) (at : ℕ) → n < MOST_RECORDS
+        → IfReadyInForm n s i (AreEnterable s (input_entries s i at)) }
 {}

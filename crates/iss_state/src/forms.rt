@@ -1,27 +1,25 @@
 //! What is of its form stays so.
-ghost use Rattle.std.specs.Prelude.{◌≡◌, ℕ, true, List, fold};
-ghost use Rattle.std.specs.List.{list_all};
+ghost use Rattle.std.specs.Prelude.{◌≡◌, ℕ, true, List};
 ghost use Rattle.iss_model.specs.declared.entry.Entry.{Entry};
 ghost use Rattle.iss_model.specs.declared.input.Input.{Input};
 ghost use Rattle.iss_model.specs.declared.input.Record.{Record};
 ghost use Rattle.iss_model.specs.Forms.{is_in_form, is_stamp};
-ghost use Rattle.iss_model.specs.rules.Due.{DueThing, thing_entries};
-ghost use Rattle.iss_model.specs.rules.Stepping.{entries_of};
-ghost use Rattle.iss_model.specs.state.Cores.{CoreState, no_core, core_facts, with_record, after_entry};
-ghost use Rattle.iss_state.specs.InForm.{IsInForm, is_entry_in_form};
+ghost use Rattle.iss_model.specs.rules.Due.{DueThing};
+ghost use Rattle.iss_model.specs.state.Cores.{CoreState, no_core, with_record, after_entry};
+ghost use Rattle.iss_state.specs.InForm.{AreEntriesInForm, IfInFormAt, IsInForm, is_entry_in_form};
+ghost use Rattle.iss_state.specs.After.{after_entries, due_entries, input_entries};
 
 /// The empty state is in form, and stays so where a record at a stamp is taken up and where entries in form are entered.
 pub fn states_stay_in_form()
     ensures begins { IsInForm no_core }
-    ensures taken_up { (s : CoreState) → (r : Record) → is_stamp r.at ≡ true → IsInForm s → IsInForm (with_record s r) }
-    ensures one { (s : CoreState) → (e : Entry) → is_entry_in_form e ≡ true → IsInForm s → IsInForm (after_entry s e) }
-    ensures entered { (s : CoreState) → (es : List Entry) → list_all is_entry_in_form es ≡ true → IsInForm s → IsInForm (fold after_entry s es) }
+    ensures taken_up { (s : CoreState) (r : Record) → is_stamp r.at ≡ true → IsInForm s → IsInForm (with_record s r) }
+    ensures one { (s : CoreState) (e : Entry) → is_entry_in_form e ≡ true → IsInForm s → IsInForm (after_entry s e) }
+    ensures entered { (s : CoreState) (es : List Entry) → AreEntriesInForm es → IsInForm s → IsInForm (after_entries s es) }
 {}
 
 /// On a state in form, each entry of a due item that is settled at a stamp is in form, and so is each that an input in form makes at one.
 pub fn entries_are_in_form()
-    ensures due { (s : CoreState) → (thing : DueThing) → (at : ℕ) → IsInForm s → is_stamp at ≡ true
-        → list_all is_entry_in_form (thing_entries thing at (core_facts s)) ≡ true }
-    ensures own { (s : CoreState) → (i : Input) → (at : ℕ) → IsInForm s → is_in_form i ≡ true → is_stamp at ≡ true
-        → list_all is_entry_in_form (entries_of i at (core_facts s)) ≡ true }
+    ensures due { (s : CoreState) (thing : DueThing) (at : ℕ) → IfInFormAt s at (AreEntriesInForm (due_entries s thing at)) }
+    ensures own { (s : CoreState) (i : Input) (at : ℕ) → IsInForm s → is_in_form i ≡ true → is_stamp at ≡ true
+        → AreEntriesInForm (input_entries s i at) }
 {}

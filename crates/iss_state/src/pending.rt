@@ -1,17 +1,18 @@
 //! What holds of every core, and what its entries need.
-ghost use Rattle.std.specs.Prelude.{◌≡◌, ℕ, ◌+◌, Bool, true, List, fold};
-ghost use Rattle.std.specs.List.{list_all};
+ghost use Rattle.std.specs.Prelude.{◌≡◌, ℕ, true, List};
 ghost use Rattle.iss_model.specs.declared.input.Input.{Input};
 ghost use Rattle.iss_model.specs.declared.input.Record.{Record};
-ghost use Rattle.iss_model.specs.rules.Activity.{CallNow, is_asked};
-ghost use Rattle.iss_model.specs.rules.Facts.{call_in};
-ghost use Rattle.iss_model.specs.rules.Due.{DueThing, thing_entries};
-ghost use Rattle.iss_model.specs.rules.Stepping.{entries_of, step};
+ghost use Rattle.iss_model.specs.rules.Activity.{CallNow};
+ghost use Rattle.iss_model.specs.rules.Due.{DueThing};
 ghost use Rattle.iss_model.specs.rules.Histories.{IsLegal};
-ghost use Rattle.iss_model.specs.state.Cores.{CoreState, no_core, after_entry, with_record, core_facts, core_keeper, core_of};
-ghost use Rattle.iss_state.specs.Well.{has_live, decided_times, asked_times};
+ghost use Rattle.iss_model.specs.state.Cores.{CoreState, no_core, with_record, core_of};
+ghost use Rattle.iss_state.specs.Well.{IsRuledOnce, has_live};
 ghost use Rattle.iss_state.specs.Sound.{is_accepted, IsNewEvent};
-ghost use Rattle.iss_state.specs.Pending.{IsWell, AreAllowed, HasTakenUp, decides_accepted};
+ghost use Rattle.iss_state.specs.Pending.{IsWell, AreAllowed, DecideKnown, HasTakenUp};
+ghost use Rattle.iss_state.specs.Dockets.{docket_of};
+ghost use Rattle.iss_state.specs.After.{after_thing, due_entries, input_entries};
+ghost use Rattle.iss_state.specs.Asked.{IfAsked};
+ghost use Rattle.iss_agreement.specs.Stepped.{core_after};
 
 /// Legal records leave a core well: its calls, its transactions and its decisions. A step keeps it so where the event is new; and then an
 /// asked call's transaction stands and is live.
@@ -19,32 +20,31 @@ ghost use Rattle.iss_state.specs.Pending.{IsWell, AreAllowed, HasTakenUp, decide
 pub fn calls_are_well()
     ensures begins { IsWell no_core }
     ensures records { (rs : List Record) → IsLegal rs → IsWell (core_of rs) }
-    ensures steps { (s : CoreState) → (r : Record) → IsNewEvent s r.input → IsWell s → IsWell (step core_keeper s r).world }
-    ensures live { (s : CoreState) → (n : ℕ) → (c : CallNow) → IsWell s → call_in (core_facts s) n ≡ Some c → is_asked c ≡ true
-        → has_live s.holdings.txns c.opened.txn ≡ true }
+    ensures steps { (s : CoreState) (r : Record) → IsNewEvent s r.input → IsWell s → IsWell (core_after s r) }
+    ensures live { (s : CoreState) (n : ℕ) (c : CallNow) → IfAsked s n c (has_live s.holdings.txns c.opened.txn ≡ true) }
 {}
 
 /// What entries need of the state that they are entered into is there, entry by entry: for each due thing, and then for a record's own.
 /// So it is once a record of a new event was taken up, and still while what is due is settled.
 pub fn entries_are_allowed()
-    ensures taken { (s : CoreState) → (r : Record) → IsWell s → IsNewEvent s r.input → HasTakenUp (with_record s r) r.input }
-    ensures settled { (s : CoreState) → (i : Input) → (thing : DueThing) → (at : ℕ) → HasTakenUp s i
-        → HasTakenUp (fold after_entry s (thing_entries thing at (core_facts s))) i }
-    ensures due { (s : CoreState) → (i : Input) → (thing : DueThing) → (at : ℕ) → HasTakenUp s i
-        → AreAllowed s (thing_entries thing at (core_facts s)) }
-    ensures own { (s : CoreState) → (i : Input) → (at : ℕ) → HasTakenUp s i → AreAllowed s (entries_of i at (core_facts s)) }
+    ensures taken { (s : CoreState) (r : Record) → IsWell s → IsNewEvent s r.input → HasTakenUp (with_record s r) r.input }
+    ensures settled { (s : CoreState) (i : Input) (thing : DueThing) (at : ℕ) → HasTakenUp s i
+        → HasTakenUp (after_thing s thing at) i }
+    ensures due { (s : CoreState) (i : Input) (thing : DueThing) (at : ℕ) → HasTakenUp s i
+        → AreAllowed s (due_entries s thing at) }
+    ensures own { (s : CoreState) (i : Input) (at : ℕ) → HasTakenUp s i → AreAllowed s (input_entries s i at) }
 {}
 
 /// What an entry decides was accepted: each entry of a due thing, and each of a record's own.
 pub fn accepted_events_are_decided()
-    ensures due { (s : CoreState) → (i : Input) → (thing : DueThing) → (at : ℕ) → HasTakenUp s i
-        → list_all (decides_accepted s.accepted) (thing_entries thing at (core_facts s)) ≡ true }
-    ensures own { (s : CoreState) → (i : Input) → (at : ℕ) → HasTakenUp s i
-        → list_all (decides_accepted s.accepted) (entries_of i at (core_facts s)) ≡ true }
+    ensures due { (s : CoreState) (i : Input) (thing : DueThing) (at : ℕ) → HasTakenUp s i
+        → DecideKnown s (due_entries s thing at) }
+    ensures own { (s : CoreState) (i : Input) (at : ℕ) → HasTakenUp s i
+        → DecideKnown s (input_entries s i at) }
 {}
 
 /// Each accepted event is decided once, or isn't decided and waits for the one call that is asked for it.
 pub fn events_are_decided_once()
-    ensures { (s : CoreState) → (event : List ℕ) → IsWell s → is_accepted s.accepted event ≡ true
-        → decided_times s.decisions event + asked_times s.calls event ≡ 1 }
+    ensures { (s : CoreState) (event : List ℕ) → IsWell s → is_accepted s.accepted event ≡ true
+        → IsRuledOnce (docket_of s) event }
 {}

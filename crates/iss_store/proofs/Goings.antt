@@ -1,5 +1,5 @@
 -- Parts of a run, one after the other, and those that write nothing.
-use Rattle.std.proofs.Common.{◌≡◌, ℕ, Bool, true, cond, List, [], ◌∷◌, ◌++◌, length, inl, refl, sym, ap, subst, ◌∙◌, append_assoc, append-nil}
+use Rattle.std.proofs.Common.{◌≡◌, ℕ, Bool, cond, List, [], ◌∷◌, ◌++◌, length, inl, refl, sym, ap, subst, ◌∙◌, append_assoc, append-nil}
 use Rattle.std.proofs.lemmas.List.Elements.{filter-append}
 use Rattle.iss_edge.specs.declared.outside.Action.{Action}
 use Rattle.iss_edge.specs.World.{World}
@@ -9,7 +9,7 @@ use Rattle.iss_edge.proofs.StretchLemmas.{join, join_on, actions_of-append, afte
 use Rattle.iss_journal.specs.Region.{Region}
 use Rattle.iss_model.specs.declared.input.Record.{Record}
 use Rattle.iss_store.specs.Standing.{RestsIn, StandsIn}
-use Rattle.iss_store.specs.Goings.{channel_steps, AreFirstOf, LeavesDevice, Goes, GoesPart}
+use Rattle.iss_store.specs.Goings.{channel_steps, LeavesDevice, Goes, GoesPart}
 use Rattle.iss_store.proofs.NextRecords.{first_self, first_then, rests_first}
 
 trace_append : (a b c : World) (x y : List Step) → b.trace ≡ a.trace ++ actions_of x → c.trace ≡ b.trace ++ actions_of y → c.trace ≡ a.trace ++ actions_of (x ++ y)

@@ -58,7 +58,7 @@ plans_clock s i at r result is plans = subst (λ (j : Judged). Plans (judged_wit
 few_stand : (s : StoreNow) (rs : List Record) → IsStore s → StandsFor s rs → length rs < MOST_RECORDS
 few_stand s rs is stands =
     let count : s.core.state.count ≡ length rs =
-    ap (λ (state : CoreState). state.count) stands.core ∙ ap (λ (f : Facts). f.count) (facts_history rs) ∙ ap (λ (l : List Record). length l) (records_history rs) in
+    ap (λ (state : CoreState). state.count) stands.core.rest ∙ ap (λ (f : Facts). f.count) (facts_history rs) ∙ ap (λ (l : List Record). length l) (records_history rs) in
     omega (arith, count, is.behind, is.within, is.size)
 
 -- what comes of a record behind this gate

@@ -1,5 +1,5 @@
 -- A run on a region of a device goes on from some records to more: what was done on it and on channels, and what a stop leaves.
-use Rattle.std.specs.Prelude.{◌≡◌, List, [], ◌∷◌, ◌++◌, filter, length}
+use Rattle.std.specs.Prelude.{◌≡◌, List, ◌++◌, filter, length}
 use Rattle.iss_edge.specs.World.{World}
 use Rattle.iss_edge.specs.Disk.{Disk, after_actions}
 use Rattle.iss_edge.specs.Stretches.{Step, actions_of, is_still, IsGood, GoesOn}

@@ -1,18 +1,21 @@
 -- The record that an input makes on a store.
-use Rattle.std.specs.Prelude.{◌≡◌, ℕ, ◌≤◌, nat_le, true, false, Result, Ok, Err, IsTrue, if◌then◌else◌}
+use Rattle.std.specs.Prelude.{◌≡◌, ℕ, ◌≤◌, List, nat_le, true, false, Result, Ok, Err, IsTrue, if◌then◌else◌}
 use Rattle.iss_journal.specs.Place.{Place, free_at}
 use Rattle.iss_model.specs.declared.input.Input.{Input}
 use Rattle.iss_model.specs.declared.decision.Answer.TheVariants as answer
 use Rattle.iss_model.specs.declared.decision.Judged.{Judged}
 use Rattle.iss_model.specs.declared.decision.Judged.TheVariants as judged
 use Rattle.iss_model.specs.Forms.{is_in_form, is_stamp}
+use Rattle.iss_model.specs.declared.input.Record.{Record}
+use Rattle.iss_model.specs.rules.Histories.{history_keeper, history_of}
 use Rattle.iss_model.specs.rules.Judging.{judge}
 use Rattle.iss_model.specs.state.Cores.{core_keeper}
-use Rattle.iss_model.specs.run.Rooms.{need_of}
+use Rattle.iss_model.specs.run.Rooms.{need_of, judgement_within}
 use Rattle.iss_core.specs.Values.{IsNext}
 use Rattle.iss_store.specs.declared.fault.PlanFault.{PlanFault}
 use Rattle.iss_store.specs.declared.fault.PlanFault.TheVariants as plan_fault
-use Rattle.iss_store.specs.Values.{StoreNow, Plan}
+use Rattle.iss_store.specs.Standing.{StandsFor}
+use Rattle.iss_store.specs.Values.{StoreNow, Plan, room_of}
 
 -- a record that is to be made as what judging gave
 abbrev pub judged_as : Plan → Judged
@@ -43,6 +46,11 @@ Plans (judged.Told a) (Err (plan_fault.Told b)) = b ≡ a
 Plans (judged.New r) (Err (plan_fault.Told b)) = ⊥
 Plans (judged.Clock r) (Err (plan_fault.Told b)) = ⊥
 Plans j (Err plan_fault.OutOfMemory) = Unit {0}
+
+-- whatever records the store stands for, this is what judging the input at this time by the book comes to
+abbrev pub PlansOnBook : StoreNow → Input → ℕ → Result Plan PlanFault → Type 0
+PlansOnBook s i at result =
+    (rs : List Record) → StandsFor s rs → Plans (judgement_within (room_of s) rs (judge history_keeper (history_of rs) i at)) result
 
 -- a plan of this store: its record is next on the store's core, in form, and fits behind its gate
 pub record IsPlanOf (s : StoreNow) (p : Plan) : Type 0 where

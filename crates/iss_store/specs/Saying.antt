@@ -14,6 +14,7 @@ use Rattle.iss_model.specs.run.Runs.{said_first}
 use Rattle.iss_texts.specs.TextRows.{said_texts}
 use Rattle.iss_store.specs.declared.fault.StoreFault.{StoreFault}
 use Rattle.iss_store.specs.declared.fault.StoreFault.TheVariants.{Disk, Output}
+use Rattle.iss_store.specs.Standing.{StandsFor}
 use Rattle.iss_store.specs.Values.{StoreNow, DurableNow, said_of}
 
 -- the record of the store's last commit
@@ -39,6 +40,10 @@ texts_pending s = said_texts s.core.instance (said_first (core_facts s.core.stat
 -- the same by the book: the texts with which a run on these records begins
 abbrev pub texts_pending_on_book : ℕ → List Record → List (List ℕ)
 texts_pending_on_book instance rs = said_texts instance (said_first (history_facts (history_of rs)))
+
+-- whatever records the store stands for, what still waits for the gateway is that by the book
+abbrev pub TextsOnBook : StoreNow → Type 0
+TextsOnBook s = (rs : List Record) → StandsFor s rs → texts_pending s ≡ texts_pending_on_book s.core.instance rs
 
 -- Nothing was written or synced. So a device that stands for j records does so at each moment, and the run may go on after it, where
 -- each text of which a byte went out has at most that level.

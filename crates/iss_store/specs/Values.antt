@@ -1,8 +1,10 @@
 -- What a store, a plan and a record that lasts are seen as.
-use Rattle.std.specs.Prelude.{◌≡◌, ℕ, ◌+◌, ◌*◌, ◌<◌, ◌≤◌, ◌^◌, Bool, true, false, not, ◌&&◌, List, [], ◌∷◌, ◌++◌, Option, Some, IsTrue, if◌then◌else◌}
+use Rattle.std.specs.Prelude.{◌≡◌, ℕ, ◌+◌, ◌*◌, ◌<◌, ◌≤◌, Bool, true, false, not, ◌&&◌, List, [], ◌∷◌, ◌++◌, Option, Some, IsTrue, if◌then◌else◌}
 use Rattle.std.specs.List.{flat_map}
+use Rattle.iss_journal.specs.declared.layout.TheConstants.{FIRST_GATE, GREATEST_SIZE, SHORTEST_RECORD}
 use Rattle.iss_journal.specs.Place.{Place}
 use Rattle.iss_journal.specs.Region.{append_bytes}
+use Rattle.iss_model.specs.declared.limits.TheConstants.{INSTANCES}
 use Rattle.iss_model.specs.declared.input.Input.{Input}
 use Rattle.iss_model.specs.declared.input.Input.TheVariants as input
 use Rattle.iss_model.specs.declared.input.Record.{Record}
@@ -37,9 +39,9 @@ room_of s = Some (one_journal s.place.to)
 -- calls and notices are numbered from 1.
 pub record IsStore (s : StoreNow) : Type 0 where
   pub within : s.place.gate < s.place.to
-  pub size : s.place.to ≤ 2 ^ 32
-  pub behind : 16 + 6 * s.core.state.count ≤ s.place.gate
-  pub instance : s.core.instance < 2 ^ 48
+  pub size : s.place.to ≤ GREATEST_SIZE
+  pub behind : FIRST_GATE + SHORTEST_RECORD * s.core.state.count ≤ s.place.gate
+  pub instance : s.core.instance < INSTANCES
   pub numbered : IsNumbered s.core.state
 
 -- a record that has a spelling, and the bytes that an append writes for it

@@ -1,18 +1,11 @@
 //! What the entries of a record send while clients are served.
-ghost use Rattle.std.specs.Prelude.{◌≡◌, ◌<◌, ◌^◌, true, List, [], ◌∷◌, ◌++◌, IfOk, OnOk, OnErr};
-ghost use Rattle.std.specs.List.{flat_map};
-ghost use Rattle.iss_edge.specs.World.{Told, Later};
-ghost use Rattle.iss_edge.specs.Outer.{outer_of, Adds};
-ghost use Rattle.iss_model.specs.declared.decision.Reply.TheVariants.{Decided};
-ghost use Rattle.iss_model.specs.texts.GatewayTexts.{request_text, notice_text};
-ghost use Rattle.iss_model.specs.texts.Wordings.{reply_line};
-ghost use Rattle.iss_http.specs.Messages.{respond};
-ghost use Rattle.iss_link.specs.declared.gone.Gone.{Gone};
-ghost use Rattle.iss_edge.specs.declared.outside.Channel.{Channel};
-ghost use Rattle.iss_session.specs.Desks.{of_call, of_notice, to_dial, to_reply};
+ghost use Rattle.std.specs.Prelude.{◌≡◌, ◌<◌, true, [], ◌∷◌, ◌++◌, IfOk, OnOk, OnErr};
+ghost use Rattle.iss_edge.specs.World.{Told, Later, Stays};
+ghost use Rattle.iss_edge.specs.Outer.{Adds, ToldBoth};
+ghost use Rattle.iss_model.specs.declared.limits.TheConstants.{INSTANCES};
 ghost use Rattle.iss_store.specs.Saying.{StaysGood};
 ghost use Rattle.iss_store.specs.Numbers.{is_from_one, is_numbered, AreNumbered};
-ghost use Rattle.iss_store.specs.Serving.{NotesSent, SendsSomeOf, SendsOn, CausesGone, tasks_by, all_gone, has_number, HaveNumbers};
+ghost use Rattle.iss_store.specs.Serving.{NotesOn, NotesGone, NotesAnswered, SendsSomeOf, SendsOn, CausesGone, tasks_by, tasks_by_each, decision_tasks, request_tasks, notice_tasks, all_gone, has_number, HaveNumbers};
 
 use crate::Served;
 use crate::sending::{reply, send};
@@ -37,17 +30,15 @@ pub(crate) fn send_entries<E: Edge>(
     served: &Served,
     instance: u64,
 ) -> Result<(Vec<Gone>, Vec<Channel>), AllocError>
-    requires instance { instance < 2 ^ 48 }
+    requires instance { instance < INSTANCES }
     requires numbered { AreNumbered entries.now }
-    ensures sends { IfOk result (λ x. Told (SendsOn (flat_map (tasks_by instance served.now) entries.now) (all_gone x.0.items) x.1.items)
-        (outer_of (E.told edge.old) (E.heard edge.old)) (outer_of (E.told edge.new) (E.heard edge.new))) }
-    ensures part { OnErr result (Told (SendsSomeOf (flat_map (tasks_by instance served.now) entries.now))
-        (outer_of (E.told edge.old) (E.heard edge.old)) (outer_of (E.told edge.new) (E.heard edge.new))) }
+    ensures sends { IfOk result (λ x. ToldBoth E.told E.heard (SendsOn (tasks_by_each instance served.now entries.now) (all_gone x.0.items) x.1.items) edge.old edge.new) }
+    ensures part { OnErr result (ToldBoth E.told E.heard (SendsSomeOf (tasks_by_each instance served.now entries.now)) edge.old edge.new) }
     ensures stays { Told StaysGood (E.told edge.old) (E.told edge.new) }
     ensures later { Later (E.faults edge.old) (E.faults edge.new) }
     ensures cause { IfOk result (λ x. CausesGone (E.faults edge.old) (E.faults edge.new) x.0.items) }
     ensures numbered { IfOk result (λ x. HaveNumbers x.0.items) }
-    ensures kept { E.extent edge.new ≡ E.extent edge.old }
+    ensures kept { Stays E.extent edge.old edge.new }
 {
     let mut gone = Vec::new(alloc);
     let mut answered = Vec::new(alloc);
@@ -76,18 +67,16 @@ fn send_entry<E: Edge>(
     gone: &mut Vec<Gone>,
     answered: &mut Vec<Channel>,
 ) -> Result<(), AllocError>
-    requires instance { instance < 2 ^ 48 }
+    requires instance { instance < INSTANCES }
     requires numbered { is_numbered entry.now ≡ true }
     requires before { HaveNumbers gone.old.items }
     ensures numbered { OnOk result (HaveNumbers gone.new.items) }
-    ensures notes { OnOk result (NotesSent (tasks_by instance served.now entry.now) gone.old.items gone.new.items answered.old.items answered.new.items
-        (E.faults edge.old) (E.faults edge.new)
-        (outer_of (E.told edge.old) (E.heard edge.old)) (outer_of (E.told edge.new) (E.heard edge.new))) }
-    ensures part { OnErr result (Told (SendsSomeOf (tasks_by instance served.now entry.now))
-        (outer_of (E.told edge.old) (E.heard edge.old)) (outer_of (E.told edge.new) (E.heard edge.new))) }
+    ensures notes { OnOk result (NotesOn E.faults E.told E.heard edge.old edge.new
+        (tasks_by instance served.now entry.now) gone.old.items gone.new.items answered.old.items answered.new.items) }
+    ensures part { OnErr result (ToldBoth E.told E.heard (SendsSomeOf (tasks_by instance served.now entry.now)) edge.old edge.new) }
     ensures stays { Told StaysGood (E.told edge.old) (E.told edge.new) }
     ensures later { Later (E.faults edge.old) (E.faults edge.new) }
-    ensures kept { E.extent edge.new ≡ E.extent edge.old }
+    ensures kept { Stays E.extent edge.old edge.new }
 {
     match entry {
         Entry::Decided(event, verdict) => match served.channel_for(event) {
@@ -110,14 +99,12 @@ fn send_decision<E: Edge>(
     verdict: &Verdict,
     answered: &mut Vec<Channel>,
 ) -> Result<(), AllocError>
-    ensures notes { (gone : List Gone) → OnOk result (NotesSent (to_reply ch (respond 200 (reply_line event.now (Decided verdict.now))) ∷ []) gone gone answered.old.items answered.new.items
-        (E.faults edge.old) (E.faults edge.new)
-        (outer_of (E.told edge.old) (E.heard edge.old)) (outer_of (E.told edge.new) (E.heard edge.new))) }
-    ensures part { OnErr result (Told (Adds [] [])
-        (outer_of (E.told edge.old) (E.heard edge.old)) (outer_of (E.told edge.new) (E.heard edge.new))) }
+    ensures notes { NotesAnswered E.faults E.told E.heard edge.old edge.new
+        (decision_tasks ch event.now verdict.now) answered.old.items answered.new.items result }
+    ensures part { OnErr result (ToldBoth E.told E.heard (Adds [] []) edge.old edge.new) }
     ensures stays { Told StaysGood (E.told edge.old) (E.told edge.new) }
     ensures later { Later (E.faults edge.old) (E.faults edge.new) }
-    ensures kept { E.extent edge.new ≡ E.extent edge.old }
+    ensures kept { Stays E.extent edge.old edge.new }
 {
     let line = reply_line(alloc, event, &Reply::Decided(*verdict))?;
     let text = respond(alloc, DECIDED, &line)?;
@@ -135,18 +122,16 @@ fn send_request<E: Edge>(
     instance: u64,
     gone: &mut Vec<Gone>,
 ) -> Result<(), AllocError>
-    requires instance { instance < 2 ^ 48 }
+    requires instance { instance < INSTANCES }
     requires numbered { is_from_one opened.now.call.0 ≡ true }
     requires before { HaveNumbers gone.old.items }
     ensures numbered { OnOk result (HaveNumbers gone.new.items) }
-    ensures notes { (ended : List Channel) → OnOk result (NotesSent (to_dial (of_call opened.now) (request_text instance opened.now) ∷ []) gone.old.items gone.new.items ended ended
-        (E.faults edge.old) (E.faults edge.new)
-        (outer_of (E.told edge.old) (E.heard edge.old)) (outer_of (E.told edge.new) (E.heard edge.new))) }
-    ensures part { OnErr result (Told (SendsSomeOf (to_dial (of_call opened.now) (request_text instance opened.now) ∷ []))
-        (outer_of (E.told edge.old) (E.heard edge.old)) (outer_of (E.told edge.new) (E.heard edge.new))) }
+    ensures notes { NotesGone E.faults E.told E.heard edge.old edge.new
+        (request_tasks instance opened.now) gone.old.items gone.new.items result }
+    ensures part { OnErr result (ToldBoth E.told E.heard (SendsSomeOf (request_tasks instance opened.now)) edge.old edge.new) }
     ensures stays { Told StaysGood (E.told edge.old) (E.told edge.new) }
     ensures later { Later (E.faults edge.old) (E.faults edge.new) }
-    ensures kept { E.extent edge.new ≡ E.extent edge.old }
+    ensures kept { Stays E.extent edge.old edge.new }
 {
     let text = request_text(alloc, opened, instance)?;
     let bytes = ask(alloc, &text)?;
@@ -165,18 +150,16 @@ fn send_notice<E: Edge>(
     instance: u64,
     gone: &mut Vec<Gone>,
 ) -> Result<(), AllocError>
-    requires instance { instance < 2 ^ 48 }
+    requires instance { instance < INSTANCES }
     requires numbered { is_from_one notice.now.number ≡ true }
     requires before { HaveNumbers gone.old.items }
     ensures numbered { OnOk result (HaveNumbers gone.new.items) }
-    ensures notes { (ended : List Channel) → OnOk result (NotesSent (to_dial (of_notice notice.now.number) (notice_text instance notice.now) ∷ []) gone.old.items gone.new.items ended ended
-        (E.faults edge.old) (E.faults edge.new)
-        (outer_of (E.told edge.old) (E.heard edge.old)) (outer_of (E.told edge.new) (E.heard edge.new))) }
-    ensures part { OnErr result (Told (SendsSomeOf (to_dial (of_notice notice.now.number) (notice_text instance notice.now) ∷ []))
-        (outer_of (E.told edge.old) (E.heard edge.old)) (outer_of (E.told edge.new) (E.heard edge.new))) }
+    ensures notes { NotesGone E.faults E.told E.heard edge.old edge.new
+        (notice_tasks instance notice.now) gone.old.items gone.new.items result }
+    ensures part { OnErr result (ToldBoth E.told E.heard (SendsSomeOf (notice_tasks instance notice.now)) edge.old edge.new) }
     ensures stays { Told StaysGood (E.told edge.old) (E.told edge.new) }
     ensures later { Later (E.faults edge.old) (E.faults edge.new) }
-    ensures kept { E.extent edge.new ≡ E.extent edge.old }
+    ensures kept { Stays E.extent edge.old edge.new }
 {
     let text = notice_text(alloc, notice, instance)?;
     let bytes = ask(alloc, &text)?;

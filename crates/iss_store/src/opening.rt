@@ -1,21 +1,21 @@
 //! Opening a device: each record is read once, and taken up.
-ghost use Rattle.std.specs.Prelude.{◌≡◌, ◌+◌, ◌*◌, ◌<◌, ◌≤◌, ◌^◌, IfOk};
-ghost use Rattle.iss_edge.specs.World.{Told};
+ghost use Rattle.std.specs.Prelude.{◌≡◌, ◌+◌, ◌*◌, ◌<◌, ◌≤◌, IfOk};
+ghost use Rattle.iss_edge.specs.World.{Told, Stays};
 ghost use Rattle.iss_edge.specs.Calls.{Same, HearsNothing};
+ghost use Rattle.iss_journal.specs.declared.layout.TheConstants.{GREATEST_SIZE, SHORTEST_RECORD};
+ghost use Rattle.iss_model.specs.declared.limits.TheConstants.{INSTANCES};
 ghost use Rattle.iss_store.specs.Numbers.{IsNumbered};
 ghost use Rattle.iss_store.specs.Opening.{Opens, OpensGood, OpenedAs, OnRefused, ReadsAlone, OpenCause, TakesIn, ReadsAll};
 
 use crate::OpenFault;
-use crate::store::{HEAD, Store};
+use crate::store::Store;
 use iss_codec::decode;
 use iss_core::Core;
 use iss_edge::Edge;
+use iss_journal::layout::{FIRST_GATE, HEAD};
 use iss_journal::{Journal, Scan};
 use iss_model::Judged;
 use std::alloc::Global;
-
-/// The place of the first gate: behind the header.
-const FIRST_GATE: u64 = 16;
 
 impl Store {
     /// Opens the device: its records are read in order, each is decoded, judged and taken up, and an end gate other than 0
@@ -34,8 +34,8 @@ impl Store {
         ensures size { IfOk result (λ store. store.place.to ≡ E.extent edge.new) }
         ensures cause { OpenCause (E.faults edge.old) (E.faults edge.new) result }
         ensures heard { Told HearsNothing (E.heard edge.old) (E.heard edge.new) }
-        ensures kept { E.extent edge.new ≡ E.extent edge.old }
-        ensures channels { E.channels edge.new ≡ E.channels edge.old }
+        ensures kept { Stays E.extent edge.old edge.new }
+        ensures channels { Stays E.channels edge.old edge.new }
     {
         let instance = Journal::instance(edge)?;
         let to = edge.size();
@@ -54,21 +54,21 @@ fn read_all<E: Edge>(
     scan: &mut Scan,
     instance: u64,
 ) -> Result<Core, OpenFault>
-    requires start { scan.old.gate ≡ 16 }
+    requires start { scan.old.gate ≡ FIRST_GATE }
     requires within { scan.old.gate < scan.old.to }
     requires room { scan.old.to ≤ E.extent edge.old }
-    requires small { instance < 2 ^ 48 }
-    requires size { scan.old.to ≤ 2 ^ 32 }
+    requires small { instance < INSTANCES }
+    requires size { scan.old.to ≤ GREATEST_SIZE }
     ensures reads { Told (ReadsAll instance scan.new result) (E.told edge.old) (E.told edge.new) }
     ensures same { Told Same (E.told edge.old) (E.told edge.new) }
     ensures to { scan.new.to ≡ scan.old.to }
-    ensures few { IfOk result (λ core. 16 + 6 * core.state.count ≤ scan.new.gate) }
+    ensures few { IfOk result (λ core. FIRST_GATE + SHORTEST_RECORD * core.state.count ≤ scan.new.gate) }
     ensures instance { IfOk result (λ core. core.instance ≡ instance) }
     ensures numbered { IfOk result (λ core. IsNumbered core.state) }
     ensures cause { OpenCause (E.faults edge.old) (E.faults edge.new) result }
     ensures heard { Told HearsNothing (E.heard edge.old) (E.heard edge.new) }
-    ensures kept { E.extent edge.new ≡ E.extent edge.old }
-    ensures channels { E.channels edge.new ≡ E.channels edge.old }
+    ensures kept { Stays E.extent edge.old edge.new }
+    ensures channels { Stays E.channels edge.old edge.new }
 {
     let mut core = Core::new(alloc, instance)?;
     let mut gate = FIRST_GATE;
@@ -84,8 +84,8 @@ fn read_all<E: Edge>(
 /// Takes up the record that this body spells, which stands behind that gate.
 #[tactic(auto, using(crate::proofs::Readings::judged_itself, crate::proofs::Readings::too_early, crate::proofs::Readings::not_judged_new, crate::proofs::Readings::takes_up, crate::proofs::Counts::step_count))]
 fn take_in(alloc: Global, core: Core, gate: u64, body: &[u8]) -> Result<Core, OpenFault>
-    requires room { 16 + 6 * core.state.count ≤ gate }
-    requires size { gate < 2 ^ 32 }
+    requires room { FIRST_GATE + SHORTEST_RECORD * core.state.count ≤ gate }
+    requires size { gate < GREATEST_SIZE }
     ensures takes { TakesIn core gate body.now result }
 {
     let Some(accepted) = decode(alloc, body)? else {

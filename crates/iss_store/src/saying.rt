@@ -1,16 +1,15 @@
 //! What a store says: what a committed record makes, what is still asked, and answers.
-ghost use Rattle.std.specs.Prelude.{◌≡◌, ◌<◌, ◌^◌, [], ◌∷◌, List, IfOk, IsErrOf, OnOk, OnErr};
+ghost use Rattle.std.specs.Prelude.{◌≡◌, ◌<◌, [], ◌∷◌, IfOk, IsErrOf, OnOk, OnErr};
 ghost use Rattle.std.specs.List.{flat_map};
-ghost use Rattle.iss_edge.specs.World.{Told};
-ghost use Rattle.iss_edge.specs.Outer.{outer_of, Adds};
-ghost use Rattle.iss_model.specs.declared.input.Record.{Record};
+ghost use Rattle.iss_edge.specs.World.{Told, Stays};
+ghost use Rattle.iss_edge.specs.Outer.{Adds, ToldBoth};
+ghost use Rattle.iss_model.specs.declared.limits.TheConstants.{INSTANCES};
 ghost use Rattle.iss_model.specs.texts.AnswerLines.{answer_text};
 ghost use Rattle.iss_texts.specs.TextRows.{Gains, HasAll, said_texts};
 ghost use Rattle.iss_store.specs.Values.{said_of};
 ghost use Rattle.iss_texts.specs.Sending.{Says, SaysSome, SentEach, StopsAt};
 ghost use Rattle.iss_store.specs.declared.fault.StoreFault.TheVariants.{Output, OutOfMemory};
-ghost use Rattle.iss_store.specs.Standing.{StandsFor};
-ghost use Rattle.iss_store.specs.Saying.{texts_of_record, texts_pending, texts_pending_on_book, request_texts, notice_texts, StaysGood, SayingCause, IsDurableOf};
+ghost use Rattle.iss_store.specs.Saying.{texts_of_record, texts_pending, TextsOnBook, request_texts, notice_texts, StaysGood, SayingCause, IsDurableOf};
 
 use crate::routes::Kind;
 use crate::{Durable, Routes, Store, StoreFault};
@@ -38,14 +37,11 @@ impl Store {
         ensures stays { Told StaysGood (E.told edge.old) (E.told edge.new) }
         ensures cause { SayingCause (E.faults edge.old) (E.faults edge.new) result }
         ensures gone { IfOk result (λ gone. gone.items ≡ []) }
-        ensures kept { E.extent edge.new ≡ E.extent edge.old }
-        ensures sent { OnOk result (Told (SentEach (texts_of_record self.now durable))
-            (outer_of (E.told edge.old) (E.heard edge.old)) (outer_of (E.told edge.new) (E.heard edge.new))) }
-        ensures stopped { IsErrOf result Output → Told (StopsAt (texts_of_record self.now durable))
-            (outer_of (E.told edge.old) (E.heard edge.old)) (outer_of (E.told edge.new) (E.heard edge.new)) }
-        ensures unsent { IsErrOf result OutOfMemory → Told (Adds [] [])
-            (outer_of (E.told edge.old) (E.heard edge.old)) (outer_of (E.told edge.new) (E.heard edge.new)) }
-        ensures channels { E.channels edge.new ≡ E.channels edge.old }
+        ensures kept { Stays E.extent edge.old edge.new }
+        ensures sent { OnOk result (ToldBoth E.told E.heard (SentEach (texts_of_record self.now durable)) edge.old edge.new) }
+        ensures stopped { IsErrOf result Output → ToldBoth E.told E.heard (StopsAt (texts_of_record self.now durable)) edge.old edge.new }
+        ensures unsent { IsErrOf result OutOfMemory → ToldBoth E.told E.heard (Adds [] []) edge.old edge.new }
+        ensures channels { Stays E.channels edge.old edge.new }
     {
         let mut texts = Texts::new(alloc);
         put_record(&mut texts, &durable, self.core.instance())?;
@@ -66,18 +62,15 @@ impl Store {
     ) -> Result<Vec<Gone>, StoreFault>
         ensures says { OnOk result (Told (Says (texts_pending self.now)) (E.told edge.old) (E.told edge.new)) }
         ensures part { OnErr result (Told (SaysSome (texts_pending self.now)) (E.told edge.old) (E.told edge.new)) }
-        ensures on_book { (rs : List Record) → StandsFor self.now rs → texts_pending self.now ≡ texts_pending_on_book self.now.core.instance rs }
+        ensures on_book { TextsOnBook self.now }
         ensures stays { Told StaysGood (E.told edge.old) (E.told edge.new) }
         ensures cause { SayingCause (E.faults edge.old) (E.faults edge.new) result }
         ensures gone { IfOk result (λ gone. gone.items ≡ []) }
-        ensures kept { E.extent edge.new ≡ E.extent edge.old }
-        ensures sent { OnOk result (Told (SentEach (texts_pending self.now))
-            (outer_of (E.told edge.old) (E.heard edge.old)) (outer_of (E.told edge.new) (E.heard edge.new))) }
-        ensures stopped { IsErrOf result Output → Told (StopsAt (texts_pending self.now))
-            (outer_of (E.told edge.old) (E.heard edge.old)) (outer_of (E.told edge.new) (E.heard edge.new)) }
-        ensures unsent { IsErrOf result OutOfMemory → Told (Adds [] [])
-            (outer_of (E.told edge.old) (E.heard edge.old)) (outer_of (E.told edge.new) (E.heard edge.new)) }
-        ensures channels { E.channels edge.new ≡ E.channels edge.old }
+        ensures kept { Stays E.extent edge.old edge.new }
+        ensures sent { OnOk result (ToldBoth E.told E.heard (SentEach (texts_pending self.now)) edge.old edge.new) }
+        ensures stopped { IsErrOf result Output → ToldBoth E.told E.heard (StopsAt (texts_pending self.now)) edge.old edge.new }
+        ensures unsent { IsErrOf result OutOfMemory → ToldBoth E.told E.heard (Adds [] []) edge.old edge.new }
+        ensures channels { Stays E.channels edge.old edge.new }
     {
         let texts = self.pending_texts(alloc)?;
         match routes.kind {
@@ -111,14 +104,11 @@ impl Store {
         ensures part { OnErr result (Told (SaysSome (answer_text answer.now ∷ [])) (E.told edge.old) (E.told edge.new)) }
         ensures stays { Told StaysGood (E.told edge.old) (E.told edge.new) }
         ensures cause { SayingCause (E.faults edge.old) (E.faults edge.new) result }
-        ensures kept { E.extent edge.new ≡ E.extent edge.old }
-        ensures sent { OnOk result (Told (SentEach (answer_text answer.now ∷ []))
-            (outer_of (E.told edge.old) (E.heard edge.old)) (outer_of (E.told edge.new) (E.heard edge.new))) }
-        ensures stopped { IsErrOf result Output → Told (StopsAt (answer_text answer.now ∷ []))
-            (outer_of (E.told edge.old) (E.heard edge.old)) (outer_of (E.told edge.new) (E.heard edge.new)) }
-        ensures unsent { IsErrOf result OutOfMemory → Told (Adds [] [])
-            (outer_of (E.told edge.old) (E.heard edge.old)) (outer_of (E.told edge.new) (E.heard edge.new)) }
-        ensures channels { E.channels edge.new ≡ E.channels edge.old }
+        ensures kept { Stays E.extent edge.old edge.new }
+        ensures sent { OnOk result (ToldBoth E.told E.heard (SentEach (answer_text answer.now ∷ [])) edge.old edge.new) }
+        ensures stopped { IsErrOf result Output → ToldBoth E.told E.heard (StopsAt (answer_text answer.now ∷ [])) edge.old edge.new }
+        ensures unsent { IsErrOf result OutOfMemory → ToldBoth E.told E.heard (Adds [] []) edge.old edge.new }
+        ensures channels { Stays E.channels edge.old edge.new }
     {
         let line = told_line(alloc, answer)?;
         match routes.kind {
@@ -130,7 +120,7 @@ impl Store {
 
 /// Adds the requests of calls.
 fn put_requests(texts: &mut Texts, calls: &[Opened], instance: u64) -> Result<(), AllocError>
-    requires { instance < 2 ^ 48 }
+    requires { instance < INSTANCES }
     ensures { OnOk result (Gains (flat_map (request_texts instance) calls.now) texts.old texts.new) }
 {
     for call in calls {
@@ -141,7 +131,7 @@ fn put_requests(texts: &mut Texts, calls: &[Opened], instance: u64) -> Result<()
 
 /// Adds notices.
 fn put_notices(texts: &mut Texts, notices: &[Notice], instance: u64) -> Result<(), AllocError>
-    requires { instance < 2 ^ 48 }
+    requires { instance < INSTANCES }
     ensures { OnOk result (Gains (flat_map (notice_texts instance) notices.now) texts.old texts.new) }
 {
     for notice in notices {
@@ -153,7 +143,7 @@ fn put_notices(texts: &mut Texts, notices: &[Notice], instance: u64) -> Result<(
 /// Adds what a record that lasts has to say.
 #[tactic(auto, using(crate::proofs::Said::said_timed, crate::proofs::Said::said_untimed))]
 fn put_record(texts: &mut Texts, durable: &Durable, instance: u64) -> Result<(), AllocError>
-    requires { instance < 2 ^ 48 }
+    requires { instance < INSTANCES }
     ensures { OnOk result (Gains (said_texts instance (said_of durable.now)) texts.old texts.new) }
 {
     texts.put_entries(&durable.entries, instance)?;

@@ -1,19 +1,14 @@
 //! What a store says while clients are served: each text on a channel of its own.
-ghost use Rattle.std.specs.Prelude.{◌≡◌, ◌<◌, ◌^◌, ℕ, List, [], ◌∷◌, ◌++◌, map, IfOk, OnOk, OnErr};
-ghost use Rattle.std.specs.List.{flat_map};
-ghost use Rattle.iss_edge.specs.World.{Told, Later};
-ghost use Rattle.iss_edge.specs.Outer.{outer_of, Adds};
-ghost use Rattle.iss_model.specs.declared.input.Record.{Record};
-ghost use Rattle.iss_model.specs.texts.AnswerLines.{answer_text};
-ghost use Rattle.iss_http.specs.Messages.{respond, IsStatus};
+ghost use Rattle.std.specs.Prelude.{◌≡◌, List, [], ◌++◌, map, IfOk, OnOk, OnErr};
+ghost use Rattle.iss_edge.specs.World.{Told, Later, Stays};
+ghost use Rattle.iss_edge.specs.Outer.{Adds, ToldBoth};
+ghost use Rattle.iss_http.specs.Messages.{IsStatus};
 ghost use Rattle.iss_model.specs.declared.entry.Entry.TheVariants as entry_of;
-ghost use Rattle.iss_session.specs.Desks.{Waiter, to_reply, desk_with, waiters_without};
+ghost use Rattle.iss_session.specs.Desks.{Waiter};
 ghost use Rattle.iss_session.specs.Judgements.{status_of};
-ghost use Rattle.iss_session.specs.Sendings.{Sends};
 ghost use Rattle.iss_store.specs.Saying.{StaysGood, IsDurableOf};
-ghost use Rattle.iss_store.specs.Standing.{StandsFor};
 ghost use Rattle.iss_store.specs.Numbers.{AreNumbered};
-ghost use Rattle.iss_store.specs.Serving.{SendsPart, SendsAll, CausesGone, HaveNumbers, tasks_by, tasks_of_record, tasks_pending, tasks_pending_on_book};
+ghost use Rattle.iss_store.specs.Serving.{SendsAnswer, SendsPending, SendsPendingPart, SendsRecord, SendsRecordPart, TasksOnBook, CausesGone, HaveNumbers, tasks_by_each, tasks_pending};
 
 use crate::entries::send_entries;
 use crate::sending::reply;
@@ -38,15 +33,13 @@ impl Store {
         served: &mut Served,
     ) -> Result<Vec<Gone>, AllocError>
         requires last { IsDurableOf self.now durable }
-        ensures sends { IfOk result (λ gone. Told (SendsAll self.now.core.state.count (tasks_of_record self.now durable served.old) served.old served.new gone.items)
-            (outer_of (E.told edge.old) (E.heard edge.old)) (outer_of (E.told edge.new) (E.heard edge.new))) }
-        ensures part { OnErr result (Told (SendsPart self.now.core.state.count (desk_with (tasks_of_record self.now durable served.old) served.old))
-            (outer_of (E.told edge.old) (E.heard edge.old)) (outer_of (E.told edge.new) (E.heard edge.new))) }
+        ensures sends { IfOk result (λ gone. ToldBoth E.told E.heard (SendsRecord self.now durable served.old served.new gone.items) edge.old edge.new) }
+        ensures part { OnErr result (ToldBoth E.told E.heard (SendsRecordPart self.now durable served.old) edge.old edge.new) }
         ensures stays { Told StaysGood (E.told edge.old) (E.told edge.new) }
         ensures later { Later (E.faults edge.old) (E.faults edge.new) }
         ensures cause { IfOk result (λ gone. CausesGone (E.faults edge.old) (E.faults edge.new) gone.items) }
         ensures numbered { IfOk result (λ gone. HaveNumbers gone.items) }
-        ensures kept { E.extent edge.new ≡ E.extent edge.old }
+        ensures kept { Stays E.extent edge.old edge.new }
     {
         let (gone, answered) = send_entries(
             alloc,
@@ -67,16 +60,14 @@ impl Store {
         alloc: Global,
         edge: &mut E,
     ) -> Result<Vec<Gone>, AllocError>
-        ensures sends { (waiting : List Waiter) → IfOk result (λ gone. Told (SendsAll self.now.core.state.count (tasks_pending self.now) waiting waiting gone.items)
-            (outer_of (E.told edge.old) (E.heard edge.old)) (outer_of (E.told edge.new) (E.heard edge.new))) }
-        ensures part { (waiting : List Waiter) → OnErr result (Told (SendsPart self.now.core.state.count (desk_with (tasks_pending self.now) waiting))
-            (outer_of (E.told edge.old) (E.heard edge.old)) (outer_of (E.told edge.new) (E.heard edge.new))) }
-        ensures on_book { (rs : List Record) → StandsFor self.now rs → tasks_pending self.now ≡ tasks_pending_on_book self.now.core.instance rs }
+        ensures sends { (waiting : List Waiter) → IfOk result (λ gone. ToldBoth E.told E.heard (SendsPending self.now waiting gone.items) edge.old edge.new) }
+        ensures part { (waiting : List Waiter) → OnErr result (ToldBoth E.told E.heard (SendsPendingPart self.now waiting) edge.old edge.new) }
+        ensures on_book { TasksOnBook self.now }
         ensures stays { Told StaysGood (E.told edge.old) (E.told edge.new) }
         ensures later { Later (E.faults edge.old) (E.faults edge.new) }
         ensures cause { IfOk result (λ gone. CausesGone (E.faults edge.old) (E.faults edge.new) gone.items) }
         ensures numbered { IfOk result (λ gone. HaveNumbers gone.items) }
-        ensures kept { E.extent edge.new ≡ E.extent edge.old }
+        ensures kept { Stays E.extent edge.old edge.new }
     {
         let nobody = Served::new(alloc);
         let entries = self.pending_entries(alloc)?;
@@ -87,7 +78,7 @@ impl Store {
     /// The entries of what still waits for the gateway.
     #[tactic(auto, using(crate::proofs::ServedTexts::pending_tasks, crate::proofs::Numbered::pending_numbered))]
     fn pending_entries(&self, alloc: Global) -> Result<Vec<Entry>, AllocError>
-        ensures tasks { IfOk result (λ entries. flat_map (tasks_by self.now.core.instance []) entries.items ≡ tasks_pending self.now) }
+        ensures tasks { IfOk result (λ entries. tasks_by_each self.now.core.instance [] entries.items ≡ tasks_pending self.now) }
         ensures numbered { IfOk result (λ entries. AreNumbered entries.items) }
     {
         let mut entries = Vec::new(alloc);
@@ -105,14 +96,11 @@ impl Store {
         ch: Channel,
         answer: &Answer,
     ) -> Result<(), AllocError>
-        ensures sends { (waiting : List Waiter) → OnOk result (Told (Sends self.now.core.state.count
-            (desk_with (to_reply ch (respond (status_of answer.now) (answer_text answer.now)) ∷ []) waiting)
-            (desk_with [] (waiters_without ch waiting)) [])
-            (outer_of (E.told edge.old) (E.heard edge.old)) (outer_of (E.told edge.new) (E.heard edge.new))) }
-        ensures unsent { OnErr result (Told (Adds [] []) (outer_of (E.told edge.old) (E.heard edge.old)) (outer_of (E.told edge.new) (E.heard edge.new))) }
+        ensures sends { SendsAnswer E.told E.heard edge.old edge.new self.now.core.state.count ch answer.now result }
+        ensures unsent { OnErr result (ToldBoth E.told E.heard (Adds [] []) edge.old edge.new) }
         ensures stays { Told StaysGood (E.told edge.old) (E.told edge.new) }
         ensures later { Later (E.faults edge.old) (E.faults edge.new) }
-        ensures kept { E.extent edge.new ≡ E.extent edge.old }
+        ensures kept { Stays E.extent edge.old edge.new }
     {
         let line = told_line(alloc, answer)?;
         let text = respond(alloc, status_of(answer), &line)?;

@@ -1,32 +1,27 @@
 //! A store: planning, committing, and what stands.
 ghost use Rattle.std.specs.Prelude.{◌≡◌, List, IfOk, IsTrue};
 ghost use Rattle.std.specs.List.{list_all};
-ghost use Rattle.iss_edge.specs.World.{Told};
+ghost use Rattle.iss_edge.specs.World.{Told, Stays};
 ghost use Rattle.iss_edge.specs.Calls.{HearsNothing};
 ghost use Rattle.iss_model.specs.declared.input.Record.{Record};
 ghost use Rattle.iss_model.specs.Forms.{is_in_form, is_stamp};
 ghost use Rattle.iss_model.specs.Tokens.{is_token};
 ghost use Rattle.iss_model.specs.texts.Spelling.{spelling, tokens_of};
 ghost use Rattle.iss_model.specs.rules.Judging.{judge};
-ghost use Rattle.iss_model.specs.rules.Histories.{history_keeper, history_of};
-ghost use Rattle.iss_model.specs.run.Rooms.{judgement_within};
 ghost use Rattle.iss_core.specs.Values.{IsNext};
-ghost use Rattle.iss_store.specs.Values.{room_of};
 ghost use Rattle.iss_store.specs.Standing.{StandsFor};
-ghost use Rattle.iss_store.specs.Planning.{IsPlanOf, judged_at, Plans, made_of};
+ghost use Rattle.iss_store.specs.Planning.{IsPlanOf, judged_at, Plans, PlansOnBook, made_of};
 ghost use Rattle.iss_store.specs.Committing.{Commits, CommitsOnBook, Keeps, KeepsPart, WhereItLasts, CommitCause};
 
 use crate::{Durable, PlanFault, Planned, StoreFault};
 use iss_codec::put_record;
 use iss_core::Core;
 use iss_edge::Edge;
+use iss_journal::layout::HEAD;
 use iss_journal::{Frame, Journal};
 use iss_model::{Answer, Input, Judged, Record};
 use std::alloc::{AllocError, Global};
 use std::marker::Model;
-
-/// What a record takes on the device beside its body: its gate, and its length in four bytes.
-pub(crate) const HEAD: u64 = 5;
 
 /// The records on a device, and what they make. Contracts see its core, the place of the end gate, and the place where the
 /// device ends; a store *stands for* records where its core does and they end at that gate.
@@ -69,8 +64,7 @@ impl Store {
         requires stamp { IsTrue (is_stamp at) }
         ensures planned { Plans (judged_at self.now input.now at) result }
         ensures plan_of { IfOk result (IsPlanOf self.now) }
-        ensures on_book { (rs : List Record) → StandsFor self.now rs
-            → Plans (judgement_within (room_of self.now) rs (judge history_keeper (history_of rs) input.now at)) result }
+        ensures on_book { PlansOnBook self.now input.now at result }
     {
         match self.core.judge(alloc, input, at)? {
             Judged::New(accepted) => self.plan_record(alloc, accepted, false),
@@ -126,8 +120,8 @@ impl Store {
             (Told (Keeps self planned.accepted) (E.told edge.old) (E.told edge.new)) }
         ensures cause { CommitCause (E.faults edge.old) (E.faults edge.new) result }
         ensures heard { Told HearsNothing (E.heard edge.old) (E.heard edge.new) }
-        ensures kept { E.extent edge.new ≡ E.extent edge.old }
-        ensures channels { E.channels edge.new ≡ E.channels edge.old }
+        ensures kept { Stays E.extent edge.old edge.new }
+        ensures channels { Stays E.channels edge.old edge.new }
     {
         let mut journal = self.journal;
         // The plan fits, so nothing but the device refuses it.

@@ -53,7 +53,7 @@ gains_then xs ys a b c p q =
           ∙ ap (λ (t : List ℕ). a.ends.items ++ t) (sym (ends-append (length a.bytes.items) xs ys));
     }
 
--- where there were none, these are all
+-- if there were none, these are all
 pub gained_all : (xs : List (List ℕ)) (before after : Texts) → HasNone before → Gains xs before after → HasAll xs after
 gained_all xs before after none gained =
     record {

@@ -77,7 +77,7 @@ pub record AreFirst (texts whole : List (List ℕ)) : Type 0 where
   pub back : List (List ℕ)
   pub cut : whole ≡ texts ++ back
 
--- no count has fallen, and where sending failed, the count of output rose
+-- no count has fallen, and if sending failed, the count of output rose
 pub record IsSending {A E : Type 0} (before now : Faults) (result : Result A E) : Type 0 where
   pub later : Later before now
   pub output : OnErr result (Rose before.output now.output)

@@ -11,7 +11,7 @@ abbrev pub ends_of : ℕ → List (List ℕ) → List ℕ
 ends_of start [] = []
 ends_of start (text ∷ texts) = (start + length text) ∷ ends_of (start + length text) texts
 
--- these texts came behind those that were there
+-- these texts came after those that were there
 pub record Gains (texts : List (List ℕ)) (before after : Texts) : Type 0 where
   pub bytes : after.bytes.items ≡ before.bytes.items ++ concat texts
   pub ends : after.ends.items ≡ before.ends.items ++ ends_of (length before.bytes.items) texts
@@ -31,7 +31,7 @@ abbrev pub cut_at : ℕ → List ℕ → List ℕ → List (List ℕ)
 cut_at start bytes [] = []
 cut_at start bytes (end ∷ ends) = take (end - start) (drop start bytes) ∷ cut_at end bytes ends
 
--- each of these places is at or behind the one before it, and within so many bytes
+-- each of these places is at or after the one before it, and within this number of bytes
 abbrev pub AreEnds : ℕ → ℕ → List ℕ → Type 0
 AreEnds start size [] = Unit {0}
 AreEnds start size (end ∷ ends) = (start ≤ end) × ((end ≤ size) × AreEnds end size ends)

@@ -1,5 +1,5 @@
 //! Texts in a row.
-ghost use Rattle.std.specs.Prelude.{◌≡◌, ℕ, ◌<◌, ◌^◌, List, [], ◌∷◌, ◌++◌, length, OnOk, OnErr};
+ghost use Rattle.std.specs.Prelude.{◌≡◌, ℕ, ◌<◌, List, [], ◌∷◌, ◌++◌, length, OnOk, OnErr};
 ghost use Rattle.std.specs.List.{flat_map};
 ghost use Rattle.iss_model.specs.texts.AnswerLines.{answer_text, time_line};
 ghost use Rattle.iss_model.specs.run.Sayings.{asked, noticed};
@@ -8,6 +8,7 @@ ghost use Rattle.iss_texts.specs.TextRows.{Gains, HasNone, HasAll, AreEnds, said
 ghost use Rattle.iss_texts.specs.Sending.{Says, SaysSome, SentEach, StopsAt, IsSending};
 ghost use Rattle.iss_edge.specs.Outer.{outer_of};
 ghost use Rattle.iss_edge.specs.World.{Told};
+ghost use Rattle.iss_model.specs.declared.limits.TheConstants.{INSTANCES};
 
 use crate::sending::send_each;
 use iss_edge::{Edge, Failed};
@@ -16,7 +17,7 @@ use iss_jit::{put_notice, put_request};
 use iss_model::{Answer, Entry, Notice, Opened, Reply};
 use std::alloc::{AllocError, Global};
 
-/// Texts in a row, and the places where they end. Each is a line, with its line feed. Where an allocation fails a part of
+/// Texts in a row, and the places where they end. Each is a line, with its line feed. If an allocation fails, a part of
 /// one may be there.
 #[derive(Drop)]
 pub struct Texts {
@@ -41,7 +42,7 @@ impl Texts {
         self.ends.clear();
     }
 
-    /// Adds what is told of a line with a fault of form.
+    /// Adds the text of a line with a fault of form.
     #[tactic(auto, using(crate::proofs::Rows::one_more))]
     pub fn put_form(&mut self, fault: &FormFault) -> Result<(), AllocError>
         ensures { OnOk result (Gains (form_text fault.now ∷ []) self.old self.new) }
@@ -50,7 +51,7 @@ impl Texts {
         self.end()
     }
 
-    /// Adds what an input is told that isn't new.
+    /// Adds the answer to an input that isn't new.
     #[tactic(auto, using(crate::proofs::Rows::one_more))]
     pub fn put_told(&mut self, answer: &Answer) -> Result<(), AllocError>
         ensures { OnOk result (Gains (answer_text answer.now ∷ []) self.old self.new) }
@@ -71,7 +72,7 @@ impl Texts {
     /// Adds the request of a call.
     #[tactic(auto, using(crate::proofs::Rows::one_more))]
     pub fn put_request(&mut self, opened: &Opened, instance: u64) -> Result<(), AllocError>
-        requires { instance < 2 ^ 48 }
+        requires { instance < INSTANCES }
         ensures { OnOk result (Gains (said_texts instance (asked opened.now ∷ [])) self.old self.new) }
     {
         put_request(&mut self.bytes, opened, instance)?;
@@ -81,7 +82,7 @@ impl Texts {
     /// Adds a notice.
     #[tactic(auto, using(crate::proofs::Rows::one_more))]
     pub fn put_notice(&mut self, notice: &Notice, instance: u64) -> Result<(), AllocError>
-        requires { instance < 2 ^ 48 }
+        requires { instance < INSTANCES }
         ensures { OnOk result (Gains (said_texts instance (noticed notice.now ∷ [])) self.old self.new) }
     {
         put_notice(&mut self.bytes, notice, instance)?;
@@ -90,7 +91,7 @@ impl Texts {
 
     /// Adds the texts of entries: of each decision, request, notice and acknowledgement.
     pub fn put_entries(&mut self, entries: &[Entry], instance: u64) -> Result<(), AllocError>
-        requires { instance < 2 ^ 48 }
+        requires { instance < INSTANCES }
         ensures { OnOk result (Gains (flat_map (entry_texts_at instance) entries.now) self.old self.new) }
     {
         for entry in entries {
@@ -101,7 +102,7 @@ impl Texts {
 
     #[tactic(auto, using(crate::proofs::Rows::one_more, crate::proofs::Rows::none_more))]
     fn put_entry(&mut self, entry: &Entry, instance: u64) -> Result<(), AllocError>
-        requires { instance < 2 ^ 48 }
+        requires { instance < INSTANCES }
         ensures { OnOk result (Gains (entry_texts_at instance entry.now) self.old self.new) }
     {
         match entry {

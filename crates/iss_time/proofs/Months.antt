@@ -10,7 +10,7 @@ use Rattle.iss_time.specs.declared.windows.TheConstants.{FIRST_DAY}
 use Rattle.iss_time.specs.CivilMonths.{HasMonthOfDate}
 use Rattle.iss_time.proofs.Years.{next_year, days_before, year_of}
 
--- how many months have begun, where there are so many leap days
+-- how many months have begun, with this number of leap days
 abbrev begun : ℕ → ℕ → ℕ
 begun p leap = length (filter (λ start. nat_le start p) (month_starts leap))
 
@@ -86,7 +86,7 @@ counted : (y m d : ℕ) → day_count (pos y) m d ≡ days_of_years (y + 10000) 
 unfolding day_count
 counted y m d = refl
 
--- the number of a month, where the year and the place in it are known
+-- the number of a month, if the year and the place in it are known
 number_of : (place y p m : ℕ) → year_of_day place ≡ y → place - days_before_year y ≡ p → month_in_year y p ≡ m
     → month_number (year_of_day place) (month_in_year (year_of_day place) (place - days_before_year (year_of_day place))) ≡ month_number y m
 number_of place y p m year inside month =

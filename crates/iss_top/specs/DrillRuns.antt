@@ -1,5 +1,6 @@
 -- What a drill does, whatever status it ends with.
 use Rattle.std.specs.Prelude.{◌≡◌, ◌⊎◌, ℕ, [], ◌∷◌, Result, Ok, Err}
+use Rattle.iss_edge.specs.declared.status.TheConstants.{DONE, OUTPUT_FAULT, OUT_OF_MEMORY}
 use Rattle.iss_edge.specs.World.{World, Faults, Rose}
 use Rattle.iss_texts.specs.Sending.{Says, SaysSome}
 use Rattle.iss_drill.specs.Drills.{drill_text}
@@ -8,16 +9,16 @@ use Rattle.iss_drill.specs.declared.fault.DrillFault.TheVariants as drill_fault
 
 -- the exit status of a drill that ended so
 abbrev pub drill_status : {A : Type 0} → Result A DrillFault → ℕ
-drill_status (Ok done) = 0
-drill_status (Err drill_fault.Output) = 5
-drill_status (Err drill_fault.OutOfMemory) = 7
+drill_status (Ok done) = DONE
+drill_status (Err drill_fault.Output) = OUTPUT_FAULT
+drill_status (Err drill_fault.OutOfMemory) = OUT_OF_MEMORY
 
 -- Of a drill of n events with this status, nothing was done but that its line went out by one emit, and at 0 all of it; else nothing, or
 -- by a failed emit a prefix of it.
 pub record DrillRun (n status : ℕ) (a b : World) : Type 0 where
   pub part : SaysSome (drill_text n ∷ []) a b
-  pub whole : status ≡ 0 → Says (drill_text n ∷ []) a b
+  pub whole : status ≡ DONE → Says (drill_text n ∷ []) a b
 
 -- where the count of output didn't rise, the status is 0 or 7
 abbrev pub DrillEndsWell : Faults → Faults → ℕ → Type 0
-DrillEndsWell before now status = (Rose before.output now.output → ⊥) → (status ≡ 0) ⊎ (status ≡ 7)
+DrillEndsWell before now status = (Rose before.output now.output → ⊥) → (status ≡ DONE) ⊎ (status ≡ OUT_OF_MEMORY)

@@ -1,8 +1,9 @@
 -- A run on a device on its way: what each line is told on what stands, what was done for it, and what the rest of the input will be told.
-use Rattle.std.specs.Prelude.{◌≡◌, ℕ, ◌+◌, ◌≤◌, ◌==◌, ◌↔◌, ◌⊎◌, Bool, true, false, List, [], ◌∷◌, ◌++◌, length, map, filter, take, Some, IfErr, Result, if◌then◌else◌}
+use Rattle.std.specs.Prelude.{◌≡◌, ℕ, ◌+◌, ◌≤◌, ◌==◌, ◌↔◌, ◌⊎◌, Bool, true, false, List, [], ◌∷◌, ◌++◌, length, map, filter, take, Option, Some, IfOk, IfErr, Result, if◌then◌else◌}
+use Rattle.iss_edge.specs.declared.status.TheConstants.{DONE, INPUT_FAULT, DISK_FAULT, INPUT_TOO_LONG}
 use Rattle.iss_edge.specs.declared.outside.Action.{Action}
 use Rattle.iss_edge.specs.declared.outside.Action.TheVariants.{Write, Sync, Emit, Dial, Close}
-use Rattle.iss_edge.specs.World.{World, Faults, Later, Rose}
+use Rattle.iss_edge.specs.World.{World, Told, Faults, Later, Rose}
 use Rattle.iss_edge.specs.Stretches.{Step, actions_of}
 use Rattle.iss_model.specs.declared.input.Record.{Record}
 use Rattle.iss_model.specs.declared.limits.TheConstants.{MOST_INPUT}
@@ -13,7 +14,7 @@ use Rattle.iss_model.specs.state.Cores.{core_keeper}
 use Rattle.iss_model.specs.run.Rooms.{room_left}
 use Rattle.iss_model.specs.run.Runs.{Run, Response, response}
 use Rattle.iss_model.specs.run.Sayings.{reaction_to_record, said_of_time, answer_left}
-use Rattle.iss_model.specs.run.Transcripts.{Text, at_level, said_text_at}
+use Rattle.iss_model.specs.run.Transcripts.{Text, at_level, said_text_at, sound}
 use Rattle.iss_store.specs.Values.{StoreNow, Plan}
 use Rattle.iss_store.specs.Standing.{StandsFor, AreHistory, region_under}
 use Rattle.iss_store.specs.Goings.{AreFirstOf}
@@ -124,6 +125,18 @@ pub record TakesPartAs (failed : Type 0) (told : Run → Response) (s : StoreNow
   pub left : b.left ≡ a.left
   pub on_book : (rs : List Record) → StandsFor s rs → GoesSome failed s rs (told (run_at s rs)) a b
 
+-- If the call succeeded, an input was taken as this says, and the store went on to the result.
+abbrev pub TakesTo : {E F : Type 0} → (E → Option World) → E → E → (Run → Response) → StoreNow → Result StoreNow F → Type 0
+TakesTo told a b response store result = IfOk result (λ next. Told (TakesAs response store next) (told a) (told b))
+
+-- If the call failed, an input was taken in part, and the run might have gone on from there, unless a call on the device failed.
+abbrev pub TakesInPart : {E T : Type 0} → (E → Option World) → E → E → (Run → Response) → StoreNow → Result T Stop → Type 0
+TakesInPart told a b response store result = IfErr result (λ why. Told (TakesPartAs (IsOfDisk why) response store) (told a) (told b))
+
+-- what is told of a line that was read, on a run
+abbrev pub response_to_line : Input → Option ℕ → Run → Response
+response_to_line input at s = response s (sound input at)
+
 -- what is told of a planned record, and what then stands
 abbrev pub response_to_plan : Plan → Run → Response
 response_to_plan p s =
@@ -160,9 +173,9 @@ pub record GoesWhole (s : StoreNow) (rs : List Record) (told : Response) (a b : 
 pub record RunsAs (tell : List (List ℕ) → Response) (status : ℕ) (opened : StoreNow) (rs : List Record) (took : List ℕ) (a b : World) : Type 0 where
   pub rs' : List Record
   pub records : AreFirstOf rs' (tell (parts_of (a.left 0))).run.history.records
-  pub goes : GoesPart (status ≡ 6) opened rs rs' (tell (parts_of (a.left 0))).texts a b
-  pub whole : status ≡ 0 → (b.left 0 ≡ []) × GoesWhole opened rs (tell (parts_of (a.left 0))) a b
-  pub stopped : (status ≡ 3) ⊎ (status ≡ 8) → GoesWhole opened rs (tell (all_but_last (parts_of (take MOST_INPUT took)))) a b
+  pub goes : GoesPart (status ≡ DISK_FAULT) opened rs rs' (tell (parts_of (a.left 0))).texts a b
+  pub whole : status ≡ DONE → (b.left 0 ≡ []) × GoesWhole opened rs (tell (parts_of (a.left 0))) a b
+  pub stopped : (status ≡ INPUT_FAULT) ⊎ (status ≡ INPUT_TOO_LONG) → GoesWhole opened rs (tell (all_but_last (parts_of (take MOST_INPUT took)))) a b
 
 -- the same since its store was opened on these records
 abbrev pub RunsOnBook : ℕ → StoreNow → List Record → List ℕ → World → World → Type 0
@@ -173,7 +186,7 @@ pub record RunsFrom (status : ℕ) (opened : StoreNow) (a b : World) : Type 0 wh
   pub took : List ℕ
   pub takes : TakesIn took a b
   pub on_book : (rs : List Record) → StandsFor opened rs → RunsOnBook status opened rs took a b
-  pub long : (status ≡ 8) ↔ (length took ≡ MOST_INPUT + 1)
+  pub long : (status ≡ INPUT_TOO_LONG) ↔ (length took ≡ MOST_INPUT + 1)
   pub bound : length took ≤ MOST_INPUT + 1
 
 -- why a line that is taken may end the run: the device, an emit or an allocation failed

@@ -1,6 +1,7 @@
 -- What a run on a device does, whatever status it ends with.
 use Rattle.std.specs.Prelude.{◌≡◌, ◌+◌, ℕ, ◌≤◌, ◌↔◌, ◌⊎◌, List, [], ◌++◌, length, map, take, IsTrue}
 use Rattle.std.specs.List.{list_all}
+use Rattle.iss_edge.specs.declared.status.TheConstants.{DONE, INPUT_FAULT, BAD_DEVICE, DISK_FAULT, OUT_OF_MEMORY, INPUT_TOO_LONG}
 use Rattle.iss_edge.specs.declared.outside.Action.{Action}
 use Rattle.iss_edge.specs.World.{World, Faults, Rose}
 use Rattle.iss_edge.specs.Stretches.{Step, actions_of}
@@ -54,12 +55,12 @@ pub record ReplayOn (status : ℕ) (instance : ℕ) (rs : List Record) (a b : Wo
   pub grew : b.trace ≡ a.trace ++ actions
   pub kinds : IsTrue (list_all is_of_run actions)
   pub out : GoOut (each_bytes (texts_for (run_on_device instance rs a.device) (lines_of (a.left 0)))) (outputs_of actions)
-  pub whole : status ≡ 0 → (b.left 0 ≡ []) × Replayed instance rs (lines_of (a.left 0)) actions a b
-  pub stopped : (status ≡ 3) ⊎ (status ≡ 8) → Replayed instance rs (ended_lines (take MOST_INPUT took)) actions a b
-  pub long : (status ≡ 8) ↔ (length took ≡ MOST_INPUT + 1)
+  pub whole : status ≡ DONE → (b.left 0 ≡ []) × Replayed instance rs (lines_of (a.left 0)) actions a b
+  pub stopped : (status ≡ INPUT_FAULT) ⊎ (status ≡ INPUT_TOO_LONG) → Replayed instance rs (ended_lines (take MOST_INPUT took)) actions a b
+  pub long : (status ≡ INPUT_TOO_LONG) ↔ (length took ≡ MOST_INPUT + 1)
   pub bound : length took ≤ MOST_INPUT + 1
-  pub ended : (status ≡ 6 → ⊥) → EndsSomewhere instance rs actions a b
-  pub other_device : status ≡ 4 → ⊥
+  pub ended : (status ≡ DISK_FAULT → ⊥) → EndsSomewhere instance rs actions a b
+  pub other_device : status ≡ BAD_DEVICE → ⊥
 
 -- whichever records the device stands for, if any
 abbrev pub ReplayRun : ℕ → World → World → Type 0
@@ -109,4 +110,4 @@ abbrev pub ReplayEndsWell : Faults → Faults → ℕ → World → World → Ty
 ReplayEndsWell before now status a b =
     (instance : ℕ) (rs : List Record) → DeviceStandsFor instance rs a.device
     → (Rose before.disk now.disk → ⊥) → (Rose before.input now.input → ⊥) → (Rose before.output now.output → ⊥) → length (a.left 0) ≤ MOST_INPUT
-    → (status ≡ 0) ⊎ (status ≡ 7)
+    → (status ≡ DONE) ⊎ (status ≡ OUT_OF_MEMORY)

@@ -1,5 +1,6 @@
 -- What a run that reports what stands on a device does, whatever status it ends with.
 use Rattle.std.specs.Prelude.{◌≡◌, ◌⊎◌, ℕ, List, ◌++◌, length, IfErr, Result}
+use Rattle.iss_edge.specs.declared.status.TheConstants.{DONE, BAD_DEVICE, OUTPUT_FAULT, OUT_OF_MEMORY}
 use Rattle.iss_edge.specs.declared.outside.Action.{Action}
 use Rattle.iss_edge.specs.World.{World, Faults, Later, Rose}
 use Rattle.iss_model.specs.declared.input.Record.{Record}
@@ -33,11 +34,11 @@ pub record ReportOn (status : ℕ) (instance : ℕ) (rs : List Record) (a b : Wo
   pub grew : b.trace ≡ a.trace ++ (opening ++ sent)
   pub on_device : AreOnDevice opening
   pub out : GoOut (report_lines rs) sent
-  pub whole : status ≡ 0 → sent ≡ emits (report_lines rs)
-  pub stands : (status ≡ 0) ⊎ (status ≡ 5) → DeviceStandsFor instance rs b.device
-  pub ends : (status ≡ 0) ⊎ (status ≡ 5) → EndsAtRest instance rs rs (opening ++ sent) a b
-  pub ended : status ≡ 7 → ReadsAlone a b ⊎ EndsAtRest instance rs rs (opening ++ sent) a b
-  pub other_device : status ≡ 4 → ⊥
+  pub whole : status ≡ DONE → sent ≡ emits (report_lines rs)
+  pub stands : (status ≡ DONE) ⊎ (status ≡ OUTPUT_FAULT) → DeviceStandsFor instance rs b.device
+  pub ends : (status ≡ DONE) ⊎ (status ≡ OUTPUT_FAULT) → EndsAtRest instance rs rs (opening ++ sent) a b
+  pub ended : status ≡ OUT_OF_MEMORY → ReadsAlone a b ⊎ EndsAtRest instance rs rs (opening ++ sent) a b
+  pub other_device : status ≡ BAD_DEVICE → ⊥
 
 -- whichever records the device stands for, if any
 abbrev pub ReportRun : ℕ → World → World → Type 0
@@ -67,4 +68,4 @@ abbrev pub ReportEndsWell : Faults → Faults → ℕ → World → World → Ty
 ReportEndsWell before now status a b =
     (instance : ℕ) (rs : List Record) → DeviceStandsFor instance rs a.device
     → (Rose before.disk now.disk → ⊥) → (Rose before.output now.output → ⊥)
-    → (status ≡ 0) ⊎ (status ≡ 7)
+    → (status ≡ DONE) ⊎ (status ≡ OUT_OF_MEMORY)

@@ -1,7 +1,8 @@
 -- What a run does, whatever status it ends with.
-use Rattle.std.specs.Prelude.{◌≡◌, ◌+◌, ℕ, ◌≤◌, ◌↔◌, ◌⊎◌, List, [], ◌++◌, length, take, IfErr, Result}
+use Rattle.std.specs.Prelude.{◌≡◌, ◌+◌, ℕ, ◌≤◌, ◌↔◌, ◌⊎◌, List, [], ◌++◌, length, take, Option, IfErr, Result}
+use Rattle.iss_edge.specs.declared.status.TheConstants.{DONE, INPUT_FAULT, OUT_OF_MEMORY, INPUT_TOO_LONG}
 use Rattle.iss_edge.specs.declared.outside.Action.{Action}
-use Rattle.iss_edge.specs.World.{World, Faults, Later, Rose}
+use Rattle.iss_edge.specs.World.{World, Told, Faults, Later, Rose}
 use Rattle.iss_model.specs.declared.limits.TheConstants.{MOST_INPUT}
 use Rattle.iss_top.specs.declared.stop.Stop.{Stop}
 use Rattle.iss_top.specs.declared.stop.Stop.TheVariants as stop
@@ -24,8 +25,8 @@ pub record DryRun (status : ℕ) (a b : World) : Type 0 where
   pub text : List ℕ
   pub passes : Passes took text a b
   pub prefix : Begins text (dry_output (a.left 0))
-  pub whole : status ≡ 0 → (text ≡ dry_output (a.left 0)) × (b.left 0 ≡ [])
-  pub long : (status ≡ 8) ↔ (length took ≡ MOST_INPUT + 1)
+  pub whole : status ≡ DONE → (text ≡ dry_output (a.left 0)) × (b.left 0 ≡ [])
+  pub long : (status ≡ INPUT_TOO_LONG) ↔ (length took ≡ MOST_INPUT + 1)
   pub bound : length took ≤ MOST_INPUT + 1
 
 -- What a dry run with this status emitted: the texts that its input is to be told, in order, each by an emit of its own, and all of them at status 0.
@@ -34,7 +35,7 @@ pub record EmitsTexts (status : ℕ) (a b : World) : Type 0 where
   pub actions : List Action
   pub grew : b.trace ≡ a.trace ++ actions
   pub out : GoOut (each_bytes (dry_texts (a.left 0))) actions
-  pub whole : status ≡ 0 → actions ≡ emits (each_bytes (dry_texts (a.left 0)))
+  pub whole : status ≡ DONE → actions ≡ emits (each_bytes (dry_texts (a.left 0)))
 
 -- the emits of what the lines are told that ended within the first 4294967296 of these bytes
 abbrev pub emits_of_ended : List ℕ → List Action
@@ -45,7 +46,7 @@ emits_of_ended took = emits (each_bytes (texts_of_lines (ended_lines (take MOST_
 pub record StopsAtLines (status : ℕ) (a b : World) : Type 0 where
   pub took : List ℕ
   pub takes : TakesIn took a b
-  pub exactly : (status ≡ 3) ⊎ (status ≡ 8) → b.trace ≡ a.trace ++ emits_of_ended took
+  pub exactly : (status ≡ INPUT_FAULT) ⊎ (status ≡ INPUT_TOO_LONG) → b.trace ≡ a.trace ++ emits_of_ended took
 
 -- all of what it took and what it emitted, with the device as it was
 pub record Ran (status : ℕ) (a b : World) : Type 0 where
@@ -53,9 +54,9 @@ pub record Ran (status : ℕ) (a b : World) : Type 0 where
   pub takes : TakesIn took a b
   pub device : b.device ≡ a.device
   pub emits : EmitsTexts status a b
-  pub stopped : (status ≡ 3) ⊎ (status ≡ 8) → b.trace ≡ a.trace ++ emits_of_ended took
-  pub over : status ≡ 0 → b.left 0 ≡ []
-  pub long : (status ≡ 8) ↔ (length took ≡ MOST_INPUT + 1)
+  pub stopped : (status ≡ INPUT_FAULT) ⊎ (status ≡ INPUT_TOO_LONG) → b.trace ≡ a.trace ++ emits_of_ended took
+  pub over : status ≡ DONE → b.left 0 ≡ []
+  pub long : (status ≡ INPUT_TOO_LONG) ↔ (length took ≡ MOST_INPUT + 1)
   pub bound : length took ≤ MOST_INPUT + 1
 
 -- why a run may end early
@@ -72,8 +73,12 @@ pub record IsCaused {A : Type 0} (before now : Faults) (result : Result A Stop) 
   pub later : Later before now
   pub cause : IfErr result (RunCause before now)
 
+-- R holds by the counts of faults before a run with this status and after it, and by what is told of the world then
+abbrev pub ToldByFaults : {E : Type 0} → (E → Faults) → (E → Option World) → (Faults → Faults → ℕ → World → World → Type 0) → E → E → ℕ → Type 0
+ToldByFaults faults told R a b status = Told (R (faults a) (faults b) status) (told a) (told b)
+
 -- where no count on input or output rose, and the input has at most 4294967296 bytes, the status is 0 or 7
 abbrev pub EndsWell : Faults → Faults → ℕ → World → World → Type 0
 EndsWell before now status a b =
     (Rose before.input now.input → ⊥) → (Rose before.output now.output → ⊥) → length (a.left 0) ≤ MOST_INPUT
-    → (status ≡ 0) ⊎ (status ≡ 7)
+    → (status ≡ DONE) ⊎ (status ≡ OUT_OF_MEMORY)

@@ -1,5 +1,6 @@
 -- The exit status of a run.
 use Rattle.std.specs.Prelude.{ℕ, Result, Ok, Err}
+use Rattle.iss_edge.specs.declared.status.TheConstants.{DONE, INPUT_FAULT, BAD_DEVICE, OUTPUT_FAULT, DISK_FAULT, OUT_OF_MEMORY, INPUT_TOO_LONG}
 use Rattle.iss_store.specs.declared.fault.OpenFault.{OpenFault}
 use Rattle.iss_store.specs.declared.fault.OpenFault.TheVariants as open_fault
 use Rattle.iss_store.specs.declared.fault.StoreFault.{StoreFault}
@@ -8,13 +9,13 @@ use Rattle.iss_top.specs.declared.stop.Stop.{Stop}
 use Rattle.iss_top.specs.declared.stop.Stop.TheVariants.{Input, Device, Output, Disk, Memory, InputLong}
 
 abbrev pub status_of : {A : Type 0} → Result A Stop → ℕ
-status_of (Ok done) = 0
-status_of (Err Input) = 3
-status_of (Err Device) = 4
-status_of (Err Output) = 5
-status_of (Err Disk) = 6
-status_of (Err Memory) = 7
-status_of (Err InputLong) = 8
+status_of (Ok done) = DONE
+status_of (Err Input) = INPUT_FAULT
+status_of (Err Device) = BAD_DEVICE
+status_of (Err Output) = OUTPUT_FAULT
+status_of (Err Disk) = DISK_FAULT
+status_of (Err Memory) = OUT_OF_MEMORY
+status_of (Err InputLong) = INPUT_TOO_LONG
 
 -- what ends a run whose device doesn't open so
 abbrev pub stop_of_opening : OpenFault → Stop

@@ -1,22 +1,18 @@
 -- The words of a run, and what they ask for.
-use Rattle.std.specs.Prelude.{ℕ, ◌<◌, ◌≤◌, ◌^◌, Bool, not, ◌&&◌, ◌==◌, nat_le, nat_lt, List, [], ◌∷◌, length, slice_index, codes, Option, Some, None, if◌then◌else◌}
+use Rattle.std.specs.Prelude.{ℕ, ◌<◌, ◌≤◌, ◌^◌, Bool, not, ◌&&◌, ◌==◌, nat_le, nat_lt, List, [], ◌∷◌, length, map, slice_index, codes, String, string_bytes, Option, Some, None, if◌then◌else◌}
 use Rattle.std.specs.List.{list_all}
 use Rattle.std.specs.Str.{bytes_eq}
-use Rattle.iss_model.specs.Amounts.{is_digit, digits_value, is_whole_text, value_after}
+use Rattle.iss_edge.specs.declared.status.TheConstants.{DONE, USAGE, INPUT_FAULT, BAD_DEVICE, OUTPUT_FAULT, DISK_FAULT, OUT_OF_MEMORY, INPUT_TOO_LONG}
+use Rattle.iss_amount.specs.Digits.{number_in}
+use Rattle.iss_journal.specs.declared.layout.TheConstants.{INSTANCES, LEAST_SIZE, GREATEST_SIZE}
+use Rattle.iss_drill.specs.declared.limits.TheConstants.{MOST_EVENTS}
+use Rattle.iss_top.specs.declared.words.TheConstants.{LONGEST_NAME, GREATEST_INSTANCE, GREATEST_PORT, MOST_TURNS}
 use Rattle.iss_top.specs.declared.words.Command.{Command}
 use Rattle.iss_top.specs.declared.words.Command.TheVariants.{Dry, Format, Replay, Balances, Serve, Drill}
 
--- this number, where it is from the least to the most
-abbrev pub within : ℕ → ℕ → ℕ → Option ℕ
-within least most n = if nat_le least n && nat_le n most then Some n else None
-
--- the number that a word says, where it is from the least to the most: decimal digits without a leading zero, save a lone zero
-abbrev pub number_in : ℕ → ℕ → List ℕ → Option ℕ
-number_in least most word = if is_whole_text word then within least most (digits_value word) else None
-
 -- a device's name: 1 to 4096 bytes, of which the first is no minus sign
 abbrev pub is_device : List ℕ → Bool
-is_device word = nat_lt 0 (length word) && not (slice_index word 0 == 45) && nat_le (length word) 4096
+is_device word = nat_lt 0 (length word) && not (slice_index word 0 == 45) && nat_le (length word) LONGEST_NAME
 
 -- a run on a device of this name
 abbrev pub on_device : Command → List ℕ → Option Command
@@ -48,7 +44,7 @@ dry_command name = if bytes_eq name (codes "dry") then Some Dry else None
 abbrev pub format_command : List ℕ → List ℕ → List ℕ → List ℕ → Option Command
 format_command name device size instance =
     if bytes_eq name (codes "format") && is_device device
-    then format_of (number_in 17 4294967296 size) (number_in 0 281474976710655 instance)
+    then format_of (number_in LEAST_SIZE GREATEST_SIZE size) (number_in 0 GREATEST_INSTANCE instance)
     else None
 
 -- `replay DEVICE`, `balances DEVICE`, and `drill N` with an N of 1 to 100000
@@ -56,14 +52,14 @@ abbrev pub two_word_command : List ℕ → List ℕ → Option Command
 two_word_command name word =
     if bytes_eq name (codes "replay") then on_device Replay word
     else if bytes_eq name (codes "balances") then on_device Balances word
-    else if bytes_eq name (codes "drill") then drill_of (number_in 1 100000 word)
+    else if bytes_eq name (codes "drill") then drill_of (number_in 1 MOST_EVENTS word)
     else None
 
 -- `serve DEVICE PORT GATEWAYPORT TURNS`, with ports of 1 to 65535 and turns of 1 to 4294967295
 abbrev pub serve_command : List ℕ → List ℕ → List ℕ → List ℕ → List ℕ → Option Command
 serve_command name device port gateway turns =
     if bytes_eq name (codes "serve") && is_device device
-    then serve_of (number_in 1 65535 port) (number_in 1 65535 gateway) (number_in 1 4294967295 turns)
+    then serve_of (number_in 1 GREATEST_PORT port) (number_in 1 GREATEST_PORT gateway) (number_in 1 MOST_TURNS turns)
     else None
 
 -- what the words ask for
@@ -74,29 +70,29 @@ command_of_words (name ∷ device ∷ size ∷ instance ∷ []) = format_command
 command_of_words (name ∷ device ∷ port ∷ gateway ∷ turns ∷ []) = serve_command name device port gateway turns
 command_of_words words = None
 
--- that number, where these are digits and it is from the least to the most
-abbrev pub number_after : ℕ → ℕ → ℕ → List ℕ → Option ℕ
-number_after start least most digits = if list_all is_digit digits then within least most (value_after start digits) else None
+-- what these texts ask for as words
+abbrev pub command_in : {Z : Type 0} → List (String Z) → Option Command
+command_in words = command_of_words (map string_bytes words)
 
 -- a command's numbers are in their ranges
 abbrev pub IsInRange : Command → Type 0
 IsInRange Dry = Unit {0}
 IsInRange Replay = Unit {0}
 IsInRange Balances = Unit {0}
-IsInRange (Format size instance) = (17 ≤ size) × (size ≤ 2 ^ 32) × (instance < 2 ^ 48)
+IsInRange (Format size instance) = (LEAST_SIZE ≤ size) × (size ≤ GREATEST_SIZE) × (instance < INSTANCES)
 IsInRange (Serve port gateway turns) =
-    ((1 ≤ port) × (port < 2 ^ 16)) × ((1 ≤ gateway) × (gateway < 2 ^ 16)) × ((1 ≤ turns) × (turns < 2 ^ 32))
-IsInRange (Drill n) = (1 ≤ n) × (n ≤ 100000)
+    ((1 ≤ port) × (port ≤ GREATEST_PORT)) × ((1 ≤ gateway) × (gateway ≤ GREATEST_PORT)) × ((1 ≤ turns) × (turns ≤ MOST_TURNS))
+IsInRange (Drill n) = (1 ≤ n) × (n ≤ MOST_EVENTS)
 
 -- the statuses that a run by these words may end with
 abbrev pub statuses : Option Command → List ℕ
-statuses (Some Dry) = 0 ∷ 3 ∷ 5 ∷ 7 ∷ 8 ∷ []
-statuses (Some (Format size instance)) = 0 ∷ 4 ∷ 6 ∷ []
-statuses (Some Replay) = 0 ∷ 3 ∷ 4 ∷ 5 ∷ 6 ∷ 7 ∷ 8 ∷ []
-statuses (Some Balances) = 0 ∷ 4 ∷ 5 ∷ 6 ∷ 7 ∷ []
-statuses (Some (Serve port gateway turns)) = 0 ∷ 3 ∷ 4 ∷ 6 ∷ 7 ∷ []
-statuses (Some (Drill n)) = 0 ∷ 5 ∷ 7 ∷ []
-statuses None = 2 ∷ []
+statuses (Some Dry) = DONE ∷ INPUT_FAULT ∷ OUTPUT_FAULT ∷ OUT_OF_MEMORY ∷ INPUT_TOO_LONG ∷ []
+statuses (Some (Format size instance)) = DONE ∷ BAD_DEVICE ∷ DISK_FAULT ∷ []
+statuses (Some Replay) = DONE ∷ INPUT_FAULT ∷ BAD_DEVICE ∷ OUTPUT_FAULT ∷ DISK_FAULT ∷ OUT_OF_MEMORY ∷ INPUT_TOO_LONG ∷ []
+statuses (Some Balances) = DONE ∷ BAD_DEVICE ∷ OUTPUT_FAULT ∷ DISK_FAULT ∷ OUT_OF_MEMORY ∷ []
+statuses (Some (Serve port gateway turns)) = DONE ∷ INPUT_FAULT ∷ BAD_DEVICE ∷ DISK_FAULT ∷ OUT_OF_MEMORY ∷ []
+statuses (Some (Drill n)) = DONE ∷ OUTPUT_FAULT ∷ OUT_OF_MEMORY ∷ []
+statuses None = USAGE ∷ []
 
 -- where the words ask for a dry run, this holds
 abbrev pub OnDry : Option Command → Type 0 → Type 0

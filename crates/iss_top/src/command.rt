@@ -1,16 +1,17 @@
 //! The words of a run, and what they do.
-ghost use Rattle.std.specs.Prelude.{◌≡◌, ◌↔◌, ◌==◌, None, map, string_bytes, IsTrue};
+ghost use Rattle.std.specs.Prelude.{◌≡◌, ◌↔◌, ◌==◌, None, IsTrue};
 ghost use Rattle.std.specs.List.{list_any};
+ghost use Rattle.iss_edge.specs.declared.status.TheConstants.{INPUT_FAULT, BAD_DEVICE, OUTPUT_FAULT, DISK_FAULT};
 ghost use Rattle.iss_edge.specs.World.{Told, Rose};
-ghost use Rattle.iss_edge.specs.Outer.{outer_of};
-ghost use Rattle.iss_top.specs.Words.{command_of_words, statuses, OnDry, OnFormat, OnReplay, OnBalances, OnServe, OnDrill};
-ghost use Rattle.iss_top.specs.Runs.{DryRun, EmitsTexts, EndsWell, StopsAtLines};
+ghost use Rattle.iss_edge.specs.Outer.{ToldBoth};
+ghost use Rattle.iss_top.specs.Words.{command_in, statuses, OnDry, OnFormat, OnReplay, OnBalances, OnServe, OnDrill};
+ghost use Rattle.iss_top.specs.Runs.{DryRun, EmitsTexts, EndsWell, StopsAtLines, ToldByFaults};
 ghost use Rattle.iss_device.specs.Refusals.{RefusesExactly};
-ghost use Rattle.iss_serve.specs.ServeRuns.{ServeRun, OfWorlds, ServeEndsWell};
+ghost use Rattle.iss_serve.specs.ServeRuns.{ServeRun, OfWorlds, ServeEndsWellOn};
 ghost use Rattle.iss_top.specs.Replays.{ReplayRun, EveryMomentStands, ReplayEndsWell, TranscriptsContinue};
 ghost use Rattle.iss_top.specs.Reports.{ReportRun, ReportMomentStands, ReportEndsWell};
 ghost use Rattle.iss_top.specs.DrillRuns.{DrillRun, DrillEndsWell};
-ghost use Rattle.iss_top.specs.FormatRuns.{FormatRun};
+ghost use Rattle.iss_top.specs.FormatRuns.{FormatRunOn};
 
 use crate::balances::balances;
 use crate::drilling::drilled;
@@ -21,10 +22,8 @@ use crate::serving::serve_on_device;
 use crate::stop::status_of;
 use crate::words::{Command, Usage, command_of};
 use iss_edge::Edge;
+use iss_edge::status::USAGE;
 use std::alloc::Global;
-
-/// The status of words that are no command.
-const USAGE: u8 = 2;
 
 /// Does all that the program does, by the words after the program's name, and returns the exit status.
 ///
@@ -35,7 +34,7 @@ const USAGE: u8 = 2;
 /// the device and writes what stands on it: for each account that money was moved to or from its balance, and for a user's what is
 /// held of it, and then a line of counts. `serve DEVICE PORT GATEWAYPORT TURNS` opens the device, sends again what still waits
 /// for the gateway, and takes event lines from clients over HTTP (RFC 9112), in at most TURNS waits; the ports are the outside's.
-/// `drill N` makes so many events, takes them on a device in memory, and writes a line of what they came to.
+/// `drill N` makes N events, takes them on a device in memory, and writes a line of what they came to.
 ///
 /// The statuses are 0 for a run that came to its end, 2 for words that are no command, 3 where the input or a wait failed, 4 where
 /// the device has another size or stands for no records, 5 where the output failed, 6 where a call on the device failed, 7 where an
@@ -43,90 +42,89 @@ const USAGE: u8 = 2;
 #[tactic(auto, using(crate::proofs::RunBytes::told_run, crate::proofs::RunBytes::told_emits, crate::proofs::RunBytes::told_stops, crate::proofs::Commands::told_ends_well, crate::proofs::ToldReplays::told_replay_ends_well, crate::proofs::ToldReports::told_report_ends_well, crate::proofs::Continues::transcripts_continue))]
 pub fn run<E: Edge>(alloc: Global, words: &[String], edge: &mut E) -> u8
     // No other status, by the words.
-    ensures known { IsTrue (list_any (λ status. result == status) (statuses (command_of_words (map string_bytes words.now)))) }
+    ensures known { IsTrue (list_any (λ status. result == status) (statuses (command_in words.now))) }
 
     // The words decide over 2, and then nothing is done.
-    ensures usage { (result ≡ 2) ↔ (command_of_words (map string_bytes words.now) ≡ None) }
-    ensures untouched { result ≡ 2 → edge.new ≡ edge.old }
+    ensures usage { (result ≡ USAGE) ↔ (command_in words.now ≡ None) }
+    ensures untouched { result ≡ USAGE → edge.new ≡ edge.old }
 
     // Of formatting the device's size decides over 4, and then nothing is done.
-    ensures other_size { OnFormat (command_of_words (map string_bytes words.now)) (λ size instance.
-        (result ≡ 4) ↔ (E.extent edge.old ≡ size → ⊥)) }
-    ensures unwritten { OnFormat (command_of_words (map string_bytes words.now)) (λ size instance.
-        result ≡ 4 → edge.new ≡ edge.old) }
+    ensures other_size { OnFormat (command_in words.now) (λ size instance.
+        (result ≡ BAD_DEVICE) ↔ (E.extent edge.old ≡ size → ⊥)) }
+    ensures unwritten { OnFormat (command_in words.now) (λ size instance.
+        result ≡ BAD_DEVICE → edge.new ≡ edge.old) }
 
     // The outside is at fault where it is blamed.
-    ensures input_fault { result ≡ 3 → Rose (E.faults edge.old).input (E.faults edge.new).input }
-    ensures output_fault { result ≡ 5 → Rose (E.faults edge.old).output (E.faults edge.new).output }
-    ensures disk_fault { result ≡ 6 → Rose (E.faults edge.old).disk (E.faults edge.new).disk }
+    ensures input_fault { result ≡ INPUT_FAULT → Rose (E.faults edge.old).input (E.faults edge.new).input }
+    ensures output_fault { result ≡ OUTPUT_FAULT → Rose (E.faults edge.old).output (E.faults edge.new).output }
+    ensures disk_fault { result ≡ DISK_FAULT → Rose (E.faults edge.old).disk (E.faults edge.new).disk }
 
     // Of a dry run what went out is the transcript of the input's lines, or a prefix of it; 8 comes exactly at its number.
     // Each text of the transcript goes out by an emit of its own, in their order.
     // Where the outside isn't at fault, and the input isn't too long, it comes to its end, or an allocation fails.
-    ensures transcript { OnDry (command_of_words (map string_bytes words.now))
+    ensures transcript { OnDry (command_in words.now)
         (Told (DryRun result) (E.told edge.old) (E.told edge.new)) }
-    ensures emits { OnDry (command_of_words (map string_bytes words.now))
+    ensures emits { OnDry (command_in words.now)
         (Told (EmitsTexts result) (E.told edge.old) (E.told edge.new)) }
-    ensures complete { OnDry (command_of_words (map string_bytes words.now))
-        (Told (EndsWell (E.faults edge.old) (E.faults edge.new) result) (E.told edge.old) (E.told edge.new)) }
+    ensures complete { OnDry (command_in words.now)
+        (ToldByFaults E.faults E.told EndsWell edge.old edge.new result) }
 
     // At 3 and 8 what went out is the transcript of exactly the lines that ended within the bytes that were taken.
-    ensures stopped { OnDry (command_of_words (map string_bytes words.now))
+    ensures stopped { OnDry (command_in words.now)
         (Told (StopsAtLines result) (E.told edge.old) (E.told edge.new)) }
 
     // A run on a device that stands for records: what went out is the transcript of its lines on them, or a prefix of it, and the
     // device then stands for those records and the ones that the lines made.
-    ensures replaying { OnReplay (command_of_words (map string_bytes words.now))
+    ensures replaying { OnReplay (command_in words.now)
         (Told (ReplayRun result) (E.told edge.old) (E.told edge.new)) }
 
     // At whatever moment it stops, the device stands for the old records and a prefix of the accepted inputs that holds every one
     // of which a byte went out, where it stood firmly for the old ones. Within the opening one record more may stand, which is left behind.
-    ensures moments { OnReplay (command_of_words (map string_bytes words.now))
+    ensures moments { OnReplay (command_in words.now)
         (Told EveryMomentStands (E.told edge.old) (E.told edge.new)) }
 
     // A second run on the device continues the first: what two inputs in a row are told is what the first is told, and then, on the
     // records that it left, what the second is told, without the texts with which a run begins.
-    ensures continues { OnReplay (command_of_words (map string_bytes words.now)) TranscriptsContinue }
+    ensures continues { OnReplay (command_in words.now) TranscriptsContinue }
 
     // A device that stands for no records decides over 4. Where the outside isn't at fault, the input isn't too long and the device
     // stands for records, the run comes to its end, or an allocation fails.
-    ensures refused { OnReplay (command_of_words (map string_bytes words.now))
+    ensures refused { OnReplay (command_in words.now)
         (Told (RefusesExactly result) (E.told edge.old) (E.told edge.new)) }
-    ensures replay_complete { OnReplay (command_of_words (map string_bytes words.now))
-        (Told (ReplayEndsWell (E.faults edge.old) (E.faults edge.new) result) (E.told edge.old) (E.told edge.new)) }
+    ensures replay_complete { OnReplay (command_in words.now)
+        (ToldByFaults E.faults E.told ReplayEndsWell edge.old edge.new result) }
 
     // A report of a device that stands for records: what went out are its lines, each by an emit of its own, or some first ones of them,
     // and the device stands for the records, as it does at every moment. Nothing is taken.
-    ensures reporting { OnBalances (command_of_words (map string_bytes words.now))
+    ensures reporting { OnBalances (command_in words.now)
         (Told (ReportRun result) (E.told edge.old) (E.told edge.new)) }
-    ensures report_moments { OnBalances (command_of_words (map string_bytes words.now))
+    ensures report_moments { OnBalances (command_in words.now)
         (Told ReportMomentStands (E.told edge.old) (E.told edge.new)) }
-    ensures report_refused { OnBalances (command_of_words (map string_bytes words.now))
+    ensures report_refused { OnBalances (command_in words.now)
         (Told (RefusesExactly result) (E.told edge.old) (E.told edge.new)) }
-    ensures report_complete { OnBalances (command_of_words (map string_bytes words.now))
-        (Told (ReportEndsWell (E.faults edge.old) (E.faults edge.new) result) (E.told edge.old) (E.told edge.new)) }
+    ensures report_complete { OnBalances (command_in words.now)
+        (ToldByFaults E.faults E.told ReportEndsWell edge.old edge.new result) }
 
     // A run that serves: what was heard and done is what the session of the device's records says, and at whatever moment it stops, the
     // device stands for the old records and a prefix of the accepted inputs that holds every one of which a byte went out, as above. At 0 no
     // wait failed. A device that stands for no records decides over 4. Where device and input aren't at fault, it comes to its end, or an
     // allocation fails.
-    ensures serving { OnServe (command_of_words (map string_bytes words.now)) (λ turns.
-        Told (ServeRun turns result) (outer_of (E.told edge.old) (E.heard edge.old)) (outer_of (E.told edge.new) (E.heard edge.new))) }
-    ensures serve_refused { OnServe (command_of_words (map string_bytes words.now)) (λ turns.
-        Told (OfWorlds (RefusesExactly result)) (outer_of (E.told edge.old) (E.heard edge.old)) (outer_of (E.told edge.new) (E.heard edge.new))) }
-    ensures serve_complete { OnServe (command_of_words (map string_bytes words.now)) (λ turns.
-        Told (OfWorlds (ServeEndsWell (E.faults edge.old) (E.faults edge.new) result))
-        (outer_of (E.told edge.old) (E.heard edge.old)) (outer_of (E.told edge.new) (E.heard edge.new))) }
+    ensures serving { OnServe (command_in words.now) (λ turns.
+        ToldBoth E.told E.heard (ServeRun turns result) edge.old edge.new) }
+    ensures serve_refused { OnServe (command_in words.now) (λ turns.
+        ToldBoth E.told E.heard (OfWorlds (RefusesExactly result)) edge.old edge.new) }
+    ensures serve_complete { OnServe (command_in words.now) (λ turns.
+        ServeEndsWellOn E.faults E.told E.heard edge.old edge.new result) }
 
     // A drill writes its line by one emit, or a prefix of it, and does nothing else.
-    ensures drilling { OnDrill (command_of_words (map string_bytes words.now)) (λ n.
+    ensures drilling { OnDrill (command_in words.now) (λ n.
         Told (DrillRun n result) (E.told edge.old) (E.told edge.new)) }
-    ensures drill_complete { OnDrill (command_of_words (map string_bytes words.now)) (λ n.
+    ensures drill_complete { OnDrill (command_in words.now) (λ n.
         DrillEndsWell (E.faults edge.old) (E.faults edge.new) result) }
 
     // What formatting does.
-    ensures formatting { OnFormat (command_of_words (map string_bytes words.now)) (λ size instance.
-        FormatRun size instance (E.extent edge.old) result (E.faults edge.old) (E.faults edge.new) (E.told edge.old) (E.told edge.new)) }
+    ensures formatting { OnFormat (command_in words.now) (λ size instance.
+        FormatRunOn E.extent E.faults E.told edge.old edge.new size instance result) }
 {
     match command_of(words) {
         Ok(Command::Dry) => status_of(dry(alloc, edge)),

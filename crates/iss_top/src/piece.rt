@@ -1,6 +1,6 @@
 //! The input, piece by piece.
 ghost use Rattle.std.specs.Prelude.{◌≡◌, ◌+◌, ◌<◌, ◌≤◌, true, length, IfOk, IfErr, OnOk, OnErr};
-ghost use Rattle.iss_edge.specs.World.{Told, HasCause};
+ghost use Rattle.iss_edge.specs.World.{Told, HasCause, Stays};
 ghost use Rattle.iss_edge.specs.Calls.{Takes, Same};
 ghost use Rattle.iss_top.specs.Pieces.{ArePieces, AreFresh, TakesMore, TakesNoMore, unread_of};
 ghost use Rattle.iss_top.specs.Reader.{IsReading};
@@ -56,7 +56,7 @@ impl Pieces {
         ensures stops { IfErr result (λ stop.
             Told (TakesNoMore self.old.taken stop) (E.told edge.old) (E.told edge.new)) }
         ensures reading { IsReading (E.faults edge.old) (E.faults edge.new) result }
-        ensures kept { E.extent edge.new ≡ E.extent edge.old }
+        ensures kept { Stays E.extent edge.old edge.new }
     {
         let count = take_piece(edge, &mut self.bytes, room_after(self.taken))?;
         let taken = self.taken + count as u64;
@@ -78,7 +78,8 @@ fn zeros(alloc: Global, len: usize) -> Result<Vec<u8>, AllocError>
     Ok(bytes)
 }
 
-/// How many bytes to ask for where so many were taken. Behind the most there may be, one byte more is asked for, to see whether there is one.
+/// How many bytes to ask for once `taken` bytes were taken. After the most there may be, one byte more is asked for, to see whether there
+/// is one.
 fn room_after(taken: u64) -> usize
     requires { taken ≤ MOST_INPUT }
     ensures some { 0 < result }
@@ -92,7 +93,7 @@ fn room_after(taken: u64) -> usize
     (MOST_INPUT - taken).min(PIECE as u64) as usize
 }
 
-/// Takes at most so many bytes into the start of the buffer.
+/// Takes at most `room` bytes into the start of the buffer.
 fn take_piece<E: Edge>(edge: &mut E, buffer: &mut [u8], room: usize) -> Result<usize, Stop>
     requires some { 0 < room }
     requires within { room ≤ length buffer.old }
@@ -102,7 +103,7 @@ fn take_piece<E: Edge>(edge: &mut E, buffer: &mut [u8], room: usize) -> Result<u
     ensures unchanged { OnErr result (Told Same (E.told edge.old) (E.told edge.new)) }
     ensures stop { IfErr result (λ stop. stop ≡ Stop.Input) }
     ensures cause { HasCause (λ f. f.input) (E.faults edge.old) (E.faults edge.new) result }
-    ensures kept { E.extent edge.new ≡ E.extent edge.old }
+    ensures kept { Stays E.extent edge.old edge.new }
 {
     match edge.take(Channel(0), &mut buffer[..room]) {
         Ok(count) => Ok(count),

@@ -1,6 +1,6 @@
 //! The lines of the input, one after the other.
 ghost use Rattle.std.specs.Prelude.{◌≡◌, ◌+◌, ◌<◌, true, IfOk, IfErr, OnOk};
-ghost use Rattle.iss_edge.specs.World.{Told};
+ghost use Rattle.iss_edge.specs.World.{Told, Stays};
 ghost use Rattle.iss_top.specs.Reader.{ReadsOn, ReadsNoPart, IsReading, Advances, fresh_reader};
 ghost use Rattle.iss_top.specs.AtHand.{IsAtHand, EndsLine, now_of, line_of};
 
@@ -61,7 +61,7 @@ impl LineReader {
             Told (ReadsNoPart self.old stop) (E.told edge.old) (E.told edge.new)) }
         ensures advances { IfOk result (λ more. more ≡ true → Advances self.old self.new) }
         ensures reading { IsReading (E.faults edge.old) (E.faults edge.new) result }
-        ensures kept { E.extent edge.new ≡ E.extent edge.old }
+        ensures kept { Stays E.extent edge.old edge.new }
     {
         self.hand.read_line(edge)
     }
@@ -100,7 +100,7 @@ impl AtHand {
             Told (ReadsNoPart (now_of self.old) stop) (E.told edge.old) (E.told edge.new)) }
         ensures advances { IfOk result (λ more. more ≡ true → Advances (now_of self.old) (now_of self.new)) }
         ensures reading { IsReading (E.faults edge.old) (E.faults edge.new) result }
-        ensures kept { E.extent edge.new ≡ E.extent edge.old }
+        ensures kept { Stays E.extent edge.old edge.new }
     {
         if self.ended {
             return Ok(false);

@@ -1,5 +1,6 @@
 //! A run on a device: what waits for the gateway goes out, and then each line is taken, so that what it is told lasts first.
 ghost use Rattle.std.specs.Prelude.{◌≡◌};
+ghost use Rattle.iss_edge.specs.declared.status.TheConstants.{BAD_DEVICE};
 ghost use Rattle.iss_edge.specs.World.{Told};
 ghost use Rattle.iss_top.specs.Statuses.{status_of};
 ghost use Rattle.iss_top.specs.Replaying.{RunsFrom, IsReplayCaused};
@@ -31,7 +32,7 @@ fn take_lines<E: Edge>(alloc: Global, opened: Store, edge: &mut E) -> Result<(),
     requires size { E.extent edge.old ≡ opened.place.to }
     ensures ran { Told (RunsFrom (status_of result) opened) (E.told edge.old) (E.told edge.new) }
     ensures caused { IsReplayCaused (E.faults edge.old) (E.faults edge.new) result }
-    ensures no_device { status_of result ≡ 4 → ⊥ }
+    ensures no_device { status_of result ≡ BAD_DEVICE → ⊥ }
 {
     let mut reader = LineReader::new(alloc)?;
     let mut store = opened;

@@ -3,6 +3,9 @@ ghost use Rattle.std.specs.Prelude.{◌≡◌};
 ghost use Rattle.iss_top.specs.declared.stop.Stop.TheVariants.{Memory};
 ghost use Rattle.iss_top.specs.Statuses.{status_of, stop_of_opening, stop_of_store};
 
+use iss_edge::status::{
+    BAD_DEVICE, DISK_FAULT, DONE, INPUT_FAULT, INPUT_TOO_LONG, OUT_OF_MEMORY, OUTPUT_FAULT,
+};
 use iss_store::{OpenFault, StoreFault};
 use std::alloc::AllocError;
 
@@ -62,12 +65,12 @@ pub(crate) fn status_of(ended: Result<(), Stop>) -> u8
     ensures { result ≡ status_of ended }
 {
     match ended {
-        Ok(()) => 0,
-        Err(Stop::Input) => 3,
-        Err(Stop::Device) => 4,
-        Err(Stop::Output) => 5,
-        Err(Stop::Disk) => 6,
-        Err(Stop::Memory) => 7,
-        Err(Stop::InputLong) => 8,
+        Ok(()) => DONE,
+        Err(Stop::Input) => INPUT_FAULT,
+        Err(Stop::Device) => BAD_DEVICE,
+        Err(Stop::Output) => OUTPUT_FAULT,
+        Err(Stop::Disk) => DISK_FAULT,
+        Err(Stop::Memory) => OUT_OF_MEMORY,
+        Err(Stop::InputLong) => INPUT_TOO_LONG,
     }
 }

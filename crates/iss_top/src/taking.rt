@@ -1,13 +1,11 @@
 //! What a line does on a store, and what it is told.
-ghost use Rattle.std.specs.Prelude.{◌≡◌, [], ◌∷◌, IfOk, IfErr, OnOk, OnErr, IsTrue};
-ghost use Rattle.iss_edge.specs.World.{Told};
+ghost use Rattle.std.specs.Prelude.{◌≡◌, [], ◌∷◌, IfOk, OnOk, OnErr, IsTrue};
+ghost use Rattle.iss_edge.specs.World.{Told, Stays};
 ghost use Rattle.iss_model.specs.Forms.{is_in_form, is_stamp, is_stamp_or_none};
-ghost use Rattle.iss_model.specs.run.Runs.{response};
-ghost use Rattle.iss_model.specs.run.Transcripts.{sound};
 ghost use Rattle.iss_event.specs.FormLines.{form_text};
 ghost use Rattle.iss_texts.specs.Sending.{Says, SaysSome};
 ghost use Rattle.iss_store.specs.Planning.{IsPlanOf};
-ghost use Rattle.iss_top.specs.Replaying.{told_line, response_to_plan, texts_left, IsOfDisk, TakesAs, TakesPartAs, IsTaking};
+ghost use Rattle.iss_top.specs.Replaying.{told_line, response_to_line, response_to_plan, texts_left, TakesTo, TakesInPart, IsTaking};
 
 use crate::buffer::is_blank;
 use crate::stop::Stop;
@@ -28,10 +26,10 @@ pub(crate) fn take_line<E: Edge>(
     edge: &mut E,
 ) -> Result<Store, Stop>
     requires size { E.extent edge.old ≡ store.place.to }
-    ensures taken { IfOk result (λ next. Told (TakesAs (λ s. told_line s line.now) store next) (E.told edge.old) (E.told edge.new)) }
-    ensures part { IfErr result (λ why. Told (TakesPartAs (IsOfDisk why) (λ s. told_line s line.now) store) (E.told edge.old) (E.told edge.new)) }
+    ensures taken { TakesTo E.told edge.old edge.new (λ s. told_line s line.now) store result }
+    ensures part { TakesInPart E.told edge.old edge.new (λ s. told_line s line.now) store result }
     ensures taking { IsTaking (E.faults edge.old) (E.faults edge.new) result }
-    ensures kept { E.extent edge.new ≡ E.extent edge.old }
+    ensures kept { Stays E.extent edge.old edge.new }
     ensures size { IfOk result (λ next. next.place.to ≡ store.place.to) }
 {
     if is_blank(line) {
@@ -53,7 +51,7 @@ fn tell_fault<E: Edge>(texts: &mut Texts, fault: &FormFault, edge: &mut E) -> Re
     ensures told { OnOk result (Told (Says (form_text fault.now ∷ [])) (E.told edge.old) (E.told edge.new)) }
     ensures part { OnErr result (Told (SaysSome (form_text fault.now ∷ [])) (E.told edge.old) (E.told edge.new)) }
     ensures taking { IsTaking (E.faults edge.old) (E.faults edge.new) result }
-    ensures kept { E.extent edge.new ≡ E.extent edge.old }
+    ensures kept { Stays E.extent edge.old edge.new }
 {
     texts.clear();
     texts.put_form(fault)?;
@@ -73,10 +71,10 @@ fn take_input<E: Edge>(
     requires size { E.extent edge.old ≡ store.place.to }
     requires input_form { IsTrue (is_in_form said.now.input) }
     requires stamp_form { IsTrue (is_stamp_or_none said.now.at) }
-    ensures taken { IfOk result (λ next. Told (TakesAs (λ s. response s (sound said.now.input said.now.at)) store next) (E.told edge.old) (E.told edge.new)) }
-    ensures part { IfErr result (λ why. Told (TakesPartAs (IsOfDisk why) (λ s. response s (sound said.now.input said.now.at)) store) (E.told edge.old) (E.told edge.new)) }
+    ensures taken { TakesTo E.told edge.old edge.new (response_to_line said.now.input said.now.at) store result }
+    ensures part { TakesInPart E.told edge.old edge.new (response_to_line said.now.input said.now.at) store result }
     ensures taking { IsTaking (E.faults edge.old) (E.faults edge.new) result }
-    ensures kept { E.extent edge.new ≡ E.extent edge.old }
+    ensures kept { Stays E.extent edge.old edge.new }
     ensures size { IfOk result (λ next. next.place.to ≡ store.place.to) }
 {
     let at = said.at.unwrap_or(0);
@@ -102,10 +100,10 @@ fn take_input<E: Edge>(
 fn keep<E: Edge>(alloc: Global, store: Store, planned: Planned, edge: &mut E) -> Result<Store, Stop>
     requires size { E.extent edge.old ≡ store.place.to }
     requires plan { IsPlanOf store planned }
-    ensures taken { IfOk result (λ next. Told (TakesAs (response_to_plan planned) store next) (E.told edge.old) (E.told edge.new)) }
-    ensures part { IfErr result (λ why. Told (TakesPartAs (IsOfDisk why) (response_to_plan planned) store) (E.told edge.old) (E.told edge.new)) }
+    ensures taken { TakesTo E.told edge.old edge.new (response_to_plan planned) store result }
+    ensures part { TakesInPart E.told edge.old edge.new (response_to_plan planned) store result }
     ensures taking { IsTaking (E.faults edge.old) (E.faults edge.new) result }
-    ensures kept { E.extent edge.new ≡ E.extent edge.old }
+    ensures kept { Stays E.extent edge.old edge.new }
     ensures size { IfOk result (λ next. next.place.to ≡ store.place.to) }
 {
     let (next, durable) = store.commit(alloc, edge, planned)?;
@@ -126,7 +124,7 @@ fn tell_answer_left<E: Edge>(
     ensures told { OnOk result (Told (Says (texts_left store.now input.now at)) (E.told edge.old) (E.told edge.new)) }
     ensures part { OnErr result (Told (SaysSome (texts_left store.now input.now at)) (E.told edge.old) (E.told edge.new)) }
     ensures taking { IsTaking (E.faults edge.old) (E.faults edge.new) result }
-    ensures kept { E.extent edge.new ≡ E.extent edge.old }
+    ensures kept { Stays E.extent edge.old edge.new }
 {
     match store.core().judge(alloc, input, at)? {
         Judged::Told(answer) => {

@@ -1,20 +1,18 @@
 //! What the words of a run ask for.
-ghost use Rattle.std.specs.Prelude.{◌≡◌, ◌≤◌, map, string_bytes, IfOk, IfSome};
+ghost use Rattle.std.specs.Prelude.{◌≡◌, ◌≤◌, IfOk, IfSome};
 ghost use Rattle.std.specs.Result.{result_ok};
-ghost use Rattle.iss_model.specs.Amounts.{is_unpadded};
-ghost use Rattle.iss_top.specs.Words.{is_device, number_after, number_in, dry_command, two_word_command, drill_of, format_command, serve_command, command_of_words, IsInRange};
+ghost use Rattle.iss_amount.specs.Digits.{number_in};
+ghost use Rattle.iss_top.specs.Words.{is_device, dry_command, two_word_command, drill_of, format_command, serve_command, command_in, IsInRange};
+
+use iss_amount::number_in;
+use iss_drill::limits::MOST_EVENTS;
+use iss_journal::layout::{GREATEST_SIZE, INSTANCES, LEAST_SIZE};
 
 /// The most bytes that the name of a device has.
 const LONGEST_NAME: usize = 4096;
 
-/// The fewest bytes that a device has.
-const LEAST_SIZE: u64 = 17;
-
-/// The most bytes that a device has.
-const GREATEST_SIZE: u64 = 4_294_967_296;
-
-/// The greatest instance, which takes 48 bits.
-const GREATEST_INSTANCE: u64 = 281_474_976_710_655;
+/// The greatest instance.
+const GREATEST_INSTANCE: u64 = INSTANCES - 1;
 
 /// The greatest port.
 const GREATEST_PORT: u64 = 65_535;
@@ -22,24 +20,21 @@ const GREATEST_PORT: u64 = 65_535;
 /// The most times that a server waits.
 const MOST_TURNS: u64 = 4_294_967_295;
 
-/// The most events that a drill makes.
-const MOST_EVENTS: u64 = 100_000;
-
 /// What a run is to do.
 #[derive(Debug, Clone, Copy)]
 pub enum Command {
     /// `dry`: lines get their replies, with no device.
     Dry,
-    /// `format DEVICE SIZE INSTANCE`: the device of so many bytes is made one of this instance that stands for no records.
+    /// `format DEVICE SIZE INSTANCE`: the device of SIZE bytes is made one of this instance that stands for no records.
     Format { size: u64, instance: u64 },
     /// `replay DEVICE`: lines get their replies, and what they make lasts on the device.
     Replay,
     /// `balances DEVICE`: what the accounts on the device have is written.
     Balances,
-    /// `serve DEVICE PORT GATEWAYPORT TURNS`: clients on a port are served, the gateway is dialled on another, and so many waits are
-    /// made at most.
+    /// `serve DEVICE PORT GATEWAYPORT TURNS`: clients on a port are served, the gateway is dialled on another, and at most TURNS waits
+    /// are made.
     Serve { port: u16, gateway: u16, turns: u32 },
-    /// `drill N`: so many events are made and taken on a device in memory.
+    /// `drill N`: N events are made and taken on a device in memory.
     Drill { n: u32 },
 }
 
@@ -53,7 +48,7 @@ pub struct Usage;
 /// and doesn't begin with `-`, SIZE is 17 to 4294967296, INSTANCE is 0 to 281474976710655, PORT and GATEWAYPORT are 1 to
 /// 65535, TURNS is 1 to 4294967295, and N is 1 to 100000.
 pub fn command_of(words: &[String]) -> Result<Command, Usage>
-    ensures said { result_ok result ≡ command_of_words (map string_bytes words.now) }
+    ensures said { result_ok result ≡ command_in words.now }
     ensures ranges { IfOk result IsInRange }
 {
     match said(words) {
@@ -62,10 +57,10 @@ pub fn command_of(words: &[String]) -> Result<Command, Usage>
     }
 }
 
-/// The command that the words say, where they say one.
+/// The command that the words say, if they say one.
 #[tactic(auto, using(crate::proofs::Numbers::three, crate::proofs::Numbers::six_or_more), unfolding(crate::specs::Words::command_of_words))]
 fn said(words: &[String]) -> Option<Command>
-    ensures said { result ≡ command_of_words (map string_bytes words.now) }
+    ensures said { result ≡ command_in words.now }
     ensures ranges { IfSome result IsInRange }
 {
     match words {
@@ -109,12 +104,12 @@ fn two_words_said(name: &str, word: &[u8]) -> Option<Command>
     }
 }
 
-/// What the word behind `drill` asks for.
+/// What the word after `drill` asks for.
 fn drill_said(number: &[u8]) -> Option<Command>
-    ensures said { result ≡ drill_of (number_in 1 100000 number.now) }
+    ensures said { result ≡ drill_of (number_in 1 MOST_EVENTS number.now) }
     ensures ranges { IfSome result IsInRange }
 {
-    let n = number_in(1, MOST_EVENTS, number)? as u32;
+    let n = number_in(1, u64::from(MOST_EVENTS), number)? as u32;
     Some(Command::Drill { n })
 }
 
@@ -163,49 +158,4 @@ fn is_device(word: &[u8]) -> bool
         [] => false,
         [first, ..] => *first != b'-' && word.len() <= LONGEST_NAME,
     }
-}
-
-/// The number that a word says, where it is from `least` to `most`.
-fn number_in(least: u64, most: u64, word: &[u8]) -> Option<u64>
-    requires { most ≤ 281474976710655 }
-    ensures said { result ≡ number_in least most word.now }
-    ensures range { IfSome result (λ n. (least ≤ n) × (n ≤ most)) }
-{
-    if is_unpadded(word) {
-        number_after(0, least, most, word)
-    } else {
-        None
-    }
-}
-
-/// There are digits, with no zero before another.
-fn is_unpadded(digits: &[u8]) -> bool
-    ensures { result ≡ is_unpadded digits.now }
-{
-    match digits {
-        [] => false,
-        [_] => true,
-        [first, ..] => *first != b'0',
-    }
-}
-
-/// The number that digits spell after those of `start`, where it is from `least` to `most`.
-#[tactic(auto, using(crate::proofs::Numbers::stays_great))]
-fn number_after(start: u64, least: u64, most: u64, digits: &[u8]) -> Option<u64>
-    requires { most ≤ 281474976710655 }
-    ensures said { result ≡ number_after start least most digits.now }
-    ensures range { IfSome result (λ n. (least ≤ n) × (n ≤ most)) }
-{
-    let mut number = start;
-    for byte in digits {
-        // More digits never bring it down again.
-        if number > most {
-            return None;
-        }
-        if !byte.is_ascii_digit() {
-            return None;
-        }
-        number = 10 * number + u64::from(*byte - b'0');
-    }
-    (least..=most).contains(&number).then_some(number)
 }

@@ -126,7 +126,7 @@ module _ (controls : List Standing) (groups : List Group) (row : UsageRow) (old 
           ap (λ (y : Counter). y.place) (sym one) ∙ own
       by false h rest = rest (rw h at g)
 
-  -- what is found at a place is changed as the control there says
+  -- what is found at a place is changed as the control there tells
   changed_at : (p : ℕ) (o : Option Counter) → at_place p cs ≡ o
       → option_map (counter_then controls groups row) o ≡ option_map (counter_by (slice_get controls p) groups row) o
   changed_at p None e = refl

@@ -96,7 +96,7 @@ mapped_kept : (cs : List ControlKept) → map (λ (c : ControlKept). c) cs ≡ c
 mapped_kept [] = refl
 mapped_kept (c ∷ cs) = ap (λ (ds : List ControlKept). c ∷ ds) (mapped_kept cs)
 
--- the controls stay where nothing was counted
+-- the controls stay if nothing was counted
 pub controls_stay : (users after : Users) (past past' : Past) (ss : List Standing) → AreKeyed users past → AreKeyed after past'
     → ((user : List ℕ) (place : ℕ) (number : ℤ) → has_no_zero user ≡ true → used_at after past' user place number ≡ used_at users past user place number)
     → controls_from after past' 0 ss ≡ controls_from users past 0 ss
@@ -232,7 +232,7 @@ dropped [] i x e = cc
 dropped (y ∷ ys) zero x e = (let one : y ≡ x = cc in ap (λ z. z ∷ ys) one)
 dropped (y ∷ ys) (suc i) x e = dropped ys i x e ∙ (let same : suc (i + 1) ≡ suc i + 1 = omega arith in ap (λ n. x ∷ drop n (y ∷ ys)) same)
 
--- a control that stands declines use as its counter says
+-- a control that stands declines use by its counter
 pub declines_so : (groups : List Group) (row : UsageRow) (first : Bool) (users : Users) (past : Past) (i : ℕ) (s : Standing) → AreKeyed users past → has_no_zero row.user ≡ true
     → declines_use groups row first (control_facts (control_at users past i s))
     ≡ (s.control.active && counts groups (put_of s) row && passes_with s.control (used_at users past row.user i (span_number s row)) row first)
@@ -271,7 +271,7 @@ used_so users past i s user at o k plain single e = by s.control.window single e
     by window.Month h f = sums (number_in window.Month s.control.offset at 0) f
     by window.Lifetime h f = sums (number_in window.Lifetime s.control.offset at 0) f
 
--- a control that isn't active, or doesn't count the row, declines nothing; another one where it has counted too much
+-- a control that isn't active, or doesn't count the row, declines nothing; another one declines if it has counted too much
 module _ (groups : List Group) (row : UsageRow) (first : Bool) (users : Users) (past : Past) (i : ℕ) (s : Standing) (k : AreKeyed users past) (plain : has_no_zero row.user ≡ true) where
   pub declines_not : (s.control.active && counts groups (put_of s) row) ≡ false → declines_use groups row first (control_facts (control_at users past i s)) ≡ false
   declines_not h = declines_so groups row first users past i s k plain ∙ neither s.control.active (counts groups (put_of s) row) (passes_with s.control (used_at users past row.user i (span_number s row)) row first) h

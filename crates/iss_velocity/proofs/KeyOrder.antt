@@ -126,7 +126,7 @@ both_equal Less s = refl
 both_equal Equal s = refl
 both_equal Greater s = refl
 
--- two keys are one where the users and the numbers are
+-- two keys are one if the users and the numbers are
 pub same_key : (u v : List ℕ) (m n : ℤ) → has_no_zero u ≡ true → has_no_zero v ≡ true
     → eq_by_cmp (slice_cmp nat_cmp) (counter_key u m) (counter_key v n) ≡ (bytes_eq u v && int_eq m n)
 same_key u v m n p q =

@@ -41,7 +41,7 @@ pub begun_plain : (users after : Users) (user : List ℕ) (new : List Counter) �
 begun_plain users after user new p q e =
     ap (λ (es : List (List ℕ × List Counter)). list_all has_no_zero (keys_of es)) e ∙ keys_more by_name has_no_zero users.entries user new p q
 
--- the counters of all, where those of one user are written
+-- the counters of all, if those of one user are written
 module _ (users begun after : Users) (past past' : Past) (user : List ℕ) (old new : List Counter) (keyed : AreKeyed users past)
     (same : (u : List ℕ) → counters_at begun u ≡ counters_at users u) (was : Some old ≡ tree.get by_name begun user)
     (written : tree.Updates by_name begun after user (Some new)) where

@@ -178,7 +178,7 @@ module _ (users : Users) (past : Past) (ss : List Standing) (i : ℕ) (s : Stand
       by true = refl
       by false = refl
 
--- behind the last control there is none
+-- after the last control there is none
 pub no_more : {A : Type 0} (xs : List A) (n : ℕ) → n ≡ length xs → drop n xs ≡ []
 no_more xs n e = ap (λ (k : ℕ). drop k xs) e ∙ all xs
   where
@@ -211,7 +211,7 @@ pub table_mapped : (users : Users) (past : Past) (ss after : List Standing) (g :
 table_mapped users past ss after g beyond e user place n f =
     beyond user place n (beyond_mapped g ss place (ap (λ (xs : List Standing). slice_get xs place) (sym e) ∙ f))
 
--- why a control that stands isn't put, as the control that is kept says
+-- why a control that stands isn't put, by the control that is kept
 pub reason_so : (users : Users) (past : Past) (ss : List Standing) (put : Control) (s : Standing) → Some s ≡ standing_named put.name ss
     → put_reason (kept_named put.name (controls_from users past 0 ss)) (controls_from users past 0 ss) put
     ≡ cond (not (is_same_control s.control put.currency put.window put.association put.scope put.offset)) (Some reason.ControlFixed) None

@@ -1,4 +1,4 @@
--- The sums of a control after a row, or where nothing was counted.
+-- The sums of a control after a row, or if nothing was counted.
 use Rattle.std.proofs.Common.{◌≡◌, ℕ, ℤ, pos, ◌+ℤ◌, Bool, true, false, cond, ◌&&◌, List, Option, Some, None, refl, sym, ap, ap₂, ◌∙◌, subst}
 use Rattle.std.specs.Prelude.{unwrap_or}
 use Rattle.std.specs.Option.{option_map}
@@ -16,7 +16,7 @@ use Rattle.iss_velocity.specs.Keeping.{has_no_zero, sums_in, AreKeyed}
 use Rattle.iss_velocity.proofs.KeyOrder.{same_key}
 use Rattle.iss_velocity.proofs.Lookups.{IsKey, get_sums, sums_keys}
 
--- sums that have keys of counters alone are equal where they are at each of them
+-- sums that have keys of counters alone are equal if they are at each of them
 same_sums : (m n : Kept) → ((q : List ℕ) (z : ℤ) → finite.get m q ≡ Some z → IsKey q) → ((q : List ℕ) (z : ℤ) → finite.get n q ≡ Some z → IsKey q)
     → ((user : List ℕ) (number : ℤ) → has_no_zero user ≡ true → finite.get m (counter_key user number) ≡ finite.get n (counter_key user number)) → m ≡ n
 same_sums m n of_m of_n alike =
@@ -30,7 +30,7 @@ same_sums m n of_m of_n alike =
     at q (Some x) b e f = by_key q (of_m q x e)
     at q None (Some y) e f = by_key q (of_n q y f)
 
--- the sums stay where nothing was counted
+-- the sums stay if nothing was counted
 pub unchanged_sums : (worth : Used → ℤ) (place : ℕ) (users after : Users) (past past' : Past) → AreKeyed users past → AreKeyed after past'
     → ((user : List ℕ) (number : ℤ) → has_no_zero user ≡ true → used_at after past' user place number ≡ used_at users past user place number)
     → sums_in worth after past' place ≡ sums_in worth users past place
@@ -65,7 +65,7 @@ changed_sums worth place users after past past' user number by k l plain counted
         record { user = user; number = number; plain = plain; is = one_name q (counter_key user number) (sym (is_eq-slice_cmp q (counter_key user number)) ∙ e) }
     new_key q z false e f = sums_keys worth place q users past k z f
 
--- there are no sums where nothing is counted
+-- there are no sums if nothing is counted
 pub no_sums : (worth : Used → ℤ) (place : ℕ) (users : Users) (past : Past) → AreKeyed users past
     → ((user : List ℕ) (number : ℤ) → has_no_zero user ≡ true → used_at users past user place number ≡ None)
     → sums_in worth users past place ≡ nothing_kept

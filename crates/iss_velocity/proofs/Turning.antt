@@ -54,7 +54,7 @@ module _ {K X : Type 0} (cmp : K → K → Ordering) (test : K → Bool) where
       at Equal rest = h
       at Greater rest = ap₂ (λ (a b : Bool). a && b) parts.0 rest
 
--- nothing is counted in another way where nothing is done
+-- nothing is counted in another way if nothing is done
 pub stays : (user : List ℕ) (cs : List Counter) (past : Past) → StaysSame user cs past cs past
 stays user cs past = record { same = λ p n. refl; others = λ u p n h. refl; plain = λ h. h }
 
@@ -118,7 +118,7 @@ turned_unused user number c t past e d =
     counted : (n : ℤ) → or_else (cond (int_eq number n) (past_at past user c.place number) None) (past_at past user c.place n) ≡ past_at past user c.place n
     counted n = at n (int_eq number n) refl
 
--- numbers are apart where their bits are
+-- numbers are apart if their bits are
 pub apart_by_bits : (m n : ℤ) → (of_z w64 m ≡ of_z w64 n → ⊥) → int_eq m n ≡ false
 apart_by_bits m n h = at (int_eq m n) refl
   where

@@ -96,7 +96,7 @@ one_more : (xs : List Counter) (c : Counter) → length (xs ++ c ∷ []) ≡ len
 one_more [] c = refl
 one_more (x ∷ xs) c = (let rest = one_more xs c in omega (arith, rest))
 
--- what a look-up by an index gives
+-- what a look-up by an index returns
 pub there_is : {A : Type 0} (xs : List A) (i : ℕ) (x : A) → i < length xs → x ≡ get_or xs i x → slice_get xs i ≡ Some x
 there_is xs i x below e = slice_get-get_or xs i x below ∙ ap (λ y. Some y) (sym e)
 
@@ -150,7 +150,7 @@ module _ (cs : List Counter) (next place : ℕ) (s : IsSplit cs next place) wher
       nothing [] g = refl
       nothing (y ∷ ys) g = cc
 
-  -- the walk goes on behind the counter of a place
+  -- the walk goes on after the counter of a place
   pub goes_on : (c : Counter) → slice_get cs next ≡ Some c → (c.place == place) ≡ true → IsSplit cs (next + 1) (place + 1)
   goes_on c e d = behind s.after s.joined s.high (sym split_get ∙ e)
     where
@@ -249,7 +249,7 @@ module _ (cs : List Counter) (next place : ℕ) (s : IsSplit cs next place) wher
           ∙ at_d (p == place) ys same refl (at_place p s.before) (λ t. none_above 0 place p s.before s.low (grind (arith, nat_tests)))
           ∙ ap (λ (o : Option Counter). cond (p == place) (Some d) o) (sym (ap (at_place p) joined_so ∙ at_append p s.before (c ∷ ys)))
 
-  -- a counter of the place that is put where none stood
+  -- a counter of the place that is put if none stood
   pub new_split : (d : Counter) → at_place place cs ≡ None → d.place ≡ place → IsSplit (insert cs next d) next place
   new_split d none p =
       record {
@@ -312,7 +312,7 @@ stands_at low (x ∷ xs) h (suc i) c e = at (x.place == c.place) refl (stands_at
         (let wrong : Some c ≡ None = sym rest ∙ none in cc)
     at false t rest = ap (λ (b : Bool). cond b (Some x) (at_place c.place xs)) t ∙ rest
 
--- the counter of a place stands at the walk's index, where it stands
+-- the counter of a place stands at the walk's index, if it stands
 module _ (cs : List Counter) (next place : ℕ) (s : IsSplit cs next place) where
   pub stands_here : (c : Counter) → at_place place cs ≡ Some c → (slice_get cs next ≡ Some c) × ((c.place == place) ≡ true)
   stands_here c e = at_head s.after s.high (sym (split_at cs next place s) ∙ e) (split_get cs next place s)

@@ -42,7 +42,7 @@ abbrev pub in_span : ℤ → Option Counter → Option Used
 in_span number None = None
 in_span number (Some c) = if int_eq c.number number then c.used else None
 
--- the first where there is one, else the second
+-- the first if there is one, else the second
 abbrev pub or_else : {A : Type 0} → Option A → Option A → Option A
 or_else None second = second
 or_else (Some x) second = Some x
@@ -55,7 +55,7 @@ counters_at users user = unwrap_or (tree.get by_name users user) []
 abbrev pub past_at : Past → List ℕ → ℕ → ℤ → Option Used
 past_at past user place number = tree.get by_span past (user, (place, number))
 
--- what the control at a place has counted of a user in a span, where it counted a row
+-- what the control at a place has counted of a user in a span, if it counted a row
 abbrev pub used_in : List Counter → Past → List ℕ → ℕ → ℤ → Option Used
 used_in counters past user place number = or_else (in_span number (at_place place counters)) (past_at past user place number)
 
@@ -83,7 +83,7 @@ abbrev pub used_then : List Standing → List Group → UsageRow → ℕ → ℤ
 used_then controls groups row place number before =
     if counts_in groups (slice_get controls place) row number then Some (used_more before row) else before
 
--- a counter after a row, where its control counts the row
+-- a counter after a row, if its control counts the row
 abbrev pub counter_by : Option Standing → List Group → UsageRow → Counter → Counter
 counter_by None groups row c = c
 counter_by (Some s) groups row c = if counts groups (put_of s) row then record c { used = Some (used_more c.used row) } else c

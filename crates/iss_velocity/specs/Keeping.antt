@@ -20,7 +20,7 @@ use Rattle.iss_velocity.specs.Counting.{Users, Past, by_name, past_at, put_of, a
 abbrev pub has_no_zero : List ℕ → Bool
 has_no_zero name = list_all (λ b. nat_lt 0 b) name
 
--- a number of what a counter has counted, at its key, where it counted a row
+-- a number of what a counter has counted, at its key, if it counted a row
 abbrev pub counter_sum : (Used → ℤ) → List ℕ → Option Counter → Option (List ℕ × ℤ)
 counter_sum worth user None = None
 counter_sum worth user (Some c) = option_map (λ used. (counter_key user c.number, worth used)) c.used
@@ -127,7 +127,7 @@ pub record IsCounted (controls : List Standing) (groups : List Group) (row : Usa
 abbrev pub controls_in : Table → List ControlKept
 controls_in t = controls_from t.users t.past 0 t.controls.items
 
--- a table's keys are those of users and spans, and nothing is counted where no control stands
+-- a table's keys are those of users and spans, and nothing is counted if no control stands
 pub record IsTable (t : Table) : Type 0 where
   pub keyed : AreKeyed t.users t.past
   pub beyond : (user : List ℕ) (place : ℕ) (number : ℤ) → slice_get t.controls.items place ≡ None → used_at t.users t.past user place number ≡ None

@@ -26,12 +26,12 @@ put_reason None controls put = first_reason ((is_full controls, reason.Limit) �
 abbrev pub standing_named : List ℕ → List Standing → Option Standing
 standing_named name controls = find (λ s. bytes_eq s.control.name name) controls
 
--- the limits of a change, where it has any
+-- the limits of a change, if it has any
 abbrev pub with_limits : Option Limits → Control → Control
 with_limits None control = control
 with_limits (Some limits) control = record control { amount_limit = limits.amount; usage_limit = limits.usage }
 
--- the activity of a change, where it has one
+-- the activity of a change, if it has one
 abbrev pub with_activity : Option Bool → Control → Control
 with_activity None control = control
 with_activity (Some active) control = record control { active = active }
@@ -45,7 +45,7 @@ abbrev pub kept_after_change : List ℕ → Change → ControlKept → ControlKe
 kept_after_change name change c =
     if bytes_eq name c.control.name then record c { control = with_activity change.active (with_limits change.limits c.control) } else c
 
--- the control of this name gets these limits, another one stays as it is
+-- the control of this name takes these limits, another one stays as it is
 abbrev pub control_after_limits : List ℕ → Option ℕ → Option ℕ → ControlKept → ControlKept
 control_after_limits name amount usage c =
     if bytes_eq name c.control.name then record c { control = record (c.control) { amount_limit = amount; usage_limit = usage } } else c
@@ -55,13 +55,13 @@ abbrev pub control_after_activity : List ℕ → Bool → ControlKept → Contro
 control_after_activity name active c =
     if bytes_eq name c.control.name then record c { control = record (c.control) { active = active } } else c
 
--- the reason that a fault gives; a failed allocation gives none
+-- the reason of a fault; a failed allocation has none
 abbrev pub fault_reason : ControlFault → Option Reason
 fault_reason fault.Fixed = Some reason.ControlFixed
 fault_reason fault.Limit = Some reason.Limit
 fault_reason fault.OutOfMemory = None
 
--- the reason that a result gives
+-- the reason of a result
 abbrev pub reason_of_result : {A : Type 0} → Result A ControlFault → Option Reason
 reason_of_result (Ok x) = None
 reason_of_result (Err f) = fault_reason f

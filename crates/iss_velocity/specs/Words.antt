@@ -1,4 +1,4 @@
--- What the rules say of controls, over groups and controls alone.
+-- The rules for controls, over groups and controls alone.
 use Rattle.std.specs.Prelude.{ℕ, pos, ◌+ℤ◌, Bool, ◌&&◌, ◌||◌, List, find, Option, option_map, if◌then◌else◌}
 use Rattle.iss_model.specs.declared.txn.UsageRow.{UsageRow}
 use Rattle.iss_model.specs.declared.txn.Used.{Used}
@@ -22,7 +22,7 @@ asked_use ask at =
       at = at;
     }
 
--- a control has counted so much that this use would be more than its amount limit, or for a first ask than its usage limit
+-- with this use, what a control has counted is over its amount limit, or for a first ask over its usage limit
 abbrev pub is_over_by : UsageRow → Bool → ControlNow → Bool
 is_over_by row is_first c =
     let key = span_key c.control c.control.window row in
@@ -40,6 +40,6 @@ declines_use groups row is_first c =
 abbrev pub breach_of : List Group → List ControlNow → UsageRow → Bool → Option (List ℕ)
 breach_of groups controls row is_first = option_map (λ c. c.control.name) (find (declines_use groups row is_first) controls)
 
--- what the control of a name has counted of a user in the window of a stamp, where there is one
+-- what the control of a name has counted of a user in the window of a stamp, if there is one
 abbrev pub used_of : List ControlNow → List ℕ → List ℕ → ℕ → Option Used
 used_of controls name user at = option_map (λ c. used_by c c.control.window user at) (control_named name controls)

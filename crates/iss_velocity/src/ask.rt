@@ -1,11 +1,11 @@
-//! What wants money.
+//! What asks for money.
 ghost use Rattle.std.specs.Prelude.{◌≡◌, IsTrue};
 ghost use Rattle.iss_model.specs.Forms.{is_amount};
 ghost use Rattle.iss_velocity.specs.Words.{asked_use};
 
 use iss_model::{Currency, Token, UsageRow};
 
-/// An authorisation, or an increment of one, as it wants money.
+/// An authorisation, or an increment of one, as it asks for money.
 #[derive(Clone, Copy)]
 pub struct Ask {
     /// The transaction, named by its authorisation's event token.

@@ -63,8 +63,8 @@ impl Controls {
         }
     }
 
-    /// Puts a control, with the number of its record. One that stands gets the limits and the activity, and is `Fixed` in all else;
-    /// a new one stands after the others and counts use of later transactions, and `Limit` is told where there are 256.
+    /// Puts a control, with the number of its record. One that stands takes the limits and the activity, and is `Fixed` in all else;
+    /// a new one stands after the others and counts use of later transactions, and `Limit` is returned if there are 256.
     pub fn put(&mut self, number: u32, control: &Control) -> Result<(), ControlFault>
         ensures put { OnOk result (self.new ≡ with_control self.old (record { number = number; control = control.now })) }
         ensures refused { OnErr result (self.new ≡ self.old) }
@@ -73,7 +73,7 @@ impl Controls {
         self.table.put(number, control)
     }
 
-    /// Gives a control other limits, of an amount in minor units and of a count. False exactly where there is no control of that name.
+    /// Gives a control other limits, of an amount in minor units and of a count. False exactly if there is no control of that name.
     pub fn set_limit(&mut self, name: &Token, amount: Option<u64>, usage: Option<u32>) -> bool
         ensures known { result ≡ is_some (kept_named name.now self.old) }
         ensures set { self.new ≡ map (control_after_limits name.now amount usage) self.old }
@@ -90,7 +90,7 @@ impl Controls {
         known
     }
 
-    /// Makes a control active or not. False exactly where there is no control of that name.
+    /// Makes a control active or not. False exactly if there is no control of that name.
     pub fn set_active(&mut self, name: &Token, active: bool) -> bool
         ensures known { result ≡ is_some (kept_named name.now self.old) }
         ensures set { self.new ≡ map (control_after_activity name.now active) self.old }
@@ -106,7 +106,7 @@ impl Controls {
         known
     }
 
-    /// The control of that name, or `None` where there is none.
+    /// The control of that name, or `None` if there is none.
     pub fn get(&self, name: &Token) -> Option<&Control>
         ensures { option_copied result ≡ option_map (λ c. c.control) (kept_named name.now self.now) }
     {
@@ -120,7 +120,7 @@ impl Controls {
         self.table.is_full()
     }
 
-    /// Counts a row for each control that counts it: an active one or not. Where allocation fails all that the calls show stays.
+    /// Counts a row for each control that counts it: an active one or not. If an allocation fails, all that the calls show stays.
     pub fn note(&mut self, alloc: Global, groups: &Groups, row: &UsageRow) -> Result<(), AllocError>
         requires stamp { IsTrue (is_stamp row.now.at) }
         requires small { HaveSmallSums (map (control_after_use groups.now (entry.Usage row.now)) self.old) }
@@ -139,7 +139,7 @@ impl Controls {
         self.table.breach(groups, &ask.usage(at), ask.first)
     }
 
-    /// What the control of a name has counted of a user in the window of a stamp, or `None` where there is no such control.
+    /// What the control of a name has counted of a user in the window of a stamp, or `None` if there is no such control.
     /// A control of single transactions has counted nothing here.
     pub fn used(&self, name: &Token, user: &Token, at: u64) -> Option<Used>
         requires { IsTrue (is_stamp at) }

@@ -60,7 +60,7 @@ impl Counters {
         &self.list
     }
 
-    /// Adds a row to the counters of the controls that count it. Where allocation fails nothing is counted in another way.
+    /// Adds a row to the counters of the controls that count it. If an allocation fails, nothing is counted in another way.
     pub(crate) fn note(
         &mut self,
         past: &mut Past,
@@ -96,7 +96,7 @@ pub(crate) fn used_by(
     Some(used)
 }
 
-/// What a counter has counted in a span, where that is the one that was noted last.
+/// What a counter has counted in a span, if that is the one that was noted last.
 fn last_used(counter: Option<&Counter>, number: i64) -> Option<Used>
     ensures { result ≡ in_span number (option_copied counter.entry) }
 {
@@ -235,7 +235,7 @@ fn add(list: &mut Vec<Counter>, controls: &[Standing], groups: &Groups, row: &Us
     }
 }
 
-/// A counter with a row, where its control counts the row.
+/// A counter with a row, if its control counts the row.
 fn counted(counter: &Counter, controls: &[Standing], groups: &Groups, row: &UsageRow) -> Counter
     requires { FitsMore controls.now groups.now row.now counter.now }
     ensures { result ≡ counter_then controls.now groups.now row.now counter.now }

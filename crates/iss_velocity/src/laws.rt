@@ -25,19 +25,19 @@ pub fn nothing_is_noted_at_first()
     ensures { AreSumsOf [] [] }
 {}
 
-/// Where a row is noted, each control's sums stay sums over the rows that were noted: by user and span, of the rows that it counts.
+/// If a row is noted, each control's sums stay sums over the rows that were noted: by user and span, of the rows that it counts.
 pub fn counters_are_sums_of_noted_use()
     ensures { (noted : List Noted) → (controls : List ControlKept) → (groups : List Group) → (row : UsageRow) → AreSumsOf noted controls
         → AreSumsOf (noted ++ record { groups = groups; row = row } ∷ []) (map (control_after_use groups (entry.Usage row)) controls) }
 {}
 
-/// So they do where a control is put, with a number that isn't below the origin of any row that was noted.
+/// They stay so if a control is put, with a number that isn't below the origin of any row that was noted.
 pub fn control_that_is_put_counts_no_earlier_use()
     ensures { (noted : List Noted) → (controls : List ControlKept) → (put : ControlPut) → AreSumsOf noted controls → are_not_later put.number noted ≡ true
         → AreSumsOf noted (with_control controls put) }
 {}
 
-/// So they do where limits or the activity change.
+/// They stay so if limits or the activity change.
 pub fn controls_that_stay_count_the_same()
     ensures limits { (noted : List Noted) → (controls : List ControlKept) → (name : List ℕ) → (amount usage : Option ℕ) → AreSumsOf noted controls
         → AreSumsOf noted (map (control_after_limits name amount usage) controls) }

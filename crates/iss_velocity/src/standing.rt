@@ -1,4 +1,4 @@
-//! A control that stands, and what it says of a row.
+//! A control that stands, and what it counts of a row.
 ghost use Rattle.std.specs.Prelude.{◌≡◌, ◌&&◌, ◌+ℤ◌, pos};
 ghost use Rattle.std.specs.Str.{bytes_eq};
 ghost use Rattle.iss_model.specs.rules.Controls.{is_associated, counts};
@@ -18,7 +18,7 @@ pub(crate) struct Standing {
     pub(crate) control: Control,
 }
 
-/// At most so much, in minor units, and at most so often.
+/// The most that is allowed: an amount in minor units, and a number of uses.
 #[derive(Clone, Copy)]
 pub(crate) struct Limits {
     pub(crate) amount: Option<u64>,
@@ -126,7 +126,7 @@ fn count_with_one(used: &Used) -> i128
     i128::from(used.count) + 1
 }
 
-/// Whether a sum is above a limit, where there is one.
+/// Whether a sum is above a limit, if there is one.
 fn passes(limit: Option<u64>, sum: i128) -> bool
     ensures { result ≡ passes limit sum }
 {

@@ -18,13 +18,11 @@ use crate::counters::{Counter, Counters, counter_at, find_at, next_after, used_b
 use crate::past::Past;
 use crate::spans::{Spans, is_single};
 use crate::standing::{Change, Limits, Standing};
+use iss_model::limits::MOST_OF_A_KIND;
 use iss_model::{Control, Token, UsageRow, Used};
 use iss_scope::Groups;
 use std::alloc::{AllocError, Global};
 use std::collections::BTreeMap;
-
-/// The most controls that may stand.
-const MOST: usize = 256;
 
 /// The controls in the order of their first records, the counters of each user, and the spans that have passed.
 #[derive(Drop)]
@@ -155,7 +153,7 @@ impl Table {
     pub(crate) fn is_full(&self) -> bool
         ensures { result ≡ is_full (controls_in self.now) }
     {
-        self.controls.len() >= MOST
+        self.controls.len() >= MOST_OF_A_KIND
     }
 
     /// Adds a control of a new name.
@@ -167,7 +165,7 @@ impl Table {
         ensures refused { OnErr result (controls_in self.new ≡ controls_in self.old) }
         ensures reason { reason_of_result result ≡ put_reason None (controls_in self.old) control.now }
     {
-        if self.controls.len() >= MOST {
+        if self.controls.len() >= MOST_OF_A_KIND {
             return Err(ControlFault::Limit);
         }
         let standing = Standing {

@@ -14,8 +14,11 @@ use std::alloc::{AllocError, Global};
 use std::collections::VecDeque;
 use std::marker::Model;
 
+/// The greatest number of a channel on which a client comes.
+const GREATEST_CLIENT: u32 = 1_000_000;
+
 /// The number of the first channel that is dialled. Clients come on smaller ones.
-const FIRST_DIALLED: u32 = 1000001;
+const FIRST_DIALLED: u32 = GREATEST_CLIENT + 1;
 
 /// What came on channels and is still to come, and which channels are open.
 #[derive(Drop)]
@@ -73,7 +76,7 @@ impl Network {
         })
     }
 
-    /// What the next item of the script brings. Where there is no memory, it stays to come.
+    /// What the next item of the script brings. If an allocation fails, it stays to come.
     pub(crate) fn wait(&mut self) -> Result<Arrival, AllocError>
         ensures is_next { IfOk result (λ arrives. arrives ≡ next_arrival self.old.script) }
         ensures left { IfOk result (λ arrives. (ch : ℕ) → left_on self.new.pieces ch
@@ -105,7 +108,7 @@ impl Network {
         }
     }
 
-    /// A channel that was not open, where there is memory and a number is left.
+    /// A channel that was not open, if there is memory and a number is left.
     pub(crate) fn dial(&mut self) -> Option<Channel>
         ensures unused { IfSome result (IsUnused self.old.channels) }
         ensures dialled { self.new ≡ record self.old { channels = after_dial result self.old.channels } }
@@ -132,7 +135,7 @@ impl Network {
         copy_start(next_rest(self.pieces.as_slice(), ch), buf)
     }
 
-    /// Takes so many bytes of the channel's next piece.
+    /// Takes `count` bytes of the channel's next piece.
     pub(crate) fn pass(&mut self, ch: Channel, count: usize)
         requires { count ≤ length (next_rest ch.0 self.old.pieces) }
         ensures { self.new ≡ record self.old { pieces = after_take ch.0 count self.old.pieces } }
@@ -167,7 +170,7 @@ fn next_rest<'a>(pieces: &'a [Piece], ch: Channel) -> &'a [u8]
     &[]
 }
 
-/// Takes so many bytes of that piece.
+/// Takes `count` bytes of that piece.
 fn pass_next(pieces: &mut [Piece], ch: Channel, count: usize)
     requires { count ≤ length (next_rest ch.0 pieces.old) }
     ensures { pieces.new ≡ after_take ch.0 count pieces.old }
@@ -190,7 +193,7 @@ fn copy_start(bytes: &[u8], buf: &mut [u8]) -> usize
     count
 }
 
-/// What the next item of the script brings, noted as an answer, or nothing at all where there is no memory.
+/// What the next item of the script brings, noted as an answer, or nothing at all if an allocation fails.
 pub(crate) fn arrive(
     network: &mut Network,
     heard: &mut Vec<Answered>,
@@ -205,14 +208,14 @@ pub(crate) fn arrive(
     ensures heard { IfOk result (λ arrives. heard.new.items ≡ heard.old.items ++ Waited (Some arrives) ∷ []) }
     ensures unheard { OnErr result (heard.new.items ≡ heard.old.items) }
 {
-    // With room for the answer, nothing can fail once the item was passed.
+    // With room for the answer, nothing can fail after the item was passed.
     heard.reserve(1)?;
     let arrives = network.wait()?;
     heard.push(Answered::Waited(Some(arrives)))?;
     Ok(arrives)
 }
 
-/// Opens a channel and notes it in both lists, or nothing at all where there is no memory or no number left.
+/// Opens a channel and notes it in both lists, or nothing at all if an allocation fails or no number is left.
 pub(crate) fn open_channel(
     network: &mut Network,
     trace: &mut Vec<Action>,
@@ -225,7 +228,7 @@ pub(crate) fn open_channel(
     ensures unnoted { IfNone result (trace.new.items ≡ trace.old.items) }
     ensures unheard { IfNone result (heard.new.items ≡ heard.old.items) }
 {
-    // With room in both lists, nothing can fail once the channel is open.
+    // With room in both lists, nothing can fail after the channel is open.
     trace.reserve(1).ok()?;
     heard.reserve(1).ok()?;
     let ch = network.dial()?;

@@ -84,7 +84,7 @@ fn note(
     Ok(())
 }
 
-/// Notes in the trace an emit that fails once its first bytes went out.
+/// Notes in the trace an emit that fails after its first bytes went out.
 pub(crate) fn send_prefix(
     alloc: Global,
     trace: &mut Vec<Action>,
@@ -111,14 +111,14 @@ pub(crate) fn send(
     ensures unsent { OnErr result (trace.new.items ≡ trace.old.items) }
     ensures unheard { OnErr result (heard.new.items ≡ heard.old.items) }
 {
-    // With room for the answer, nothing can fail once the action is noted.
+    // With room for the answer, nothing can fail after the action is noted.
     heard.reserve(1)?;
     note(alloc, trace, ch, bytes, true)?;
     heard.push(Answered::Emitted { ch, ok: true })?;
     Ok(())
 }
 
-/// Notes in the trace that a channel was closed. Where there is no memory for it, the heard list isn't told any more.
+/// Notes in the trace that a channel was closed. If an allocation fails, nothing is noted in the heard list any more.
 pub(crate) fn note_close(trace: &mut Vec<Action>, heard: &mut Heard, ch: Channel)
     ensures noted { IsTrue heard.new.whole → trace.new.items ≡ trace.old.items ++ Close ch ∷ [] }
     ensures closed { (trace.new.items ≡ trace.old.items ++ Close ch ∷ []) ⊎ (trace.new.items ≡ trace.old.items) }

@@ -38,7 +38,7 @@ impl Piece {
         self.rest.as_slice()
     }
 
-    /// Takes so many bytes.
+    /// Takes `count` bytes.
     pub(crate) fn pass(&mut self, count: usize)
         requires { count ≤ length self.old.rest }
         ensures { self.new ≡ record self.old { rest = drop count self.old.rest } }

@@ -41,7 +41,7 @@ impl Rest {
         &self.bytes.as_slice()[self.at..]
     }
 
-    /// Takes so many bytes.
+    /// Takes `count` bytes.
     pub(crate) fn pass(&mut self, count: usize)
         requires { count ≤ length self.old }
         ensures { self.new ≡ drop count self.old }

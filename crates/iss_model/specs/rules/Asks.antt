@@ -1,4 +1,4 @@
--- An ask: an authorisation or increment as it wants money, the use that it adds, and the control that it breaches.
+-- An ask: an authorisation or increment as it asks for money, the use that it adds, and the control that it breaches.
 use Rattle.std.specs.Prelude.{ℕ, ◌+◌, ℤ, pos, neg_ℤ, ◌+ℤ◌, Bool, true, false, ◌&&◌, ◌||◌, List, find, Option, Some, None, option_map, int_lt, if◌then◌else◌}
 use Rattle.iss_model.specs.declared.call.Method.{Method}
 use Rattle.iss_model.specs.declared.call.Method.TheVariants as method
@@ -63,7 +63,7 @@ ask_count ask = if ask.is_first then pos 1 else pos 0
 abbrev pub ask_usage : Ask → UsageRow
 ask_usage ask = usage_of ask.txn (pos ask.amount) (ask_count ask) ask.at
 
--- the use that an ask gives back: its own, negated, at its own stamp
+-- the use that an ask returns: its own, negated, at its own stamp
 abbrev pub ask_given_back : Ask → UsageRow
 ask_given_back ask = usage_of ask.txn (neg_ℤ (pos ask.amount)) (neg_ℤ (ask_count ask)) ask.at
 
@@ -83,12 +83,12 @@ abbrev pub call_ask : Opened → Txn → Ask
 call_ask o t =
     record { event = o.event; txn = t; amount = o.amount; is_first = is_authorization o.method; at = o.at }
 
--- a sum passes a limit, where there is one
+-- a sum passes a limit, if there is one
 abbrev pub passes : Option ℕ → ℤ → Bool
 passes None sum = false
 passes (Some limit) sum = int_lt (pos limit) sum
 
--- a control has counted so much that this use would be more than its amount limit, or for an authorisation than its usage limit
+-- with this use, what a control has counted is over its amount limit, or for an authorisation over its usage limit
 abbrev pub is_over : ControlNow → Ask → Bool
 is_over c ask =
     let key = span_key c.control c.control.window (ask_usage ask) in
@@ -110,7 +110,7 @@ breach f ask = option_map (λ c. c.control.name) (find (declines f ask) f.contro
 abbrev pub used_at : ControlNow → List ℕ → Used
 used_at c key = record { amount = c.amounts key; count = c.times key }
 
--- What a control has counted of a user in the window of a stamp. A control of single transactions has counted nothing where none is asked of.
+-- What a control has counted of a user in the window of a stamp. A control of single transactions has counted nothing without an ask.
 abbrev pub used_by : ControlNow → Window → List ℕ → ℕ → Used
 used_by c window.Transaction user at = record { amount = pos 0; count = pos 0 }
 used_by c window.Day user at = used_at c (window_key window.Day c.control.offset user at)
@@ -118,7 +118,7 @@ used_by c window.Week user at = used_at c (window_key window.Week c.control.offs
 used_by c window.Month user at = used_at c (window_key window.Month c.control.offset user at)
 used_by c window.Lifetime user at = used_at c (window_key window.Lifetime c.control.offset user at)
 
--- what the control of a name has counted, where there is one
+-- what the control of a name has counted, if there is one
 abbrev pub used_in : Facts → List ℕ → List ℕ → ℕ → Option Used
 used_in f name user at =
     option_map (λ c. used_by c c.control.window user at) (control_named name f.controls)

@@ -31,13 +31,13 @@ acts_where amount acts = if amount == 0 then [] else acts
 abbrev pub end_acts : ℕ → Facts → Txn → Parts → Reason → List Act
 end_acts number f t parts why = Abandons number t why (asked_calls_of f t.token) parts ∷ LetsGo t parts (in_all parts) ∷ Ends t ∷ []
 
--- what the sets say of an ask
+-- what the sets decide of an ask
 abbrev pub stand_acts : Stand → ℕ → Ask → Failure → ℕ → List Act
 stand_acts (allowed s) number ask why at = StandsIn number ask at s ∷ []
 stand_acts (over_limit s) number ask why at = TurnsDown ask (reason.StandInLimit s.name) ∷ []
 stand_acts uncovered number ask why at = TurnsDown ask (failure_reason why) ∷ []
 
--- a call fails, and the sets say what comes of its ask
+-- a call fails, and the sets decide what comes of its ask
 abbrev pub failed_acts : Facts → Opened → Txn → Failure → ℕ → List Act
 failed_acts f o t why at = Fails (next_notice f) o t why ∷ stand_acts (stand f (call_ask o t) why at) (next_notice f + 1) (call_ask o t) why at
 

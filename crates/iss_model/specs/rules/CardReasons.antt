@@ -34,7 +34,7 @@ lacks_funds f ask =
 abbrev pub control_breach : Option (List ℕ) → Bool × Reason
 control_breach name = (is_some name, reason.Control (unwrap_or name []))
 
--- the transaction that an authorisation would begin: there is one where the card and its product are known
+-- the transaction that an authorisation would begin: there is one if the card and its product are known
 abbrev pub txn_asked : Facts → List ℕ → List ℕ → Currency → ℕ → List ℕ → ℕ → Option Txn
 txn_asked f token card currency mcc mid at =
     option_and_then (λ c.
@@ -49,7 +49,7 @@ first_ask token amount at txn = record { event = token; txn = txn; amount = amou
 abbrev pub further_ask : List ℕ → ℕ → ℕ → Txn → Ask
 further_ask token amount at txn = record { event = token; txn = txn; amount = amount; is_first = false; at = at }
 
--- why an authorisation is declined: what stands of the card, its user and its product, and then its ask, where it makes one
+-- why an authorisation is declined: what stands of the card, its user and its product, and then its ask, if it makes one
 abbrev pub authorization_reason : Facts → List ℕ → Currency → Option Ask → Option Reason
 authorization_reason f card currency ask =
     let known = card_named card f.cards in

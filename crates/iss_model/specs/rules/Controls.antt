@@ -165,7 +165,7 @@ span_key control window.Week row = window_key window.Week control.offset row.use
 span_key control window.Month row = window_key window.Month control.offset row.user row.at
 span_key control window.Lifetime row = window_key window.Lifetime control.offset row.user row.at
 
--- a usage row changes what a control has counted in the row's span, where the control counts it
+-- a usage row changes what a control has counted in the row's span, if the control counts it
 abbrev pub counted_changes : (UsageRow → ℤ) → List Group → ControlPut → Entry → List Change
 counted_changes worth groups put (entry.Usage row) =
     if counts groups put row then record { key = span_key put.control put.control.window row; by = worth row } ∷ [] else []

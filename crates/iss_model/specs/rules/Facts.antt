@@ -70,7 +70,7 @@ verdict_in ds event = option_map (λ d. d.verdict) (find (λ d. bytes_eq d.event
 abbrev pub event_in : Facts → List ℕ → Option Accepted
 event_in f token = find (λ a. is_event token a.input) f.accepted
 
--- what is told of an event that was decided, or not yet
+-- the reply to an event that was decided, or not yet
 abbrev pub reply_of_verdict : Option Verdict → Reply
 reply_of_verdict None = Pending
 reply_of_verdict (Some v) = Decided v
@@ -79,7 +79,7 @@ reply_of_verdict (Some v) = Decided v
 abbrev pub reply_in : Facts → List ℕ → Reply
 reply_in f token = reply_of_verdict (f.decisions token)
 
--- what is told of an event, where it stands
+-- the reply of an event, if it stands
 abbrev pub event_reply : Facts → List ℕ → Option Reply
 event_reply f token = option_map (λ first. reply_in f token) (event_in f token)
 
@@ -95,7 +95,7 @@ held_in f user currency = f.holds (user_key user currency)
 abbrev pub available_in : Facts → List ℕ → Currency → ℤ
 available_in f user currency = balance_in f (account.User user currency) -ℤ held_in f user currency
 
--- a sum as an amount: none where it is negative
+-- a sum as an amount: none if it is negative
 abbrev pub not_below : ℤ → ℕ
 not_below (pos n) = n
 not_below (negsuc n) = 0

@@ -1,4 +1,4 @@
--- Whether an input makes a record, and what it is told where it makes none.
+-- Whether an input makes a record, and its answer if it makes none.
 use Rattle.std.specs.Prelude.{ℕ, max, Bool, true, false, ◌||◌, ◌==◌, List, Option, Some, None, if◌then◌else◌}
 use Rattle.std.specs.List.{list_any}
 use Rattle.iss_model.specs.declared.call.CallId.{CallId}
@@ -16,23 +16,23 @@ use Rattle.iss_model.specs.rules.Due.{due_items, is_quiet}
 use Rattle.iss_model.specs.rules.Keeper.{Keeper}
 use Rattle.iss_model.specs.rules.Stepping.{after_due}
 
--- an event that stands is a repeat where all its fields are the same, and else in conflict with its first record
+-- an event that stands is a repeat if all its fields are the same, and else in conflict with its first record
 abbrev pub repeat_or_conflict : Facts → Input → List ℕ → Option Accepted → Option Answer
 repeat_or_conflict f i token None = None
 repeat_or_conflict f i token (Some first) =
     if same_contents first.input i then Some (answer.Repeat token (reply_in f token))
     else Some (answer.Conflict token first.number)
 
--- what an event is told, by the first record of its token
+-- the answer to an event, by the first record of its token
 abbrev pub event_answer : Facts → Input → List ℕ → Option Answer
 event_answer f i token = repeat_or_conflict f i token (event_in f token)
 
--- what an input with this token is told; one without a token is no event, and told nothing by it
+-- the answer to an input with this token; an input without one is no event, and has no answer by it
 abbrev pub token_answer : Facts → Input → Option (List ℕ) → Option Answer
 token_answer f i None = None
 token_answer f i (Some token) = event_answer f i token
 
--- a call that is closed is told how
+-- the answer about a call that is closed: how it was
 abbrev pub late_answer : CallId → Option How → Option Answer
 late_answer call None = None
 late_answer call (Some how) = Some (answer.Late call how)
@@ -53,7 +53,7 @@ notice_answer f notice =
 abbrev pub time_answer : Bool → Option Answer
 time_answer quiet = if quiet then Some answer.Idle else None
 
--- What an input is told that is not new. An acknowledgement is judged by what stands before anything due, all else by what stands after it.
+-- The answer to an input that is not new. An acknowledgement is judged by what stands before anything due, all else by what stands after it.
 abbrev pub refusal : Bool → Facts → Facts → Input → Option Answer
 refusal quiet before after (input.Answer call outcome) = call_answer call (call_in after call.0)
 refusal quiet before after (input.Ack notice) = notice_answer before notice
@@ -65,7 +65,7 @@ abbrev pub is_ack : Input → Bool
 is_ack (input.Ack notice) = true
 is_ack _ = false
 
--- An input that isn't refused is new. One that is refused is told so; where something is due, a time record goes before its answer.
+-- An input that isn't refused is new. One that is refused is answered; if something is due, a time record goes before its answer.
 abbrev pub judgement_as : Option Answer → Bool → Input → ℕ → Judged
 judgement_as None quiet i at = judged.New (record { at = at; input = i })
 judgement_as (Some a) quiet i at =

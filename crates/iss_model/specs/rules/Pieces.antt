@@ -26,7 +26,7 @@ use Rattle.iss_model.specs.rules.Asks.{Ask, usage_of, call_ask, ask_given_back}
 use Rattle.iss_model.specs.rules.CardReasons.{is_account_funded}
 use Rattle.iss_model.specs.rules.Facts.{Facts, part_in, asked_calls_of, next_call, not_below}
 
--- entries of an amount, where it isn't 0
+-- entries of an amount, if it isn't 0
 abbrev pub only_where : ℕ → List Entry → List Entry
 only_where amount entries = if amount == 0 then [] else entries
 
@@ -83,11 +83,11 @@ taken_to_clear parts amount =
     let p = min (amount - g) parts.p in
     record { g = g; p = p; s = min (amount - g - p) parts.s }
 
--- so much less is used of a transaction, at its authorisation's stamp
+-- less use of a transaction by this amount, at its authorisation's stamp
 abbrev pub use_return_entries : Txn → ℕ → List Entry
 use_return_entries t amount = only_where amount (entry.Usage (usage_of t (neg_ℤ (pos amount)) (pos 0) t.at) ∷ [])
 
--- an amount is let go: the programme gets its part back from the user, then the gateway its own, and the use is returned
+-- an amount is released: the programme receives its part from the user, then the gateway its own, and the use is returned
 abbrev pub release_entries : Txn → Parts → ℕ → List Entry
 release_entries t parts amount =
     let taken = taken_to_release parts amount in
@@ -136,7 +136,7 @@ notice_entry number method t call amount gateway =
 abbrev pub void_entry : ℕ → Txn → Opened → Entry
 void_entry number t o = notice_entry number method.Void t (Some o.call) o.amount 0
 
--- a call is abandoned: closed, voided, its use given back, and its event declined
+-- a call is abandoned: closed, voided, its use returned, and its event declined
 abbrev pub abandoned_call_entries : ℕ → Txn → Reason → Opened → List Entry
 abandoned_call_entries number t why o =
     entry.Closed o.call how.Abandoned
@@ -154,7 +154,7 @@ abandoned_calls_entries number t why (c ∷ cs) = abandoned_call_entries number 
 abbrev pub notice_after_abandonment : ℕ → Facts → Txn → ℕ
 notice_after_abandonment number f t = number + length (asked_calls_of f t.token)
 
--- an ask is declined: its use is given back, and with an authorisation its transaction ends
+-- an ask is declined: its use is returned, and with an authorisation its transaction ends
 abbrev pub declined_ask_entries : Ask → Reason → List Entry
 declined_ask_entries ask why =
     entry.Usage (ask_given_back ask)
@@ -185,7 +185,7 @@ set_stand_in_entries number ask at s =
     ∷ entry.Decided ask.event verdict.Approved
     ∷ []
 
--- a clearing takes from the hold, the rest comes from the programme for a gateway product, and the network gets all of it;
+-- a clearing takes from the hold, the rest comes from the programme for a gateway product, and the network receives all of it;
 -- the rest counts as use at this stamp
 abbrev pub clearing_money_entries : Txn → Parts → ℕ → ℕ → List Entry
 clearing_money_entries t taken amount at =
@@ -195,7 +195,7 @@ clearing_money_entries t taken amount at =
     ++ post_entries t (user_account t) (account.Network t.currency) amount
     ++ only_where excess (entry.Usage (usage_of t (pos excess) (pos 0) at) ∷ [])
 
--- what the programme has paid for a transaction, hasn't got back and doesn't hold
+-- what the programme has paid for a transaction, less what came back and what it holds
 abbrev pub owed_to_programme : Facts → Txn → ℕ
 owed_to_programme f t = not_below (f.paid t.token -ℤ pos (parts_held f t).p)
 

@@ -2,6 +2,7 @@
 use Rattle.std.specs.Prelude.{ℕ, ℤ, Bool, false, not, ◌&&◌, ◌==◌, nat_le, List, [], ◌∷◌, length, Option, Some, None, is_some, is_none, if◌then◌else◌}
 use Rattle.std.specs.Str.{bytes_eq}
 use Rattle.std.specs.Ordering.{int_eq}
+use Rattle.iss_model.specs.declared.limits.TheConstants.{MOST_OF_A_KIND}
 use Rattle.iss_model.specs.declared.currency.Currency.{Currency}
 use Rattle.iss_model.specs.declared.setting.CardState.{CardState}
 use Rattle.iss_model.specs.declared.setting.UserState.{UserState}
@@ -34,13 +35,9 @@ abbrev pub is_some_with : {A : Type 0} → (A → Bool) → Option A → Bool
 is_some_with test None = false
 is_some_with test (Some x) = test x
 
--- there may be so many products with the built-in one, so many groups, controls and sets
-abbrev pub most_things : ℕ
-most_things = 256
-
 -- there are as many as there may be
 abbrev pub is_full : {A : Type 0} → List A → Bool
-is_full xs = nat_le most_things (length xs)
+is_full xs = nat_le MOST_OF_A_KIND (length xs)
 
 -- the user is in a state of which the test holds
 abbrev pub user_is : (UserState → Bool) → Facts → List ℕ → Bool

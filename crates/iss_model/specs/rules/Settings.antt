@@ -2,6 +2,7 @@
 use Rattle.std.specs.Prelude.{ℕ, Bool, true, false, List, ◌∷◌, codes, find, filter, fold, map, Option, Some, None, if◌then◌else◌}
 use Rattle.std.specs.List.{filter_map, list_any}
 use Rattle.std.specs.Str.{bytes_eq}
+use Rattle.iss_model.specs.declared.limits.TheConstants.{DEFAULT_TIMEOUT, DEFAULT_HOLD}
 use Rattle.iss_model.specs.declared.currency.Currency.TheVariants.{Usd}
 use Rattle.iss_model.specs.declared.setting.Funding.TheVariants as funding
 use Rattle.iss_model.specs.declared.setting.CardState.{CardState}
@@ -17,7 +18,7 @@ use Rattle.iss_model.specs.declared.entry.Row.{Row}
 use Rattle.iss_model.specs.declared.entry.Entry.{Entry}
 use Rattle.iss_model.specs.declared.entry.Entry.TheVariants as entry
 
--- the last of these, or the first value where there is none
+-- the last of these, or the first value if there is none
 abbrev pub latest_of : {A : Type 0} → A → List A → A
 latest_of first later = fold (λ before x. x) first later
 
@@ -47,7 +48,7 @@ user_named name users = find (λ user. bytes_eq user.name name) users
 abbrev pub first_card_state : Bool → CardState
 first_card_state active = if active then card_state.Active else card_state.Unactivated
 
--- the card that an entry makes: a new card is active where it says so, and else waits to be activated
+-- the card that an entry makes: a new card is active if it says so, and else waits to be activated
 abbrev pub card_made : Entry → Option Card
 card_made (entry.Conf (input.Card token card user product active)) =
     Some (record { name = card; user = user; product = product; state = first_card_state active })
@@ -73,7 +74,7 @@ card_named name cards = find (λ card. bytes_eq card.name name) cards
 -- the product that stands in every book: funded by the user's balance in US dollars, 3 seconds for an answer, holds of a week
 abbrev pub default_product : Product
 default_product =
-    record { name = codes "default"; currency = Usd; funding = funding.Account; timeout_ms = 3000; hold_ms = 604800000 }
+    record { name = codes "default"; currency = Usd; funding = funding.Account; timeout_ms = DEFAULT_TIMEOUT; hold_ms = DEFAULT_HOLD }
 
 -- the product that an entry makes
 abbrev pub product_made : Entry → Option Product

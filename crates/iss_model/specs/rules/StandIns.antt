@@ -7,7 +7,7 @@ use Rattle.iss_model.specs.declared.setting.Set.{Set}
 use Rattle.iss_model.specs.rules.Facts.{Facts, stand_in_sum}
 use Rattle.iss_model.specs.rules.Asks.{Ask}
 
--- what a product's sets say of an ask: a set allows it, or a set covers the failure and doesn't allow so much, or no set covers it
+-- what a product's sets decide of an ask: one allows it, one covers the failure and doesn't allow the amount, or none covers it
 pub data Stand : Type 0 where
   allowed : Set → Stand
   over_limit : Set → Stand
@@ -26,7 +26,7 @@ allows f s ask at =
     nat_le ask.amount s.max
     && int_le (stand_in_sum f ask.txn.product ask.txn.user at +ℤ pos ask.amount) (pos s.day_limit)
 
--- what the set that was found says, where one was found
+-- what the set that was found decides, if one was found
 abbrev pub stand_by : Facts → Ask → ℕ → Option Set → Stand
 stand_by f ask at None = uncovered
 stand_by f ask at (Some s) = if allows f s ask at then allowed s else over_limit s

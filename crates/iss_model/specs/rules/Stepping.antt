@@ -11,20 +11,20 @@ use Rattle.iss_model.specs.rules.Asks.{Ask}
 use Rattle.iss_model.specs.rules.CardActs.{answer_acts, authorization_acts, increment_acts, reversal_acts, clearing_acts, refund_acts}
 use Rattle.iss_model.specs.rules.CardReasons.{txn_asked, first_ask, further_ask, authorization_reason, increment_reason, reversal_reason, clearing_reason, refund_reason}
 use Rattle.iss_model.specs.rules.Due.{DueItem, due_items, thing_entries}
-use Rattle.iss_model.specs.rules.Facts.{Facts, txn_in, call_in, is_notice}
+use Rattle.iss_model.specs.rules.Facts.{Facts, txn_in, is_notice}
 use Rattle.iss_model.specs.rules.Keeper.{Keeper, Growth, grow}
 use Rattle.iss_model.specs.rules.Reasons.{user_reason, card_reason, move_reason, product_reason, group_reason, control_reason, set_reason, switch_reason, load_reason}
 
--- an authorisation as an ask, where its card and product are known
+-- an authorisation as an ask, if its card and product are known
 abbrev pub authorization_ask : Facts → List ℕ → List ℕ → Currency → ℕ → ℕ → List ℕ → ℕ → Option Ask
 authorization_ask f token card currency amount mcc mid at =
     option_map (first_ask token amount at) (txn_asked f token card currency mcc mid at)
 
--- an increment as an ask, where its transaction is known
+-- an increment as an ask, if its transaction is known
 abbrev pub increment_ask : Facts → List ℕ → List ℕ → ℕ → ℕ → Option Ask
 increment_ask f token txn amount at = option_map (λ now. further_ask token amount at now.txn) (txn_in f txn)
 
--- an event is declined if there is a reason, and else acts so
+-- an event is declined if there is a reason, and else makes these acts
 abbrev pub acts_unless : Option Reason → List ℕ → List Act → List Act
 acts_unless (Some why) token acts = Declines token why ∷ []
 acts_unless None token acts = acts

@@ -64,7 +64,7 @@ needs_turn room rs r = room.halved && not (nat_le (need_of r) (free_in room rs))
 abbrev pub room_after : Room → List Record → Record → Room
 room_after room rs r = if needs_turn room rs r then record room { second = not room.second; point = length rs } else room
 
--- After as many records as there may be, no more is made: its input is told just that they are spent.
+-- After as many records as there may be, no more is made: the answer is just that they are spent.
 abbrev pub unless_spent : ℕ → Judged → Judged
 unless_spent count made = if nat_lt count MOST_RECORDS then made else judged.Told answer.Spent
 
@@ -73,7 +73,7 @@ abbrev pub judgement_after : ℕ → Judged → Judged
 judgement_after count (judged.Told a) = judged.Told a
 judgement_after count made = unless_spent count made
 
--- One more record that doesn't fit is not made: its input is told how much is free, and how much it needs. Without a device every record fits.
+-- One more record that doesn't fit is not made: its answer is how much is free, and how much it needs. Without a device every record fits.
 abbrev pub where_it_fits : Option Room → List Record → Record → Judged → Judged
 where_it_fits None rs r made = unless_spent (length rs) made
 where_it_fits (Some room) rs r made =
@@ -85,13 +85,13 @@ judgement_within room rs (judged.New r) = where_it_fits room rs r (judged.New r)
 judgement_within room rs (judged.Clock r) = where_it_fits room rs r (judged.Clock r)
 judgement_within room rs (judged.Told a) = judged.Told a
 
--- the record that is made, where one is
+-- the record that is made, if one is
 abbrev pub record_made : Judged → Option Record
 record_made (judged.New r) = Some r
 record_made (judged.Clock r) = Some r
 record_made (judged.Told a) = None
 
--- the room after the record that was made, where one was
+-- the room after the record that was made, if one was
 abbrev pub room_left : Option Room → List Record → Option Record → Option Room
 room_left room rs None = room
 room_left room rs (Some r) = option_map (λ room. room_after room rs r) room

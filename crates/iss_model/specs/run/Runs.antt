@@ -1,4 +1,4 @@
--- A run on a device: what it is told to write, line by line, while history and room move on. Without a device it is a dry run.
+-- A run on a device: the texts that it writes, line by line, while history and room move on. Without a device it is a dry run.
 use Rattle.std.specs.Prelude.{ℕ, ◌≤◌, List, [], ◌∷◌, ◌++◌, length, map, filter, Option, None, unwrap_or, option_to_list}
 use Rattle.iss_model.specs.declared.input.Input.{Input}
 use Rattle.iss_model.specs.declared.input.Record.{Record}
@@ -21,16 +21,16 @@ pub record Run : Type 0 where
 abbrev pub dry_run : Run
 dry_run = record { instance = 0; room = None; history = nothing_yet }
 
--- what stands after a line, and the texts that it is told
+-- what stands after a line, and the texts that are written for it
 pub record Response : Type 0 where
   pub run : Run
   pub texts : List Text
 
--- an input is judged at its stamp, and makes its record only where that fits
+-- an input is judged at its stamp, and makes its record only if that fits
 abbrev pub judgement_in : Run → Input → ℕ → Judged
 judgement_in s i stamp = judgement_within s.room s.history.records (judge history_keeper s.history i stamp)
 
--- what an input is told that was judged so
+-- what stands after an input with this judgement, and what is said of it
 abbrev pub response_as : Run → Input → ℕ → Judged → Response
 response_as s i stamp j =
     let r = reaction_as history_keeper s.history i stamp j in
@@ -39,12 +39,12 @@ response_as s i stamp j =
       texts = at_level (length r.world.records) (map (said_text_at s.instance) r.said);
     }
 
--- a line: its fault alone, or what its input is told
+-- a line: its fault alone, or what is said of its input
 abbrev pub response : Run → Reading → Response
 response s (sound i at) = let stamp = unwrap_or at 0 in response_as s i stamp (judgement_in s i stamp)
 response s (faulty text) = record { run = s; texts = at_level (length s.history.records) (text ∷ []) }
 
--- the record that a line makes, where it makes one
+-- the record that a line makes, if it makes one
 abbrev pub record_of_line : Run → Reading → Option Record
 record_of_line s (sound i at) = record_made (judgement_in s i (unwrap_or at 0))
 record_of_line s (faulty text) = None
@@ -64,7 +64,7 @@ abbrev pub accepted_records : Run → List Reading → List Record
 accepted_records s [] = []
 accepted_records s (line ∷ lines) = option_to_list (record_of_line s line) ++ accepted_records (response s line).run lines
 
--- what a run says before its first line: the requests of the calls that are asked, and then the notices that aren't acknowledged, each by number
+-- what a run sends before its first line, each by number: the requests of the calls that are asked, then the pending notices
 abbrev pub said_first : Facts → List Said
 said_first f = map (λ call. asked call.opened) (filter is_asked f.calls) ++ map noticed f.pending
 
@@ -72,7 +72,7 @@ said_first f = map (λ call. asked call.opened) (filter is_asked f.calls) ++ map
 abbrev pub first_texts : Run → List Text
 first_texts s = at_level (length s.history.records) (map (said_text_at s.instance) (said_first (history_facts s.history)))
 
--- all that a run is told to write
+-- all that a run writes
 unfoldable pub transcript_of : Run → List Reading → List Text
 transcript_of s lines = first_texts s ++ line_texts s lines
 

@@ -1,4 +1,4 @@
--- What is said of an input: each thing that an entry of its record sends out, and its answer where it isn't new.
+-- What is said of an input: each thing that an entry of its record sends out, and its answer if it isn't new.
 use Rattle.std.specs.Prelude.{ℕ, List, [], ◌∷◌, ◌++◌}
 use Rattle.std.specs.List.{flat_map}
 use Rattle.iss_model.specs.declared.call.Opened.{Opened}
@@ -34,7 +34,7 @@ said_by (entry.Notice notice) = noticed notice ∷ []
 said_by (entry.Acked notice) = acked notice ∷ []
 said_by _ = []
 
--- a time that was taken is told so after what it made
+-- a time that was taken is answered after what it made
 abbrev pub said_of_time : Input → List Said
 said_of_time input.Time = timed ∷ []
 said_of_time _ = []

@@ -1,4 +1,4 @@
--- What a run is told to write: for each line its texts, on what stood before it.
+-- What a run writes: for each line its texts, on what stood before it.
 use Rattle.std.specs.Prelude.{ℕ, List, [], ◌∷◌, ◌++◌, map, Option, unwrap_or}
 use Rattle.std.specs.List.{flat_map}
 use Rattle.iss_model.specs.declared.input.Input.{Input}
@@ -10,7 +10,7 @@ use Rattle.iss_model.specs.texts.AnswerLines.{answer_text, acked_line, time_line
 use Rattle.iss_model.specs.rules.Keeper.{Keeper}
 use Rattle.iss_model.specs.run.Sayings.{Said, decided, asked, noticed, acked, timed, answered, said_by, Reaction, reaction}
 
--- a line as it was read: an input with the stamp that it gives, or the text of its fault
+-- a line as it was read: an input with its stamp, or the text of its fault
 pub data Reading : Type 0 where
   sound : Input → Option ℕ → Reading
   faulty : List ℕ → Reading
@@ -20,7 +20,7 @@ pub record Text : Type 0 where
   pub level : ℕ
   pub bytes : List ℕ
 
--- what stands after a line, and the texts that it is told
+-- what stands after a line, and the texts that are written for it
 pub record LineReply (W : Type 0) : Type 0 where
   pub world : W
   pub texts : List Text
@@ -50,7 +50,7 @@ entry_texts e = map said_text (said_by e)
 abbrev pub reply_by_reaction : {W : Type 0} → Keeper W → Reaction W → LineReply W
 reply_by_reaction k r = record { world = r.world; texts = at_level (k.facts r.world).count (map said_text r.said) }
 
--- a line told on what stands: its fault, or what is said of its input
+-- the texts of a line on what stands: its fault, or what is said of its input
 abbrev pub after_line : {W : Type 0} → Keeper W → W → Reading → LineReply W
 after_line k w (sound i at) = reply_by_reaction k (reaction k w i (unwrap_or at 0))
 after_line k w (faulty text) = record { world = w; texts = at_level (k.facts w).count (text ∷ []) }

@@ -144,7 +144,7 @@ product_after_switch name on p = if bytes_eq name p.product.name then record p {
 abbrev pub with_switch : List ProductNow → List ℕ → Bool → List ProductNow
 with_switch products name on = map (product_after_switch name on) products
 
--- the control of this name gets what may be replaced, another one stays as it is
+-- the control of this name takes over what may be replaced, another one stays as it is
 abbrev pub control_after_put : ControlPut → ControlKept → ControlKept
 control_after_put put c =
     if bytes_eq put.control.name c.control.name then record c { control = control_replaced c.control put.control } else c
@@ -155,7 +155,7 @@ with_control controls put =
     if list_any (λ c. bytes_eq c.control.name put.control.name) controls then map (control_after_put put) controls
     else controls ++ record { first = put.number; control = put.control; amounts = nothing_kept; times = nothing_kept } ∷ []
 
--- a control counts use where it counts it at all
+-- a control counts use if it counts it at all
 abbrev pub control_after_use : List Group → Entry → ControlKept → ControlKept
 control_after_use groups e c =
     let put : ControlPut = record { number = c.first; control = c.control } in
@@ -164,7 +164,7 @@ control_after_use groups e c =
       times = after_changes c.times (counted_changes (λ row. row.count) groups put e);
     }
 
--- the set of this name gets what may be replaced, another one stays as it is
+-- the set of this name takes over what may be replaced, another one stays as it is
 abbrev pub set_after_put : Set → Set → Set
 set_after_put put s = if bytes_eq put.name s.name then set_replaced s put else s
 
@@ -202,7 +202,7 @@ after_setting s (input.Set token set product currency connection timeout applica
 after_setting s (input.Switch token product on) = record s { products = with_switch s.products product on }
 after_setting s _ = s
 
--- a transaction begins live, save where one of its token has ended: a token names one transaction for good
+-- a transaction begins live, save if one of its token has ended: a token names one transaction for good
 abbrev pub is_live : List TxnNow → List ℕ → Bool
 is_live txns token = not (list_any (λ t. bytes_eq t.txn.token token && not t.live) txns)
 
@@ -245,7 +245,7 @@ with_post sums e =
       paid = after_changes sums.paid (txn_changes paid_by e);
     }
 
--- the call of this number is closed where it is asked, another one stays as it is
+-- the call of this number is closed if it is asked, another one stays as it is
 abbrev pub call_after_close : ℕ → How → CallNow → CallNow
 call_after_close number how c = if number == c.opened.call.0 && is_asked c then record c { how = Some how } else c
 
@@ -286,7 +286,7 @@ after_entry s (entry.Notice notice) = record s { outbox = with_notice s.outbox n
 after_entry s (entry.Acked notice) = record s { outbox = with_acked s.outbox notice }
 after_entry s (entry.Ended txn) = record s { holdings = with_end s.holdings txn }
 
--- a record is counted, and stands among the events where it is one
+-- a record is counted, and stands among the events if it is one
 abbrev pub with_record : CoreState → Record → CoreState
 with_record s r =
     let number = s.count + 1 in

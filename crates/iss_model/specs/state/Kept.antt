@@ -20,7 +20,7 @@ kept_code = map.code (coded_list coded_ℕ) coded_ℤ
 abbrev pub nothing_kept : Kept
 nothing_kept = map.empty
 
--- the sum at a key: 0 where it was never changed
+-- the sum at a key: 0 if it was never changed
 abbrev pub kept_at : Kept → List ℕ → ℤ
 kept_at sums key = unwrap_or (map.get sums key) (pos 0)
 

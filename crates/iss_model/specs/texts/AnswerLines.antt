@@ -1,4 +1,4 @@
--- What an input is told that makes no record, as a line.
+-- The answer to an input that makes no record, as a line.
 use Rattle.std.specs.Prelude.{ℕ, List, [], ◌∷◌, codes}
 use Rattle.iss_model.specs.declared.call.Failure.TheVariants as failure
 use Rattle.iss_model.specs.declared.call.How.{How}
@@ -17,11 +17,11 @@ how_text (how.Failed failure.Application) = codes "APPLICATION"
 how_text (how.Failed failure.Switch) = codes "SWITCH"
 how_text how.Abandoned = codes "ABANDONED"
 
--- the member that says what kind of answer it is
+-- the member that names the kind of answer
 abbrev pub reply_member : List ℕ → Member
 reply_member kind = with_text (codes "reply") kind
 
--- What an answer says. A repeat says the reply of its event, and a conflict the number of the record that stands.
+-- The members of an answer. A repeat has the reply of its event, and a conflict the number of the record that stands.
 abbrev pub answer_members : Answer → List Member
 answer_members (answer.Repeat token reply) = reply_members token reply
 answer_members (answer.Conflict token number) =

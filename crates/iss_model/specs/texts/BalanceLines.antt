@@ -41,7 +41,7 @@ accounts_with_once accounts a =
 abbrev pub accounts_of : List Row → List Account
 accounts_of rows = fold accounts_with_once [] (flat_map (λ row. posted_accounts row.entry) rows)
 
--- the members that say what an account is, its balance and its currency
+-- the members that tell what an account is, its balance and its currency
 abbrev pub sheet_members : List ℕ → ℤ → Currency → List Member
 sheet_members name balance currency =
     with_text (codes "account") name

@@ -41,7 +41,7 @@ request_members instance o =
     ∷ with_text (codes "user") o.user
     ∷ []
 
--- the token of the call that a notice ends, where it ends one
+-- the token of the call that a notice ends, if it ends one
 abbrev pub token_members : ℕ → Option CallId → List Member
 token_members instance None = []
 token_members instance (Some call) = with_text (codes "token") (token_text instance call.0) ∷ []

@@ -1,4 +1,4 @@
--- What is told, as lines: one JSON object of RFC 8259 a line, its members in rising order of their names, with no blank and no escape.
+-- Texts that are sent, as lines: one JSON object of RFC 8259 a line, its members in rising order of their names, with no blank and no escape.
 use Rattle.std.specs.Prelude.{ℕ, List, [], ◌∷◌, ◌++◌, map, codes, decimal}
 use Rattle.std.specs.List.{join_with_byte}
 use Rattle.iss_model.specs.declared.setting.CardState.{CardState}
@@ -94,7 +94,7 @@ reason_text reason.Cleared = codes "CLEARED"
 reason_text reason.Expired = codes "EXPIRED"
 reason_text reason.RefundOver = codes "REFUND_OVER"
 
--- what is told of an event
+-- the reply to an event
 abbrev pub reply_members : List ℕ → Reply → List Member
 reply_members event (Decided Done) = with_text (codes "event") event ∷ with_text (codes "reply") (codes "done") ∷ []
 reply_members event (Decided Approved) = with_text (codes "event") event ∷ with_text (codes "reply") (codes "approved") ∷ []

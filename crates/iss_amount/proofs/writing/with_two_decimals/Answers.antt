@@ -1,5 +1,5 @@
 use Rattle.std.proofs.Common.{append_assoc, rules}
-use Rattle.iss_amount.proofs.Digits.{two_digits}
+use Rattle.iss_amount.proofs.PaddedDigits.{two_digits}
 use Rattle.iss_amount.proofs.writing.with_two_decimals.Goals as goal
 
 pub returns : goal.returns

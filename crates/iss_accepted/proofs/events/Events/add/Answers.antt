@@ -6,7 +6,7 @@ use Rattle.iss_accepted.proofs.Steps.{in_form, new_unplaced}
 use Rattle.iss_accepted.proofs.Added.{Shows, with_input, grown_shows, added_shows}
 use Rattle.iss_accepted.proofs.events.Events.add.Goals as goal
 
--- what holds anyway holds where a call fails
+-- what holds anyway holds if a call fails
 stays : {T E P : Type 0} (r : Result T E) → P → OnErr r P
 stays (Ok x) p = tt
 stays (Err e) p = p
@@ -16,7 +16,7 @@ add-requires c =
     new_unplaced c.self.inside.bytes.items c.self.inside.rows.items c.self.inside.names c.self.inside.decided.items c.args.self.now c.in-Some.token
     c.self.invariant c.self.view_is (c.requires.new c.in-Some.token (sym c.in-Some.ensures))
 
--- where the name isn't taken up, only bytes were added
+-- if the name isn't taken up, only bytes were added
 only_bytes : (c : goal.After-from_residual-in_err-add) → Shows c.extend_from_slice.new.self.items c.reserve.new.self.items c.add.new.self c.self.inside.decided.items c.args.self.now
 only_bytes c =
     grown_shows c.self.inside.bytes.items c.self.inside.rows.items c.self.inside.names c.self.inside.decided.items c.args.self.now c.self.invariant c.self.view_is

@@ -5,8 +5,8 @@ use Rattle.iss_velocity.specs.Puts.{reason_of_result}
 use Rattle.iss_velocity.proofs.Putting.{full_so, not_full_so, put_last, table_more}
 use Rattle.iss_velocity.proofs.table.Table.add.Goals as goal
 
-pub returns-then-len-ge-MOST-clause-reason : goal.returns-then-len-ge-MOST-clause-reason
-returns-then-len-ge-MOST-clause-reason c =
+pub returns-then-len-ge-MOST_OF_A_KIND-clause-reason : goal.returns-then-len-ge-MOST_OF_A_KIND-clause-reason
+returns-then-len-ge-MOST_OF_A_KIND-clause-reason c =
     let len = c.args.self.now.controls.ok.0 in
     let many : 256 ≤ length c.args.self.now.controls.items = omega (arith, len) in
     ap (λ (b : Bool). cond b (Some reason.Limit) None) (sym (full_so c.args.self.now.users c.args.self.now.past c.args.self.now.controls.items many))

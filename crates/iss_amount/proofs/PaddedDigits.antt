@@ -5,7 +5,7 @@ use Rattle.std.proofs.lemmas.Bool.{cases_lt}
 use Rattle.std.proofs.lemmas.Fmt.{decimal_digit, decimal_step}
 use Rattle.iss_model.specs.Amounts.{last_digits}
 
--- a number's text after zeros, up to so many places
+-- a number's text after zeros, up to this number of places
 abbrev padded_to : ℕ → List ℕ → List ℕ
 padded_to width text = padded_integral (format_spec 32 0 4 width 18446744073709551615) false [] text
 

@@ -1,6 +1,6 @@
 use Rattle.std.proofs.Common.{◌≡◌, drop}
-use Rattle.iss_top.specs.Words.{number_after}
-use Rattle.iss_top.proofs.words.number_after.Given as goal
+use Rattle.iss_amount.specs.Digits.{number_after}
+use Rattle.iss_amount.proofs.digits.number_after.Given as goal
 
 -- what all digits come to is what the rest comes to after the number so far
 abbrev pub invariant-loop-byte : goal.invariant-loop-byte

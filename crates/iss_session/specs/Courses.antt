@@ -1,0 +1,110 @@
+-- What holds of a session's course: of what it goes through, what it does and what stands after it.
+use Rattle.std.specs.Prelude.{◌≡◌, ℕ, ◌+◌, ◌≤◌, true, false, List, [], ◌∷◌, ◌++◌, Some}
+use Rattle.iss_edge.specs.declared.outside.Channel.{Channel}
+use Rattle.iss_edge.specs.declared.outside.Arrival.TheVariants.{Client}
+use Rattle.iss_edge.specs.declared.outside.Answered.TheVariants.{Waited}
+use Rattle.iss_edge.specs.Outer.{Outer}
+use Rattle.iss_edge.specs.Stretches.{Step, actions_of, GoesOn}
+use Rattle.iss_edge.specs.World.{sent_on}
+use Rattle.iss_model.specs.declared.input.Record.{Record}
+use Rattle.iss_model.specs.rules.Histories.{IsLegalAfter, history_of}
+use Rattle.iss_model.specs.run.Runs.{Run, run_after}
+use Rattle.iss_session.specs.Items.{Item, Happening, hears, items_of}
+use Rattle.iss_session.specs.Sessions.{Readers, Session, count, session_of}
+use Rattle.iss_session.specs.Happenings.{session_after, session_steps, last_steps, Fits, IsComplete}
+use Rattle.iss_session.specs.Accepted.{lines_judged, session_records}
+use Rattle.iss_session.specs.Accounts.{has_no_gateway, IsLocal}
+use Rattle.iss_session.specs.Levels.{LevelsRise}
+use Rattle.iss_session.specs.Openings.{left_open}
+use Rattle.iss_session.specs.Turns.{waits_in}
+
+-- the session after these happenings, and then those
+abbrev pub session_then : Readers → Session → List Happening → List Happening → Session
+session_then read s a b = session_after read (session_after read s a) b
+
+-- what is done in these happenings, and then in those
+abbrev pub steps_then : Readers → Session → List Happening → List Happening → List Step
+steps_then read s a b = session_steps read s a ++ session_steps read (session_after read s a) b
+
+-- what is done in these happenings, and the closes at the end
+abbrev pub steps_to_end : Readers → Session → List Happening → List Step
+steps_to_end read s happenings = session_steps read s happenings ++ last_steps (session_after read s happenings)
+
+-- the session of a run after these happenings
+abbrev pub run_session : Readers → Run → ℕ → List Happening → Session
+run_session read run turns happenings = session_after read (session_of run turns) happenings
+
+-- what a run does in these happenings, and the closes of the session that it ends with
+abbrev pub whole_steps : Readers → Run → ℕ → List Happening → Session → List Step
+whole_steps read run turns happenings t = session_steps read (session_of run turns) happenings ++ last_steps t
+
+-- Two lists of happenings that are complete, and in which the same is heard, are the same.
+abbrev pub HeardIsAll : Readers → Session → List Happening → List Happening → Type 0
+HeardIsAll read s a b = IsComplete (session_after read s a) → IsComplete (session_after read s b) → items_of a ≡ items_of b → a ≡ b
+
+-- the run after these happenings is the one after the lines that they judge
+abbrev pub RunsAsLines : Readers → Session → List Happening → Type 0
+RunsAsLines read s happenings = (session_after read s happenings).run ≡ run_after s.run (lines_judged read s happenings)
+
+-- the records that stand after these happenings are those before them, and then those that they make
+abbrev pub AddsRecords : Readers → Session → List Happening → Type 0
+AddsRecords read s happenings =
+    (session_after read s happenings).run.history.records ≡ s.run.history.records ++ session_records read s happenings
+
+-- what stands in a session is the book of these records
+abbrev pub IsBookOf : List Record → Session → Type 0
+IsBookOf rs s = s.run.history ≡ history_of rs
+
+-- and still is, with the records that these happenings make
+abbrev pub AddsToBook : Readers → Session → List Happening → List Record → Type 0
+AddsToBook read s happenings rs = IsBookOf rs s → IsBookOf (rs ++ session_records read s happenings) (session_after read s happenings)
+
+-- each record that these happenings make follows on those before it
+abbrev pub AddsLegalRecords : Readers → Session → List Happening → Type 0
+AddsLegalRecords read s happenings = IsLegalAfter s.run.history (session_records read s happenings)
+
+-- the levels of what is done in these happenings rise from the number of records before them to that after them
+abbrev pub RisesThrough : Readers → Session → List Happening → Type 0
+RisesThrough read s happenings = LevelsRise (count s) (count (session_after read s happenings)) (session_steps read s happenings)
+
+-- if these happenings fit, each wait of them takes a turn
+abbrev pub WaitsTakeTurns : Readers → Session → List Happening → Type 0
+WaitsTakeTurns read s happenings = Fits read s happenings → waits_in happenings + (session_after read s happenings).turns ≤ s.turns
+
+-- an image that begins at a number of records stands for them
+abbrev pub StartsStand : (starts stands : List ℕ → ℕ → Type 0) → ℕ → Type 0
+StartsStand starts stands j = (bytes : List ℕ) → starts bytes j → stands bytes j
+
+-- steps are a stretch that is good from a number of records to the same, and the run goes on after it
+abbrev pub StaysGood : (starts stands : List ℕ → ℕ → Type 0) → ℕ → List Step → Type 0
+StaysGood starts stands j steps = GoesOn starts stands starts j j steps
+
+-- what is done in happenings up to this number of records is such a stretch
+abbrev pub StaysGoodUpTo : (starts stands : List ℕ → ℕ → Type 0) → ℕ → Readers → Session → List Happening → Type 0
+StaysGoodUpTo starts stands j read s happenings =
+    count (session_after read s happenings) ≤ j → StaysGood starts stands j (session_steps read s happenings)
+
+-- what went out on a channel, from one outside to another, is what these steps say
+abbrev pub WentOut : ℕ → List Step → Outer → Outer → Type 0
+WentOut ch steps a b = sent_on ch b.world.trace ≡ sent_on ch a.world.trace ++ sent_on ch (actions_of steps)
+
+-- if these happenings are all of a run, a channel that wasn't open before them is closed in the end
+abbrev pub DialledIsClosed : Readers → Run → ℕ → List Happening → ℕ → Type 0
+DialledIsClosed read run turns happenings n =
+    Fits read (session_of run turns) happenings → IsComplete (run_session read run turns happenings)
+    → left_open n false (actions_of (steps_to_end read (session_of run turns) happenings)) ≡ false
+
+-- on this channel a client comes
+abbrev pub ComesOn : Item → Channel → Type 0
+ComesOn item ch = item.answer ≡ Waited (Some (Client ch))
+
+-- If a client comes on a channel with an item, and happenings, that item and further ones are all of a run, the channel is closed in the end.
+abbrev pub ClientIsClosed : Readers → Run → ℕ → List Happening → List Happening → Item → Channel → Type 0
+ClientIsClosed read run turns before after item ch =
+    ComesOn item ch → Fits read (session_of run turns) (before ++ hears item ∷ after)
+    → IsComplete (run_session read run turns (before ++ hears item ∷ after))
+    → left_open ch.0 true (actions_of (steps_to_end read (run_session read run turns (before ++ hears item ∷ [])) after)) ≡ false
+
+-- a session whose book has no product of the gateway sends it nothing, and awaits nothing of it
+abbrev pub IsLocalWithNoGateway : Session → Type 0
+IsLocalWithNoGateway s = has_no_gateway s.run.history.rows ≡ true → IsLocal s
