@@ -15,7 +15,7 @@ days_grow (pos a) (negsuc b) h = absurd (omega (arith, ints, h))
 days_grow (negsuc a) (pos b) h = omega (arith, ints, h)
 days_grow (negsuc a) (negsuc b) h = omega (arith, ints, h)
 
-plus_grows : (x y : ℤ) (a b : ℤ) → a ≤ℤ b → x ≡ y → a +ℤ x ≤ℤ b +ℤ y
+plus_grows : (x y : ℤ) (a b : ℤ) → a ≤ℤ b → x ≡ y → (a +ℤ x) ≤ℤ (b +ℤ y)
 plus_grows x y a b h e = omega (arith, ints, h, e)
 
 pos_grows : (a b : ℕ) → a ≤ b → pos a ≤ℤ pos b

@@ -14,12 +14,13 @@ use Rattle.iss_model.specs.declared.txn.Used.{Used}
 use Rattle.iss_model.specs.declared.entry.Entry.TheVariants as entry
 use Rattle.iss_model.specs.rules.Controls.{Group, counts, counter_key, span_key, counted_changes}
 use Rattle.iss_model.specs.rules.Asks.{passes, used_by}
+use Rattle.iss_model.specs.texts.Spelling.{is_utc}
 use Rattle.iss_model.specs.state.Kept.{kept_at, after_changes, AreSmall, IsSmall}
 use Rattle.iss_model.specs.state.Cores.{ControlKept, control_after_use, control_facts}
 use Rattle.iss_model.proofs.KeptSums.{kept_at-after_change}
 use Rattle.iss_model.proofs.Names.{one_name, its_name}
 use Rattle.iss_velocity.specs.declared.standing.Standing.{Standing}
-use Rattle.iss_velocity.specs.Spanning.{number_in, is_single, span_number}
+use Rattle.iss_velocity.specs.Spanning.{spans_at, utc_number, number_by, number_in, is_single, span_number}
 use Rattle.iss_velocity.specs.Words.{declines_use}
 use Rattle.iss_velocity.specs.Counting.{Users, Past, put_of, counters_at, used_in, used_at, unused, used_more, used_then, counts_in, passes_with}
 use Rattle.iss_velocity.specs.Keeping.{has_no_zero, sums_in, control_at, controls_from, AreKeyed, HaveSmallSums, StaySmall}
@@ -34,6 +35,22 @@ span_is control window.Day row = refl
 span_is control window.Week row = refl
 span_is control window.Month row = refl
 span_is control window.Lifetime row = refl
+
+-- the spans that are made once give each control its own
+pub number_so : (at origin : ℕ) (w : Window) (offset : ℤ) → number_by (spans_at at origin) w offset ≡ number_in w offset at origin
+unfolding spans_at number_in
+number_so at origin w offset = by (is_utc offset) refl
+  where
+    same : (w : Window) → utc_number (spans_at at origin) w ≡ number_in w (pos 0) at origin
+    same window.Transaction = refl
+    same window.Day = refl
+    same window.Week = refl
+    same window.Month = refl
+    same window.Lifetime = refl
+
+    by : (b : Bool) → is_utc offset ≡ b → cond b (utc_number (spans_at at origin) w) (number_in w offset at origin) ≡ number_in w offset at origin
+    by true e = same w ∙ ap (λ (z : ℤ). number_in w z at origin) (sym ((signed_Decides offset (pos 0)).0 e))
+    by false e = refl
 
 -- what a sum is at a user's span
 pub sum_is : (worth : Used → ℤ) → worth unused ≡ pos 0 → (users : Users) (past : Past) → AreKeyed users past → (place : ℕ) (user : List ℕ) (number : ℤ) → has_no_zero user ≡ true

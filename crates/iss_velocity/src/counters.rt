@@ -8,7 +8,7 @@ ghost use Rattle.iss_velocity.specs.Lists.{rising_from, IsSplit, AreReady};
 ghost use Rattle.iss_velocity.specs.Keeping.{has_no_zero, IsSmallUse, StaySmall, FitsMore, FitMore, StaysSame, IsKeptPast, IsTurned, IsReady, IsCounted};
 
 use crate::past::{Past, past_used};
-use crate::spans::span_number;
+use crate::spans::Spans;
 use crate::standing::Standing;
 use iss_model::{Token, UsageRow, Used};
 use iss_scope::Groups;
@@ -211,13 +211,14 @@ fn prepare(
     ensures ready { OnOk result (AreReady controls.now groups.now row.now list.old.items past.old list.new.items (length controls.now)) }
     ensures same { StaysSame row.now.user list.old.items past.old list.new.items past.new }
 {
+    let spans = Spans::new(row.at, row.origin);
     let mut next = 0;
     for (place, standing) in controls.iter().enumerate() {
         if !standing.counts(groups, row) {
             next = next_after(list, next, place);
             continue;
         }
-        let number = span_number(&standing.control, row.at, row.origin);
+        let number = spans.number(standing.control.window, standing.control.offset);
         ready(list, past, next, &row.user, place, number)?;
         next = next_after(list, next, place);
     }

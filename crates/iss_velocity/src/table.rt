@@ -16,7 +16,7 @@ ghost use Rattle.iss_velocity.specs.Keeping.{has_no_zero, used_on, controls_in, 
 use crate::controls::ControlFault;
 use crate::counters::{Counter, Counters, counter_at, find_at, next_after, used_by};
 use crate::past::Past;
-use crate::spans::{is_single, span_number};
+use crate::spans::{Spans, is_single};
 use crate::standing::{Change, Limits, Standing};
 use iss_model::limits::MOST_OF_A_KIND;
 use iss_model::{Control, Token, UsageRow, Used};
@@ -61,6 +61,7 @@ impl Table {
         requires keyed { IsTable self.now }
         ensures { result ≡ breach_of groups.now (map control_facts (controls_in self.now)) row.now first }
     {
+        let spans = Spans::new(row.at, row.origin);
         let counters = self.counters_of(&row.user);
         let mut next = 0;
         for (place, standing) in self.controls.iter().enumerate() {
@@ -69,7 +70,7 @@ impl Table {
             if !standing.may_decline(groups, row) {
                 continue;
             }
-            let number = span_number(&standing.control, row.at, row.origin);
+            let number = spans.number(standing.control.window, standing.control.offset);
             let used = used_by(counter, &self.past, &row.user, place, number);
             if standing.is_over(used, row, first) {
                 return Some(standing.control.name);
@@ -105,7 +106,7 @@ impl Table {
         if is_single(standing.control.window) {
             return unused;
         }
-        let number = span_number(&standing.control, at, 0);
+        let number = Spans::new(at, 0).number(standing.control.window, standing.control.offset);
         let counter = find_at(self.counters_of(user), place);
         used_by(counter, &self.past, user, place, number).unwrap_or(unused)
     }

@@ -1,10 +1,12 @@
-use Rattle.std.proofs.Common.{◌≡◌, ◌+◌, ◌<◌, ℤ, List, length, sym, ap, ◌∙◌, subst, arith, rules, FitsSigned, w64, to_z, of_z}
+use Rattle.std.proofs.Common.{◌≡◌, ◌+◌, ◌<◌, ℤ, List, length, sym, ap, ◌∙◌, subst, arith, rules, FitsSigned, w16, w64, to_z, of_z}
 use Rattle.std.proofs.lemmas.Int.{to_z-of_z}
 use Rattle.iss_velocity.specs.declared.counters.Counter.{Counter}
-use Rattle.iss_velocity.specs.Spanning.{span_number}
+use Rattle.iss_velocity.specs.declared.spans.Spans.{Spans}
+use Rattle.iss_velocity.specs.Spanning.{number_by, number_in, span_number}
 use Rattle.iss_velocity.specs.Lists.{IsSplit}
 use Rattle.iss_velocity.specs.Keeping.{IsReady}
 use Rattle.iss_velocity.proofs.Walks.{there_is, still_rising}
+use Rattle.iss_velocity.proofs.Controlling.{number_so}
 use Rattle.iss_velocity.proofs.Turning.{stays_then, same_ready, one_more_ready}
 use Rattle.iss_velocity.proofs.counters.prepare.Goals as goal
 
@@ -31,9 +33,13 @@ returns-in_err-ready-clause-same c =
 pub loop-place-preserved : goal.loop-place-preserved
 loop-place-preserved c =
     let below : c.loop-place.place < length c.args.controls.now = omega arith in
-    let fits : FitsSigned w64 c.span_number-number.result = search rules in
-    let number : to_z w64 (of_z w64 c.span_number-number.result) ≡ span_number c.index-controls-place.result c.args.row.now =
-    to_z-of_z w64 c.span_number-number.result fits ∙ c.span_number-number.ensures in (
+    let fits : FitsSigned w64 c.number-number.result = search rules in
+    let offset_fits : FitsSigned w16 c.index-controls-place.result.control.offset = search rules in
+    let number : to_z w64 (of_z w64 c.number-number.result) ≡ span_number c.index-controls-place.result c.args.row.now =
+    to_z-of_z w64 c.number-number.result fits ∙ c.number-number.ensures
+    ∙ ap (λ (x : Spans). number_by x c.index-controls-place.result.control.window (to_z w16 (of_z w16 c.index-controls-place.result.control.offset))) c.new-spans.ensures.value
+    ∙ number_so c.args.row.now.at c.args.row.now.origin c.index-controls-place.result.control.window (to_z w16 (of_z w16 c.index-controls-place.result.control.offset))
+    ∙ ap (λ (z : ℤ). number_in c.index-controls-place.result.control.window z c.args.row.now.at c.args.row.now.origin) (to_z-of_z w16 c.index-controls-place.result.control.offset offset_fits) in (
       subst (λ (xs : List Counter). IsSplit xs c.next_after-next-in-loop-place.result (c.loop-place.place + 1)) c.deref-in-loop-place.ensures.value c.next_after-next-in-loop-place.ensures,
       (
         stays_then c.args.row.now.user c.args.list.now.items c.loop-place.list.items c.ready.new.list.items c.args.past.now c.loop-place.past c.ready.new.past
