@@ -5,7 +5,7 @@
 //! A record's entries are made once, as one list, by what mirrors the rules, and each entry is entered once (`entering`):
 //! first those of each due thing (`due`), and then the record's own (`entries`).
 //!
-//! It may cite `iss_model`, the laws of `iss_agreement`, `iss_effects`, `iss_invariants`, `iss_docket` and `iss_pending`, and its parts.
+//! It may cite `iss_model`, the laws of `iss_agreement` and `iss_state`, and its parts.
 //! It must not cite bytes: lines, texts, the outside.
 #![tactic(auto)]
 
