@@ -26,3 +26,4 @@ pub mod OpenInputs
 pub mod UsesWell
 pub mod RuledRecords
 pub mod ApprovedRecords
+pub mod PricesOfActs

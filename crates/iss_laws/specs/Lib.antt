@@ -13,3 +13,4 @@ pub mod Pairs
 pub mod Payable
 pub mod Rulings
 pub mod StepCalls
+pub mod Prices

@@ -12,6 +12,7 @@ mod decisions;
 mod events;
 mod holds;
 mod payments;
+mod prices;
 mod rulings;
 mod uses;
 
@@ -24,5 +25,6 @@ pub use holds::holds_are_well;
 pub use payments::{
     calls_are_closed_once, calls_stay_payable, funded_calls_are_paid, only_purchases_open_calls,
 };
+pub use prices::{asks_are_paid, operations_are_paid};
 pub use rulings::records_rule_as_due;
 pub use uses::uses_are_well;
