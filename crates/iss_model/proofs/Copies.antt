@@ -29,8 +29,8 @@ copy_is (input.Set t v p c x y z m d a) (input.Set t' v' p' c' x' y' z' m' d' a'
     λ k. input.Set (h.0 k) (h.1.0 k) (h.1.1.0 k) (h.1.1.1.0 k) (h.1.1.1.1.0 k) (h.1.1.1.1.1.0 k) (h.1.1.1.1.1.1.0 k) (h.1.1.1.1.1.1.1.0 k) (h.1.1.1.1.1.1.1.1.0 k) (h.1.1.1.1.1.1.1.1.1 k)
 copy_is (input.Switch t p a) (input.Switch t' p' a') h = λ k. input.Switch (h.0 k) (h.1.0 k) (h.1.1 k)
 copy_is (input.Load t u c n) (input.Load t' u' c' n') h = λ k. input.Load (h.0 k) (h.1.0 k) (h.1.1.0 k) (h.1.1.1 k)
-copy_is (input.Authorization t c m n d e) (input.Authorization t' c' m' n' d' e') h =
-    λ k. input.Authorization (h.0 k) (h.1.0 k) (h.1.1.0 k) (h.1.1.1.0 k) (h.1.1.1.1.0 k) (h.1.1.1.1.1 k)
+copy_is (input.Authorization t c m n d e p) (input.Authorization t' c' m' n' d' e' p') h =
+    λ k. input.Authorization (h.0 k) (h.1.0 k) (h.1.1.0 k) (h.1.1.1.0 k) (h.1.1.1.1.0 k) (h.1.1.1.1.1.0 k) (h.1.1.1.1.1.1 k)
 copy_is (input.Increment t x c n) (input.Increment t' x' c' n') h = λ k. input.Increment (h.0 k) (h.1.0 k) (h.1.1.0 k) (h.1.1.1 k)
 copy_is (input.Reversal t x c n) (input.Reversal t' x' c' n') h = λ k. input.Reversal (h.0 k) (h.1.0 k) (h.1.1.0 k) (h.1.1.1 k)
 copy_is (input.Clearing t x c n l) (input.Clearing t' x' c' n' l') h = λ k. input.Clearing (h.0 k) (h.1.0 k) (h.1.1.0 k) (h.1.1.1.0 k) (h.1.1.1.1 k)

@@ -5,6 +5,8 @@ use Rattle.iss_model.specs.declared.setting.Window.{Window}
 use Rattle.iss_model.specs.declared.setting.Window.TheVariants as window
 use Rattle.iss_model.specs.declared.setting.Scope.{Scope}
 use Rattle.iss_model.specs.declared.setting.Scope.TheVariants as scope
+use Rattle.iss_model.specs.declared.input.Outcome.{Outcome}
+use Rattle.iss_model.specs.declared.input.Outcome.TheVariants as outcome
 use Rattle.iss_model.specs.declared.input.Input.{Input}
 use Rattle.iss_model.specs.declared.input.Input.TheVariants as input
 
@@ -86,6 +88,14 @@ is_scope (scope.Mid mid) = true
 abbrev pub is_offset : ℤ → Bool
 is_offset offset = int_le LEAST_OFFSET offset && int_le offset GREATEST_OFFSET
 
+-- what a part of a call's amount comes to is an amount
+abbrev pub is_outcome : Outcome → Bool
+is_outcome outcome.Funded = true
+is_outcome outcome.Refused = true
+is_outcome outcome.Connection = true
+is_outcome outcome.Application = true
+is_outcome (outcome.Partial currency amount) = is_amount amount
+
 -- each field of an input is of its form; a name is a token by its type
 abbrev pub is_in_form : Input → Bool
 is_in_form (input.User token user) = true
@@ -99,11 +109,11 @@ is_in_form (input.Set token set product currency connection timeout application 
     is_limit max && is_limit day_limit
 is_in_form (input.Switch token product on) = true
 is_in_form (input.Load token user currency amount) = is_amount amount
-is_in_form (input.Authorization token card currency amount mcc mid) = is_amount amount && is_mcc mcc
+is_in_form (input.Authorization token card currency amount mcc mid partial) = is_amount amount && is_mcc mcc
 is_in_form (input.Increment token txn currency amount) = is_amount amount
 is_in_form (input.Reversal token txn currency amount) = is_amount amount
 is_in_form (input.Clearing token txn currency amount last) = is_amount amount
 is_in_form (input.Refund token txn currency amount) = is_amount amount
-is_in_form (input.Answer call outcome) = is_number call.0
+is_in_form (input.Answer call outcome) = is_number call.0 && is_outcome outcome
 is_in_form (input.Ack notice) = is_number notice
 is_in_form input.Time = true

@@ -32,7 +32,7 @@ event_token (input.Control token control currency window amount_limit usage_limi
 event_token (input.Set token set product currency connection timeout application max day_limit active) = Some token
 event_token (input.Switch token product on) = Some token
 event_token (input.Load token user currency amount) = Some token
-event_token (input.Authorization token card currency amount mcc mid) = Some token
+event_token (input.Authorization token card currency amount mcc mid partial) = Some token
 event_token (input.Increment token txn currency amount) = Some token
 event_token (input.Reversal token txn currency amount) = Some token
 event_token (input.Clearing token txn currency amount last) = Some token
@@ -91,6 +91,15 @@ outcome_number outcome.Funded = 1
 outcome_number outcome.Refused = 2
 outcome_number outcome.Connection = 3
 outcome_number outcome.Application = 4
+outcome_number (outcome.Partial currency amount) = 5
+
+-- the currency and the amount of an outcome that is a part
+abbrev pub part_contents : Outcome → List ℕ
+part_contents outcome.Funded = []
+part_contents outcome.Refused = []
+part_contents outcome.Connection = []
+part_contents outcome.Application = []
+part_contents (outcome.Partial currency amount) = iso_number currency ∷ amount ∷ []
 
 -- who is moved, and to which state, with the token as `token_bytes` spells it
 abbrev pub spelled_moved : (List ℕ → List ℕ) → Moved → List ℕ
@@ -134,14 +143,14 @@ contents (input.Set token set product currency connection timeout application ma
     ++ max ∷ day_limit ∷ flag_contents active
 contents (input.Switch token product on) = 8 ∷ with_length token ++ with_length product ++ flag_contents on
 contents (input.Load token user currency amount) = 9 ∷ with_length token ++ with_length user ++ iso_number currency ∷ amount ∷ []
-contents (input.Authorization token card currency amount mcc mid) =
-    10 ∷ with_length token ++ with_length card ++ iso_number currency ∷ amount ∷ mcc ∷ [] ++ with_length mid
+contents (input.Authorization token card currency amount mcc mid partial) =
+    10 ∷ with_length token ++ with_length card ++ iso_number currency ∷ amount ∷ mcc ∷ [] ++ with_length mid ++ flag_contents partial
 contents (input.Increment token txn currency amount) = 11 ∷ with_length token ++ with_length txn ++ iso_number currency ∷ amount ∷ []
 contents (input.Reversal token txn currency amount) = 12 ∷ with_length token ++ with_length txn ++ iso_number currency ∷ amount ∷ []
 contents (input.Clearing token txn currency amount last) =
     13 ∷ with_length token ++ with_length txn ++ iso_number currency ∷ amount ∷ flag_contents last
 contents (input.Refund token txn currency amount) = 14 ∷ with_length token ++ with_length txn ++ iso_number currency ∷ amount ∷ []
-contents (input.Answer call outcome) = 15 ∷ call.0 ∷ outcome_number outcome ∷ []
+contents (input.Answer call outcome) = 15 ∷ call.0 ∷ outcome_number outcome ∷ part_contents outcome
 contents (input.Ack notice) = 16 ∷ notice ∷ []
 contents input.Time = 17 ∷ []
 

@@ -41,7 +41,7 @@ card_states = card_state.Unactivated ∷ card_state.Active ∷ card_state.Suspen
 abbrev pub user_states : List UserState
 user_states = user_state.Active ∷ user_state.Suspended ∷ user_state.Closed ∷ []
 
--- all outcomes of a call
+-- the outcomes of a call that a number alone says: all but a part
 abbrev pub outcomes : List Outcome
 outcomes = outcome.Funded ∷ outcome.Refused ∷ outcome.Connection ∷ outcome.Application ∷ []
 
@@ -65,7 +65,7 @@ card_state_numbered n = of_number card_state_number card_states n
 abbrev pub user_state_numbered : ℕ → Option UserState
 user_state_numbered n = of_number user_state_number user_states n
 
--- a gateway's outcome by its number
+-- a gateway's outcome by its number, if that says it whole
 abbrev pub outcome_numbered : ℕ → Option Outcome
 outcome_numbered n = of_number outcome_number outcomes n
 

@@ -50,6 +50,8 @@ pub struct Opened {
     pub mid: Token,
     /// In minor units.
     pub amount: u64,
+    /// Whether the gateway may fund a part of the amount.
+    pub partial: bool,
     /// In milliseconds since 1970, like the deadline.
     pub at: u64,
     /// From then on the call has timed out.
@@ -90,6 +92,8 @@ pub enum Failure {
 #[derive(Clone, Copy, Debug, PartialEq, Eq)]
 pub enum How {
     Funded,
+    /// The gateway funded a part of the amount, in minor units.
+    Partial(u64),
     Refused,
     Failed(Failure),
     Abandoned,

@@ -1,5 +1,5 @@
 //! Decisions on events, and the answers to inputs that make no record.
-use crate::{CallId, CardState, How, Record, Token, UserState};
+use crate::{CallId, CardState, Currency, How, Record, Token, UserState};
 
 /// Why an event was declined.
 #[derive(Clone, Copy)]
@@ -40,6 +40,8 @@ pub enum Reason {
 pub enum Verdict {
     Done,
     Approved,
+    /// Approved for a part of the amount, in minor units.
+    Partial(Currency, u64),
     Declined(Reason),
 }
 

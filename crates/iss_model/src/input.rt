@@ -21,6 +21,8 @@ pub enum Outcome {
     Connection,
     /// It answered something that is no answer.
     Application,
+    /// It funds a part of the amount, in minor units. That counts if the call permits a part.
+    Partial(Currency, u64),
 }
 
 /// A card network event, a setting, a gateway's answer, an acknowledgement or a time.
@@ -98,6 +100,8 @@ pub enum Input {
         amount: u64,
         mcc: u16,
         mid: Token,
+        /// Whether the gateway may fund a part of the amount.
+        partial: bool,
     },
     Increment {
         token: Token,

@@ -16,7 +16,7 @@ pub trait Numbered {
     fn number(self) -> u8
         ensures { result ≡ as_number self };
 
-    /// The thing of this number, or `None` if no thing has it.
+    /// The thing that this number alone says, or `None` if it says none.
     fn from_number(number: u8) -> Option<Self>
         ensures { result ≡ numbered number };
 }
@@ -135,6 +135,7 @@ impl Numbered for UserState {
     }
 }
 
+// A part has a currency and an amount after its number, so no number alone is one.
 impl Numbered for Outcome {
     ghost as_number = { outcome_number };
 
@@ -146,6 +147,7 @@ impl Numbered for Outcome {
             Outcome::Refused => 2,
             Outcome::Connection => 3,
             Outcome::Application => 4,
+            Outcome::Partial(..) => 5,
         }
     }
 

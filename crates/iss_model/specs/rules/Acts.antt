@@ -20,7 +20,7 @@ use Rattle.iss_model.specs.declared.txn.Txn.{Txn}
 use Rattle.iss_model.specs.rules.Activity.{CallNow}
 use Rattle.iss_model.specs.rules.Asks.{Ask, call_ask, ask_usage}
 use Rattle.iss_model.specs.rules.Facts.{Facts}
-use Rattle.iss_model.specs.rules.Pieces.{hold_entries, Parts, taken_to_clear, release_entries, notice_entry, void_entry, declined_ask_entries, funded_ask_entries, call_for, clearing_money_entries, abandoned_calls_entries, set_stand_in_entries, load_entries, setting_entries, give_back_entries}
+use Rattle.iss_model.specs.rules.Pieces.{hold_entries, Parts, taken_to_clear, release_entries, notice_entry, void_entry, declined_ask_entries, funded_ask_entries, part_funded_entries, call_for, clearing_money_entries, abandoned_calls_entries, set_stand_in_entries, load_entries, setting_entries, give_back_entries}
 
 -- what a notice tells of a transaction, other than that a call is void or that a set stood in
 pub data News : Type 0 where
@@ -54,6 +54,8 @@ pub data Act : Type 0 where
   Asks : Facts → Product → Ask → Act
   -- the gateway funds a call
   Funds : Opened → Txn → Act
+  -- the gateway funds this part of a call's amount
+  FundsPart : Opened → Txn → ℕ → Act
   -- the gateway refuses a call
   Refuses : Opened → Txn → Act
   -- a call fails, and is voided by the notice of this number
@@ -89,6 +91,7 @@ act_entries (Uses ask) = entry.Usage (ask_usage ask) ∷ []
 act_entries (HoldsOwn ask) = hold_entries ask.txn part.S ask.amount ++ entry.Decided ask.event verdict.Approved ∷ []
 act_entries (Asks f product ask) = entry.Opened (call_for f product ask) ∷ []
 act_entries (Funds o t) = entry.Closed o.call how.Funded ∷ funded_ask_entries (call_ask o t) (account.Gateway t.currency) part.G
+act_entries (FundsPart o t amount) = entry.Closed o.call (how.Partial amount) ∷ part_funded_entries o t amount
 act_entries (Refuses o t) = entry.Closed o.call how.Refused ∷ declined_ask_entries (call_ask o t) reason.GatewayDeclined
 act_entries (Fails number o t why) = entry.Closed o.call (how.Failed why) ∷ void_entry number t o ∷ []
 act_entries (StandsIn number ask at set) = set_stand_in_entries number ask at set

@@ -1,5 +1,5 @@
 -- An ask: an authorisation or increment as it asks for money, the use that it adds, and the control that it breaches.
-use Rattle.std.specs.Prelude.{ℕ, ◌+◌, ℤ, pos, neg_ℤ, ◌+ℤ◌, Bool, true, false, ◌&&◌, ◌||◌, List, find, Option, Some, None, option_map, int_lt, if◌then◌else◌}
+use Rattle.std.specs.Prelude.{ℕ, ◌+◌, ◌-◌, ℤ, pos, neg_ℤ, ◌+ℤ◌, Bool, true, false, ◌&&◌, ◌||◌, List, find, Option, Some, None, option_map, int_lt, if◌then◌else◌}
 use Rattle.iss_model.specs.declared.call.Method.{Method}
 use Rattle.iss_model.specs.declared.call.Method.TheVariants as method
 use Rattle.iss_model.specs.declared.call.Opened.{Opened}
@@ -14,12 +14,14 @@ use Rattle.iss_model.specs.declared.txn.Used.{Used}
 use Rattle.iss_model.specs.rules.Controls.{ControlNow, counts, window_key, span_key, control_named}
 use Rattle.iss_model.specs.rules.Facts.{Facts}
 
--- an event that asks for an amount for a transaction at a stamp: its first ask is its authorisation, each later one an increment
+-- An event that asks for an amount for a transaction at a stamp. A transaction's first ask is its authorisation, each later one an increment.
+-- Only an authorisation may permit that the gateway funds a part.
 pub record Ask : Type 0 where
   pub event : List ℕ
   pub txn : Txn
   pub amount : ℕ
   pub is_first : Bool
+  pub partial : Bool
   pub at : ℕ
 
 -- the transaction that an authorisation begins: named by the event, and let go when the product's holds are
@@ -67,6 +69,10 @@ ask_usage ask = usage_of ask.txn (pos ask.amount) (ask_count ask) ask.at
 abbrev pub ask_given_back : Ask → UsageRow
 ask_given_back ask = usage_of ask.txn (neg_ℤ (pos ask.amount)) (neg_ℤ (ask_count ask)) ask.at
 
+-- the use that comes back when a call is funded for this amount: that of the rest, at the stamp of its event
+abbrev pub rest_given_back : Opened → Txn → ℕ → UsageRow
+rest_given_back o t amount = usage_of t (neg_ℤ (pos (o.amount - amount))) (pos 0) o.at
+
 -- a call for an authorisation is that of a first ask
 abbrev pub is_authorization : Method → Bool
 is_authorization method.Authorization = true
@@ -81,7 +87,7 @@ is_authorization method.Expiry = false
 -- the ask that a call was opened for
 abbrev pub call_ask : Opened → Txn → Ask
 call_ask o t =
-    record { event = o.event; txn = t; amount = o.amount; is_first = is_authorization o.method; at = o.at }
+    record { event = o.event; txn = t; amount = o.amount; is_first = is_authorization o.method; partial = o.partial; at = o.at }
 
 -- a sum passes a limit, if there is one
 abbrev pub passes : Option ℕ → ℤ → Bool

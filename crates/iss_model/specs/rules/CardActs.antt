@@ -1,17 +1,19 @@
 -- The acts of card events and of the gateway's answers, if they aren't declined.
-use Rattle.std.specs.Prelude.{ℕ, ◌+◌, ◌-◌, min, ◌==◌, List, [], ◌∷◌, ◌++◌, Option, Some, None, if◌then◌else◌, Bool, ◌&&◌, ◌||◌}
+use Rattle.std.specs.Prelude.{ℕ, ◌+◌, ◌-◌, min, nat_lt, ◌==◌, List, [], ◌∷◌, ◌++◌, Option, Some, None, if◌then◌else◌, Bool, ◌&&◌, ◌||◌}
 use Rattle.iss_model.specs.declared.call.Failure.TheVariants as failure
 use Rattle.iss_model.specs.declared.call.CallId.{CallId}
 use Rattle.iss_model.specs.declared.call.Failure.{Failure}
 use Rattle.iss_model.specs.declared.call.Opened.{Opened}
+use Rattle.iss_model.specs.declared.currency.Currency.{Currency}
 use Rattle.iss_model.specs.declared.decision.Reason.TheVariants as reason
 use Rattle.iss_model.specs.declared.decision.Reason.{Reason}
 use Rattle.iss_model.specs.declared.input.Outcome.TheVariants as outcome
 use Rattle.iss_model.specs.declared.input.Outcome.{Outcome}
 use Rattle.iss_model.specs.declared.setting.Product.{Product}
 use Rattle.iss_model.specs.declared.txn.Txn.{Txn}
+use Rattle.iss_model.specs.Currencies.{same_currency}
 use Rattle.iss_model.specs.rules.Activity.{CallNow, TxnNow, is_asked}
-use Rattle.iss_model.specs.rules.Acts.{reversed, captured, refunded, Act, Begins, Uses, HoldsOwn, Asks, Funds, Refuses, Fails, StandsIn, TurnsDown, Abandons, LetsGo, Ends, Clears, GivesBack, Tells, Does}
+use Rattle.iss_model.specs.rules.Acts.{reversed, captured, refunded, Act, Begins, Uses, HoldsOwn, Asks, Funds, FundsPart, Refuses, Fails, StandsIn, TurnsDown, Abandons, LetsGo, Ends, Clears, GivesBack, Tells, Does}
 use Rattle.iss_model.specs.rules.Asks.{Ask, call_ask}
 use Rattle.iss_model.specs.rules.CardReasons.{is_account_funded}
 use Rattle.iss_model.specs.rules.Facts.{call_in, Facts, asked_calls_of, txn_in, next_notice}
@@ -41,12 +43,18 @@ stand_acts uncovered number ask why at = TurnsDown ask (failure_reason why) ∷ 
 abbrev pub failed_acts : Facts → Opened → Txn → Failure → ℕ → List Act
 failed_acts f o t why at = Fails (next_notice f) o t why ∷ stand_acts (stand f (call_ask o t) why at) (next_notice f + 1) (call_ask o t) why at
 
--- the gateway answers a call
+-- a part of a call's amount counts if the call permits one, and it is in its currency and less than all
+abbrev pub counts_as_part : Opened → Currency → ℕ → Bool
+counts_as_part o currency amount = o.partial && same_currency currency o.currency && nat_lt amount o.amount
+
+-- The gateway answers a call. A part that doesn't count is no answer.
 abbrev pub outcome_acts : Outcome → Facts → Opened → Txn → ℕ → List Act
 outcome_acts outcome.Funded f o t at = Funds o t ∷ []
 outcome_acts outcome.Refused f o t at = Refuses o t ∷ []
 outcome_acts outcome.Connection f o t at = failed_acts f o t failure.Connection at
 outcome_acts outcome.Application f o t at = failed_acts f o t failure.Application at
+outcome_acts (outcome.Partial currency amount) f o t at =
+    if counts_as_part o currency amount then FundsPart o t amount ∷ [] else failed_acts f o t failure.Application at
 
 -- acts for a transaction, if it is known
 abbrev pub acts_of_txn : (Txn → List Act) → Option TxnNow → List Act

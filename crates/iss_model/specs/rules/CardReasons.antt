@@ -42,12 +42,12 @@ txn_asked f token card currency mcc mid at =
     (card_named card f.cards)
 
 -- an authorisation as an ask
-abbrev pub first_ask : List ℕ → ℕ → ℕ → Txn → Ask
-first_ask token amount at txn = record { event = token; txn = txn; amount = amount; is_first = true; at = at }
+abbrev pub first_ask : List ℕ → ℕ → Bool → ℕ → Txn → Ask
+first_ask token amount partial at txn = record { event = token; txn = txn; amount = amount; is_first = true; partial = partial; at = at }
 
 -- an increment as an ask
 abbrev pub further_ask : List ℕ → ℕ → ℕ → Txn → Ask
-further_ask token amount at txn = record { event = token; txn = txn; amount = amount; is_first = false; at = at }
+further_ask token amount at txn = record { event = token; txn = txn; amount = amount; is_first = false; partial = false; at = at }
 
 -- why an authorisation is declined: what stands of the card, its user and its product, and then its ask, if it makes one
 abbrev pub authorization_reason : Facts → List ℕ → Currency → Option Ask → Option Reason

@@ -22,7 +22,7 @@ use Rattle.iss_model.specs.declared.setting.Product.{Product}
 use Rattle.iss_model.specs.declared.setting.Set.{Set}
 use Rattle.iss_model.specs.declared.txn.Txn.{Txn}
 use Rattle.iss_model.specs.rules.Activity.{CallNow}
-use Rattle.iss_model.specs.rules.Asks.{Ask, usage_of, call_ask, ask_given_back}
+use Rattle.iss_model.specs.rules.Asks.{Ask, usage_of, rest_given_back, call_ask, ask_given_back}
 use Rattle.iss_model.specs.rules.CardReasons.{is_account_funded}
 use Rattle.iss_model.specs.rules.Facts.{Facts, part_in, asked_calls_of, next_call, not_below}
 
@@ -114,6 +114,7 @@ call_for f product ask =
       mcc = ask.txn.mcc;
       mid = ask.txn.mid;
       amount = ask.amount;
+      partial = ask.partial;
       at = ask.at;
       deadline = ask.at + product.timeout_ms;
     }
@@ -167,6 +168,14 @@ funded_ask_entries ask from part =
     post_entries ask.txn from (user_account ask.txn) ask.amount
     ++ hold_entries ask.txn part ask.amount
     ++ entry.Decided ask.event verdict.Approved ∷ []
+
+-- a part of a call's amount is there and held, the use of the rest comes back, and the event is approved for the part
+abbrev pub part_funded_entries : Opened → Txn → ℕ → List Entry
+part_funded_entries o t amount =
+    entry.Usage (rest_given_back o t amount)
+    ∷ post_entries t (account.Gateway t.currency) (user_account t) amount
+    ++ hold_entries t part.G amount
+    ++ entry.Decided o.event (verdict.Partial t.currency amount) ∷ []
 
 -- the reason of an ask that neither the gateway nor a set decides
 abbrev pub failure_reason : Failure → Reason

@@ -1,5 +1,5 @@
 -- What a record does: the acts of what is due at its stamp, and then those of its input.
-use Rattle.std.specs.Prelude.{ℕ, List, [], ◌∷◌, Option, Some, None, if◌then◌else◌, fold, option_map}
+use Rattle.std.specs.Prelude.{ℕ, Bool, List, [], ◌∷◌, Option, Some, None, if◌then◌else◌, fold, option_map}
 use Rattle.iss_model.specs.declared.currency.Currency.{Currency}
 use Rattle.iss_model.specs.declared.decision.Reason.{Reason}
 use Rattle.iss_model.specs.declared.entry.Entry.{Entry}
@@ -16,9 +16,9 @@ use Rattle.iss_model.specs.rules.Keeper.{Keeper, Growth, grow}
 use Rattle.iss_model.specs.rules.Reasons.{user_reason, card_reason, move_reason, product_reason, group_reason, control_reason, set_reason, switch_reason, load_reason}
 
 -- an authorisation as an ask, if its card and product are known
-abbrev pub authorization_ask : Facts → List ℕ → List ℕ → Currency → ℕ → ℕ → List ℕ → ℕ → Option Ask
-authorization_ask f token card currency amount mcc mid at =
-    option_map (first_ask token amount at) (txn_asked f token card currency mcc mid at)
+abbrev pub authorization_ask : Facts → List ℕ → List ℕ → Currency → ℕ → ℕ → List ℕ → Bool → ℕ → Option Ask
+authorization_ask f token card currency amount mcc mid partial at =
+    option_map (first_ask token amount partial at) (txn_asked f token card currency mcc mid at)
 
 -- an increment as an ask, if its transaction is known
 abbrev pub increment_ask : Facts → List ℕ → List ℕ → ℕ → ℕ → Option Ask
@@ -50,8 +50,8 @@ acts_of (input.Set token set product currency connection timeout application max
     (Sets (input.Set token set product currency connection timeout application max day_limit active) token ∷ [])
 acts_of (input.Switch token product on) at f = acts_unless (switch_reason f product) token (Sets (input.Switch token product on) token ∷ [])
 acts_of (input.Load token user currency amount) at f = acts_unless (load_reason f user) token (Loads token user currency amount ∷ [])
-acts_of (input.Authorization token card currency amount mcc mid) at f =
-    let ask = authorization_ask f token card currency amount mcc mid at in
+acts_of (input.Authorization token card currency amount mcc mid partial) at f =
+    let ask = authorization_ask f token card currency amount mcc mid partial at in
     acts_unless (authorization_reason f card currency ask) token (authorization_acts f ask)
 acts_of (input.Increment token txn currency amount) at f =
     let ask = increment_ask f token txn amount at in

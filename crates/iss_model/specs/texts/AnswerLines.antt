@@ -10,6 +10,7 @@ use Rattle.iss_model.specs.texts.Wordings.{Member, with_text, with_number, line_
 -- how a call was closed, as the state of a late answer
 abbrev pub how_text : How → List ℕ
 how_text how.Funded = codes "FUNDED"
+how_text (how.Partial amount) = codes "PARTIAL"
 how_text how.Refused = codes "REFUSED"
 how_text (how.Failed failure.Connection) = codes "CONNECTION"
 how_text (how.Failed failure.Timeout) = codes "TIMEOUT"

@@ -1,5 +1,5 @@
 -- What the customer's gateway is sent: a request for each call, and notices that need no answer but an acknowledgement.
-use Rattle.std.specs.Prelude.{ℕ, pos, List, [], ◌∷◌, ◌++◌, codes, Option, Some, None}
+use Rattle.std.specs.Prelude.{ℕ, pos, Bool, true, false, List, [], ◌∷◌, ◌++◌, codes, Option, Some, None}
 use Rattle.iss_model.specs.declared.call.CallId.{CallId}
 use Rattle.iss_model.specs.declared.call.Method.{Method}
 use Rattle.iss_model.specs.declared.call.Method.TheVariants as method
@@ -8,7 +8,7 @@ use Rattle.iss_model.specs.declared.call.Notice.{Notice}
 use Rattle.iss_model.specs.Currencies.{currency_code}
 use Rattle.iss_model.specs.Amounts.{amount_text, last_digits}
 use Rattle.iss_model.specs.texts.CallTokens.{call_uuid, uuid_text}
-use Rattle.iss_model.specs.texts.Wordings.{Member, with_text, with_number, object_text}
+use Rattle.iss_model.specs.texts.Wordings.{Member, with_text, with_number, with_true, object_text}
 
 -- the name of what a message is about
 abbrev pub method_text : Method → List ℕ
@@ -25,6 +25,11 @@ method_text method.Expiry = codes "x.expiry"
 abbrev pub token_text : ℕ → ℕ → List ℕ
 token_text instance number = uuid_text (call_uuid instance number)
 
+-- the member of a call that permits a part
+abbrev pub partial_members : Bool → List Member
+partial_members false = []
+partial_members true = with_true (codes "partial") ∷ []
+
 -- the members of a request to the gateway
 abbrev pub request_members : ℕ → Opened → List Member
 request_members instance o =
@@ -36,7 +41,8 @@ request_members instance o =
     ∷ with_text (codes "method") (method_text o.method)
     ∷ with_text (codes "mid") o.mid
     ∷ with_number (codes "number") o.call.0
-    ∷ with_text (codes "token") (token_text instance o.call.0)
+    ∷ partial_members o.partial
+    ++ with_text (codes "token") (token_text instance o.call.0)
     ∷ with_text (codes "txn") o.txn
     ∷ with_text (codes "user") o.user
     ∷ []

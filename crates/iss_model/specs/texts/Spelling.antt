@@ -11,6 +11,8 @@ use Rattle.iss_model.specs.declared.setting.Association.{Association}
 use Rattle.iss_model.specs.declared.setting.Association.TheVariants as association
 use Rattle.iss_model.specs.declared.setting.Scope.{Scope}
 use Rattle.iss_model.specs.declared.setting.Scope.TheVariants as scope
+use Rattle.iss_model.specs.declared.input.Outcome.{Outcome}
+use Rattle.iss_model.specs.declared.input.Outcome.TheVariants as outcome
 use Rattle.iss_model.specs.declared.input.Input.{Input}
 use Rattle.iss_model.specs.declared.input.Input.TheVariants as input
 use Rattle.iss_model.specs.declared.input.Record.{Record}
@@ -60,7 +62,23 @@ offset_bytes offset = if is_utc offset then [] else number_bytes 2 (cast_unsigne
 abbrev pub mccs_bytes : List ℕ → List ℕ
 mccs_bytes mccs = number_bytes 2 (length mccs) ++ flat_map mcc_bytes mccs
 
--- the kind of an input; a control whose clock isn't that of UTC is of a kind of its own
+-- the kind of an answer: one of a part, or one that has no amount
+abbrev pub answer_kind : Outcome → ℕ
+answer_kind outcome.Funded = 15
+answer_kind outcome.Refused = 15
+answer_kind outcome.Connection = 15
+answer_kind outcome.Application = 15
+answer_kind (outcome.Partial currency amount) = 19
+
+-- an outcome's number, or a part's currency and amount
+abbrev pub outcome_bytes : Outcome → List ℕ
+outcome_bytes outcome.Funded = outcome_number outcome.Funded ∷ []
+outcome_bytes outcome.Refused = outcome_number outcome.Refused ∷ []
+outcome_bytes outcome.Connection = outcome_number outcome.Connection ∷ []
+outcome_bytes outcome.Application = outcome_number outcome.Application ∷ []
+outcome_bytes (outcome.Partial currency amount) = currency_bytes currency ++ amount_bytes amount
+
+-- The kind of an input. Of a kind of its own are: a control whose clock isn't that of UTC, an answer of a part, an authorisation that permits one.
 abbrev pub kind_number : Input → ℕ
 kind_number (input.User token user) = 1
 kind_number (input.Card token card user product active) = 2
@@ -71,12 +89,12 @@ kind_number (input.Control token control currency window amount_limit usage_limi
 kind_number (input.Set token set product currency connection timeout application max day_limit active) = 7
 kind_number (input.Switch token product on) = 8
 kind_number (input.Load token user currency amount) = 9
-kind_number (input.Authorization token card currency amount mcc mid) = 10
+kind_number (input.Authorization token card currency amount mcc mid partial) = if partial then 20 else 10
 kind_number (input.Increment token txn currency amount) = 11
 kind_number (input.Reversal token txn currency amount) = 12
 kind_number (input.Clearing token txn currency amount last) = 13
 kind_number (input.Refund token txn currency amount) = 14
-kind_number (input.Answer call outcome) = 15
+kind_number (input.Answer call outcome) = answer_kind outcome
 kind_number (input.Ack notice) = 16
 kind_number input.Time = 17
 
@@ -111,13 +129,13 @@ module _ (token_bytes : List ℕ → List ℕ) where
       ++ amount_bytes max ++ amount_bytes day_limit ++ flag_contents active
   spelled_fields (input.Switch token product on) = token_bytes token ++ token_bytes product ++ flag_contents on
   spelled_fields (input.Load token user currency amount) = spelled_operation token user currency amount
-  spelled_fields (input.Authorization token card currency amount mcc mid) =
+  spelled_fields (input.Authorization token card currency amount mcc mid partial) =
       spelled_operation token card currency amount ++ mcc_bytes mcc ++ token_bytes mid
   spelled_fields (input.Increment token txn currency amount) = spelled_operation token txn currency amount
   spelled_fields (input.Reversal token txn currency amount) = spelled_operation token txn currency amount
   spelled_fields (input.Clearing token txn currency amount last) = spelled_operation token txn currency amount ++ flag_contents last
   spelled_fields (input.Refund token txn currency amount) = spelled_operation token txn currency amount
-  spelled_fields (input.Answer call outcome) = number_bytes 4 call.0 ++ outcome_number outcome ∷ []
+  spelled_fields (input.Answer call outcome) = number_bytes 4 call.0 ++ outcome_bytes outcome
   spelled_fields (input.Ack notice) = number_bytes 4 notice
   spelled_fields input.Time = []
 
@@ -175,7 +193,7 @@ tokens_of (input.Control token control currency window amount_limit usage_limit 
 tokens_of (input.Set token set product currency connection timeout application max day_limit active) = token ∷ set ∷ product ∷ []
 tokens_of (input.Switch token product on) = token ∷ product ∷ []
 tokens_of (input.Load token user currency amount) = token ∷ user ∷ []
-tokens_of (input.Authorization token card currency amount mcc mid) = token ∷ card ∷ mid ∷ []
+tokens_of (input.Authorization token card currency amount mcc mid partial) = token ∷ card ∷ mid ∷ []
 tokens_of (input.Increment token txn currency amount) = token ∷ txn ∷ []
 tokens_of (input.Reversal token txn currency amount) = token ∷ txn ∷ []
 tokens_of (input.Clearing token txn currency amount last) = token ∷ txn ∷ []

@@ -1,5 +1,5 @@
 -- Texts that are sent, as lines: one JSON object of RFC 8259 a line, its members in rising order of their names, with no blank and no escape.
-use Rattle.std.specs.Prelude.{ℕ, List, [], ◌∷◌, ◌++◌, map, codes, decimal}
+use Rattle.std.specs.Prelude.{ℕ, pos, List, [], ◌∷◌, ◌++◌, map, codes, decimal}
 use Rattle.std.specs.List.{join_with_byte}
 use Rattle.iss_model.specs.declared.setting.CardState.{CardState}
 use Rattle.iss_model.specs.declared.setting.CardState.TheVariants as card
@@ -7,14 +7,16 @@ use Rattle.iss_model.specs.declared.setting.UserState.{UserState}
 use Rattle.iss_model.specs.declared.setting.UserState.TheVariants as user
 use Rattle.iss_model.specs.declared.decision.Reason.{Reason}
 use Rattle.iss_model.specs.declared.decision.Reason.TheVariants as reason
-use Rattle.iss_model.specs.declared.decision.Verdict.TheVariants.{Done, Approved, Declined}
+use Rattle.iss_model.specs.declared.decision.Verdict.TheVariants.{Done, Approved, Partial, Declined}
 use Rattle.iss_model.specs.declared.decision.Reply.{Reply}
 use Rattle.iss_model.specs.declared.decision.Reply.TheVariants.{Decided, Pending}
+use Rattle.iss_model.specs.Amounts.{amount_text}
 
--- the value of a member: a text none of whose characters JSON escapes, or a whole number
+-- the value of a member: a text none of whose characters JSON escapes, a whole number, or true
 pub data Value : Type 0 where
   worded : List ℕ → Value
   counted : ℕ → Value
+  affirmed : Value
 
 -- a name and its value
 pub record Member : Type 0 where
@@ -29,6 +31,7 @@ in_quotes text = 34 ∷ text ++ 34 ∷ []
 abbrev pub value_text : Value → List ℕ
 value_text (worded text) = in_quotes text
 value_text (counted n) = decimal n
+value_text affirmed = codes "true"
 
 -- a name in quotation marks, a colon and the value
 abbrev pub member_text : Member → List ℕ
@@ -49,6 +52,10 @@ with_text name text = record { name = name; value = worded text }
 -- a member whose value is a whole number
 abbrev pub with_number : List ℕ → ℕ → Member
 with_number name n = record { name = name; value = counted n }
+
+-- a member whose value is true
+abbrev pub with_true : List ℕ → Member
+with_true name = record { name = name; value = affirmed }
 
 -- a card's state, by its name
 abbrev pub card_state_text : CardState → List ℕ
@@ -98,6 +105,8 @@ reason_text reason.RefundOver = codes "REFUND_OVER"
 abbrev pub reply_members : List ℕ → Reply → List Member
 reply_members event (Decided Done) = with_text (codes "event") event ∷ with_text (codes "reply") (codes "done") ∷ []
 reply_members event (Decided Approved) = with_text (codes "event") event ∷ with_text (codes "reply") (codes "approved") ∷ []
+reply_members event (Decided (Partial currency amount)) =
+    with_text (codes "amount") (amount_text (pos amount) currency) ∷ with_text (codes "event") event ∷ with_text (codes "reply") (codes "partial") ∷ []
 reply_members event (Decided (Declined why)) =
     with_text (codes "event") event ∷ with_text (codes "reason") (reason_text why) ∷ with_text (codes "reply") (codes "declined") ∷ []
 reply_members event Pending = with_text (codes "event") event ∷ with_text (codes "reply") (codes "pending") ∷ []
