@@ -1,5 +1,5 @@
 -- The events of a drill, by their numbers from 1 on and by what is drawn for them.
-use Rattle.std.specs.Prelude.{ℕ, zero, suc, ◌+◌, ◌*◌, ◌/◌, ◌%◌, ◌==◌, ◌&&◌, nat_lt, Bool, true, List, codes, if◌then◌else◌}
+use Rattle.std.specs.Prelude.{ℕ, zero, suc, ◌+◌, ◌*◌, ◌/◌, ◌%◌, ◌==◌, ◌&&◌, nat_lt, Bool, true, false, List, codes, if◌then◌else◌}
 use Rattle.iss_model.specs.declared.currency.Currency.TheVariants.{Usd}
 use Rattle.iss_model.specs.declared.input.Outcome.{Outcome}
 use Rattle.iss_model.specs.declared.input.Outcome.TheVariants.{Funded, Refused, Connection}
@@ -24,7 +24,7 @@ past_event i y = named (codes "e") (1 + y / 8 % i)
 
 -- a purchase by one of the ten cards at one of seven merchants
 abbrev pub purchase : ℕ → ℕ → Input
-purchase i y = input.Authorization (named (codes "e") i) (named (codes "k") (y / 8 % 10)) Usd (amount_of y) GROCERIES (named (codes "m") (y % 7))
+purchase i y = input.Authorization (named (codes "e") i) (named (codes "k") (y / 8 % 10)) Usd (amount_of y) GROCERIES (named (codes "m") (y % 7)) false
 
 -- a clearing that ends its transaction
 abbrev pub clearing : ℕ → ℕ → Input

@@ -49,6 +49,7 @@ fn purchase(number: u32, drawn: u32) -> Input
         amount: amount_of(drawn),
         mcc: GROCERIES,
         mid: named(b'm', drawn % 7),
+        partial: false,
     }
 }
 

@@ -116,6 +116,12 @@ purchase token amount =
     codes "POST /events HTTP/1.1\r\nHost: x\r\nContent-Length: 107\r\n\r\n{\"type\":\"authorization\",\"token\":\""
     ++ codes token ++ codes "\",\"card\":\"c1\",\"currency\":\"USD\",\"amount\":\"" ++ codes amount ++ codes "\",\"mcc\":\"5411\",\"mid\":\"m1\"}"
 
+-- a purchase of card c1 of which the gateway may fund a part, as a line of 122 bytes
+abbrev pub partial_purchase : String → String → List ℕ
+partial_purchase token amount =
+    codes "POST /events HTTP/1.1\r\nHost: x\r\nContent-Length: 122\r\n\r\n{\"type\":\"authorization\",\"token\":\""
+    ++ codes token ++ codes "\",\"card\":\"c1\",\"currency\":\"USD\",\"amount\":\"" ++ codes amount ++ codes "\",\"mcc\":\"5411\",\"mid\":\"m1\",\"partial\":true}"
+
 -- user u1 as a line of 40 bytes
 abbrev pub new_user : List ℕ
 new_user = post "40" "{\"type\":\"user\",\"token\":\"t1\",\"user\":\"u1\"}"
@@ -137,14 +143,22 @@ message n size text rest =
     ++ codes "\r\nConnection: close\r\n\r\n" ++ text) true
     ∷ rest
 
--- the request for a purchase, by its number, of a device with instance 7
-abbrev pub request : ℕ → String → String → String → List Action → List Action
-request n number token amount rest =
-    message n "195"
+-- a request of this length for a purchase, by its number, of a device with instance 7; these members stand before its token
+abbrev request_with : String → String → ℕ → String → String → String → List Action → List Action
+request_with size permission n number token amount rest =
+    message n size
     (codes "{\"amount\":\"" ++ codes amount ++ codes "\",\"card\":\"c1\",\"currency\":\"USD\",\"event\":\"" ++ codes token
-    ++ codes "\",\"mcc\":\"5411\",\"method\":\"pgfs.authorization\",\"mid\":\"m1\",\"number\":" ++ codes number
+    ++ codes "\",\"mcc\":\"5411\",\"method\":\"pgfs.authorization\",\"mid\":\"m1\",\"number\":" ++ codes number ++ codes permission
     ++ codes ",\"token\":\"00000000-0007-8000-8000-00000000000" ++ codes number ++ codes "\",\"txn\":\"" ++ codes token ++ codes "\",\"user\":\"u1\"}")
     rest
+
+-- the request for a purchase
+abbrev pub request : ℕ → String → String → String → List Action → List Action
+request = request_with "195" ""
+
+-- the request for a purchase of which the gateway may fund a part
+abbrev pub partial_request : ℕ → String → String → String → List Action → List Action
+partial_request = request_with "210" ",\"partial\":true"
 
 -- the notice that call 1 for 60.00 has ended
 abbrev pub void : ℕ → List Action → List Action

@@ -7,7 +7,7 @@ use Rattle.iss_session.specs.Items.{judges}
 use Rattle.iss_session.specs.Sessions.{session_of}
 use Rattle.iss_session.specs.Happenings.{session_after}
 use Rattle.iss_session_examples.specs.Program.{program_readers}
-use Rattle.iss_session_examples.specs.Telling.{WorkedSession, comes, is_ready, time, idle, over, gives, ends, dial_fails, goes_out, asks, sent_to_gateway, purchase, response, request, void, bare_answer, closes, take_fails}
+use Rattle.iss_session_examples.specs.Telling.{WorkedSession, comes, is_ready, time, idle, over, gives, ends, dial_fails, goes_out, asks, sent_to_gateway, purchase, partial_purchase, response, request, partial_request, void, bare_answer, closes, take_fails}
 
 -- a device with instance 7 that holds a product of the gateway, a user and a card
 abbrev pub gateway_device : Run
@@ -103,6 +103,46 @@ answer_in_pieces =
           (closes 1000001
           (response 1 "200 OK" "34" "{\"event\":\"a1\",\"reply\":\"approved\"}" []));
       levels = 4 ∷ 5 ∷ [];
+      records = 5;
+    }
+
+-- the gateway funds a part of a purchase that permits it, and the client receives how much
+abbrev pub funded_in_part : WorkedSession
+funded_in_part =
+    record {
+      start = session_of gateway_device 1000;
+      happenings =
+          asks 1 (partial_purchase "a1" "60.00") (judges ∷ sent_to_gateway 1000001
+          (is_ready 1000001
+          ∷ gives 1000001 (codes "HTTP/1.1 200 OK\r\nContent-Length: 65\r\n\r\n{\"token\":\"00000000-0007-8000-8000-000000000001\",\"amount\":\"40.00\"}")
+          ∷ judges ∷ goes_out 1
+          ∷ over ∷ []));
+      done =
+          partial_request 1000001 "1" "a1" "60.00"
+          (closes 1000001
+          (response 1 "200 OK" "50" "{\"amount\":\"40.00\",\"event\":\"a1\",\"reply\":\"partial\"}" []));
+      levels = 4 ∷ 5 ∷ [];
+      records = 5;
+    }
+
+-- the gateway funds a part of a purchase that doesn't permit it: that is no answer, so the call is voided and the purchase declined
+abbrev pub part_not_permitted : WorkedSession
+part_not_permitted =
+    record {
+      start = session_of gateway_device 1000;
+      happenings =
+          asks 1 (purchase "a1" "60.00") (judges ∷ sent_to_gateway 1000001
+          (is_ready 1000001
+          ∷ gives 1000001 (codes "HTTP/1.1 200 OK\r\nContent-Length: 65\r\n\r\n{\"token\":\"00000000-0007-8000-8000-000000000001\",\"amount\":\"40.00\"}")
+          ∷ judges ∷ sent_to_gateway 1000002 (goes_out 1
+          ∷ over ∷ [])));
+      done =
+          request 1000001 "1" "a1" "60.00"
+          (closes 1000001
+          (void 1000002
+          (response 1 "200 OK" "65" "{\"event\":\"a1\",\"reason\":\"GATEWAY_APPLICATION\",\"reply\":\"declined\"}"
+          (closes 1000002 []))));
+      levels = 4 ∷ 5 ∷ 5 ∷ [];
       records = 5;
     }
 

@@ -8,6 +8,8 @@ use Rattle.std.proofs.lemmas.Bool.Decides.{nat_tests}
 use Rattle.std.proofs.lemmas.List.Folds.{list_all-append}
 use Rattle.iss_model.specs.declared.limits.TheConstants.{MOST_MCCS}
 use Rattle.iss_model.specs.declared.currency.Currency.{Currency}
+use Rattle.iss_model.specs.declared.input.Outcome.{Outcome}
+use Rattle.iss_model.specs.declared.input.Outcome.TheVariants as outcome
 use Rattle.iss_model.specs.declared.input.Input.{Input}
 use Rattle.iss_model.specs.declared.input.Input.TheVariants as input
 use Rattle.iss_model.specs.declared.input.Record.{Record}
@@ -20,8 +22,8 @@ use Rattle.iss_model.specs.declared.setting.Scope.TheVariants as scope
 use Rattle.iss_model.specs.Currencies.{iso_number}
 use Rattle.iss_model.specs.Tokens.{is_token, is_token_byte}
 use Rattle.iss_model.specs.Forms.{are_mccs, are_rising, is_in_form, is_stamp}
-use Rattle.iss_model.specs.Inputs.{with_length, flag_contents, moved_contents, association_contents, card_state_number, user_state_number, funding_number, window_number, outcome_number}
-use Rattle.iss_model.specs.texts.Spelling.{number_bytes, currency_bytes, amount_bytes, mcc_bytes, mccs_bytes, limits_bytes, is_utc, offset_bytes, scope_bytes, operation_bytes, field_bytes, spelling, tokens_of, moved_token, association_tokens, scope_tokens, is_record}
+use Rattle.iss_model.specs.Inputs.{with_length, flag_contents, moved_contents, association_contents, card_state_number, user_state_number, funding_number, window_number}
+use Rattle.iss_model.specs.texts.Spelling.{number_bytes, currency_bytes, amount_bytes, outcome_bytes, mcc_bytes, mccs_bytes, limits_bytes, is_utc, offset_bytes, scope_bytes, operation_bytes, field_bytes, spelling, tokens_of, moved_token, association_tokens, scope_tokens, is_record}
 use Rattle.iss_codec.proofs.NumberBytes.{wide_2, wide_4, wide_8}
 use Rattle.iss_journal.specs.Region.{IsBody}
 
@@ -84,6 +86,14 @@ scope_length scope.All h = omega arith
 scope_length (scope.Mcc mcc) h = omega (arith, wide_2.size mcc)
 scope_length (scope.Group group) h = omega (arith, name_length group (and_parts (is_token group) true h).0)
 scope_length (scope.Mid mid) h = omega (arith, name_length mid (and_parts (is_token mid) true h).0)
+
+outcome_length : (what : Outcome) → length (outcome_bytes what) ≤ 10
+outcome_length outcome.Funded = omega arith
+outcome_length outcome.Refused = omega arith
+outcome_length outcome.Connection = omega arith
+outcome_length outcome.Application = omega arith
+outcome_length (outcome.Partial currency amount) =
+    more 2 8 (currency_bytes currency) (amount_bytes amount) (omega (arith, wide_2.size (iso_number currency))) (omega (arith, wide_8.size amount))
 
 two_names : (a b : List ℕ) → list_all is_token (a ∷ b ∷ []) ≡ true → (is_token a ≡ true) × (is_token b ≡ true)
 two_names a b h =
@@ -163,7 +173,7 @@ fields_length (input.Switch token product on) f h =
     omega (arith, more 74 1 (with_length token ++ with_length product) (flag_contents on) two (flag_length on))
 fields_length (input.Load token user currency amount) f h =
     let p = two_names token user h in omega (arith, operation_length token user currency amount p.0 p.1)
-fields_length (input.Authorization token card currency amount mcc mid) f h =
+fields_length (input.Authorization token card currency amount mcc mid partial) f h =
     let p = three_names token card mid h in
     let operation = operation_bytes token card currency amount in
     let two = more 84 2 operation (mcc_bytes mcc) (operation_length token card currency amount p.0 p.1) (omega (arith, wide_2.size mcc)) in
@@ -177,8 +187,7 @@ fields_length (input.Clearing token txn currency amount last) f h =
     omega (arith, more 84 1 (operation_bytes token txn currency amount) (flag_contents last) (operation_length token txn currency amount p.0 p.1) (flag_length last))
 fields_length (input.Refund token txn currency amount) f h =
     let p = two_names token txn h in omega (arith, operation_length token txn currency amount p.0 p.1)
-fields_length (input.Answer call outcome) f h =
-    omega (arith, length-append {A = ℕ} (number_bytes 4 call.0) (outcome_number outcome ∷ []), wide_4.size call.0)
+fields_length (input.Answer call what) f h = omega (arith, more 4 10 (number_bytes 4 call.0) (outcome_bytes what) (omega (arith, wide_4.size call.0)) (outcome_length what))
 fields_length (input.Ack notice) f h = omega (arith, wide_4.size notice)
 fields_length input.Time f h = omega arith
 
