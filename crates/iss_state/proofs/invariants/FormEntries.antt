@@ -11,7 +11,7 @@ use Rattle.iss_model.specs.declared.input.Input.{Input}
 use Rattle.iss_model.specs.declared.txn.Txn.{Txn}
 use Rattle.iss_model.specs.Forms.{is_in_form, is_stamp}
 use Rattle.iss_model.specs.rules.Activity.{CallNow, TxnNow, is_asked}
-use Rattle.iss_model.specs.rules.Acts.{Abandons, Act, Asks, Begins, Clears, Funds, GivesBack, HoldsOwn, LetsGo, Refuses, Sets, StandsIn, TurnsDown, Uses, act_entries}
+use Rattle.iss_model.specs.rules.Acts.{Abandons, Act, Asks, Begins, Clears, Funds, FundsPart, GivesBack, HoldsOwn, LetsGo, Refuses, Sets, StandsIn, TurnsDown, Uses, act_entries}
 use Rattle.iss_model.specs.rules.Asks.{Ask, call_ask}
 use Rattle.iss_model.specs.rules.Due.{DueThing, thing_entries}
 use Rattle.iss_model.specs.rules.Facts.{Facts}
@@ -83,6 +83,8 @@ module _ (f : Facts) (by : Cause) (at : ℕ) (timed : AreTimed f) (stamp : is_st
   act_formed g (HoldsOwn ask) made = both_pass (where_passes ask.amount (one_passes refl)) (one_passes refl)
   act_formed g (Asks h product ask) made = one_passes (own_stamp ask made.from.2)
   act_formed g (Funds o t) made = two_pass refl (both_pass (both_pass (where_passes o.amount (one_passes refl)) (where_passes o.amount (one_passes refl))) (one_passes refl))
+  act_formed g (FundsPart o t amount) made =
+      two_pass refl (two_pass (call_stamp o t made.from.1) (both_pass (both_pass (where_passes amount (one_passes refl)) (where_passes amount (one_passes refl))) (one_passes refl)))
   act_formed g (Refuses o t) made = two_pass refl (declined_formed (call_ask o t) reason.GatewayDeclined (call_stamp o t made.from.1))
   act_formed g (StandsIn number ask when set) made =
       two_pass (ap is_stamp made.from.2 ∙ stamp) (both_pass (both_pass (where_passes ask.amount (one_passes refl)) (where_passes ask.amount (one_passes refl))) (passing refl))
