@@ -14,8 +14,8 @@ use Rattle.iss_model.specs.declared.decision.Verdict.TheVariants as verdict
 use Rattle.iss_model.specs.declared.entry.Entry.{Entry}
 use Rattle.iss_model.specs.declared.entry.Entry.TheVariants as entry
 use Rattle.iss_model.specs.rules.Activity.{TxnNow, CallNow}
-use Rattle.iss_model.specs.rules.Acts.{Act, Does, Ends, News, StandsIn, Funds, Tells, act_entries, captured, entries_of_acts, refunded, reversed}
-use Rattle.iss_model.specs.rules.Asks.{Ask}
+use Rattle.iss_model.specs.rules.Acts.{Act, Does, Ends, News, StandsIn, Funds, FundsPart, Tells, act_entries, captured, entries_of_acts, refunded, reversed}
+use Rattle.iss_model.specs.rules.Asks.{Ask, rest_given_back}
 use Rattle.iss_model.specs.rules.CardActs.{acts_for_gateway, acts_where, after_clearing_acts, clearing_acts, end_acts, refund_acts, reversal_acts}
 use Rattle.iss_model.specs.rules.CardReasons.{is_account_funded}
 use Rattle.iss_model.specs.rules.Facts.{Facts, next_notice, asked_calls_of}
@@ -103,6 +103,16 @@ funded_of o t =
     record {
       between = entry.Closed o.call how.Funded ∷ [];
       after = entry.Decided o.event verdict.Approved ∷ [];
+      whole = refl;
+      between_passed = refl;
+      after_passed = refl;
+    }
+
+pub partly_of : (o : Opened) (t : Txn) (amount : ℕ) → AreMadeOf [] (fund_money_entries t part.G amount) (act_entries (FundsPart o t amount))
+partly_of o t amount =
+    record {
+      between = entry.Closed o.call (how.Partial amount) ∷ entry.Usage (rest_given_back o t amount) ∷ [];
+      after = entry.Decided o.event (verdict.Partial t.currency amount) ∷ [];
       whole = refl;
       between_passed = refl;
       after_passed = refl;

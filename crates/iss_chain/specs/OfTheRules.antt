@@ -1,12 +1,13 @@
 -- What a chain has of the core's state, and what its entries are of those that the rules make.
 use Rattle.std.specs.Prelude.{◌≡◌, ℕ, Bool, List, [], Some, fold}
 use Rattle.iss_model.specs.declared.account.Part.TheVariants as part
+use Rattle.iss_model.specs.declared.call.Opened.{Opened}
 use Rattle.iss_model.specs.declared.decision.Reason.{Reason}
 use Rattle.iss_model.specs.declared.entry.Entry.{Entry}
 use Rattle.iss_model.specs.declared.setting.Set.{Set}
 use Rattle.iss_model.specs.declared.txn.Txn.{Txn}
 use Rattle.iss_model.specs.rules.Activity.{TxnNow}
-use Rattle.iss_model.specs.rules.Acts.{StandsIn, act_entries, entries_of_acts}
+use Rattle.iss_model.specs.rules.Acts.{FundsPart, StandsIn, act_entries, entries_of_acts}
 use Rattle.iss_model.specs.rules.Asks.{Ask}
 use Rattle.iss_model.specs.rules.CardActs.{clearing_acts, end_acts, refund_acts, reversal_acts}
 use Rattle.iss_model.specs.rules.Facts.{Facts}
@@ -19,6 +20,10 @@ use Rattle.iss_chain.specs.Values.{chain_after_entry, chain_part}
 -- what entries do to a core's state, they do to the part of it that a chain keeps
 abbrev pub FollowsTheCore : CoreState → List Entry → Type 0
 FollowsTheCore s entries = chain_part (fold after_entry s entries) ≡ fold chain_after_entry (chain_part s) entries
+
+-- a call that is funded for a part of its amount is funded by the gateway, for that part
+abbrev pub IsPartlyFunded : Opened → Txn → ℕ → Type 0
+IsPartlyFunded o t amount = AreMadeOf [] (fund_money_entries t part.G amount) (act_entries (FundsPart o t amount))
 
 -- an ask that a set stands in for is funded by the programme
 abbrev pub IsStoodIn : ℕ → Ask → ℕ → Set → Type 0

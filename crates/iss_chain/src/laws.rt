@@ -15,7 +15,7 @@ ghost use Rattle.iss_model.specs.rules.Pieces.{Parts, parts_held, owed_to_progra
 ghost use Rattle.iss_model.specs.state.Cores.{CoreState, core_facts};
 ghost use Rattle.iss_chain.specs.Calls.{fund_money_entries};
 ghost use Rattle.iss_chain.specs.Among.{AreMadeOf};
-ghost use Rattle.iss_chain.specs.OfTheRules.{FollowsTheCore, IsCleared, IsEnded, IsRefunded, IsReversed, IsStoodIn};
+ghost use Rattle.iss_chain.specs.OfTheRules.{FollowsTheCore, IsCleared, IsEnded, IsPartlyFunded, IsRefunded, IsReversed, IsStoodIn};
 ghost use Rattle.iss_chain.specs.Values.{chain_part, chain_facts};
 
 /// What entries do to a core's state, they do to the part of it that a chain keeps; and what a transaction holds, and
@@ -31,6 +31,7 @@ pub fn a_chain_is_part_of_the_core()
 /// gateway, notices, use that is returned, and decisions.
 pub fn the_rules_make_its_entries()
     ensures funded { (o : Opened) (t : Txn) → AreMadeOf [] (fund_money_entries t part.G o.amount) (act_entries (Funds o t)) }
+    ensures partly { (o : Opened) (t : Txn) (amount : ℕ) → IsPartlyFunded o t amount }
     ensures stood { (number : ℕ) (ask : Ask) (at : ℕ) (s : Set) → IsStoodIn number ask at s }
     ensures reversed { (f : Facts) (token : List ℕ) (amount : ℕ) (now : TxnNow) → IsReversed f token amount now }
     ensures cleared { (f : Facts) (token : List ℕ) (amount : ℕ) (last : Bool) (at : ℕ) (now : TxnNow) →
