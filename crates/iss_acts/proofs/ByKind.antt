@@ -23,8 +23,9 @@ pub record EachKind (P : Input → List Act → Type 0) (f : Facts) (at : ℕ) :
   pub declined : (i : Input) (token : List ℕ) (why : Reason) → event_token i ≡ Some token → P i (Declines token why ∷ [])
   pub setting : (i : Input) (token : List ℕ) → event_token i ≡ Some token → setting_reason f i ≡ None → P i (Sets i token ∷ [])
   pub load : (token user : List ℕ) (currency : Currency) (amount : ℕ) → P (input.Load token user currency amount) (Loads token user currency amount ∷ [])
-  pub authorization : (token card : List ℕ) (currency : Currency) (amount mcc : ℕ) (mid : List ℕ) (ask : Option Ask) → authorization_ask f token card currency amount mcc mid at ≡ ask
-      → authorization_reason f card currency ask ≡ None → P (input.Authorization token card currency amount mcc mid) (authorization_acts f ask)
+  pub authorization : (token card : List ℕ) (currency : Currency) (amount mcc : ℕ) (mid : List ℕ) (partial : Bool) (ask : Option Ask)
+      → authorization_ask f token card currency amount mcc mid partial at ≡ ask → authorization_reason f card currency ask ≡ None
+      → P (input.Authorization token card currency amount mcc mid partial) (authorization_acts f ask)
   pub increment : (token txn : List ℕ) (currency : Currency) (amount : ℕ) (now : TxnNow) → txn_in f txn ≡ Some now
       → increment_reason f (Some now) currency (Some (further_ask token amount at now.txn)) ≡ None
       → P (input.Increment token txn currency amount) (increment_acts f (Some (further_ask token amount at now.txn)))
@@ -57,9 +58,9 @@ module _ {P : Input → List Act → Type 0} {f : Facts} {at : ℕ} (each : Each
   walk (input.Set token name product currency connection timeout application max day_limit active) = set _ token (set_reason f name product currency) refl refl
   walk (input.Switch token product on) = set _ token (switch_reason f product) refl refl
   walk (input.Load token user currency amount) = unless _ token (load_reason f user) _ refl (λ none. each.load token user currency amount)
-  walk (input.Authorization token card currency amount mcc mid) =
-      let ask : Option Ask = authorization_ask f token card currency amount mcc mid at in
-      unless _ token (authorization_reason f card currency ask) (authorization_acts f ask) refl (λ none. each.authorization token card currency amount mcc mid ask refl none)
+  walk (input.Authorization token card currency amount mcc mid partial) =
+      let ask : Option Ask = authorization_ask f token card currency amount mcc mid partial at in
+      unless _ token (authorization_reason f card currency ask) (authorization_acts f ask) refl (λ none. each.authorization token card currency amount mcc mid partial ask refl none)
   walk (input.Increment token txn currency amount) = by (txn_in f txn) refl
     where
       by : (now : Option TxnNow) → txn_in f txn ≡ now

@@ -27,7 +27,7 @@ use Rattle.iss_model.specs.rules.Settings.{is_named_in, product_named}
 use Rattle.iss_model.specs.rules.StandIns.{Stand, allowed, over_limit, stand, uncovered}
 use Rattle.iss_model.specs.rules.Stepping.{authorization_ask, acts_of, acts_unless}
 use Rattle.iss_model.specs.rules.Acts.{Abandons, Act, Ends, LetsGo, Sets}
-use Rattle.iss_model.specs.rules.CardActs.{acts_for_gateway, acts_of_asked, acts_of_txn, acts_where, authorization_acts, clearing_acts, end_acts, failed_acts, funding_acts, gateway_acts, increment_acts, outcome_acts, refund_acts, reversal_acts, stand_acts}
+use Rattle.iss_model.specs.rules.CardActs.{acts_for_gateway, acts_of_asked, acts_of_txn, acts_where, authorization_acts, clearing_acts, counts_as_part, end_acts, failed_acts, funding_acts, gateway_acts, increment_acts, outcome_acts, refund_acts, reversal_acts, stand_acts}
 use Rattle.iss_acts.specs.Causes.{Cause, ComesOf, FallsDue, fails_call, is_of_event, lets_go, may_act, seeks_funding, settles_ask}
 use Rattle.iss_acts.specs.Sources.{AllMade, AreWithin, IsAskedCall, IsFirstAsk, IsFrom, IsFurtherAsk, IsNewNotice, IsOwnAsk, IsRow, IsSettledAsk, IsTxnOf, setting_reason}
 use Rattle.iss_acts.specs.Stages.{Fresh, Keeps, Leaves, Seeks, Stage, stage_after}
@@ -206,10 +206,10 @@ its_amount : (f : Facts) (txn : List ℕ) (now : TxnNow) (amount : ℕ) → txn_
 its_amount f txn now amount e = ap₂ (λ (a b : Bool). a && b) (its_token txn f.txns now e) (same_number amount)
 
 -- an authorisation asks at its own moment
-asked_at : (token : List ℕ) (amount at : ℕ) (t : Option Txn) (ask : Ask) → option_map (first_ask token amount at) t ≡ Some ask → ask.at ≡ at
-asked_at token amount at None ask e = cc
-asked_at token amount at (Some t) ask e =
-    let same : first_ask token amount at t ≡ ask = cc in
+asked_at : (token : List ℕ) (amount : ℕ) (partial : Bool) (at : ℕ) (t : Option Txn) (ask : Ask) → option_map (first_ask token amount partial at) t ≡ Some ask → ask.at ≡ at
+asked_at token amount partial at None ask e = cc
+asked_at token amount partial at (Some t) ask e =
+    let same : first_ask token amount partial at t ≡ ask = cc in
     ap (λ (ask : Ask). ask.at) (sym same)
 
 outcome_made : (f : Facts) (call : CallId) (what : Outcome) (at : ℕ) (o : Opened) (t : Txn) → IsAskedCall f o t → AreMade f (ComesOf (input.Answer call what)) at Fresh (outcome_acts what f o t at)
@@ -217,6 +217,9 @@ outcome_made f call outcome.Funded at o t asked = one_act refl (refl, asked)
 outcome_made f call outcome.Refused at o t asked = one_act refl (refl, asked)
 outcome_made f call outcome.Connection at o t asked = failed o t failure.Connection refl refl asked
 outcome_made f call outcome.Application at o t asked = failed o t failure.Application refl refl asked
+outcome_made f call (outcome.Partial currency amount) at o t asked =
+    either_acts (counts_as_part o currency amount) (λ counts. one_act (same_number amount) (refl, asked, record { call = call; currency = currency; its_input = refl; counts = counts }))
+    (λ none. failed o t failure.Application refl refl asked)
 
 pub input_row : (f : Facts) (i : Input) (at : ℕ) → IsRow f (ComesOf i) at (acts_of i at f)
 input_row f (input.User token user) at = set_row _ (user_reason f user) token refl refl (its_name token)
@@ -229,16 +232,16 @@ input_row f (input.Control token control currency window amount_limit usage_limi
 input_row f (input.Set token set product currency connection timeout application max day_limit active) at = set_row _ (set_reason f set product currency) token refl refl (its_name token)
 input_row f (input.Switch token product on) at = set_row _ (switch_reason f product) token refl refl (its_name token)
 input_row f (input.Load token user currency amount) at = unless_row (load_reason f user) token (its_name token) (λ none. fresh (one_act (its_name token) (refl, refl)))
-input_row f (input.Authorization token card currency amount mcc mid) at = of_ask (authorization_ask f token card currency amount mcc mid at) refl
+input_row f (input.Authorization token card currency amount mcc mid partial) at = of_ask (authorization_ask f token card currency amount mcc mid partial at) refl
   where
-    of_ask : (ask : Option Ask) → authorization_ask f token card currency amount mcc mid at ≡ ask
-        → IsRow f (ComesOf (input.Authorization token card currency amount mcc mid)) at (acts_unless (authorization_reason f card currency ask) token (authorization_acts f ask))
+    of_ask : (ask : Option Ask) → authorization_ask f token card currency amount mcc mid partial at ≡ ask
+        → IsRow f (ComesOf (input.Authorization token card currency amount mcc mid partial)) at (acts_unless (authorization_reason f card currency ask) token (authorization_acts f ask))
     of_ask None e = unless_row (authorization_reason f card currency None) token (its_name token) (λ none. fresh no_act)
     of_ask (Some ask) e =
-        unless_row (authorization_reason f card currency (Some ask)) token (its_name token) (λ none. fresh (first_act refl (refl, first none) (funding_made ask refl refl (inl (first none)) (asked_at token amount at (txn_asked f token card currency mcc mid at) ask e))))
+        unless_row (authorization_reason f card currency (Some ask)) token (its_name token) (λ none. fresh (first_act refl (refl, first none) (funding_made ask refl refl (inl (first none)) (asked_at token amount partial at (txn_asked f token card currency mcc mid at) ask e))))
       where
-        first : authorization_reason f card currency (Some ask) ≡ None → IsFirstAsk f (ComesOf (input.Authorization token card currency amount mcc mid)) at ask
-        first none = record { token = token; card = card; currency = currency; amount = amount; mcc = mcc; mid = mid; its_input = refl; made = e; none = none }
+        first : authorization_reason f card currency (Some ask) ≡ None → IsFirstAsk f (ComesOf (input.Authorization token card currency amount mcc mid partial)) at ask
+        first none = record { token = token; card = card; currency = currency; amount = amount; mcc = mcc; mid = mid; partial = partial; its_input = refl; made = e; none = none }
 input_row f (input.Increment token txn currency amount) at = of_now (txn_in f txn) refl
   where
     of_now : (now : Option TxnNow) → txn_in f txn ≡ now

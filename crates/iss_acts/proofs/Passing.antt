@@ -15,7 +15,7 @@ use Rattle.iss_model.specs.declared.call.How.TheVariants as how
 use Rattle.iss_model.specs.declared.call.Opened.{Opened}
 use Rattle.iss_model.specs.rules.Activity.{CallNow}
 use Rattle.iss_model.specs.rules.CardReasons.{is_account_funded}
-use Rattle.iss_model.specs.rules.Acts.{Abandons, Acknowledges, Act, Asks, Begins, Clears, Declines, Does, Ends, Fails, Funds, GivesBack, HoldsOwn, LetsGo, Loads, Refuses, Sets, StandsIn, Tells, TurnsDown, Uses, act_entries}
+use Rattle.iss_model.specs.rules.Acts.{Abandons, Acknowledges, Act, Asks, Begins, Clears, Declines, Does, Ends, Fails, Funds, FundsPart, GivesBack, HoldsOwn, LetsGo, Loads, Refuses, Sets, StandsIn, Tells, TurnsDown, Uses, act_entries}
 use Rattle.iss_acts.specs.Items.{Acking, Beginning, Closing, Deciding, Ending, Freeing, FromGateway, FromNetwork, FromProgramme, Holding, Item, Loading, Opening, Paying, Setting, StandTelling, Standing, Telling, ToGateway, ToNetwork, ToProgramme, Using, Voiding, item_entry, has_item}
 
 -- each of these entries passes a test
@@ -75,6 +75,10 @@ module _ {p : Entry → Bool} where
   act_passes (Funds o t) each =
       two_pass (each (Closing o.call how.Funded) refl)
       (both_pass (both_pass (some_passes o.amount (Paying FromGateway t o.amount) (each (Paying FromGateway t o.amount) refl)) (some_passes o.amount (Holding t part.G o.amount) (each (Holding t part.G o.amount) refl))) (one_passes (each (Deciding o.event verdict.Approved) refl)))
+  act_passes (FundsPart o t amount) each =
+      two_pass (each (Closing o.call (how.Partial amount)) refl)
+      (two_pass (each (Using t (neg_ℤ (pos (o.amount - amount))) (pos 0) o.at) refl)
+      (both_pass (both_pass (some_passes amount (Paying FromGateway t amount) (each (Paying FromGateway t amount) refl)) (some_passes amount (Holding t part.G amount) (each (Holding t part.G amount) refl))) (one_passes (each (Deciding o.event (verdict.Partial t.currency amount)) refl))))
   act_passes (Refuses o t) each =
       two_pass (each (Closing o.call how.Refused) refl)
       (declined_passes (call_ask o t) reason.GatewayDeclined (each (Using t _ _ o.at) refl) (each (Ending t) refl) (each (Deciding o.event (verdict.Declined reason.GatewayDeclined)) refl))

@@ -7,7 +7,7 @@ use Rattle.iss_model.specs.declared.call.Failure.TheVariants as failure
 use Rattle.iss_model.specs.declared.input.Input.{Input}
 use Rattle.iss_model.specs.declared.input.Input.TheVariants as input
 use Rattle.iss_model.specs.declared.input.Outcome.TheVariants as outcome
-use Rattle.iss_model.specs.rules.Acts.{Abandons, Acknowledges, Act, Asks, Begins, Clears, Declines, Does, Ends, Fails, Funds, GivesBack, HoldsOwn, LetsGo, Loads, Refuses, Sets, StandsIn, Tells, TurnsDown, Uses}
+use Rattle.iss_model.specs.rules.Acts.{Abandons, Acknowledges, Act, Asks, Begins, Clears, Declines, Does, Ends, Fails, Funds, FundsPart, GivesBack, HoldsOwn, LetsGo, Loads, Refuses, Sets, StandsIn, Tells, TurnsDown, Uses}
 
 -- it falls due, or an input makes it
 pub data Cause : Type 0 where
@@ -21,7 +21,7 @@ is_of_event (ComesOf i) event = is_text event (event_token i)
 
 -- an authorisation and an increment seek funding
 abbrev pub seeks_funding : Cause → Bool
-seeks_funding (ComesOf (input.Authorization token card currency amount mcc mid)) = true
+seeks_funding (ComesOf (input.Authorization token card currency amount mcc mid partial)) = true
 seeks_funding (ComesOf (input.Increment token txn currency amount)) = true
 seeks_funding _ = false
 
@@ -30,22 +30,28 @@ abbrev pub funds_call : Cause → Bool
 funds_call (ComesOf (input.Answer call outcome.Funded)) = true
 funds_call _ = false
 
+-- the gateway's answer funds a part of a call, of this amount
+abbrev pub funds_part : Cause → ℕ → Bool
+funds_part (ComesOf (input.Answer call (outcome.Partial currency amount))) n = n == amount
+funds_part by n = false
+
 -- the gateway's answer refuses a call
 abbrev pub refuses_call : Cause → Bool
 refuses_call (ComesOf (input.Answer call outcome.Refused)) = true
 refuses_call _ = false
 
--- a call fails at its deadline, or by an answer
+-- a call fails at its deadline, or by an answer; a part that doesn't count is no answer
 abbrev pub fails_call : Cause → Failure → Bool
 fails_call FallsDue failure.Timeout = true
 fails_call (ComesOf (input.Answer call outcome.Connection)) failure.Connection = true
 fails_call (ComesOf (input.Answer call outcome.Application)) failure.Application = true
+fails_call (ComesOf (input.Answer call (outcome.Partial currency amount))) failure.Application = true
 fails_call by why = false
 
 -- an ask is settled without the gateway: it isn't put to it, or its call fails
 abbrev pub settles_ask : Cause → Bool
 settles_ask FallsDue = true
-settles_ask (ComesOf (input.Authorization token card currency amount mcc mid)) = true
+settles_ask (ComesOf (input.Authorization token card currency amount mcc mid partial)) = true
 settles_ask (ComesOf (input.Increment token txn currency amount)) = true
 settles_ask (ComesOf (input.Answer call what)) = true
 settles_ask _ = false
@@ -82,6 +88,7 @@ may_act by (Uses ask) = seeks_funding by
 may_act by (HoldsOwn ask) = seeks_funding by
 may_act by (Asks f product ask) = seeks_funding by
 may_act by (Funds o t) = funds_call by
+may_act by (FundsPart o t amount) = funds_part by amount
 may_act by (Refuses o t) = refuses_call by
 may_act by (Fails number o t why) = fails_call by why
 may_act by (StandsIn number ask at set) = settles_ask by

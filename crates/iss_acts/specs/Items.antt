@@ -17,7 +17,7 @@ use Rattle.iss_model.specs.declared.input.Input.{Input}
 use Rattle.iss_model.specs.declared.txn.Txn.{Txn}
 use Rattle.iss_model.specs.rules.Asks.{usage_of}
 use Rattle.iss_model.specs.rules.Pieces.{notice_entry, user_account, void_entry}
-use Rattle.iss_model.specs.rules.Acts.{Abandons, Act, Asks, Begins, Clears, Declines, Does, Ends, Fails, Funds, GivesBack, HoldsOwn, LetsGo, Loads, News, Refuses, Sets, StandsIn, Tells, TurnsDown, news_method}
+use Rattle.iss_model.specs.rules.Acts.{Abandons, Act, Asks, Begins, Clears, Declines, Does, Ends, Fails, Funds, FundsPart, GivesBack, HoldsOwn, LetsGo, Loads, News, Refuses, Sets, StandsIn, Tells, TurnsDown, news_method}
 
 -- who pays whom for a transaction, other than its user
 pub data Payment : Type 0 where
@@ -89,6 +89,7 @@ item_entry (Acking notice) = entry.Acked notice
 -- whom an act pays
 abbrev pub may_pay : Act → Payment → Bool
 may_pay (Funds o t) FromGateway = true
+may_pay (FundsPart o t amount) FromGateway = true
 may_pay (StandsIn number ask at set) FromProgramme = true
 may_pay (LetsGo t parts amount) ToProgramme = true
 may_pay (LetsGo t parts amount) ToGateway = true
@@ -106,6 +107,7 @@ may_decide (Loads event user currency amount) verdict.Done = true
 may_decide (Does event) verdict.Done = true
 may_decide (HoldsOwn ask) verdict.Approved = true
 may_decide (Funds o t) verdict.Approved = true
+may_decide (FundsPart o t amount) (verdict.Partial currency part) = true
 may_decide (StandsIn number ask at set) verdict.Approved = true
 may_decide (Declines event why) (verdict.Declined reason) = true
 may_decide (Refuses o t) (verdict.Declined reason) = true
@@ -124,6 +126,7 @@ may_end _ = false
 abbrev pub may_hold : Act → Bool
 may_hold (HoldsOwn ask) = true
 may_hold (Funds o t) = true
+may_hold (FundsPart o t amount) = true
 may_hold (StandsIn number ask at set) = true
 may_hold _ = false
 
@@ -141,6 +144,7 @@ may_open_call _ = false
 -- how an act may close a call
 abbrev pub may_close : Act → How → Bool
 may_close (Funds o t) how.Funded = true
+may_close (FundsPart o t amount) (how.Partial part) = true
 may_close (Refuses o t) how.Refused = true
 may_close (Fails number o t why) (how.Failed failure) = true
 may_close (Abandons number t why calls parts) how.Abandoned = true

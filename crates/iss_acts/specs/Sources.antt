@@ -1,19 +1,22 @@
 -- Where each act comes from in the facts that it is made on, and how far its row has come there.
-use Rattle.std.specs.Prelude.{◌≡◌, ℕ, min, ◌≤◌, ◌<◌, true, false, List, [], ◌∷◌, Option, Some, None, ◌⊎◌}
+use Rattle.std.specs.Prelude.{◌≡◌, ℕ, Bool, min, ◌≤◌, ◌<◌, true, false, List, [], ◌∷◌, Option, Some, None, ◌⊎◌}
+use Rattle.iss_model.specs.declared.call.CallId.{CallId}
 use Rattle.iss_model.specs.declared.call.Opened.{Opened}
 use Rattle.iss_model.specs.declared.currency.Currency.{Currency}
 use Rattle.iss_model.specs.declared.decision.Reason.{Reason}
 use Rattle.iss_model.specs.declared.input.Input.{Input}
 use Rattle.iss_model.specs.declared.input.Input.TheVariants as input
+use Rattle.iss_model.specs.declared.input.Outcome.TheVariants as outcome
 use Rattle.iss_model.specs.declared.txn.Txn.{Txn}
 use Rattle.iss_model.specs.rules.Activity.{CallNow, TxnNow, is_asked}
 use Rattle.iss_model.specs.rules.Asks.{Ask, call_ask}
 use Rattle.iss_model.specs.rules.Pieces.{owed_to_programme, Parts, in_all, parts_held}
+use Rattle.iss_model.specs.rules.CardActs.{counts_as_part}
 use Rattle.iss_model.specs.rules.CardReasons.{authorization_reason, further_ask, increment_reason, is_account_funded}
 use Rattle.iss_model.specs.rules.Facts.{Facts, asked_calls_of, call_in, is_notice, txn_in}
 use Rattle.iss_model.specs.rules.Reasons.{card_reason, control_reason, group_reason, move_reason, product_reason, set_reason, switch_reason, user_reason}
 use Rattle.iss_model.specs.rules.Stepping.{authorization_ask}
-use Rattle.iss_model.specs.rules.Acts.{Abandons, Acknowledges, Act, Asks, Begins, Clears, Ends, Fails, Funds, GivesBack, HoldsOwn, LetsGo, Loads, Refuses, Sets, StandsIn, Tells, TurnsDown, Uses}
+use Rattle.iss_model.specs.rules.Acts.{Abandons, Acknowledges, Act, Asks, Begins, Clears, Ends, Fails, Funds, FundsPart, GivesBack, HoldsOwn, LetsGo, Loads, Refuses, Sets, StandsIn, Tells, TurnsDown, Uses}
 use Rattle.iss_acts.specs.Causes.{Cause, ComesOf, may_act}
 use Rattle.iss_acts.specs.Stages.{Frees, Fresh, Keeps, Leaves, Seeks, Stage, stage_after}
 
@@ -35,6 +38,13 @@ pub record IsAskedCall (f : Facts) (o : Opened) (t : Txn) : Type 0 where
   pub txn_stands : txn_in f its.opened.txn ≡ Some now
   pub same : now.txn ≡ t
 
+-- a cause's answer funds this part of a call, and the part counts
+pub record IsFundedPart (by : Cause) (o : Opened) (amount : ℕ) : Type 0 where
+  pub call : CallId
+  pub currency : Currency
+  pub its_input : by ≡ ComesOf (input.Answer call (outcome.Partial currency amount))
+  pub counts : counts_as_part o currency amount ≡ true
+
 -- an ask is that of a call that is asked
 pub record IsCallAsk (f : Facts) (ask : Ask) : Type 0 where
   pub o : Opened
@@ -50,8 +60,9 @@ pub record IsFirstAsk (f : Facts) (by : Cause) (at : ℕ) (ask : Ask) : Type 0 w
   pub amount : ℕ
   pub mcc : ℕ
   pub mid : List ℕ
-  pub its_input : by ≡ ComesOf (input.Authorization token card currency amount mcc mid)
-  pub made : authorization_ask f token card currency amount mcc mid at ≡ Some ask
+  pub partial : Bool
+  pub its_input : by ≡ ComesOf (input.Authorization token card currency amount mcc mid partial)
+  pub made : authorization_ask f token card currency amount mcc mid partial at ≡ Some ask
   pub none : authorization_reason f card currency (Some ask) ≡ None
 
 -- an ask is that of a cause's increment, which has no reason to be declined
@@ -112,6 +123,7 @@ IsFrom f by at g (Uses ask) = (g ≡ Fresh) × IsFurtherAsk f by at ask
 IsFrom f by at g (HoldsOwn ask) = (g ≡ Seeks ask) × IsOwnAsk f by at ask × (is_account_funded ask.txn.funding ≡ true)
 IsFrom f by at g (Asks h product ask) = (g ≡ Seeks ask) × (h ≡ f) × IsOwnAsk f by at ask × (is_account_funded ask.txn.funding ≡ false)
 IsFrom f by at g (Funds o t) = (g ≡ Fresh) × IsAskedCall f o t
+IsFrom f by at g (FundsPart o t amount) = (g ≡ Fresh) × IsAskedCall f o t × IsFundedPart by o amount
 IsFrom f by at g (Refuses o t) = (g ≡ Fresh) × IsAskedCall f o t
 IsFrom f by at g (Fails number o t why) = (g ≡ Fresh) × IsAskedCall f o t × IsNewNotice f number
 IsFrom f by at g (StandsIn number ask when set) = (g ≡ Seeks ask) × IsSettledAsk f by at ask × (when ≡ at) × IsNewNotice f number

@@ -26,7 +26,7 @@ use Rattle.iss_model.specs.rules.Settings.{card_named, user_named, product_named
 use Rattle.iss_model.specs.rules.Controls.{ControlNow, control_named}
 use Rattle.iss_model.specs.rules.Activity.{TxnNow}
 use Rattle.iss_model.specs.rules.Facts.{Facts, is_notice, next_call}
-use Rattle.iss_model.specs.rules.Acts.{Abandons, Acknowledges, Act, Asks, Begins, Clears, Declines, Does, Ends, Fails, Funds, GivesBack, HoldsOwn, LetsGo, Loads, Refuses, Sets, StandsIn, Tells, TurnsDown, Uses, act_entries, entries_of_acts}
+use Rattle.iss_model.specs.rules.Acts.{Abandons, Acknowledges, Act, Asks, Begins, Clears, Declines, Does, Ends, Fails, Funds, FundsPart, GivesBack, HoldsOwn, LetsGo, Loads, Refuses, Sets, StandsIn, Tells, TurnsDown, Uses, act_entries, entries_of_acts}
 use Rattle.iss_model.specs.rules.Asks.{Ask, ask_usage, call_ask}
 use Rattle.iss_model.specs.rules.Pieces.{taken_to_clear}
 use Rattle.iss_model.specs.rules.Reasons.{card_reason, card_move_reason, user_move_reason, move_reason, put_control_reason, lacks_user, lacks_product, lacks_group}
@@ -39,7 +39,7 @@ use Rattle.iss_acts.proofs.Begun.{is_begun}
 use Rattle.iss_acts.proofs.Walk.{from_start, txn_of_ask, txn_of_call}
 use Rattle.iss_agreement.proofs.Standing.{Bounds, bounds_of, AreFit, IsSettable, Fit}
 use Rattle.iss_agreement.proofs.StayStanding.{true_le, both_true}
-use Rattle.iss_agreement.proofs.FitPieces.{AreKnown, IsKnown, fit-nil, fit-cons, fit-one, fit-append, fit-held, fit-released, fit-abandoned, fit-declined, fit-funded, fit-stood, fit-cleared, fit-refunded, known_txn, known_call, named_later, new_notice}
+use Rattle.iss_agreement.proofs.FitPieces.{AreKnown, IsKnown, fit-nil, fit-cons, fit-one, fit-append, fit-held, fit-released, fit-abandoned, fit-declined, fit-funded, fit-part_funded, fit-stood, fit-cleared, fit-refunded, known_txn, known_call, named_later, new_notice}
 
 -- settings ----
 
@@ -167,6 +167,8 @@ module _ {f : Facts} (all : AreKnown (bounds_of f) f) {by : Cause} {at : ℕ} wh
       over all g _ ys (λ b known sought. fit-one b _ (ap next_call made.from.1 ∙ ap (λ (n : ℕ). n + 1) (sym known.calls))) later
   act_fits g (Funds o t) ys made later =
       over all g _ ys (λ b known sought. fit-cons b _ _ (known_call b f o t known made.from.1) (fit-funded b (call_ask o t) (account.Gateway t.currency) part.G)) later
+  act_fits g (FundsPart o t amount) ys made later =
+      over all g _ ys (λ b known sought. fit-cons b _ _ (known_call b f o t known made.from.1) (fit-part_funded b o t amount (known_txn b f t known (txn_of_call made.from.1)))) later
   act_fits g (Refuses o t) ys made later =
       over all g _ ys (λ b known sought. fit-cons b _ _ (known_call b f o t known made.from.1) (fit-declined b (call_ask o t) reason.GatewayDeclined (known_txn b f t known (txn_of_call made.from.1)))) later
   act_fits g (Fails number o t why) ys made later =

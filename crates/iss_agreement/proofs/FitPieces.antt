@@ -14,7 +14,7 @@ use Rattle.iss_model.specs.rules.Settings.{is_named_in}
 use Rattle.iss_model.specs.rules.Activity.{TxnNow, CallNow, is_asked}
 use Rattle.iss_model.specs.rules.Asks.{Ask}
 use Rattle.iss_model.specs.rules.Facts.{Facts, asked_calls_of}
-use Rattle.iss_model.specs.rules.Pieces.{post_entries, hold_entries, unhold_entries, Parts, use_return_entries, release_entries, abandoned_call_entries, abandoned_calls_entries, declined_ask_entries, funded_ask_entries, set_stand_in_entries, clearing_money_entries, give_back_entries}
+use Rattle.iss_model.specs.rules.Pieces.{post_entries, hold_entries, unhold_entries, Parts, use_return_entries, release_entries, abandoned_call_entries, abandoned_calls_entries, declined_ask_entries, funded_ask_entries, part_funded_entries, set_stand_in_entries, clearing_money_entries, give_back_entries}
 use Rattle.iss_model.proofs.Lists.{find_passes}
 use Rattle.iss_acts.specs.Sources.{IsAskedCall, IsNewNotice, IsTxnOf}
 use Rattle.iss_agreement.proofs.StayStanding.{true_le}
@@ -104,6 +104,9 @@ fit-declined b ask why known = search fits depth 20
 
 pub fit-funded : (b : Bounds) (ask : Ask) (from : Account) (p : Part) → AreFit b (funded_ask_entries ask from p)
 fit-funded b ask from p = search (fits, fit-posted, fit-held) depth 20
+
+pub fit-part_funded : (b : Bounds) (o : Opened) (t : Txn) (amount : ℕ) → IsKnown b t → AreFit b (part_funded_entries o t amount)
+fit-part_funded b o t amount known = search (fits, fit-posted, fit-held) depth 20
 
 pub fit-stood : (b : Bounds) (number : ℕ) (ask : Ask) (at : ℕ) (s : Set) → b.notices < number → AreFit b (set_stand_in_entries number ask at s)
 fit-stood b number ask at s next = search (fits, fit-posted, fit-held) depth 20
