@@ -16,7 +16,7 @@ use Rattle.iss_state.specs.Stakes.{IsOrderlyState, at_least_one}
 -- How much money an input costs beyond what was at stake: a load its amount, a clearing and a refund twice theirs, and an ask four times.
 abbrev pub input_money : Input → ℕ
 input_money (input.Load token user currency amount) = amount
-input_money (input.Authorization token card currency amount mcc mid) = 4 * at_least_one amount
+input_money (input.Authorization token card currency amount mcc mid partial) = 4 * at_least_one amount
 input_money (input.Increment token txn currency amount) = 4 * at_least_one amount
 input_money (input.Clearing token txn currency amount last) = 2 * amount
 input_money (input.Refund token txn currency amount) = 2 * amount
@@ -24,7 +24,7 @@ input_money _ = 0
 
 -- how much use it costs: an ask four times its amount, and a clearing its amount once
 abbrev pub input_use : Input → ℕ
-input_use (input.Authorization token card currency amount mcc mid) = 4 * at_least_one amount
+input_use (input.Authorization token card currency amount mcc mid partial) = 4 * at_least_one amount
 input_use (input.Increment token txn currency amount) = 4 * at_least_one amount
 input_use (input.Clearing token txn currency amount last) = amount
 input_use _ = 0
@@ -35,7 +35,7 @@ InputIsPaid s i at = Paid (input_money i) (input_use i) s (input_entries s i at)
 
 -- an input begins no transaction
 abbrev pub begins_none : Input → Bool
-begins_none (input.Authorization token card currency amount mcc mid) = false
+begins_none (input.Authorization token card currency amount mcc mid partial) = false
 begins_none _ = true
 
 -- What a cause brings, beyond what is at stake: money

@@ -14,7 +14,7 @@ use Rattle.iss_model.specs.rules.Acts.{Abandons, StandsIn, act_entries, entries_
 use Rattle.iss_model.specs.rules.Asks.{Ask}
 use Rattle.iss_model.specs.rules.CardActs.{end_acts}
 use Rattle.iss_model.specs.rules.Facts.{Facts, asked_calls_of}
-use Rattle.iss_model.specs.rules.Pieces.{Parts, declined_ask_entries, funded_ask_entries, in_all, release_entries}
+use Rattle.iss_model.specs.rules.Pieces.{Parts, declined_ask_entries, funded_ask_entries, in_all, part_funded_entries, release_entries}
 use Rattle.iss_model.specs.state.Cores.{CoreState}
 use Rattle.iss_state.specs.Effects.{Effect, Paid}
 use Rattle.iss_state.specs.Stakes.{at_least_one, part_held, total_asked}
@@ -64,6 +64,10 @@ DeclineIsPaid s ask why = Paid 0 (2 * at_least_one ask.amount) s (declined_ask_e
 -- an ask that is funded costs four times its amount in money, and once in use
 abbrev pub FundingIsPaid : CoreState → Ask → Account → Part → Type 0
 FundingIsPaid s ask from p = Paid (4 * ask.amount) ask.amount s (funded_ask_entries ask from p)
+
+-- a part of a call's amount that is funded costs four times the part in money, and once in use what the call asks
+abbrev pub PartIsPaid : CoreState → Opened → Txn → ℕ → Type 0
+PartIsPaid s o t amount = Paid (4 * amount) o.amount s (part_funded_entries o t amount)
 
 -- an ask that a set stands in for costs four times its amount in money, and twice in use
 abbrev pub StandInIsPaid : CoreState → ℕ → Ask → ℕ → Set → Type 0

@@ -1,7 +1,8 @@
 //! What acts cost, and the pieces that they are made of.
-ghost use Rattle.std.specs.Prelude.{ℕ};
+ghost use Rattle.std.specs.Prelude.{ℕ, ◌≤◌};
 ghost use Rattle.iss_model.specs.declared.account.Account.{Account};
 ghost use Rattle.iss_model.specs.declared.account.Part.{Part};
+ghost use Rattle.iss_model.specs.declared.call.Opened.{Opened};
 ghost use Rattle.iss_model.specs.declared.decision.Reason.{Reason};
 ghost use Rattle.iss_model.specs.declared.setting.Set.{Set};
 ghost use Rattle.iss_model.specs.declared.txn.Txn.{Txn};
@@ -10,11 +11,11 @@ ghost use Rattle.iss_model.specs.rules.Asks.{Ask};
 ghost use Rattle.iss_model.specs.rules.Pieces.{Parts};
 ghost use Rattle.iss_model.specs.state.Cores.{CoreState};
 ghost use Rattle.iss_state.specs.Effects.{IfHolds, IfStands};
-ghost use Rattle.iss_state.specs.Payments.{AbandonmentIsPaid, DeclineIsPaid, EndIsPaid, FundingIsPaid, ReleaseIsPaid, StandInIsPaid};
+ghost use Rattle.iss_state.specs.Payments.{AbandonmentIsPaid, DeclineIsPaid, EndIsPaid, FundingIsPaid, PartIsPaid, ReleaseIsPaid, StandInIsPaid};
 
 /// A release is paid by what it lets go, and an abandonment by what its calls ask, so an end costs nothing.
 /// An ask that is decided costs at most four times what was asked in money and twice in use, whoever decides it.
-#[tactic(auto, using(crate::proofs::effects::Asks::end_paid, crate::proofs::effects::Asks::declined_ask_paid, crate::proofs::effects::Asks::funded_ask_paid, crate::proofs::effects::Asks::set_stand_in_paid))]
+#[tactic(auto, using(crate::proofs::effects::Asks::end_paid, crate::proofs::effects::Asks::declined_ask_paid, crate::proofs::effects::Asks::funded_ask_paid, crate::proofs::effects::Asks::part_funded_paid, crate::proofs::effects::Asks::set_stand_in_paid))]
 pub fn pieces_are_paid()
     ensures release { (s : CoreState) (t : Txn) (parts : Parts) (amount : ℕ)
         → IfHolds s t parts (ReleaseIsPaid s t parts amount) }
@@ -26,6 +27,8 @@ pub fn pieces_are_paid()
         → IfStands s ask.txn (DeclineIsPaid s ask why) }
     ensures funded { (s : CoreState) (ask : Ask) (from : Account) (p : Part)
         → IfStands s ask.txn (FundingIsPaid s ask from p) }
+    ensures part_funded { (s : CoreState) (o : Opened) (t : Txn) (amount : ℕ)
+        → amount ≤ o.amount → IfStands s t (PartIsPaid s o t amount) }
     ensures stood_in { (s : CoreState) (number : ℕ) (ask : Ask) (at : ℕ) (set : Set)
         → IfStands s ask.txn (StandInIsPaid s number ask at set) }
 {}

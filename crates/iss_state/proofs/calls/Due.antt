@@ -10,6 +10,7 @@ use Rattle.iss_model.specs.declared.call.How.TheVariants as how
 use Rattle.iss_model.specs.declared.call.Opened.{Opened}
 use Rattle.iss_model.specs.declared.decision.Reason.{Reason}
 use Rattle.iss_model.specs.declared.decision.Reason.TheVariants as reason
+use Rattle.iss_model.specs.declared.decision.Verdict.{Verdict}
 use Rattle.iss_model.specs.declared.decision.Verdict.TheVariants as verdict
 use Rattle.iss_model.specs.declared.entry.Entry.{Entry}
 use Rattle.iss_model.specs.declared.entry.Entry.TheVariants as entry
@@ -17,9 +18,9 @@ use Rattle.iss_model.specs.declared.input.Outcome.{Outcome}
 use Rattle.iss_model.specs.declared.input.Outcome.TheVariants as outcome
 use Rattle.iss_model.specs.declared.txn.Txn.{Txn}
 use Rattle.iss_model.specs.rules.Activity.{TxnNow, CallNow, txn_named, call_numbered, is_asked}
-use Rattle.iss_model.specs.rules.Acts.{Act, entries_of_acts}
+use Rattle.iss_model.specs.rules.Acts.{Act, FundsPart, entries_of_acts}
 use Rattle.iss_model.specs.rules.Asks.{call_ask, is_authorization}
-use Rattle.iss_model.specs.rules.CardActs.{acts_of_asked, acts_of_txn, failed_acts, outcome_acts, stand_acts}
+use Rattle.iss_model.specs.rules.CardActs.{acts_of_asked, acts_of_txn, counts_as_part, failed_acts, outcome_acts, stand_acts}
 use Rattle.iss_model.specs.rules.Due.{DueThing, call_due, expiry_acts, live_expiry_acts, thing_acts, txn_due, thing_entries}
 use Rattle.iss_model.specs.rules.Facts.{Facts, asked_calls_of, next_notice}
 use Rattle.iss_model.specs.rules.Pieces.{parts_held, in_all, failure_reason}
@@ -80,8 +81,8 @@ if_expired P s token none some = of_txn (txn_named token s.holdings.txns) refl
 -- a call is answered ----
 
 module _ (known : Known) (d : Docket) (n : ℕ) (c : CallNow) (t : Txn) (well : IsWellAmong known d) (now : IsAsked d.calls n c) (its : t.token ≡ c.opened.txn) where
-  approved : (w : How) → Enters known d None (entry.Closed c.opened.call w ∷ entry.Decided c.opened.event verdict.Approved ∷ [])
-  approved w = enters_closed known d n c w t.token false verdict.Approved well now its never
+  decided : (w : How) (v : Verdict) → Enters known d None (entry.Closed c.opened.call w ∷ entry.Decided c.opened.event v ∷ [])
+  decided w v = enters_closed known d n c w t.token false v well now its never
 
   turned : (w : How) (why : Reason) → Enters known d None (entry.Closed c.opened.call w ∷ (turned_down (call_ask c.opened t) why ++ []))
   turned w why =
@@ -89,7 +90,7 @@ module _ (known : Known) (d : Docket) (n : ℕ) (c : CallNow) (t : Txn) (well : 
       (enters_closed known d n c w t.token (is_authorization c.opened.method) (verdict.Declined why) well now its (λ e. e))
 
   stood : (x : Stand) (number : ℕ) (why : Failure) (at : ℕ) → Enters known d None (entry.Closed c.opened.call (how.Failed why) ∷ docketed_by (stand_acts x number (call_ask c.opened t) why at))
-  stood (allowed set) number why at = approved (how.Failed why)
+  stood (allowed set) number why at = decided (how.Failed why) verdict.Approved
   stood (over_limit set) number why at = turned (how.Failed why) (reason.StandInLimit set.name)
   stood uncovered number why at = turned (how.Failed why) (failure_reason why)
 
@@ -97,10 +98,15 @@ module _ (known : Known) (d : Docket) (n : ℕ) (c : CallNow) (t : Txn) (well : 
   failed_enters f why at = stood (stand f (call_ask c.opened t) why at) (next_notice f + 1) why at
 
   pub outcome_enters : (what : Outcome) (f : Facts) (at : ℕ) → Enters known d None (docketed_by (outcome_acts what f c.opened t at))
-  outcome_enters outcome.Funded f at = approved how.Funded
+  outcome_enters outcome.Funded f at = decided how.Funded verdict.Approved
   outcome_enters outcome.Refused f at = turned how.Refused reason.GatewayDeclined
   outcome_enters outcome.Connection f at = failed_enters f failure.Connection at
   outcome_enters outcome.Application f at = failed_enters f failure.Application at
+  outcome_enters (outcome.Partial currency amount) f at = by (counts_as_part c.opened currency amount)
+    where
+      by : (b : Bool) → Enters known d None (docketed_by (cond b (FundsPart c.opened t amount ∷ []) (failed_acts f c.opened t failure.Application at)))
+      by true = decided (how.Partial amount) (verdict.Partial t.currency amount)
+      by false = failed_enters f failure.Application at
 
 -- what is found by a token has it
 pub its_token : (txns : List TxnNow) (token : List ℕ) (t : TxnNow) → txn_named token txns ≡ Some t → t.txn.token ≡ token

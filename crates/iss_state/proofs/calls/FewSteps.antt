@@ -14,9 +14,9 @@ use Rattle.iss_model.specs.declared.input.Record.{Record}
 use Rattle.iss_model.specs.declared.setting.Product.{Product}
 use Rattle.iss_model.specs.declared.txn.Txn.{Txn}
 use Rattle.iss_model.specs.rules.Activity.{TxnNow, CallNow, is_asked}
-use Rattle.iss_model.specs.rules.Acts.{Acknowledges, Act}
+use Rattle.iss_model.specs.rules.Acts.{Acknowledges, Act, FundsPart}
 use Rattle.iss_model.specs.rules.Asks.{Ask, call_ask}
-use Rattle.iss_model.specs.rules.CardActs.{acts_for_gateway, acts_of_asked, acts_of_txn, acts_where, authorization_acts, clearing_acts, end_acts, failed_acts, funding_acts, gateway_acts, outcome_acts, refund_acts, reversal_acts, stand_acts}
+use Rattle.iss_model.specs.rules.CardActs.{acts_for_gateway, acts_of_asked, acts_of_txn, acts_where, authorization_acts, clearing_acts, counts_as_part, end_acts, failed_acts, funding_acts, gateway_acts, outcome_acts, refund_acts, reversal_acts, stand_acts}
 use Rattle.iss_model.specs.rules.Pieces.{Parts, parts_held, in_all, left_of, taken_to_clear}
 use Rattle.iss_model.specs.rules.CardReasons.{further_ask, is_account_funded}
 use Rattle.iss_model.specs.rules.Due.{DueThing, call_due, live_expiry_acts, thing_acts, txn_due, thing_entries}
@@ -61,6 +61,8 @@ outcome_costs outcome.Funded f o t at = more (none_costs 0)
 outcome_costs outcome.Refused f o t at = more (none_costs 0)
 outcome_costs outcome.Connection f o t at = failed_costs f o t failure.Connection at
 outcome_costs outcome.Application f o t at = failed_costs f o t failure.Application at
+outcome_costs (outcome.Partial currency amount) f o t at =
+    costs_either (counts_as_part o currency amount) {xs = FundsPart o t amount ∷ []} (more (none_costs 0)) (failed_costs f o t failure.Application at)
 
 asked_costs : (make : Opened → Txn → List Act) (c : Option CallNow) (f : Facts) → ((o : Opened) (t : Txn) → ActsCost (make o t) 0 0 0) → ActsCost (acts_of_asked make c f) 0 0 0
 asked_costs make None f each = none_costs 0
@@ -128,7 +130,7 @@ kinds_cost f at =
       declined = λ i token why its. little (more (none_costs 0)) (omega arith);
       setting = λ i token its none. little (more (none_costs 0)) (omega arith);
       load = λ token user currency amount. little (more (none_costs 0)) (omega arith);
-      authorization = λ token card currency amount mcc mid ask made none. authorization_costs f ask;
+      authorization = λ token card currency amount mcc mid partial ask made none. authorization_costs f ask;
       increment = λ token txn currency amount now stands none. comes_to 1 3 0 (more (funding_costs f (further_ask token amount at now.txn))) (omega arith) (omega arith);
       reversal = λ token txn currency amount now stands none. little (reversal_costs f token amount now) (omega arith);
       clearing = λ token txn currency amount last now stands none. little (clearing_costs f token amount last at now) (omega arith);

@@ -129,18 +129,18 @@ record IsAskOf (f : Facts) (event : List ℕ) (x : Ask) : Type 0 where
   its_token : x.txn.token ≡ event
   its_product : is_some (product_named x.txn.product f.products) ≡ true
 
-ask_of : (f : Facts) (token : List ℕ) (currency : Currency) (amount mcc : ℕ) (mid : List ℕ) (at : ℕ) (c : Card) (test : Product → Bool) (product : Option Product)
+ask_of : (f : Facts) (token : List ℕ) (currency : Currency) (amount mcc : ℕ) (mid : List ℕ) (partial : Bool) (at : ℕ) (c : Card) (test : Product → Bool) (product : Option Product)
     → product_named c.product f.products ≡ product → is_some_with test product ≡ true
-    → (x : Ask) × (option_map (first_ask token amount at) (option_map (λ product. txn_begun f c product token currency mcc mid at) product) ≡ Some x) × IsAskOf f token x
-ask_of f token currency amount mcc mid at c test None e h = cc
-ask_of f token currency amount mcc mid at c test (Some product) e h =
-    (first_ask token amount at (txn_begun f c product token currency mcc mid at), refl, record { its_event = refl; its_token = refl; its_product = ap (λ (o : Option Product). is_some o) e })
+    → (x : Ask) × (option_map (first_ask token amount partial at) (option_map (λ product. txn_begun f c product token currency mcc mid at) product) ≡ Some x) × IsAskOf f token x
+ask_of f token currency amount mcc mid partial at c test None e h = cc
+ask_of f token currency amount mcc mid partial at c test (Some product) e h =
+    (first_ask token amount partial at (txn_begun f c product token currency mcc mid at), refl, record { its_event = refl; its_token = refl; its_product = ap (λ (o : Option Product). is_some o) e })
 
-ask_there : (f : Facts) (token : List ℕ) (currency : Currency) (amount mcc : ℕ) (mid : List ℕ) (at : ℕ) (card : Option Card)
+ask_there : (f : Facts) (token : List ℕ) (currency : Currency) (amount mcc : ℕ) (mid : List ℕ) (partial : Bool) (at : ℕ) (card : Option Card)
     → is_some_with (is_in_currency f currency) card ≡ true
-    → (x : Ask) × (option_map (first_ask token amount at) (option_and_then (λ c. option_map (λ product. txn_begun f c product token currency mcc mid at) (product_named c.product f.products)) card) ≡ Some x) × IsAskOf f token x
-ask_there f token currency amount mcc mid at None h = cc
-ask_there f token currency amount mcc mid at (Some c) h = ask_of f token currency amount mcc mid at c _ (product_named c.product f.products) refl h
+    → (x : Ask) × (option_map (first_ask token amount partial at) (option_and_then (λ c. option_map (λ product. txn_begun f c product token currency mcc mid at) (product_named c.product f.products)) card) ≡ Some x) × IsAskOf f token x
+ask_there f token currency amount mcc mid partial at None h = cc
+ask_there f token currency amount mcc mid partial at (Some c) h = ask_of f token currency amount mcc mid partial at c _ (product_named c.product f.products) refl h
 
 -- no call of a transaction that doesn't stand is asked, and it may hold more when it begins
 pub unasked : (known : Known) (d : Docket) (token : List ℕ) → IsWellAmong known d → txn_named token d.txns ≡ None → NoneAskedOf d.calls token
@@ -169,17 +169,17 @@ begun_enters s event x well its ask =
       alone = λ h. unasked known d x.txn.token well none;
     }) ask.its_product)
 
-authorization_enters : (s : CoreState) (token card : List ℕ) (currency : Currency) (amount mcc : ℕ) (mid : List ℕ) (at : ℕ) (ask : Option Ask)
-    → authorization_ask (core_facts s) token card currency amount mcc mid at ≡ ask → IsWellAmong (known_of s) (docket_of s) → IsNewOn s token
+authorization_enters : (s : CoreState) (token card : List ℕ) (currency : Currency) (amount mcc : ℕ) (mid : List ℕ) (partial : Bool) (at : ℕ) (ask : Option Ask)
+    → authorization_ask (core_facts s) token card currency amount mcc mid partial at ≡ ask → IsWellAmong (known_of s) (docket_of s) → IsNewOn s token
     → authorization_reason (core_facts s) card currency ask ≡ None → Enters (known_of s) (docket_of s) (Some token) (docketed_by (authorization_acts (core_facts s) ask))
-authorization_enters s token card currency amount mcc mid at ask made well its none =
+authorization_enters s token card currency amount mcc mid partial at ask made well its none =
     let f : Facts = core_facts s in
     let known : Option Card = card_named card f.cards in
     let first = first_fails (is_none known) reason.CardUnknown _ none in
     let second = first_fails (not (is_some_with (λ c. is_active_card c.state) known)) reason.CardState _ first.1 in
     let third = first_fails (not (is_some_with (λ c. user_is is_active_user f c.user) known)) reason.UserState _ second.1 in
     let fourth = first_fails (not (is_some_with (is_in_currency f currency) known)) reason.Currency _ third.1 in
-    let there = ask_there f token currency amount mcc mid at known (not-false (is_some_with (is_in_currency f currency) known) fourth.0) in
+    let there = ask_there f token currency amount mcc mid partial at known (not-false (is_some_with (is_in_currency f currency) known) fourth.0) in
     subst (λ (o : Option Ask). Enters (known_of s) (docket_of s) (Some token) (docketed_by (authorization_acts f o))) (sym there.1 ∙ made)
     (subst (λ (own : List ℕ). Enters (known_of s) (docket_of s) (Some own) (docketed_by (authorization_acts f (Some there.0)))) there.2.its_event
     (begun_enters s token there.0 well its there.2))
@@ -280,7 +280,7 @@ kinds_enter s at well =
       declined = λ i token why its new. decides_own s i token (verdict.Declined why) its (new token its);
       setting = λ i token its none new. decides_own s i token verdict.Done its (new token its);
       load = λ token user currency amount new. decides s token verdict.Done (new token refl);
-      authorization = λ token card currency amount mcc mid ask made none new. authorization_enters s token card currency amount mcc mid at ask made well (new token refl) none;
+      authorization = λ token card currency amount mcc mid partial ask made none new. authorization_enters s token card currency amount mcc mid partial at ask made well (new token refl) none;
       increment = λ token txn currency amount now stands none new. increment_enters s token txn currency amount at now stands well (new token refl) none;
       reversal = λ token txn currency amount now stands none new. reversal_enters s token txn amount currency now stands well (new token refl) none;
       clearing = λ token txn currency amount last now stands none new. clearing_enters s token txn amount last at now stands well (new token refl);

@@ -9,6 +9,7 @@ use Rattle.iss_model.specs.declared.account.Part.{Part}
 use Rattle.iss_model.specs.declared.account.Part.TheVariants as part
 use Rattle.iss_model.specs.declared.call.How.TheVariants as how
 use Rattle.iss_model.specs.declared.call.Method.TheVariants as method
+use Rattle.iss_model.specs.declared.call.Opened.{Opened}
 use Rattle.iss_model.specs.declared.decision.Reason.{Reason}
 use Rattle.iss_model.specs.declared.decision.Reason.TheVariants as reason
 use Rattle.iss_model.specs.declared.decision.Verdict.TheVariants as verdict
@@ -16,10 +17,10 @@ use Rattle.iss_model.specs.declared.entry.Entry.{Entry}
 use Rattle.iss_model.specs.declared.entry.Entry.TheVariants as entry
 use Rattle.iss_model.specs.declared.txn.Txn.{Txn}
 use Rattle.iss_model.specs.rules.Activity.{CallNow}
-use Rattle.iss_model.specs.rules.Acts.{Abandons, Act, Asks, Begins, Clears, Declines, Does, Ends, Fails, Funds, GivesBack, HoldsOwn, LetsGo, Loads, Refuses, Sets, StandsIn, TurnsDown, act_entries, entries_of_acts}
+use Rattle.iss_model.specs.rules.Acts.{Abandons, Act, Asks, Begins, Clears, Declines, Does, Ends, Fails, Funds, FundsPart, GivesBack, HoldsOwn, LetsGo, Loads, Refuses, Sets, StandsIn, TurnsDown, act_entries, entries_of_acts}
 use Rattle.iss_model.specs.rules.CardActs.{acts_for_gateway, acts_where}
 use Rattle.iss_model.specs.rules.Asks.{Ask, call_ask, usage_of}
-use Rattle.iss_model.specs.rules.Pieces.{clearing_money_entries, only_where, only_gateway, post_entries, hold_entries, unhold_entries, user_account, Parts, in_all, taken_to_clear, taken_to_release, call_for, use_return_entries, release_entries, notice_entry, abandoned_calls_entries, declined_ask_entries, funded_ask_entries}
+use Rattle.iss_model.specs.rules.Pieces.{clearing_money_entries, only_where, only_gateway, post_entries, hold_entries, unhold_entries, user_account, Parts, in_all, taken_to_clear, taken_to_release, call_for, use_return_entries, release_entries, notice_entry, abandoned_calls_entries, declined_ask_entries, funded_ask_entries, part_funded_entries}
 use Rattle.iss_model.specs.rules.CardReasons.{is_account_funded}
 use Rattle.iss_state.specs.Dockets.{is_docketed}
 
@@ -102,6 +103,7 @@ docketed (Begins ask) = entry.Began ask.txn ∷ []
 docketed (HoldsOwn ask) = entry.Decided ask.event verdict.Approved ∷ []
 docketed (Asks f product ask) = entry.Opened (call_for f product ask) ∷ []
 docketed (Funds o t) = entry.Closed o.call how.Funded ∷ entry.Decided o.event verdict.Approved ∷ []
+docketed (FundsPart o t amount) = entry.Closed o.call (how.Partial amount) ∷ entry.Decided o.event (verdict.Partial t.currency amount) ∷ []
 docketed (Refuses o t) = entry.Closed o.call how.Refused ∷ turned_down (call_ask o t) reason.GatewayDeclined
 docketed (Fails number o t why) = entry.Closed o.call (how.Failed why) ∷ []
 docketed (StandsIn number ask at set) = entry.Decided ask.event verdict.Approved ∷ []
@@ -120,6 +122,11 @@ funded_docketed ask from p =
     silent_first (post_entries ask.txn from (user_account ask.txn) ask.amount ++ hold_entries ask.txn p ask.amount) (entry.Decided ask.event verdict.Approved ∷ [])
     (both_silent (post_silent ask.txn from (user_account ask.txn) ask.amount) (hold_silent ask.txn p ask.amount))
 
+part_docketed : (o : Opened) (t : Txn) (amount : ℕ) → filter is_docketed (part_funded_entries o t amount) ≡ entry.Decided o.event (verdict.Partial t.currency amount) ∷ []
+part_docketed o t amount =
+    silent_first (post_entries t (account.Gateway t.currency) (user_account t) amount ++ hold_entries t part.G amount) (entry.Decided o.event (verdict.Partial t.currency amount) ∷ [])
+    (both_silent (post_silent t (account.Gateway t.currency) (user_account t) amount) (hold_silent t part.G amount))
+
 turned_docketed : (ask : Ask) (why : Reason) → filter is_docketed (declined_ask_entries ask why) ≡ turned_down ask why
 turned_docketed ask why = by ask.is_first
   where
@@ -131,6 +138,7 @@ turned_docketed ask why = by ask.is_first
 act_docketed : (a : Act) → filter is_docketed (act_entries a) ≡ docketed a
 act_docketed (HoldsOwn ask) = silent_first (hold_entries ask.txn part.S ask.amount) (entry.Decided ask.event verdict.Approved ∷ []) (hold_silent ask.txn part.S ask.amount)
 act_docketed (Funds o t) = ap (λ (es : List Entry). entry.Closed o.call how.Funded ∷ es) (funded_docketed (call_ask o t) (account.Gateway t.currency) part.G)
+act_docketed (FundsPart o t amount) = ap (λ (es : List Entry). entry.Closed o.call (how.Partial amount) ∷ es) (part_docketed o t amount)
 act_docketed (Refuses o t) = ap (λ (es : List Entry). entry.Closed o.call how.Refused ∷ es) (turned_docketed (call_ask o t) reason.GatewayDeclined)
 act_docketed (StandsIn number ask at set) =
     silent_first (post_entries ask.txn (account.Programme ask.txn.currency) (user_account ask.txn) ask.amount ++ hold_entries ask.txn part.P ask.amount)

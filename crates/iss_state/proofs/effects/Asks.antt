@@ -1,20 +1,21 @@
 -- Ends of transactions and asks are paid by what was at stake.
 use Rattle.std.specs.Prelude.{None}
-use Rattle.std.proofs.Common.{Bool, List, [], arith, cond, false, fold, nat_abs, neg_ℤ, pos, refl, true, ℕ, ◌*◌, ◌++◌, ◌∷◌, ◌≡◌, ◌≤◌}
+use Rattle.std.proofs.Common.{Bool, List, [], arith, cond, false, fold, nat_abs, neg_ℤ, pos, refl, true, ℕ, ◌*◌, ◌++◌, ◌-◌, ◌∷◌, ◌≡◌, ◌≤◌}
 use Rattle.iss_model.specs.declared.account.Account.{Account}
 use Rattle.iss_model.specs.declared.account.Account.TheVariants as account
 use Rattle.iss_model.specs.declared.account.Part.{Part}
 use Rattle.iss_model.specs.declared.account.Part.TheVariants as part
 use Rattle.iss_model.specs.declared.call.Method.TheVariants as method
+use Rattle.iss_model.specs.declared.call.Opened.{Opened}
 use Rattle.iss_model.specs.declared.decision.Reason.{Reason}
 use Rattle.iss_model.specs.declared.decision.Verdict.TheVariants as verdict
 use Rattle.iss_model.specs.declared.entry.Entry.{Entry}
 use Rattle.iss_model.specs.declared.entry.Entry.TheVariants as entry
 use Rattle.iss_model.specs.declared.setting.Set.{Set}
 use Rattle.iss_model.specs.declared.txn.Txn.{Txn}
-use Rattle.iss_model.specs.rules.Asks.{Ask, ask_count, ask_given_back}
+use Rattle.iss_model.specs.rules.Asks.{Ask, ask_count, ask_given_back, rest_given_back}
 use Rattle.iss_model.specs.rules.Facts.{Facts, asked_calls_of}
-use Rattle.iss_model.specs.rules.Pieces.{Parts, abandoned_calls_entries, declined_ask_entries, funded_ask_entries, hold_entries, in_all, notice_entry, post_entries, release_entries, set_stand_in_entries, user_account}
+use Rattle.iss_model.specs.rules.Pieces.{Parts, abandoned_calls_entries, declined_ask_entries, funded_ask_entries, hold_entries, in_all, notice_entry, part_funded_entries, post_entries, release_entries, set_stand_in_entries, user_account}
 use Rattle.iss_model.specs.rules.Acts.{entries_of_acts}
 use Rattle.iss_model.specs.rules.CardActs.{end_acts}
 use Rattle.iss_model.specs.state.Cores.{CoreState, after_entry}
@@ -22,9 +23,9 @@ use Rattle.iss_state.specs.Effects.{Effect, HoldsParts, Paid}
 use Rattle.iss_state.specs.Needs.{Stands}
 use Rattle.iss_state.specs.Stakes.{IsOrderlyState, at_least_one}
 use Rattle.iss_state.proofs.effects.Abandonment.{abandonment_effect, abandonment_holdings, given_back_size}
-use Rattle.iss_state.proofs.effects.Effects.{and_then, calm_effect, end_effect, no_effect, stands_then, still_effect}
+use Rattle.iss_state.proofs.effects.Effects.{and_then, calm_effect, down_size, end_effect, no_effect, stands_then, still_effect}
 use Rattle.iss_state.proofs.effects.Paid.{costs}
-use Rattle.iss_state.proofs.effects.PieceEffects.{hold_effect, post_effect, usage_fits}
+use Rattle.iss_state.proofs.effects.PieceEffects.{hold_effect, post_effect, usage_effect, usage_fits}
 use Rattle.iss_state.proofs.effects.Taking.{holds_then, release_effect}
 
 -- ---- the end of a transaction
@@ -65,6 +66,19 @@ funded_ask_paid s ask from p h stands =
     let e1 = post_effect s ask.txn from (user_account ask.txn) ask.amount h stands in
     let e2 = and_then e1 (hold_effect (fold after_entry s xs) ask.txn p ask.amount e1.orderly (stands_then ask.txn e1 stands)) in
     costs (4 * ask.amount) ask.amount (and_then e2 (still_effect (fold after_entry s (xs ++ ys)) (entry.Decided ask.event verdict.Approved ∷ []) e2.orderly refl)) (omega arith) (omega arith)
+
+-- a part of a call's amount is paid by four times the part in money, and in use by the part and the rest, which comes back
+pub part_funded_paid : (s : CoreState) (o : Opened) (t : Txn) (amount : ℕ) → amount ≤ o.amount → IsOrderlyState s → Stands s t → Paid (4 * amount) o.amount s (part_funded_entries o t amount)
+part_funded_paid s o t amount le h stands =
+    let zs : List Entry = entry.Usage (rest_given_back o t amount) ∷ [] in
+    let xs = post_entries t (account.Gateway t.currency) (user_account t) amount in
+    let ys = hold_entries t part.G amount in
+    let e0 = usage_effect s t (neg_ℤ (pos (o.amount - amount))) (pos 0) o.at h stands in
+    let e1 = and_then e0 (post_effect (fold after_entry s zs) t (account.Gateway t.currency) (user_account t) amount e0.orderly (stands_then t e0 stands)) in
+    let e2 = and_then e1 (hold_effect (fold after_entry s (zs ++ xs)) t part.G amount e1.orderly (stands_then t e1 stands)) in
+    costs (4 * amount) o.amount
+    (and_then e2 (still_effect (fold after_entry s (zs ++ xs ++ ys)) (entry.Decided o.event (verdict.Partial t.currency amount) ∷ []) e2.orderly refl)) (omega arith)
+    (omega (arith, le, down_size (o.amount - amount)))
 
 -- a set that stands in pays alike, and its sum of the day once more
 pub set_stand_in_paid : (s : CoreState) (number : ℕ) (ask : Ask) (at : ℕ) (set : Set) → IsOrderlyState s → Stands s ask.txn → Paid (4 * ask.amount) (2 * ask.amount) s (set_stand_in_entries number ask at set)

@@ -19,7 +19,7 @@ use Rattle.iss_model.specs.rules.CardReasons.{is_account_funded}
 use Rattle.iss_model.specs.rules.Pieces.{Parts, abandoned_calls_entries, hold_entries, notice_entry, parts_held, post_entries, user_account}
 use Rattle.iss_model.specs.rules.Reasons.{is_some_with}
 use Rattle.iss_model.specs.state.Cores.{CoreState, after_entry, core_facts}
-use Rattle.iss_model.specs.rules.Acts.{Abandons, Act, Asks, Begins, Clears, Ends, Fails, Funds, GivesBack, HoldsOwn, LetsGo, Refuses, StandsIn, TurnsDown, Uses, act_entries}
+use Rattle.iss_model.specs.rules.Acts.{Abandons, Act, Asks, Begins, Clears, Ends, Fails, Funds, FundsPart, GivesBack, HoldsOwn, LetsGo, Refuses, StandsIn, TurnsDown, Uses, act_entries}
 use Rattle.iss_acts.specs.Causes.{Cause, ComesOf}
 use Rattle.iss_acts.specs.Sources.{IsAskedCall, IsFirstAsk, IsFurtherAsk, IsMade, IsSettledAsk, IsStart}
 use Rattle.iss_acts.specs.Stages.{Frees, Fresh, Keeps, Leaves, Over, Seeks, Stage, stage_after}
@@ -32,7 +32,7 @@ use Rattle.iss_state.proofs.calls.Due.{its_token}
 use Rattle.iss_state.proofs.calls.Own.{begun_may, first_method, raised_may}
 use Rattle.iss_state.specs.Pending.{HasTakenUp}
 use Rattle.iss_state.specs.Holdings.{AllKeepHeld, IsHeldWell, is_part_of}
-use Rattle.iss_state.proofs.held.Asks.{MaySettle, asked_gateway, closed_settles, declined_keeps, funded_keeps, hold_keeps, paid_keeps}
+use Rattle.iss_state.proofs.held.Asks.{MaySettle, asked_gateway, closed_settles, declined_keeps, funded_keeps, hold_keeps, paid_keeps, part_keeps}
 use Rattle.iss_state.proofs.held.Begun.{authorization_stamp, begun_stands, first_unnamed, not_live}
 use Rattle.iss_state.proofs.held.Changes.{begun_sum, keep_append}
 use Rattle.iss_state.proofs.held.Pieces.{HoldsJust, abandoned_calm, calm_keep, calm_leaves, clearing_leaves, its_parts, nothing_left, post_calm, release_leaves}
@@ -119,7 +119,7 @@ module _ (by : Cause) (at : ℕ) (s : CoreState) (ready : IsReadyFor by s) (earl
     where
       stamp : IsFirstAsk (core_facts s) by at ask → ask.txn.at ≤ s.now
       stamp first =
-          subst (λ (n : ℕ). n ≤ s.now) (sym (authorization_stamp (core_facts s) first.token first.card first.currency first.amount first.mcc first.mid at ask first.made)) (early _ first.its_input)
+          subst (λ (n : ℕ). n ≤ s.now) (sym (authorization_stamp (core_facts s) first.token first.card first.currency first.amount first.mcc first.mid first.partial at ask first.made)) (early _ first.its_input)
   act_keeps g q (HoldsOwn ask) made k =
       let settles = known_at q made.from.0 k in
       keep_append q (hold_entries ask.txn part.S ask.amount) (entry.Decided ask.event verdict.Approved ∷ []) (hold_keeps q ask.txn part.S ask.amount settles.may (settles.its part.S ∙ made.from.2)) (tt, tt)
@@ -129,6 +129,9 @@ module _ (by : Cause) (at : ℕ) (s : CoreState) (ready : IsReadyFor by s) (earl
   act_keeps g q (Funds o t) made k =
       subst (λ (q : CoreState). AllKeepHeld q (act_entries (Funds o t))) (sym (known_at q made.from.0 k))
       (tt, funded_keeps _ (call_ask o t) (account.Gateway t.currency) part.G (closed o t made.from.1 how.Funded) (ap not (call_of_gateway s ready.held made.from.1)))
+  act_keeps g q (FundsPart o t amount) made k =
+      subst (λ (q : CoreState). AllKeepHeld q (act_entries (FundsPart o t amount))) (sym (known_at q made.from.0 k))
+      (tt, part_keeps _ o t amount (closed o t made.from.1 (how.Partial amount)) (ap not (call_of_gateway s ready.held made.from.1)))
   act_keeps g q (Refuses o t) made k =
       subst (λ (q : CoreState). AllKeepHeld q (act_entries (Refuses o t))) (sym (known_at q made.from.0 k)) (tt, declined_keeps _ (call_ask o t) reason.GatewayDeclined (closed o t made.from.1 how.Refused))
   act_keeps g q (StandsIn number ask when set) made k =

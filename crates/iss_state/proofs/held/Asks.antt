@@ -2,18 +2,20 @@
 use Rattle.std.proofs.Common.{◌≡◌, ℕ, Bool, true, false, not, cond, nat_eq, List, [], ◌∷◌, ◌++◌, fold, pos, refl, sym, ap, subst, ◌∙◌}
 use Rattle.std.specs.Prelude.{Some}
 use Rattle.iss_model.specs.declared.account.Account.{Account}
+use Rattle.iss_model.specs.declared.account.Account.TheVariants as account
 use Rattle.iss_model.specs.declared.account.Part.{Part}
 use Rattle.iss_model.specs.declared.account.Part.TheVariants as part
 use Rattle.iss_model.specs.declared.call.How.{How}
+use Rattle.iss_model.specs.declared.call.Opened.{Opened}
 use Rattle.iss_model.specs.declared.decision.Reason.{Reason}
 use Rattle.iss_model.specs.declared.decision.Verdict.TheVariants as verdict
 use Rattle.iss_model.specs.declared.entry.Entry.{Entry}
 use Rattle.iss_model.specs.declared.entry.Entry.TheVariants as entry
 use Rattle.iss_model.specs.declared.txn.Txn.{Txn}
 use Rattle.iss_model.specs.rules.Activity.{TxnNow, CallNow, txn_named}
-use Rattle.iss_model.specs.rules.Asks.{Ask, ask_given_back, call_ask}
+use Rattle.iss_model.specs.rules.Asks.{Ask, ask_given_back, call_ask, rest_given_back}
 use Rattle.iss_model.specs.rules.CardReasons.{is_account_funded}
-use Rattle.iss_model.specs.rules.Pieces.{declined_ask_entries, funded_ask_entries, hold_entries, post_entries, user_account}
+use Rattle.iss_model.specs.rules.Pieces.{declined_ask_entries, funded_ask_entries, hold_entries, part_funded_entries, post_entries, user_account}
 use Rattle.iss_model.specs.rules.Reasons.{is_some_with}
 use Rattle.iss_model.specs.state.Cores.{CoreState, after_entry}
 use Rattle.iss_model.specs.state.Kept.{Kept}
@@ -56,6 +58,16 @@ pub funded_keeps : (s : CoreState) (ask : Ask) (from : Account) (p : Part) → M
 funded_keeps s ask from p settles paid =
     keep_append s (post_entries ask.txn from (user_account ask.txn) ask.amount ++ hold_entries ask.txn p ask.amount) (entry.Decided ask.event verdict.Approved ∷ [])
     (paid_keeps s ask.txn from p ask.amount settles.may (settles.its p ∙ paid)) (tt, tt)
+
+-- the use of the rest comes back first, which moves nothing that is held
+pub part_keeps : (s : CoreState) (o : Opened) (t : Txn) (amount : ℕ) → MaySettle (docket_of s) s.holdings.parts (call_ask o t) → is_part_of part.G t.funding ≡ true
+    → AllKeepHeld s (part_funded_entries o t amount)
+part_keeps s o t amount settles paid =
+    let after : CoreState = after_entry s (entry.Usage (rest_given_back o t amount)) in (
+      tt,
+      keep_append after (post_entries t (account.Gateway t.currency) (user_account t) amount ++ hold_entries t part.G amount) (entry.Decided o.event (verdict.Partial t.currency amount) ∷ [])
+          (paid_keeps after t (account.Gateway t.currency) part.G amount settles.may (settles.its part.G ∙ paid)) (tt, tt),
+    )
 
 pub declined_keeps : (s : CoreState) (ask : Ask) (why : Reason) → MaySettle (docket_of s) s.holdings.parts ask → AllKeepHeld s (declined_ask_entries ask why)
 declined_keeps s ask why settles =

@@ -62,24 +62,24 @@ not_live None e = refl
 not_live (Some t) e = cc
 
 -- an ask of an authorisation is for a transaction of its own token and stamp
-token_of_begun : (f : Facts) (token : List ℕ) (currency : Currency) (amount mcc : ℕ) (mid : List ℕ) (at : ℕ) (c : Card) (product : Option Product) (x : Ask)
-    → option_map (first_ask token amount at) (option_map (λ product. txn_begun f c product token currency mcc mid at) product) ≡ Some x → (x.txn.token ≡ token) × (x.txn.at ≡ at)
-token_of_begun f token currency amount mcc mid at c None x e = cc
-token_of_begun f token currency amount mcc mid at c (Some product) x e = (ap (λ (x : Ask). x.txn.token) (sym (inside e)), ap (λ (x : Ask). x.txn.at) (sym (inside e)))
+token_of_begun : (f : Facts) (token : List ℕ) (currency : Currency) (amount mcc : ℕ) (mid : List ℕ) (partial : Bool) (at : ℕ) (c : Card) (product : Option Product) (x : Ask)
+    → option_map (first_ask token amount partial at) (option_map (λ product. txn_begun f c product token currency mcc mid at) product) ≡ Some x → (x.txn.token ≡ token) × (x.txn.at ≡ at)
+token_of_begun f token currency amount mcc mid partial at c None x e = cc
+token_of_begun f token currency amount mcc mid partial at c (Some product) x e = (ap (λ (x : Ask). x.txn.token) (sym (inside e)), ap (λ (x : Ask). x.txn.at) (sym (inside e)))
 
-token_of_ask : (f : Facts) (token : List ℕ) (currency : Currency) (amount mcc : ℕ) (mid : List ℕ) (at : ℕ) (card : Option Card) (x : Ask)
-    → option_map (first_ask token amount at) (option_and_then (λ c. option_map (λ product. txn_begun f c product token currency mcc mid at) (product_named c.product f.products)) card) ≡ Some x
+token_of_ask : (f : Facts) (token : List ℕ) (currency : Currency) (amount mcc : ℕ) (mid : List ℕ) (partial : Bool) (at : ℕ) (card : Option Card) (x : Ask)
+    → option_map (first_ask token amount partial at) (option_and_then (λ c. option_map (λ product. txn_begun f c product token currency mcc mid at) (product_named c.product f.products)) card) ≡ Some x
     → (x.txn.token ≡ token) × (x.txn.at ≡ at)
-token_of_ask f token currency amount mcc mid at None x e = cc
-token_of_ask f token currency amount mcc mid at (Some c) x e = token_of_begun f token currency amount mcc mid at c (product_named c.product f.products) x e
+token_of_ask f token currency amount mcc mid partial at None x e = cc
+token_of_ask f token currency amount mcc mid partial at (Some c) x e = token_of_begun f token currency amount mcc mid partial at c (product_named c.product f.products) x e
 
-pub authorization_token : (f : Facts) (token card : List ℕ) (currency : Currency) (amount mcc : ℕ) (mid : List ℕ) (at : ℕ) (x : Ask)
-    → authorization_ask f token card currency amount mcc mid at ≡ Some x → x.txn.token ≡ token
-authorization_token f token card currency amount mcc mid at x e = (token_of_ask f token currency amount mcc mid at (card_named card f.cards) x e).0
+pub authorization_token : (f : Facts) (token card : List ℕ) (currency : Currency) (amount mcc : ℕ) (mid : List ℕ) (partial : Bool) (at : ℕ) (x : Ask)
+    → authorization_ask f token card currency amount mcc mid partial at ≡ Some x → x.txn.token ≡ token
+authorization_token f token card currency amount mcc mid partial at x e = (token_of_ask f token currency amount mcc mid partial at (card_named card f.cards) x e).0
 
-pub authorization_stamp : (f : Facts) (token card : List ℕ) (currency : Currency) (amount mcc : ℕ) (mid : List ℕ) (at : ℕ) (x : Ask)
-    → authorization_ask f token card currency amount mcc mid at ≡ Some x → x.txn.at ≡ at
-authorization_stamp f token card currency amount mcc mid at x e = (token_of_ask f token currency amount mcc mid at (card_named card f.cards) x e).1
+pub authorization_stamp : (f : Facts) (token card : List ℕ) (currency : Currency) (amount mcc : ℕ) (mid : List ℕ) (partial : Bool) (at : ℕ) (x : Ask)
+    → authorization_ask f token card currency amount mcc mid partial at ≡ Some x → x.txn.at ≡ at
+authorization_stamp f token card currency amount mcc mid partial at x e = (token_of_ask f token currency amount mcc mid partial at (card_named card f.cards) x e).1
 
 -- the event of a record that was taken up names no transaction
 pub unnamed : (s : CoreState) (i : Input) (event : List ℕ) → HasTakenUp s i → event_token i ≡ Some event → txn_named event s.holdings.txns ≡ None
@@ -88,6 +88,6 @@ unnamed s i event ready e = not_some (txn_named event s.holdings.txns) (λ h. no
 -- the transaction of an authorisation's ask doesn't stand yet
 pub first_unnamed : {by : Cause} {at : ℕ} (s : CoreState) (ask : Ask) → ((i : Input) → by ≡ ComesOf i → HasTakenUp s i) → IsFirstAsk (core_facts s) by at ask → txn_named ask.txn.token s.holdings.txns ≡ None
 first_unnamed {at = at} s ask taken first =
-    let i : Input = input.Authorization first.token first.card first.currency first.amount first.mcc first.mid in
-    ap (λ (k : List ℕ). txn_named k s.holdings.txns) (authorization_token (core_facts s) first.token first.card first.currency first.amount first.mcc first.mid at ask first.made)
+    let i : Input = input.Authorization first.token first.card first.currency first.amount first.mcc first.mid first.partial in
+    ap (λ (k : List ℕ). txn_named k s.holdings.txns) (authorization_token (core_facts s) first.token first.card first.currency first.amount first.mcc first.mid first.partial at ask first.made)
     ∙ unnamed s i first.token (taken i first.its_input) refl

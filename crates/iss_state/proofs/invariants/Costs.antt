@@ -1,8 +1,9 @@
 -- What acts cost, by what is known at each stage of their row, and so what is due and each input.
 use Rattle.std.specs.Prelude.{None, Some, option_map}
-use Rattle.std.proofs.Common.{List, [], ap, arith, false, find, fold, length, nat_eq, pos, refl, subst, sym, true, ℕ, ◌*◌, ◌++◌, ◌+◌, ◌-◌, ◌∙◌, ◌∷◌, ◌≡◌, ◌≤◌}
+use Rattle.std.proofs.Common.{List, [], ap, arith, false, find, fold, length, nat_eq, nat_lt, pos, refl, subst, sym, true, ℕ, ◌&&◌, ◌*◌, ◌++◌, ◌+◌, ◌-◌, ◌∙◌, ◌∷◌, ◌≡◌, ◌≤◌}
 use Rattle.std.specs.Str.{bytes_eq}
 use Rattle.std.proofs.lemmas.Bool.{and_parts}
+use Rattle.std.proofs.lemmas.Bool.Decides.{nat_tests}
 use Rattle.std.proofs.lemmas.List.{length-map}
 use Rattle.iss_model.specs.declared.account.Account.TheVariants as account
 use Rattle.iss_model.specs.declared.account.Part.TheVariants as part
@@ -20,8 +21,9 @@ use Rattle.iss_model.specs.declared.input.Input.TheVariants as input
 use Rattle.iss_model.specs.declared.setting.Product.{Product}
 use Rattle.iss_model.specs.declared.setting.Set.{Set}
 use Rattle.iss_model.specs.declared.txn.Txn.{Txn}
+use Rattle.iss_model.specs.Currencies.{same_currency}
 use Rattle.iss_model.specs.rules.Activity.{CallNow, TxnNow, call_numbered, txn_named}
-use Rattle.iss_model.specs.rules.Acts.{Abandons, Act, Asks, Begins, Clears, Ends, Fails, Funds, GivesBack, HoldsOwn, LetsGo, Loads, Refuses, Sets, StandsIn, TurnsDown, Uses, act_entries}
+use Rattle.iss_model.specs.rules.Acts.{Abandons, Act, Asks, Begins, Clears, Ends, Fails, Funds, FundsPart, GivesBack, HoldsOwn, LetsGo, Loads, Refuses, Sets, StandsIn, TurnsDown, Uses, act_entries}
 use Rattle.iss_model.specs.rules.Asks.{Ask, ask_count, call_ask}
 use Rattle.iss_model.specs.rules.Due.{DueThing, thing_entries}
 use Rattle.iss_model.specs.rules.Facts.{Facts, asked_calls_of}
@@ -31,7 +33,7 @@ use Rattle.iss_model.specs.state.Cores.{CoreState, after_entry, call_after_close
 use Rattle.iss_model.proofs.Names.{one_name}
 use Rattle.iss_acts.specs.Causes.{Cause, ComesOf, FallsDue, clears, refunds}
 use Rattle.iss_acts.specs.Items.{may_begin}
-use Rattle.iss_acts.specs.Sources.{IsAskedCall, IsFirstAsk, IsFurtherAsk, IsMade, IsStart, IsTxnOf, setting_reason}
+use Rattle.iss_acts.specs.Sources.{IsAskedCall, IsFirstAsk, IsFundedPart, IsFurtherAsk, IsMade, IsStart, IsTxnOf, setting_reason}
 use Rattle.iss_acts.specs.Stages.{Frees, Fresh, Keeps, Leaves, Over, Seeks, Stage, stage_after}
 use Rattle.iss_acts.proofs.Walk.{FromStart, Goes, due_goes, from_start, of_asked, own_goes, txn_of_ask, txn_of_call}
 use Rattle.iss_state.specs.Costs.{IsPayable, Spends, begins_none, cause_money, cause_use, input_money, input_use, money_left, use_left}
@@ -39,7 +41,7 @@ use Rattle.iss_state.specs.Effects.{Effect, HoldsParts, Paid}
 use Rattle.iss_state.specs.Needs.{Stands, begun_txns}
 use Rattle.iss_state.specs.Stakes.{IsOrderlyState, at_least_one}
 use Rattle.iss_state.proofs.effects.Abandonment.{abandonment_effect, abandonment_holdings, least_one, one_more}
-use Rattle.iss_state.proofs.effects.Asks.{at_most_one, declined_ask_paid, funded_ask_paid, set_stand_in_paid}
+use Rattle.iss_state.proofs.effects.Asks.{at_most_one, declined_ask_paid, funded_ask_paid, part_funded_paid, set_stand_in_paid}
 use Rattle.iss_state.proofs.effects.Effects.{and_then, calm_effect, close_effect, end_effect, no_effect, open_effect, stands_then, still_effect}
 use Rattle.iss_state.proofs.effects.Finds.{find-map, found_passes, number_is}
 use Rattle.iss_state.proofs.effects.Paid.{costs, paid_more}
@@ -88,6 +90,13 @@ refunds_it : (by : Cause) (token : List ℕ) (n : ℕ) → refunds by token n �
 refunds_it (ComesOf (input.Refund event txn currency amount)) token n h = ap (λ (n : ℕ). 2 * n) (sym (number_is n amount (and_parts (bytes_eq token txn) (nat_eq n amount) h).1))
 refunds_it _ token n h = cc
 
+-- a part that counts is less than the call's amount
+part_within : {by : Cause} {o : Opened} {amount : ℕ} → IsFundedPart by o amount → amount ≤ o.amount
+part_within {o = o} {amount = amount} its = less amount o.amount (and_parts (o.partial && same_currency its.currency o.currency) (nat_lt amount o.amount) its.counts).1
+  where
+    less : (n m : ℕ) → nat_lt n m ≡ true → n ≤ m
+    less n m h = grind (arith, nat_tests)
+
 module _ (by : Cause) (at : ℕ) (s : CoreState) (h : IsOrderlyState s) where
   -- what is known at the stage that this is
   known_at : (q : CoreState) {g k : Stage} → g ≡ k → IsPayable s g q → IsPayable s k q
@@ -129,6 +138,12 @@ module _ (by : Cause) (at : ℕ) (s : CoreState) (h : IsOrderlyState s) where
       let e1 = closed o t how.Funded asked in
       let p = funded_ask_paid (fold after_entry s (entry.Closed o.call how.Funded ∷ [])) (call_ask o t) (account.Gateway t.currency) part.G e1.orderly (stands_then t e1 (txn_stands s t (txn_of_call asked))) in
       spends (and_then e1 p.effect) (omega (arith, p.money, least_one o.amount)) (omega (arith, p.usage, least_one o.amount))
+
+  funds_part_spend : (o : Opened) (t : Txn) (amount : ℕ) → IsAskedCall (core_facts s) o t → amount ≤ o.amount → Spends by Fresh s (FundsPart o t amount)
+  funds_part_spend o t amount asked le =
+      let e1 = closed o t (how.Partial amount) asked in
+      let p = part_funded_paid (fold after_entry s (entry.Closed o.call (how.Partial amount) ∷ [])) o t amount le e1.orderly (stands_then t e1 (txn_stands s t (txn_of_call asked))) in
+      spends (and_then e1 p.effect) (omega (arith, p.money, le, least_one o.amount)) (omega (arith, p.usage, least_one o.amount))
 
   refuses_spend : (o : Opened) (t : Txn) → IsAskedCall (core_facts s) o t → Spends by Fresh s (Refuses o t)
   refuses_spend o t asked =
@@ -208,6 +223,7 @@ module _ (by : Cause) (at : ℕ) (s : CoreState) (h : IsOrderlyState s) where
   act_spends g q (HoldsOwn ask) made none known = spends_at q _ made.from.0 (holds_own_spends q ask (known_at q made.from.0 known))
   act_spends g q (Asks f product ask) made none known = spends_at q _ made.from.0 (asks_spend q f product ask made.from.1 (known_at q made.from.0 known))
   act_spends g q (Funds o t) made none known = at_first q _ made.from.0 known (funds_spend o t made.from.1)
+  act_spends g q (FundsPart o t amount) made none known = at_first q _ made.from.0 known (funds_part_spend o t amount made.from.1 (part_within made.from.2))
   act_spends g q (Refuses o t) made none known = at_first q _ made.from.0 known (refuses_spend o t made.from.1)
   act_spends g q (Fails number o t why) made none known = at_first q _ made.from.0 known (fails_spend number o t why made.from.1)
   act_spends g q (StandsIn number ask when set) made none known = spends_at q _ made.from.0 (stands_in_spends q number ask when set (known_at q made.from.0 known))
@@ -289,7 +305,7 @@ pub input_paid : (s : CoreState) (i : Input) (at : ℕ) → IsOrderlyState s →
 input_paid s i at h none = row_paid (ComesOf i) at s h (own_goes (core_facts s) i at s (all_paid (ComesOf i) at s h other) (start_known (ComesOf i) at s h))
   where
     other : (ask : Ask) → IsFirstAsk (core_facts s) (ComesOf i) at ask → ⊥
-    other ask first = by (input.Authorization first.token first.card first.currency first.amount first.mcc first.mid) first.its_input refl
+    other ask first = by (input.Authorization first.token first.card first.currency first.amount first.mcc first.mid first.partial) first.its_input refl
       where
         by : (j : Input) → ComesOf i ≡ ComesOf j → begins_none j ≡ false → ⊥
         by j e begins =

@@ -8,10 +8,12 @@ use Rattle.iss_model.specs.declared.decision.Reason.{Reason}
 use Rattle.iss_model.specs.declared.decision.Reason.TheVariants as reason
 use Rattle.iss_model.specs.declared.entry.Entry.{Entry}
 use Rattle.iss_model.specs.declared.input.Input.{Input}
+use Rattle.iss_model.specs.declared.input.Input.TheVariants as input
+use Rattle.iss_model.specs.declared.input.Outcome.TheVariants as outcome
 use Rattle.iss_model.specs.declared.txn.Txn.{Txn}
-use Rattle.iss_model.specs.Forms.{is_in_form, is_stamp}
+use Rattle.iss_model.specs.Forms.{is_amount, is_in_form, is_number, is_stamp}
 use Rattle.iss_model.specs.rules.Activity.{CallNow, TxnNow, is_asked}
-use Rattle.iss_model.specs.rules.Acts.{Abandons, Act, Asks, Begins, Clears, Funds, GivesBack, HoldsOwn, LetsGo, Refuses, Sets, StandsIn, TurnsDown, Uses, act_entries}
+use Rattle.iss_model.specs.rules.Acts.{Abandons, Act, Asks, Begins, Clears, Funds, FundsPart, GivesBack, HoldsOwn, LetsGo, Refuses, Sets, StandsIn, TurnsDown, Uses, act_entries}
 use Rattle.iss_model.specs.rules.Asks.{Ask, call_ask}
 use Rattle.iss_model.specs.rules.Due.{DueThing, thing_entries}
 use Rattle.iss_model.specs.rules.Facts.{Facts}
@@ -20,7 +22,7 @@ use Rattle.iss_model.specs.rules.Stepping.{entries_of}
 use Rattle.iss_model.specs.state.Cores.{CoreState, core_facts}
 use Rattle.iss_model.proofs.Lists.{find_passes}
 use Rattle.iss_acts.specs.Causes.{Cause, ComesOf, FallsDue}
-use Rattle.iss_acts.specs.Sources.{IsAskedCall, IsMade, IsOwnAsk, IsSettledAsk, IsTxnOf}
+use Rattle.iss_acts.specs.Sources.{IsAskedCall, IsFundedPart, IsMade, IsOwnAsk, IsSettledAsk, IsTxnOf}
 use Rattle.iss_acts.specs.Stages.{Stage}
 use Rattle.iss_acts.proofs.Begun.{is_begun}
 use Rattle.iss_acts.proofs.Passing.{EachPasses, both_pass, either_passes, gateway_passes, none_passes, one_passes, passing, two_pass, where_passes}
@@ -75,6 +77,9 @@ module _ (f : Facts) (by : Cause) (at : ℕ) (timed : AreTimed f) (stamp : is_st
   settled_stamp ask (inl call) = ap (λ (ask : Ask). is_stamp ask.at) call.is ∙ call_stamp call.o call.t call.asked
   settled_stamp ask (inr own) = own_stamp ask own.0
 
+  part_amount : (o : Opened) (amount : ℕ) → IsFundedPart by o amount → is_amount amount ≡ true
+  part_amount o amount its = (and_parts (is_number its.call.0) (is_amount amount) (form (input.Answer its.call (outcome.Partial its.currency amount)) its.its_input)).1
+
   act_formed : (g : Stage) (a : Act) → IsMade f by at g a → AreFormed (act_entries a)
   act_formed g (Sets i event) made = two_pass (form i made.from.0) (one_passes refl)
   act_formed g (Begins ask) made =
@@ -83,6 +88,10 @@ module _ (f : Facts) (by : Cause) (at : ℕ) (timed : AreTimed f) (stamp : is_st
   act_formed g (HoldsOwn ask) made = both_pass (where_passes ask.amount (one_passes refl)) (one_passes refl)
   act_formed g (Asks h product ask) made = one_passes (own_stamp ask made.from.2)
   act_formed g (Funds o t) made = two_pass refl (both_pass (both_pass (where_passes o.amount (one_passes refl)) (where_passes o.amount (one_passes refl))) (one_passes refl))
+  act_formed g (FundsPart o t amount) made =
+      let paid : is_amount amount ≡ true = part_amount o amount made.from.2 in
+      two_pass paid
+      (two_pass (call_stamp o t made.from.1) (both_pass (both_pass (where_passes amount (one_passes refl)) (where_passes amount (one_passes refl))) (one_passes paid)))
   act_formed g (Refuses o t) made = two_pass refl (declined_formed (call_ask o t) reason.GatewayDeclined (call_stamp o t made.from.1))
   act_formed g (StandsIn number ask when set) made =
       two_pass (ap is_stamp made.from.2 ∙ stamp) (both_pass (both_pass (where_passes ask.amount (one_passes refl)) (where_passes ask.amount (one_passes refl))) (passing refl))

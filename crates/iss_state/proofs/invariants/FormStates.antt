@@ -17,7 +17,7 @@ use Rattle.iss_model.specs.declared.setting.Moved.TheVariants as moved
 use Rattle.iss_model.specs.Forms.{is_in_form, is_stamp}
 use Rattle.iss_model.specs.rules.Activity.{CallNow, TxnNow, is_asked}
 use Rattle.iss_model.specs.state.Cores.{CoreState, ProductNow, after_entry, after_setting, call_after_close, is_live, no_core, product_after_switch, txn_after_end, with_record}
-use Rattle.iss_state.specs.InForm.{IsInForm, are_times, is_begun_at_stamp, is_entry_in_form, is_opened_at_stamp}
+use Rattle.iss_state.specs.InForm.{IsInForm, are_times, is_begun_at_stamp, is_closed_in_form, is_decided_in_form, is_entry_in_form, is_how_in_form, is_opened_at_stamp}
 
 -- ---- lists
 
@@ -49,6 +49,17 @@ closed_stamp number how c = by (nat_eq number c.opened.call.0 && is_asked c)
     by true = refl
     by false = refl
 
+-- a call that is closed in form is in form, and so are others, which stay as they are
+all_closed : (number : ℕ) (how : How) → is_how_in_form how ≡ true → (cs : List CallNow) → list_all is_closed_in_form cs ≡ true → list_all is_closed_in_form (map (call_after_close number how) cs) ≡ true
+all_closed number how form [] h = refl
+all_closed number how form (c ∷ cs) h =
+    let both = and_parts (is_closed_in_form c) (list_all is_closed_in_form cs) h in
+    ap₂ (λ (a b : Bool). a && b) (by (nat_eq number c.opened.call.0 && is_asked c) both.0) (all_closed number how form cs both.1)
+  where
+    by : (b : Bool) → is_closed_in_form c ≡ true → is_closed_in_form (cond b (record c { how = Some how }) c) ≡ true
+    by true its = form
+    by false its = its
+
 ended_stamp : (token : List ℕ) (t : TxnNow) → is_begun_at_stamp (txn_after_end token t) ≡ is_begun_at_stamp t
 ended_stamp token t = by (bytes_eq token t.txn.token)
   where
@@ -67,6 +78,8 @@ setting_form s (input.Product token product currency funding timeout_ms hold_ms)
           (record { product = record { name = product; currency = currency; funding = funding; timeout_ms = timeout_ms; hold_ms = hold_ms }; on = false }) h.products form;
       txns = h.txns;
       calls = h.calls;
+      closed = h.closed;
+      decided = h.decided;
     }
 setting_form s (input.Switch token product on) form h =
     record {
@@ -74,10 +87,12 @@ setting_form s (input.Switch token product on) form h =
       products = all_changed are_times (product_after_switch product on) (switched_times product on) s.products h.products;
       txns = h.txns;
       calls = h.calls;
+      closed = h.closed;
+      decided = h.decided;
     }
-setting_form s (input.Move token (moved.Card card to)) form h = record { now = h.now; products = h.products; txns = h.txns; calls = h.calls }
-setting_form s (input.Move token (moved.User user to)) form h = record { now = h.now; products = h.products; txns = h.txns; calls = h.calls }
-setting_form s _ form h = record { now = h.now; products = h.products; txns = h.txns; calls = h.calls }
+setting_form s (input.Move token (moved.Card card to)) form h = record { now = h.now; products = h.products; txns = h.txns; calls = h.calls; closed = h.closed; decided = h.decided }
+setting_form s (input.Move token (moved.User user to)) form h = record { now = h.now; products = h.products; txns = h.txns; calls = h.calls; closed = h.closed; decided = h.decided }
+setting_form s _ form h = record { now = h.now; products = h.products; txns = h.txns; calls = h.calls; closed = h.closed; decided = h.decided }
 
 pub entry_form : (s : CoreState) (e : Entry) → is_entry_in_form e ≡ true → IsInForm s → IsInForm (after_entry s e)
 entry_form s (entry.Conf i) form h = setting_form s i form h
@@ -87,6 +102,8 @@ entry_form s (entry.Began t) form h =
       products = h.products;
       txns = all_with is_begun_at_stamp s.holdings.txns (record { txn = t; live = is_live s.holdings.txns t.token }) h.txns form;
       calls = h.calls;
+      closed = h.closed;
+      decided = h.decided;
     }
 entry_form s (entry.Opened o) form h =
     record {
@@ -94,6 +111,8 @@ entry_form s (entry.Opened o) form h =
       products = h.products;
       txns = h.txns;
       calls = all_with is_opened_at_stamp s.calls (record { opened = o; how = None }) h.calls form;
+      closed = all_with is_closed_in_form s.calls (record { opened = o; how = None }) h.closed refl;
+      decided = h.decided;
     }
 entry_form s (entry.Closed call how) form h =
     record {
@@ -101,6 +120,17 @@ entry_form s (entry.Closed call how) form h =
       products = h.products;
       txns = h.txns;
       calls = all_changed is_opened_at_stamp (call_after_close call.0 how) (closed_stamp call.0 how) s.calls h.calls;
+      closed = all_closed call.0 how form s.calls h.closed;
+      decided = h.decided;
+    }
+entry_form s (entry.Decided event verdict) form h =
+    record {
+      now = h.now;
+      products = h.products;
+      txns = h.txns;
+      calls = h.calls;
+      closed = h.closed;
+      decided = all_with is_decided_in_form s.decisions (record { event = event; verdict = verdict }) h.decided form;
     }
 entry_form s (entry.Ended txn) form h =
     record {
@@ -108,8 +138,10 @@ entry_form s (entry.Ended txn) form h =
       products = h.products;
       txns = all_changed is_begun_at_stamp (txn_after_end txn) (ended_stamp txn) s.holdings.txns h.txns;
       calls = h.calls;
+      closed = h.closed;
+      decided = h.decided;
     }
-entry_form s _ form h = record { now = h.now; products = h.products; txns = h.txns; calls = h.calls }
+entry_form s _ form h = record { now = h.now; products = h.products; txns = h.txns; calls = h.calls; closed = h.closed; decided = h.decided }
 
 pub entries_form : (s : CoreState) (es : List Entry) → list_all is_entry_in_form es ≡ true → IsInForm s → IsInForm (fold after_entry s es)
 entries_form s [] form h = h
@@ -126,7 +158,7 @@ later_stamp a b h k = later a b LAST_STAMP h k
     later a b last h k = grind (arith, nat_tests)
 
 pub record_form : (s : CoreState) (r : Record) → is_stamp r.at ≡ true → IsInForm s → IsInForm (with_record s r)
-record_form s r at h = record { now = later_stamp s.now r.at h.now at; products = h.products; txns = h.txns; calls = h.calls }
+record_form s r at h = record { now = later_stamp s.now r.at h.now at; products = h.products; txns = h.txns; calls = h.calls; closed = h.closed; decided = h.decided }
 
 pub nothing_form : IsInForm no_core
-nothing_form = record { now = refl; products = refl; txns = refl; calls = refl }
+nothing_form = record { now = refl; products = refl; txns = refl; calls = refl; closed = refl; decided = refl }

@@ -20,9 +20,9 @@ use Rattle.iss_model.specs.declared.setting.Product.{Product}
 use Rattle.iss_model.specs.declared.setting.Set.{Set}
 use Rattle.iss_model.specs.declared.txn.Txn.{Txn}
 use Rattle.iss_model.specs.rules.Activity.{CallNow, TxnNow, is_asked}
-use Rattle.iss_model.specs.rules.Acts.{Abandons, Acknowledges, Act, Asks, Clears, Does, Ends, Fails, GivesBack, HoldsOwn, LetsGo, News, StandsIn, Tells, act_entries, captured, entries_of_acts, expired, refunded, reversed}
+use Rattle.iss_model.specs.rules.Acts.{Abandons, Acknowledges, Act, Asks, Clears, Does, Ends, Fails, FundsPart, GivesBack, HoldsOwn, LetsGo, News, StandsIn, Tells, act_entries, captured, entries_of_acts, expired, refunded, reversed}
 use Rattle.iss_model.specs.rules.Asks.{Ask, call_ask}
-use Rattle.iss_model.specs.rules.CardActs.{acts_for_gateway, acts_of_asked, acts_of_txn, acts_where, after_clearing_acts, authorization_acts, clearing_acts, failed_acts, funding_acts, gateway_acts, outcome_acts, refund_acts, reversal_acts, stand_acts}
+use Rattle.iss_model.specs.rules.CardActs.{acts_for_gateway, acts_of_asked, acts_of_txn, acts_where, after_clearing_acts, authorization_acts, clearing_acts, counts_as_part, failed_acts, funding_acts, gateway_acts, outcome_acts, refund_acts, reversal_acts, stand_acts}
 use Rattle.iss_model.specs.rules.CardReasons.{further_ask, is_account_funded}
 use Rattle.iss_model.specs.rules.Due.{DueThing, call_due, expiry_acts, live_expiry_acts, thing_acts, thing_entries, txn_due}
 use Rattle.iss_model.specs.rules.Facts.{Facts, asked_calls_of, call_in, is_notice, next_notice, txn_in}
@@ -134,6 +134,11 @@ outcome_turn outcome.Funded f o t at = (tt, tt)
 outcome_turn outcome.Refused f o t at = (tt, tt)
 outcome_turn outcome.Connection f o t at = failed_turn f o t failure.Connection at
 outcome_turn outcome.Application f o t at = failed_turn f o t failure.Application at
+outcome_turn (outcome.Partial currency amount) f o t at = by (counts_as_part o currency amount)
+  where
+    by : (b : Bool) → AreInTurn (next_notice f) (cond b (FundsPart o t amount ∷ []) (failed_acts f o t failure.Application at))
+    by true = (tt, tt)
+    by false = failed_turn f o t failure.Application at
 
 asked_turn : (n : ℕ) (make : Opened → Txn → List Act) → ((o : Opened) (t : Txn) → AreInTurn n (make o t)) → (c : Option CallNow) (f : Facts) → AreInTurn n (acts_of_asked make c f)
 asked_turn n make each None f = tt
@@ -222,7 +227,7 @@ kinds_turn f at =
       declined = λ i token why its. (tt, tt);
       setting = λ i token its none. (tt, tt);
       load = λ token user currency amount. (tt, tt);
-      authorization = λ token card currency amount mcc mid ask made none. authorization_turn f ask;
+      authorization = λ token card currency amount mcc mid partial ask made none. authorization_turn f ask;
       increment = λ token txn currency amount now stands none. (tt, funding_turn f (further_ask token amount at now.txn));
       reversal = λ token txn currency amount now stands none. reversal_turn f token amount now;
       clearing = λ token txn currency amount last now stands none. clearing_turn f token amount last at now;

@@ -62,7 +62,7 @@ four_times n le = omega (arith, most_at_least_one n le)
 
 brought : (i : Input) → is_in_form i ≡ true → IsBrought i
 brought (input.Load token user currency amount) form = record { money = omega (arith, most_amount amount form); usage = omega arith }
-brought (input.Authorization token card currency amount mcc mid) form =
+brought (input.Authorization token card currency amount mcc mid partial) form =
     let most = four_times amount (most_amount amount (and_parts (is_amount amount) (is_mcc mcc) form).0) in
     record { money = most; usage = most }
 brought (input.Increment token txn currency amount) form = let most = four_times amount (most_amount amount form) in record { money = most; usage = most }
@@ -97,7 +97,7 @@ module _ (n : ℕ) (s : CoreState) (i : Input) (at : ℕ) (form : is_in_form i �
       let its = is_begun first in
       let named : ask.txn.token ≡ first.token = ap (λ (ask : Ask). ask.txn.token) its.same in
       let numbered : ask.txn.origin ≡ s.count = ap (λ (ask : Ask). ask.txn.origin) its.same in
-      let own : i ≡ input.Authorization first.token first.card first.currency first.amount first.mcc first.mid = inside first.its_input in
+      let own : i ≡ input.Authorization first.token first.card first.currency first.amount first.mcc first.mid first.partial = inside first.its_input in
       let event : event_token i ≡ Some first.token = ap event_token own in
       let new = ap (is_named_in (txn_tokens s.holdings.txns)) named ∙ ready.unnamed first.token event in
       record {
