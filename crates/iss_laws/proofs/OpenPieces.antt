@@ -18,8 +18,8 @@ use Rattle.iss_model.specs.declared.entry.Entry.TheVariants as entry
 use Rattle.iss_model.specs.declared.setting.Product.{Product}
 use Rattle.iss_model.specs.declared.txn.Txn.{Txn}
 use Rattle.iss_model.specs.rules.Activity.{TxnNow, CallNow, is_asked}
-use Rattle.iss_model.specs.rules.Asks.{Ask, ask_given_back, ask_usage, call_ask, is_authorization, usage_of}
-use Rattle.iss_model.specs.rules.Pieces.{call_for, clearing_money_entries, Parts, abandoned_call_entries, abandoned_calls_entries, declined_ask_entries, funded_ask_entries, hold_entries, in_all, only_gateway, only_where, post_entries, release_entries, taken_to_clear, taken_to_release, unhold_entries, use_return_entries, user_account, void_entry}
+use Rattle.iss_model.specs.rules.Asks.{Ask, ask_given_back, ask_usage, call_ask, is_authorization, rest_given_back, usage_of}
+use Rattle.iss_model.specs.rules.Pieces.{call_for, clearing_money_entries, Parts, abandoned_call_entries, abandoned_calls_entries, declined_ask_entries, funded_ask_entries, hold_entries, in_all, only_gateway, only_where, part_funded_entries, post_entries, release_entries, taken_to_clear, taken_to_release, unhold_entries, use_return_entries, user_account, void_entry}
 use Rattle.iss_model.specs.rules.Facts.{Facts, not_below}
 use Rattle.iss_model.specs.state.Cores.{CoreState, after_entry, call_after_close}
 use Rattle.iss_model.proofs.Names.{one_name}
@@ -342,9 +342,9 @@ part_enough false true false true n funded h = omega (arith, ints)
 part_enough false true false false n funded h = omega (arith, ints)
 part_enough false false false f n funded h = omega (arith, ints)
 
-pub part_within : (k : Counting) → IsCounting k → (s : CoreState) (o : Opened) (t : Txn) (funded : ℕ) → funded ≤ o.amount → Knows s.holdings.txns t
+pub part_funded_within : (k : Counting) → IsCounting k → (s : CoreState) (o : Opened) (t : Txn) (funded : ℕ) → funded ≤ o.amount → Knows s.holdings.txns t
     → Within k s (part_funded_entries o t funded) (pos (opens k (call_ask o t)))
-part_within k counting s o t funded le knows =
+part_funded_within k counting s o t funded le knows =
     let back : List Entry = entry.Usage (rest_given_back o t funded) ∷ [] in
     let post : List Entry = post_entries t (account.Gateway t.currency) (user_account t) funded in
     let hold : List Entry = hold_entries t part.G funded in
