@@ -3,10 +3,13 @@ use Rattle.std.specs.Prelude.{◌≡◌, ◌<◌, ◌^◌, ℕ, nat_lt, Bool, tr
 use Rattle.iss_model.specs.declared.call.CallId.{CallId}
 use Rattle.iss_model.specs.declared.call.Opened.{Opened}
 use Rattle.iss_model.specs.declared.call.How.{How}
+use Rattle.iss_model.specs.declared.call.How.TheVariants as how
+use Rattle.iss_model.specs.declared.currency.Currency.{Currency}
 use Rattle.iss_model.specs.declared.decision.Answer.{Answer}
 use Rattle.iss_model.specs.declared.decision.Answer.TheVariants as answer
 use Rattle.iss_model.specs.declared.decision.Judged.{Judged}
 use Rattle.iss_model.specs.declared.decision.Judged.TheVariants as judged
+use Rattle.iss_model.specs.declared.decision.Verdict.TheVariants as verdict
 use Rattle.iss_model.specs.declared.input.Input.TheVariants as input
 use Rattle.iss_model.specs.declared.input.Outcome.{Outcome}
 use Rattle.iss_model.specs.rules.Activity.{CallNow, TxnNow, is_asked}
@@ -57,6 +60,15 @@ StaysInTime s at n c t = at < c.opened.deadline → at < t.txn.expires → IsSti
 -- an asked call of this number asks less than 2^62
 abbrev pub AsksSmall : CoreState → ℕ → CallNow → Type 0
 AsksSmall s n c = call_at s n ≡ Some c → is_asked c ≡ true → c.opened.amount < 2 ^ 62
+
+-- if a call was funded with this part, the part is less than 2^62
+abbrev pub IsFundedSmall : CoreState → ℕ → CallNow → ℕ → Type 0
+IsFundedSmall s n c amount = call_at s n ≡ Some c → c.how ≡ Some (how.Partial amount) → amount < 2 ^ 62
+
+-- if an event was approved for this part, the part is less than 2^62
+abbrev pub IsApprovedSmall : CoreState → List ℕ → Currency → ℕ → Type 0
+IsApprovedSmall s event currency amount =
+    (core_facts s).decisions event ≡ Some (verdict.Partial currency amount) → amount < 2 ^ 62
 
 -- how an answer to a call is judged at a moment
 abbrev pub answer_judged : CoreState → CallId → Outcome → ℕ → Judged

@@ -33,20 +33,23 @@ is_how_in_form (how.Failed why) = true
 is_how_in_form how.Abandoned = true
 is_how_in_form (how.Partial amount) = is_amount amount
 
+-- so it is if the call is closed
 abbrev pub is_end_in_form : Option How → Bool
 is_end_in_form None = true
 is_end_in_form (Some how) = is_how_in_form how
 
+-- what a call was closed as is in form
 abbrev pub is_closed_in_form : CallNow → Bool
 is_closed_in_form c = is_end_in_form c.how
 
--- if an event is approved in part, the part is an amount
+-- if an event is approved for a part, the part is an amount
 abbrev pub is_verdict_in_form : Verdict → Bool
 is_verdict_in_form verdict.Done = true
 is_verdict_in_form verdict.Approved = true
 is_verdict_in_form (verdict.Declined why) = true
 is_verdict_in_form (verdict.Partial currency amount) = is_amount amount
 
+-- what an event was decided as is in form
 abbrev pub is_decided_in_form : Decision → Bool
 is_decided_in_form d = is_verdict_in_form d.verdict
 

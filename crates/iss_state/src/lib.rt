@@ -36,7 +36,7 @@ pub use dockets::{allowed_entries_keep_dockets_well, events_of_a_docket_are_deci
 pub use entering::entries_can_be_entered;
 pub use entries::{entries_move_sums, entries_move_what_is_at_stake};
 pub use few::few_numbers_are_given;
-pub use forms::{entries_are_in_form, states_stay_in_form};
+pub use forms::{entries_are_in_form, parts_are_small, states_stay_in_form};
 pub use holdings::{entries_keep_holdings, holdings_are_well, transactions_end_once};
 pub use names::transactions_are_found_by_name;
 pub use numbers::{calls_are_numbered, notices_are_numbered, transactions_have_names};

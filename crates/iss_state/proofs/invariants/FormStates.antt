@@ -1,23 +1,29 @@
 -- A state in form stays so where a record is taken up and where entries in form are entered.
-use Rattle.std.specs.Prelude.{None, Some}
-use Rattle.std.proofs.Common.{Bool, List, [], ap₂, arith, cond, false, fold, map, max, nat_eq, nat_le, refl, true, ℕ, ◌&&◌, ◌++◌, ◌∙◌, ◌∷◌, ◌≡◌}
+use Rattle.std.specs.Prelude.{None, Option, Some, find, option_map}
+use Rattle.std.proofs.Common.{Bool, List, [], ap, ap₂, arith, cond, false, fold, map, max, nat_eq, nat_le, refl, sym, true, ℕ, ◌&&◌, ◌++◌, ◌<◌, ◌^◌, ◌∙◌, ◌∷◌, ◌≡◌, ◌≤◌}
 use Rattle.std.specs.List.{list_all}
 use Rattle.std.specs.Str.{bytes_eq}
 use Rattle.std.proofs.lemmas.Bool.{and_parts}
 use Rattle.std.proofs.lemmas.Bool.Decides.{nat_tests}
 use Rattle.std.proofs.lemmas.List.Folds.{list_all-append}
 use Rattle.iss_model.specs.declared.call.How.{How}
+use Rattle.iss_model.specs.declared.currency.Currency.{Currency}
+use Rattle.iss_model.specs.declared.decision.Verdict.TheVariants as verdict
 use Rattle.iss_model.specs.declared.entry.Entry.{Entry}
 use Rattle.iss_model.specs.declared.entry.Entry.TheVariants as entry
 use Rattle.iss_model.specs.declared.input.Input.{Input}
 use Rattle.iss_model.specs.declared.input.Input.TheVariants as input
 use Rattle.iss_model.specs.declared.input.Record.{Record}
-use Rattle.iss_model.specs.declared.limits.TheConstants.{LAST_STAMP}
+use Rattle.iss_model.specs.declared.limits.TheConstants.{GREATEST_AMOUNT, LAST_STAMP}
 use Rattle.iss_model.specs.declared.setting.Moved.TheVariants as moved
-use Rattle.iss_model.specs.Forms.{is_in_form, is_stamp}
+use Rattle.iss_model.specs.Forms.{is_amount, is_in_form, is_stamp}
 use Rattle.iss_model.specs.rules.Activity.{CallNow, TxnNow, is_asked}
+use Rattle.iss_model.specs.rules.Facts.{Decision}
 use Rattle.iss_model.specs.state.Cores.{CoreState, ProductNow, after_entry, after_setting, call_after_close, is_live, no_core, product_after_switch, txn_after_end, with_record}
-use Rattle.iss_state.specs.InForm.{IsInForm, are_times, is_begun_at_stamp, is_closed_in_form, is_decided_in_form, is_entry_in_form, is_how_in_form, is_opened_at_stamp}
+use Rattle.iss_state.specs.InForm.{IsInForm, are_times, is_begun_at_stamp, is_closed_in_form, is_decided_in_form, is_end_in_form, is_entry_in_form, is_how_in_form, is_opened_at_stamp, is_verdict_in_form}
+use Rattle.iss_model.proofs.Lists.{find_passes}
+use Rattle.iss_state.specs.Asked.{IsApprovedSmall, IsFundedSmall}
+use Rattle.iss_state.proofs.invariants.OwnEntries.{most_amount}
 
 -- ---- lists
 
@@ -148,6 +154,30 @@ entries_form s [] form h = h
 entries_form s (e ∷ es) form h =
     let both = and_parts (is_entry_in_form e) (list_all is_entry_in_form es) form in
     entries_form (after_entry s e) es both.1 (entry_form s e both.0 h)
+
+-- ---- parts
+
+small_amount : (n : ℕ) → is_amount n ≡ true → n < 2 ^ 62
+small_amount n h = far n (most_amount n h)
+  where
+    far : (n : ℕ) → n ≤ GREATEST_AMOUNT → n < 2 ^ 62
+    far n le = omega (arith, le)
+
+pub funded_small : (s : CoreState) (n : ℕ) (c : CallNow) (amount : ℕ) → IsInForm s → IsFundedSmall s n c amount
+funded_small s n c amount form found funded =
+    small_amount amount (sym (ap is_end_in_form funded) ∙ find_passes (λ (c : CallNow). nat_eq c.opened.call.0 n) is_closed_in_form s.calls c form.closed found)
+
+pub approved_small : (s : CoreState) (event : List ℕ) (currency : Currency) (amount : ℕ) → IsInForm s → IsApprovedSmall s event currency amount
+approved_small s event currency amount form approved = by (find (λ (d : Decision). bytes_eq d.event event) s.decisions) refl approved
+  where
+    by : (o : Option Decision) → find (λ (d : Decision). bytes_eq d.event event) s.decisions ≡ o → option_map (λ (d : Decision). d.verdict) o ≡ Some (verdict.Partial currency amount) → amount < 2 ^ 62
+    by None found e = cc
+    by (Some d) found e =
+        let same : d.verdict ≡ verdict.Partial currency amount = cc in
+        small_amount amount (sym (ap is_verdict_in_form same) ∙ find_passes (λ (d : Decision). bytes_eq d.event event) is_decided_in_form s.decisions d form.decided found)
+
+pub decided_small : (event : List ℕ) (currency : Currency) (amount : ℕ) → is_entry_in_form (entry.Decided event (verdict.Partial currency amount)) ≡ true → amount < 2 ^ 62
+decided_small event currency amount form = small_amount amount form
 
 -- ---- a record is taken up
 

@@ -42,7 +42,7 @@ use Rattle.iss_state.proofs.invariants.Sound.{Enters, paid_enters, sound_after_b
 
 -- what an input in form brings ----
 
-most_amount : (n : ℕ) → is_amount n ≡ true → n ≤ GREATEST_AMOUNT
+pub most_amount : (n : ℕ) → is_amount n ≡ true → n ≤ GREATEST_AMOUNT
 most_amount n h = at_most n (and_parts (nat_le LEAST_AMOUNT n) (nat_le n GREATEST_AMOUNT) h).1
   where
     at_most : (n : ℕ) → nat_le n GREATEST_AMOUNT ≡ true → n ≤ GREATEST_AMOUNT
