@@ -239,7 +239,7 @@ module _ (k : Counting) (counting : IsCounting k) (last : ℕ) (by : Cause) (at 
       (paid g s (act_entries (Funds o t)) (answered o t how.Funded _ made.from.1 (funded_within k counting _ (call_ask o t) (account.Gateway t.currency) part.G (knows_of_facts s t own_tokens (txn_of_call made.from.1)))))
   act_within g q (FundsPart o t amount) made known =
       subst (λ (q : CoreState). Spends g q (FundsPart o t amount)) (sym (known_at q made.from.0 known))
-      (paid g s (act_entries (FundsPart o t amount)) (answered o t (how.Partial amount) _ made.from.1 (part_funded_within k counting _ o t amount (part_below o amount made.from.2.counts) (knows_of_facts s t own_tokens (txn_of_call made.from.1)))))
+      (paid g s (act_entries (FundsPart o t amount)) (answered o t (how.Partial amount) _ made.from.1 (part_funded_within k counting _ o t amount (part_below o amount made.from.2) (knows_of_facts s t own_tokens (txn_of_call made.from.1)))))
   act_within g q (Refuses o t) made known =
       subst (λ (q : CoreState). Spends g q (Refuses o t)) (sym (known_at q made.from.0 known))
       (paid g s (act_entries (Refuses o t)) (answered o t how.Refused _ made.from.1 (declined_within k counting _ (call_ask o t) reason.GatewayDeclined)))
