@@ -17,7 +17,7 @@ from decimal import Decimal
 HEADER = b"\x01ISS1\x01\0\0\0\0"
 FIRST_GATE, LONGEST_BODY = 16, 8192
 
-# The type of each kind, and its fields in the order of their bytes.
+# The type of each kind, and its fields in the order of their bytes. A field with a value has no bytes: the kind says it.
 KINDS = {
     1: "user token user",
     2: "card token card user product active",
@@ -37,6 +37,8 @@ KINDS = {
     16: "ack notice",
     17: "time",
     18: "control token control currency window amount_limit? usage_limit? association scope active utc_offset",
+    19: 'answer call outcome="PARTIAL" currency amount',
+    20: "authorization token card currency amount mcc mid partial=true",
 }
 # The fields that follow a byte, by that byte.
 CHOICES = {
@@ -102,6 +104,9 @@ class Body(io.BytesIO):
         for field in fields.split():
             if field in CHOICES:
                 self.add_fields(self.choice(CHOICES[field]), line)
+            elif "=" in field:
+                name, value = field.split("=")
+                line[name] = json.loads(value)
             else:
                 line["to" if field.endswith("_state") else field] = self.value(field, line)
 

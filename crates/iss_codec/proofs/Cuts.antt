@@ -11,12 +11,14 @@ use Rattle.iss_model.specs.declared.setting.Association.{Association}
 use Rattle.iss_model.specs.declared.setting.Association.TheVariants as association
 use Rattle.iss_model.specs.declared.setting.Scope.{Scope}
 use Rattle.iss_model.specs.declared.setting.Scope.TheVariants as scope
+use Rattle.iss_model.specs.declared.input.Outcome.{Outcome}
+use Rattle.iss_model.specs.declared.input.Outcome.TheVariants as outcome
 use Rattle.iss_model.specs.Currencies.{iso_number}
-use Rattle.iss_model.specs.Inputs.{with_length, flag_contents, optional_contents, int_contents, funding_number, window_number, card_state_number, user_state_number, outcome_number, moved_contents, association_contents, scope_contents}
+use Rattle.iss_model.specs.Inputs.{with_length, flag_contents, optional_contents, int_contents, funding_number, window_number, card_state_number, user_state_number, outcome_number, part_contents, moved_contents, association_contents, scope_contents}
 use Rattle.iss_model.specs.texts.Spelling.{number_bytes}
 use Rattle.iss_codec.specs.Taking.{take_currency}
 use Rattle.iss_codec.proofs.TakenFields.{IsField}
-use Rattle.iss_codec.proofs.TakenParts.{currency_field, flag_field, funding_field, window_field, card_state_field, user_state_field, outcome_field}
+use Rattle.iss_codec.proofs.TakenParts.{currency_field, flag_field, funding_field, window_field, card_state_field, user_state_field}
 
 -- if two such lists begin equal lists, they are of one value, and what is after them is equal
 pub record IsCut {A : Type 0} (text : A → List ℕ) : Type 0 where
@@ -72,8 +74,24 @@ funding_cut = field_cut _ (λ f. funding_number f ∷ []) funding_field
 pub window_cut : IsCut (λ w. window_number w ∷ [])
 window_cut = field_cut _ (λ w. window_number w ∷ []) window_field
 
-pub outcome_cut : IsCut (λ o. outcome_number o ∷ [])
-outcome_cut = field_cut _ (λ o. outcome_number o ∷ []) outcome_field
+-- an outcome's number, and a part's currency and amount
+abbrev pub outcome_contents : Outcome → List ℕ
+outcome_contents o = outcome_number o ∷ part_contents o
+
+part_cut : IsCut (λ (p : Currency × ℕ). (iso_number p.0 ∷ []) ++ p.1 ∷ [])
+part_cut = pair_cut currency_cut number_cut
+
+outcome_parts : (a b : Outcome) (x y : List ℕ) → outcome_contents a ++ x ≡ outcome_contents b ++ y → (a ≡ b) × (x ≡ y)
+outcome_parts outcome.Funded outcome.Funded x y e = (refl, (heads 1 1 x y e).1)
+outcome_parts outcome.Refused outcome.Refused x y e = (refl, (heads 2 2 x y e).1)
+outcome_parts outcome.Connection outcome.Connection x y e = (refl, (heads 3 3 x y e).1)
+outcome_parts outcome.Application outcome.Application x y e = (refl, (heads 4 4 x y e).1)
+outcome_parts (outcome.Partial c n) (outcome.Partial d m) x y e =
+    let p = part_cut.cut (c, n) (d, m) x y (heads 5 5 _ _ e).1 in (ap (λ q. outcome.Partial q.0 q.1) p.0, p.1)
+outcome_parts _ _ x y e = absurd cc
+
+pub outcome_cut : IsCut outcome_contents
+outcome_cut = record { cut = outcome_parts }
 
 card_state_cut : IsCut (λ s. card_state_number s ∷ [])
 card_state_cut = field_cut _ (λ s. card_state_number s ∷ []) card_state_field

@@ -73,10 +73,10 @@ load_is t u c n (input.Load t' u' c' n') e =
     ap (λ p. input.Load p.0.0 p.0.1 p.1.0 p.1.1) (alone (pair_cut (pair_cut text_cut text_cut) (pair_cut currency_cut number_cut)) ((t, u), (c, n)) ((t', u'), (c', n')) (rest 9 _ _ e))
 load_is t u c n _ e = cc
 
-authorization_is : (t : List ℕ) (c : List ℕ) (m : Currency) (n : ℕ) (k : ℕ) (d : List ℕ) (b : Input) → contents (input.Authorization t c m n k d) ≡ contents b → input.Authorization t c m n k d ≡ b
-authorization_is t c m n k d (input.Authorization t' c' m' n' k' d') e =
-    ap (λ p. input.Authorization p.0.0.0 p.0.0.1 p.0.1.0 p.0.1.1.0 p.0.1.1.1 p.1) (alone (pair_cut (pair_cut (pair_cut text_cut text_cut) (pair_cut currency_cut (pair_cut number_cut number_cut))) text_cut) (((t, c), (m, (n, k))), d) (((t', c'), (m', (n', k'))), d') (rest 10 _ _ e))
-authorization_is t c m n k d _ e = cc
+authorization_is : (t : List ℕ) (c : List ℕ) (m : Currency) (n : ℕ) (k : ℕ) (d : List ℕ) (p : Bool) (b : Input) → contents (input.Authorization t c m n k d p) ≡ contents b → input.Authorization t c m n k d p ≡ b
+authorization_is t c m n k d p (input.Authorization t' c' m' n' k' d' p') e =
+    ap (λ p. input.Authorization p.0.0.0.0 p.0.0.0.1 p.0.0.1.0 p.0.0.1.1.0 p.0.0.1.1.1 p.0.1 p.1) (alone (pair_cut (pair_cut (pair_cut (pair_cut text_cut text_cut) (pair_cut currency_cut (pair_cut number_cut number_cut))) text_cut) flag_cut) ((((t, c), (m, (n, k))), d), p) ((((t', c'), (m', (n', k'))), d'), p') (rest 10 _ _ e))
+authorization_is t c m n k d p _ e = cc
 
 increment_is : (t : List ℕ) (u : List ℕ) (c : Currency) (n : ℕ) (b : Input) → contents (input.Increment t u c n) ≡ contents b → input.Increment t u c n ≡ b
 increment_is t u c n (input.Increment t' u' c' n') e =
@@ -121,7 +121,7 @@ contents_tell (input.Control t v c w m n s o z a) b e = control_is t v c w m n s
 contents_tell (input.Set t v p c x y z m d a) b e = set_is t v p c x y z m d a b e
 contents_tell (input.Switch t p a) b e = switch_is t p a b e
 contents_tell (input.Load t u c n) b e = load_is t u c n b e
-contents_tell (input.Authorization t c m n k d) b e = authorization_is t c m n k d b e
+contents_tell (input.Authorization t c m n k d p) b e = authorization_is t c m n k d p b e
 contents_tell (input.Increment t u c n) b e = increment_is t u c n b e
 contents_tell (input.Reversal t u c n) b e = reversal_is t u c n b e
 contents_tell (input.Clearing t u c n a) b e = clearing_is t u c n a b e

@@ -10,15 +10,16 @@ use Rattle.iss_model.specs.declared.setting.Moved.{Moved}
 use Rattle.iss_model.specs.declared.setting.Association.{Association}
 use Rattle.iss_model.specs.declared.setting.Scope.{Scope}
 use Rattle.iss_model.specs.declared.input.Outcome.{Outcome}
+use Rattle.iss_model.specs.declared.input.Outcome.TheVariants as outcome
 use Rattle.iss_model.specs.declared.input.Input.{Input}
 use Rattle.iss_model.specs.declared.input.Input.TheVariants as input
-use Rattle.iss_model.specs.Forms.{is_amount, is_limit, is_mcc, is_number, is_timeout, is_hold_time, are_mccs, are_limits, is_scope, is_offset}
+use Rattle.iss_model.specs.Forms.{is_amount, is_limit, is_mcc, is_number, is_timeout, is_hold_time, are_mccs, are_limits, is_scope, is_offset, is_outcome}
 use Rattle.iss_model.specs.Inputs.{flag_contents, funding_number, window_number, outcome_number, spelled_moved, spelled_association}
-use Rattle.iss_model.specs.texts.Spelling.{number_bytes, currency_bytes, amount_bytes, mcc_bytes, mccs_bytes, spelled_scope, spelled_fields, spelled_operation, kind_number, has_fields, is_utc, offset_bytes, moved_token, association_tokens, scope_tokens}
+use Rattle.iss_model.specs.texts.Spelling.{number_bytes, currency_bytes, amount_bytes, mcc_bytes, mccs_bytes, spelled_scope, spelled_fields, spelled_operation, kind_number, has_fields, is_utc, offset_bytes, answer_kind, moved_token, association_tokens, scope_tokens}
 use Rattle.iss_codec.specs.Taking.{◌>>=◌}
-use Rattle.iss_codec.specs.TakingRecords.{take_user, take_card, take_move, take_product, take_group, take_control, take_set, take_switch, take_operation, take_authorization, take_clearing, take_answer, take_ack, take_fields}
+use Rattle.iss_codec.specs.TakingRecords.{take_user, take_card, take_move, take_product, take_group, take_control, take_set, take_switch, take_operation, take_authorization, take_clearing, take_answer, take_part, take_ack, take_fields}
 use Rattle.iss_codec.proofs.TakenFields.{IsField}
-use Rattle.iss_codec.proofs.TakenParts.{amount_field, limit_field, mcc_field, id_field, timeout_field, hold_time_field, funding_field, window_field, outcome_field, currency_field, flag_field, both_limits, have_form, limits_field, offset_form, offset_field, mccs_field}
+use Rattle.iss_codec.proofs.TakenParts.{amount_field, limit_field, mcc_field, id_field, timeout_field, hold_time_field, funding_field, window_field, is_numbered, outcome_field, currency_field, flag_field, both_limits, have_form, limits_field, offset_form, offset_field, mccs_field}
 use Rattle.iss_codec.proofs.TakenChoices.{moved_form, moved_field, association_field, association_form, scope_field, scope_form}
 
 -- a field before what the next steps read
@@ -166,17 +167,24 @@ module _ {take_name : List ℕ → Option (List ℕ × List ℕ)} {name_bytes : 
       (again_step amount_field amount _ _ _ h4
       refl)))
 
-  authorization_again : (token card : List ℕ) (currency : Currency) (amount mcc : ℕ) (mid : List ℕ) (rest : List ℕ) → is_name token ≡ true → is_name card ≡ true → is_amount amount ≡ true → is_mcc mcc ≡ true → is_name mid ≡ true
-      → take_authorization take_name (spelled_fields name_bytes (input.Authorization token card currency amount mcc mid) ++ rest) ≡ Some (input.Authorization token card currency amount mcc mid, rest)
+  authorization_again : (token card : List ℕ) (currency : Currency) (amount mcc : ℕ) (mid : List ℕ) (partial : Bool) (rest : List ℕ) → is_name token ≡ true → is_name card ≡ true → is_amount amount ≡ true → is_mcc mcc ≡ true → is_name mid ≡ true
+      → take_authorization take_name partial (spelled_fields name_bytes (input.Authorization token card currency amount mcc mid partial) ++ rest) ≡ Some (input.Authorization token card currency amount mcc mid partial, rest)
   unfolding take_authorization
-  authorization_again token card currency amount mcc mid rest h1 h2 h4 h5 h6 =
-      ap (take_authorization take_name) (grouped_6 (name_bytes token) (name_bytes card) (currency_bytes currency) (amount_bytes amount) (mcc_bytes mcc) (name_bytes mid) rest) ∙ again_step name token _ _ _ h1
+  authorization_again token card currency amount mcc mid partial rest h1 h2 h4 h5 h6 =
+      ap (take_authorization take_name partial) (grouped_6 (name_bytes token) (name_bytes card) (currency_bytes currency) (amount_bytes amount) (mcc_bytes mcc) (name_bytes mid) rest) ∙ again_step name token _ _ _ h1
       (again_step name card _ _ _ h2
       (again_step currency_field currency _ _ _ refl
       (again_step amount_field amount _ _ _ h4
       (again_step mcc_field mcc _ _ _ h5
       (again_step name mid _ _ _ h6
       refl)))))
+
+  -- an authorisation is read again by the kind that says what it permits
+  authorization_by_kind : (partial : Bool) (token card : List ℕ) (currency : Currency) (amount mcc : ℕ) (mid rest : List ℕ) → is_name token ≡ true → is_name card ≡ true → is_amount amount ≡ true → is_mcc mcc ≡ true → is_name mid ≡ true
+      → take_fields take_name (cond partial 20 10) (spelled_fields name_bytes (input.Authorization token card currency amount mcc mid partial) ++ rest) ≡ Some (input.Authorization token card currency amount mcc mid partial, rest)
+  unfolding take_fields
+  authorization_by_kind true token card currency amount mcc mid rest h1 h2 h4 h5 h6 = authorization_again token card currency amount mcc mid true rest h1 h2 h4 h5 h6
+  authorization_by_kind false token card currency amount mcc mid rest h1 h2 h4 h5 h6 = authorization_again token card currency amount mcc mid false rest h1 h2 h4 h5 h6
 
   clearing_again : (token txn : List ℕ) (currency : Currency) (amount : ℕ) (last : Bool) (rest : List ℕ) → is_name token ≡ true → is_name txn ≡ true → is_amount amount ≡ true
       → take_clearing take_name (spelled_fields name_bytes (input.Clearing token txn currency amount last) ++ rest) ≡ Some (input.Clearing token txn currency amount last, rest)
@@ -189,13 +197,33 @@ module _ {take_name : List ℕ → Option (List ℕ × List ℕ)} {name_bytes : 
       (again_step flag_field last _ _ _ refl
       refl))))
 
-  answer_again : (call : ℕ) (outcome : Outcome) (rest : List ℕ) → is_number call ≡ true
-      → take_answer (spelled_fields name_bytes (input.Answer (record { 0 = call }) outcome) ++ rest) ≡ Some (input.Answer (record { 0 = call }) outcome, rest)
+  answer_again : (call : ℕ) (outcome : Outcome) (rest : List ℕ) → is_number call ≡ true → is_numbered outcome ≡ true
+      → take_answer (number_bytes 4 call ++ (outcome_number outcome ∷ []) ++ rest) ≡ Some (input.Answer (record { 0 = call }) outcome, rest)
   unfolding take_answer
-  answer_again call outcome rest h1 =
+  answer_again call outcome rest h1 h2 =
       ap take_answer (grouped_2 (number_bytes 4 call) (outcome_number outcome ∷ []) rest) ∙ again_step id_field call _ _ _ h1
-      (again_step outcome_field outcome _ _ _ refl
+      (again_step outcome_field outcome _ _ _ h2
       refl)
+
+  part_again : (call : ℕ) (currency : Currency) (amount : ℕ) (rest : List ℕ) → is_number call ≡ true → is_amount amount ≡ true
+      → take_part (number_bytes 4 call ++ (currency_bytes currency ++ amount_bytes amount) ++ rest) ≡ Some (input.Answer (record { 0 = call }) (outcome.Partial currency amount), rest)
+  unfolding take_part
+  part_again call currency amount rest h1 h3 =
+      ap take_part (grouped_2 (number_bytes 4 call) (currency_bytes currency ++ amount_bytes amount) rest ∙ ap (λ (t : List ℕ). number_bytes 4 call ++ t) (grouped_2 (currency_bytes currency) (amount_bytes amount) rest))
+      ∙ again_step id_field call _ _ _ h1
+      (again_step currency_field currency _ _ _ refl
+      (again_step amount_field amount _ _ _ h3
+      refl))
+
+  -- an answer is read again by the kind of its outcome
+  answer_by_kind : (call : ℕ) (o : Outcome) (rest : List ℕ) → is_number call ≡ true → is_outcome o ≡ true
+      → take_fields take_name (answer_kind o) (spelled_fields name_bytes (input.Answer (record { 0 = call }) o) ++ rest) ≡ Some (input.Answer (record { 0 = call }) o, rest)
+  unfolding take_fields
+  answer_by_kind call outcome.Funded rest h1 h2 = answer_again call outcome.Funded rest h1 refl
+  answer_by_kind call outcome.Refused rest h1 h2 = answer_again call outcome.Refused rest h1 refl
+  answer_by_kind call outcome.Connection rest h1 h2 = answer_again call outcome.Connection rest h1 refl
+  answer_by_kind call outcome.Application rest h1 h2 = answer_again call outcome.Application rest h1 refl
+  answer_by_kind call (outcome.Partial currency amount) rest h1 h2 = part_again call currency amount rest h1 h2
 
   ack_again : (notice : ℕ) (rest : List ℕ) → is_number notice ≡ true
       → take_ack (spelled_fields name_bytes (input.Ack notice) ++ rest) ≡ Some (input.Ack notice, rest)
@@ -245,10 +273,10 @@ module _ {take_name : List ℕ → Option (List ℕ × List ℕ)} {name_bytes : 
   fields_again (input.Load token user currency amount) rest h =
       let f = and_parts (is_amount amount) (list_all is_name (token ∷ user ∷ [])) h in
       let p = two_tokens token user f.1 in operation_again input.Load token user currency amount rest p.0 p.1 f.0
-  fields_again (input.Authorization token card currency amount mcc mid) rest h =
+  fields_again (input.Authorization token card currency amount mcc mid partial) rest h =
       let f = and_parts (is_amount amount && is_mcc mcc) (list_all is_name (token ∷ card ∷ mid ∷ [])) h in
       let g = and_parts (is_amount amount) (is_mcc mcc) f.0 in
-      let p = three_tokens token card mid f.1 in authorization_again token card currency amount mcc mid rest p.0 p.1 g.0 g.1 p.2
+      let p = three_tokens token card mid f.1 in authorization_by_kind partial token card currency amount mcc mid rest p.0 p.1 g.0 g.1 p.2
   fields_again (input.Increment token txn currency amount) rest h =
       let f = and_parts (is_amount amount) (list_all is_name (token ∷ txn ∷ [])) h in
       let p = two_tokens token txn f.1 in operation_again input.Increment token txn currency amount rest p.0 p.1 f.0
@@ -261,6 +289,8 @@ module _ {take_name : List ℕ → Option (List ℕ × List ℕ)} {name_bytes : 
   fields_again (input.Refund token txn currency amount) rest h =
       let f = and_parts (is_amount amount) (list_all is_name (token ∷ txn ∷ [])) h in
       let p = two_tokens token txn f.1 in operation_again input.Refund token txn currency amount rest p.0 p.1 f.0
-  fields_again (input.Answer call outcome) rest h = answer_again call.0 outcome rest (and_parts (is_number call.0) true h).0
+  fields_again (input.Answer call outcome) rest h =
+      let f = and_parts (is_number call.0 && is_outcome outcome) true h in
+      let g = and_parts (is_number call.0) (is_outcome outcome) f.0 in answer_by_kind call.0 outcome rest g.0 g.1
   fields_again (input.Ack notice) rest h = ack_again notice rest (and_parts (is_number notice) true h).0
   fields_again input.Time rest h = refl

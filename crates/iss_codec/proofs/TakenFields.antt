@@ -130,17 +130,23 @@ token_field =
       again = λ text rest h. rw (byte_again (length text) (text ++ rest), bytes_again text rest, h) refl;
     }
 
--- a thing by its number in one byte, if no two things have the same number
-pub numbered : {A : Type 0} (number : A → ℕ) (of_number : ℕ → Option A) → ((x : A) → of_number (number x) ≡ Some x)
-    → ((n : ℕ) (x : A) → of_number n ≡ Some x → n ≡ number x) → IsField (take_numbered of_number) (λ x. number x ∷ []) (λ x. true)
+-- a thing of this form by its number in one byte, if no two of them have the same number
+pub numbered_of : {A : Type 0} (form : A → Bool) (number : A → ℕ) (of_number : ℕ → Option A) → ((x : A) → form x ≡ true → of_number (number x) ≡ Some x)
+    → ((n : ℕ) (x : A) → of_number n ≡ Some x → (n ≡ number x) × (form x ≡ true)) → IsField (take_numbered of_number) (λ x. number x ∷ []) form
 unfolding take_numbered
-numbered number of_number there back =
+numbered_of form number of_number there back =
     record {
       takes = λ bytes x fits e.
           let n = bind_some (take_byte bytes) _ x e in
           let a = byte_takes bytes n.0 fits n.1 in
           let t = bind_some (of_number n.0.0) _ x n.2 in
-          let whole : IsSplit bytes (number t.0 ∷ []) n.0.1 = subst (λ (k : ℕ). IsSplit bytes (k ∷ []) n.0.1) (back n.0.0 t.0 t.1) a in
-          (subst (λ y. IsSplit bytes (number y.0 ∷ []) y.1) (same_Some (t.0, n.0.1) x t.2) whole, refl);
-      again = λ x rest h. rw (byte_again (number x) rest, there x) refl;
+          let is = back n.0.0 t.0 t.1 in
+          let whole : IsSplit bytes (number t.0 ∷ []) n.0.1 = subst (λ (k : ℕ). IsSplit bytes (k ∷ []) n.0.1) is.0 a in
+          subst (λ y. IsSplit bytes (number y.0 ∷ []) y.1 × (form y.0 ≡ true)) (same_Some (t.0, n.0.1) x t.2) (whole, is.1);
+      again = λ x rest h. rw (byte_again (number x) rest, there x h) refl;
     }
+
+-- a thing by its number in one byte, if no two things have the same number
+pub numbered : {A : Type 0} (number : A → ℕ) (of_number : ℕ → Option A) → ((x : A) → of_number (number x) ≡ Some x)
+    → ((n : ℕ) (x : A) → of_number n ≡ Some x → n ≡ number x) → IsField (take_numbered of_number) (λ x. number x ∷ []) (λ x. true)
+numbered number of_number there back = numbered_of (λ x. true) number of_number (λ x h. there x) (λ n x e. (back n x e, refl))

@@ -1,5 +1,5 @@
 -- Each kind of input: what is taken was spelled so, and is of its form.
-use Rattle.std.proofs.Common.{◌≡◌, ℕ, ℤ, Bool, true, false, cond, nat_eq, List, [], ◌++◌, Option, Some, refl, sym, subst, ◌∙◌}
+use Rattle.std.proofs.Common.{◌≡◌, ℕ, ℤ, Bool, true, false, cond, nat_eq, List, [], ◌++◌, Option, Some, refl, sym, subst, ◌∙◌, append_assoc}
 use Rattle.std.specs.List.{list_all}
 use Rattle.std.proofs.lemmas.Bool.{and_parts, eqb-true}
 use Rattle.std.proofs.lemmas.Option.{same_Some}
@@ -8,11 +8,11 @@ use Rattle.iss_model.specs.declared.currency.Currency.{Currency}
 use Rattle.iss_model.specs.declared.input.Input.{Input}
 use Rattle.iss_model.specs.declared.input.Input.TheVariants as input
 use Rattle.iss_model.specs.Forms.{is_amount, is_scope}
-use Rattle.iss_model.specs.texts.Spelling.{AreBytes, spelled_fields, spelled_operation, kind_number, has_fields, is_utc, association_tokens, scope_tokens}
+use Rattle.iss_model.specs.texts.Spelling.{AreBytes, number_bytes, currency_bytes, amount_bytes, spelled_fields, spelled_operation, kind_number, has_fields, is_utc, association_tokens, scope_tokens}
 use Rattle.iss_codec.specs.Taking.{◌>>=◌}
-use Rattle.iss_codec.specs.TakingRecords.{take_user, take_card, take_move, take_product, take_group, take_control, take_set, take_switch, take_operation, take_authorization, take_clearing, take_answer, take_ack, take_fields}
+use Rattle.iss_codec.specs.TakingRecords.{take_user, take_card, take_move, take_product, take_group, take_control, take_set, take_switch, take_operation, take_authorization, take_clearing, take_answer, take_part, take_ack, take_fields}
 use Rattle.iss_codec.proofs.TakenFields.{bind_some, either_way, IsSplit, IsField, split_on}
-use Rattle.iss_codec.proofs.TakenParts.{amount_field, limit_field, mcc_field, id_field, timeout_field, hold_time_field, funding_field, window_field, outcome_field, currency_field, flag_field, limits_field, offset_form, offset_field, offset_in_form, far_from_utc, mccs_field}
+use Rattle.iss_codec.proofs.TakenParts.{amount_field, limit_field, mcc_field, id_field, timeout_field, hold_time_field, funding_field, window_field, outcome_field, whole, currency_field, flag_field, limits_field, offset_form, offset_field, offset_in_form, far_from_utc, mccs_field}
 use Rattle.iss_codec.proofs.TakenChoices.{moved_field, association_field, scope_field}
 
 -- what was taken is an input of this kind, in form, and was spelled so
@@ -101,16 +101,17 @@ module _ {take_name : List ℕ → Option (List ℕ × List ℕ)} {name_bytes : 
       step flag_field bytes _ r2 _ x s2 e2 (λ on r3 s3 h3 e3.
       subst (IsInput name_bytes is_name 8 bytes) (same_Some _ x e3) (record { split = s3; form = rw (h1, h2) refl; kind = refl }))))
 
-  authorization_takes : (bytes : List ℕ) (x : Input × List ℕ) → AreBytes bytes → take_authorization take_name bytes ≡ Some x → IsInput name_bytes is_name 10 bytes x
+  authorization_takes : (number : ℕ) (partial : Bool) → cond partial 20 10 ≡ number
+      → (bytes : List ℕ) (x : Input × List ℕ) → AreBytes bytes → take_authorization take_name partial bytes ≡ Some x → IsInput name_bytes is_name number bytes x
   unfolding take_authorization
-  authorization_takes bytes x fits e =
+  authorization_takes number partial is_kind bytes x fits e =
       step name bytes [] bytes _ x (start bytes fits) e (λ token r1 s1 h1 e1.
       step name bytes _ r1 _ x s1 e1 (λ card r2 s2 h2 e2.
       step currency_field bytes _ r2 _ x s2 e2 (λ currency r3 s3 h3 e3.
       step amount_field bytes _ r3 _ x s3 e3 (λ amount r4 s4 h4 e4.
       step mcc_field bytes _ r4 _ x s4 e4 (λ mcc r5 s5 h5 e5.
       step name bytes _ r5 _ x s5 e5 (λ mid r6 s6 h6 e6.
-      subst (IsInput name_bytes is_name 10 bytes) (same_Some _ x e6) (record { split = s6; form = rw (h1, h2, h4, h5, h6) refl; kind = refl })))))))
+      subst (IsInput name_bytes is_name number bytes) (same_Some _ x e6) (record { split = s6; form = rw (h1, h2, h4, h5, h6) refl; kind = is_kind })))))))
 
   clearing_takes : (bytes : List ℕ) (x : Input × List ℕ) → AreBytes bytes → take_clearing take_name bytes ≡ Some x → IsInput name_bytes is_name 13 bytes x
   unfolding take_clearing
@@ -127,7 +128,24 @@ module _ {take_name : List ℕ → Option (List ℕ × List ℕ)} {name_bytes : 
   answer_takes bytes x fits e =
       step id_field bytes [] bytes _ x (start bytes fits) e (λ call r1 s1 h1 e1.
       step outcome_field bytes _ r1 _ x s1 e1 (λ outcome r2 s2 h2 e2.
-      subst (IsInput name_bytes is_name 15 bytes) (same_Some _ x e2) (record { split = s2; form = rw h1 refl; kind = refl })))
+      let w = whole outcome h2 in
+      subst (IsInput name_bytes is_name 15 bytes) (same_Some _ x e2) (record {
+        split = subst (λ (t : List ℕ). IsSplit bytes (number_bytes 4 call ++ t) r2) (sym w.bytes) s2;
+        form = rw (h1, w.form) refl;
+        kind = w.kind;
+      })))
+
+  part_takes : (bytes : List ℕ) (x : Input × List ℕ) → AreBytes bytes → take_part bytes ≡ Some x → IsInput name_bytes is_name 19 bytes x
+  unfolding take_part
+  part_takes bytes x fits e =
+      step id_field bytes [] bytes _ x (start bytes fits) e (λ call r1 s1 h1 e1.
+      step currency_field bytes _ r1 _ x s1 e1 (λ currency r2 s2 h2 e2.
+      step amount_field bytes _ r2 _ x s2 e2 (λ amount r3 s3 h3 e3.
+      subst (IsInput name_bytes is_name 19 bytes) (same_Some _ x e3) (record {
+        split = subst (λ (t : List ℕ). IsSplit bytes t r3) (append_assoc (number_bytes 4 call) (currency_bytes currency) (amount_bytes amount)) s3;
+        form = rw (h1, h3) refl;
+        kind = refl;
+      }))))
 
   ack_takes : (bytes : List ℕ) (x : Input × List ℕ) → AreBytes bytes → take_ack bytes ≡ Some x → IsInput name_bytes is_name 16 bytes x
   unfolding take_ack
@@ -212,7 +230,7 @@ module _ {take_name : List ℕ → Option (List ℕ × List ℕ)} {name_bytes : 
       either_way _ _ _ (Some x) (λ is e. of_kind number 7 bytes x is (set_takes bytes x fits e)) (
       either_way _ _ _ (Some x) (λ is e. of_kind number 8 bytes x is (switch_takes bytes x fits e)) (
       either_way _ _ _ (Some x) (λ is e. of_kind number 9 bytes x is (load_takes bytes x fits e)) (
-      either_way _ _ _ (Some x) (λ is e. of_kind number 10 bytes x is (authorization_takes bytes x fits e)) (
+      either_way _ _ _ (Some x) (λ is e. of_kind number 10 bytes x is (authorization_takes 10 false refl bytes x fits e)) (
       either_way _ _ _ (Some x) (λ is e. of_kind number 11 bytes x is (increment_takes bytes x fits e)) (
       either_way _ _ _ (Some x) (λ is e. of_kind number 12 bytes x is (reversal_takes bytes x fits e)) (
       either_way _ _ _ (Some x) (λ is e. of_kind number 13 bytes x is (clearing_takes bytes x fits e)) (
@@ -221,4 +239,6 @@ module _ {take_name : List ℕ → Option (List ℕ × List ℕ)} {name_bytes : 
       either_way _ _ _ (Some x) (λ is e. of_kind number 16 bytes x is (ack_takes bytes x fits e)) (
       either_way _ _ _ (Some x) (λ is e. of_kind number 17 bytes x is (time_takes bytes x fits e)) (
       either_way _ _ _ (Some x) (λ is e. of_kind number 18 bytes x is (local_takes bytes x fits e)) (
-      λ e. absurd cc)))))))))))))))))) e
+      either_way _ _ _ (Some x) (λ is e. of_kind number 19 bytes x is (part_takes bytes x fits e)) (
+      either_way _ _ _ (Some x) (λ is e. of_kind number 20 bytes x is (authorization_takes 20 true refl bytes x fits e)) (
+      λ e. absurd cc)))))))))))))))))))) e

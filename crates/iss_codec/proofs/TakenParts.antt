@@ -4,7 +4,7 @@ use Rattle.std.specs.Prelude.{ℤ, pos, negsuc, int_le, FitsSigned, not, is_some
 use Rattle.std.specs.Int.{w16, cast_signed, cast_unsigned}
 use Rattle.std.specs.Cmp.{signed_Decides}
 use Rattle.std.proofs.lemmas.Int.{of_z-to_z, to_z-of_z}
-use Rattle.std.specs.List.{flat_map}
+use Rattle.std.specs.List.{flat_map, list_all}
 use Rattle.std.proofs.lemmas.Bool.{leb-true, lt-ltb, ltb-true, eqb-true, and_parts}
 use Rattle.std.proofs.lemmas.Option.{same_Some}
 use Rattle.std.proofs.lemmas.List.Concat.{flat_map-cons}
@@ -21,14 +21,14 @@ use Rattle.iss_model.specs.declared.setting.UserState.TheVariants as user_state
 use Rattle.iss_model.specs.declared.input.Outcome.{Outcome}
 use Rattle.iss_model.specs.declared.input.Outcome.TheVariants as outcome
 use Rattle.iss_model.specs.Currencies.{iso_number, currencies}
-use Rattle.iss_model.specs.Forms.{is_amount, is_limit, is_mcc, is_stamp, is_timeout, is_hold_time, is_number, is_usage_limit, is_none_or, are_rising, are_mccs, are_limits, may_count, is_offset}
+use Rattle.iss_model.specs.Forms.{is_amount, is_limit, is_mcc, is_stamp, is_timeout, is_hold_time, is_number, is_usage_limit, is_none_or, are_rising, are_mccs, are_limits, may_count, is_offset, is_outcome}
 use Rattle.iss_model.specs.Inputs.{flag_contents, funding_number, window_number, card_state_number, user_state_number, outcome_number}
-use Rattle.iss_model.specs.texts.Spelling.{AreBytes, number_bytes, currency_bytes, mcc_bytes, mccs_bytes, limit_bytes, limits_bytes, is_utc, offset_bytes}
+use Rattle.iss_model.specs.texts.Spelling.{AreBytes, number_bytes, currency_bytes, mcc_bytes, mccs_bytes, limit_bytes, limits_bytes, is_utc, offset_bytes, outcome_bytes, answer_kind}
 use Rattle.iss_model.specs.Numbers.{of_number, fundings, windows, card_states, user_states, outcomes, currency_numbered, funding_numbered, window_numbered, card_state_numbered, user_state_numbered, outcome_numbered, flag_numbered}
 use Rattle.iss_codec.specs.Taking.{take_byte, take_number, take_formed, take_stamp, take_amount, take_limit, take_mcc, take_id, take_numbered, take_flag, take_currency, take_some, take_optional_by, take_optional, take_codes, take_mccs, is_local, take_offset}
 use Rattle.iss_codec.specs.TakingRecords.{take_limits}
 use Rattle.iss_codec.proofs.NumberBytes.{IsWide, wide_2, wide_4, wide_8}
-use Rattle.iss_codec.proofs.TakenFields.{by_byte, bind_some, passed, either_way, IsSplit, IsField, split_on, byte_takes, number_takes, number_again, formed, numbered}
+use Rattle.iss_codec.proofs.TakenFields.{by_byte, bind_some, passed, either_way, IsSplit, IsField, split_on, byte_takes, number_takes, number_again, formed, numbered, numbered_of}
 
 -- numbers of a form
 
@@ -94,14 +94,45 @@ user_state_there user_state.Closed = refl
 pub user_state_field : IsField (take_numbered user_state_numbered) (λ x. user_state_number x ∷ []) (λ x. true)
 user_state_field = numbered user_state_number user_state_numbered user_state_there (found user_state_number user_states)
 
-outcome_there : (x : Outcome) → outcome_numbered (outcome_number x) ≡ Some x
-outcome_there outcome.Funded = refl
-outcome_there outcome.Refused = refl
-outcome_there outcome.Connection = refl
-outcome_there outcome.Application = refl
+-- an outcome that its number says whole
+abbrev pub is_numbered : Outcome → Bool
+is_numbered outcome.Funded = true
+is_numbered outcome.Refused = true
+is_numbered outcome.Connection = true
+is_numbered outcome.Application = true
+is_numbered (outcome.Partial currency amount) = false
 
-pub outcome_field : IsField (take_numbered outcome_numbered) (λ x. outcome_number x ∷ []) (λ x. true)
-outcome_field = numbered outcome_number outcome_numbered outcome_there (found outcome_number outcomes)
+outcome_there : (x : Outcome) → is_numbered x ≡ true → outcome_numbered (outcome_number x) ≡ Some x
+outcome_there outcome.Funded h = refl
+outcome_there outcome.Refused h = refl
+outcome_there outcome.Connection h = refl
+outcome_there outcome.Application h = refl
+outcome_there (outcome.Partial currency amount) h = absurd cc
+
+-- a thing that is found is of a form that all of them have
+found_formed : {A : Type 0} (form : A → Bool) (number : A → ℕ) (things : List A) (n : ℕ) (x : A) → list_all form things ≡ true → of_number number things n ≡ Some x → form x ≡ true
+found_formed form number [] n x h e = absurd cc
+found_formed form number (thing ∷ things) n x h e =
+    let p = and_parts (form thing) (list_all form things) h in
+    either_way _ _ _ (Some x) (λ is e. sym (ap form (same_Some thing x e)) ∙ p.0) (found_formed form number things n x p.1) e
+
+pub outcome_field : IsField (take_numbered outcome_numbered) (λ x. outcome_number x ∷ []) is_numbered
+outcome_field =
+    numbered_of is_numbered outcome_number outcome_numbered outcome_there
+    (λ n x e. (found outcome_number outcomes n x e, found_formed is_numbered outcome_number outcomes n x refl e))
+
+-- what an outcome is that its number says whole
+pub record IsWhole (x : Outcome) : Type 0 where
+  pub bytes : outcome_bytes x ≡ outcome_number x ∷ []
+  pub kind : answer_kind x ≡ 15
+  pub form : is_outcome x ≡ true
+
+pub whole : (x : Outcome) → is_numbered x ≡ true → IsWhole x
+whole outcome.Funded h = record { bytes = refl; kind = refl; form = refl }
+whole outcome.Refused h = record { bytes = refl; kind = refl; form = refl }
+whole outcome.Connection h = record { bytes = refl; kind = refl; form = refl }
+whole outcome.Application h = record { bytes = refl; kind = refl; form = refl }
+whole (outcome.Partial currency amount) h = absurd cc
 
 currency_there : (x : Currency) → currency_numbered (iso_number x) ≡ Some x
 currency_there currency.Usd = refl

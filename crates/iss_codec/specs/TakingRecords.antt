@@ -2,6 +2,7 @@
 use Rattle.std.specs.Prelude.{ℕ, Bool, true, false, ◌==◌, List, [], ◌∷◌, Option, Some, None, if◌then◌else◌}
 use Rattle.iss_model.specs.declared.currency.Currency.{Currency}
 use Rattle.iss_model.specs.declared.setting.Window.{Window}
+use Rattle.iss_model.specs.declared.input.Outcome.TheVariants as outcome
 use Rattle.iss_model.specs.declared.input.Input.{Input}
 use Rattle.iss_model.specs.declared.input.Input.TheVariants as input
 use Rattle.iss_model.specs.declared.input.Record.{Record}
@@ -16,12 +17,20 @@ take_limits window bytes = do
   usage ← take_optional 4 amount.1
   only (λ limits. are_limits window limits.0 limits.1) ((amount.0, usage.0), usage.1)
 
--- the gateway answers a call
+-- the gateway answers a call, and not with a part
 unfoldable pub take_answer : List ℕ → Option (Input × List ℕ)
 take_answer bytes = do
   call ← take_id bytes
   outcome ← take_numbered outcome_numbered call.1
   Some (input.Answer (record { 0 = call.0 }) outcome.0, outcome.1)
+
+-- the gateway funds a part of a call's amount
+unfoldable pub take_part : List ℕ → Option (Input × List ℕ)
+take_part bytes = do
+  call ← take_id bytes
+  currency ← take_currency call.1
+  amount ← take_amount currency.1
+  Some (input.Answer (record { 0 = call.0 }) (outcome.Partial currency.0 amount.0), amount.1)
 
 -- a notice is acknowledged
 unfoldable pub take_ack : List ℕ → Option (Input × List ℕ)
@@ -120,16 +129,16 @@ module _ (take_name : List ℕ → Option (List ℕ × List ℕ)) where
     amount ← take_amount currency.1
     Some (make token.0 about.0 currency.0 amount.0, amount.1)
 
-  -- a card is used at a merchant
-  unfoldable pub take_authorization : List ℕ → Option (Input × List ℕ)
-  take_authorization bytes = do
+  -- a card is used at a merchant, and a part of the amount is permitted or not
+  unfoldable pub take_authorization : Bool → List ℕ → Option (Input × List ℕ)
+  take_authorization partial bytes = do
     token ← take_name bytes
     card ← take_name token.1
     currency ← take_currency card.1
     amount ← take_amount currency.1
     mcc ← take_mcc amount.1
     mid ← take_name mcc.1
-    Some (input.Authorization token.0 card.0 currency.0 amount.0 mcc.0 mid.0, mid.1)
+    Some (input.Authorization token.0 card.0 currency.0 amount.0 mcc.0 mid.0 partial, mid.1)
 
   -- a transaction is cleared, in part or at last
   unfoldable pub take_clearing : List ℕ → Option (Input × List ℕ)
@@ -153,7 +162,7 @@ module _ (take_name : List ℕ → Option (List ℕ × List ℕ)) where
       else if kind == 7 then take_set bytes
       else if kind == 8 then take_switch bytes
       else if kind == 9 then take_operation input.Load bytes
-      else if kind == 10 then take_authorization bytes
+      else if kind == 10 then take_authorization false bytes
       else if kind == 11 then take_operation input.Increment bytes
       else if kind == 12 then take_operation input.Reversal bytes
       else if kind == 13 then take_clearing bytes
@@ -162,6 +171,8 @@ module _ (take_name : List ℕ → Option (List ℕ × List ℕ)) where
       else if kind == 16 then take_ack bytes
       else if kind == 17 then Some (input.Time, bytes)
       else if kind == 18 then take_control true bytes
+      else if kind == 19 then take_part bytes
+      else if kind == 20 then take_authorization true bytes
       else None
 
   -- the record at the start, and the bytes after it

@@ -65,7 +65,7 @@ impl Reader<'_> {
             7 => self.take_set(),
             8 => self.take_switch(),
             9 => self.take_load(),
-            10 => self.take_authorization(),
+            10 => self.take_authorization(false),
             11 => self.take_increment(),
             12 => self.take_reversal(),
             13 => self.take_clearing(),
@@ -74,6 +74,8 @@ impl Reader<'_> {
             16 => self.take_ack(),
             17 => Some(Input::Time),
             18 => self.take_control(true),
+            19 => self.take_part(),
+            20 => self.take_authorization(true),
             _ => None,
         })
     }

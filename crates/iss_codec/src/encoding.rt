@@ -7,9 +7,10 @@ ghost use Rattle.iss_codec.specs.Controls.{control_input};
 
 use crate::writing::{
     put_association, put_currency, put_event, put_flag, put_limits, put_low_u32, put_mccs,
-    put_moved, put_offset, put_operation, put_scope, put_token, put_u16, put_u32, put_u64,
+    put_moved, put_offset, put_operation, put_outcome, put_scope, put_token, put_u16, put_u32,
+    put_u64,
 };
-use iss_model::{Control, Input, Numbered, Record, Token};
+use iss_model::{Control, Input, Numbered, Outcome, Record, Token};
 use std::alloc::{AllocError, Global};
 
 /// The one spelling of a record. `decode` reads it again if the record is in form.
@@ -47,11 +48,16 @@ fn kind_number(input: &Input) -> u8
         Input::Set { .. } => 7,
         Input::Switch { .. } => 8,
         Input::Load { .. } => 9,
-        Input::Authorization { .. } => 10,
+        Input::Authorization { partial: false, .. } => 10,
+        Input::Authorization { .. } => 20,
         Input::Increment { .. } => 11,
         Input::Reversal { .. } => 12,
         Input::Clearing { .. } => 13,
         Input::Refund { .. } => 14,
+        Input::Answer {
+            outcome: Outcome::Partial(..),
+            ..
+        } => 19,
         Input::Answer { .. } => 15,
         Input::Ack { .. } => 16,
         Input::Time => 17,
@@ -144,6 +150,7 @@ fn put_fields(out: &mut Vec<u8>, input: &Input) -> Result<(), AllocError>
             amount,
             mcc,
             mid,
+            ..
         } => {
             put_operation(out, token, card, *currency, *amount)?;
             put_u16(out, *mcc)?;
@@ -179,7 +186,7 @@ fn put_fields(out: &mut Vec<u8>, input: &Input) -> Result<(), AllocError>
         } => put_operation(out, token, txn, *currency, *amount),
         Input::Answer { call, outcome } => {
             put_u32(out, call.0)?;
-            Ok(out.push(outcome.number())?)
+            put_outcome(out, *outcome)
         }
         Input::Ack { notice } => put_u32(out, *notice),
         Input::Time => Ok(()),

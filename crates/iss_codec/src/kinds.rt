@@ -2,11 +2,11 @@
 ghost use Rattle.std.specs.Prelude.{◌≡◌, IfOk};
 ghost use Rattle.iss_model.specs.declared.input.Input.TheVariants as input;
 ghost use Rattle.iss_codec.specs.Taking.{take_token};
-ghost use Rattle.iss_codec.specs.TakingRecords.{take_user, take_card, take_move, take_product, take_group, take_control, take_set, take_switch, take_operation, take_authorization, take_clearing, take_answer, take_ack};
+ghost use Rattle.iss_codec.specs.TakingRecords.{take_user, take_card, take_move, take_product, take_group, take_control, take_set, take_switch, take_operation, take_authorization, take_clearing, take_answer, take_part, take_ack};
 ghost use Rattle.iss_codec.specs.Readers.{taken_field};
 
 use crate::reader::Reader;
-use iss_model::{CallId, Input};
+use iss_model::{CallId, Input, Outcome};
 use std::alloc::{AllocError, Global};
 
 impl Reader<'_> {
@@ -141,8 +141,8 @@ impl Reader<'_> {
     }
 
     #[tactic(auto, unfolding(crate::specs::TakingRecords::take_authorization))]
-    pub(crate) fn take_authorization(&mut self) -> Option<Input>
-        ensures { taken_field result self.new.bytes.now ≡ take_authorization take_token self.old.bytes.now }
+    pub(crate) fn take_authorization(&mut self, partial: bool) -> Option<Input>
+        ensures { taken_field result self.new.bytes.now ≡ take_authorization take_token partial self.old.bytes.now }
     {
         Some(Input::Authorization {
             token: self.take_token()?,
@@ -151,6 +151,7 @@ impl Reader<'_> {
             amount: self.take_amount()?,
             mcc: self.take_mcc()?,
             mid: self.take_token()?,
+            partial,
         })
     }
 
@@ -210,6 +211,16 @@ impl Reader<'_> {
         Some(Input::Answer {
             call: CallId(self.take_id()?),
             outcome: self.take_numbered()?,
+        })
+    }
+
+    #[tactic(auto, unfolding(crate::specs::TakingRecords::take_part))]
+    pub(crate) fn take_part(&mut self) -> Option<Input>
+        ensures { taken_field result self.new.bytes.now ≡ take_part self.old.bytes.now }
+    {
+        Some(Input::Answer {
+            call: CallId(self.take_id()?),
+            outcome: Outcome::Partial(self.take_currency()?, self.take_amount()?),
         })
     }
 

@@ -3,9 +3,9 @@ ghost use Rattle.std.specs.Prelude.{◌≡◌, ◌++◌, ◌∷◌, [], IsTrue, 
 ghost use Rattle.std.specs.List.{flat_map, list_all};
 ghost use Rattle.iss_model.specs.Tokens.{is_token};
 ghost use Rattle.iss_model.specs.Inputs.{with_length, flag_contents, moved_contents, association_contents};
-ghost use Rattle.iss_model.specs.texts.Spelling.{number_bytes, currency_bytes, mcc_bytes, limit_bytes, limits_bytes, offset_bytes, scope_bytes, mccs_bytes, operation_bytes, moved_token, association_tokens, scope_tokens};
+ghost use Rattle.iss_model.specs.texts.Spelling.{number_bytes, currency_bytes, mcc_bytes, limit_bytes, limits_bytes, offset_bytes, outcome_bytes, scope_bytes, mccs_bytes, operation_bytes, moved_token, association_tokens, scope_tokens};
 
-use iss_model::{Association, Currency, Mccs, Moved, Numbered, Scope, Token};
+use iss_model::{Association, Currency, Mccs, Moved, Numbered, Outcome, Scope, Token};
 use std::alloc::AllocError;
 
 #[tactic(auto, unfolding(iss_model::specs::texts::Spelling::number_bytes))]
@@ -177,6 +177,21 @@ pub(crate) fn put_scope(out: &mut Vec<u8>, scope: &Scope) -> Result<(), AllocErr
         Scope::Mid(mid) => {
             out.push(3)?;
             put_token(out, mid)
+        }
+    }
+}
+
+/// What the gateway answered: a number, or of a part its currency and its amount.
+pub(crate) fn put_outcome(out: &mut Vec<u8>, outcome: Outcome) -> Result<(), AllocError>
+    ensures { OnOk result (out.new.items ≡ out.old.items ++ outcome_bytes outcome) }
+{
+    match outcome {
+        Outcome::Partial(currency, part) => {
+            put_currency(out, currency)?;
+            put_u64(out, part)
+        }
+        Outcome::Funded | Outcome::Refused | Outcome::Connection | Outcome::Application => {
+            Ok(out.push(outcome.number())?)
         }
     }
 }

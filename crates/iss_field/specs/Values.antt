@@ -16,13 +16,13 @@ use Rattle.iss_model.specs.declared.setting.UserState.{UserState}
 use Rattle.iss_model.specs.declared.setting.UserState.TheVariants as user
 use Rattle.iss_model.specs.declared.setting.Window.{Window}
 use Rattle.iss_model.specs.declared.setting.Window.TheVariants as window
-use Rattle.iss_model.specs.declared.input.Outcome.{Outcome}
-use Rattle.iss_model.specs.declared.input.Outcome.TheVariants as outcome
 use Rattle.iss_model.specs.Tokens.{is_token}
 use Rattle.iss_model.specs.Currencies as currencies
 use Rattle.iss_model.specs.Forms.{is_offset}
 use Rattle.iss_model.specs.Amounts.{is_digit, digits_value, if_form, amount_read, whole_amount_read, limit_read, whole_limit_read}
 use Rattle.iss_model.specs.texts.Wordings.{card_state_text, user_state_text}
+use Rattle.iss_field.specs.declared.words.OutcomeWord.{OutcomeWord}
+use Rattle.iss_field.specs.declared.words.OutcomeWord.TheVariants as outcome
 
 -- the text, if it is a token
 abbrev pub if_token : List ℕ → Option (List ℕ)
@@ -131,16 +131,17 @@ unfoldable pub window_of : Data → Option Window
 window_of d = option_and_then window_of_text (as_str d)
 
 -- the outcome of a gateway's answer, by name
-unfoldable pub outcome_of_text : List ℕ → Option Outcome
+unfoldable pub outcome_of_text : List ℕ → Option OutcomeWord
 outcome_of_text text =
     if bytes_eq text (codes "FUNDED") then Some outcome.Funded
     else if bytes_eq text (codes "REFUSED") then Some outcome.Refused
     else if bytes_eq text (codes "CONNECTION") then Some outcome.Connection
     else if bytes_eq text (codes "APPLICATION") then Some outcome.Application
+    else if bytes_eq text (codes "PARTIAL") then Some outcome.Partial
     else None
 
 -- a text that names an outcome
-unfoldable pub outcome_of : Data → Option Outcome
+unfoldable pub outcome_of : Data → Option OutcomeWord
 outcome_of d = option_and_then outcome_of_text (as_str d)
 
 -- two digits, as the number that they spell

@@ -27,5 +27,6 @@ pub use numbers::{FlagForm, NumberForm, WholeForm};
 pub use object::Object;
 pub use offsets::OffsetForm;
 pub use words::{
-    CardStateForm, CurrencyForm, FundingForm, OutcomeForm, TokenForm, UserStateForm, WindowForm,
+    CardStateForm, CurrencyForm, FundingForm, OutcomeForm, OutcomeWord, TokenForm, UserStateForm,
+    WindowForm,
 };

@@ -5,7 +5,7 @@ ghost use Rattle.iss_field.specs.Values.{token_of, currency_of, funding_of, wind
 use crate::fields::Form;
 use crate::found::text;
 use iss_amount::from_code;
-use iss_model::{CardState, Currency, Funding, Outcome, Token, UserState, Window};
+use iss_model::{CardState, Currency, Funding, Token, UserState, Window};
 use json::Value;
 
 #[derive(Clone, Copy)]
@@ -76,21 +76,32 @@ impl Form for WindowForm {
     }
 }
 
+/// The outcome of a gateway's answer, by its word alone: a part has a currency and an amount in fields of their own.
+#[derive(Clone, Copy, Debug, PartialEq, Eq)]
+pub enum OutcomeWord {
+    Funded,
+    Refused,
+    Connection,
+    Application,
+    Partial,
+}
+
 #[derive(Clone, Copy)]
 pub struct OutcomeForm;
 
 impl Form for OutcomeForm {
-    type Said = Outcome;
+    type Said = OutcomeWord;
 
     ghost said = { λ _. outcome_of };
 
     #[tactic(auto, unfolding(crate::specs::Values::outcome_of, crate::specs::Values::outcome_of_text))]
-    fn read(self, found: &Value<'_>) -> Option<Outcome> {
+    fn read(self, found: &Value<'_>) -> Option<OutcomeWord> {
         match text(found)? {
-            "FUNDED" => Some(Outcome::Funded),
-            "REFUSED" => Some(Outcome::Refused),
-            "CONNECTION" => Some(Outcome::Connection),
-            "APPLICATION" => Some(Outcome::Application),
+            "FUNDED" => Some(OutcomeWord::Funded),
+            "REFUSED" => Some(OutcomeWord::Refused),
+            "CONNECTION" => Some(OutcomeWord::Connection),
+            "APPLICATION" => Some(OutcomeWord::Application),
+            "PARTIAL" => Some(OutcomeWord::Partial),
             _ => None,
         }
     }

@@ -4,9 +4,9 @@ use Rattle.std.specs.List.{flat_map, join_with_byte}
 use Rattle.iss_model.specs.declared.call.Opened.{Opened}
 use Rattle.iss_model.specs.declared.call.Notice.{Notice}
 use Rattle.iss_model.specs.Currencies.{currency_code}
-use Rattle.iss_model.specs.Amounts.{amount_text}
+use Rattle.iss_model.specs.Amounts.{amount_text, last_digits}
 use Rattle.iss_model.specs.texts.Wordings.{Member, in_quotes, member_text, object_text, with_text, with_number}
-use Rattle.iss_model.specs.texts.GatewayTexts.{method_text, token_members, request_members, request_text, notice_members, notice_text}
+use Rattle.iss_model.specs.texts.GatewayTexts.{method_text, token_text, partial_members, token_members, request_members, request_text, notice_members, notice_text}
 
 -- ---- pieces of a member
 
@@ -79,9 +79,29 @@ closed : (old : List ℕ) (ms : List Member) → opened_with old ms ++ (125 ∷ 
 closed old [] = append_assoc old (123 ∷ []) (125 ∷ [])
 closed old (m ∷ ms) = object_after old m ms
 
-pub request_after : (old : List ℕ) (instance : ℕ) (o : Opened) → opened_with old (request_members instance o) ++ (125 ∷ []) ≡ old ++ request_text instance o
+-- the members of a request up to what it permits, and those after it
+abbrev pub request_start : List ℕ → Opened → List ℕ
+request_start old o =
+    opened_with old (
+    with_text (codes "amount") (amount_text (pos o.amount) o.currency)
+    ∷ with_text (codes "card") o.card
+    ∷ with_text (codes "currency") (currency_code o.currency)
+    ∷ with_text (codes "event") o.event
+    ∷ with_text (codes "mcc") (last_digits 4 o.mcc)
+    ∷ with_text (codes "method") (method_text o.method)
+    ∷ with_text (codes "mid") o.mid
+    ∷ with_number (codes "number") o.call.0
+    ∷ []
+    )
+
+abbrev pub request_rest : ℕ → Opened → List Member
+request_rest instance o = with_text (codes "token") (token_text instance o.call.0) ∷ with_text (codes "txn") o.txn ∷ with_text (codes "user") o.user ∷ []
+
+pub request_after : (old : List ℕ) (instance : ℕ) (o : Opened)
+    → after (request_start old o ++ flat_map next (partial_members o.partial)) (request_rest instance o) ++ (125 ∷ []) ≡ old ++ request_text instance o
 unfolding request_text
-request_after old instance o = closed old (request_members instance o)
+request_after old instance o =
+    ap (λ (t : List ℕ). t ++ (125 ∷ [])) (between (request_start old o) (partial_members o.partial) (request_rest instance o)) ∙ closed old (request_members instance o)
 
 -- the members of a notice up to the token, and those after it
 abbrev pub notice_start : List ℕ → Notice → List ℕ

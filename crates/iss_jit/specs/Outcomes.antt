@@ -1,5 +1,5 @@
 -- What a gateway's answer to a call comes to.
-use Rattle.std.specs.Prelude.{ℕ, ◌==◌, ◌&&◌, List, Bool, codes, Option, Some, None, option_and_then, if◌then◌else◌}
+use Rattle.std.specs.Prelude.{ℕ, ◌==◌, ◌&&◌, nat_lt, List, Bool, IsTrue, codes, Option, Some, None, option_and_then, if◌then◌else◌}
 use Rattle.std.specs.Str.{bytes_eq, is_utf8}
 use Rattle.serde_json.specs.Data.{Data}
 use Rattle.serde_json.specs.Read.{read}
@@ -8,8 +8,9 @@ use Rattle.uuid.specs.Text.{parsed}
 use Rattle.iss_model.specs.declared.call.Opened.{Opened}
 use Rattle.iss_model.specs.declared.currency.Currency.{Currency}
 use Rattle.iss_model.specs.declared.input.Outcome.{Outcome}
-use Rattle.iss_model.specs.declared.input.Outcome.TheVariants.{Funded, Refused, Application}
+use Rattle.iss_model.specs.declared.input.Outcome.TheVariants.{Funded, Refused, Connection, Application, Partial}
 use Rattle.iss_model.specs.Amounts.{amount_read, whole_amount_read}
+use Rattle.iss_model.specs.rules.CardActs.{counts_as_part}
 use Rattle.iss_model.specs.rules.Reasons.{is_some_with}
 use Rattle.iss_model.specs.texts.CallTokens.{call_uuid}
 
@@ -38,17 +39,38 @@ amount_of c d = text_or_units c (as_str d) (whole_of d)
 unfoldable pub has_token : ℕ → Opened → Data → Bool
 has_token instance o d = is_some_with (λ id. bytes_eq id (call_uuid instance o.call.0)) (option_and_then uuid_of (get (codes "token") d))
 
--- the value is an object whose last member `amount` is the amount of this call
-unfoldable pub has_amount : Opened → Data → Bool
-has_amount o d = is_some_with (λ amount. amount == o.amount) (option_and_then (amount_of o.currency) (get (codes "amount") d))
+-- the amount that the value's last member `amount` holds, if it is an object
+unfoldable pub amount_said : Currency → Data → Option ℕ
+amount_said c d = option_and_then (amount_of c) (get (codes "amount") d)
 
--- the value funds the call
-unfoldable pub is_funding : ℕ → Opened → Data → Bool
-is_funding instance o d = has_token instance o d && has_amount o d
+-- what a funded amount comes to: the call's own funds it, and a smaller one a part of it if the call permits that
+abbrev pub outcome_of_amount : Opened → Option ℕ → Outcome
+outcome_of_amount o None = Application
+outcome_of_amount o (Some amount) =
+    if amount == o.amount then Funded
+    else if o.partial && nat_lt amount o.amount then Partial o.currency amount
+    else Application
 
--- Funded if the status is 200 and the body funds the call, Refused if the status is 402, and else no answer that decides
+-- what the value of a gateway that funds comes to: it has the token of this call, and an amount
+unfoldable pub outcome_of_value : ℕ → Opened → Data → Outcome
+outcome_of_value instance o d = if has_token instance o d then outcome_of_amount o (amount_said o.currency d) else Application
+
+-- the same of a body, if it is JSON
+abbrev pub outcome_of_json : ℕ → Opened → Option Data → Outcome
+outcome_of_json instance o None = Application
+outcome_of_json instance o (Some d) = outcome_of_value instance o d
+
+-- Funded or Partial if the status is 200 and the body funds the call, Refused if the status is 402, and else no answer that decides
 unfoldable pub outcome_of : ℕ → Opened → ℕ → List ℕ → Outcome
 outcome_of instance o status body =
     if status == 402 then Refused
-    else if status == 200 && is_some_with (is_funding instance o) (json_of body) then Funded
+    else if status == 200 then outcome_of_json instance o (json_of body)
     else Application
+
+-- if the outcome is a part, it is one that counts
+abbrev pub CountsIfPart : Opened → Outcome → Type 0
+CountsIfPart o Funded = Unit {0}
+CountsIfPart o Refused = Unit {0}
+CountsIfPart o Connection = Unit {0}
+CountsIfPart o Application = Unit {0}
+CountsIfPart o (Partial currency amount) = IsTrue (counts_as_part o currency amount)

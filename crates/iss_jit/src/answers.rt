@@ -1,12 +1,12 @@
 //! What a gateway's answer to a call comes to.
-ghost use Rattle.std.specs.Prelude.{◌≡◌, ◌≢◌, ◌<◌, ◌↔◌, IfOk, option_map};
+ghost use Rattle.std.specs.Prelude.{◌≡◌, ◌≢◌, ◌<◌, ◌↔◌, IsTrue, IfOk, option_map};
 ghost use Rattle.iss_model.specs.declared.limits.TheConstants.{INSTANCES};
 ghost use Rattle.serde_json.specs.Read.{read as read_text};
 ghost use Rattle.serde_json.specs.View.{view};
 ghost use Rattle.iss_model.specs.declared.input.Outcome.TheVariants as outcome;
-ghost use Rattle.iss_model.specs.rules.Reasons.{is_some_with};
+ghost use Rattle.iss_model.specs.Forms.{is_outcome};
 ghost use Rattle.iss_jit.specs.Echoes.{FundsEchoes};
-ghost use Rattle.iss_jit.specs.Outcomes.{json_of, uuid_of, amount_of, has_token, has_amount, is_funding, outcome_of};
+ghost use Rattle.iss_jit.specs.Outcomes.{json_of, uuid_of, amount_of, has_token, amount_said, outcome_of_amount, outcome_of_value, outcome_of_json, outcome_of, CountsIfPart};
 
 use iss_amount::{read, whole};
 use iss_model::{Currency, Opened, Outcome};
@@ -23,9 +23,9 @@ const REFUSED: u16 = 402;
 /// What an HTTP answer with this status and body to the request of a call comes to.
 ///
 /// `Funded` exactly if the status is 200 and the body is a JSON object of RFC 8259 with the call's token, a UUID of
-/// RFC 9562 in any spelling, and its amount; `Refused` exactly if the status is 402; else `Application`. Of members of
-/// one name the last counts.
-#[tactic(auto, using(crate::proofs::Echoes::echo), unfolding(crate::specs::Outcomes::outcome_of))]
+/// RFC 9562 in any spelling, and its amount; `Partial` exactly if it has a smaller amount, and the call permits a part;
+/// `Refused` exactly if the status is 402; else `Application`. Of members of one name the last counts.
+#[tactic(auto, using(crate::proofs::Echoes::echo))]
 pub fn answer(
     alloc: Global,
     status: u16,
@@ -37,41 +37,73 @@ pub fn answer(
     ensures value { IfOk result (λ said. said ≡ outcome_of instance opened.now status body.now) }
     ensures refused { IfOk result (λ said. (said ≡ outcome.Refused) ↔ (status ≡ 402)) }
     ensures never_connection { IfOk result (λ said. said ≢ outcome.Connection) }
+    ensures form { IfOk result (λ said. IsTrue (is_outcome said)) }
+    ensures part { IfOk result (λ said. CountsIfPart opened.now said) }
     ensures echo { FundsEchoes instance opened.now }
+{
+    outcome_of(alloc, status, body, opened, instance)
+}
+
+#[tactic(auto, unfolding(crate::specs::Outcomes::outcome_of))]
+fn outcome_of(
+    alloc: Global,
+    status: u16,
+    body: &[u8],
+    opened: &Opened,
+    instance: u64,
+) -> Result<Outcome, AllocError>
+    requires { instance < INSTANCES }
+    ensures { IfOk result (λ said. said ≡ outcome_of instance opened.now status body.now) }
 {
     if status == REFUSED {
         Ok(Outcome::Refused)
-    } else if status == FUNDED && is_funding_body(alloc, body, opened, instance)? {
-        Ok(Outcome::Funded)
+    } else if status == FUNDED {
+        outcome_of_body(alloc, body, opened, instance)
     } else {
         Ok(Outcome::Application)
     }
 }
 
-/// Whether the bytes are an object with the call's token and amount.
-fn is_funding_body(
+/// What the body of a gateway that funds comes to.
+fn outcome_of_body(
     alloc: Global,
     body: &[u8],
     opened: &Opened,
     instance: u64,
-) -> Result<bool, AllocError>
+) -> Result<Outcome, AllocError>
     requires { instance < INSTANCES }
-    ensures { IfOk result
-        (λ funds. funds ≡ is_some_with (is_funding instance opened.now) (json_of body.now)) }
+    ensures { IfOk result (λ said. said ≡ outcome_of_json instance opened.now (json_of body.now)) }
 {
     match value_of(alloc, body)? {
-        Some(value) => Ok(is_funding(&value, opened, instance)),
-        None => Ok(false),
+        Some(value) => Ok(outcome_of_value(&value, opened, instance)),
+        None => Ok(Outcome::Application),
     }
 }
 
-/// Whether the value is an object with the call's token and amount.
-#[tactic(auto, unfolding(crate::specs::Outcomes::is_funding))]
-fn is_funding(value: &Value, opened: &Opened, instance: u64) -> bool
+#[tactic(auto, unfolding(crate::specs::Outcomes::outcome_of_value))]
+fn outcome_of_value(value: &Value, opened: &Opened, instance: u64) -> Outcome
     requires { instance < INSTANCES }
-    ensures { result ≡ is_funding instance opened.now (view value.now) }
+    ensures { result ≡ outcome_of_value instance opened.now (view value.now) }
 {
-    has_token(value, opened, instance) && has_amount(value, opened)
+    if has_token(value, opened, instance) {
+        outcome_of_amount(amount_said(value, opened.currency), opened)
+    } else {
+        Outcome::Application
+    }
+}
+
+/// What a funded amount comes to: the call's own funds it, and a smaller one a part of it if the call permits that.
+fn outcome_of_amount(amount: Option<u64>, opened: &Opened) -> Outcome
+    ensures { result ≡ outcome_of_amount opened.now amount }
+{
+    match amount {
+        None => Outcome::Application,
+        Some(amount) if amount == opened.amount => Outcome::Funded,
+        Some(amount) if opened.partial && amount < opened.amount => {
+            Outcome::Partial(opened.currency, amount)
+        }
+        Some(_) => Outcome::Application,
+    }
 }
 
 #[tactic(auto, unfolding(crate::specs::Outcomes::has_token))]
@@ -85,14 +117,11 @@ fn has_token(value: &Value, opened: &Opened, instance: u64) -> bool
     }
 }
 
-#[tactic(auto, unfolding(crate::specs::Outcomes::has_amount))]
-fn has_amount(value: &Value, opened: &Opened) -> bool
-    ensures { result ≡ has_amount opened.now (view value.now) }
+#[tactic(auto, unfolding(crate::specs::Outcomes::amount_said))]
+fn amount_said(value: &Value, currency: Currency) -> Option<u64>
+    ensures { result ≡ amount_said currency (view value.now) }
 {
-    match value.get("amount") {
-        Some(found) => amount_of(found, opened.currency) == Some(opened.amount),
-        None => false,
-    }
+    amount_of(value.get("amount")?, currency)
 }
 
 #[tactic(auto, unfolding(crate::specs::Outcomes::uuid_of))]

@@ -4,11 +4,10 @@ ghost use Rattle.std.specs.List.{flat_map};
 ghost use Rattle.iss_model.specs.declared.limits.TheConstants.{INSTANCES};
 ghost use Rattle.iss_model.specs.Currencies.{currency_code};
 ghost use Rattle.iss_model.specs.Amounts.{amount_text, last_digits};
-ghost use Rattle.iss_model.specs.texts.GatewayTexts.{method_text, token_text, token_members};
+ghost use Rattle.iss_model.specs.texts.GatewayTexts.{method_text, token_text, token_members, partial_members};
 ghost use Rattle.iss_model.specs.texts.Wordings.{in_quotes, member_text, with_text, with_number};
 
-use crate::money::{four_digits, put_amount_text, put_decimal};
-use iss_amount::code;
+use iss_amount::{code, last_digit, put_amount_text, put_decimal};
 use iss_model::{CallId, Currency, Method, Token};
 use std::alloc::AllocError;
 use uuid::Uuid;
@@ -66,6 +65,18 @@ pub(crate) fn put_number(out: &mut Vec<u8>, name: &str, number: u32) -> Result<(
     put_decimal(out, u64::from(number))
 }
 
+/// Adds that the gateway may fund a part, if it may.
+pub(crate) fn put_partial(out: &mut Vec<u8>, permitted: bool) -> Result<(), AllocError>
+    ensures { OnOk result (out.new.items ≡ out.old.items
+        ++ flat_map (λ m. 44 ∷ member_text m) (partial_members permitted)) }
+{
+    if permitted {
+        out.extend_from_slice(b",\"partial\":true")
+    } else {
+        Ok(())
+    }
+}
+
 /// Adds the token of a call.
 pub(crate) fn put_call(out: &mut Vec<u8>, call: CallId, instance: u64) -> Result<(), AllocError>
     requires { instance < INSTANCES }
@@ -118,6 +129,19 @@ pub fn put_quoted(out: &mut Vec<u8>, text: &[u8]) -> Result<(), AllocError>
     out.push(b'"')?;
     out.extend_from_slice(text)?;
     out.extend_from_slice(b"\"")
+}
+
+/// The last four digits of a merchant category code.
+fn four_digits(mcc: u16) -> [u8; 4]
+    ensures { result ≡ last_digits 4 mcc }
+{
+    let code = u64::from(mcc);
+    [
+        last_digit(code / 1000),
+        last_digit(code / 100),
+        last_digit(code / 10),
+        last_digit(code),
+    ]
 }
 
 fn method_text(method: Method) -> &'static str

@@ -4,7 +4,8 @@ ghost use Rattle.iss_model.specs.declared.limits.TheConstants.{INSTANCES};
 ghost use Rattle.iss_model.specs.texts.GatewayTexts.{request_text, notice_text};
 
 use crate::members::{
-    put_amount, put_call, put_currency, put_ended, put_mcc, put_method, put_number, put_token,
+    put_amount, put_call, put_currency, put_ended, put_mcc, put_method, put_number, put_partial,
+    put_token,
 };
 use iss_model::{Notice, Opened};
 use std::alloc::{AllocError, Global};
@@ -42,6 +43,7 @@ pub fn put_request(out: &mut Vec<u8>, opened: &Opened, instance: u64) -> Result<
     put_method(out, opened.method)?;
     put_token(out, "mid", &opened.mid)?;
     put_number(out, "number", opened.call.0)?;
+    put_partial(out, opened.partial)?;
     put_call(out, opened.call, instance)?;
     put_token(out, "txn", &opened.txn)?;
     put_token(out, "user", &opened.user)?;

@@ -12,7 +12,8 @@ returns c =
     let method = and_then _ c.in_ok-put_method.ensures mcc in
     let mid = and_then _ c.in_ok-put_token-3.ensures method in
     let number = and_then _ c.in_ok-put_number.ensures mid in
-    let call = and_then _ c.in_ok-put_call.ensures number in
+    let partial = and_then _ c.in_ok-put_partial.ensures number in
+    let call = and_then _ c.in_ok-put_call.ensures partial in
     let txn = and_then _ c.in_ok-put_token-4.ensures call in
     let user = and_then _ c.in_ok-put_token-5.ensures txn in
     ended c.extend_from_slice.result c.put_token-5.new.out.items (125 ∷ []) _ _ c.extend_from_slice.ensures.items
