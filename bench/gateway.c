@@ -29,9 +29,12 @@ struct peer {
     char message[MESSAGE + 1], answer[MESSAGE];
 };
 
-enum manner { WELL, BYTES, SLOW, REFUSES, FAILS, GARBLED, EARLY, SILENT, MANNERS };
-static const char *const starts[MANNERS] = {"", "bytes", "slow", "refuses", "fails", "garbled", "early", "silent"};
-static const char *const done[MANNERS] = {NULL, NULL, NULL, "refused", "failed", "garbled", "cut", "left"};
+enum manner { WELL, BYTES, SLOW, PART, REFUSES, FAILS, GARBLED, EARLY, SILENT, MANNERS };
+static const char *const starts[MANNERS] = {"", "bytes", "slow", "part", "refuses", "fails", "garbled", "early", "silent"};
+static const char *const done[MANNERS] = {NULL, NULL, NULL, NULL, "refused", "failed", "garbled", "cut", "left"};
+
+// What is funded of a request whose merchant's name begins with "part", whatever is asked.
+static const char *const a_part = "0.40";
 
 static struct peer *peers[MOST];
 static int most, waiting;
@@ -117,10 +120,11 @@ static enum manner manner_of(const char *text)
 }
 
 // Funds a request, or acknowledges a notice.
-static void agree(struct peer *peer, const char *text)
+static void agree(struct peer *peer, enum manner manner, const char *text)
 {
-    char number[64], token[64], amount[64], body[256];
-    snprintf(body, sizeof body, "{\"token\":\"%s\",\"amount\":\"%s\"}", member(text, "token", token), member(text, "amount", amount));
+    char number[64], token[64], asked[64], body[256];
+    const char *amount = manner == PART ? a_part : member(text, "amount", asked);
+    snprintf(body, sizeof body, "{\"token\":\"%s\",\"amount\":\"%s\"}", member(text, "token", token), amount);
     answer(peer, 200, body);
     say(*member(text, "number", number) != 0 ? fund(text) : "acked", text);
 }
@@ -133,7 +137,7 @@ static void hear(struct peer *peer, const char *text)
     peer->due = now() + delay + (manner == SLOW ? A_WHILE : 0);
     peer->step = manner == BYTES ? 1 : MESSAGE;
     if (done[manner] == NULL)
-        agree(peer, text);
+        agree(peer, manner, text);
     else
         say(done[manner], text);
     if (manner == REFUSES || manner == FAILS || manner == EARLY)

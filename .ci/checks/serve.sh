@@ -54,6 +54,13 @@ purchase() {
     printf '{"type":"authorization","token":"%s","card":"%s","currency":"USD","amount":"1.00","mcc":"5411","mid":"%s"}' "$@"
 }
 
+# divisible EVENT CARD MERCHANT: the line of such a purchase of which the gateway may fund a part.
+divisible() {
+    local line
+    line=$(purchase "$@")
+    printf '%s,"partial":true}' "${line%\}}"
+}
+
 done_reply() {
     printf '200 {"event":"%s","reply":"done"}' "$1"
 }
@@ -179,6 +186,11 @@ gateways() {
     told "$(purchase g1 c2 m1)" '200 {"event":"g1","reply":"approved"}'
     told "$(purchase g2 c2 bytes)" '200 {"event":"g2","reply":"approved"}'
     told "$(purchase g3 c2 refuses)" "$(declined g3 GATEWAY_DECLINED)"
+    # A part is funded if the purchase permits one, and then a repeat gets the same reply. Else a smaller amount is no answer.
+    told "$(divisible g11 c2 part)" '200 {"amount":"0.40","event":"g11","reply":"partial"}'
+    told "$(divisible g11 c2 part)" '200 {"amount":"0.40","event":"g11","reply":"partial"}'
+    told "$(divisible g12 c2 m1)" '200 {"event":"g12","reply":"approved"}'
+    told "$(purchase g13 c2 part)" "$(declined g13 GATEWAY_APPLICATION)"
     told "$(purchase g4 c2 fails)" "$(declined g4 GATEWAY_APPLICATION)"
     told "$(purchase g5 c2 garbled)" "$(declined g5 GATEWAY_APPLICATION)"
     told "$(purchase g6 c2 early)" "$(declined g6 GATEWAY_CONNECTION)"
@@ -194,7 +206,7 @@ gateways() {
     [ "$(cat "$room/first")" = "$(declined g8 REVERSED)" ] || fail "a client that waits: told '$(cat "$room/first")'"
     # The gateway was told of each call that ended without an answer that decides.
     local failed
-    for failed in 4 5 6 7 8; do
+    for failed in 4 5 6 7 8 13; do
         heard "acked .*\"method\":\"x.void\".*\"txn\":\"g$failed\""
     done
     stopped

@@ -2,6 +2,7 @@ pub mod Scripts
 pub mod WorkedPurchases
 pub mod WorkedControls
 pub mod WorkedCalls
+pub mod WorkedFundedParts
 pub mod WorkedStandIns
 pub mod WorkedDay
 pub mod WorkedDue

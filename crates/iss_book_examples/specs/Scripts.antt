@@ -1,5 +1,5 @@
 -- Worked scripts: inputs one after the other, what is said of each, and what stands then. Most are of one user, u1, whose card is c1.
-use Rattle.std.specs.Prelude.{◌≡◌, ℕ, ◌+◌, ℤ, pos, neg_ℤ, true, false, List, [], ◌∷◌, length, filter, map, codes, Option, Some, None}
+use Rattle.std.specs.Prelude.{◌≡◌, ℕ, ◌+◌, ℤ, pos, neg_ℤ, Bool, true, false, List, [], ◌∷◌, length, filter, map, codes, Option, Some, None}
 use Prim.Native.String.{String}
 use Rattle.iss_model.specs.declared.currency.Currency.{Currency}
 use Rattle.iss_model.specs.declared.currency.Currency.TheVariants.{Usd}
@@ -16,8 +16,10 @@ use Rattle.iss_model.specs.declared.setting.Scope.{Scope}
 use Rattle.iss_model.specs.declared.setting.Scope.TheVariants as scope
 use Rattle.iss_model.specs.declared.call.CallId.{CallId}
 use Rattle.iss_model.specs.declared.call.Method.{Method}
+use Rattle.iss_model.specs.declared.call.Method.TheVariants as method
 use Rattle.iss_model.specs.declared.call.How.{How}
 use Rattle.iss_model.specs.declared.input.Outcome.{Outcome}
+use Rattle.iss_model.specs.declared.input.Outcome.TheVariants as outcome
 use Rattle.iss_model.specs.declared.input.Input.{Input}
 use Rattle.iss_model.specs.declared.input.Input.TheVariants as input
 use Rattle.iss_model.specs.declared.decision.Reason.{Reason}
@@ -156,11 +158,15 @@ switch_on = input.Switch (codes "t6") (codes "g") true
 
 -- a purchase with card c1 at the merchant m1, of a category
 abbrev pub purchase_at : ℕ → String → ℕ → Input
-purchase_at mcc token amount = input.Authorization (codes token) (codes "c1") Usd amount mcc (codes "m1")
+purchase_at mcc token amount = input.Authorization (codes token) (codes "c1") Usd amount mcc (codes "m1") false
 
 -- a purchase with card c1 at the grocer m1
 abbrev pub purchase : String → ℕ → Input
 purchase token amount = purchase_at 5411 token amount
+
+-- a purchase with card c1 at the grocer m1, of which the gateway may fund a part
+abbrev pub divisible_purchase : String → ℕ → Input
+divisible_purchase token amount = input.Authorization (codes token) (codes "c1") Usd amount 5411 (codes "m1") true
 
 -- an increment of a transaction in US dollars
 abbrev pub increment : String → String → ℕ → Input
@@ -190,6 +196,10 @@ call_number n = record { 0 = n }
 abbrev pub gateway_answer : ℕ → Outcome → Input
 gateway_answer call outcome = input.Answer (call_number call) outcome
 
+-- the gateway funds a part of a call, in a currency
+abbrev pub part_answer : ℕ → Currency → ℕ → Input
+part_answer call currency amount = gateway_answer call (outcome.Partial currency amount)
+
 -- a user of this name
 abbrev pub user_of : String → String → Input
 user_of token user = input.User (codes token) (codes user)
@@ -208,7 +218,7 @@ product_of token product timeout_ms = input.Product (codes token) (codes product
 
 -- a purchase with a card at the grocer m1
 abbrev pub purchase_by : String → String → ℕ → Input
-purchase_by card token amount = input.Authorization (codes token) (codes card) Usd amount 5411 (codes "m1")
+purchase_by card token amount = input.Authorization (codes token) (codes card) Usd amount 5411 (codes "m1") false
 
 -- card c1 is moved to a state
 abbrev pub card_move : String → CardState → Input
@@ -231,13 +241,18 @@ done_reply token = decided (codes token) verdict.Done ∷ []
 abbrev pub approved_reply : String → List Said
 approved_reply token = decided (codes token) verdict.Approved ∷ []
 
+-- the event is approved for a part, in US dollars
+abbrev pub partial_reply : String → ℕ → List Said
+partial_reply token amount = decided (codes token) (verdict.Partial Usd amount) ∷ []
+
 -- the event is declined
 abbrev pub declined_reply : String → Reason → List Said
 declined_reply token why = decided (codes token) (verdict.Declined why) ∷ []
 
--- the gateway is asked at a stamp about a purchase of user u1 with a card, and has this many milliseconds to answer
-abbrev pub request_by : String → ℕ → Method → ℕ → String → String → ℕ → ℕ → List Said
-request_by card timeout_ms method number event txn amount at =
+-- The gateway is asked at a stamp about a purchase of user u1 with a card, and has this many milliseconds to answer. It may fund a part, or
+-- it may not.
+abbrev pub request_permitting : Bool → String → ℕ → Method → ℕ → String → String → ℕ → ℕ → List Said
+request_permitting partial card timeout_ms method number event txn amount at =
     asked (record {
       call = call_number number;
       event = codes event;
@@ -249,13 +264,24 @@ request_by card timeout_ms method number event txn amount at =
       mcc = 5411;
       mid = codes "m1";
       amount = amount;
+      partial = partial;
       at = at;
       deadline = at + timeout_ms;
     }) ∷ []
 
+-- the gateway is asked so about all of a purchase
+abbrev pub request_by : String → ℕ → Method → ℕ → String → String → ℕ → ℕ → List Said
+request_by card timeout_ms method number event txn amount at =
+    request_permitting false card timeout_ms method number event txn amount at
+
 -- the gateway is asked at a stamp about a purchase with card c1, and has 3 seconds to answer
 abbrev pub request : Method → ℕ → String → String → ℕ → ℕ → List Said
 request method number event txn amount at = request_by "c1" 3000 method number event txn amount at
+
+-- the gateway is asked so about an authorisation, and may fund a part
+abbrev pub divisible_request : ℕ → String → String → ℕ → ℕ → List Said
+divisible_request number event txn amount at =
+    request_permitting true "c1" 3000 method.Authorization number event txn amount at
 
 -- the gateway is sent a notice about a user: its amount, and the part that goes back to the gateway
 abbrev pub notice_about : String → ℕ → Method → String → Option CallId → ℕ → ℕ → List Said

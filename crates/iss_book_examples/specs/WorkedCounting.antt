@@ -1,5 +1,5 @@
 -- What a control counts, what it may not change, and what is replaced when it is put again.
-use Rattle.std.specs.Prelude.{pos, true, [], ◌∷◌, codes, Some, None}
+use Rattle.std.specs.Prelude.{false, pos, true, [], ◌∷◌, codes, Some, None}
 use Rattle.iss_model.specs.declared.currency.Currency.TheVariants.{Usd, Eur}
 use Rattle.iss_model.specs.declared.setting.Window.TheVariants as window
 use Rattle.iss_model.specs.declared.setting.Association.TheVariants as association
@@ -74,7 +74,7 @@ control_of_a_category_and_a_merchant =
           ∷ step (control_of "t5" "v2" 100 association.Anybody (scope.Mid (codes "m2"))) (done_reply "t5")
           ∷ step (purchase "a1" 200) (approved_reply "a1")
           ∷ step (purchase_at 5812 "a2" 200) (declined_reply "a2" (reason.Control (codes "v1")))
-          ∷ step (input.Authorization (codes "a3") (codes "c1") Usd 200 5411 (codes "m2")) (declined_reply "a3" (reason.Control (codes "v2")))
+          ∷ step (input.Authorization (codes "a3") (codes "c1") Usd 200 5411 (codes "m2") false) (declined_reply "a3" (reason.Control (codes "v2")))
           ∷ [];
       sheets = dollars (pos 0) (pos 0) (owes 5000) (pos 5000) (pos 200) ∷ [];
       tally = tally 0 0 8;

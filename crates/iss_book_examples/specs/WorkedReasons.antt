@@ -1,5 +1,5 @@
 -- Which reason comes first if several hold, and each test by itself.
-use Rattle.std.specs.Prelude.{ℕ, pos, true, [], ◌∷◌, codes, replicate, Some, None}
+use Rattle.std.specs.Prelude.{false, ℕ, pos, true, [], ◌∷◌, codes, replicate, Some, None}
 use Prim.Native.String.{String}
 use Rattle.iss_model.specs.declared.currency.Currency.TheVariants.{Usd, Eur}
 use Rattle.iss_model.specs.declared.setting.Window.TheVariants as window
@@ -20,7 +20,7 @@ use Rattle.iss_book_examples.specs.Scripts.{Script, step, dollars, owes, tally, 
 
 -- a purchase in euros
 abbrev pub purchase_in_euros : String → ℕ → Input
-purchase_in_euros token amount = input.Authorization (codes token) (codes "c1") Eur amount 5411 (codes "m1")
+purchase_in_euros token amount = input.Authorization (codes token) (codes "c1") Eur amount 5411 (codes "m1") false
 
 -- a control v1 of at most a euro a day
 abbrev pub control_in_euros : Input

@@ -1,5 +1,5 @@
 -- Runs on devices: their lines, and the texts that they write, each with its level.
-use Rattle.std.specs.Prelude.{◌≡◌, ℕ, pos, neg_ℤ, List, [], ◌∷◌, ◌++◌, codes, Some, None}
+use Rattle.std.specs.Prelude.{◌≡◌, ℕ, pos, neg_ℤ, false, List, [], ◌∷◌, ◌++◌, codes, Some, None}
 use Prim.Native.String.{String}
 use Rattle.iss_model.specs.declared.currency.Currency.{Currency}
 use Rattle.iss_model.specs.declared.currency.Currency.TheVariants.{Usd, Jpy, Kwd}
@@ -164,6 +164,7 @@ first_call =
       mcc = 5411;
       mid = codes "m1";
       amount = 6000;
+      partial = false;
       at = 1000;
       deadline = 4000;
     }

@@ -8,7 +8,7 @@ use Rattle.iss_model.specs.declared.decision.Reason.TheVariants as reason
 use Rattle.iss_model.specs.declared.decision.Answer.TheVariants as answer
 use Rattle.iss_model.specs.run.Sayings.{Said, acked, timed, answered}
 use Rattle.iss_model.specs.run.Transcripts.{said_text}
-use Rattle.iss_book_examples.specs.Scripts.{request, notice, call_number, done_reply, approved_reply, declined_reply, late_reply}
+use Rattle.iss_book_examples.specs.Scripts.{request, divisible_request, notice, call_number, done_reply, approved_reply, partial_reply, declined_reply, late_reply}
 use Prim.Native.String.{String}
 pub use Rattle.std.specs.Fmt.{digits}
 
@@ -21,6 +21,12 @@ abbrev pub RequestLine : Type 0
 RequestLine =
     Reads (request method.Authorization 1 "a1" "a1" 6000 1000)
     "{\"amount\":\"60.00\",\"card\":\"c1\",\"currency\":\"USD\",\"event\":\"a1\",\"mcc\":\"5411\",\"method\":\"pgfs.authorization\",\"mid\":\"m1\",\"number\":1,\"token\":\"00000000-0000-8000-8000-000000000001\",\"txn\":\"a1\",\"user\":\"u1\"}"
+
+-- the request for a purchase of which the gateway may fund a part
+abbrev pub DivisibleRequestLine : Type 0
+DivisibleRequestLine =
+    Reads (divisible_request 1 "a1" "a1" 6000 1000)
+    "{\"amount\":\"60.00\",\"card\":\"c1\",\"currency\":\"USD\",\"event\":\"a1\",\"mcc\":\"5411\",\"method\":\"pgfs.authorization\",\"mid\":\"m1\",\"number\":1,\"partial\":true,\"token\":\"00000000-0000-8000-8000-000000000001\",\"txn\":\"a1\",\"user\":\"u1\"}"
 
 -- the request for an increment
 abbrev pub IncrementRequestLine : Type 0
@@ -64,6 +70,12 @@ ApprovedEventLine =
     Reads (approved_reply "a1")
     "{\"event\":\"a1\",\"reply\":\"approved\"}"
 
+-- an event that is approved for a part
+abbrev pub PartialEventLine : Type 0
+PartialEventLine =
+    Reads (partial_reply "a1" 4000)
+    "{\"amount\":\"40.00\",\"event\":\"a1\",\"reply\":\"partial\"}"
+
 -- an event that a control declined
 abbrev pub DeclinedByAControlLine : Type 0
 DeclinedByAControlLine =
@@ -81,6 +93,12 @@ abbrev pub LateAnswerLine : Type 0
 LateAnswerLine =
     Reads (late_reply 1 how.Funded)
     "{\"call\":1,\"reply\":\"late\",\"state\":\"FUNDED\"}"
+
+-- an answer to a call that was partly funded
+abbrev pub LatePartLine : Type 0
+LatePartLine =
+    Reads (late_reply 1 (how.Partial 4000))
+    "{\"call\":1,\"reply\":\"late\",\"state\":\"PARTIAL\"}"
 
 -- an answer to a call that has timed out
 abbrev pub TimedOutCallLine : Type 0

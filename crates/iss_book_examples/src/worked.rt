@@ -11,10 +11,11 @@ ghost use Rattle.iss_model.specs.rules.Reasons.{is_full};
 ghost use Rattle.iss_model.specs.rules.Pieces.{taken_to_clear, taken_to_release};
 ghost use Rattle.iss_book_examples.specs.WorkedParts.{parts_of, funded_by_all};
 ghost use Rattle.iss_book_examples.specs.Scripts.{Plays, used_after};
-ghost use Rattle.iss_book_examples.specs.WorkedTexts.{RequestLine, IncrementRequestLine, VoidLine, StandInNoticeLine, CaptureNoticeLine, RefundNoticeLine, DoneEventLine, ApprovedEventLine, DeclinedByAControlLine, DeclinedMoveLine, LateAnswerLine, TimedOutCallLine, AbandonedCallLine, UnknownCallLine, AcknowledgedLine, AcknowledgedBeforeLine, IdleLine, SpentLine, TimeLine};
+ghost use Rattle.iss_book_examples.specs.WorkedTexts.{RequestLine, DivisibleRequestLine, IncrementRequestLine, VoidLine, StandInNoticeLine, CaptureNoticeLine, RefundNoticeLine, DoneEventLine, ApprovedEventLine, PartialEventLine, DeclinedByAControlLine, DeclinedMoveLine, LateAnswerLine, LatePartLine, TimedOutCallLine, AbandonedCallLine, UnknownCallLine, AcknowledgedLine, AcknowledgedBeforeLine, IdleLine, SpentLine, TimeLine};
 ghost use Rattle.iss_book_examples.specs.WorkedPurchases.{purchase_of_all, purchase_of_more, repeated_purchase, changed_purchase, raised_reversed_cleared, refunded_once, before_expiry, after_expiry, cleared_after_expiry, states_of_a_card, loads_in_three_currencies, greatest_load};
 ghost use Rattle.iss_book_examples.specs.WorkedControls.{limit_of_a_day, next_day, next_week, next_month, next_day_in_india, next_week_in_new_york, next_month_in_the_west, offset_that_is_fixed, lifetime, group_of_merchants, purchase_before_the_control, limit_of_a_transaction};
 ghost use Rattle.iss_book_examples.specs.WorkedCalls.{funded_by_the_gateway, refused_by_the_gateway, open_call, refused_call, answer_in_time, answer_too_late, reversed_while_pending, cleared_in_parts, refund_of_too_much, cleared_for_less, cleared_the_next_day};
+ghost use Rattle.iss_book_examples.specs.WorkedFundedParts.{funded_in_part, part_without_leave, part_of_the_whole, part_in_another_currency, leave_is_of_the_contents, cleared_beyond_its_part};
 ghost use Rattle.iss_book_examples.specs.WorkedStandIns.{stand_in, gateway_switched_off};
 ghost use Rattle.iss_book_examples.specs.WorkedDay.{a_day};
 ghost use Rattle.iss_book_examples.specs.WorkedDue.{clearing_of_a_pending_purchase, repeat_at_the_deadline, early_acknowledgement, two_timeouts_and_an_expiry, expired_call, raised_by_the_gateway};
@@ -59,6 +60,12 @@ pub fn worked_scripts()
     ensures refund_of_too_much { Plays refund_of_too_much }
     ensures cleared_for_less { Plays cleared_for_less }
     ensures cleared_the_next_day { Plays cleared_the_next_day }
+    ensures funded_in_part { Plays funded_in_part }
+    ensures part_without_leave { Plays part_without_leave }
+    ensures part_of_the_whole { Plays part_of_the_whole }
+    ensures part_in_another_currency { Plays part_in_another_currency }
+    ensures leave_is_of_the_contents { Plays leave_is_of_the_contents }
+    ensures cleared_beyond_its_part { Plays cleared_beyond_its_part }
     ensures stand_in { Plays stand_in }
     ensures gateway_switched_off { Plays gateway_switched_off }
     ensures a_day { Plays a_day }
@@ -147,6 +154,7 @@ pub fn worked_windows()
 pub fn worked_texts()
     ensures call_token { uuid_text (call_uuid 7 1) ≡ codes "00000000-0007-8000-8000-000000000001" }
     ensures request { RequestLine }
+    ensures divisible_request { DivisibleRequestLine }
     ensures increment_request { IncrementRequestLine }
     ensures void { VoidLine }
     ensures stand_in_notice { StandInNoticeLine }
@@ -154,9 +162,11 @@ pub fn worked_texts()
     ensures refund_notice { RefundNoticeLine }
     ensures done_event { DoneEventLine }
     ensures approved_event { ApprovedEventLine }
+    ensures partial_event { PartialEventLine }
     ensures declined_by_a_control { DeclinedByAControlLine }
     ensures declined_move { DeclinedMoveLine }
     ensures late_answer { LateAnswerLine }
+    ensures late_part { LatePartLine }
     ensures timed_out_call { TimedOutCallLine }
     ensures abandoned_call { AbandonedCallLine }
     ensures unknown_call { UnknownCallLine }
@@ -167,8 +177,9 @@ pub fn worked_texts()
     ensures time { TimeLine }
 {}
 
-/// What a control has counted after a day of purchases.
+/// What a control has counted after a day of purchases, and after a part with an open call.
 #[tactic(auto, unfolding(iss_model::specs::rules::Stepping::step, iss_model::specs::rules::Judging::judge, iss_model::specs::run::Sayings::reaction))]
 pub fn worked_use()
     ensures use_of_a_day { option_map (λ used. used.amount) (used_after a_day (codes "v1")) ≡ Some (pos 14170) }
+    ensures use_of_a_part { option_map (λ used. used.amount) (used_after funded_in_part (codes "v1")) ≡ Some (pos 10000) }
 {}

@@ -1,4 +1,4 @@
--- Each authorisation and increment of a legal list of records is approved exactly if it is to be: its rulings are those that the rules want, and it is decided once.
+-- Each authorisation and increment of a legal list of records is approved to each extent exactly if it is to be: its rulings are those that the rules want, and it is decided once.
 use Rattle.std.proofs.Common.{◌≡◌, ℕ, suc, ◌+◌, ◌≤◌, Bool, true, false, not, cond, ◌&&◌, ◌||◌, List, [], ◌∷◌, ◌++◌, length, filter, refl, sym, ap, ap₂, ◌∙◌, arith}
 use Rattle.std.specs.Prelude.{Option, Some, None, find, option_map, option_and_then}
 use Rattle.std.specs.List.{list_any, filter_map, cons_option}
@@ -11,6 +11,7 @@ use Rattle.iss_model.specs.declared.call.Failure.TheVariants as failure
 use Rattle.iss_model.specs.declared.call.How.{How}
 use Rattle.iss_model.specs.declared.call.How.TheVariants as how
 use Rattle.iss_model.specs.declared.call.Opened.{Opened}
+use Rattle.iss_model.specs.declared.currency.Currency.{Currency}
 use Rattle.iss_model.specs.declared.decision.Reason.{Reason}
 use Rattle.iss_model.specs.declared.decision.Reason.TheVariants as reason
 use Rattle.iss_model.specs.declared.decision.Verdict.{Verdict}
@@ -46,9 +47,9 @@ use Rattle.iss_state.specs.Well.{asked_times, decided_times, is_decided}
 use Rattle.iss_state.proofs.docket.Lists.{not_both, or_true}
 use Rattle.iss_state.proofs.calls.Legal.{core_well}
 use Rattle.iss_state.proofs.calls.Steps.{decided_once}
-use Rattle.iss_laws.specs.Rulings.{Ruling, decided_as, asked_about, ask_rulings, begun_in, call_ruling, closing_ruling, closing_rulings, closing_verdict, abandonment_reason, funding_ruling, is_answer, may_fail, only_if, opened_in, own_rulings, rulings_due, rulings_of, ruling_of, verdict_of_sets, with_entries, event_rulings, event_reason, done_unless}
+use Rattle.iss_laws.specs.Rulings.{Ruling, decided_as, asked_about, ask_rulings, begun_in, call_ruling, closing_ruling, closing_rulings, closing_verdict, abandonment_reason, funding_ruling, is_answer, is_part_answer, may_fail, only_if, opened_in, own_rulings, rulings_due, rulings_of, ruling_of, verdict_of_sets, with_entries, event_rulings, event_reason, done_unless}
 use Rattle.iss_laws.proofs.StepRulings.{legal_rules}
-use Rattle.iss_laws.specs.Approvals.{agree, approved_rightly, are_approved_rightly, entries_pay_for, facts_at_turn, is_approval, is_approved, is_approved_rightly, is_paid_at_once, is_paid_closing, is_to_be_approved, pays_for, records_pay_for, stands_in}
+use Rattle.iss_laws.specs.Approvals.{Extent, agree, approved_rightly, are_approved_rightly, entries_pay_for, facts_at_turn, in_full, in_part, is_approval, is_approved, is_approved_rightly, is_paid_at_once, is_paid_closing, is_to_be_approved, partly_approved_rightly, pays_for, records_pay_for, stands_in}
 use Rattle.iss_laws.specs.Decisions.{book_after, entries_in}
 use Rattle.iss_laws.proofs.RuledRecords.{AreRowsOf, history_with, later_rows, legal_more, legal_rest, rows_of, rows_with, same_rest, step_history}
 
@@ -63,8 +64,8 @@ abbrev decides_so : (Verdict → Bool) → List ℕ → Entry → Bool
 decides_so test event (entry.Decided other v) = bytes_eq other event && test v
 decides_so test event _ = false
 
-abbrev approves : List ℕ → Ruling → Bool
-approves event ruling = rules_so is_approval event ruling
+abbrev approves : Extent → List ℕ → Ruling → Bool
+approves extent event ruling = rules_so (is_approval extent) event ruling
 
 row_rules : (test : Verdict → Bool) (event : List ℕ) (n : ℕ) (es : List Entry)
     → list_any (λ row. decides_so test event row.entry) (numbered_rows n es) ≡ list_any (rules_so test event) (rulings_of es)
@@ -90,12 +91,13 @@ row_decisions test event (row ∷ rows) = by row.entry ∙ ap (λ (b : Bool). de
     by _ = refl
 
 -- a ruling, if there is one, approves
-abbrev option_approves : List ℕ → Option Ruling → Bool
-option_approves event o = is_some_with (approves event) o
+abbrev option_approves : Extent → List ℕ → Option Ruling → Bool
+option_approves extent event o = is_some_with (approves extent event) o
 
-any_with : (event : List ℕ) (o : Option Ruling) (rest : List Ruling) → list_any (approves event) (cons_option o rest) ≡ (option_approves event o || list_any (approves event) rest)
-any_with event None rest = refl
-any_with event (Some x) rest = refl
+any_with : (extent : Extent) (event : List ℕ) (o : Option Ruling) (rest : List Ruling)
+    → list_any (approves extent event) (cons_option o rest) ≡ (option_approves extent event o || list_any (approves extent event) rest)
+any_with extent event None rest = refl
+any_with extent event (Some x) rest = refl
 
 and_false : (b : Bool) → (b && false) ≡ false
 and_false true = refl
@@ -105,77 +107,119 @@ and_true : (b : Bool) → (b && true) ≡ b
 and_true true = refl
 and_true false = refl
 
-only_approves : (event its : List ℕ) (b : Bool) (v : Verdict) → option_approves event (option_map (decided_as its) (only_if b v)) ≡ (bytes_eq its event && (b && is_approval v))
-only_approves event its true v = refl
-only_approves event its false v = sym (and_false (bytes_eq its event))
+only_approves : (extent : Extent) (event its : List ℕ) (b : Bool) (v : Verdict)
+    → option_approves extent event (option_map (decided_as its) (only_if b v)) ≡ (bytes_eq its event && (b && is_approval extent v))
+only_approves extent event its true v = refl
+only_approves extent event its false v = sym (and_false (bytes_eq its event))
 
-sets_approve : (s : Stand) (why : Failure) → is_approval (verdict_of_sets s why) ≡ stands_in s
+-- a verdict that doesn't approve so, if it is given
+only_declines : (extent : Extent) (event its : List ℕ) (b : Bool) (v : Verdict) → is_approval extent v ≡ false
+    → option_approves extent event (option_map (decided_as its) (only_if b v)) ≡ (bytes_eq its event && false)
+only_declines extent event its b v none =
+    only_approves extent event its b v ∙ ap (λ (a : Bool). bytes_eq its event && (b && a)) none ∙ ap (λ (a : Bool). bytes_eq its event && a) (and_false b)
+
+sets_approve : (s : Stand) (why : Failure) → is_approval in_full (verdict_of_sets s why) ≡ stands_in s
 sets_approve (allowed s) why = refl
 sets_approve (over_limit s) why = refl
 sets_approve uncovered why = refl
 
-closing_approves : (event : List ℕ) (r : Record) (f : Facts) (o : Opened) (t : Txn) (how : How)
-    → option_approves event (option_map (decided_as o.event) (closing_verdict r f o t how)) ≡ (bytes_eq o.event event && is_paid_closing r f o t how)
-closing_approves event r f o t how.Funded =
-    only_approves event o.event (is_answer o.call.0 outcome.Funded r.input) verdict.Approved
-    ∙ ap (λ (b : Bool). bytes_eq o.event event && b) (and_true (is_answer o.call.0 outcome.Funded r.input))
-closing_approves event r f o t how.Refused =
-    only_approves event o.event (is_answer o.call.0 outcome.Refused r.input) (verdict.Declined reason.GatewayDeclined)
-    ∙ ap (λ (b : Bool). bytes_eq o.event event && b) (and_false (is_answer o.call.0 outcome.Refused r.input))
-closing_approves event r f o t (how.Failed why) =
-    only_approves event o.event (may_fail r o why) (verdict_of_sets (stand f (call_ask o t) why r.at) why)
-    ∙ ap (λ (b : Bool). bytes_eq o.event event && (may_fail r o why && b)) (sets_approve (stand f (call_ask o t) why r.at) why)
-closing_approves event r f o t how.Abandoned = by (abandonment_reason r t)
-  where
-    by : (why : Option Reason) → option_approves event (option_map (decided_as o.event) (option_map (λ why. verdict.Declined why) why)) ≡ (bytes_eq o.event event && false)
-    by None = sym (and_false (bytes_eq o.event event))
-    by (Some why) = refl
+-- sets approve no part
+sets_part : (c : Currency) (n : ℕ) (s : Stand) (why : Failure) → is_approval (in_part c n) (verdict_of_sets s why) ≡ false
+sets_part c n (allowed s) why = refl
+sets_part c n (over_limit s) why = refl
+sets_part c n uncovered why = refl
 
-entry_pays : (event : List ℕ) (r : Record) (f : Facts) (e : Entry) → option_approves event (closing_ruling r f e) ≡ pays_for event r f e
-entry_pays event r f (entry.Closed call how) = by_call (opened_in f call.0)
+-- no decline approves anything
+no_approval : (extent : Extent) (why : Reason) → is_approval extent (verdict.Declined why) ≡ false
+no_approval in_full why = refl
+no_approval (in_part c n) why = refl
+
+abandoned_approves : (extent : Extent) (event its : List ℕ) (why : Option Reason)
+    → option_approves extent event (option_map (decided_as its) (option_map (λ why. verdict.Declined why) why)) ≡ (bytes_eq its event && false)
+abandoned_approves extent event its None = sym (and_false (bytes_eq its event))
+abandoned_approves extent event its (Some why) = ap (λ (a : Bool). bytes_eq its event && a) (no_approval extent why)
+
+closing_approves : (extent : Extent) (event : List ℕ) (r : Record) (f : Facts) (o : Opened) (t : Txn) (how : How)
+    → option_approves extent event (option_map (decided_as o.event) (closing_verdict r f o t how)) ≡ (bytes_eq o.event event && is_paid_closing extent r f o t how)
+closing_approves in_full event r f o t how.Funded =
+    only_approves in_full event o.event (is_answer o.call.0 outcome.Funded r.input) verdict.Approved
+    ∙ ap (λ (b : Bool). bytes_eq o.event event && b) (and_true (is_answer o.call.0 outcome.Funded r.input))
+closing_approves in_full event r f o t (how.Partial part) = only_declines in_full event o.event (is_part_answer o part r.input) (verdict.Partial t.currency part) refl
+closing_approves in_full event r f o t how.Refused = only_declines in_full event o.event (is_answer o.call.0 outcome.Refused r.input) (verdict.Declined reason.GatewayDeclined) refl
+closing_approves in_full event r f o t (how.Failed why) =
+    only_approves in_full event o.event (may_fail r o why) (verdict_of_sets (stand f (call_ask o t) why r.at) why)
+    ∙ ap (λ (b : Bool). bytes_eq o.event event && (may_fail r o why && b)) (sets_approve (stand f (call_ask o t) why r.at) why)
+closing_approves in_full event r f o t how.Abandoned = abandoned_approves in_full event o.event (abandonment_reason r t)
+closing_approves (in_part c n) event r f o t how.Funded = only_declines (in_part c n) event o.event (is_answer o.call.0 outcome.Funded r.input) verdict.Approved refl
+closing_approves (in_part c n) event r f o t (how.Partial part) = only_approves (in_part c n) event o.event (is_part_answer o part r.input) (verdict.Partial t.currency part)
+closing_approves (in_part c n) event r f o t how.Refused =
+    only_declines (in_part c n) event o.event (is_answer o.call.0 outcome.Refused r.input) (verdict.Declined reason.GatewayDeclined) refl
+closing_approves (in_part c n) event r f o t (how.Failed why) =
+    only_declines (in_part c n) event o.event (may_fail r o why) (verdict_of_sets (stand f (call_ask o t) why r.at) why) (sets_part c n (stand f (call_ask o t) why r.at) why)
+closing_approves (in_part c n) event r f o t how.Abandoned = abandoned_approves (in_part c n) event o.event (abandonment_reason r t)
+
+entry_pays : (extent : Extent) (event : List ℕ) (r : Record) (f : Facts) (e : Entry) → option_approves extent event (closing_ruling r f e) ≡ pays_for extent event r f e
+entry_pays extent event r f (entry.Closed call how) = by_call (opened_in f call.0)
   where
     by_txn : (o : Opened) (t : Option Txn)
-        → option_approves event (option_and_then (λ t. option_map (decided_as o.event) (closing_verdict r f o t how)) t) ≡ (bytes_eq o.event event && is_some_with (λ t. is_paid_closing r f o t how) t)
+        → option_approves extent event (option_and_then (λ t. option_map (decided_as o.event) (closing_verdict r f o t how)) t) ≡ (bytes_eq o.event event && is_some_with (λ t. is_paid_closing extent r f o t how) t)
     by_txn o None = sym (and_false (bytes_eq o.event event))
-    by_txn o (Some t) = closing_approves event r f o t how
+    by_txn o (Some t) = closing_approves extent event r f o t how
 
-    by_call : (o : Option Opened) → option_approves event (option_and_then (call_ruling r f how) o)
-        ≡ is_some_with (λ o. bytes_eq o.event event && is_some_with (λ t. is_paid_closing r f o t how) (begun_in f o.txn)) o
+    by_call : (o : Option Opened) → option_approves extent event (option_and_then (call_ruling r f how) o)
+        ≡ is_some_with (λ o. bytes_eq o.event event && is_some_with (λ t. is_paid_closing extent r f o t how) (begun_in f o.txn)) o
     by_call None = refl
     by_call (Some o) = by_txn o (begun_in f o.txn)
-entry_pays event r f _ = refl
+entry_pays extent event r f _ = refl
 
-entries_pay : (event : List ℕ) (r : Record) (h : History) (es : List Entry) → list_any (approves event) (closing_rulings r h es) ≡ entries_pay_for event r h es
-entries_pay event r h [] = refl
-entries_pay event r h (e ∷ es) =
-    any_with event (closing_ruling r (history_facts h) e) (closing_rulings r (with_entries h (e ∷ [])) es)
-    ∙ ap₂ (λ (a b : Bool). a || b) (entry_pays event r (history_facts h) e) (entries_pay event r (with_entries h (e ∷ [])) es)
+entries_pay : (extent : Extent) (event : List ℕ) (r : Record) (h : History) (es : List Entry) → list_any (approves extent event) (closing_rulings r h es) ≡ entries_pay_for extent event r h es
+entries_pay extent event r h [] = refl
+entries_pay extent event r h (e ∷ es) =
+    any_with extent event (closing_ruling r (history_facts h) e) (closing_rulings r (with_entries h (e ∷ [])) es)
+    ∙ ap₂ (λ (a b : Bool). a || b) (entry_pays extent event r (history_facts h) e) (entries_pay extent event r (with_entries h (e ∷ [])) es)
 
 -- a record's own rulings ----
 
-one_other : (event token : List ℕ) (v : Verdict) → bytes_eq token event ≡ false → list_any (approves event) (decided_as token v ∷ []) ≡ false
-one_other event token v h = ap (λ (b : Bool). (b && is_approval v) || false) h
+one_other : (extent : Extent) (event token : List ℕ) (v : Verdict) → bytes_eq token event ≡ false → list_any (approves extent event) (decided_as token v ∷ []) ≡ false
+one_other extent event token v h = ap (λ (b : Bool). (b && is_approval extent v) || false) h
+
+-- how an ask that is put to nobody, to the sets or to the gateway is ruled
+abbrev funding_by : Bool → Bool → Ask → Verdict → Ruling
+funding_by own switched ask v = cond own (decided_as ask.event verdict.Approved) (cond switched (decided_as ask.event v) (asked_about ask.event))
 
 -- a funding rules on its ask's event
-funding_other : (event : List ℕ) (f : Facts) (ask : Ask) → bytes_eq ask.event event ≡ false → approves event (funding_ruling f ask) ≡ false
-funding_other event f ask h = by (is_account_funded ask.txn.funding) (is_named_in f.switched ask.txn.product)
+funding_other : (extent : Extent) (event : List ℕ) (f : Facts) (ask : Ask) → bytes_eq ask.event event ≡ false → approves extent event (funding_ruling f ask) ≡ false
+funding_other extent event f ask h = by (is_account_funded ask.txn.funding) (is_named_in f.switched ask.txn.product)
   where
-    by : (a b : Bool) → approves event (cond a (decided_as ask.event verdict.Approved) (cond b (decided_as ask.event (verdict_of_sets (stand f ask failure.Switch ask.at) failure.Switch)) (asked_about ask.event))) ≡ false
-    by true b = ap (λ (b : Bool). b && true) h
-    by false true = ap (λ (b : Bool). b && is_approval (verdict_of_sets (stand f ask failure.Switch ask.at) failure.Switch)) h
+    v : Verdict
+    v = verdict_of_sets (stand f ask failure.Switch ask.at) failure.Switch
+
+    by : (a b : Bool) → approves extent event (funding_by a b ask v) ≡ false
+    by true b = ap (λ (b : Bool). b && is_approval extent verdict.Approved) h
+    by false true = ap (λ (b : Bool). b && is_approval extent v) h
     by false false = refl
 
-funding_own : (f : Facts) (ask : Ask) → approves ask.event (funding_ruling f ask) ≡ is_paid_at_once f ask
-funding_own f ask = by (is_account_funded ask.txn.funding) (is_named_in f.switched ask.txn.product)
+funding_own : (extent : Extent) (f : Facts) (ask : Ask) → approves extent ask.event (funding_ruling f ask) ≡ is_paid_at_once extent f ask
+funding_own in_full f ask = by (is_account_funded ask.txn.funding) (is_named_in f.switched ask.txn.product)
   where
     same : bytes_eq ask.event ask.event ≡ true
     same = its_name ask.event
 
-    by : (a b : Bool) → approves ask.event (cond a (decided_as ask.event verdict.Approved) (cond b (decided_as ask.event (verdict_of_sets (stand f ask failure.Switch ask.at) failure.Switch)) (asked_about ask.event)))
-        ≡ (a || (b && stands_in (stand f ask failure.Switch ask.at)))
+    v : Verdict
+    v = verdict_of_sets (stand f ask failure.Switch ask.at) failure.Switch
+
+    by : (a b : Bool) → approves in_full ask.event (funding_by a b ask v) ≡ (a || (b && stands_in (stand f ask failure.Switch ask.at)))
     by true b = ap (λ (b : Bool). b && true) same
-    by false true =
-        ap (λ (b : Bool). b && is_approval (verdict_of_sets (stand f ask failure.Switch ask.at) failure.Switch)) same ∙ sets_approve (stand f ask failure.Switch ask.at) failure.Switch
+    by false true = ap (λ (b : Bool). b && is_approval in_full v) same ∙ sets_approve (stand f ask failure.Switch ask.at) failure.Switch
+    by false false = refl
+funding_own (in_part c n) f ask = by (is_account_funded ask.txn.funding) (is_named_in f.switched ask.txn.product)
+  where
+    v : Verdict
+    v = verdict_of_sets (stand f ask failure.Switch ask.at) failure.Switch
+
+    by : (a b : Bool) → approves (in_part c n) ask.event (funding_by a b ask v) ≡ false
+    by true b = and_false (bytes_eq ask.event ask.event)
+    by false true = ap (λ (b : Bool). bytes_eq ask.event ask.event && b) (sets_part c n (stand f ask failure.Switch ask.at) failure.Switch) ∙ and_false (bytes_eq ask.event ask.event)
     by false false = refl
 
 or_false : (b : Bool) → (b || false) ≡ b
@@ -190,38 +234,38 @@ mapped_of : {A : Type 0} (make : A → Ask) (token : List ℕ) → ((x : A) → 
 mapped_of make token its None x e = cc
 mapped_of make token its (Some y) x e = let one : make y ≡ x = cc in ap (λ (a : Ask). a.event) (sym one) ∙ its y
 
-ask_other : (event token : List ℕ) (f : Facts) (why : Option Reason) (ask : Option Ask) → IsOf token ask → bytes_eq token event ≡ false → list_any (approves event) (ask_rulings f token why ask) ≡ false
-ask_other event token f (Some why) ask its h = one_other event token (verdict.Declined why) h
-ask_other event token f None None its h = refl
-ask_other event token f None (Some x) its h =
-    ap (λ (b : Bool). b || false) (funding_other event f x (ap (λ (t : List ℕ). bytes_eq t event) (its x refl) ∙ h))
+ask_other : (extent : Extent) (event token : List ℕ) (f : Facts) (why : Option Reason) (ask : Option Ask) → IsOf token ask → bytes_eq token event ≡ false → list_any (approves extent event) (ask_rulings f token why ask) ≡ false
+ask_other extent event token f (Some why) ask its h = one_other extent event token (verdict.Declined why) h
+ask_other extent event token f None None its h = refl
+ask_other extent event token f None (Some x) its h =
+    ap (λ (b : Bool). b || false) (funding_other extent event f x (ap (λ (t : List ℕ). bytes_eq t event) (its x refl) ∙ h))
 
 -- an ask's rulings approve its event exactly if no reason held and it is paid at once
-ask_own : (token : List ℕ) (f : Facts) (ask : Option Ask) → IsOf token ask → list_any (approves token) (ask_rulings f token None ask) ≡ is_some_with (is_paid_at_once f) ask
-ask_own token f None its = refl
-ask_own token f (Some x) its =
-    or_false (approves token (funding_ruling f x))
-    ∙ ap (λ (t : List ℕ). approves t (funding_ruling f x)) (sym (its x refl)) ∙ funding_own f x
+ask_own : (extent : Extent) (token : List ℕ) (f : Facts) (ask : Option Ask) → IsOf token ask → list_any (approves extent token) (ask_rulings f token None ask) ≡ is_some_with (is_paid_at_once extent f) ask
+ask_own extent token f None its = refl
+ask_own extent token f (Some x) its =
+    or_false (approves extent token (funding_ruling f x))
+    ∙ ap (λ (t : List ℕ). approves extent t (funding_ruling f x)) (sym (its x refl)) ∙ funding_own extent f x
 
 -- a record doesn't approve an event of another name
-event_other : (event : List ℕ) (o : Option (List ℕ)) (why : Option Reason) → ((token : List ℕ) → o ≡ Some token → bytes_eq token event ≡ false) → list_any (approves event) (event_rulings o why) ≡ false
-event_other event (Some token) why h = one_other event token (done_unless why) (h token refl)
-event_other event None why h = refl
+event_other : (extent : Extent) (event : List ℕ) (o : Option (List ℕ)) (why : Option Reason) → ((token : List ℕ) → o ≡ Some token → bytes_eq token event ≡ false) → list_any (approves extent event) (event_rulings o why) ≡ false
+event_other extent event (Some token) why h = one_other extent event token (done_unless why) (h token refl)
+event_other extent event None why h = refl
 
-own_other : (event : List ℕ) (i : Input) (at : ℕ) (f : Facts) → ((token : List ℕ) → event_token i ≡ Some token → bytes_eq token event ≡ false) → list_any (approves event) (own_rulings i at f) ≡ false
-own_other event (input.Authorization token card currency amount mcc mid) at f h =
-    let ask : Option Ask = authorization_ask f token card currency amount mcc mid at in
-    ask_other event token f (authorization_reason f card currency ask) ask (mapped_of (first_ask token amount at) token (λ t. refl) (txn_asked f token card currency mcc mid at)) (h token refl)
-own_other event (input.Increment token txn currency amount) at f h =
+own_other : (extent : Extent) (event : List ℕ) (i : Input) (at : ℕ) (f : Facts) → ((token : List ℕ) → event_token i ≡ Some token → bytes_eq token event ≡ false) → list_any (approves extent event) (own_rulings i at f) ≡ false
+own_other extent event (input.Authorization token card currency amount mcc mid partial) at f h =
+    let ask : Option Ask = authorization_ask f token card currency amount mcc mid partial at in
+    ask_other extent event token f (authorization_reason f card currency ask) ask (mapped_of (first_ask token amount partial at) token (λ t. refl) (txn_asked f token card currency mcc mid at)) (h token refl)
+own_other extent event (input.Increment token txn currency amount) at f h =
     let ask : Option Ask = increment_ask f token txn amount at in
-    ask_other event token f (increment_reason f (txn_in f txn) currency ask) ask (mapped_of (λ (now : TxnNow). further_ask token amount at now.txn) token (λ t. refl) (txn_in f txn)) (h token refl)
-own_other event i at f h = event_other event (event_token i) (event_reason i at f) h
+    ask_other extent event token f (increment_reason f (txn_in f txn) currency ask) ask (mapped_of (λ (now : TxnNow). further_ask token amount at now.txn) token (λ t. refl) (txn_in f txn)) (h token refl)
+own_other extent event i at f h = event_other extent event (event_token i) (event_reason i at f) h
 
 -- the reply of an event that is decided once ----
 
 -- a decision approves an event
-abbrev decision_approves : List ℕ → Decision → Bool
-decision_approves event d = bytes_eq d.event event && is_approval d.verdict
+abbrev decision_approves : Extent → List ℕ → Decision → Bool
+decision_approves extent event d = bytes_eq d.event event && is_approval extent d.verdict
 
 -- an event that isn't decided has no verdict, whatever its test
 none_decided : (test : Verdict → Bool) (event : List ℕ) (ds : List Decision) → decided_times ds event ≡ 0 → list_any (λ d. bytes_eq d.event event && test d.verdict) ds ≡ false
@@ -234,39 +278,39 @@ none_decided test event (d ∷ ds) h = by (bytes_eq d.event event) (none_decided
     by true rest h = absurd (omega (arith, h))
     by false rest h = rest h
 
-reply_approves : (event : List ℕ) (ds : List Decision) → decided_times ds event ≤ 1
-    → is_approved (reply_of_verdict (verdict_in ds event)) ≡ list_any (decision_approves event) ds
-reply_approves event [] h = refl
-reply_approves event (d ∷ ds) h = by (bytes_eq d.event event) (reply_approves event ds) h
+reply_approves : (extent : Extent) (event : List ℕ) (ds : List Decision) → decided_times ds event ≤ 1
+    → is_approved extent (reply_of_verdict (verdict_in ds event)) ≡ list_any (decision_approves extent event) ds
+reply_approves extent event [] h = refl
+reply_approves extent event (d ∷ ds) h = by (bytes_eq d.event event) (reply_approves extent event ds) h
   where
     none : (n : ℕ) → suc n ≤ 1 → n ≡ 0
     none n h = omega (arith, h)
 
-    by : (b : Bool) → (decided_times ds event ≤ 1 → is_approved (reply_of_verdict (verdict_in ds event)) ≡ list_any (decision_approves event) ds)
+    by : (b : Bool) → (decided_times ds event ≤ 1 → is_approved extent (reply_of_verdict (verdict_in ds event)) ≡ list_any (decision_approves extent event) ds)
         → length (cond b (d ∷ filter (λ (d : Decision). bytes_eq d.event event) ds) (filter (λ (d : Decision). bytes_eq d.event event) ds)) ≤ 1
-        → is_approved (reply_of_verdict (option_map (λ (d : Decision). d.verdict) (cond b (Some d) (find (λ d. bytes_eq d.event event) ds)))) ≡ ((b && is_approval d.verdict) || list_any (decision_approves event) ds)
+        → is_approved extent (reply_of_verdict (option_map (λ (d : Decision). d.verdict) (cond b (Some d) (find (λ d. bytes_eq d.event event) ds)))) ≡ ((b && is_approval extent d.verdict) || list_any (decision_approves extent event) ds)
     by true rest h =
-        sym (or_false (is_approval d.verdict))
-        ∙ ap (λ (b : Bool). is_approval d.verdict || b) (sym (none_decided is_approval event ds (none (decided_times ds event) h)))
+        sym (or_false (is_approval extent d.verdict))
+        ∙ ap (λ (b : Bool). is_approval extent d.verdict || b) (sym (none_decided (is_approval extent) event ds (none (decided_times ds event) h)))
     by false rest h = rest h
 
 -- an event that is declined isn't approved
-declined_once : (event : List ℕ) (why : Reason) (ds : List Decision) → decided_times ds event ≤ 1 → list_any (λ d. bytes_eq d.event event && not (is_approval d.verdict)) ds ≡ true
-    → list_any (decision_approves event) ds ≡ false
-declined_once event why [] h k = refl
-declined_once event why (d ∷ ds) h k = by (bytes_eq d.event event) (is_approval d.verdict) (declined_once event why ds) h k
+declined_once : (extent : Extent) (event : List ℕ) (why : Reason) (ds : List Decision) → decided_times ds event ≤ 1 → list_any (λ d. bytes_eq d.event event && not (is_approval extent d.verdict)) ds ≡ true
+    → list_any (decision_approves extent event) ds ≡ false
+declined_once extent event why [] h k = refl
+declined_once extent event why (d ∷ ds) h k = by (bytes_eq d.event event) (is_approval extent d.verdict) (declined_once extent event why ds) h k
   where
     none : (n : ℕ) → suc n ≤ 1 → n ≡ 0
     none n h = omega (arith, h)
 
     by : (a b : Bool)
-        → (decided_times ds event ≤ 1 → list_any (λ d. bytes_eq d.event event && not (is_approval d.verdict)) ds ≡ true → list_any (decision_approves event) ds ≡ false)
+        → (decided_times ds event ≤ 1 → list_any (λ d. bytes_eq d.event event && not (is_approval extent d.verdict)) ds ≡ true → list_any (decision_approves extent event) ds ≡ false)
         → length (cond a (d ∷ filter (λ (d : Decision). bytes_eq d.event event) ds) (filter (λ (d : Decision). bytes_eq d.event event) ds)) ≤ 1
-        → ((a && not b) || list_any (λ d. bytes_eq d.event event && not (is_approval d.verdict)) ds) ≡ true
-        → ((a && b) || list_any (decision_approves event) ds) ≡ false
+        → ((a && not b) || list_any (λ d. bytes_eq d.event event && not (is_approval extent d.verdict)) ds) ≡ true
+        → ((a && b) || list_any (decision_approves extent event) ds) ≡ false
     by true true rest h k =
-        not_both (list_any (λ (d : Decision). bytes_eq d.event event && not (is_approval d.verdict)) ds) k (none_decided (λ v. not (is_approval v)) event ds (none (decided_times ds event) h))
-    by true false rest h k = none_decided is_approval event ds (none (decided_times ds event) h)
+        not_both (list_any (λ (d : Decision). bytes_eq d.event event && not (is_approval extent d.verdict)) ds) k (none_decided (λ v. not (is_approval extent v)) event ds (none (decided_times ds event) h))
+    by true false rest h k = none_decided (is_approval extent) event ds (none (decided_times ds event) h)
     by false b rest h k = rest h k
 
 -- what was accepted ----
@@ -300,57 +344,57 @@ other_event before r event token follows known its =
     not_both (is_accepted (core_of before).accepted event) known (ap (λ (k : List ℕ). is_accepted (core_of before).accepted k) (sym (one_name token event same)) ∙ new_event before r follows token its))
 
 -- an event that wasn't accepted has no decision
-none_before : (before : List Record) (event : List ℕ) → IsLegal before → is_accepted (core_of before).accepted event ≡ false → list_any (λ row. decides_so is_approval event row.entry) (history_of before).rows ≡ false
-none_before before event legal new =
+none_before : (extent : Extent) (before : List Record) (event : List ℕ) → IsLegal before → is_accepted (core_of before).accepted event ≡ false → list_any (λ row. decides_so (is_approval extent) event row.entry) (history_of before).rows ≡ false
+none_before extent before event legal new =
     let s : CoreState = core_of before in
     let undecided : is_decided s.decisions event ≡ false =
     false_from_ne_true (is_decided s.decisions event) (λ h. not_both (is_accepted s.accepted event) ((core_well before legal).docket.decisions.events event h) new) in
-    sym (row_decisions is_approval event (history_of before).rows)
-    ∙ ap (λ (s : CoreState). list_any (decision_approves event) s.decisions) (sym (core_history before)) ∙ none s.decisions undecided
+    sym (row_decisions (is_approval extent) event (history_of before).rows)
+    ∙ ap (λ (s : CoreState). list_any (decision_approves extent event) s.decisions) (sym (core_history before)) ∙ none s.decisions undecided
   where
-    none : (ds : List Decision) → is_decided ds event ≡ false → list_any (decision_approves event) ds ≡ false
+    none : (ds : List Decision) → is_decided ds event ≡ false → list_any (decision_approves extent event) ds ≡ false
     none [] h = refl
     none (d ∷ ds) h = let parts = neither (bytes_eq d.event event) (is_decided ds event) h in
-        ap₂ (λ (a b : Bool). (a && is_approval d.verdict) || b) parts.0 (none ds parts.1)
+        ap₂ (λ (a b : Bool). (a && is_approval extent d.verdict) || b) parts.0 (none ds parts.1)
 
 -- what later records approve ----
 
 -- the approvals among a record's entries: of calls that it closes, and then its own
-entries_approve : (event : List ℕ) (before : List Record) (r : Record) (rs : List Record) (rows : List Row) → IsLegal before → Follows (history_of before) r → AreRowsOf before r rs rows
-    → (n : ℕ) → list_any (λ row. decides_so is_approval event row.entry) (numbered_rows n (step history_keeper (history_of before) r).entries)
-    ≡ (entries_pay_for event r (history_keeper.take_up (book_after before rows) r) (entries_in (length before + 1) rows) || list_any (approves event) (own_rulings r.input r.at (facts_at_turn before r rows)))
-entries_approve event before r rs rows legal follows its n =
+entries_approve : (extent : Extent) (event : List ℕ) (before : List Record) (r : Record) (rs : List Record) (rows : List Row) → IsLegal before → Follows (history_of before) r → AreRowsOf before r rs rows
+    → (n : ℕ) → list_any (λ row. decides_so (is_approval extent) event row.entry) (numbered_rows n (step history_keeper (history_of before) r).entries)
+    ≡ (entries_pay_for extent event r (history_keeper.take_up (book_after before rows) r) (entries_in (length before + 1) rows) || list_any (approves extent event) (own_rulings r.input r.at (facts_at_turn before r rows)))
+entries_approve extent event before r rs rows legal follows its n =
     let h : History = history_of before in
     let es : List Entry = (step history_keeper h r).entries in
-    row_rules is_approval event n es
-    ∙ ap (list_any (approves event)) (legal_rules before r legal follows)
-    ∙ ap₂ (λ (b : History) (es : List Entry). list_any (approves event) (rulings_due b r es)) (sym its.book) (sym its.entries)
-    ∙ list_any-append (approves event) (closing_rulings r (history_keeper.take_up (book_after before rows) r) (entries_in (length before + 1) rows)) (own_rulings r.input r.at (facts_at_turn before r rows))
-    ∙ ap (λ (b : Bool). b || list_any (approves event) (own_rulings r.input r.at (facts_at_turn before r rows)))
-    (entries_pay event r (history_keeper.take_up (book_after before rows) r) (entries_in (length before + 1) rows))
+    row_rules (is_approval extent) event n es
+    ∙ ap (list_any (approves extent event)) (legal_rules before r legal follows)
+    ∙ ap₂ (λ (b : History) (es : List Entry). list_any (approves extent event) (rulings_due b r es)) (sym its.book) (sym its.entries)
+    ∙ list_any-append (approves extent event) (closing_rulings r (history_keeper.take_up (book_after before rows) r) (entries_in (length before + 1) rows)) (own_rulings r.input r.at (facts_at_turn before r rows))
+    ∙ ap (λ (b : Bool). b || list_any (approves extent event) (own_rulings r.input r.at (facts_at_turn before r rows)))
+    (entries_pay extent event r (history_keeper.take_up (book_after before rows) r) (entries_in (length before + 1) rows))
 
-later_approve : (event : List ℕ) (before rs : List Record) (rows : List Row) → IsLegal before → IsLegalAfter (history_of before) rs → rows ≡ (history_with (history_of before) rs).rows
+later_approve : (extent : Extent) (event : List ℕ) (before rs : List Record) (rows : List Row) → IsLegal before → IsLegalAfter (history_of before) rs → rows ≡ (history_with (history_of before) rs).rows
     → is_accepted (core_of before).accepted event ≡ true
-    → list_any (λ row. decides_so is_approval event row.entry) (later_rows (history_of before) rs) ≡ records_pay_for event before rs rows
-later_approve event before [] rows legal after same known = refl
-later_approve event before (r ∷ rs) rows legal after same known =
+    → list_any (λ row. decides_so (is_approval extent) event row.entry) (later_rows (history_of before) rs) ≡ records_pay_for extent event before rs rows
+later_approve extent event before [] rows legal after same known = refl
+later_approve extent event before (r ∷ rs) rows legal after same known =
     let h : History = history_of before in
     let its : AreRowsOf before r rs rows = rows_of before r rs rows same in
     let own : List Row = numbered_rows (length h.records + 1) (step history_keeper h r).entries in
-    let test : Row → Bool = λ row. decides_so is_approval event row.entry in
+    let test : Row → Bool = λ row. decides_so (is_approval extent) event row.entry in
     list_any-append test own (later_rows (step history_keeper h r).world rs)
     ∙ ap₂ (λ (a b : Bool). a || b)
-    (entries_approve event before r rs rows legal after.0 its (length h.records + 1)
-    ∙ ap (λ (b : Bool). entries_pay_for event r (history_keeper.take_up (book_after before rows) r) (entries_in (length before + 1) rows) || b)
-    (own_other event r.input r.at (facts_at_turn before r rows) (λ token e. other_event before r event token after.0 known e))
-    ∙ or_false (entries_pay_for event r (history_keeper.take_up (book_after before rows) r) (entries_in (length before + 1) rows)))
+    (entries_approve extent event before r rs rows legal after.0 its (length h.records + 1)
+    ∙ ap (λ (b : Bool). entries_pay_for extent event r (history_keeper.take_up (book_after before rows) r) (entries_in (length before + 1) rows) || b)
+    (own_other extent event r.input r.at (facts_at_turn before r rows) (λ token e. other_event before r event token after.0 known e))
+    ∙ or_false (entries_pay_for extent event r (history_keeper.take_up (book_after before rows) r) (entries_in (length before + 1) rows)))
     (ap (λ (k : History). list_any test (later_rows k rs)) (step_history before r)
-    ∙ later_approve event (before ++ r ∷ []) rs rows (legal_more before r legal after.0) (legal_rest before r rs after.1) (same ∙ same_rest before r rs)
+    ∙ later_approve extent event (before ++ r ∷ []) rs rows (legal_more before r legal after.0) (legal_rest before r rs after.1) (same ∙ same_rest before r rs)
     (accepted_next before r event (still_accepted (core_of before) r event known)))
 
 -- one authorisation or increment ----
 
-module _ (all before : List Record) (r : Record) (rs : List Record) (token : List ℕ) (legal_all : IsLegal all) (is : all ≡ before ++ r ∷ rs) (legal : IsLegal before)
+module _ (extent : Extent) (all before : List Record) (r : Record) (rs : List Record) (token : List ℕ) (legal_all : IsLegal all) (is : all ≡ before ++ r ∷ rs) (legal : IsLegal before)
     (after : IsLegalAfter (history_of before) (r ∷ rs)) (same : (history_of all).rows ≡ (history_with (history_of before) (r ∷ rs)).rows) (its_token : event_token r.input ≡ Some token) where
   abbrev rows_of_all : List Row
   rows_of_all = (history_of all).rows
@@ -381,57 +425,58 @@ module _ (all before : List Record) (r : Record) (rs : List Record) (token : Lis
       ∙ list_any-append (λ (row : Row). decides_so test token row.entry) (history_of before).rows (later_rows (history_of before) (r ∷ rs))
 
   abbrev own_paid : Bool
-  own_paid = entries_pay_for token r (history_keeper.take_up (book_after before rows_of_all) r) (entries_in (length before + 1) rows_of_all)
+  own_paid = entries_pay_for extent token r (history_keeper.take_up (book_after before rows_of_all) r) (entries_in (length before + 1) rows_of_all)
 
   abbrev later_paid : Bool
-  later_paid = records_pay_for token (before ++ r ∷ []) rs rows_of_all
+  later_paid = records_pay_for extent token (before ++ r ∷ []) rs rows_of_all
 
   -- what the reply approves
-  approved_is : is_approved (reply_in (history_facts (history_of all)) token) ≡ ((own_paid || list_any (approves token) (own_rulings r.input r.at turn)) || later_paid)
+  approved_is : is_approved extent (reply_in (history_facts (history_of all)) token) ≡ ((own_paid || list_any (approves extent token) (own_rulings r.input r.at turn)) || later_paid)
   approved_is =
       let h : History = history_of before in
-      let test : Row → Bool = λ row. decides_so is_approval token row.entry in
-      reply_approves token decisions_of_all decided_at_most_once
-      ∙ row_decisions is_approval token rows_of_all
-      ∙ any_row is_approval
-      ∙ ap (λ (b : Bool). b || list_any test (later_rows h (r ∷ rs))) (none_before before token legal (new_event before r after.0 token its_token))
+      let test : Row → Bool = λ row. decides_so (is_approval extent) token row.entry in
+      reply_approves extent token decisions_of_all decided_at_most_once
+      ∙ row_decisions (is_approval extent) token rows_of_all
+      ∙ any_row (is_approval extent)
+      ∙ ap (λ (b : Bool). b || list_any test (later_rows h (r ∷ rs))) (none_before extent before token legal (new_event before r after.0 token its_token))
       ∙ list_any-append test (numbered_rows (length h.records + 1) (step history_keeper h r).entries) (later_rows (step history_keeper h r).world rs)
       ∙ ap₂ (λ (a b : Bool). a || b)
-      (entries_approve token before r rs rows_of_all legal after.0 (rows_of before r rs rows_of_all same) (length h.records + 1))
+      (entries_approve extent token before r rs rows_of_all legal after.0 (rows_of before r rs rows_of_all same) (length h.records + 1))
       (ap (λ (k : History). list_any test (later_rows k rs)) (step_history before r)
-      ∙ later_approve token (before ++ r ∷ []) rs rows_of_all (legal_more before r legal after.0) (legal_rest before r rs after.1) (same ∙ same_rest before r rs) known_now)
+      ∙ later_approve extent token (before ++ r ∷ []) rs rows_of_all (legal_more before r legal after.0) (legal_rest before r rs after.1) (same ∙ same_rest before r rs) known_now)
 
   -- an event that was declined at its turn isn't approved
-  declined_is : (why : Reason) → own_rulings r.input r.at turn ≡ decided_as token (verdict.Declined why) ∷ [] → is_approved (reply_in (history_facts (history_of all)) token) ≡ false
+  declined_is : (why : Reason) → own_rulings r.input r.at turn ≡ decided_as token (verdict.Declined why) ∷ [] → is_approved extent (reply_in (history_facts (history_of all)) token) ≡ false
   declined_is why own =
       let h : History = history_of before in
       let es : List Entry = (step history_keeper h r).entries in
       let its : AreRowsOf before r rs rows_of_all = rows_of before r rs rows_of_all same in
-      let no_approval : Verdict → Bool = λ v. not (is_approval v) in
-      let test : Row → Bool = λ row. decides_so no_approval token row.entry in
+      let not_so : Verdict → Bool = λ v. not (is_approval extent v) in
+      let test : Row → Bool = λ row. decides_so not_so token row.entry in
       let closed : List Ruling = closing_rulings r (history_keeper.take_up (book_after before rows_of_all) r) (entries_in (length before + 1) rows_of_all) in
-      let last : list_any (rules_so no_approval token) (decided_as token (verdict.Declined why) ∷ []) ≡ true = ap (λ (b : Bool). (b && true) || false) (its_name token) in
+      let last : list_any (rules_so not_so token) (decided_as token (verdict.Declined why) ∷ []) ≡ true =
+      ap₂ (λ (a b : Bool). (a && not b) || false) (its_name token) (no_approval extent why) in
       let made : list_any test (numbered_rows (length h.records + 1) es) ≡ true =
-      row_rules no_approval token (length h.records + 1) es
-      ∙ ap (list_any (rules_so no_approval token))
+      row_rules not_so token (length h.records + 1) es
+      ∙ ap (list_any (rules_so not_so token))
       (legal_rules before r legal after.0 ∙ ap₂ (λ (b : History) (es : List Entry). rulings_due b r es) (sym its.book) (sym its.entries) ∙ ap (λ (rs : List Ruling). closed ++ rs) own)
-      ∙ list_any-append (rules_so no_approval token) closed (decided_as token (verdict.Declined why) ∷ [])
-      ∙ or_true (list_any (rules_so no_approval token) closed) _ last in
-      let there : list_any (λ d. bytes_eq d.event token && no_approval d.verdict) decisions_of_all ≡ true =
-      row_decisions no_approval token rows_of_all ∙ any_row no_approval
+      ∙ list_any-append (rules_so not_so token) closed (decided_as token (verdict.Declined why) ∷ [])
+      ∙ or_true (list_any (rules_so not_so token) closed) _ last in
+      let there : list_any (λ d. bytes_eq d.event token && not_so d.verdict) decisions_of_all ≡ true =
+      row_decisions not_so token rows_of_all ∙ any_row not_so
       ∙ or_true (list_any test h.rows) _
       (list_any-append test (numbered_rows (length h.records + 1) es) (later_rows (step history_keeper h r).world rs)
       ∙ ap (λ (b : Bool). b || list_any test (later_rows (step history_keeper h r).world rs)) made) in
-      reply_approves token decisions_of_all decided_at_most_once
-      ∙ declined_once token why decisions_of_all decided_at_most_once there
+      reply_approves extent token decisions_of_all decided_at_most_once
+      ∙ declined_once extent token why decisions_of_all decided_at_most_once there
 
   ask_right : (why : Option Reason) (ask : Option Ask) → own_rulings r.input r.at turn ≡ ask_rulings turn token why ask → IsOf token ask
-      → is_approved (reply_in (history_facts (history_of all)) token) ≡ is_to_be_approved turn why ask (records_pay_for token before (r ∷ rs) rows_of_all)
+      → is_approved extent (reply_in (history_facts (history_of all)) token) ≡ is_to_be_approved extent turn why ask (records_pay_for extent token before (r ∷ rs) rows_of_all)
   ask_right (Some why) ask own of = declined_is why own
   ask_right None ask own of =
       approved_is
-      ∙ ap (λ (b : Bool). (own_paid || b) || later_paid) (ap (list_any (approves token)) own ∙ ask_own token turn ask of)
-      ∙ moved own_paid (is_some_with (is_paid_at_once turn) ask) later_paid
+      ∙ ap (λ (b : Bool). (own_paid || b) || later_paid) (ap (list_any (approves extent token)) own ∙ ask_own extent token turn ask of)
+      ∙ moved own_paid (is_some_with (is_paid_at_once extent turn) ask) later_paid
     where
       moved : (a b d : Bool) → ((a || b) || d) ≡ (b || (a || d))
       moved true true d = refl
@@ -446,27 +491,32 @@ agreed false false h = refl
 
 -- all of them ----
 
-one_right : (all before : List Record) (r : Record) (rs : List Record) → IsLegal all → all ≡ before ++ r ∷ rs → IsLegal before → IsLegalAfter (history_of before) (r ∷ rs)
-    → (history_of all).rows ≡ (history_with (history_of before) (r ∷ rs)).rows → (i : Input) → r.input ≡ i → is_approved_rightly (history_of all) before r rs i ≡ true
-one_right all before r rs legal_all is legal after same (input.Authorization token card currency amount mcc mid) e =
+one_right : (extent : Extent) (all before : List Record) (r : Record) (rs : List Record) → IsLegal all → all ≡ before ++ r ∷ rs → IsLegal before → IsLegalAfter (history_of before) (r ∷ rs)
+    → (history_of all).rows ≡ (history_with (history_of before) (r ∷ rs)).rows → (i : Input) → r.input ≡ i → is_approved_rightly extent (history_of all) before r rs i ≡ true
+one_right extent all before r rs legal_all is legal after same (input.Authorization token card currency amount mcc mid partial) e =
     let f : Facts = facts_at_turn before r (history_of all).rows in
-    let ask : Option Ask = authorization_ask f token card currency amount mcc mid r.at in
-    agreed _ _ (ask_right all before r rs token legal_all is legal after same (ap event_token e) (authorization_reason f card currency ask) ask (ap (λ (i : Input). own_rulings i r.at f) e)
-    (mapped_of (first_ask token amount r.at) token (λ t. refl) (txn_asked f token card currency mcc mid r.at)))
-one_right all before r rs legal_all is legal after same (input.Increment token txn currency amount) e =
+    let ask : Option Ask = authorization_ask f token card currency amount mcc mid partial r.at in
+    agreed _ _ (ask_right extent all before r rs token legal_all is legal after same (ap event_token e) (authorization_reason f card currency ask) ask (ap (λ (i : Input). own_rulings i r.at f) e)
+    (mapped_of (first_ask token amount partial r.at) token (λ t. refl) (txn_asked f token card currency mcc mid r.at)))
+one_right extent all before r rs legal_all is legal after same (input.Increment token txn currency amount) e =
     let f : Facts = facts_at_turn before r (history_of all).rows in
     let ask : Option Ask = increment_ask f token txn amount r.at in
-    agreed _ _ (ask_right all before r rs token legal_all is legal after same (ap event_token e) (increment_reason f (txn_in f txn) currency ask) ask (ap (λ (i : Input). own_rulings i r.at f) e)
+    agreed _ _ (ask_right extent all before r rs token legal_all is legal after same (ap event_token e) (increment_reason f (txn_in f txn) currency ask) ask (ap (λ (i : Input). own_rulings i r.at f) e)
     (mapped_of (λ (now : TxnNow). further_ask token amount r.at now.txn) token (λ t. refl) (txn_in f txn)))
-one_right all before r rs legal_all is legal after same _ e = refl
+one_right extent all before r rs legal_all is legal after same _ e = refl
 
-all_right : (all before rs : List Record) → IsLegal all → all ≡ before ++ rs → IsLegal before → IsLegalAfter (history_of before) rs → (history_of all).rows ≡ (history_with (history_of before) rs).rows
-    → are_approved_rightly (history_of all) before rs ≡ true
-all_right all before [] legal_all is legal after same = refl
-all_right all before (r ∷ rs) legal_all is legal after same =
-    ap (λ (b : Bool). b && are_approved_rightly (history_of all) (before ++ r ∷ []) rs) (one_right all before r rs legal_all is legal after same r.input refl)
-    ∙ all_right all (before ++ r ∷ []) rs legal_all (is ∙ sym (append_assoc before (r ∷ []) rs)) (legal_more before r legal after.0) (legal_rest before r rs after.1) (same ∙ same_rest before r rs)
+all_right : (extent : Extent) (all before rs : List Record) → IsLegal all → all ≡ before ++ rs → IsLegal before → IsLegalAfter (history_of before) rs → (history_of all).rows ≡ (history_with (history_of before) rs).rows
+    → are_approved_rightly extent (history_of all) before rs ≡ true
+all_right extent all before [] legal_all is legal after same = refl
+all_right extent all before (r ∷ rs) legal_all is legal after same =
+    ap (λ (b : Bool). b && are_approved_rightly extent (history_of all) (before ++ r ∷ []) rs) (one_right extent all before r rs legal_all is legal after same r.input refl)
+    ∙ all_right extent all (before ++ r ∷ []) rs legal_all (is ∙ sym (append_assoc before (r ∷ []) rs)) (legal_more before r legal after.0) (legal_rest before r rs after.1) (same ∙ same_rest before r rs)
+
+approved_so : (extent : Extent) (rs : List Record) → IsLegal rs → are_approved_rightly extent (history_of rs) [] (history_of rs).records ≡ true
+approved_so extent rs legal = ap (are_approved_rightly extent (history_of rs) []) (records_history rs) ∙ all_right extent rs [] rs legal refl tt legal refl
 
 pub law_approved : (rs : List Record) → IsLegal rs → approved_rightly (history_of rs) ≡ true
-law_approved rs legal =
-    ap (are_approved_rightly (history_of rs) []) (records_history rs) ∙ all_right rs [] rs legal refl tt legal refl
+law_approved rs legal = approved_so in_full rs legal
+
+pub law_partly_approved : (rs : List Record) (currency : Currency) (amount : ℕ) → IsLegal rs → partly_approved_rightly currency amount (history_of rs) ≡ true
+law_partly_approved rs currency amount legal = approved_so (in_part currency amount) rs legal

@@ -15,12 +15,13 @@ use Rattle.iss_model.specs.declared.entry.Entry.{Entry}
 use Rattle.iss_model.specs.declared.entry.Entry.TheVariants as entry
 use Rattle.iss_model.specs.declared.txn.Txn.{Txn}
 use Rattle.iss_model.specs.declared.input.Input.TheVariants as input
+use Rattle.iss_model.specs.rules.Asks.{rest_given_back}
 use Rattle.iss_model.specs.rules.Facts.{Facts}
 use Rattle.iss_model.specs.rules.Activity.{CallNow}
 use Rattle.iss_model.specs.declared.decision.Reason.{Reason}
 use Rattle.iss_model.specs.rules.Pieces.{abandoned_call_entries, abandoned_calls_entries, user_account}
 use Rattle.iss_acts.specs.Causes.{may_act, Cause, ComesOf, FallsDue, seeks_funding}
-use Rattle.iss_model.specs.rules.Acts.{Abandons, Act, Asks, Fails, Funds, News, Refuses, act_entries, captured, expired, news_method, refunded, reversed}
+use Rattle.iss_model.specs.rules.Acts.{Abandons, Act, Asks, Fails, Funds, FundsPart, News, Refuses, act_entries, captured, expired, news_method, refunded, reversed}
 use Rattle.iss_acts.specs.Items.{Closing, FromGateway, FromNetwork, FromProgramme, Item, Opening, Paying, Payment, Telling, ToGateway, ToNetwork, ToProgramme, Voiding, item_entry, may_close, has_item, may_open_call, may_pay, may_void, payer}
 use Rattle.iss_acts.proofs.Passing.{EachPasses, act_passes, hold_passes}
 use Rattle.iss_acts.proofs.Walk.{Holds, each_item}
@@ -49,6 +50,7 @@ none_void = record { voided = refl; told = refl }
 abbrev pub is_calm : Entry → Bool
 is_calm (entry.Opened o) = false
 is_calm (entry.Closed call how.Funded) = false
+is_calm (entry.Closed call (how.Partial amount)) = false
 is_calm (entry.Closed call how.Refused) = true
 is_calm (entry.Closed call (how.Failed why)) = false
 is_calm (entry.Closed call how.Abandoned) = false
@@ -66,6 +68,7 @@ calm_news expired = refl
 abbrev pub is_calm_act : Act → Bool
 is_calm_act (Asks f product ask) = false
 is_calm_act (Funds o t) = false
+is_calm_act (FundsPart o t amount) = false
 is_calm_act (Fails number o t why) = false
 is_calm_act (Abandons number t why calls parts) = false
 is_calm_act _ = true
@@ -85,6 +88,7 @@ calm_closing _ h call w may = cc
 
 calm_paying : (a : Act) → is_calm_act a ≡ true → (k : Payment) → may_pay a k ≡ true → (t : Txn) → not (is_gateway (payer k t)) ≡ true
 calm_paying (Funds o u) h FromGateway may t = cc
+calm_paying (FundsPart o u amount) h FromGateway may t = cc
 calm_paying _ h FromGateway may t = cc
 calm_paying _ h FromProgramme may t = refl
 calm_paying _ h FromNetwork may t = refl
@@ -122,6 +126,7 @@ names_none n (Some call) void h = cc
 calm_entry : (n : ℕ) (e : Entry) → is_calm e ≡ true → IsCalm n e
 calm_entry n (entry.Opened o) h = cc
 calm_entry n (entry.Closed call how.Funded) h = cc
+calm_entry n (entry.Closed call (how.Partial amount)) h = cc
 calm_entry n (entry.Closed call how.Refused) h = record { voids_none = refl; closes_none = no_void (nat_eq call.0 n); told = refl }
 calm_entry n (entry.Closed call (how.Failed why)) h = cc
 calm_entry n (entry.Closed call how.Abandoned) h = cc
@@ -157,6 +162,20 @@ funds_void {n} o t =
     posted true = none_void
     posted false = record { voided = refl; told = refl }
 
+part_void : {n : ℕ} (o : Opened) (t : Txn) (amount : ℕ) → Voids n (act_entries (FundsPart o t amount))
+part_void {n} o t amount =
+    both_void {xs = entry.Closed o.call (how.Partial amount) ∷ []} (record { voided = none (nat_eq o.call.0 n); told = refl })
+    (both_void (calm_voids (entry.Usage (rest_given_back o t amount) ∷ []) refl)
+    (both_void (both_void (posted (nat_eq amount 0)) (calm_voids _ (hold_passes {p = is_calm} t part.G amount refl).all)) (calm_voids (entry.Decided o.event (verdict.Partial t.currency amount) ∷ []) refl)))
+  where
+    none : (b : Bool) → 0 + 0 ≡ cond (b && false) 1 0 + 0
+    none true = refl
+    none false = refl
+
+    posted : (b : Bool) → Voids n (cond b [] (entry.Post (account.Gateway t.currency) (user_account t) amount (Some t.token) ∷ []))
+    posted true = none_void
+    posted false = record { voided = refl; told = refl }
+
 abandoned_void : {n : ℕ} (number : ℕ) (t : Txn) (why : Reason) (calls : List CallNow) → Voids n (abandoned_calls_entries number t why calls)
 abandoned_void number t why [] = none_void
 abandoned_void {n} number t why (c ∷ calls) = both_void one (abandoned_void (number + 1) t why calls)
@@ -171,6 +190,7 @@ abandoned_void {n} number t why (c ∷ calls) = both_void one (abandoned_void (n
 act_voids : {n : ℕ} (a : Act) → Voids n (act_entries a)
 act_voids (Asks f product ask) = record { voided = refl; told = refl }
 act_voids (Funds o t) = funds_void o t
+act_voids (FundsPart o t amount) = part_void o t amount
 act_voids {n} (Fails number o t why) = record { voided = voided (nat_eq o.call.0 n); told = refl }
   where
     voided : (b : Bool) → 0 + (cond (b && true) 1 0 + 0) ≡ cond (b && true) 1 0 + (0 + 0)
@@ -190,7 +210,7 @@ may_seek FallsDue = false
 may_seek (ComesOf i) = may_open i
 
 opens_as_it_seeks : (by : Cause) → seeks_funding by ≡ true → may_seek by ≡ true
-opens_as_it_seeks (ComesOf (input.Authorization token card currency amount mcc mid)) h = refl
+opens_as_it_seeks (ComesOf (input.Authorization token card currency amount mcc mid partial)) h = refl
 opens_as_it_seeks (ComesOf (input.Increment token txn currency amount)) h = refl
 opens_as_it_seeks _ h = cc
 

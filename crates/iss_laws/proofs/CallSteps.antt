@@ -113,7 +113,7 @@ module _ (f : Facts) (m : ℕ) where
             record {
               stand = entries_stand s es;
               payable = entries_payable s es (own_payable s i at form ready);
-              pairs = λ agrees before. own_pairs f m s i at (stand_then s.calls (fold after_entry s es).calls f.calls (entries_stand s es) agrees) before;
+              pairs = λ agrees before. own_pairs f m s i at form (stand_then s.calls (fold after_entry s es).calls f.calls (entries_stand s es) agrees) before;
             };
         stays = λ s thing ready. ready_settled s i thing at ready;
       }

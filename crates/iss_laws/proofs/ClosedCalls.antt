@@ -26,13 +26,13 @@ use Rattle.iss_model.specs.declared.entry.Row.{Row}
 use Rattle.iss_model.specs.declared.input.Record.{Record}
 use Rattle.iss_model.specs.declared.txn.Txn.{Txn}
 use Rattle.iss_model.specs.rules.Activity.{TxnNow, CallNow, txn_now, txn_began, call_now, call_opened}
-use Rattle.iss_model.specs.rules.Asks.{Ask, ask_given_back, call_ask}
+use Rattle.iss_model.specs.rules.Asks.{Ask, ask_given_back, call_ask, rest_given_back}
 use Rattle.iss_model.specs.rules.CardReasons.{is_account_funded}
 use Rattle.iss_model.specs.rules.Facts.{Facts, txn_in, call_in, asked_calls_of, next_notice}
 use Rattle.iss_model.specs.rules.Histories.{History, history_facts, numbered_rows}
-use Rattle.iss_model.specs.rules.Pieces.{Parts, abandoned_call_entries, abandoned_calls_entries, declined_ask_entries, failure_reason, funded_ask_entries, hold_entries, in_all, notice_entry, post_entries, taken_to_clear, user_account, void_entry, give_back_entries}
+use Rattle.iss_model.specs.rules.Pieces.{Parts, abandoned_call_entries, abandoned_calls_entries, declined_ask_entries, failure_reason, funded_ask_entries, hold_entries, in_all, notice_entry, part_funded_entries, post_entries, taken_to_clear, user_account, void_entry, give_back_entries}
 use Rattle.iss_model.specs.rules.StandIns.{Stand, allowed, over_limit, uncovered, stand}
-use Rattle.iss_model.specs.rules.Acts.{Abandons, Act, Asks, Clears, Declines, Does, Ends, Fails, Funds, GivesBack, HoldsOwn, LetsGo, Loads, Refuses, Sets, StandsIn, TurnsDown, act_entries, entries_of_acts}
+use Rattle.iss_model.specs.rules.Acts.{Abandons, Act, Asks, Clears, Declines, Does, Ends, Fails, Funds, FundsPart, GivesBack, HoldsOwn, LetsGo, Loads, Refuses, Sets, StandsIn, TurnsDown, act_entries, entries_of_acts}
 use Rattle.iss_model.specs.rules.CardActs.{acts_for_gateway, end_acts, failed_acts, stand_acts}
 use Rattle.iss_acts.proofs.Walk.{acts_append}
 use Rattle.iss_state.proofs.effects.Finds.{find-map}
@@ -154,6 +154,7 @@ abandoned_rules r h number t why (c ∷ cs) each =
 
 abbrev pub closes_call : Act → Bool
 closes_call (Funds o t) = true
+closes_call (FundsPart o t amount) = true
 closes_call (Refuses o t) = true
 closes_call (Fails number o t why) = true
 closes_call (Abandons number t why calls parts) = true
@@ -185,8 +186,14 @@ paid_silent t from p amount = both_silent (post_silent t from (user_account t) a
 pub funded_alone : (ask : Ask) (from : Account) → RulesAlone (funded_ask_entries ask from part.G) (decided_as ask.event verdict.Approved ∷ [])
 funded_alone ask from = both_alone {ys = entry.Decided ask.event verdict.Approved ∷ []} (silent_alone (paid_silent ask.txn from part.G ask.amount)) (rules_alone refl refl)
 
+pub part_alone : (o : Opened) (t : Txn) (amount : ℕ) → RulesAlone (part_funded_entries o t amount) (decided_as o.event (verdict.Partial t.currency amount) ∷ [])
+part_alone o t amount =
+    both_alone {xs = entry.Usage (rest_given_back o t amount) ∷ []} (rules_alone refl refl)
+    (both_alone {ys = entry.Decided o.event (verdict.Partial t.currency amount) ∷ []} (silent_alone (paid_silent t (account.Gateway t.currency) part.G amount)) (rules_alone refl refl))
+
 act_alone : (a : Act) → closes_call a ≡ false → RulesAlone (act_entries a) (act_rulings a)
 act_alone (Funds o t) none = cc
+act_alone (FundsPart o t amount) none = cc
 act_alone (Refuses o t) none = cc
 act_alone (Fails number o t why) none = cc
 act_alone (Abandons number t why calls parts) none = cc

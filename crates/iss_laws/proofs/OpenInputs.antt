@@ -1,8 +1,10 @@
 -- What is due and what each kind of input makes opens no more use than it counts.
 use Rattle.iss_model.specs.rules.Pieces.{call_for, Parts, abandoned_calls_entries, hold_entries, notice_entry, parts_held, post_entries, release_entries, taken_to_clear, user_account, void_entry}
-use Rattle.std.proofs.Common.{◌≡◌, ℕ, pos, neg_ℤ, ◌+ℤ◌, ◌-◌, ◌≤◌, Bool, true, cond, List, [], ◌∷◌, ◌++◌, fold, refl, sym, ap, subst, ◌∙◌, arith}
+use Rattle.std.proofs.Common.{◌≡◌, ℕ, pos, neg_ℤ, ◌+ℤ◌, ◌-◌, ◌≤◌, Bool, true, cond, ◌&&◌, List, [], ◌∷◌, ◌++◌, fold, refl, sym, ap, subst, ◌∙◌, arith}
+use Rattle.std.proofs.lemmas.Bool.{and_parts}
+use Rattle.std.proofs.lemmas.Bool.Decides.{nat_tests}
 use Rattle.std.proofs.lemmas.Int.{ints}
-use Rattle.std.specs.Prelude.{◌≤ℤ◌, Option, Some, None, is_some, option_map}
+use Rattle.std.specs.Prelude.{◌≤ℤ◌, nat_lt, Option, Some, None, is_some, option_map}
 use Rattle.std.specs.Option.{option_or}
 use Rattle.std.specs.Str.{bytes_eq}
 use Rattle.iss_model.specs.declared.account.Account.TheVariants as account
@@ -18,6 +20,7 @@ use Rattle.iss_model.specs.declared.entry.Entry.TheVariants as entry
 use Rattle.iss_model.specs.declared.input.Input.{Input}
 use Rattle.iss_model.specs.declared.txn.Txn.{Txn}
 use Rattle.iss_model.specs.rules.Activity.{TxnNow, CallNow, txn_named}
+use Rattle.iss_model.specs.Currencies.{same_currency}
 use Rattle.iss_model.specs.rules.Asks.{Ask, ask_usage, call_ask}
 use Rattle.iss_model.specs.rules.CardReasons.{first_ask, txn_asked}
 use Rattle.iss_model.specs.rules.Due.{DueThing, thing_entries}
@@ -37,16 +40,16 @@ use Rattle.iss_state.proofs.calls.Due.{its_token}
 use Rattle.iss_state.specs.Holdings.{BegunBy, IsHeldWell}
 use Rattle.iss_model.specs.declared.account.Account.TheVariants as account
 use Rattle.iss_model.specs.declared.account.Part.TheVariants as part
-use Rattle.iss_model.specs.rules.Acts.{Abandons, Act, Asks, Begins, Clears, Fails, Funds, GivesBack, HoldsOwn, LetsGo, Refuses, StandsIn, TurnsDown, Uses, act_entries}
+use Rattle.iss_model.specs.rules.Acts.{Abandons, Act, Asks, Begins, Clears, Fails, Funds, FundsPart, GivesBack, HoldsOwn, LetsGo, Refuses, StandsIn, TurnsDown, Uses, act_entries}
 use Rattle.iss_acts.specs.Causes.{Cause, ComesOf, FallsDue}
-use Rattle.iss_acts.specs.Sources.{IsAskedCall, IsFirstAsk, IsFurtherAsk, IsMade, IsStart, IsTxnOf}
+use Rattle.iss_acts.specs.Sources.{IsAskedCall, IsFirstAsk, IsFundedPart, IsFurtherAsk, IsMade, IsStart, IsTxnOf}
 use Rattle.iss_acts.specs.Stages.{Frees, Fresh, Keeps, Seeks, Stage, stage_after}
 use Rattle.iss_acts.proofs.Walk.{FromStart, Goes, due_goes, from_start, of_asked, own_goes, txn_of_ask, txn_of_call}
 use Rattle.iss_state.proofs.held.Acts.{IsReadyFor}
 use Rattle.iss_state.proofs.held.Begun.{authorization_stamp, begun_stands, first_unnamed, not_live}
 use Rattle.iss_state.proofs.held.Inputs.{due_ready, input_ready}
 use Rattle.iss_state.proofs.held.Pieces.{HoldsJust, abandoned_calm, calm_leaves, clearing_leaves, its_parts}
-use Rattle.iss_laws.proofs.OpenPieces.{abandoned_txns, abandonment_pays, ask_within, asked_again, clearing_pays, declined_within, free_first, free_last, funded_within, hold_for, knows_after, paid_within, post_free, release_pays, silent_calls, silent_txns}
+use Rattle.iss_laws.proofs.OpenPieces.{abandoned_txns, abandonment_pays, ask_within, asked_again, clearing_pays, declined_within, free_first, free_last, funded_within, hold_for, knows_after, paid_within, part_funded_within, post_free, release_pays, silent_calls, silent_txns}
 use Rattle.iss_laws.proofs.OpenUse.{Counting, IsCounting, IsOfThese, Knows, Pays, Within, begin_pays, both_within, close_within, free_pays, open_within, opens, weaker, head_none}
 
 -- a transaction of the facts is known
@@ -80,9 +83,16 @@ own_tokens_more (x ∷ xs) t h none =
       own_tokens_more xs t h.1 parts.1,
     )
 
-ask_stamp : (token : List ℕ) (amount at : ℕ) (o : Option Txn) (x : Ask) → option_map (first_ask token amount at) o ≡ Some x → x.at ≡ at
-ask_stamp token amount at None x e = cc
-ask_stamp token amount at (Some t) x e = ap (λ (x : Ask). x.at) (sym (inside e))
+-- a part that is funded is no more than its call's amount
+part_below : {by : Cause} (o : Opened) (amount : ℕ) → IsFundedPart by o amount → amount ≤ o.amount
+part_below o amount is = less amount o.amount (and_parts (o.partial && same_currency is.currency o.currency) (nat_lt amount o.amount) is.counts).1
+  where
+    less : (a b : ℕ) → nat_lt a b ≡ true → a ≤ b
+    less a b h = grind (arith, nat_tests)
+
+ask_stamp : (token : List ℕ) (amount : ℕ) (partial : Bool) (at : ℕ) (o : Option Txn) (x : Ask) → option_map (first_ask token amount partial at) o ≡ Some x → x.at ≡ at
+ask_stamp token amount partial at None x e = cc
+ask_stamp token amount partial at (Some t) x e = ap (λ (x : Ask). x.at) (sym (inside e))
 
 -- What is known at each stage: the transaction of an ask, and what a transaction holds with its calls as they were.
 abbrev IsKnown : CoreState → Stage → CoreState → Type 0
@@ -189,8 +199,8 @@ module _ (k : Counting) (counting : IsCounting k) (last : ℕ) (by : Cause) (at 
   first_counts : (ask : Ask) → IsFirstAsk (core_facts s) by at ask → k.counts_at ask.txn ask.txn.at ≡ true → k.counts_at ask.txn ask.at ≡ true
   first_counts ask first counts =
       let f : Facts = core_facts s in
-      let begun : ask.txn.at ≡ at = authorization_stamp f first.token first.card first.currency first.amount first.mcc first.mid at ask first.made in
-      let stamp : ask.at ≡ at = ask_stamp first.token first.amount at (txn_asked f first.token first.card first.currency first.mcc first.mid at) ask first.made in
+      let begun : ask.txn.at ≡ at = authorization_stamp f first.token first.card first.currency first.amount first.mcc first.mid first.partial at ask first.made in
+      let stamp : ask.at ≡ at = ask_stamp first.token first.amount first.partial at (txn_asked f first.token first.card first.currency first.mcc first.mid at) ask first.made in
       timely.on _ first.its_input ask.txn ask.txn.at ask.at counts (same ask.txn.at ask.at (begun ∙ sym stamp)) (subst (λ (n : ℕ). n ≤ last) (sym stamp) (timely.by_last _ first.its_input))
     where
       same : (a b : ℕ) → a ≡ b → a ≤ b
@@ -227,6 +237,9 @@ module _ (k : Counting) (counting : IsCounting k) (last : ℕ) (by : Cause) (at 
   act_within g q (Funds o t) made known =
       subst (λ (q : CoreState). Spends g q (Funds o t)) (sym (known_at q made.from.0 known))
       (paid g s (act_entries (Funds o t)) (answered o t how.Funded _ made.from.1 (funded_within k counting _ (call_ask o t) (account.Gateway t.currency) part.G (knows_of_facts s t own_tokens (txn_of_call made.from.1)))))
+  act_within g q (FundsPart o t amount) made known =
+      subst (λ (q : CoreState). Spends g q (FundsPart o t amount)) (sym (known_at q made.from.0 known))
+      (paid g s (act_entries (FundsPart o t amount)) (answered o t (how.Partial amount) _ made.from.1 (part_funded_within k counting _ o t amount (part_below o amount made.from.2) (knows_of_facts s t own_tokens (txn_of_call made.from.1)))))
   act_within g q (Refuses o t) made known =
       subst (λ (q : CoreState). Spends g q (Refuses o t)) (sym (known_at q made.from.0 known))
       (paid g s (act_entries (Refuses o t)) (answered o t how.Refused _ made.from.1 (declined_within k counting _ (call_ask o t) reason.GatewayDeclined)))

@@ -9,6 +9,7 @@ use Rattle.iss_model.specs.declared.account.Account.TheVariants as account
 use Rattle.iss_model.specs.declared.account.Part.{Part}
 use Rattle.iss_model.specs.declared.account.Part.TheVariants as part
 use Rattle.iss_model.specs.declared.call.How.{How}
+use Rattle.iss_model.specs.declared.call.Opened.{Opened}
 use Rattle.iss_model.specs.declared.call.How.TheVariants as how
 use Rattle.iss_model.specs.declared.call.Method.TheVariants as method
 use Rattle.iss_model.specs.declared.decision.Reason.{Reason}
@@ -18,8 +19,8 @@ use Rattle.iss_model.specs.declared.entry.Entry.TheVariants as entry
 use Rattle.iss_model.specs.declared.setting.Product.{Product}
 use Rattle.iss_model.specs.declared.txn.Txn.{Txn}
 use Rattle.iss_model.specs.rules.Activity.{TxnNow, CallNow, is_asked}
-use Rattle.iss_model.specs.rules.Asks.{Ask, ask_given_back, ask_usage, call_ask, is_authorization, usage_of}
-use Rattle.iss_model.specs.rules.Pieces.{call_for, clearing_money_entries, Parts, abandoned_call_entries, abandoned_calls_entries, declined_ask_entries, funded_ask_entries, hold_entries, in_all, only_gateway, only_where, post_entries, release_entries, taken_to_clear, taken_to_release, unhold_entries, use_return_entries, user_account, void_entry}
+use Rattle.iss_model.specs.rules.Asks.{Ask, ask_given_back, ask_usage, call_ask, is_authorization, rest_given_back, usage_of}
+use Rattle.iss_model.specs.rules.Pieces.{call_for, clearing_money_entries, Parts, abandoned_call_entries, abandoned_calls_entries, declined_ask_entries, funded_ask_entries, hold_entries, in_all, only_gateway, only_where, part_funded_entries, post_entries, release_entries, taken_to_clear, taken_to_release, unhold_entries, use_return_entries, user_account, void_entry}
 use Rattle.iss_model.specs.rules.Facts.{Facts, not_below}
 use Rattle.iss_model.specs.state.Cores.{CoreState, after_entry, call_after_close}
 use Rattle.iss_model.proofs.Names.{one_name}
@@ -329,6 +330,38 @@ funded_within k counting s ask from p knows =
     free_last k counting s (post_entries ask.txn from (user_account ask.txn) ask.amount ++ hold_entries ask.txn p ask.amount) (entry.Decided ask.event verdict.Approved ∷ []) (opens k ask)
     (paid_within k counting s ask from p knows) (one_passes refl)
 
+-- the use of the rest comes back, and the part is held: together no more than the call might open
+part_enough : (x y m f : Bool) (n funded : ℕ) → funded ≤ n
+    → (neg_ℤ (cond x (cond m (neg_ℤ (pos (n - funded))) (pos 0)) (pos 0)) +ℤ pos (cond (m && y) funded 0)) ≤ℤ pos (cond (x || y) (cond m n (cond f 1 0)) 0)
+part_enough true true true f n funded h = omega (arith, ints, h)
+part_enough true false true f n funded h = omega (arith, ints, h)
+part_enough false true true f n funded h = omega (arith, ints, h)
+part_enough false false true f n funded h = omega (arith, ints)
+part_enough true y false true n funded h = omega (arith, ints)
+part_enough true y false false n funded h = omega (arith, ints)
+part_enough false true false true n funded h = omega (arith, ints)
+part_enough false true false false n funded h = omega (arith, ints)
+part_enough false false false f n funded h = omega (arith, ints)
+
+pub part_funded_within : (k : Counting) → IsCounting k → (s : CoreState) (o : Opened) (t : Txn) (funded : ℕ) → funded ≤ o.amount → Knows s.holdings.txns t
+    → Within k s (part_funded_entries o t funded) (pos (opens k (call_ask o t)))
+part_funded_within k counting s o t funded le knows =
+    let back : List Entry = entry.Usage (rest_given_back o t funded) ∷ [] in
+    let post : List Entry = post_entries t (account.Gateway t.currency) (user_account t) funded in
+    let hold : List Entry = hold_entries t part.G funded in
+    let decided : List Entry = entry.Decided o.event (verdict.Partial t.currency funded) ∷ [] in
+    let later : CoreState = fold after_entry s back in
+    let returned : ℤ = neg_ℤ (cond (k.counts_at t o.at) (cond k.by_amount (neg_ℤ (pos (o.amount - funded))) (pos 0)) (pos 0)) in
+    let held : ℕ = cond (holds_there k t) funded 0 in
+    weaker k s (part_funded_entries o t funded) (returned +ℤ pos held) (pos (opens k (call_ask o t)))
+    (part_enough (k.counts_at t o.at) (k.counts_at t t.at) k.by_amount (is_authorization o.method) o.amount funded le)
+    (both_within k s back (post ++ hold ++ decided) returned (pos held)
+    (usage_within k counting s t (neg_ℤ (pos (o.amount - funded))) (pos 0) o.at)
+    (free_last k counting later (post ++ hold) decided held
+    (free_first k counting later post hold held (post_free t (account.Gateway t.currency) (user_account t) funded)
+    (hold_within k counting (fold after_entry later post) t part.G funded (knows_after later post t (silent_txns later post (post_silent t (account.Gateway t.currency) (user_account t) funded)) knows)))
+    (one_passes refl)))
+
 pub declined_within : (k : Counting) → IsCounting k → (s : CoreState) (ask : Ask) (why : Reason) → Within k s (declined_ask_entries ask why) (pos (opens k ask))
 declined_within k counting s ask why =
     free_last k counting s (entry.Usage (ask_given_back ask) ∷ []) (cond ask.is_first (entry.Ended ask.txn.token ∷ []) [] ++ entry.Decided ask.event (verdict.Declined why) ∷ []) (opens k ask)
@@ -337,7 +370,7 @@ declined_within k counting s ask why =
 -- funding is sought ----
 
 pub asked_again : (product : Product) (f : Facts) (ask : Ask) → call_ask (call_for f product ask) ask.txn ≡ ask
-asked_again product f ask = ap (λ (b : Bool). record { event = ask.event; txn = ask.txn; amount = ask.amount; is_first = b; at = ask.at }) (by ask.is_first)
+asked_again product f ask = ap (λ (b : Bool). record { event = ask.event; txn = ask.txn; amount = ask.amount; is_first = b; partial = ask.partial; at = ask.at }) (by ask.is_first)
   where
     by : (b : Bool) → is_authorization (cond b method.Authorization method.Incremental) ≡ b
     by true = refl

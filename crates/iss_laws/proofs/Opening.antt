@@ -42,9 +42,9 @@ record MayAsk (txns : List TxnNow) (ask : Ask) : Type 0 where
   asks : nat_eq ask.amount 0 ≡ false
 
 -- an ask is for the amount of its event
-amount_of_ask : (token : List ℕ) (amount at : ℕ) (o : Option Txn) (x : Ask) → option_map (first_ask token amount at) o ≡ Some x → x.amount ≡ amount
-amount_of_ask token amount at None x e = cc
-amount_of_ask token amount at (Some t) x e = ap (λ (x : Ask). x.amount) (sym (inside e))
+amount_of_ask : (token : List ℕ) (amount : ℕ) (partial : Bool) (at : ℕ) (o : Option Txn) (x : Ask) → option_map (first_ask token amount partial at) o ≡ Some x → x.amount ≡ amount
+amount_of_ask token amount partial at None x e = cc
+amount_of_ask token amount partial at (Some t) x e = ap (λ (x : Ask). x.amount) (sym (inside e))
 
 -- a cause that seeks funding fails no call
 seeks_or_fails : {P : Type 0} (by : Cause) (why : Failure) → fails_call by why ≡ true → seeks_funding by ≡ true → P
@@ -66,11 +66,11 @@ module _ (by : Cause) (at : ℕ) (s : CoreState) (ready : IsInForm by s) where
   begun_asks : (ask : Ask) → IsFirstAsk (core_facts s) by at ask → MayAsk (fold after_entry s (act_entries (Begins ask))).holdings.txns ask
   begun_asks ask first =
       let f : Facts = core_facts s in
-      let i : Input = input.Authorization first.token first.card first.currency first.amount first.mcc first.mid in
+      let i : Input = input.Authorization first.token first.card first.currency first.amount first.mcc first.mid first.partial in
       record {
         live = is_live s.holdings.txns ask.txn.token;
         stands = begun_stands s.holdings.txns ask.txn (first_unnamed s ask ready.taken first);
-        asks = ap (λ (n : ℕ). nat_eq n 0) (amount_of_ask first.token first.amount at (txn_asked f first.token first.card first.currency first.mcc first.mid at) ask first.made)
+        asks = ap (λ (n : ℕ). nat_eq n 0) (amount_of_ask first.token first.amount first.partial at (txn_asked f first.token first.card first.currency first.mcc first.mid at) ask first.made)
             ∙ amount_there first.amount (and_parts (is_amount first.amount) (is_mcc first.mcc) (ready.form i first.its_input)).0;
       }
 

@@ -23,7 +23,7 @@ use Rattle.iss_model.specs.declared.setting.Moved.TheVariants as moved
 use Rattle.iss_model.specs.declared.txn.Txn.{Txn}
 use Rattle.iss_model.specs.Sums.{user_key}
 use Rattle.iss_model.specs.rules.Activity.{TxnNow, CallNow, txn_named}
-use Rattle.iss_model.specs.rules.Asks.{Ask, ask_given_back, call_ask}
+use Rattle.iss_model.specs.rules.Asks.{Ask, ask_given_back, call_ask, rest_given_back}
 use Rattle.iss_model.specs.rules.Pieces.{owed_to_programme, abandoned_calls_entries, declined_ask_entries, hold_entries, notice_entry, parts_held, post_entries, user_account, load_entries}
 use Rattle.iss_model.specs.rules.CardReasons.{is_account_funded}
 use Rattle.iss_model.specs.rules.Due.{DueThing, thing_entries}
@@ -37,7 +37,7 @@ use Rattle.iss_state.proofs.calls.Due.{its_token}
 use Rattle.iss_state.specs.Holdings.{IsHeldWell, is_part_of, part_sum}
 use Rattle.std.proofs.lemmas.List.Sums.{fold-append}
 use Rattle.iss_model.specs.declared.account.Account.{Account}
-use Rattle.iss_model.specs.rules.Acts.{Abandons, Act, Begins, Clears, Fails, Funds, GivesBack, HoldsOwn, LetsGo, Loads, Refuses, StandsIn, TurnsDown, Uses, act_entries}
+use Rattle.iss_model.specs.rules.Acts.{Abandons, Act, Begins, Clears, Fails, Funds, FundsPart, GivesBack, HoldsOwn, LetsGo, Loads, Refuses, StandsIn, TurnsDown, Uses, act_entries}
 use Rattle.iss_acts.specs.Causes.{Cause, ComesOf, FallsDue}
 use Rattle.iss_acts.specs.Sources.{IsMade, IsStart, IsTxnOf}
 use Rattle.iss_acts.specs.Stages.{Fresh, Seeks, Stage, stage_after}
@@ -222,6 +222,11 @@ module _ (own : List ℕ → Bool) (key : List ℕ) (by : Cause) (at : ℕ) (s :
       both_same {xs = entry.Closed o.call how.Funded ∷ []} (calm_same refl)
       (both_same (paid_same own key t (account.Gateway t.currency) part.G o.amount (from_gateway own key t o.amount) (its_own t (k.back agrees) (txn_of_call made.from.1) ∙ call_of_gateway s ready.held made.from.1))
       (calm_same {es = entry.Decided o.event verdict.Approved ∷ []} refl))
+  act_same g q (FundsPart o t amount) made k agrees =
+      both_same {xs = entry.Closed o.call (how.Partial amount) ∷ []} (calm_same refl)
+      (both_same {xs = entry.Usage (rest_given_back o t amount) ∷ []} (calm_same refl)
+      (both_same (paid_same own key t (account.Gateway t.currency) part.G amount (from_gateway own key t amount) (its_own t (k.back agrees) (txn_of_call made.from.1) ∙ call_of_gateway s ready.held made.from.1))
+      (calm_same {es = entry.Decided o.event (verdict.Partial t.currency amount) ∷ []} refl)))
   act_same g q (Refuses o t) made k agrees = both_same {xs = entry.Closed o.call how.Refused ∷ []} (calm_same refl) (declined_same own key (call_ask o t) reason.GatewayDeclined)
   act_same g q (StandsIn number ask when set) made k agrees =
       let t : Txn = ask.txn in

@@ -1,5 +1,5 @@
 -- A record's own acts rule what goes with the calls that they close, and then of its own event as the rules of its kind have it.
-use Rattle.std.proofs.Common.{subst, ◌≡◌, ℕ, min, Bool, true, false, cond, ◌&&◌, ◌||◌, nat_eq, nat_le, List, [], ◌∷◌, refl, sym, ap, ◌∙◌}
+use Rattle.std.proofs.Common.{subst, ◌≡◌, ℕ, min, Bool, true, false, not, cond, ◌&&◌, ◌||◌, nat_eq, nat_le, List, [], ◌∷◌, refl, sym, ap, ◌∙◌}
 use Rattle.std.specs.Prelude.{Option, Some, None, is_some, option_map, option_and_then}
 use Rattle.std.specs.Str.{bytes_eq}
 use Rattle.iss_model.specs.declared.account.Account.TheVariants as account
@@ -32,16 +32,16 @@ use Rattle.iss_model.specs.rules.Settings.{card_named, product_named, is_named_i
 use Rattle.iss_model.specs.rules.StandIns.{stand}
 use Rattle.iss_model.specs.rules.Stepping.{authorization_ask, increment_ask, entries_of, acts_of, acts_unless}
 use Rattle.iss_model.proofs.Names.{one_name, same_name}
-use Rattle.iss_model.specs.rules.Acts.{Act, Acknowledges, Asks, Begins, Clears, Declines, Does, Ends, Funds, GivesBack, HoldsOwn, LetsGo, Loads, Refuses, Sets, Uses}
-use Rattle.iss_model.specs.rules.CardActs.{authorization_acts, clearing_acts, funding_acts, gateway_acts, increment_acts, outcome_acts, refund_acts, reversal_acts, stand_acts}
+use Rattle.iss_model.specs.rules.Acts.{Act, Acknowledges, Asks, Begins, Clears, Declines, Does, Ends, Funds, FundsPart, GivesBack, HoldsOwn, LetsGo, Loads, Refuses, Sets, Uses}
+use Rattle.iss_model.specs.rules.CardActs.{authorization_acts, clearing_acts, counts_as_part, failed_acts, funding_acts, gateway_acts, increment_acts, outcome_acts, refund_acts, reversal_acts, stand_acts}
 use Rattle.iss_agreement.proofs.CoreOfBook.{core_shows}
 use Rattle.iss_state.proofs.effects.Finds.{found_passes, same_number}
 use Rattle.iss_state.proofs.docket.Closing.{StandsItself, its_number}
-use Rattle.iss_state.proofs.docket.Lists.{Each, both_so}
+use Rattle.iss_state.proofs.docket.Lists.{Each, both_so, or_true}
 use Rattle.iss_state.proofs.calls.Due.{its_token}
-use Rattle.iss_laws.specs.Rulings.{Ruling, decided_as, asked_about, abandoned_by, abandonment_reason, ask_rulings, done_unless, funding_ruling, is_answer, only_if, own_rulings, verdict_of_sets}
+use Rattle.iss_laws.specs.Rulings.{Ruling, decided_as, asked_about, abandoned_by, abandonment_reason, ask_rulings, done_unless, funding_ruling, is_answer, is_part_answer, is_uncounted_part, only_if, own_rulings, verdict_of_sets}
 use Rattle.iss_laws.proofs.Ruled.{Rules, alone_rules}
-use Rattle.iss_laws.proofs.ClosedCalls.{IsAbandoned, RulesRow, abandons_first, asked_closed, both_acts, declined_alone, either_acts, ends_acts, failed_rules, first_act, for_gateway, funded_alone, last_act, no_act, only_act, stand_alone, still_abandoned}
+use Rattle.iss_laws.proofs.ClosedCalls.{IsAbandoned, RulesRow, abandons_first, asked_closed, both_acts, declined_alone, either_acts, ends_acts, failed_rules, first_act, for_gateway, funded_alone, last_act, no_act, only_act, part_alone, stand_alone, still_abandoned}
 use Rattle.iss_laws.proofs.DueRulings.{IsReady, asked_abandoned, asked_rules}
 
 -- What was due is settled: the transaction of an asked call hasn't expired.
@@ -99,17 +99,17 @@ increment_rules r h token (Some why) ask stands = last_act (Declines token why) 
 increment_rules r h token None None stands = no_act
 increment_rules r h token None (Some x) stands = first_act (Uses x) refl refl (λ es. funding_rules (history_facts h) x stands)
 
-authorization_product : (f : Facts) (token card : List ℕ) (currency : Currency) (amount mcc : ℕ) (mid : List ℕ) (at : ℕ)
-    → has_product f (authorization_ask f token card currency amount mcc mid at) ≡ true
-authorization_product f token card currency amount mcc mid at = by_card (card_named card f.cards)
+authorization_product : (f : Facts) (token card : List ℕ) (currency : Currency) (amount mcc : ℕ) (mid : List ℕ) (partial : Bool) (at : ℕ)
+    → has_product f (authorization_ask f token card currency amount mcc mid partial at) ≡ true
+authorization_product f token card currency amount mcc mid partial at = by_card (card_named card f.cards)
   where
     by_product : (c : Card) (product : Option Product) → product_named c.product f.products ≡ product
-        → has_product f (option_map (first_ask token amount at) (option_map (λ product. txn_begun f c product token currency mcc mid at) product)) ≡ true
+        → has_product f (option_map (first_ask token amount partial at) (option_map (λ product. txn_begun f c product token currency mcc mid at) product)) ≡ true
     by_product c None e = refl
     by_product c (Some product) e = ap (λ (o : Option Product). is_some o) e
 
     by_card : (c : Option Card)
-        → has_product f (option_map (first_ask token amount at) (option_and_then (λ c. option_map (λ product. txn_begun f c product token currency mcc mid at) (product_named c.product f.products)) c)) ≡ true
+        → has_product f (option_map (first_ask token amount partial at) (option_and_then (λ c. option_map (λ product. txn_begun f c product token currency mcc mid at) (product_named c.product f.products)) c)) ≡ true
     by_card None = refl
     by_card (Some c) = by_product c (product_named c.product f.products) refl
 
@@ -182,17 +182,53 @@ refund_rules f token currency amount (Some now) =
 its_answer : (call : CallId) (n : ℕ) (what : Outcome) → n ≡ call.0 → is_answer n what (input.Answer call what) ≡ true
 its_answer call n what same = both_so (nat_eq call.0 n) (nat_eq (outcome_number what) (outcome_number what)) (ap (nat_eq call.0) same ∙ same_number call.0) (same_number (outcome_number what))
 
-outcome_rules : (r : Record) (h : History) (what : Outcome) (n : ℕ) (c : CallNow) (now : TxnNow) → is_answer c.opened.call.0 what r.input ≡ true → call_in (history_facts h) n ≡ Some c
-    → txn_in (history_facts h) c.opened.txn ≡ Some now → RulesRow r h (outcome_acts what (history_facts h) c.opened now.txn r.at) []
-outcome_rules r h outcome.Funded n c now answers stands its =
+-- so it is in a record whose input it is
+input_answer : (r : Record) (call : CallId) (n : ℕ) (what : Outcome) → r.input ≡ input.Answer call what → n ≡ call.0 → is_answer n what r.input ≡ true
+input_answer r call n what is same = ap (is_answer n what) is ∙ its_answer call n what same
+
+-- an answer with a part is one of that part if it counts, and else none
+part_answer : (r : Record) (call : CallId) (o : Opened) (currency : Currency) (amount : ℕ) → r.input ≡ input.Answer call (outcome.Partial currency amount) → o.call.0 ≡ call.0
+    → counts_as_part o currency amount ≡ true → is_part_answer o amount r.input ≡ true
+part_answer r call o currency amount is same counts =
+    ap (is_part_answer o amount) is
+    ∙ both_so _ _ (both_so (nat_eq call.0 o.call.0) (nat_eq amount amount) (ap (nat_eq call.0) same ∙ same_number call.0) (same_number amount)) counts
+
+no_part_answer : (r : Record) (call : CallId) (o : Opened) (currency : Currency) (amount : ℕ) → r.input ≡ input.Answer call (outcome.Partial currency amount) → o.call.0 ≡ call.0
+    → counts_as_part o currency amount ≡ false → is_uncounted_part o r.input ≡ true
+no_part_answer r call o currency amount is same none =
+    ap (is_uncounted_part o) is
+    ∙ both_so (nat_eq call.0 o.call.0) (not (counts_as_part o currency amount)) (ap (nat_eq call.0) same ∙ same_number call.0) (ap not none)
+
+outcome_rules : (r : Record) (h : History) (call : CallId) (what : Outcome) (n : ℕ) (c : CallNow) (now : TxnNow) → r.input ≡ input.Answer call what → c.opened.call.0 ≡ call.0
+    → call_in (history_facts h) n ≡ Some c → txn_in (history_facts h) c.opened.txn ≡ Some now → RulesRow r h (outcome_acts what (history_facts h) c.opened now.txn r.at) []
+outcome_rules r h call outcome.Funded n c now is same stands its =
+    let answers = input_answer r call c.opened.call.0 outcome.Funded is same in
     only_act (Funds c.opened now.txn)
     (asked_closed r h n c now how.Funded verdict.Approved stands its (ap (λ (b : Bool). only_if b verdict.Approved) answers) (funded_alone (call_ask c.opened now.txn) (account.Gateway now.txn.currency)))
-outcome_rules r h outcome.Refused n c now answers stands its =
+outcome_rules r h call outcome.Refused n c now is same stands its =
+    let answers = input_answer r call c.opened.call.0 outcome.Refused is same in
     only_act (Refuses c.opened now.txn)
     (asked_closed r h n c now how.Refused (verdict.Declined reason.GatewayDeclined) stands its (ap (λ (b : Bool). only_if b (verdict.Declined reason.GatewayDeclined)) answers)
     (declined_alone (call_ask c.opened now.txn) reason.GatewayDeclined))
-outcome_rules r h outcome.Connection n c now answers stands its = failed_rules r h n c now failure.Connection stands its answers
-outcome_rules r h outcome.Application n c now answers stands its = failed_rules r h n c now failure.Application stands its answers
+outcome_rules r h call outcome.Connection n c now is same stands its =
+    failed_rules r h n c now failure.Connection stands its (input_answer r call c.opened.call.0 outcome.Connection is same)
+outcome_rules r h call outcome.Application n c now is same stands its =
+    failed_rules r h n c now failure.Application stands its
+    (ap (λ (b : Bool). b || is_uncounted_part c.opened r.input) (input_answer r call c.opened.call.0 outcome.Application is same))
+outcome_rules r h call (outcome.Partial currency amount) n c now is same stands its = by (counts_as_part c.opened currency amount) refl
+  where
+    o : Opened
+    o = c.opened
+
+    by : (b : Bool) → counts_as_part o currency amount ≡ b
+        → RulesRow r h (cond b (FundsPart o now.txn amount ∷ []) (failed_acts (history_facts h) o now.txn failure.Application r.at)) []
+    by true counts =
+        only_act (FundsPart o now.txn amount)
+        (asked_closed r h n c now (how.Partial amount) (verdict.Partial now.txn.currency amount) stands its
+        (ap (λ (b : Bool). only_if b (verdict.Partial now.txn.currency amount)) (part_answer r call o currency amount is same counts)) (part_alone o now.txn amount))
+    by false none =
+        failed_rules r h n c now failure.Application stands its
+        (or_true (is_answer o.call.0 outcome.Application r.input) (is_uncounted_part o r.input) (no_part_answer r call o currency amount is same none))
 
 -- all kinds ----
 
@@ -208,10 +244,10 @@ acts_rule r h ready settled (input.Set token set product currency connection tim
     set_rules _ (set_reason (history_facts h) set product currency) token
 acts_rule r h ready settled (input.Switch token product on) is = set_rules _ (switch_reason (history_facts h) product) token
 acts_rule r h ready settled (input.Load token user currency amount) is = unless_rules (load_reason (history_facts h) user) token (last_act (Loads token user currency amount) refl)
-acts_rule r h ready settled (input.Authorization token card currency amount mcc mid) is =
+acts_rule r h ready settled (input.Authorization token card currency amount mcc mid partial) is =
     let f : Facts = history_facts h in
-    let ask : Option Ask = authorization_ask f token card currency amount mcc mid r.at in
-    authorization_rules r h token (authorization_reason f card currency ask) ask (authorization_product f token card currency amount mcc mid r.at)
+    let ask : Option Ask = authorization_ask f token card currency amount mcc mid partial r.at in
+    authorization_rules r h token (authorization_reason f card currency ask) ask (authorization_product f token card currency amount mcc mid partial r.at)
 acts_rule r h ready settled (input.Increment token txn currency amount) is =
     let f : Facts = history_facts h in
     let ask : Option Ask = increment_ask f token txn amount r.at in
@@ -221,7 +257,7 @@ acts_rule r h ready settled (input.Clearing token txn currency amount last) is =
 acts_rule r h ready settled (input.Refund token txn currency amount) is = refund_rules (history_facts h) token currency amount (txn_in (history_facts h) txn)
 acts_rule r h ready settled (input.Answer call what) is =
     asked_rules (λ (o : Opened) (t : Txn). outcome_acts what (history_facts h) o t r.at) call.0
-    (λ c now e its. outcome_rules r h what call.0 c now (ap (is_answer c.opened.call.0 what) is ∙ its_answer call c.opened.call.0 what (its_number (history_facts h).calls call.0 c e)) e its)
+    (λ c now e its. outcome_rules r h call what call.0 c now is (its_number (history_facts h).calls call.0 c e) e its)
 acts_rule r h ready settled (input.Ack notice) is = either_acts (is_notice (history_facts h) notice) (last_act (Acknowledges notice) refl) no_act
 acts_rule r h ready settled input.Time is = no_act
 

@@ -19,6 +19,7 @@ times_among test (e ∷ es) = (if test e then 1 else 0) + times_among test es
 abbrev pub is_void : Option How → Bool
 is_void None = false
 is_void (Some how.Funded) = false
+is_void (Some (how.Partial amount)) = false
 is_void (Some how.Refused) = false
 is_void (Some (how.Failed why)) = true
 is_void (Some how.Abandoned) = true
@@ -35,7 +36,7 @@ opens_none _ = true
 
 -- an event that may open a call
 abbrev pub may_open : Input → Bool
-may_open (input.Authorization token card currency amount mcc mid) = true
+may_open (input.Authorization token card currency amount mcc mid partial) = true
 may_open (input.Increment token txn currency amount) = true
 may_open _ = false
 

@@ -1,12 +1,10 @@
 -- Each call to the gateway is opened once and closed at most once. It has one notice of the method void exactly if it failed or was
--- abandoned, and no other notice names it; nothing closes or names a call that wasn't opened, and a void notice names one. Each funded
--- closing has a post of its own, the first after it and in its record, of the call's amount from the gateway to its user; and no other post
--- comes from the gateway.
+-- abandoned, and no other notice names it; nothing closes or names a call that wasn't opened, and a void notice names one. Each closing as
+-- funded or partly funded has a post of its own, the first after it and in its record, of the call's amount or of the part from the gateway
+-- to its user; and no other post comes from the gateway. A part is less than its call's amount, and its call permits one.
 use Rattle.std.specs.Prelude.{ℕ, Bool, true, false, ◌&&◌, ◌==◌, nat_le, List, fold, Option, Some, None, is_none, is_some, if◌then◌else◌}
 use Rattle.std.specs.List.{list_all}
 use Rattle.iss_model.specs.declared.call.CallId.{CallId}
-use Rattle.iss_model.specs.declared.call.How.{How}
-use Rattle.iss_model.specs.declared.call.How.TheVariants as how
 use Rattle.iss_model.specs.declared.entry.Row.{Row}
 use Rattle.iss_model.specs.declared.entry.Entry.{Entry}
 use Rattle.iss_model.specs.declared.entry.Entry.TheVariants as entry
@@ -16,13 +14,6 @@ use Rattle.iss_model.specs.rules.Histories.{History, history_facts}
 use Rattle.iss_laws.specs.CallEntries.{closes, is_void, is_void_method, names_call, opens, voids}
 use Rattle.iss_laws.specs.Pairs.{Pairing, is_paired, paired, pairing_after}
 use Rattle.iss_laws.specs.Tests.{times}
-
--- a call was funded
-abbrev pub is_funded : How → Bool
-is_funded how.Funded = true
-is_funded how.Refused = false
-is_funded (how.Failed why) = false
-is_funded how.Abandoned = false
 
 -- 1 if a test holds, and else 0
 abbrev pub one_where : Bool → ℕ
@@ -53,11 +44,11 @@ abbrev pub each_stands_once : History → Bool
 each_stands_once h =
     let f = history_facts h in list_all (stands_once h.rows) f.calls && list_all (λ row. is_of_calls f row.entry) h.rows
 
--- how funded closings and posts come in pairs in rows
+-- how closings that fund and posts come in pairs in rows
 abbrev pub pairing_of : Facts → List Row → Pairing
 pairing_of f rows = fold (λ so_far row. pairing_after f row.number so_far row.entry) paired rows
 
--- each funded closing has its post, and no other post comes from the gateway
+-- each closing that funds has its post, and no other post comes from the gateway
 abbrev pub are_paired : Facts → List Row → Bool
 are_paired f rows = is_paired (pairing_of f rows)
 

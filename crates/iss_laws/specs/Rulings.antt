@@ -1,6 +1,6 @@
 -- What a record rules: it decides events, or asks the gateway about one. What the rules have it rule: of each event whose call it closes,
 -- and then of its own.
-use Rattle.std.specs.Prelude.{◌≡◌, ℕ, Bool, false, ◌&&◌, ◌==◌, nat_le, List, [], ◌∷◌, ◌++◌, Option, Some, None, option_map, option_and_then, if◌then◌else◌}
+use Rattle.std.specs.Prelude.{◌≡◌, ℕ, Bool, false, not, ◌&&◌, ◌||◌, ◌==◌, nat_le, List, [], ◌∷◌, ◌++◌, Option, Some, None, option_map, option_and_then, if◌then◌else◌}
 use Rattle.std.specs.List.{filter_map, cons_option}
 use Rattle.std.specs.Str.{bytes_eq}
 use Rattle.iss_model.specs.declared.call.Failure.{Failure}
@@ -22,6 +22,7 @@ use Rattle.iss_model.specs.declared.input.Record.{Record}
 use Rattle.iss_model.specs.declared.txn.Txn.{Txn}
 use Rattle.iss_model.specs.Inputs.{event_token, outcome_number}
 use Rattle.iss_model.specs.rules.Asks.{Ask, call_ask}
+use Rattle.iss_model.specs.rules.CardActs.{counts_as_part}
 use Rattle.iss_model.specs.rules.CardReasons.{is_account_funded, authorization_reason, increment_reason, reversal_reason, clearing_reason, refund_reason}
 use Rattle.iss_model.specs.rules.Facts.{Facts, txn_in, call_in}
 use Rattle.iss_model.specs.rules.Histories.{History, history_facts, history_keeper, history_of}
@@ -87,8 +88,8 @@ event_reason (input.Set token set product currency connection timeout applicatio
     set_reason f set product currency
 event_reason (input.Switch token product on) at f = switch_reason f product
 event_reason (input.Load token user currency amount) at f = load_reason f user
-event_reason (input.Authorization token card currency amount mcc mid) at f =
-    authorization_reason f card currency (authorization_ask f token card currency amount mcc mid at)
+event_reason (input.Authorization token card currency amount mcc mid partial) at f =
+    authorization_reason f card currency (authorization_ask f token card currency amount mcc mid partial at)
 event_reason (input.Increment token txn currency amount) at f =
     increment_reason f (txn_in f txn) currency (increment_ask f token txn amount at)
 event_reason (input.Reversal token txn currency amount) at f = reversal_reason (txn_in f txn) currency
@@ -105,9 +106,9 @@ event_rulings None why = []
 
 -- what a record with this input rules of its own event, at its stamp and on the facts of its turn
 abbrev pub own_rulings : Input → ℕ → Facts → List Ruling
-own_rulings (input.Authorization token card currency amount mcc mid) at f =
-    ask_rulings f token (event_reason (input.Authorization token card currency amount mcc mid) at f)
-    (authorization_ask f token card currency amount mcc mid at)
+own_rulings (input.Authorization token card currency amount mcc mid partial) at f =
+    ask_rulings f token (event_reason (input.Authorization token card currency amount mcc mid partial) at f)
+    (authorization_ask f token card currency amount mcc mid partial at)
 own_rulings (input.Increment token txn currency amount) at f =
     ask_rulings f token (event_reason (input.Increment token txn currency amount) at f) (increment_ask f token txn amount at)
 own_rulings i at f = event_rulings (event_token i) (event_reason i at f)
@@ -127,11 +128,23 @@ abbrev pub is_answer : ℕ → Outcome → Input → Bool
 is_answer number outcome (input.Answer call other) = call.0 == number && outcome_number other == outcome_number outcome
 is_answer number outcome _ = false
 
--- how a record lets a call fail: by its deadline, which has come, or by the answer that the record is; a switch that is on closes no call
+-- an input answers this call with a part of this amount, which counts
+abbrev pub is_part_answer : Opened → ℕ → Input → Bool
+is_part_answer o amount (input.Answer call (outcome.Partial currency part)) =
+    call.0 == o.call.0 && part == amount && counts_as_part o currency part
+is_part_answer o amount _ = false
+
+-- an input answers this call with a part that doesn't count
+abbrev pub is_uncounted_part : Opened → Input → Bool
+is_uncounted_part o (input.Answer call (outcome.Partial currency part)) = call.0 == o.call.0 && not (counts_as_part o currency part)
+is_uncounted_part o _ = false
+
+-- How a record lets a call fail: by its deadline, which has come, or by the answer that the record is. A part that doesn't count is no
+-- answer. A switch that is on closes no call.
 abbrev pub may_fail : Record → Opened → Failure → Bool
 may_fail r o failure.Timeout = nat_le o.deadline r.at
 may_fail r o failure.Connection = is_answer o.call.0 outcome.Connection r.input
-may_fail r o failure.Application = is_answer o.call.0 outcome.Application r.input
+may_fail r o failure.Application = is_answer o.call.0 outcome.Application r.input || is_uncounted_part o r.input
 may_fail r o failure.Switch = false
 
 -- an input that abandons what is asked of a transaction: its reversal, or its clearing
@@ -151,6 +164,7 @@ only_if b v = if b then Some v else None
 -- The verdict on the event of a call that a record closes, on the facts of that moment; none if the record has no cause for it.
 abbrev pub closing_verdict : Record → Facts → Opened → Txn → How → Option Verdict
 closing_verdict r f o t how.Funded = only_if (is_answer o.call.0 outcome.Funded r.input) verdict.Approved
+closing_verdict r f o t (how.Partial amount) = only_if (is_part_answer o amount r.input) (verdict.Partial t.currency amount)
 closing_verdict r f o t how.Refused = only_if (is_answer o.call.0 outcome.Refused r.input) (verdict.Declined reason.GatewayDeclined)
 closing_verdict r f o t (how.Failed why) = only_if (may_fail r o why) (verdict_of_sets (stand f (call_ask o t) why r.at) why)
 closing_verdict r f o t how.Abandoned = option_map (λ why. verdict.Declined why) (abandonment_reason r t)

@@ -32,7 +32,8 @@ pub fn calls_stay_payable()
     ensures lasting { (s : CoreState) (r : Record) → IfNewInForm s r (IsWell s → CallsStand s.calls (core_after s r).calls) }
 {}
 
-/// In the entries of a step each funded closing has its post, by the facts of any later time, and no other post comes from the gateway.
+/// In the entries of a step each closing that funds a call or a part of it has its post, by the facts of any later time, and no other post
+/// comes from the gateway.
 pub fn funded_calls_are_paid()
     ensures { (f : Facts) (number : ℕ) (s : CoreState) (r : Record)
         → IfNewInForm s r (IsWell s → ArePaid f number s r) }
