@@ -12,6 +12,7 @@ use Rattle.iss_model.specs.declared.input.Outcome.TheVariants.{Funded, Refused, 
 use Rattle.iss_model.specs.Amounts.{amount_read, whole_amount_read}
 use Rattle.iss_model.specs.rules.Reasons.{is_some_with}
 use Rattle.iss_model.specs.texts.CallTokens.{call_uuid}
+use Rattle.iss_jit.specs.declared.answers.TheConstants.{FUNDED, REFUSED}
 
 -- the JSON value that a body is: text in UTF-8, the whole of which is one value, as `serde_json` reads it
 unfoldable pub json_of : List ℕ → Option Data
@@ -46,9 +47,9 @@ has_amount o d = is_some_with (λ amount. amount == o.amount) (option_and_then (
 unfoldable pub is_funding : ℕ → Opened → Data → Bool
 is_funding instance o d = has_token instance o d && has_amount o d
 
--- Funded if the status is 200 and the body funds the call, Refused if the status is 402, and else no answer that decides
+-- `Funded` if the status is `FUNDED` and the body funds the call, `Refused` if the status is `REFUSED`, and else no answer that decides
 unfoldable pub outcome_of : ℕ → Opened → ℕ → List ℕ → Outcome
 outcome_of instance o status body =
-    if status == 402 then Refused
-    else if status == 200 && is_some_with (is_funding instance o) (json_of body) then Funded
+    if status == REFUSED then Refused
+    else if status == FUNDED && is_some_with (is_funding instance o) (json_of body) then Funded
     else Application

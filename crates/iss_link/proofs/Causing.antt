@@ -7,8 +7,10 @@ use Rattle.iss_model.specs.declared.call.CallId.{CallId}
 use Rattle.iss_model.specs.declared.input.Outcome.{Outcome}
 use Rattle.iss_model.specs.declared.input.Outcome.TheVariants.{Funded, Refused, Application, Connection}
 use Rattle.iss_model.specs.rules.Reasons.{is_some_with}
+use Rattle.iss_http.specs.declared.statuses.TheConstants.{OK}
 use Rattle.iss_http.specs.Answers.{Reading, more, ended, garbled, whole, answer_read}
 use Rattle.iss_http.proofs.Endings.{is_more, is_ended, no_more_once_over, no_end_before}
+use Rattle.iss_jit.specs.declared.answers.TheConstants.{REFUSED}
 use Rattle.iss_jit.specs.Outcomes.{outcome_of, is_funding, json_of}
 use Rattle.iss_session.specs.Desks.{Subject, of_call, of_notice}
 use Rattle.iss_session.specs.Links.{Heard, unfinished, outcome, acknowledged, dropped, reading_early, heard_as}
@@ -61,14 +63,14 @@ more_only instance (of_call o) (whole status body) e = absurd (true≢false (sym
 more_only instance (of_notice n) ended e = absurd (true≢false (sym (ap is_unfinished e)))
 more_only instance (of_notice n) garbled e = absurd (true≢false (sym (ap is_unfinished e)))
 more_only instance (of_notice n) (whole status body) e =
-    absurd (true≢false (sym (ap is_unfinished e) ∙ either_told is_unfinished (status == 200) n refl refl))
+    absurd (true≢false (sym (ap is_unfinished e) ∙ either_told is_unfinished (status == OK) n refl refl))
 
 -- an outcome of a whole answer
 outcome_by : (test : Outcome → Bool) (instance : ℕ) (o : Opened) (status : ℕ) (body : List ℕ) → test Refused ≡ false → test Funded ≡ false → test Application ≡ false → test (outcome_of instance o status body) ≡ false
 unfolding outcome_of
 outcome_by test instance o status body r f a =
-    pick (status == 402) Refused (cond (status == 200 && is_some_with (is_funding instance o) (json_of body)) Funded Application) r
-    (pick (status == 200 && is_some_with (is_funding instance o) (json_of body)) Funded Application f a)
+    pick (status == REFUSED) Refused (cond (status == OK && is_some_with (is_funding instance o) (json_of body)) Funded Application) r
+    (pick (status == OK && is_some_with (is_funding instance o) (json_of body)) Funded Application f a)
   where
     pick : (b : Bool) (x y : Outcome) → test x ≡ false → test y ≡ false → test (cond b x y) ≡ false
     pick true x y p q = p
@@ -83,7 +85,7 @@ ended_only instance (of_call o) (whole status body) call e =
     absurd (true≢false (sym (ap (λ (h : Heard). is_connection (outcome_in h)) e) ∙ outcome_by is_connection instance o status body refl refl refl))
 ended_only instance (of_notice n) garbled call e = absurd (true≢false (sym (ap is_outcome e)))
 ended_only instance (of_notice n) (whole status body) call e =
-    absurd (true≢false (sym (ap is_outcome e) ∙ either_told is_outcome (status == 200) n refl refl))
+    absurd (true≢false (sym (ap is_outcome e) ∙ either_told is_outcome (status == OK) n refl refl))
 
 -- ---- by what a take brought
 
@@ -137,15 +139,15 @@ same_number n = grind (arith, nat_tests)
 is_number : (n m : ℕ) → (n == m) ≡ true → n ≡ m
 is_number n m e = grind (arith, nat_tests)
 
-at_402 : (instance : ℕ) (o : Opened) (status : ℕ) (body : List ℕ) → status ≡ 402 → outcome_of instance o status body ≡ Refused
+at_402 : (instance : ℕ) (o : Opened) (status : ℕ) (body : List ℕ) → status ≡ REFUSED → outcome_of instance o status body ≡ Refused
 unfolding outcome_of
 at_402 instance o status body e =
-    ap (λ (n : ℕ). cond (n == 402) Refused (cond (status == 200 && is_some_with (is_funding instance o) (json_of body)) Funded Application)) e
+    ap (λ (n : ℕ). cond (n == REFUSED) Refused (cond (status == OK && is_some_with (is_funding instance o) (json_of body)) Funded Application)) e
 
-only_402 : (instance : ℕ) (o : Opened) (status : ℕ) (body : List ℕ) → outcome_of instance o status body ≡ Refused → status ≡ 402
+only_402 : (instance : ℕ) (o : Opened) (status : ℕ) (body : List ℕ) → outcome_of instance o status body ≡ Refused → status ≡ REFUSED
 unfolding outcome_of
 only_402 instance o status body e =
-    is_number status 402 (pick (status == 402) (status == 200 && is_some_with (is_funding instance o) (json_of body)) e)
+    is_number status REFUSED (pick (status == REFUSED) (status == OK && is_some_with (is_funding instance o) (json_of body)) e)
   where
     pick : (b c : Bool) → cond b Refused (cond c Funded Application) ≡ Refused → b ≡ true
     pick true c e = refl
@@ -164,11 +166,11 @@ refused_exactly instance o (whole status body) = (
   λ w. ap (outcome o.call) (at_402 instance o status body (by_whole status body w.status w.body w.is w.so)),
 )
   where
-    by_whole : (status : ℕ) (body : List ℕ) (s : ℕ) (b : List ℕ) → whole status body ≡ whole s b → s ≡ 402 → status ≡ 402
+    by_whole : (status : ℕ) (body : List ℕ) (s : ℕ) (b : List ℕ) → whole status body ≡ whole s b → s ≡ REFUSED → status ≡ REFUSED
     by_whole status body s b e so = cc
 
-at_200 : (n status : ℕ) → status ≡ 200 → cond (status == 200) (acknowledged n) (dropped n) ≡ acknowledged n
-at_200 n status e = ap (λ (m : ℕ). cond (m == 200) (acknowledged n) (dropped n)) e
+at_200 : (n status : ℕ) → status ≡ OK → cond (status == OK) (acknowledged n) (dropped n) ≡ acknowledged n
+at_200 n status e = ap (λ (m : ℕ). cond (m == OK) (acknowledged n) (dropped n)) e
 
 only_200 : (n : ℕ) (b : Bool) → cond b (acknowledged n) (dropped n) ≡ acknowledged n → b ≡ true
 only_200 n true e = refl
@@ -182,15 +184,15 @@ acknowledged_exactly instance n garbled = (λ e. absurd (true≢false (sym (ap i
     not_whole : (status : ℕ) (body : List ℕ) → garbled ≡ whole status body → ⊥
     not_whole status body e = cc
 acknowledged_exactly instance n (whole status body) = (
-  λ e. record { status = status; body = body; is = refl; so = is_number status 200 (only_200 n (status == 200) e) },
+  λ e. record { status = status; body = body; is = refl; so = is_number status OK (only_200 n (status == OK) e) },
   λ w. at_200 n status (by_whole status body w.status w.body w.is w.so),
 )
   where
-    by_whole : (status : ℕ) (body : List ℕ) (s : ℕ) (b : List ℕ) → whole status body ≡ whole s b → s ≡ 200 → status ≡ 200
+    by_whole : (status : ℕ) (body : List ℕ) (s : ℕ) (b : List ℕ) → whole status body ≡ whole s b → s ≡ OK → status ≡ OK
     by_whole status body s b e so = cc
 
-not_200 : (n : ℕ) (status : ℕ) → (status ≡ 200 → ⊥) → cond (status == 200) (acknowledged n) (dropped n) ≡ dropped n
-not_200 n status other = pick (status == 200) (λ e. other (is_number status 200 e))
+not_200 : (n : ℕ) (status : ℕ) → (status ≡ OK → ⊥) → cond (status == OK) (acknowledged n) (dropped n) ≡ dropped n
+not_200 n status other = pick (status == OK) (λ e. other (is_number status OK e))
   where
     pick : (b : Bool) → (b ≡ true → ⊥) → cond b (acknowledged n) (dropped n) ≡ dropped n
     pick true other = absurd (other refl)
@@ -215,5 +217,5 @@ dropped_exactly instance n (whole status body) = (
     not_garbled : (status : ℕ) (body : List ℕ) → whole status body ≡ garbled → ⊥
     not_garbled status body e = cc
 
-    by_whole : (status : ℕ) (body : List ℕ) (s : ℕ) (b : List ℕ) → whole status body ≡ whole s b → status ≡ 200 → s ≡ 200
+    by_whole : (status : ℕ) (body : List ℕ) (s : ℕ) (b : List ℕ) → whole status body ≡ whole s b → status ≡ OK → s ≡ OK
     by_whole status body s b e so = cc

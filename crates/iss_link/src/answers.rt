@@ -21,12 +21,13 @@ use crate::watched::{About, Watched};
 use iss_channels::ByChannel;
 use iss_edge::{Channel, Edge};
 use iss_http::Answer;
+use iss_http::statuses::OK;
 use iss_jit::answer as jit_answer;
 use iss_model::{Opened, Outcome};
 use std::alloc::{AllocError, Global};
 
-/// The status of a gateway that acknowledges a notice: OK of RFC 9110.
-const ACKNOWLEDGED: u16 = 200;
+/// The status of a gateway that acknowledges a notice.
+const ACKNOWLEDGED: u16 = OK;
 
 /// Takes once from a watched channel that is ready, and returns what its bytes come to. After a whole answer, the channel is closed and
 /// watched no longer.

@@ -15,6 +15,7 @@ use Rattle.iss_model.specs.declared.limits.TheConstants.{LAST_STAMP}
 use Rattle.iss_model.specs.texts.AnswerLines.{http_fault_line}
 use Rattle.iss_http.specs.declared.faults.HttpFault.{HttpFault}
 use Rattle.iss_http.specs.declared.faults.HttpFault.TheVariants.{Head, HeadLong, Method, Path, Coding, NoLength, BodyLong}
+use Rattle.iss_http.specs.declared.statuses.TheConstants.{BAD_REQUEST, NOT_FOUND}
 use Rattle.iss_http.specs.Messages.{respond}
 use Rattle.iss_http.specs.Requests.{Request, more, body, faulty, request}
 use Rattle.iss_session.specs.Items.{Item, same_channel, leveled}
@@ -71,8 +72,8 @@ one_less (suc n) = n
 
 -- the status of a response that tells a fault of HTTP
 abbrev pub fault_status : HttpFault → ℕ
-fault_status Path = 404
-fault_status _ = 400
+fault_status Path = NOT_FOUND
+fault_status _ = BAD_REQUEST
 
 -- the name of a fault of HTTP
 abbrev pub fault_text : HttpFault → List ℕ
@@ -106,7 +107,7 @@ bytes_on ch (r ∷ readers) = if same_channel r.ch ch then r.bytes else bytes_on
 -- a client's line is to be judged, or its fault is sent
 abbrev pub after_line : Session → Channel → Result Input (List ℕ) → Session
 after_line s ch (Ok i) = with_queued s (record { input = i; client = Some ch })
-after_line s ch (Err line) = with_tasks s (to_reply ch (respond 400 line) ∷ [])
+after_line s ch (Err line) = with_tasks s (to_reply ch (respond BAD_REQUEST line) ∷ [])
 
 -- the request that a client's bytes are
 abbrev pub after_request : Readers → Session → Channel → List ℕ → Request → Session

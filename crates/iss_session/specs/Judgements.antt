@@ -13,16 +13,17 @@ use Rattle.iss_model.specs.rules.Histories.{history_keeper}
 use Rattle.iss_model.specs.run.Sayings.{reaction_to_record}
 use Rattle.iss_model.specs.run.Rooms.{room_left}
 use Rattle.iss_model.specs.run.Runs.{Run, judgement_in}
+use Rattle.iss_http.specs.declared.statuses.TheConstants.{OK, CONFLICT, INSUFFICIENT_STORAGE}
 use Rattle.iss_http.specs.Messages.{respond}
 use Rattle.iss_session.specs.Desks.{Task, to_reply, Waiter, desk_with}
 use Rattle.iss_session.specs.Sessions.{Queued, Session, tasks_of, with_tasks}
 
 -- the status of a response that tells why an event isn't new
 abbrev pub status_of : Answer → ℕ
-status_of (Conflict token number) = 409
-status_of (Full free need) = 507
-status_of Spent = 507
-status_of _ = 200
+status_of (Conflict token number) = CONFLICT
+status_of (Full free need) = INSUFFICIENT_STORAGE
+status_of Spent = INSUFFICIENT_STORAGE
+status_of _ = OK
 
 -- the client receives why its event isn't new; what the gateway or the clock brought is answered to nobody
 abbrev pub answer_tasks : Option Channel → Answer → List Task

@@ -5,6 +5,7 @@ use Rattle.iss_edge.specs.declared.outside.Channel.{Channel}
 use Rattle.iss_edge.specs.declared.outside.Answered.{Answered}
 use Rattle.iss_edge.specs.World.{World, Told, Faults, Later, Rose}
 use Rattle.iss_edge.specs.Outer.{Outer, outer, ToldBoth}
+use Rattle.iss_http.specs.declared.statuses.TheConstants.{OK}
 use Rattle.iss_http.specs.Messages.{ask, respond}
 use Rattle.iss_model.specs.declared.call.Notice.{Notice}
 use Rattle.iss_model.specs.declared.call.Opened.{Opened}
@@ -41,7 +42,7 @@ tasks_by_each instance waiting entries = flat_map (tasks_by instance waiting) en
 
 -- the response on this channel that tells a decision
 abbrev pub decision_tasks : Channel → List ℕ → Verdict → List Task
-decision_tasks ch event verdict = to_reply ch (respond 200 (reply_line event (Decided verdict))) ∷ []
+decision_tasks ch event verdict = to_reply ch (respond OK (reply_line event (Decided verdict))) ∷ []
 
 -- the request of a call
 abbrev pub request_tasks : ℕ → Opened → List Task

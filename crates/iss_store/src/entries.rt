@@ -11,14 +11,12 @@ use crate::Served;
 use crate::sending::{reply, send};
 use iss_edge::{Channel, Edge};
 use iss_event::reply_line;
+use iss_http::statuses::OK;
 use iss_http::{ask, respond};
 use iss_jit::{notice_text, request_text};
 use iss_link::Gone;
 use iss_model::{Entry, Notice, Opened, Reply, Token, Verdict};
 use std::alloc::{AllocError, Global};
-
-/// The status of a response that tells a decision: OK of RFC 9110.
-const DECIDED: u16 = 200;
 
 /// Sends the texts of entries in their order, each decision to the client that waited for it before. Gives what became of those to
 /// the gateway, and the channels that were answered.
@@ -107,7 +105,7 @@ fn send_decision<E: Edge>(
     ensures kept { Stays E.extent edge.old edge.new }
 {
     let line = reply_line(alloc, event, &Reply::Decided(*verdict))?;
-    let text = respond(alloc, DECIDED, &line)?;
+    let text = respond(alloc, OK, &line)?;
     answered.push(ch)?;
     reply(edge, ch, &text);
     Ok(())

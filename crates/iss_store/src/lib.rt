@@ -23,7 +23,9 @@ mod store;
 
 pub use durable::Durable;
 pub use fault::{OpenFault, PlanFault, StoreFault};
-pub use laws::{calls_and_notices_are_numbered, good_devices_open};
+pub use laws::{
+    calls_and_notices_are_numbered, good_devices_open, the_journal_has_the_sizes_of_the_model,
+};
 pub use planned::Planned;
 pub use routes::Routes;
 pub use sending::reply;

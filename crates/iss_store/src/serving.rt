@@ -16,6 +16,7 @@ use crate::{Durable, Served, Store};
 use iss_edge::{Channel, Edge};
 use iss_event::told_line;
 use iss_http::respond;
+use iss_http::statuses::{CONFLICT, INSUFFICIENT_STORAGE, OK};
 use iss_link::Gone;
 use iss_model::{Answer, Entry, Notice, Opened};
 use std::alloc::{AllocError, Global};
@@ -115,10 +116,10 @@ fn status_of(answer: &Answer) -> u16
     ensures known { IsStatus result }
 {
     match answer {
-        Answer::Conflict(..) => 409,
-        Answer::Full { .. } => 507,
-        Answer::Spent => 507,
-        _ => 200,
+        Answer::Conflict(..) => CONFLICT,
+        Answer::Full { .. } => INSUFFICIENT_STORAGE,
+        Answer::Spent => INSUFFICIENT_STORAGE,
+        _ => OK,
     }
 }
 

@@ -4,7 +4,7 @@ use Rattle.std.specs.List.{list_all}
 use Rattle.std.specs.Str.{bytes_eq}
 use Rattle.iss_edge.specs.declared.status.TheConstants.{DONE, USAGE, INPUT_FAULT, BAD_DEVICE, OUTPUT_FAULT, DISK_FAULT, OUT_OF_MEMORY, INPUT_TOO_LONG}
 use Rattle.iss_amount.specs.Digits.{number_in}
-use Rattle.iss_journal.specs.declared.layout.TheConstants.{INSTANCES, LEAST_SIZE, GREATEST_SIZE}
+use Rattle.iss_journal.specs.declared.layout.TheConstants.{HEADER_INSTANCES, LEAST_SIZE, GREATEST_SIZE}
 use Rattle.iss_drill.specs.declared.limits.TheConstants.{MOST_EVENTS}
 use Rattle.iss_top.specs.declared.words.TheConstants.{LONGEST_NAME, GREATEST_INSTANCE, GREATEST_PORT, MOST_TURNS}
 use Rattle.iss_top.specs.declared.words.Command.{Command}
@@ -79,7 +79,7 @@ abbrev pub IsInRange : Command → Type 0
 IsInRange Dry = Unit {0}
 IsInRange Replay = Unit {0}
 IsInRange Balances = Unit {0}
-IsInRange (Format size instance) = (LEAST_SIZE ≤ size) × (size ≤ GREATEST_SIZE) × (instance < INSTANCES)
+IsInRange (Format size instance) = (LEAST_SIZE ≤ size) × (size ≤ GREATEST_SIZE) × (instance < HEADER_INSTANCES)
 IsInRange (Serve port gateway turns) =
     ((1 ≤ port) × (port ≤ GREATEST_PORT)) × ((1 ≤ gateway) × (gateway ≤ GREATEST_PORT)) × ((1 ≤ turns) × (turns ≤ MOST_TURNS))
 IsInRange (Drill n) = (1 ≤ n) × (n ≤ MOST_EVENTS)
