@@ -1,4 +1,4 @@
-//! The entries of each call on a transaction. Of an unknown one there are none.
+//! The entries of each call on a transaction. A call on an unknown transaction makes none.
 ghost use Rattle.std.specs.Prelude.{◌≡◌, ◌<◌, ◌^◌, ◌++◌, ◌-ℤ◌, pos, length, IfOk, IfSome, OnOk};
 ghost use Rattle.iss_model.specs.state.Kept.{IsSmall};
 ghost use Rattle.iss_model.specs.rules.Activity.{txn_named};

@@ -1,4 +1,4 @@
-//! A line of a drill: it is planned, committed and released as one that comes in.
+//! A line of a drill: it is planned, committed and released as a line that comes in.
 ghost use Rattle.std.specs.Prelude.{◌≡◌, ◌+◌, ◌*◌, ◌<◌, ◌≤◌, ◌^◌, ◌∷◌, ◌++◌, [], ℕ, Bool, List, Option, unwrap_or, IfOk, IfSome, OnOk, IsTrue};
 ghost use Rattle.iss_model.specs.Forms.{is_in_form, is_stamp};
 ghost use Rattle.iss_model.specs.declared.decision.Judged.{Judged};

@@ -109,7 +109,7 @@ fn device_in_memory(alloc: Global, bytes: Vec<u8>) -> Result<MemoryEdge, AllocEr
     MemoryEdge::new(alloc, bytes, nothing, Vec::new(alloc), Vec::new(alloc))
 }
 
-/// Gives the inputs that a drill begins with.
+/// Gives the store the inputs that a drill begins with.
 fn set_up(
     alloc: Global,
     fresh: Store,
@@ -132,7 +132,7 @@ fn set_up(
     Ok(store)
 }
 
-/// Gives the input of this number, from 1 on, of those that a drill begins with.
+/// Gives the store the input of this number, from 1 on, of those that a drill begins with.
 fn give_setup(
     alloc: Global,
     store: Store,
@@ -156,7 +156,7 @@ fn give_setup(
     Ok(next)
 }
 
-/// Gives the events, each with the answer of the call that it opens.
+/// Gives the store the events, each with the answer of the call that it opens.
 fn give_events(
     alloc: Global,
     n: u32,
@@ -184,7 +184,7 @@ fn give_events(
     Ok(store)
 }
 
-/// Gives the event of this number, and then the answer of the call that it opens, if it opens one.
+/// Gives the store the event of this number, and then the answer of the call that it opens, if it opens one.
 fn give_event(
     alloc: Global,
     store: Store,

@@ -109,7 +109,7 @@ fn read(
     }
 }
 
-/// Gives a channel its next bytes, none at their end.
+/// Adds the next bytes to what a channel's reader has, none at their end.
 fn feed(
     links: &mut ByChannel<Watched>,
     alloc: Global,

@@ -48,7 +48,7 @@ impl Peer {
         }
     }
 
-    /// Gives the channel its socket.
+    /// Sets the socket of the channel.
     pub fn connect(&self, socket: TcpStream) {
         let _ = self.socket.set(socket);
     }

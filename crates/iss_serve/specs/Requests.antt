@@ -19,7 +19,7 @@ requested s ch clients More = record s { readers = clients }
 requested s ch clients (Says i) = with_queued (record s { readers = clients }) (record { input = i; client = Some ch })
 requested s ch clients (Bad text) = with_tasks (record s { readers = clients }) (to_reply ch text.items ∷ [])
 
--- A client's request was read on: in each session with these clients, its bytes come to this. They are answered early only where no head
+-- A client's request was read on: in each session with these clients, its bytes come to this. They are answered early only if no head
 -- begins with them.
 pub record ReadsOn (ch : Channel) (piece : List ℕ) (before after : List Reader) (said : Request) : Type 0 where
   pub early : Bool

@@ -41,7 +41,7 @@ pub(crate) fn judge_all<E: Edge>(
     judge_unreached(alloc, next, held, edge)
 }
 
-/// Judges the answers of the calls that weren't reached, in their order, and of those that weren't reached meanwhile.
+/// Judges the answers of the calls that weren't reached, in their order, and of those that aren't reached meanwhile.
 pub(crate) fn judge_unreached<E: Edge>(
     alloc: Global,
     store: Store,
@@ -203,7 +203,7 @@ fn release<E: Edge>(
     held.note_all(&gone)
 }
 
-/// Tells a client why its input makes no record. What the gateway or the clock gave is told to nobody.
+/// Tells a client why its input makes no record. If the input came from the gateway or the clock, nobody is told.
 fn tell<E: Edge>(
     alloc: Global,
     store: &Store,
@@ -230,7 +230,7 @@ fn tell<E: Edge>(
 }
 
 impl Held {
-    /// The client of a new event waits until it is decided. A time record that only goes before an answer lets nobody wait.
+    /// The client of a new event waits until it is decided. If a time record only goes before an answer, nobody waits.
     fn wait_for(&mut self, queued: &Queued, is_clock: bool) -> Result<(), AllocError>
         ensures now { OnOk result (now_of self.new ≡ waiting_for (queued_as queued.now) is_clock (now_of self.old)) }
         ensures still { OnOk result (IsStillHeld self.old self.new) }
@@ -244,7 +244,7 @@ impl Held {
         }
     }
 
-    /// The calls that weren't reached, which are given away.
+    /// The calls that weren't reached, of which none is left then.
     fn take_unreached(&mut self, alloc: Global) -> Vec<CallId>
         ensures calls { result.items ≡ self.old.unreached.items }
         ensures now { now_of self.new ≡ record (now_of self.old) { unreached = [] } }

@@ -89,7 +89,7 @@ abbrev pub StaysGoodUpTo : (starts stands : List ℕ → ℕ → Type 0) → ℕ
 StaysGoodUpTo starts stands j read s happenings =
     count (session_after read s happenings) ≤ j → StaysGood starts stands j (session_steps read s happenings)
 
--- and so are the closes at the end of a session of so many records
+-- and so are the closes at the end of a session of this many records
 abbrev pub EndsGood : (starts stands : List ℕ → ℕ → Type 0) → ℕ → Session → Type 0
 EndsGood starts stands j s = count s ≤ j → StaysGood starts stands j (last_steps s)
 

@@ -15,7 +15,7 @@ pub data Subject : Type 0 where
   of_call : Opened → Subject
   of_notice : ℕ → Subject
 
--- a text for the gateway that has no channel yet, one that has, or the response to a client
+-- a text for the gateway that has no channel yet, a text for it on its channel, or the response to a client
 pub data Task : Type 0 where
   to_dial : Subject → List ℕ → Task
   to_send : Channel → Subject → List ℕ → Task

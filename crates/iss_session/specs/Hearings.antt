@@ -132,7 +132,8 @@ after_reading read s ch (Some (b ∷ piece)) early =
     let bytes = bytes_on ch s.readers ++ b ∷ piece in
     change_to (after_request read s ch bytes (request_early early (request bytes))) []
 
--- What a take brought on the channel of a client that waits. Bytes and an end are ignored; one that fails is closed, and waits no longer.
+-- What a take brought on the channel of a client that waits. Bytes and an end are ignored. If the take failed, the channel is closed, and the
+-- client waits no longer.
 abbrev pub after_waiting : Session → Channel → Option (List ℕ) → Change
 after_waiting s ch None = change_to (record s { desk = desk_with s.desk.tasks (waiters_without ch s.desk.waiting) }) (close_steps s ch)
 after_waiting s ch (Some piece) = change_to s []

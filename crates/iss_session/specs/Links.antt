@@ -28,7 +28,7 @@ pub data Heard : Type 0 where
 abbrev pub reading_early : Bool → Reading → Reading
 reading_early early reading = if early then garbled else reading
 
--- what a link's bytes are read as after a take brought this; one that failed ends them
+-- what a link's bytes are read as after a take brought this; a take that failed ends them
 abbrev pub link_reading : Link → Option (List ℕ) → Bool → Reading
 link_reading link None early = ended
 link_reading link (Some piece) early = reading_early early (answer_read (link.bytes ++ piece) (is_empty piece))

@@ -87,7 +87,7 @@ pub record SendsOn (tasks : List Task) (gone : List Gone) (answered : List Chann
   pub sends : (level : ℕ) (rest : List Task) (waiting : List Waiter)
       → Sends level (desk_with (tasks ++ rest) waiting) (desk_with rest (waiters_after answered waiting)) gone a b
 
--- a desk went on to where it was left
+-- a desk went on to this one
 pub record SendsPart (level : ℕ) (d : Desk) (a b : Outer) : Type 0 where
   pub left : Desk
   pub gone : List Gone
@@ -151,7 +151,7 @@ is_unreached (Asked opened ch) = false
 is_unreached (Noted number ch) = false
 is_unreached (Unreached call) = true
 
--- no count of faults has fallen, and where a call wasn't reached the links' count rose
+-- no count of faults has fallen, and if a call wasn't reached the links' count rose
 pub record CausesGone (before now : Faults) (gone : List link.Gone) : Type 0 where
   pub later : Later before now
   pub unreached : list_any is_unreached gone ≡ true → Rose before.link now.link
@@ -183,7 +183,7 @@ abbrev pub NotesAnswered : {E T F : Type 0} → (E → Faults) → (E → Option
 NotesAnswered faults told heard a b tasks ended answered result =
     (gone : List link.Gone) → OnOk result (NotesOn faults told heard a b tasks gone gone ended answered)
 
--- Some first texts went out and were noted; these are left of all.
+-- The first of all texts went out and were noted, and these are left.
 pub record SentUpTo (all rest : List Task) (gone : List link.Gone) (answered : List Channel) (f g : Faults) (x y : Option Outer) : Type 0 where
   pub front : List Task
   pub cut : all ≡ front ++ rest

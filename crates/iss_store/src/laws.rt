@@ -11,7 +11,7 @@ ghost use Rattle.iss_model.specs.state.Cores.{CoreState, core_keeper, core_of};
 ghost use Rattle.iss_store.specs.Numbers.{AreNumbered, IsNumbered};
 ghost use Rattle.iss_store.specs.Opening.{GoodDevicesOpen};
 
-/// Where a device stands for records, opening it fails for the disk or for memory alone.
+/// If a device stands for records, opening it fails only for the disk or for memory.
 pub fn good_devices_open()
     ensures { GoodDevicesOpen }
 {}

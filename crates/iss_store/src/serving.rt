@@ -23,8 +23,8 @@ use std::alloc::{AllocError, Global};
 
 impl Store {
     /// Sends what the record of this store's last commit says while clients are served: each decision to the client that waits for it,
-    /// whose channel is closed by it, and each request and notice to the gateway, in the order of the record's entries. Gives what
-    /// became of those: the channels on which they went out, and the calls that weren't reached.
+    /// whose channel is closed by it, and each request and notice to the gateway, in the order of the record's entries. Returns
+    /// what became of those: the channels on which they went out, and the calls that weren't reached.
     #[tactic(auto, using(crate::proofs::ServedTexts::told_whole_desk, crate::proofs::ServedTexts::told_part_desk, crate::proofs::ServedTexts::record_tasks))]
     pub fn release_served<E: Edge>(
         &self,
@@ -88,7 +88,7 @@ impl Store {
         Ok(entries)
     }
 
-    /// Sends a client what its input is told that makes no record, and closes its channel.
+    /// Tells a client why its input makes no record, and closes its channel.
     #[tactic(auto, using(crate::proofs::ServedTexts::told_unchanged, crate::proofs::Stays::told_nothing_stays))]
     pub fn tell_served<E: Edge>(
         &self,

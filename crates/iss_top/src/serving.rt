@@ -11,7 +11,7 @@ use iss_edge::status::{BAD_DEVICE, DISK_FAULT, DONE, INPUT_FAULT, OUT_OF_MEMORY}
 use iss_serve::{ServeFault, serve};
 use std::alloc::Global;
 
-/// Serves over the device in at most `turns` waits, and gives the exit status.
+/// Serves over the device in at most `turns` waits, and returns the exit status.
 #[tactic(auto, using(crate::proofs::ServedStatuses::input_caused, crate::proofs::ServedStatuses::disk_caused))]
 pub(crate) fn serve_on_device<E: Edge>(alloc: Global, turns: u32, edge: &mut E) -> u8
     ensures known { IsTrue (list_any (λ status. result == status)

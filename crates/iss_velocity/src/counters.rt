@@ -96,7 +96,7 @@ pub(crate) fn used_by(
     Some(used)
 }
 
-/// What a counter has counted in a span, if that is the one that was noted last.
+/// What a counter has counted in a span, if that is the last that was noted.
 fn last_used(counter: Option<&Counter>, number: i64) -> Option<Used>
     ensures { result ≡ in_span number (option_copied counter.entry) }
 {
