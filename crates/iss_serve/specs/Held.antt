@@ -107,6 +107,10 @@ listens_to h ch = is_reading ch h.clients || is_waiting ch h.served || is_linked
 abbrev pub arrived : StoreNow → HeldNow → Channel → Stage
 arrived s h ch = record { store = s; held = h; ready = (if listens_to h ch then Some ch else None); first = []; tasks = [] }
 
+-- the same on each store, with what is held
+abbrev pub arrived_on : Held → Channel → StoreNow → Stage
+arrived_on h ch = λ s. arrived s (now_of h) ch
+
 -- the session that stands, if the store stands for these records
 abbrev pub session_at : Stage → List Record → Session
 session_at x rs =

@@ -4,12 +4,15 @@ use Rattle.iss_edge.specs.declared.outside.Answered.{Answered}
 use Rattle.iss_edge.specs.declared.outside.Channel.{Channel}
 use Rattle.iss_edge.specs.World.{World}
 use Rattle.iss_edge.specs.Outer.{Outer, ToldBoth}
+use Rattle.iss_model.specs.declared.decision.Answer.{Answer}
 use Rattle.iss_model.specs.declared.input.Record.{Record}
 use Rattle.iss_model.specs.rules.Histories.{history_of}
 use Rattle.iss_session.specs.Desks.{Task}
+use Rattle.iss_session.specs.Judgements.{answer_tasks}
 use Rattle.iss_session.specs.Sessions.{Session, Queued, session_of}
 use Rattle.iss_session_examples.specs.Program.{program_readers}
-use Rattle.iss_store.specs.Values.{StoreNow, Plan, room_of}
+use Rattle.iss_store.specs.Serving.{tasks_of_record}
+use Rattle.iss_store.specs.Values.{StoreNow, Plan, DurableNow, room_of}
 use Rattle.iss_store.specs.Standing.{StandsFor, AreHistory, region_under}
 use Rattle.iss_serve.specs.declared.fault.ServeFault.{ServeFault}
 use Rattle.iss_serve.specs.declared.held.Held.{Held}
@@ -74,6 +77,14 @@ KeepsPlan told heard a b store planned before after queued result =
 abbrev pub JudgesPart : {E T : Type 0} → (E → Option World) → (E → Option (List Answered)) → E → E → StoreNow → Held → code.Queued → Result T ServeFault → Type 0
 JudgesPart told heard a b store before queued result =
     (rest : List Queued) → ServesInPart told heard a b (judging_first store before queued rest) result
+
+-- the texts that tell a client why its input makes no record, if a client sent it
+abbrev pub tasks_told : code.Queued → Answer → List Task
+tasks_told q answer = answer_tasks q.client answer
+
+-- the texts that go out for a record that lasts, with what is held
+abbrev pub tasks_said : StoreNow → DurableNow → Held → List Task
+tasks_said s d h = tasks_of_record s d h.served
 
 -- If the call succeeded, these texts went out, and the inputs are left to judge, whichever they are.
 abbrev pub SendsFirst : {E T F : Type 0} → (E → Option World) → (E → Option (List Answered)) → E → E → StoreNow → Held → Held → List Task → Result T F → Type 0

@@ -15,7 +15,7 @@ ghost use Rattle.iss_store.specs.Numbers.{is_from_one};
 ghost use Rattle.iss_store.specs.Serving.{SendsReply};
 ghost use Rattle.iss_store.specs.Values.{StoreNow};
 ghost use Rattle.iss_serve.specs.Causes.{IsServeCaused};
-ghost use Rattle.iss_serve.specs.Held.{now_of, queued_maybe, queued_as, IsQueuedInForm, resting, taking, arrived, is_heard_numbered, IsHeld, IsStillHeld, IsOf};
+ghost use Rattle.iss_serve.specs.Held.{now_of, queued_maybe, queued_as, IsQueuedInForm, resting, taking, arrived_on, is_heard_numbered, IsHeld, IsStillHeld, IsOf};
 ghost use Rattle.iss_serve.specs.Runs.{HearsFrom, HearsOfAny, HearsShort, PassesOver, ServesInPart, ServesShort};
 
 use crate::ServeFault;
@@ -84,8 +84,8 @@ impl Held {
         ensures still { IfOk result (λ heard. IsStillHeld self.old self.new) }
         ensures settled { IfOk result (λ heard. self.new.unreached.items ≡ []) }
         ensures forms { IfOk result (λ heard. IfSome heard IsQueuedInForm) }
-        ensures hears { HearsFrom E.told E.heard edge.old edge.new self.old self.new (λ store. arrived store (now_of self.old) ch) result }
-        ensures part { HearsShort E.told E.heard edge.old edge.new self.old (λ store. arrived store (now_of self.old) ch) result }
+        ensures hears { HearsFrom E.told E.heard edge.old edge.new self.old self.new (arrived_on self.old ch) result }
+        ensures part { HearsShort E.told E.heard edge.old edge.new self.old (arrived_on self.old ch) result }
         ensures later { Later (E.faults edge.old) (E.faults edge.new) }
         ensures kept { Stays E.extent edge.old edge.new }
     {

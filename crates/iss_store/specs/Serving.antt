@@ -1,5 +1,5 @@
 -- What a store says while clients are served, by the definitions of serving.
-use Rattle.std.specs.Prelude.{◌≡◌, ℕ, Bool, true, false, List, [], ◌∷◌, ◌++◌, map, Option, Result, OnOk}
+use Rattle.std.specs.Prelude.{◌≡◌, ℕ, Bool, true, false, List, [], ◌∷◌, ◌++◌, map, Option, Result, OnOk, OnErr}
 use Rattle.std.specs.List.{flat_map, list_all, list_any}
 use Rattle.iss_edge.specs.declared.outside.Channel.{Channel}
 use Rattle.iss_edge.specs.declared.outside.Answered.{Answered}
@@ -126,6 +126,10 @@ SendsPending s waiting gone = SendsAll s.core.state.count (tasks_pending s) wait
 -- some of what still waits for the gateway went out
 abbrev pub SendsPendingPart : StoreNow → List Waiter → Outer → Outer → Type 0
 SendsPendingPart s waiting = SendsPart s.core.state.count (desk_with (tasks_pending s) waiting)
+
+-- If the call failed, some of what still waits for the gateway went out, whoever waits.
+abbrev pub ResumesPart : {E T F : Type 0} → (E → Option World) → (E → Option (List Answered)) → E → E → StoreNow → Result T F → Type 0
+ResumesPart told heard a b s result = (waiting : List Waiter) → OnErr result (ToldBoth told heard (SendsPendingPart s waiting) a b)
 
 -- This text went out on a channel of its own, or didn't, as the result says, at any level, whatever comes after it and whoever waits.
 abbrev pub SendsDialled : {E : Type 0} → (E → Option World) → (E → Option (List Answered)) → E → E → List ℕ → Option Channel → Type 0

@@ -8,7 +8,7 @@ ghost use Rattle.iss_session.specs.Desks.{Waiter};
 ghost use Rattle.iss_session.specs.Judgements.{status_of};
 ghost use Rattle.iss_store.specs.Saying.{StaysGood, IsDurableOf};
 ghost use Rattle.iss_store.specs.Numbers.{AreNumbered};
-ghost use Rattle.iss_store.specs.Serving.{SendsAnswer, SendsPending, SendsPendingPart, SendsRecord, SendsRecordPart, TasksOnBook, CausesGone, HaveNumbers, tasks_by_each, tasks_pending};
+ghost use Rattle.iss_store.specs.Serving.{SendsAnswer, SendsPending, ResumesPart, SendsRecord, SendsRecordPart, TasksOnBook, CausesGone, HaveNumbers, tasks_by_each, tasks_pending};
 
 use crate::entries::send_entries;
 use crate::sending::reply;
@@ -62,7 +62,7 @@ impl Store {
         edge: &mut E,
     ) -> Result<Vec<Gone>, AllocError>
         ensures sends { (waiting : List Waiter) → IfOk result (λ gone. ToldBoth E.told E.heard (SendsPending self.now waiting gone.items) edge.old edge.new) }
-        ensures part { (waiting : List Waiter) → OnErr result (ToldBoth E.told E.heard (SendsPendingPart self.now waiting) edge.old edge.new) }
+        ensures part { ResumesPart E.told E.heard edge.old edge.new self.now result }
         ensures on_book { TasksOnBook self.now }
         ensures stays { Told StaysGood (E.told edge.old) (E.told edge.new) }
         ensures later { Later (E.faults edge.old) (E.faults edge.new) }

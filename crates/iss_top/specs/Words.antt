@@ -9,6 +9,7 @@ use Rattle.iss_drill.specs.declared.limits.TheConstants.{MOST_EVENTS}
 use Rattle.iss_top.specs.declared.words.TheConstants.{LONGEST_NAME, GREATEST_INSTANCE, GREATEST_PORT, MOST_TURNS}
 use Rattle.iss_top.specs.declared.words.Command.{Command}
 use Rattle.iss_top.specs.declared.words.Command.TheVariants.{Dry, Format, Replay, Balances, Serve, Drill}
+use Rattle.iss_top.specs.Statuses.{serve_statuses}
 
 -- a device's name: 1 to 4096 bytes, of which the first is no minus sign
 abbrev pub is_device : List ℕ → Bool
@@ -90,7 +91,7 @@ statuses (Some Dry) = DONE ∷ INPUT_FAULT ∷ OUTPUT_FAULT ∷ OUT_OF_MEMORY �
 statuses (Some (Format size instance)) = DONE ∷ BAD_DEVICE ∷ DISK_FAULT ∷ []
 statuses (Some Replay) = DONE ∷ INPUT_FAULT ∷ BAD_DEVICE ∷ OUTPUT_FAULT ∷ DISK_FAULT ∷ OUT_OF_MEMORY ∷ INPUT_TOO_LONG ∷ []
 statuses (Some Balances) = DONE ∷ BAD_DEVICE ∷ OUTPUT_FAULT ∷ DISK_FAULT ∷ OUT_OF_MEMORY ∷ []
-statuses (Some (Serve port gateway turns)) = DONE ∷ INPUT_FAULT ∷ BAD_DEVICE ∷ DISK_FAULT ∷ OUT_OF_MEMORY ∷ []
+statuses (Some (Serve port gateway turns)) = serve_statuses
 statuses (Some (Drill n)) = DONE ∷ OUTPUT_FAULT ∷ OUT_OF_MEMORY ∷ []
 statuses None = USAGE ∷ []
 
