@@ -1,5 +1,5 @@
 //! Worked scripts of one point each: turn the rule that one shows, and the checker refuses it.
-ghost use Rattle.std.specs.Prelude.{pos, ◌≡◌, ◌++◌, Some, None, codes};
+ghost use Rattle.std.specs.Prelude.{pos, ◌≡◌, Some, None, codes};
 ghost use Rattle.iss_model.specs.declared.currency.Currency.TheVariants.{Usd};
 ghost use Rattle.iss_model.specs.declared.setting.Window.TheVariants as window;
 ghost use Rattle.iss_model.specs.declared.setting.Association.TheVariants as association;

@@ -1,5 +1,5 @@
 //! An answer on a watched channel: one take, and what its bytes come to.
-ghost use Rattle.std.specs.Prelude.{◌≡◌, ◌<◌, ◌≤◌, ◌^◌, ℕ, List, length, [], ◌∷◌, Some, None, IfOk, IfSome, IsSome, OnErr, IfErr};
+ghost use Rattle.std.specs.Prelude.{◌≡◌, ◌<◌, ◌≤◌, ℕ, List, length, [], ◌∷◌, Some, None, IfOk, IfSome, IsSome, OnErr};
 ghost use Rattle.iss_edge.specs.declared.outside.Answered.TheVariants.{Took};
 ghost use Rattle.iss_edge.specs.World.{Later, Stays};
 ghost use Rattle.iss_edge.specs.Outer.{Adds, ToldBoth};

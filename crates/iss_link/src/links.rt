@@ -1,5 +1,5 @@
 //! The channels on which the gateway's answers are awaited.
-ghost use Rattle.std.specs.Prelude.{◌≡◌, ◌<◌, ◌^◌, ◌++◌, [], map, length, Some, IfOk, OnOk, OnErr, IsSome};
+ghost use Rattle.std.specs.Prelude.{◌≡◌, ◌<◌, ◌++◌, [], map, length, Some, IfOk, OnOk, OnErr, IsSome};
 ghost use Rattle.iss_edge.specs.World.{Later, Stays};
 ghost use Rattle.iss_model.specs.declared.limits.TheConstants.{INSTANCES};
 ghost use Rattle.iss_session.specs.Hearings.{link_at, links_of};

@@ -1,9 +1,9 @@
 //! The outside that the system provides.
 
-ghost use Rattle.std.specs.Prelude.{◌≡◌, ◌<◌, ◌≤◌, ◌⊎◌, Some, None, length, take, IfOk, OnErr, OnOk, IsErr};
+ghost use Rattle.std.specs.Prelude.{◌≡◌, ◌<◌, ◌≤◌, None, length, take, IfOk, OnErr, OnOk, IsErr};
 ghost use Rattle.std.specs.Io.KnownBytes.{Keeps, Appends, Consumes, IsAtEnd};
-ghost use Rattle.iss_edge.specs.World.{Later, Rose, HasCause};
-ghost use Rattle.iss_edge.specs.Channels.{no_channels, count_of, take_fault, emit_fault};
+ghost use Rattle.iss_edge.specs.World.{HasCause};
+ghost use Rattle.iss_edge.specs.Channels.{count_of, take_fault, emit_fault};
 ghost use Rattle.iss_edge.specs.Memory.{stream_faults};
 
 use crate::device::Device;

@@ -1,5 +1,5 @@
 //! What a line is told.
-ghost use Rattle.std.specs.Prelude.{◌≡◌, ◌<◌, map, IfOk, OnOk, IsTrue};
+ghost use Rattle.std.specs.Prelude.{◌<◌, map, IfOk, OnOk, IsTrue};
 ghost use Rattle.iss_model.specs.declared.limits.TheConstants.{MOST_RECORDS};
 ghost use Rattle.iss_model.specs.Forms.{is_in_form, is_stamp, is_stamp_or_none};
 ghost use Rattle.iss_model.specs.rules.Judging.{judge};

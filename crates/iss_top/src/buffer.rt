@@ -1,5 +1,5 @@
 //! The line that is being read.
-ghost use Rattle.std.specs.Prelude.{◌≡◌, ◌≤◌, ◌+◌, [], length, fold, OnOk};
+ghost use Rattle.std.specs.Prelude.{◌≡◌, [], fold, OnOk};
 ghost use Rattle.iss_top.specs.Lines.{is_blank_byte, is_blank, kept_with};
 
 use iss_model::limits::LONGEST_LINE;

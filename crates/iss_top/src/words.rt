@@ -1,5 +1,5 @@
 //! What the words of a run ask for.
-ghost use Rattle.std.specs.Prelude.{◌≡◌, ◌≤◌, IfOk, IfSome};
+ghost use Rattle.std.specs.Prelude.{◌≡◌, IfOk, IfSome};
 ghost use Rattle.std.specs.Result.{result_ok};
 ghost use Rattle.iss_amount.specs.Digits.{number_in};
 ghost use Rattle.iss_top.specs.Words.{is_device, dry_command, two_word_command, drill_of, format_command, serve_command, command_in, IsInRange};

@@ -3,7 +3,7 @@ ghost use Rattle.std.specs.Prelude.{◌≡◌, ◌+◌, ◌+ℤ◌, ◌==◌, �
 ghost use Rattle.std.specs.Option.{option_copied};
 ghost use Rattle.iss_model.specs.Forms.{is_stamp};
 ghost use Rattle.iss_model.specs.state.Kept.{IsSmall};
-ghost use Rattle.iss_velocity.specs.Counting.{at_place, in_span, or_else, past_at, used_in, used_more, counter_then};
+ghost use Rattle.iss_velocity.specs.Counting.{at_place, in_span, or_else, past_at, used_more, counter_then};
 ghost use Rattle.iss_velocity.specs.Lists.{rising_from, IsSplit, AreReady};
 ghost use Rattle.iss_velocity.specs.Keeping.{has_no_zero, IsSmallUse, StaySmall, FitsMore, FitMore, StaysSame, IsKeptPast, IsTurned, IsReady, IsCounted};
 
