@@ -66,7 +66,7 @@ pub record StandsFirmly (instance : ℕ) (rs : List Record) (device : List ℕ) 
   pub firm : ShowsClosed (region_of instance (length device)) (bodies_of rs) device
       ⊎ ((r : Record) × (AreHistory (rs ++ r ∷ []) × LeavesBehind (region_of instance (length device)) (bodies_of rs) (spelling r) device))
 
--- What a stop leaves stands firmly for the first ones of these records, or for those that stood and any one more. They are at least as many
+-- What a stop leaves stands firmly for the first of these records, or for those that stood and any one more. They are at least as many
 -- as those that stood, and as the level of each text of which a byte went out.
 pub record StopStands (instance : ℕ) (rs made : List Record) (before : List Step) (image : List ℕ) : Type 0 where
   pub now : List Record
@@ -75,7 +75,7 @@ pub record StopStands (instance : ℕ) (rs made : List Record) (before : List St
   pub told : SentUpTo (length now) before
   pub which : AreFirstOf now made ⊎ ((r : Record) × (now ≡ rs ++ r ∷ []))
 
--- So it is at each moment of these steps, if it was so at the start: the next run may begin with whatever a stop leaves.
+-- This holds at each moment of these steps, if it held at the start: the next run may begin with whatever a stop leaves.
 abbrev pub EachStopStands : ℕ → List Record → List Record → List Step → List ℕ → Type 0
 EachStopStands instance rs made steps device =
     (d : Disk) → IsAtRest d → d.bytes ≡ device → StandsFirmly instance rs device

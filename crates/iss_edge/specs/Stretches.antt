@@ -59,7 +59,7 @@ abbrev pub StretchesJoin : (starts stands mids : List ℕ → ℕ → Type 0) �
 StretchesJoin starts stands mids =
     (j k l : ℕ) (a b : List Step) → GoesOn starts stands mids j k a → IsGood mids stands k l b → IsGood starts stands j l (a ++ b)
 
--- and if the run goes on after the second one too, it goes on after both
+-- if the run goes on after the second one too, it goes on after both
 abbrev pub StretchesGoOn : (starts stands mids ends : List ℕ → ℕ → Type 0) → Type 0
 StretchesGoOn starts stands mids ends =
     (j k l : ℕ) (a b : List Step) → GoesOn starts stands mids j k a → GoesOn mids stands ends k l b → GoesOn starts stands ends j l (a ++ b)

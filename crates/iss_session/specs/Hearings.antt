@@ -23,12 +23,12 @@ use Rattle.iss_session.specs.Desks.{Task, to_reply, Gone, reached, unreached, Wa
 use Rattle.iss_session.specs.Links.{Link, Heard, unfinished, outcome, acknowledged, dropped, link_reading, heard_as, piece_of, links_after}
 use Rattle.iss_session.specs.Sessions.{Readers, Reader, Queued, Session, count, with_tasks, with_queued, unasked}
 
--- the session then, and what was done meanwhile
+-- the session after a change, and what was done in it
 pub record Change : Type 0 where
   pub session : Session
   pub steps : List Step
 
--- the session is this then
+-- a change to this session, with these steps
 abbrev pub change_to : Session → List Step → Change
 change_to s steps = record { session = s; steps = steps }
 
