@@ -26,8 +26,8 @@ use Rattle.iss_link.specs.Values.{LinksNow, heard_of}
 abbrev pub got_in : List ℕ → Option ℕ → Option (List ℕ)
 got_in buffer count = option_map (λ n. take n buffer) count
 
--- A link received what a take brought. These are what its bytes then are, and the links. As long as no answer is whole, the bytes are kept;
--- after a whole answer only the other links are kept.
+-- A link received what a take brought. This is what its bytes then are. As long as no answer is whole, the bytes are kept. The other links
+-- stay as they are.
 pub record Reads (ch : Channel) (got : Option (List ℕ)) (before after : List Link) (said : Option Answer) : Type 0 where
   pub link : Link
   pub found : link_at ch before ≡ Some link

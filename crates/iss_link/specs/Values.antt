@@ -47,7 +47,7 @@ HasBegun (Some bytes) = is_empty bytes ≡ false
 abbrev pub joined : Link → List ℕ → Link
 joined l piece = record l { bytes = l.bytes ++ piece }
 
--- a link with these bytes returned the answer once it was whole; until then the bytes are kept
+-- A link took this piece: it returned what all its bytes are read as, and keeps them as long as they are no answer.
 pub record HasRead {E : Type 0} (before : Link) (piece : List ℕ) (told : Result (Option Answer) E) (after : Link) : Type 0 where
   pub read : IfOk told (λ said. IsReadAs (before.bytes ++ piece) (is_empty piece) (came.heard said))
   pub kept : IfOk told (λ said. IfNone said (after ≡ joined before piece))
