@@ -6,7 +6,8 @@ use Rattle.iss_model.specs.declared.decision.Judged.{Judged}
 use Rattle.iss_model.specs.declared.decision.Judged.TheVariants as judged
 use Rattle.iss_model.specs.declared.input.Record.{Record}
 use Rattle.iss_model.specs.declared.limits.TheConstants.{MOST_RECORDS}
-use Rattle.iss_model.specs.run.Rooms.{Room, need_of, end_gate, free_in, free_turned, needs_of, most_free, fits, room_after, unless_spent, judgement_after}
+use Rattle.iss_model.specs.run.Rooms.{Room, need_of, free_in, free_turned, needs_of, most_free, fits, room_after, unless_spent, judgement_after}
+use Rattle.iss_agreement.specs.Stepped.{free_after}
 
 within_either : (n a b : ℕ) → nat_le n (max a b) ≡ (nat_le n a || nat_le n b)
 within_either n a b = grind (arith, nat_tests)
@@ -17,10 +18,10 @@ fits_either room rs r halved =
     ap (λ (h : Bool). nat_le (need_of r) (cond h (max (free_in room rs) (free_turned room rs)) (free_in room rs))) halved
     ∙ within_either (need_of r) (free_in room rs) (free_turned room rs)
 
-pub free_in_journal : (room : Room) (rs : List Record) → room.halved ≡ false → most_free room rs ≡ room.size - 1 - end_gate rs
+pub free_in_journal : (room : Room) (rs : List Record) → room.halved ≡ false → most_free room rs ≡ free_after room rs
 free_in_journal room rs whole =
     ap (λ (h : Bool). cond h (max (free_in room rs) (free_turned room rs)) (free_in room rs)) whole
-    ∙ ap (λ (h : Bool). cond h (free_turned room (take room.point rs) - needs_of (drop room.point rs)) (room.size - 1 - end_gate rs)) whole
+    ∙ ap (λ (h : Bool). cond h (free_turned room (take room.point rs) - needs_of (drop room.point rs)) (free_after room rs)) whole
 
 pub journal_stays : (room : Room) (rs : List Record) (r : Record) → room.halved ≡ false → room_after room rs r ≡ room
 journal_stays room rs r whole =

@@ -1,5 +1,5 @@
 -- What a further record makes of the state and of the book, and how both judge an input.
-use Rattle.std.specs.Prelude.{◌≡◌, ℕ, List, fold, nat_le, ◌||◌, Bool, length}
+use Rattle.std.specs.Prelude.{◌≡◌, ℕ, ◌-◌, List, fold, nat_le, ◌||◌, Bool, length}
 use Rattle.iss_model.specs.declared.decision.Judged.{Judged}
 use Rattle.iss_model.specs.declared.decision.Judged.TheVariants as judged
 use Rattle.iss_model.specs.declared.entry.Entry.{Entry}
@@ -10,7 +10,8 @@ use Rattle.iss_model.specs.rules.Facts.{Facts}
 use Rattle.iss_model.specs.rules.Histories.{History, history_keeper, history_of}
 use Rattle.iss_model.specs.rules.Judging.{judge}
 use Rattle.iss_model.specs.rules.Stepping.{step}
-use Rattle.iss_model.specs.run.Rooms.{Room, need_of, free_in, free_turned}
+use Rattle.iss_model.specs.declared.layout.TheConstants.{GATE_SIZE}
+use Rattle.iss_model.specs.run.Rooms.{Room, need_of, end_gate, free_in, free_turned}
 use Rattle.iss_model.specs.run.Runs.{Run}
 use Rattle.iss_model.specs.state.Cores.{CoreState, core_facts, core_keeper, core_of}
 
@@ -30,11 +31,11 @@ kept_facts rs = core_facts (core_of rs)
 abbrev pub core_judges : CoreState → Input → ℕ → Judged
 core_judges c i stamp = judge core_keeper c i stamp
 
--- what the state that records make gives for an input at a stamp
+-- what judging an input at a stamp returns on the state that records make
 abbrev pub core_gives : List Record → Input → ℕ → Judged
 core_gives rs i stamp = core_judges (core_of rs) i stamp
 
--- that state takes a record as new: its input, judged at its stamp, gives that record
+-- that state takes a record as new: its input, judged at its stamp, comes to that record
 abbrev pub CoreTakes : List Record → Record → Type 0
 CoreTakes rs r = core_gives rs r.input r.at ≡ judged.New r
 
@@ -46,11 +47,11 @@ book_rows rs = (history_of rs).rows
 abbrev pub book_entries : List Record → Record → List Entry
 book_entries rs r = (step history_keeper (history_of rs) r).entries
 
--- what the book of these records gives for an input at a stamp
+-- what judging an input at a stamp returns on the book of these records
 abbrev pub book_gives : List Record → Input → ℕ → Judged
 book_gives rs i stamp = judge history_keeper (history_of rs) i stamp
 
--- that book takes a record as new: its input, judged at its stamp, gives that record
+-- that book takes a record as new: its input, judged at its stamp, comes to that record
 abbrev pub BookTakes : List Record → Record → Type 0
 BookTakes rs r = book_gives rs r.input r.at ≡ judged.New r
 
@@ -69,3 +70,7 @@ level_of s = length s.history.records
 -- a record fits the current half, or the other one if a turn comes first
 abbrev pub fits_a_half : Room → List Record → Record → Bool
 fits_a_half room rs r = nat_le (need_of r) (free_in room rs) || nat_le (need_of r) (free_turned room rs)
+
+-- what one journal has free after these records: the last byte is kept for the gate at the end
+abbrev pub free_after : Room → List Record → ℕ
+free_after room rs = room.size - GATE_SIZE - end_gate rs

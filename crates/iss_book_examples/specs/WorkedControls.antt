@@ -93,7 +93,7 @@ next_day_in_india =
       tally = tally 0 0 7;
     }
 
--- by a clock five hours behind, a new week begins on Sunday at five in the morning UTC
+-- by a clock five hours behind UTC, a new week begins on Sunday at five in the morning UTC
 abbrev pub next_week_in_new_york : Script
 next_week_in_new_york =
     record {
@@ -110,7 +110,7 @@ next_week_in_new_york =
       tally = tally 0 0 7;
     }
 
--- by a clock twelve hours behind, a new month begins on the first at noon UTC
+-- by a clock twelve hours behind UTC, a new month begins on the first at noon UTC
 abbrev pub next_month_in_the_west : Script
 next_month_in_the_west =
     record {

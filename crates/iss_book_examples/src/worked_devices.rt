@@ -1,5 +1,6 @@
 //! Worked runs on devices: the checker computes what each writes, and when.
-ghost use Rattle.std.specs.Prelude.{◌≡◌, ◌∷◌, [], length, codes};
+ghost use Rattle.std.specs.Prelude.{◌≡◌, ◌-◌, ◌∷◌, [], length, codes};
+ghost use Rattle.iss_model.specs.declared.limits.TheConstants.{MOST_RECORDS};
 ghost use Rattle.iss_model.specs.rules.Histories.{nothing_yet};
 ghost use Rattle.iss_model.specs.texts.BalanceLines.{balance_lines};
 ghost use Rattle.iss_model.specs.texts.GatewayTexts.{request_text};
@@ -35,8 +36,8 @@ pub fn worked_rooms()
     ensures after_it { free_in second_half (user_record ∷ user_record ∷ []) ≡ 15 }
     ensures fits { one_user_more (two_halves byte_each) (user_record ∷ []) ≡ New user_record }
     ensures full { one_user_more (two_halves long_each) (user_record ∷ []) ≡ told_free 16 }
-    ensures last { user_after 1073741822 ≡ New user_record }
-    ensures spent { user_after 1073741823 ≡ Told Spent }
+    ensures last { user_after (MOST_RECORDS - 1) ≡ New user_record }
+    ensures spent { user_after MOST_RECORDS ≡ Told Spent }
 {}
 
 /// The size of a request, a drill's line, and the line for a fault of HTTP.

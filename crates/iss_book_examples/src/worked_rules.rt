@@ -1,5 +1,5 @@
 //! Worked scripts of one point each: turn the rule that one shows, and the checker refuses it.
-ghost use Rattle.std.specs.Prelude.{pos, ◌≡◌, ◌++◌, Some, None, codes};
+ghost use Rattle.std.specs.Prelude.{pos, ◌≡◌, Some, None, codes};
 ghost use Rattle.iss_model.specs.declared.currency.Currency.TheVariants.{Usd};
 ghost use Rattle.iss_model.specs.declared.setting.Window.TheVariants as window;
 ghost use Rattle.iss_model.specs.declared.setting.Association.TheVariants as association;
@@ -26,7 +26,7 @@ pub fn worked_reasons()
     ensures declined_increments { Plays declined_increments }
 {}
 
-/// There may be 256 products, groups, controls and sets; one that stands may be put again.
+/// There may be 256 products, groups, controls and sets each. One that stands may be put again.
 pub fn worked_full_lists()
     ensures last_product { product_reason (facts_with 255) (codes "h") ≡ None }
     ensures one_product_more { product_reason (facts_with 256) (codes "h") ≡ Some reason.Limit }

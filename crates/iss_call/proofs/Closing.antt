@@ -1,4 +1,4 @@
--- Calls as their vector has them: one that is looked up, and one that is closed.
+-- Calls as their vector has them: a call that is looked up, and a call that is closed.
 use Rattle.std.proofs.Common.{◌≡◌, ℕ, zero, suc, ◌+◌, ◌<◌, ◌≤◌, nat_lt, true, false, List, [], ◌∷◌, map, length, set, get_or, refl, sym, ap, ◌∙◌, subst, Bor, arith}
 use Rattle.std.proofs.lemmas.Bool.Decides.{nat_tests}
 use Rattle.std.specs.Prelude.{Option, Some, None, IfSome, is_some, slice_get}

@@ -12,7 +12,7 @@ is_passed_over (entry.Hold txn user currency part amount) = false
 is_passed_over (entry.Ended txn) = false
 is_passed_over _ = true
 
--- entries are a chain's in two pieces, with entries between and after them that a chain passes over
+-- entries are a chain's in two pieces, with entries between and after them that change no chain
 pub record AreMadeOf (first second all : List Entry) : Type 0 where
   pub between : List Entry
   pub after : List Entry

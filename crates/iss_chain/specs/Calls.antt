@@ -17,13 +17,13 @@ abbrev pub load_money_entries : List ℕ → Currency → ℕ → List Entry
 load_money_entries user currency amount =
     only_where amount (entry.Post (account.Programme currency) (account.User user currency) amount None ∷ [])
 
--- a part of a transaction's money is there and held: the gateway and the programme pay it in, the user's own balance has it
+-- a part of a transaction's money comes and is held: the gateway or the programme pays it in, or the user's own balance has it
 abbrev pub fund_money_entries : Txn → Part → ℕ → List Entry
 fund_money_entries t part.G amount = post_entries t (account.Gateway t.currency) (user_account t) amount ++ hold_entries t part.G amount
 fund_money_entries t part.P amount = post_entries t (account.Programme t.currency) (user_account t) amount ++ hold_entries t part.P amount
 fund_money_entries t part.S amount = hold_entries t part.S amount
 
--- up to an amount is let go, and a transaction that then holds nothing ends
+-- at most an amount of what is held is let go, and a transaction that then holds nothing ends
 abbrev pub reversal_money_entries : Txn → Parts → ℕ → List Entry
 reversal_money_entries t parts amount =
     let freed = min amount (in_all parts) in
@@ -39,19 +39,19 @@ clearing_end_entries now parts amount last =
     let rest = left_of parts (taken_to_clear parts amount) in
     if now.live && (last || in_all rest == 0) then end_money_entries now.txn rest else []
 
--- an amount more of a transaction is used
+-- a transaction uses a further amount
 abbrev pub more_use_entries : Txn → ℕ → ℕ → List Entry
 more_use_entries t amount at = only_where amount (entry.Usage (usage_of t (pos amount) (pos 0) at) ∷ [])
 
--- for a gateway product the programme pays what a clearing's hold doesn't
+-- for a gateway product the programme pays what the hold of a clearing doesn't cover
 abbrev pub excess_entries : Txn → ℕ → List Entry
 excess_entries t excess = only_gateway t (post_entries t (account.Programme t.currency) (user_account t) excess)
 
--- a clearing takes from the parts of a hold, and pays the network
+-- a clearing takes amounts from the parts of a hold, and pays them to the network
 abbrev pub cleared_hold_entries : Txn → Parts → ℕ → ℕ → List Entry
 cleared_hold_entries t parts amount at = clearing_money_entries t (taken_to_clear parts amount) amount at
 
--- an amount is paid back: this part to the programme, and the rest to the gateway
+-- an amount is paid back: one part of it to the programme, and the rest to the gateway
 abbrev pub paid_back_entries : Txn → ℕ → ℕ → List Entry
 paid_back_entries t programme amount =
     post_entries t (user_account t) (account.Programme t.currency) programme
@@ -82,7 +82,7 @@ entries_of_reverse c txn amount = entries_for c (txn_named txn c.holdings.txns) 
 abbrev pub entries_of_end : ChainNow → List ℕ → List Entry
 entries_of_end c txn = entries_for c (txn_named txn c.holdings.txns) (λ now parts. end_money_entries now.txn parts)
 
--- what a clearing takes, pays and counts as use
+-- the entries in which a clearing takes, pays and counts use
 abbrev pub entries_before_end : ChainNow → List ℕ → ℕ → ℕ → List Entry
 entries_before_end c txn amount at =
     entries_for c (txn_named txn c.holdings.txns) (λ now parts. clearing_money_entries now.txn (taken_to_clear parts amount) amount at)

@@ -21,27 +21,27 @@ pub record AreSumsSmall (sums : SumsByTxn) : Type 0 where
   pub refunded : AreSmall sums.refunded
   pub paid : AreSmall sums.paid
 
--- each sum that a chain keeps lies there too
+-- each sum that a chain keeps lies in that range too
 pub record KeepsSmall (c : ChainNow) : Type 0 where
   pub balances : AreSmall c.balances
   pub held : AreSmall c.holdings.held
   pub txn_sums : AreSumsSmall c.txn_sums
 
--- and each sum after each of these entries does too
+-- each sum lies in that range after each of these entries
 abbrev pub StaysSmall : ChainNow → List Entry → Type 0
 StaysSmall c [] = Unit {0}
 StaysSmall c (e ∷ es) = KeepsSmall (chain_after_entry c e) × StaysSmall (chain_after_entry c e) es
 
--- a transaction is unknown, and began with a record that no known one began with
+-- a transaction is unknown, and no known one began with its record
 pub record IsNewTxn (h : Holdings) (t : Txn) : Type 0 where
   pub unknown : txn_named t.token h.txns ≡ None
   pub origin : list_any (λ x. t.origin == x.txn.origin) h.txns ≡ false
 
--- it is the transaction of its token
+-- a transaction is found by its token
 abbrev pub IsTxn : Holdings → Txn → Type 0
 IsTxn h t = option_map (λ now. now.txn) (txn_named t.token h.txns) ≡ Some t
 
--- a hold is of a known transaction, of its user and currency, and lets go what is there
+-- a hold names a known transaction with its user and currency, and lets go no more than that holds
 pub record HoldFits (h : Holdings) (txn user : List ℕ) (currency : Currency) (p : Part) (amount : ℤ) : Type 0 where
   pub its : Txn
   pub stands : IsTxn h its
@@ -55,7 +55,7 @@ abbrev pub PostFits : Holdings → Option (List ℕ) → Type 0
 PostFits h None = Unit {0}
 PostFits h (Some txn) = IsSome (txn_named txn h.txns)
 
--- what an entry needs of the chain that it is entered into, but for how far sums reach
+-- what an entry needs of the chain that it is entered into, except for the range of sums
 abbrev pub Fits : ChainNow → Entry → Type 0
 Fits c (entry.Began t) = IsNewTxn c.holdings t
 Fits c (entry.Post from to amount txn) = PostFits c.holdings txn
@@ -63,7 +63,7 @@ Fits c (entry.Hold txn user currency p amount) = HoldFits c.holdings txn user cu
 Fits c (entry.Ended txn) = IsSome (txn_named txn c.holdings.txns)
 Fits c _ = Unit {0}
 
--- each of these entries has that, entered one after the other
+-- each of these entries has what it needs, if they are entered one after the other
 abbrev pub AreFit : ChainNow → List Entry → Type 0
 AreFit c [] = Unit {0}
 AreFit c (e ∷ es) = Fits c e × AreFit (chain_after_entry c e) es

@@ -1,5 +1,5 @@
--- What is kept of each transaction's posts: a row for each, in the order in which the transactions began, and the tree that has those of
--- the transactions which a post was made for.
+-- What is kept of each transaction's posts: a row for each transaction, in the order in which they began, and the tree with the rows of those
+-- for which a post was made.
 use Rattle.std.specs.Prelude.{◌≡◌, ℕ, zero, suc, ◌≤◌, ℤ, pos, ◌+ℤ◌, List, [], ◌∷◌, length, Option, Some, None, unwrap_or}
 use Rattle.std.specs.BTreeMap as tree
 use Rattle.std.specs.BTreeMap.{BTreeMap}
@@ -16,7 +16,7 @@ use Rattle.iss_chain.specs.declared.books.Books.{Books}
 use Rattle.iss_chain.specs.Values.{ChainNow}
 use Rattle.iss_chain.specs.Entering.{KeepsSmall}
 
--- the sums of a transaction that no post was made for
+-- the sums of a transaction without a post
 abbrev pub no_sums : PostSums
 no_sums = record { cleared = pos 0; refunded = pos 0; paid = pos 0 }
 
@@ -39,7 +39,7 @@ pub record IsSmallRow (s : PostSums) : Type 0 where
   pub refunded : IsSmall s.refunded
   pub paid : IsSmall s.paid
 
--- one of the sums, for each transaction that a post was made for
+-- one of the sums, for each transaction with a post
 abbrev pub row_changes : (PostSums → ℤ) → List (List ℕ) → List (Option PostSums) → List Change
 row_changes sum [] rows = []
 row_changes sum (txn ∷ txns) [] = []
@@ -55,7 +55,7 @@ txn_sums_of txns rows =
       paid = after_changes nothing_kept (row_changes (λ s. s.paid) (tokens txns) rows);
     }
 
--- the order of places
+-- places in their order
 abbrev pub by_place : ℕ → ℕ → Ordering
 by_place a b = nat_cmp a b
 
@@ -63,7 +63,7 @@ by_place a b = nat_cmp a b
 abbrev pub row_in : BTreeMap ℕ (Option PostSums) → ℕ → Option PostSums
 row_in sums place = unwrap_or (tree.get by_place sums place) None
 
--- what stands at this number of places, from one on
+-- what stands at this number of places, from a first one on
 abbrev pub rows_from : (ℕ → Option PostSums) → ℕ → ℕ → List (Option PostSums)
 rows_from row place zero = []
 rows_from row place (suc count) = row place ∷ rows_from row (suc place) count

@@ -25,7 +25,7 @@ chain_part s = record { balances = s.balances; holdings = s.holdings; txn_sums =
 abbrev pub no_chain : ChainNow
 no_chain = chain_part no_core
 
--- What each entry does to a chain: four kinds change it.
+-- what an entry does to a chain: only four kinds of entries change it
 abbrev pub chain_after_entry : ChainNow → Entry → ChainNow
 chain_after_entry c (entry.Began txn) = record c { holdings = with_txn c.holdings txn }
 chain_after_entry c (entry.Post from to amount txn) =
@@ -38,15 +38,15 @@ chain_after_entry c (entry.Hold txn user currency part amount) =
 chain_after_entry c (entry.Ended txn) = record c { holdings = with_end c.holdings txn }
 chain_after_entry c _ = c
 
--- the facts that a chain tells, as a core would that keeps nothing else
+-- the facts of a chain: those of a core that keeps nothing else
 abbrev pub chain_facts : ChainNow → Facts
 chain_facts c = core_facts (record no_core { balances = c.balances; holdings = c.holdings; txn_sums = c.txn_sums })
 
--- whether a transaction is known, and whether it hasn't ended
+-- whether a transaction is unknown, live or ended
 abbrev pub txn_state : Option TxnNow → TxnState
 txn_state None = Unknown
 txn_state (Some now) = if now.live then Live else Ended
 
--- a chain is another one after a post
+-- the second chain is the first one after a post
 abbrev pub IsPosted : ChainNow → Account → Account → ℕ → Option (List ℕ) → ChainNow → Type 0
 IsPosted before from to amount txn after = after ≡ chain_after_entry before (entry.Post from to amount txn)

@@ -25,7 +25,7 @@ pub(crate) struct Books {
 }
 
 impl Books {
-    /// No transaction and no post.
+    /// Books without a transaction or a post.
     pub(crate) fn new(alloc: Global) -> Result<Books, AllocError>
         ensures value { IfOk result (λ books. chain_of books ≡ no_chain) }
         ensures kept { IfOk result (λ books. AreKept books) }

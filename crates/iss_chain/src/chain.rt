@@ -50,7 +50,7 @@ impl Model for Chain {
 }
 
 impl Chain {
-    /// No transaction and no post.
+    /// A chain without a transaction or a post.
     pub fn new(alloc: Global) -> Result<Chain, AllocError>
         ensures { IfOk result (λ c. c ≡ no_chain) }
     {
@@ -200,7 +200,7 @@ impl Chain {
         self.books.holds.get(txn)
     }
 
-    /// What the programme has paid for a transaction, less what came back and what it holds. Of an unknown one it is nothing.
+    /// What the programme has paid for a transaction, less what came back and what it holds. For an unknown transaction it is 0.
     pub fn owed(&self, txn: &Token) -> u64
         ensures { IfSome (txn_named txn.now self.now.holdings.txns) (λ t. result ≡ owed_to_programme (chain_facts self.now) t.txn) }
     {
@@ -233,7 +233,7 @@ impl Chain {
         balance - self.books.holds.held_by(user, currency)
     }
 
-    /// Whether the refunds of a transaction with this one pass what was cleared of it. Of an unknown one they don't.
+    /// Whether the refunds of a transaction with this one pass what was cleared of it. For an unknown transaction they don't.
     pub fn over(&self, txn: &Token, amount: u64) -> bool
         ensures { result ≡ is_some_with (passes_cleared (chain_facts self.now) amount) (txn_named txn.now self.now.holdings.txns) }
     {

@@ -1,14 +1,13 @@
-//! The entries of each call on a transaction. Of an unknown one there are none.
-ghost use Rattle.std.specs.Prelude.{◌≡◌, ◌<◌, ◌^◌, ◌++◌, ◌-ℤ◌, pos, length, IfOk, IfSome, OnOk};
+//! The entries of each call on a transaction. A call on an unknown transaction makes none.
+ghost use Rattle.std.specs.Prelude.{◌≡◌, ◌<◌, ◌^◌, ◌-ℤ◌, pos, length, IfOk, IfSome};
 ghost use Rattle.iss_model.specs.state.Kept.{IsSmall};
 ghost use Rattle.iss_model.specs.rules.Activity.{txn_named};
 ghost use Rattle.iss_model.specs.rules.Facts.{not_below};
 ghost use Rattle.iss_model.specs.rules.Reasons.{is_some_with};
 ghost use Rattle.iss_model.specs.rules.CardReasons.{passes_cleared};
 ghost use Rattle.iss_model.specs.rules.Pieces.{owed_to_programme};
-ghost use Rattle.iss_hold.specs.Holdings.{now_of, parts_of, whole_of};
 ghost use Rattle.iss_chain.specs.Values.{chain_facts};
-ghost use Rattle.iss_chain.specs.Calls.{clearing_end_entries, entries_of_fund, entries_of_reverse, entries_of_end, entries_before_end, entries_of_clear, entries_of_refund};
+ghost use Rattle.iss_chain.specs.Calls.{entries_of_fund, entries_of_reverse, entries_of_end, entries_before_end, entries_of_clear, entries_of_refund};
 ghost use Rattle.iss_chain.specs.Entering.{StaysSmall};
 ghost use Rattle.iss_chain.specs.Rows.{chain_of, AreKept};
 

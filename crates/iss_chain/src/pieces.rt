@@ -1,4 +1,4 @@
-//! The pieces that entries are made of, each added after those that are made already. What comes to nothing is left out.
+//! The pieces that entries are made of, each added after those that stand already. An entry that would move nothing is left out.
 //!
 //! An amount is a whole number of minor units, a stamp a number of milliseconds since 1970. If an allocation fails, a part of
 //! a piece may be there.
@@ -78,7 +78,7 @@ fn unhold(out: &mut Vec<Entry>, txn: &Txn, part: Part, amount: u64) -> Result<()
     Ok(())
 }
 
-/// An amount of use of a transaction, which is no further ask.
+/// An amount of use of a transaction. It isn't a further ask.
 fn usage(txn: &Txn, amount: i64, at: u64) -> Entry
     ensures { result ≡ entry.Usage (usage_of txn.now amount (pos 0) at) }
 {
@@ -96,7 +96,7 @@ fn usage(txn: &Txn, amount: i64, at: u64) -> Entry
     })
 }
 
-/// So much less is used of a transaction, at its authorisation's stamp.
+/// A transaction uses less by this amount, at its authorisation's stamp.
 fn return_use(out: &mut Vec<Entry>, txn: &Txn, amount: u64) -> Result<(), AllocError>
     requires { amount < 2 ^ 63 }
     ensures { OnOk result (out.new.items ≡ out.old.items ++ use_return_entries txn.now amount) }
@@ -108,7 +108,7 @@ fn return_use(out: &mut Vec<Entry>, txn: &Txn, amount: u64) -> Result<(), AllocE
     Ok(())
 }
 
-/// So much more is used of a transaction.
+/// A transaction uses more by this amount.
 fn more_use(out: &mut Vec<Entry>, txn: &Txn, amount: u64, at: u64) -> Result<(), AllocError>
     requires { amount < 2 ^ 63 }
     ensures { OnOk result (out.new.items ≡ out.old.items ++ more_use_entries txn.now amount at) }
@@ -120,7 +120,7 @@ fn more_use(out: &mut Vec<Entry>, txn: &Txn, amount: u64, at: u64) -> Result<(),
     Ok(())
 }
 
-/// A part of a transaction's money is there and held.
+/// A part of a transaction's money comes and is held.
 pub fn fund(out: &mut Vec<Entry>, txn: &Txn, part: Part, amount: u64) -> Result<(), AllocError>
     requires { amount < 2 ^ 63 }
     ensures { OnOk result (out.new.items ≡ out.old.items ++ fund_money_entries txn.now part amount) }

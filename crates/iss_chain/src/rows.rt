@@ -7,7 +7,7 @@ use crate::sums::PostSums;
 use std::alloc::AllocError;
 use std::collections::BTreeMap;
 
-/// The sums at a place: nothing if no post was made there.
+/// The sums at a place: all 0 if no post was made for it.
 pub(crate) fn sums_of(sums: &BTreeMap<usize, Option<PostSums>>, place: usize) -> PostSums
     ensures { result ≡ row_sums (row_in sums.now place) }
 {
@@ -15,7 +15,7 @@ pub(crate) fn sums_of(sums: &BTreeMap<usize, Option<PostSums>>, place: usize) ->
     row.unwrap_or(PostSums::none())
 }
 
-/// Makes room for the sums at a place, if no post counts for that.
+/// Makes room for the sums at a place that has no post yet.
 pub(crate) fn make_room(
     sums: &mut BTreeMap<usize, Option<PostSums>>,
     place: usize,

@@ -1,4 +1,4 @@
--- Things by channel: the first one on a channel, one more, one less, and one that received something.
+-- Things by channel: the first one on a channel, and the list with one more, with one less, and after one received something.
 use Rattle.std.proofs.Common.{◌≡◌, ℕ, ◌+◌, ◌<◌, ◌^◌, ◌==◌, Bool, true, false, cond, List, [], ◌∷◌, ◌++◌, find, filter, not, refl, sym, ap, ◌∙◌, subst, true≢false, arith}
 use Rattle.std.proofs.lemmas.Bool.Decides.{nat_tests}
 use Rattle.std.specs.Prelude.{Option, Some, None, IsSome, IfSome, IfNone, is_some}

@@ -1,4 +1,4 @@
--- Things by their places: which one a key's first place has, one more, one less, and one that is changed.
+-- Things by their places: which thing stands at a key's first place, and the list with one more, with one less, and after one has changed.
 use Rattle.std.proofs.Common.{◌≡◌, ℕ, ◌<◌, ◌≤◌, nat_lt, ◌==◌, Bool, true, false, cond, not, ◌&&◌, List, [], ◌∷◌, ◌++◌, find, filter, refl, sym, ap, ◌∙◌, subst, true≢false, arith}
 use Rattle.std.proofs.lemmas.Bool.Decides.{nat_tests}
 use Rattle.std.specs.Prelude.{Option, Some, None}
@@ -179,7 +179,7 @@ module _ {T : Type 0} where
   none_above n (x ∷ es) above =
       ap (λ (r : Ordering). cond (is_eq r) (Some x.1) (lookup (is_at (nat_cmp n)) es)) above.0 ∙ none_above n es above.1
 
-  -- nor at one that is above all
+  -- nor at a place above all
   pub none_below : (n : ℕ) (es : List (ℕ × T)) → AllByRecursion (λ k. k < n) (keys_of es) → lookup (is_at (nat_cmp n)) es ≡ None
   none_below n [] below = refl
   none_below n (x ∷ es) below =
@@ -408,7 +408,7 @@ module _ {T : Type 0} (test : T → Bool) where
       ap (λ (b : Bool). filter (λ y. not (test y)) (values_of (cond b es (e ∷ remove_entry (is_at (nat_cmp place)) es)))) h
       ∙ ap (λ (ys : List T). cond (not (test e.1)) (e.1 ∷ ys) ys) (rest (sym (ap (λ (b : Bool). cond b (Some e.1) (lookup (is_at (nat_cmp place)) es)) h) ∙ at))
 
-  -- the others are those that they were once one that passes is taken out
+  -- once a thing that passes is taken out, the others are as they were
   pub others_stay : (es : List (ℕ × T)) (place : ℕ) (x : T) → test x ≡ true → lookup (is_at (nat_cmp place)) es ≡ Some x
       → filter (λ y. not (test y)) (values_of (remove_entry (is_at (nat_cmp place)) es)) ≡ filter (λ y. not (test y)) (values_of es)
   others_stay [] place x own at = refl

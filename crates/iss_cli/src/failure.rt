@@ -1,4 +1,4 @@
-//! What the program says on standard error where it ends with another status than 0.
+//! What the program says on standard error if it ends with another status than 0.
 
 ghost use Rattle.std.specs.Prelude.{◌≡◌, ◌↔◌, ◌≤◌, IsSome, IfSome};
 ghost use Rattle.iss_cli.specs.Failure.{status_of};

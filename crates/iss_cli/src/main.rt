@@ -22,7 +22,7 @@ fn main(rt: HostRuntime) -> ExitCode {
         Err(_) => USAGE,
     };
     if let Some(failure) = failure_of(status) {
-        // Where standard error takes nothing either, the status alone has to do.
+        // If standard error fails too, only the status tells.
         let _ = eprintln!(rt; "{failure}");
     }
     ExitCode::from(status)
@@ -36,8 +36,8 @@ fn status_of(rt: &HostRuntime, words: &[String]) -> u8 {
     run(rt.alloc(), words, &mut edge)
 }
 
-/// The sockets that the words ask for: clients on the one port, the gateway on the other. Where the one can't be listened on, each wait
-/// fails.
+/// The sockets that the words ask for: clients on the one port, the gateway on the other. If the program can't listen on the first,
+/// each wait fails.
 fn sockets_of(rt: &HostRuntime, words: &[String]) -> Sockets<HostRuntime> {
     let mut sockets = Sockets::none(*rt, rt.alloc());
     if let Ok(Command::Serve { port, gateway, .. }) = command_of(words) {
@@ -47,7 +47,7 @@ fn sockets_of(rt: &HostRuntime, words: &[String]) -> Sockets<HostRuntime> {
     sockets
 }
 
-/// The device that the words name. Formatting makes its file where there is none.
+/// The device that the words name. If there is no file, formatting makes one.
 fn device_of(files: &impl Files<File = File>, words: &[String]) -> Device {
     match (command_of(words), words.get(1)) {
         (Ok(Command::Format { size, .. }), Some(name)) => {

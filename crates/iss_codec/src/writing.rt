@@ -1,5 +1,5 @@
 //! Writing fields, each after what was written before.
-ghost use Rattle.std.specs.Prelude.{◌≡◌, ◌++◌, ◌∷◌, [], IsTrue, OnOk};
+ghost use Rattle.std.specs.Prelude.{◌≡◌, ◌++◌, IsTrue, OnOk};
 ghost use Rattle.std.specs.List.{flat_map, list_all};
 ghost use Rattle.iss_model.specs.Tokens.{is_token};
 ghost use Rattle.iss_model.specs.Inputs.{with_length, flag_contents, moved_contents, association_contents};

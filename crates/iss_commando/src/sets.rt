@@ -160,14 +160,14 @@ fn deciding<'a>(sets: &'a [Set], product: &Token, failure: Failure) -> Option<&'
     sets.iter().find(|set| is_for(set, product, failure))
 }
 
-/// Whether a set that stands is of another product or in another currency than the one that is put.
+/// Whether the set that stands has another product or currency than the set that is put.
 fn is_fixed(standing: &Set, put: &Set) -> bool
     ensures { result ≡ is_fixed put.now standing.now }
 {
     standing.product != put.product || standing.currency != put.currency
 }
 
-/// Gives the set of that name what may be replaced.
+/// Replaces what may be replaced of the set of that name.
 fn replace(sets: &mut [Set], put: &Set)
     ensures { sets.new ≡ map (set_after_put put.now) sets.old }
 {

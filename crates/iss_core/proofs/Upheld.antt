@@ -134,13 +134,13 @@ in_order i s up =
     half : (n asked held used : ℕ) → used + (held + 2 * asked) ≤ n * (4 * 1000000000) → asked ≤ n * 2000000000
     half n asked held used h = omega arith
 
-    far : (n : ℕ) → n < 1073741823 → n * 2000000000 < 2 ^ 62
+    far : (n : ℕ) → n < MOST_RECORDS → n * 2000000000 < 2 ^ 62
     far n h = omega arith
 
-    left : (made asked live n : ℕ) → made + 2 * asked + live ≤ 4 * n → n < 1073741823 → made + asked + 2 < 2 ^ 32
+    left : (made asked live n : ℕ) → made + 2 * asked + live ≤ 4 * n → n < MOST_RECORDS → made + asked + 2 < 2 ^ 32
     left made asked live n h room = omega arith
 
-    fewer : (calls n : ℕ) → calls ≤ n → n < 1073741823 → calls + 1 < 2 ^ 32
+    fewer : (calls n : ℕ) → calls ≤ n → n < MOST_RECORDS → calls + 1 < 2 ^ 32
     fewer calls n h room = omega arith
 
 -- names are those of one thing

@@ -70,7 +70,7 @@ next_by rs n body (r ∷ s ∷ others) e is = absurd (taken_one (drop n rs) r s 
 next_spelled : (rs : List Record) (n : ℕ) (body : List ℕ) → take (n + 1) (bodies_of rs) ≡ take n (bodies_of rs) ++ body ∷ [] → NextSpelled rs n body
 next_spelled rs n body e = next_by rs n body (take 1 (drop n rs)) e refl
 
--- one record alone may be left behind
+-- only one record may be left behind
 same_left : (region : Region) (bodies : List (List ℕ)) (x y device : List ℕ) → LeavesBehind region bodies x device → LeavesBehind region bodies y device → x ≡ y
 same_left region bodies x y device p q =
     let opened = set device (length (bytes_before_gate region bodies)) 1 in

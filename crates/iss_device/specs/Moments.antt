@@ -17,8 +17,8 @@ pub record BeginsAtRest (instance : ℕ) (rs : List Record) (device : List ℕ) 
   pub rest : IsAtRest d
   pub starts : OpensFirst (region_of instance (length device)) (bodies_of rs) device d.bytes (length rs)
 
--- Where it may begin, too: no write was left failed, but maybe some are unsynced, as after a kill. The device reads so, and as it reads
--- it stands firmly for these records.
+-- A run may also begin here: no write failed, but some may be unsynced, as after a kill. The device reads so, and as it reads it stands
+-- firmly for these records.
 pub record BeginsUnsynced (instance : ℕ) (rs : List Record) (device : List ℕ) (d : Disk) : Type 0 where
   pub none_failed : (place : ℕ) → d.failed place ≡ false
   pub starts : OpensFirst (region_of instance (length device)) (bodies_of rs) device d.bytes (length rs)
@@ -27,9 +27,9 @@ pub record BeginsUnsynced (instance : ℕ) (rs : List Record) (device : List ℕ
 abbrev pub IsWithin : List Step → List Step → Type 0
 IsWithin opening before = (later : List Step) × (opening ≡ before ++ later)
 
--- What a stop leaves at a moment of a run, once these steps were done: the records that stood and some first ones of those that it makes,
--- at least as many as the level of each text of which a byte went out, with nothing or the next of them left behind; or, as long as
--- the steps are those of the opening, the records that stood, with what was left behind them at the start, or with that one too.
+-- What a stop leaves at a moment of a run, once these steps were done: the records that stood and the first of those that it makes,
+-- at least as many as the level of each text of which a byte went out, with nothing or the next of them left behind. Or, as long as
+-- the steps are those of the opening, the records that stood, with what was left behind them at the start, or with that record too.
 abbrev pub MomentStands : ℕ → List Record → List Record → List Step → List Step → List ℕ → List ℕ → Type 0
 MomentStands instance rs all opening before start image =
     ShowsUpTo (StandsIn (region_of instance (length start)) all) (length rs) (length all) before image
@@ -37,7 +37,7 @@ MomentStands instance rs all opening before start image =
     × ShowsUpTo (OpenedOrOneMore (region_of instance (length start)) (bodies_of all) start) (length rs) (length rs) before image)
 
 -- Each moment of these steps, first those of the opening and then the later ones, on a device at rest that stands firmly for these
--- records, where all of those may stand in the end.
+-- records, if all of those may stand in the end.
 abbrev pub EachMoment : ℕ → List Record → List Record → List Step → List Step → List ℕ → Type 0
 EachMoment instance rs all opening later device =
     (d : Disk) → BeginsAtRest instance rs device d
@@ -66,7 +66,7 @@ pub record StandsFirmly (instance : ℕ) (rs : List Record) (device : List ℕ) 
   pub firm : ShowsClosed (region_of instance (length device)) (bodies_of rs) device
       ⊎ ((r : Record) × (AreHistory (rs ++ r ∷ []) × LeavesBehind (region_of instance (length device)) (bodies_of rs) (spelling r) device))
 
--- What a stop leaves stands firmly for the first ones of these records, or for those that stood and any one more. They are at least as many
+-- What a stop leaves stands firmly for the first of these records, or for those that stood and any one more. They are at least as many
 -- as those that stood, and as the level of each text of which a byte went out.
 pub record StopStands (instance : ℕ) (rs made : List Record) (before : List Step) (image : List ℕ) : Type 0 where
   pub now : List Record
@@ -75,7 +75,7 @@ pub record StopStands (instance : ℕ) (rs made : List Record) (before : List St
   pub told : SentUpTo (length now) before
   pub which : AreFirstOf now made ⊎ ((r : Record) × (now ≡ rs ++ r ∷ []))
 
--- So it is at each moment of these steps, if it was so at the start: the next run may begin with whatever a stop leaves.
+-- This holds at each moment of these steps, if it held at the start: the next run may begin with whatever a stop leaves.
 abbrev pub EachStopStands : ℕ → List Record → List Record → List Step → List ℕ → Type 0
 EachStopStands instance rs made steps device =
     (d : Disk) → IsAtRest d → d.bytes ≡ device → StandsFirmly instance rs device

@@ -28,9 +28,9 @@ pub record IsStore (device : List ℕ) : Type 0 where
   pub rs : List Record
   pub stands : DeviceStandsFor instance rs device
 
--- The status of a bad device comes only where the device stands for no records by one of these faults; nothing was done then but maybe a sync, and the
--- device reads as before. On such a device no other status comes but by a fault of the disk or of memory, and at any status no byte was
--- taken, and nothing was sent. So any further status comes only on a device that stands for records.
+-- The status is that of a bad device only if the device stands for no records by one of these faults. Then nothing was done but maybe a sync,
+-- and the device reads as before. On such a device another status comes only by a fault of the disk or of memory. At any status no byte was
+-- taken, and nothing was sent. So every other status means that the device stands for records.
 pub record RefusesExactly (status : ℕ) (a b : World) : Type 0 where
   pub only : status ≡ BAD_DEVICE → IsNoStore a.device × ReadsAlone a b
   pub there : IsNoStore a.device → (status ≡ BAD_DEVICE) ⊎ ((status ≡ DISK_FAULT) ⊎ (status ≡ OUT_OF_MEMORY))

@@ -34,7 +34,7 @@ clearing i y = input.Clearing (named (codes "e") i) (past_event i y) Usd (amount
 abbrev pub reversal : ℕ → ℕ → Input
 reversal i y = input.Reversal (named (codes "e") i) (past_event i y) Usd (amount_of y)
 
--- of eight numbers that may be drawn two clear, one reverses, and the others buy
+-- of eight numbers that may be drawn, two make a clearing, one a reversal, and the others a purchase
 unfoldable pub own_event : ℕ → ℕ → Input
 own_event i y =
     if y % 8 == 4 then clearing i y
@@ -42,7 +42,7 @@ own_event i y =
     else if y % 8 == 6 then reversal i y
     else purchase i y
 
--- of eight numbers one repeats the event before, if there is one
+-- of eight numbers that may be drawn, one repeats the event before, if there is one
 abbrev pub is_again : ℕ → Bool
 is_again i = drawn i % 8 == 7 && nat_lt 1 i
 

@@ -1,19 +1,23 @@
 -- What giving a line to a store comes to, in a run at which the store stands.
-use Rattle.std.specs.Prelude.{◌≡◌, ℕ, ◌+◌, Bool, true, List, length, Option, Some, if◌then◌else◌}
+use Rattle.std.specs.Prelude.{◌≡◌, ℕ, ◌×◌, ◌+◌, Bool, true, List, [], ◌∷◌, ◌++◌, length, Option, Some, None, Result, IfOk, OnOk, if◌then◌else◌}
 use Rattle.iss_model.specs.declared.call.CallId.{CallId}
 use Rattle.iss_model.specs.declared.input.Input.{Input}
 use Rattle.iss_model.specs.declared.input.Record.{Record}
 use Rattle.iss_model.specs.declared.decision.Judged.{Judged}
+use Rattle.iss_model.specs.rules.Judging.{judge}
 use Rattle.iss_model.specs.rules.Stepping.{step}
 use Rattle.iss_model.specs.rules.Histories.{history_keeper, history_of}
 use Rattle.iss_model.specs.run.Rooms.{room_left}
-use Rattle.iss_model.specs.run.Transcripts.{Reading}
-use Rattle.iss_model.specs.run.Runs.{Run, response_as, run_after}
+use Rattle.iss_model.specs.run.Transcripts.{Reading, sound}
+use Rattle.iss_model.specs.run.Runs.{Run, judgement_in, response_as, run_after}
 use Rattle.iss_store.specs.Numbers.{is_from_one}
 use Rattle.iss_store.specs.Values.{StoreNow, room_of}
 use Rattle.iss_store.specs.Standing.{StandsFor}
 use Rattle.iss_drill.specs.declared.tally.Tally.{Tally}
-use Rattle.iss_drill.specs.Drills.{call_opened, entries_as, tells_repeat_as, repeats_among, is_approval, is_decline, is_notice_made, rows_with}
+use Rattle.iss_drill.specs.Generated.{drawn}
+use Rattle.iss_drill.specs.Setup.{setup_input}
+use Rattle.iss_drill.specs.Events.{event_input}
+use Rattle.iss_drill.specs.Drills.{call_opened, entries_as, tells_repeat, tells_repeat_as, repeats_among, is_approval, is_decline, is_notice_made, rows_with, event_lines}
 use Rattle.iss_drill.specs.Tallies.{Counts}
 
 -- a store stands at a run: for its records, whose history is the run's, on its device
@@ -64,3 +68,28 @@ pub record HasGiven (start : Run) (given : List Reading) (t : Tally) (s : StoreN
   pub notices : t.notices ≡ rows_with is_notice_made (run_after start given).history.rows
   pub lines : t.lines ≡ length given
   pub repeats : t.repeats ≡ repeats_among start given
+
+-- If the call succeeded, the input was taken at a stamp, in whichever run the store stood.
+abbrev pub TakesInput : {F : Type 0} → Input → ℕ → Tally → Tally → StoreNow → Result (StoreNow × Option CallId) F → Type 0
+TakesInput i at before after store result =
+    (run : Run) → StandsAtRun store run → IfOk result (λ x. Takes run i at (judgement_in run i at) before after x.0 x.1)
+
+-- If the call succeeded, the input was told the answer that is left for it at a stamp, in whichever run the store stands.
+abbrev pub TellsLeft : {T F : Type 0} → Input → ℕ → Tally → Tally → StoreNow → Result T F → Type 0
+TellsLeft i at before after store result =
+    (run : Run) → StandsAtRun store run → OnOk result (TellsAnswer (tells_repeat (judge history_keeper run.history i at)) before after)
+
+-- If the store was given the first of these lines, and the call succeeded, the store was given the others.
+abbrev pub Gives : {F : Type 0} → Run → List Reading → List Reading → Tally → Tally → StoreNow → Result StoreNow F → Type 0
+Gives start lines more before after store result = HasGiven start lines before store → IfOk result (λ s. HasGiven start more after s)
+
+-- If the call succeeded, the store was given the input of this number of the set-up, whichever lines came before it.
+abbrev pub GivesSetup : {F : Type 0} → ℕ → Tally → Tally → StoreNow → Result StoreNow F → Type 0
+GivesSetup number before after store result =
+    (start : Run) → (lines : List Reading) → Gives start lines (lines ++ sound (setup_input number) None ∷ []) before after store result
+
+-- If the call succeeded, the store was given the event of this number and what it draws, and the answer of its call, whichever lines came before.
+abbrev pub GivesEvent : {F : Type 0} → ℕ → Input → ℕ → Tally → Tally → StoreNow → Result StoreNow F → Type 0
+GivesEvent number event y before after store result =
+    (start : Run) → (lines : List Reading) → event ≡ event_input number → y ≡ drawn number
+    → Gives start lines (lines ++ event_lines (run_after start lines) number) before after store result

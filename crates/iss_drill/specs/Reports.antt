@@ -26,7 +26,7 @@ totals_in t =
       repeats = t.repeats;
     }
 
--- what these facts and this tally come to
+-- the totals of these facts and this tally
 abbrev pub totals_by : Facts → Tally → DrillTotals
 totals_by f t =
     record {
@@ -46,6 +46,6 @@ totals_by f t =
 abbrev pub HoldsAreFew : CoreState → Type 0
 HoldsAreFew s = AreWithin (2 ^ 58) s.holdings.held
 
--- these totals are what these facts and this tally come to
+-- these totals are those of these facts and this tally
 abbrev pub IsTotals : Facts → Tally → Totals → Type 0
 IsTotals f t totals = totals_in totals ≡ totals_by f t

@@ -20,7 +20,7 @@ pub record Counts (entries : List Entry) (before after : Tally) : Type 0 where
   pub lines : after.lines ≡ before.lines
   pub repeats : after.repeats ≡ before.repeats
 
--- this number of entries more can be counted
+-- this number of further entries can be counted
 pub record Room (more : ℕ) (t : Tally) : Type 0 where
   pub approved : t.approved + more < 2 ^ 128
   pub declined : t.declined + more < 2 ^ 128

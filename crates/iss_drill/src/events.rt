@@ -9,7 +9,7 @@ use iss_model::{Currency, Input, Outcome, Token};
 /// The merchant category code of all purchases: grocery stores.
 const GROCERIES: u16 = 5411;
 
-/// The event of this number that isn't the one before it again, by what was drawn for it.
+/// The event of this number by what was drawn for it, if it doesn't repeat the one before it.
 #[tactic(auto, unfolding(crate::specs::Events::own_event))]
 fn own_event(number: u32, drawn: u32) -> Input
     requires first { 1 ≤ number }
@@ -24,7 +24,7 @@ fn own_event(number: u32, drawn: u32) -> Input
     }
 }
 
-/// The event of this number: the one before it again if that is drawn, or its own.
+/// The event of this number: its own, or the one before it again if a repeat is drawn.
 pub(crate) fn next_event(number: u32, drawn: u32, last: Input) -> Input
     requires first { 1 ≤ number }
     requires small { drawn < 32768 }

@@ -1,15 +1,12 @@
-//! A line of a drill: it is planned, committed and released as one that comes in.
-ghost use Rattle.std.specs.Prelude.{◌≡◌, ◌+◌, ◌*◌, ◌<◌, ◌≤◌, ◌^◌, ◌∷◌, ◌++◌, [], ℕ, Bool, List, Option, unwrap_or, IfOk, IfSome, OnOk, IsTrue};
+//! A line of a drill: it is planned, committed and released as a line that comes in.
+ghost use Rattle.std.specs.Prelude.{◌≡◌, ◌+◌, ◌<◌, ◌^◌, ◌∷◌, ◌++◌, [], ℕ, Bool, List, Option, unwrap_or, IfOk, IfSome, OnOk, IsTrue};
 ghost use Rattle.iss_model.specs.Forms.{is_in_form, is_stamp};
-ghost use Rattle.iss_model.specs.declared.decision.Judged.{Judged};
-ghost use Rattle.iss_model.specs.rules.Judging.{judge};
-ghost use Rattle.iss_model.specs.rules.Histories.{history_keeper};
 ghost use Rattle.iss_model.specs.run.Transcripts.{Reading, sound};
-ghost use Rattle.iss_model.specs.run.Runs.{Run, judgement_in, run_after};
+ghost use Rattle.iss_model.specs.run.Runs.{Run, run_after};
 ghost use Rattle.iss_store.specs.Planning.{IsPlanOf};
-ghost use Rattle.iss_drill.specs.Drills.{call_opened_in, is_repeat, tells_repeat};
+ghost use Rattle.iss_drill.specs.Drills.{call_opened_in, is_repeat};
 ghost use Rattle.iss_drill.specs.Tallies.{IsFew};
-ghost use Rattle.iss_drill.specs.Giving.{StandsAtRun, Keeps, TellsAnswer, IsCallNumbered, Takes, HasGiven};
+ghost use Rattle.iss_drill.specs.Giving.{StandsAtRun, Keeps, TellsAnswer, IsCallNumbered, TakesInput, TellsLeft, HasGiven};
 
 use crate::tally::{Tally, call_opened};
 use iss_edge::{Channel, Edge};
@@ -62,8 +59,7 @@ fn take<E: Edge>(
     requires stamp { IsTrue (is_stamp at) }
     requires room { tally.old.lines < 2 ^ 20 }
     requires few { IsFew tally.old.lines tally.old }
-    ensures takes { (run : Run) → StandsAtRun store run
-        → IfOk result (λ x. Takes run input.now at (judgement_in run input.now at) tally.old tally.new x.0 x.1) }
+    ensures takes { TakesInput input.now at tally.old tally.new store result }
     ensures lines { OnOk result (tally.new.lines ≡ tally.old.lines) }
     ensures numbered { IfOk result (λ x. IfSome x.1 IsCallNumbered) }
     ensures few { OnOk result (IsFew (tally.old.lines + 1) tally.new) }
@@ -131,8 +127,7 @@ fn tell_left<E: Edge>(
     requires input_form { IsTrue (is_in_form input.now) }
     requires stamp { IsTrue (is_stamp at) }
     requires room { tally.old.repeats < 2 ^ 20 }
-    ensures tells { (run : Run) → StandsAtRun store.now run
-        → OnOk result (TellsAnswer (tells_repeat (judge history_keeper run.history input.now at)) tally.old tally.new) }
+    ensures tells { TellsLeft input.now at tally.old tally.new store.now result }
     ensures told { OnOk result ((yes : Bool) × TellsAnswer yes tally.old tally.new) }
     ensures kept { E.extent device.new ≡ E.extent device.old }
 {

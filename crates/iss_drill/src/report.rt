@@ -1,5 +1,5 @@
 //! What a drill comes to, and its line.
-ghost use Rattle.std.specs.Prelude.{◌≡◌, [], ◌∷◌, ◌++◌, ◌+ℤ◌, codes, IfOk, OnOk};
+ghost use Rattle.std.specs.Prelude.{◌≡◌, ◌∷◌, ◌++◌, ◌+ℤ◌, codes, IfOk, OnOk};
 ghost use Rattle.iss_model.specs.declared.currency.Currency.TheVariants.{Usd};
 ghost use Rattle.iss_model.specs.Amounts.{amount_text};
 ghost use Rattle.iss_model.specs.rules.Facts.{held_in};

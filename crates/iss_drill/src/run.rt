@@ -1,19 +1,15 @@
 //! A drill, from an empty device to its line.
-ghost use Rattle.std.specs.Prelude.{◌≡◌, ◌+◌, ◌*◌, ◌<◌, ◌≤◌, ◌^◌, [], ◌∷◌, ◌++◌, ℕ, List, None, IfOk, OnOk, OnErr, IsTrue, IsSomeAnd, vec_len};
+ghost use Rattle.std.specs.Prelude.{◌≡◌, ◌+◌, ◌*◌, ◌<◌, ◌≤◌, ◌^◌, [], ◌∷◌, ℕ, List, IfOk, OnOk, OnErr, IsTrue, IsSomeAnd, vec_len};
 ghost use Rattle.iss_edge.specs.World.{Told};
 ghost use Rattle.iss_journal.specs.declared.layout.TheConstants.{LEAST_SIZE, GREATEST_SIZE};
 ghost use Rattle.iss_model.specs.Forms.{is_in_form};
-ghost use Rattle.iss_model.specs.run.Transcripts.{Reading, sound};
-ghost use Rattle.iss_model.specs.run.Runs.{Run, run_after};
+ghost use Rattle.iss_model.specs.run.Runs.{Run};
 ghost use Rattle.iss_texts.specs.Sending.{Says, SaysSome};
 ghost use Rattle.iss_store.specs.Standing.{StandsFor};
 ghost use Rattle.iss_drill.specs.declared.limits.TheConstants.{MOST_EVENTS};
-ghost use Rattle.iss_drill.specs.Generated.{drawn};
-ghost use Rattle.iss_drill.specs.Setup.{setup_input};
-ghost use Rattle.iss_drill.specs.Events.{event_input};
-ghost use Rattle.iss_drill.specs.Drills.{drill_run, setup_lines, event_lines, drill_lines, drill_text, DrillCause};
-ghost use Rattle.iss_drill.specs.Tallies.{no_tally, IsFew};
-ghost use Rattle.iss_drill.specs.Giving.{HasGiven};
+ghost use Rattle.iss_drill.specs.Drills.{drill_run, setup_lines, drill_lines, drill_text, DrillCause};
+ghost use Rattle.iss_drill.specs.Tallies.{IsFew};
+ghost use Rattle.iss_drill.specs.Giving.{Gives, GivesSetup, GivesEvent};
 
 use crate::DrillFault;
 use crate::device::Quiet;
@@ -109,7 +105,7 @@ fn device_in_memory(alloc: Global, bytes: Vec<u8>) -> Result<MemoryEdge, AllocEr
     MemoryEdge::new(alloc, bytes, nothing, Vec::new(alloc), Vec::new(alloc))
 }
 
-/// Gives the inputs that a drill begins with.
+/// Gives the store the inputs that a drill begins with.
 fn set_up(
     alloc: Global,
     fresh: Store,
@@ -119,7 +115,7 @@ fn set_up(
     requires size { ⟦<Quiet as Edge>⟧.extent device.old ≡ fresh.place.to }
     requires start { tally.old.lines ≡ 0 }
     requires few { IsFew 0 tally.old }
-    ensures given { (start : Run) → HasGiven start [] tally.old fresh → IfOk result (λ s. HasGiven start (setup_lines INPUTS) tally.new s) }
+    ensures given { (start : Run) → Gives start [] (setup_lines INPUTS) tally.old tally.new fresh result }
     ensures lines { OnOk result (tally.new.lines ≡ INPUTS) }
     ensures few { OnOk result (IsFew INPUTS tally.new) }
     ensures kept { ⟦<Quiet as Edge>⟧.extent device.new ≡ ⟦<Quiet as Edge>⟧.extent device.old }
@@ -132,7 +128,7 @@ fn set_up(
     Ok(store)
 }
 
-/// Gives the input of this number, from 1 on, of those that a drill begins with.
+/// Gives the store the input of this number, from 1 on, of those that a drill begins with.
 fn give_setup(
     alloc: Global,
     store: Store,
@@ -145,8 +141,7 @@ fn give_setup(
     requires size { ⟦<Quiet as Edge>⟧.extent device.old ≡ store.place.to }
     requires room { tally.old.lines < 2 ^ 20 }
     requires few { IsFew tally.old.lines tally.old }
-    ensures given { (start : Run) (lines : List Reading) → HasGiven start lines tally.old store
-        → IfOk result (λ s. HasGiven start (lines ++ sound (setup_input number) None ∷ []) tally.new s) }
+    ensures given { GivesSetup number tally.old tally.new store result }
     ensures lines { OnOk result (tally.new.lines ≡ tally.old.lines + 1) }
     ensures few { OnOk result (IsFew (tally.old.lines + 1) tally.new) }
     ensures kept { ⟦<Quiet as Edge>⟧.extent device.new ≡ ⟦<Quiet as Edge>⟧.extent device.old }
@@ -156,7 +151,7 @@ fn give_setup(
     Ok(next)
 }
 
-/// Gives the events, each with the answer of the call that it opens.
+/// Gives the store the events, each with the answer of the call that it opens.
 fn give_events(
     alloc: Global,
     n: u32,
@@ -168,8 +163,7 @@ fn give_events(
     requires size { ⟦<Quiet as Edge>⟧.extent device.old ≡ ready.place.to }
     requires start { tally.old.lines ≡ INPUTS }
     requires few { IsFew INPUTS tally.old }
-    ensures given { HasGiven (drill_run n) (setup_lines INPUTS) tally.old ready
-        → IfOk result (λ s. HasGiven (drill_run n) (drill_lines n) tally.new s) }
+    ensures given { Gives (drill_run n) (setup_lines INPUTS) (drill_lines n) tally.old tally.new ready result }
     ensures lines { OnOk result (tally.new.lines ≤ INPUTS + 2 * n) }
 {
     let mut store = ready;
@@ -184,7 +178,7 @@ fn give_events(
     Ok(store)
 }
 
-/// Gives the event of this number, and then the answer of the call that it opens, if it opens one.
+/// Gives the store the event of this number, and then the answer of the call that it opens, if it opens one.
 fn give_event(
     alloc: Global,
     store: Store,
@@ -199,9 +193,7 @@ fn give_event(
     requires form { IsTrue (is_in_form event.now) }
     requires room { tally.old.lines + 1 < 2 ^ 20 }
     requires few { IsFew tally.old.lines tally.old }
-    ensures given { (start : Run) (lines : List Reading) → event.now ≡ event_input number → y ≡ drawn number
-        → HasGiven start lines tally.old store
-        → IfOk result (λ s. HasGiven start (lines ++ event_lines (run_after start lines) number) tally.new s) }
+    ensures given { GivesEvent number event.now y tally.old tally.new store result }
     ensures lines { OnOk result (tally.new.lines ≤ tally.old.lines + 2) }
     ensures few { OnOk result (IsFew tally.new.lines tally.new) }
     ensures kept { ⟦<Quiet as Edge>⟧.extent device.new ≡ ⟦<Quiet as Edge>⟧.extent device.old }

@@ -92,7 +92,7 @@ pub rests_after : (d : Disk) (at : ℕ) (bytes : List ℕ) → IsAtRest d → Is
 rests_after d at bytes rest =
     record { settled = λ place. none_failed (touches at bytes place) (d.failed place) (second_false (d.touched place) (d.failed place) (rest.settled place)) }
 
--- a sync leaves a device at rest so, even one that failed
+-- a sync leaves a device at rest, even if it failed
 pub rests_synced : (d : Disk) (ok : Bool) → IsAtRest d → IsAtRest (after_action d (Sync ok))
 rests_synced d true rest =
     record { settled = λ place. none_failed false (d.failed place) (second_false (d.touched place) (d.failed place) (rest.settled place)) }

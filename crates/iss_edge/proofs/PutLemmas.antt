@@ -1,4 +1,4 @@
--- What a stop leaves amid puts, and puts one after the other.
+-- What a stop leaves amid puts, and puts in a row.
 use Rattle.std.proofs.Common.{◌≡◌, ℕ, suc, Bool, true, false, List, [], ◌∷◌, ◌++◌, inl, inr, refl, sym, ap, ◌∙◌, subst, append_assoc, append-nil}
 use Rattle.iss_edge.specs.declared.outside.Action.{Action}
 use Rattle.iss_edge.specs.declared.outside.Action.TheVariants.{Write, Sync}
@@ -8,7 +8,7 @@ use Rattle.iss_edge.specs.Disk.{Disk, after_action, after_actions, splice, IsAtR
 use Rattle.iss_edge.specs.Puts.{Put, one_put, after_puts, actions_of_puts, Ran, Puts, PutsPart, syncs_after, Holds}
 use Rattle.iss_edge.proofs.Images.{rest_image, IsTorn, torn_image, rests_after}
 
--- a prefix of such actions is one too
+-- a prefix of such actions consists of such actions
 pub ran_front : (puts : List Put) (x y : List Action) → Ran puts (x ++ y) → Ran puts x
 ran_front puts [] y ran = tt
 ran_front [] (a ∷ x) y ran = ran
@@ -23,13 +23,13 @@ pub holds_now : (P : ℕ → List ℕ → Type 0) (n : ℕ) (bytes : List ℕ) (
 holds_now P n bytes [] h = h
 holds_now P n bytes (put ∷ puts) h = h.1
 
--- amid the write of the first put
+-- the stop is amid the write of the first put
 torn_moment : (P : ℕ → List ℕ → Type 0) (n : ℕ) (put : Put) (puts : List Put) (d : Disk) (ok : Bool) → IsAtRest d → Holds P n d.bytes (put ∷ puts) → (image : List ℕ) → IsImage (after_action d (Write put.at put.bytes ok)) image → P n image
 torn_moment P n put puts d ok rest h image is =
     let torn : IsTorn put.at put.bytes d.bytes image = torn_image d put.at put.bytes ok image rest h.0 is in
     subst (P n) (sym torn.is) (h.2 torn.torn torn.whole)
 
--- after the sync of the first put was tried
+-- the stop is after the sync of the first put was tried
 synced_moment : (P : ℕ → List ℕ → Type 0) (n : ℕ) (put : Put) (puts : List Put) (d : Disk) (ok : Bool) → IsAtRest d → Holds P n d.bytes (put ∷ puts) → (image : List ℕ) → IsImage (after_actions d (Write put.at put.bytes true ∷ Sync ok ∷ [])) image → P (syncs_after n (Sync ok ∷ [])) image
 synced_moment P n put puts d true rest h image is =
     let now = after_actions d (Write put.at put.bytes true ∷ Sync true ∷ []) in
@@ -57,7 +57,7 @@ put_moments P n (put ∷ puts) d (a ∷ b ∷ c ∷ more) rest h ran image is =
     let sync_back : P (syncs_after n (Write put.at put.bytes true ∷ b ∷ c ∷ more)) image = subst (λ (x : Action). P (syncs_after n (Write put.at put.bytes true ∷ x ∷ c ∷ more)) image) (sym ran.1) there in
     subst (λ (x : Action). P (syncs_after n (x ∷ b ∷ c ∷ more)) image) (sym ran.0) sync_back
 
--- all the actions of puts are such actions, and more of them may come after
+-- the actions of puts are such actions, also with more of them after these
 pub ran_all : (puts : List Put) → Ran puts (actions_of_puts puts)
 ran_all [] = tt
 ran_all (put ∷ []) = (true, refl, refl)
@@ -86,7 +86,7 @@ pub after_puts-append : (bytes : List ℕ) (puts more : List Put) → after_puts
 after_puts-append bytes [] more = refl
 after_puts-append bytes (put ∷ puts) more = after_puts-append (splice put.at put.bytes bytes) puts more
 
--- puts one after the other, and those of which a part was made
+-- puts in a row, of which the last ones were made in part
 pub puts_then : (puts more : List Put) (a b c : World) → Puts puts a b → Puts more b c → Puts (puts ++ more) a c
 puts_then puts more a b c first second =
     record {
@@ -121,7 +121,7 @@ pub part_all : (puts : List Put) (a b : World) → Puts puts a b → PutsPart pu
 part_all puts a b all =
     record { left = all.left; actions = actions_of_puts puts; trace = all.trace; ran = ran_all puts }
 
--- a put that was made, by its write and its sync
+-- a put was made, by its write and its sync
 pub put_made : (at : ℕ) (bytes : List ℕ) (a b c : World) → Writes at bytes a b → Syncs b c → Puts (one_put at bytes) a c
 put_made at bytes a b c wrote made =
     record {
@@ -131,7 +131,7 @@ put_made at bytes a b c wrote made =
       trace = made.trace ∙ ap (λ (l : List Action). l ++ Sync true ∷ []) wrote.trace ∙ append_assoc a.trace (Write at bytes true ∷ []) (Sync true ∷ []);
     }
 
--- a put whose write failed
+-- a put failed in its write
 pub put_unwritten : (at : ℕ) (bytes : List ℕ) (a b : World) → WritesPart at bytes a b → PutsPart (one_put at bytes) a b
 put_unwritten at bytes a b part =
     elim part.how [
@@ -139,7 +139,7 @@ put_unwritten at bytes a b part =
       | inr tears ↦ record { left = part.left; actions = Write at bytes false ∷ []; trace = tears.added; ran = (false, refl) }
     ]
 
--- a put whose sync failed
+-- a put failed in its sync
 pub put_unsynced : (at : ℕ) (bytes : List ℕ) (a b c : World) → Writes at bytes a b → SyncsPart b c → PutsPart (one_put at bytes) a c
 put_unsynced at bytes a b c wrote part =
     elim part.how [

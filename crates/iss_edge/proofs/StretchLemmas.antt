@@ -78,7 +78,7 @@ parts (s ∷ ss) (a ∷ x) y e =
       second_is = p.second_is;
     }
 
--- a stretch that goes on, and a good one from where it ends
+-- a stretch that goes on, and a good one from its end
 pub join : (starts stands mids : List ℕ → ℕ → Type 0) → StretchesJoin starts stands mids
 join starts stands mids j k l a b first second =
     record {
@@ -134,7 +134,7 @@ good_up starts stands j k l steps le good =
           record { i = shows.i; low = shows.low; high = omega (arith, shows.high); stand = shows.stand; told = shows.told };
     }
 
--- less may be where it starts
+-- at the start less may stand
 pub good_from : (starts narrower stands : List ℕ → ℕ → Type 0) (j k : ℕ) (steps : List Step) → ((bytes : List ℕ) → narrower bytes j → starts bytes j) → IsGood starts stands j k steps → IsGood narrower stands j k steps
 good_from starts narrower stands j k steps narrows good =
     record { each = λ d rest start before after cut image is. good.each d rest (narrows d.bytes start) before after cut image is }
@@ -190,7 +190,7 @@ pub none_goes_on : (starts stands : List ℕ → ℕ → Type 0) (j : ℕ) (step
 none_goes_on starts stands j steps shows none =
     still_goes_on starts stands j steps shows (subst (λ (l : List Action). AreStill l) (sym none) tt) (silent_none j steps none)
 
--- a sync of a device at rest, also one that fails, changes nothing
+-- a sync of a device at rest changes nothing, even if it fails
 sync_image : (d : Disk) (ok : Bool) (image : List ℕ) → IsAtRest d → IsImage (after_action d (Sync ok)) image → image ≡ d.bytes
 sync_image d ok image rest is = rest_image (after_action d (Sync ok)) image (rests_synced d ok rest) is
 
@@ -228,7 +228,7 @@ sync_goes_on starts stands j ok steps shows e =
         (omega (arith, none), tt)
     silent (s ∷ t ∷ x) y i ok e = absurd cc
 
--- an emit, also one that failed, is still
+-- an emit is still, even if it failed
 pub emit_still : (ch : Channel) (bytes : List ℕ) (a b : World) → Emits ch bytes a b → AddsStill a b
 emit_still ch bytes a b emits =
     record { device = emits.device; left = emits.left; added = Emit ch bytes true ∷ []; grew = emits.trace; still = (refl, tt) }

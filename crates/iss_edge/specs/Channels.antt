@@ -9,7 +9,7 @@ use Rattle.iss_edge.specs.declared.counts.Fault.TheVariants.{Disk, Input, Output
 use Rattle.iss_edge.specs.World.{Faults}
 
 -- The channels of an edge, by number: those that clients came on and those that were dialled, without those that were closed
--- since, and the one that was last said to be ready.
+-- since, and the channel that was last said to be ready.
 pub record Channels : Type 0 where
   pub clients : List ℕ
   pub dialled : List ℕ

@@ -65,7 +65,7 @@ is_client_number ch = nat_le 1 ch && nat_le ch GREATEST_CLIENT
 abbrev pub is_dialled_number : ℕ → ℕ → Bool
 is_dialled_number dials ch = nat_lt GREATEST_CLIENT ch && nat_lt ch (dials + FIRST_DIALLED)
 
--- clients are to come on numbers of theirs, each on one that is not known and that no client before it came on
+-- clients are to come on clients' numbers, each on a number that isn't known and on which no client before it came
 abbrev pub are_to_come : List ℕ → List Script → Bool
 are_to_come known [] = true
 are_to_come known (Client ch ∷ items) =

@@ -5,7 +5,7 @@ use Rattle.iss_edge.specs.declared.outside.Action.TheVariants.{Write, Sync, Emit
 use Rattle.iss_edge.specs.World.{World}
 use Rattle.iss_edge.specs.Disk.{Disk, after_actions, IsAtRest, IsImage}
 
--- an action, and for one that emits the level of its text: how many records must stand wherever a byte of it went out
+-- An action, and if it emits, the level of its text: how many records must stand once a byte of the text went out.
 pub record Step : Type 0 where
   pub action : Action
   pub level : ℕ
@@ -54,12 +54,12 @@ pub record GoesOn (starts stands ends : List ℕ → ℕ → Type 0) (j k : ℕ)
   pub at_rest : (d : Disk) → IsAtRest d → starts d.bytes j → IsAtRest (after_actions d (actions_of steps))
   pub rest : (d : Disk) → IsAtRest d → starts d.bytes j → ends (after_actions d (actions_of steps)).bytes k
 
--- a stretch after which the run goes on, and a good one from where it ends, are one good stretch
+-- a stretch after which the run goes on, and a good one from its end, are one good stretch
 abbrev pub StretchesJoin : (starts stands mids : List ℕ → ℕ → Type 0) → Type 0
 StretchesJoin starts stands mids =
     (j k l : ℕ) (a b : List Step) → GoesOn starts stands mids j k a → IsGood mids stands k l b → IsGood starts stands j l (a ++ b)
 
--- and if the run goes on after the second one too, it goes on after both
+-- if the run goes on after the second one too, it goes on after both
 abbrev pub StretchesGoOn : (starts stands mids ends : List ℕ → ℕ → Type 0) → Type 0
 StretchesGoOn starts stands mids ends =
     (j k l : ℕ) (a b : List Step) → GoesOn starts stands mids j k a → GoesOn mids stands ends k l b → GoesOn starts stands ends j l (a ++ b)

@@ -27,7 +27,7 @@ pub trait Edge {
     /// The device's length in bytes.
     ghost extent: { Self → ℕ };
 
-    /// The channels that are open, and the one that was last said to be ready.
+    /// The channels that are open, and the channel that was last said to be ready.
     ghost channels: { Self → Channels };
 
     /// The device's length in bytes, which no call changes.

@@ -1,5 +1,5 @@
 -- The fields of each type of line, in order: the first bad one is the fault.
-use Rattle.std.specs.Prelude.{ℕ, ℤ, pos, Bool, true, false, ◌&&◌, codes, List, Option, Some, None, is_some, is_none, Result, Ok, Err}
+use Rattle.std.specs.Prelude.{ℕ, pos, Bool, true, false, ◌&&◌, codes, List, Option, Some, None, is_some, is_none, Result, Ok, Err}
 use Rattle.serde_json.specs.Data.{Data}
 use Rattle.serde_json.specs.Find.{as_bool}
 use Rattle.iss_model.specs.declared.limits.TheConstants.{DEFAULT_TIMEOUT, DEFAULT_HOLD, SHORTEST_TIMEOUT, LONGEST_TIMEOUT, SHORTEST_HOLD, LONGEST_HOLD, GREATEST_USAGE, FIRST_NUMBER, GREATEST_NUMBER}

@@ -1,5 +1,4 @@
 //! The forms of fields that are money, in the currency of their line.
-ghost use Rattle.std.specs.Prelude.{◌≡◌};
 ghost use Rattle.iss_field.specs.Values.{amount_of, limit_of};
 
 use crate::fields::Form;

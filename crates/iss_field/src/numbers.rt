@@ -1,5 +1,4 @@
 //! The forms of fields that are a number or a flag.
-ghost use Rattle.std.specs.Prelude.{◌≡◌};
 ghost use Rattle.serde_json.specs.Find.{as_bool};
 ghost use Rattle.iss_field.specs.Values.{whole_within};
 

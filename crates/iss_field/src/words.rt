@@ -1,5 +1,4 @@
 //! The forms of fields that are a text: a token, or a word of a few.
-ghost use Rattle.std.specs.Prelude.{◌≡◌};
 ghost use Rattle.iss_field.specs.Values.{token_of, currency_of, funding_of, window_of, outcome_of, card_state_of, user_state_of};
 
 use crate::fields::Form;

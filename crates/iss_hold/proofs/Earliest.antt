@@ -57,7 +57,7 @@ all_apart k top (q ∷ ks) same all =
 
 -- ---- one more
 
--- one that comes after all goes to the end
+-- an expiry that comes after all goes to the end
 insert_after : (k : ℕ × ℕ) (v : ℕ) (xs : List ((ℕ × ℕ) × ℕ)) → AllByRecursion (λ f. by_expiry f.0 k ≡ Less) xs → insert_entry by_expiry xs k v ≡ xs ++ (k, v) ∷ []
 insert_after k v [] all = refl
 insert_after k v (x ∷ xs) all =
@@ -72,7 +72,7 @@ insert_by k v x xs last Less rest = refl
 insert_by k v x xs last Equal rest = refl
 insert_by k v x xs last Greater rest = ap (λ (ys : List ((ℕ × ℕ) × ℕ)). x ∷ ys) rest
 
--- one that comes before the last goes among those before it
+-- an expiry that comes before the last goes among those before it
 insert_before : (k : ℕ × ℕ) (v : ℕ) (xs : List ((ℕ × ℕ) × ℕ)) (last : (ℕ × ℕ) × ℕ) → by_expiry k last.0 ≡ Less
     → insert_entry by_expiry (xs ++ last ∷ []) k v ≡ insert_entry by_expiry xs k v ++ last ∷ []
 insert_before k v [] last less = ap (λ (r : Ordering). match_ordering r ((k, v) ∷ last ∷ []) ((last.0, v) ∷ []) (last ∷ (k, v) ∷ [])) less

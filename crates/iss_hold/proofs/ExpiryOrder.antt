@@ -50,7 +50,7 @@ ordered_all acc (x ∷ xs) o = ordered_all (with_expiry acc x) xs (ordered_with 
 pub expiries_ordered : (hs : List Hold) → AreOrdered (expiries hs)
 expiries_ordered hs = ordered_all [] (map expiry_of (filter (λ h. h.live) hs)) tt
 
--- one that comes before all goes first
+-- an expiry that comes before all goes first
 first_of_all : (x a : Expiry) (es : List Expiry) (p : Expiry → Bool) → before x a ≡ true → NoneBefore a es → with_expiry (filter p es) x ≡ x ∷ filter p es
 first_of_all x a [] p h n = refl
 first_of_all x a (b ∷ es) p h n =
@@ -86,7 +86,7 @@ filter_fold p acc (x ∷ xs) o =
 abbrev pub has_come : ℕ → Expiry → Bool
 has_come now e = nat_le e.0.0 now
 
--- the first ones, up to one that hasn't come
+-- the first expiries, up to one that hasn't come
 abbrev pub come_of : ℕ → List Expiry → List Expiry
 come_of now [] = []
 come_of now (e ∷ es) = cond (has_come now e) (e ∷ come_of now es) []

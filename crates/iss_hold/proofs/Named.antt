@@ -24,7 +24,7 @@ grown_same ns = record { stands = λ place name e. e }
 pub grown_then : {a b c : List (List ℕ)} → IsGrown a b → IsGrown b c → IsGrown a c
 grown_then g h = record { stands = λ place name e. h.stands place name (g.stands place name e) }
 
--- what an added name leaves, and where it stands
+-- what an added name leaves as it was, and its own place
 pub grown_by : {E : Type 0} (ns ms : List (List ℕ)) (n : List ℕ) (r : Result ℕ E) → OnOk r (ms ≡ ns ++ n ∷ []) → OnErr r (ms ≡ ns) → IsGrown ns ms
 grown_by ns ms n (Ok place) added refused = subst (λ (xs : List (List ℕ)). IsGrown ns xs) (sym added) (grown_push ns n)
 grown_by ns ms n (Err e) added refused = subst (λ (xs : List (List ℕ)). IsGrown ns xs) (sym refused) (grown_same ns)

@@ -126,7 +126,7 @@ place_by ns now k place left listed all (x ∷ xs) h =
     let name : slice_get ns place ≡ Some x.1 = ap (λ (p : (ℕ × ℕ) × Option (List ℕ)). p.1) first in
     slice_get_within ns place x.1 name
 
--- the place of one that is left is one of the list's
+-- the place of a hold that is left is one of the list's
 pub its_place : {ns : List (List ℕ)} {now : ℕ} {k : ℕ × ℕ} {place : ℕ} {left : List ((ℕ × ℕ) × ℕ)} {listed : List (List ℕ)} {all : List DueThing}
     → AreListed ns now ((k, place) ∷ left) listed all → place < length ns
 its_place {ns} {now} {k} {place} {left} {listed} {all} a = place_by ns now k place left listed all a.rest a.named
@@ -152,7 +152,7 @@ more_by ns now k place left listed all token (x ∷ xs) h whole come there =
           ∙ whole;
     }
 
--- one that has come is listed
+-- an expiry that has come is listed
 pub listed_more : {ns : List (List ℕ)} {now : ℕ} {k : ℕ × ℕ} {place : ℕ} {left : List ((ℕ × ℕ) × ℕ)} {listed : List (List ℕ)} {all : List DueThing} {token : List ℕ}
     → AreListed ns now ((k, place) ∷ left) listed all → k.0 ≤ now → slice_get ns place ≡ Some token → AreListed ns now left (listed ++ token ∷ []) all
 listed_more {ns} {now} {k} {place} {left} {listed} {all} {token} a come there = more_by ns now k place left listed all token a.rest a.named a.whole (at_most k.0 now come) there

@@ -1,5 +1,5 @@
 //! What one transaction holds.
-ghost use Rattle.std.specs.Prelude.{◌≡◌, true, false, ◌+◌, ◌-◌, ◌^◌, ◌<◌, ◌≤◌, pos, ◌+ℤ◌, ◌<ℤ◌};
+ghost use Rattle.std.specs.Prelude.{◌≡◌, false, ◌+◌, ◌-◌, ◌^◌, ◌<◌, ◌≤◌, pos, ◌+ℤ◌, ◌<ℤ◌};
 ghost use Rattle.iss_model.specs.rules.Facts.{not_below};
 ghost use Rattle.iss_model.specs.rules.Pieces.{taken_to_clear, taken_to_release};
 ghost use Rattle.iss_hold.specs.Holdings.{part_of, with_part, parts_of, whole_of, without_parts};

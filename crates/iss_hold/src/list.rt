@@ -1,5 +1,5 @@
 //! Holds in a list that keeps each name once.
-ghost use Rattle.std.specs.Prelude.{◌≡◌, ◌<◌, ◌≤◌, [], ◌∷◌, ◌++◌, Some, IfOk, OnOk, OnErr, length, set, take, slice_get};
+ghost use Rattle.std.specs.Prelude.{◌≡◌, ◌<◌, [], ◌∷◌, ◌++◌, Some, IfOk, OnOk, OnErr, length, set, take, slice_get};
 ghost use Rattle.std.specs.Option.{option_map};
 ghost use Rattle.iss_hold.specs.Holdings.{begun};
 ghost use Rattle.iss_hold.specs.Named.{hold_in, IsNamed, IsGrown};

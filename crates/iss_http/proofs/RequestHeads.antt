@@ -13,7 +13,7 @@ use Rattle.std.proofs.lemmas.Str.{is_utf8-from_IsUtf8}
 use Rattle.httparse.specs.Grammar.{LineEnd, Field, IsField, print_end, print_blank, print_version, print_section, RequestHead, ReadsRequest, print_request, is_token, is_token_byte, is_uri_byte}
 use Rattle.httparse.proofs.GrammarLemmas.{print_request-append}
 use Rattle.iss_http.specs.Heads as own
-use Rattle.iss_http.specs.Heads.{Lines, Header, split_at, is_empty, ended_lines, head_lines, header_of, all_of, headers_of, is_version, is_text, request_line, request_of, request_with, request_head_of, request_head}
+use Rattle.iss_http.specs.Heads.{split_at, is_empty, ended_lines, head_lines, header_of, all_of, headers_of, is_version, is_text, request_line, request_of, request_with, request_head_of, request_head}
 use Rattle.iss_http.proofs.Lines.{is_clean, and_left, and_right, both, all_clean}
 use Rattle.iss_http.proofs.Sections.{field_text, is_there}
 use Rattle.iss_http.proofs.Headers.{header_in, headers_of_fields}

@@ -11,7 +11,7 @@ use Rattle.std.proofs.lemmas.List.Folds.{list_all-append}
 use Rattle.httparse.specs.Grammar.{LineEnd, Field, IsField, AllPass, print_end, print_blank, print_version, print_section, print_reason, reason_phrase, ResponseHead, ReadsResponse, print_response, is_value_byte}
 use Rattle.httparse.proofs.GrammarLemmas.{print_response-append}
 use Rattle.iss_http.specs.Heads as own
-use Rattle.iss_http.specs.Heads.{Lines, Header, is_empty, ended_lines, head_lines, header_of, all_of, headers_of, is_version, is_reason, status_line, response_of, response_with, response_head_of, response_head}
+use Rattle.iss_http.specs.Heads.{is_empty, ended_lines, head_lines, is_reason, status_line, response_of, response_with, response_head_of, response_head}
 use Rattle.iss_http.proofs.Lines.{is_clean, both, all_clean}
 use Rattle.iss_http.proofs.Headers.{header_in}
 use Rattle.iss_http.proofs.HeadLines.{each, message_bytes, message_lines, read_lines}

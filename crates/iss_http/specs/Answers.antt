@@ -6,7 +6,7 @@ use Rattle.iss_http.specs.declared.lengths.ContentLength.TheVariants.{Absent, Ba
 use Rattle.iss_http.specs.Heads.{ResponseHead, response_head}
 use Rattle.iss_http.specs.Lengths.{has, content_length}
 
--- what the bytes are: not yet an answer, none since they ended, one that can't be understood, or one with this status and body
+-- what the bytes are: not yet an answer, no answer since they ended, one that can't be understood, or one with this status and body
 pub data Reading : Type 0 where
   more ended garbled : Reading
   whole : ℕ → List ℕ → Reading

@@ -1,6 +1,7 @@
 -- What is sent over HTTP: responses to clients, and requests to the gateway.
 use Rattle.std.specs.Prelude.{◌≡◌, ◌⊎◌, ℕ, List, [], ◌∷◌, ◌++◌, length, codes, decimal, unwrap_or}
 use Rattle.http.specs.StatusCode.{reason_phrase}
+use Rattle.iss_http.specs.declared.statuses.TheConstants.{OK, BAD_REQUEST, NOT_FOUND, CONFLICT, INSUFFICIENT_STORAGE}
 
 -- what ends a line
 abbrev pub crlf : List ℕ
@@ -24,6 +25,6 @@ respond status body = message (codes "HTTP/1.1 " ++ decimal status ++ codes " " 
 unfoldable pub ask : List ℕ → List ℕ
 ask text = message (codes "POST /jit HTTP/1.1" ++ crlf ++ codes "Host: localhost" ++ crlf) text
 
--- the statuses of responses: taken, refused in form, no such path, a conflict, and no room
+-- the statuses of responses
 abbrev pub IsStatus : ℕ → Type 0
-IsStatus n = (n ≡ 200) ⊎ (n ≡ 400) ⊎ (n ≡ 404) ⊎ (n ≡ 409) ⊎ (n ≡ 507)
+IsStatus n = (n ≡ OK) ⊎ (n ≡ BAD_REQUEST) ⊎ (n ≡ NOT_FOUND) ⊎ (n ≡ CONFLICT) ⊎ (n ≡ INSUFFICIENT_STORAGE)

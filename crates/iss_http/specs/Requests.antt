@@ -10,7 +10,7 @@ use Rattle.iss_http.specs.declared.lengths.ContentLength.TheVariants.{Absent, Ba
 use Rattle.iss_http.specs.Heads.{RequestHead, request_head}
 use Rattle.iss_http.specs.Lengths.{has, content_length}
 
--- what the bytes are: not yet a request, one with this body, or one that isn't taken
+-- what the bytes are: not yet a request, a request with this body, or a request with this fault
 pub data Request : Type 0 where
   more : Request
   body : List ℕ → Request

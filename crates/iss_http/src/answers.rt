@@ -12,14 +12,14 @@ use httparse::spans::{HeaderSpan, ResponseSpans};
 use std::alloc::{AllocError, Global};
 use std::marker::Model;
 
-/// What came from the gateway.
+/// What the gateway's bytes are.
 #[derive(Drop)]
 pub enum Answer {
     /// A response of this status with this body.
     Whole(u16, Vec<u8>),
-    /// Bytes that are no response, or one that isn't taken: its body has a transfer coding, a bad length or more than 16384 bytes.
+    /// The bytes are no response, or one with a transfer coding, a bad length or a body of more than 16384 bytes.
     Garbled,
-    /// Nothing whole before the bytes ended.
+    /// The bytes ended before an answer was whole.
     Ended,
 }
 
@@ -41,7 +41,7 @@ impl Model for AnswerReader {
 }
 
 impl AnswerReader {
-    /// A reader to which no bytes came.
+    /// A reader that has received no bytes.
     pub fn new(alloc: Global) -> Result<AnswerReader, AllocError>
         ensures { IfOk result (λ reader. reader ≡ []) }
     {
@@ -52,9 +52,9 @@ impl AnswerReader {
 
     /// Takes the next bytes, and returns the answer when it is whole; what comes after it is ignored.
     ///
-    /// `None` if the bytes that came aren't yet an answer. `Garbled` comes if they never become one that is taken;
-    /// for a bad head it may come as soon as no bytes after them mend it. However much comes, at most 24577 bytes are
-    /// kept. After another answer than `None` the reader isn't fed again.
+    /// It returns `None` if the bytes that came aren't yet an answer, and `Garbled` if they never become one. After a bad
+    /// head it may return `Garbled` as soon as no further bytes can mend that. At most 24577 bytes are kept. After another
+    /// result than `None` the reader isn't fed again.
     pub fn feed(&mut self, alloc: Global, piece: &[u8]) -> Result<Option<Answer>, AllocError>
         ensures answer { IfOk result (λ said. IsReadAs (self.old ++ piece.now) false (heard said)) }
         ensures kept { IfOk result (λ said. IfNone said (self.new ≡ self.old ++ piece.now)) }

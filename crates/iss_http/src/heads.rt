@@ -7,13 +7,13 @@ use crate::limits::{MOST_HEAD, MOST_HEADERS};
 use httparse::Status;
 use httparse::spans::{EMPTY_HEADER_SPAN, HeaderSpan, RequestSpans, ResponseSpans, Span};
 
-/// What the front of a message is found to be.
+/// What `httparse` finds at the front of a message.
 pub(crate) enum Found<H> {
     /// A whole head.
     Whole(H),
-    /// No whole head yet.
+    /// The head isn't whole yet.
     Part,
-    /// Nothing that a head begins with.
+    /// No head begins with these bytes.
     Hopeless,
 }
 
@@ -58,7 +58,7 @@ pub(crate) fn find_response(bytes: &[u8], headers: &mut [HeaderSpan]) -> Found<R
     }
 }
 
-/// The bytes that a span covers, as far as there are any.
+/// The bytes of a span, as far as they came.
 #[tactic(auto, using(crate::proofs::Cuts::take_within))]
 pub(crate) fn part(bytes: &[u8], span: Span) -> &[u8]
     ensures { result.now ≡ part_of bytes.now span }

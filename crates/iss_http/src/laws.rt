@@ -3,15 +3,15 @@ ghost use Rattle.std.specs.Prelude.{◌≡◌, ◌⊎◌, ◌++◌, ℕ, Bool, L
 ghost use Rattle.iss_http.specs.Requests.{request, more, hopeless_request, IsHopelessRequest};
 ghost use Rattle.iss_http.specs.Answers.{AnswerIsAwaitedOrStays, answer_read, hopeless_answer, IsHopelessAnswer};
 
-/// If more isn't awaited, nothing that comes after the bytes changes what they are. So however the bytes of a
-/// request or an answer are cut, what is returned when it is whole is what all of them together make.
+/// Once bytes are a request or an answer, no further bytes change that. So in whichever pieces the bytes come, a reader
+/// returns what all of them together make.
 pub fn what_is_whole_stays()
     ensures request { (bytes rest : List ℕ) → (request bytes ≡ more) ⊎ (request (bytes ++ rest) ≡ request bytes) }
     ensures answer { (bytes rest : List ℕ) (over : Bool)
         → AnswerIsAwaitedOrStays bytes rest over }
 {}
 
-/// Bytes that no head begins with are no request and no whole answer, however late that is told.
+/// Bytes with which no head begins are no request and no whole answer, whenever the reader tells that.
 pub fn a_bad_head_begins_nothing()
     ensures request { (bytes : List ℕ) → IsHopelessRequest bytes
         → request bytes ≡ hopeless_request bytes }

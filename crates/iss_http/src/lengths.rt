@@ -10,11 +10,11 @@ use httparse::spans::HeaderSpan;
 /// The body's length by the headers.
 #[derive(Clone, Copy, PartialEq, Eq, Debug)]
 pub(crate) enum ContentLength {
-    /// No header has it.
+    /// No header gives it.
     Absent,
-    /// More than one header has it, or one whose value isn't 1 to 10 digits.
+    /// More than one header gives it, or its value isn't 1 to 10 digits.
     Bad,
-    /// So many bytes.
+    /// The headers give this number of bytes.
     Good(u64),
 }
 

@@ -14,6 +14,7 @@ mod limits;
 mod messages;
 mod pieces;
 mod requests;
+pub mod statuses;
 mod worked;
 
 pub use answers::{Answer, AnswerReader};

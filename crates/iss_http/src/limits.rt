@@ -12,8 +12,8 @@ pub(crate) const MOST_HEAD: usize = 8192;
 /// The most bytes of a body.
 pub(crate) const MOST_BODY: u64 = 16384;
 
-/// The most bytes of a request that are looked at: a head and a body.
+/// The most bytes of a request that are kept: a head and a body.
 pub(crate) const MOST_REQUEST: usize = MOST_HEAD + MOST_BODY as usize;
 
-/// The most bytes of an answer that are looked at: a head, a body, and a byte that shows a body without length as too long.
+/// The most bytes of an answer that are kept: a head, a body, and a byte more, by which a body without a length is too long.
 pub(crate) const MOST_ANSWER: usize = MOST_REQUEST + 1;

@@ -6,7 +6,7 @@ ghost use Rattle.iss_http.specs.Messages.{respond, ask, message, crlf, IsStatus}
 use http::StatusCode;
 use std::alloc::{AllocError, Global};
 
-/// A response with this status, which is 200, 400, 404, 409 or 507, and a body of JSON (RFC 9112).
+/// A response with this status, one of those in `statuses`, and a body of JSON (RFC 9112).
 ///
 /// Its lines are the status with its phrase, `Content-Type: application/json`, `Content-Length`, and `Connection: close`.
 #[tactic(auto, unfolding(crate::specs::Messages::respond))]

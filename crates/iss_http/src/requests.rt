@@ -34,7 +34,7 @@ impl Model for Reader {
 }
 
 impl Reader {
-    /// A reader to which no bytes came.
+    /// A reader that has received no bytes.
     pub fn new(alloc: Global) -> Result<Reader, AllocError>
         ensures { IfOk result (λ reader. reader ≡ []) }
     {
@@ -45,9 +45,9 @@ impl Reader {
 
     /// Takes the next bytes, and returns the body when the request is whole; what comes after it is ignored.
     ///
-    /// `None` if the bytes that came aren't yet a request. A fault is the first that they have, in the order of
-    /// `HttpFault`; `Head` comes in place of `None` or `HeadLong`, and only if no bytes after them make a head. However
-    /// much comes, at most 24576 bytes are kept. After another answer than `None` the reader isn't fed again.
+    /// It returns `None` if the bytes that came aren't yet a request, and else their first fault, in the order of
+    /// `HttpFault`. It may return `Head` in place of `None` or `HeadLong` if no further bytes can make a head of them. At
+    /// most 24576 bytes are kept. After another result than `None` the reader isn't fed again.
     #[tactic(auto, unfolding(crate::specs::Requests::request))]
     pub fn feed(&mut self, alloc: Global, piece: &[u8]) -> Result<Option<Vec<u8>>, FeedFault>
         ensures body { IfOk result
@@ -80,7 +80,7 @@ fn feed_bytes(
     body_in(path, alloc, bytes)
 }
 
-/// The body of the request to a path that the bytes are, if they are a whole one.
+/// The body of the bytes, if they are a whole request to this path.
 fn body_in(path: &str, alloc: Global, bytes: &[u8]) -> Result<Option<Vec<u8>>, FeedFault>
     ensures body { IfOk result
         (λ said. request_at path.now bytes.now ≡ answered (option_map (λ text. text.items) said)) }
@@ -96,7 +96,7 @@ fn body_in(path: &str, alloc: Global, bytes: &[u8]) -> Result<Option<Vec<u8>>, F
     }
 }
 
-/// Where the body of the request to a path lies, if the bytes are a whole one.
+/// Where the body lies in the bytes, if they are a whole request to this path.
 fn body_of<'b>(path: &str, bytes: &'b [u8]) -> Result<Option<&'b [u8]>, HttpFault>
     ensures body { IfOk result
         (λ said. request_at path.now bytes.now ≡ answered (option_map (λ text. text.now) said)) }

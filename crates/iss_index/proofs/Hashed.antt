@@ -54,7 +54,7 @@ all_weaker : {A : Type 0} (P Q : A → Type 0) → ((x : A) → P x → Q x) →
 all_weaker P Q weaker [] all = tt
 all_weaker P Q weaker (x ∷ xs) all = (weaker x all.0, all_weaker P Q weaker xs all.1)
 
--- an element that doesn't pass, put for one that doesn't, changes nothing of what is found
+-- if an element that doesn't pass is put in the place of another such, what is found stays the same
 find_set_other : {A : Type 0} (p : A → Bool) (xs : List A) (i : ℕ) (y : A) → ((x : A) → slice_get xs i ≡ Some x → p x ≡ false) → p y ≡ false → find p (set xs i y) ≡ find p xs
 find_set_other p [] i y old new = refl
 find_set_other p (x ∷ xs) zero y old new =
@@ -157,7 +157,7 @@ module _ (names : List (List ℕ)) (k : List ℕ) (place own : ℕ) (before afte
   made : Slot
   made = record { tag = own; rank = place + 1 }
 
-  -- another name is found where it was
+  -- another name is found at the same place
   filled_other : (tag : ℕ) (q : List ℕ) → bytes_eq k q ≡ false → in_slots tag (names ++ k ∷ []) q after ≡ in_slots tag names q before
   filled_other tag q apart =
       ap (λ (slots : List Slot). in_slots tag (names ++ k ∷ []) q slots) fills.now
@@ -258,7 +258,7 @@ module _ (before after : List Group) (others : BTreeMap (List ℕ) ℕ) (k : Lis
   own_within : AreWithin (length names) (slots_at before (group_of (length before) (hash_of k)))
   own_within = within_at (length names) before (group_of (length before) (hash_of k)) found.within
 
-  -- what the group of a name finds, whether or not it is the one that was filled
+  -- what the group of a name finds, whether or not it was filled
   stays_in : (q : List ℕ) → bytes_eq k q ≡ false
       → in_slots (tag_of (hash_of q)) (names ++ k ∷ []) q (slots_at after (group_of (length after) (hash_of q)))
       ≡ in_slots (tag_of (hash_of q)) names q (slots_at before (group_of (length before) (hash_of q)))

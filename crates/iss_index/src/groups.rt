@@ -95,7 +95,7 @@ impl Group {
         self.slots[SLOTS - 1].rank == 0
     }
 
-    /// Gives the place of a name of that hash a free slot. Tells whether there was one.
+    /// Puts the place of a name of that hash into a free slot. Returns whether there was one.
     pub(crate) fn put(&mut self, hash: u64, place: u32) -> bool
         requires { place + 1 < 2 ^ 32 }
         ensures filled { OnTrue result (FillsSlot self.old.slots self.new.slots (tag_of hash) place) }

@@ -91,7 +91,7 @@ impl Places {
         Ok(())
     }
 
-    /// Gives the place of a name a free slot of its group. Tells whether there was one.
+    /// Puts the place of a name into a free slot of its group. Returns whether there was one.
     fn put_in_group(&mut self, name: &Token, place: u32) -> bool
         requires few { place + 1 < 2 ^ 32 }
         ensures filled { OnTrue result (FillsGroup self.old.groups.items self.new.groups.items name.now place) }

@@ -13,6 +13,7 @@ use Rattle.iss_model.specs.Amounts.{digits_value, if_form, is_amount_text, amoun
 use Rattle.iss_model.specs.Currencies.{decimals_of, unit_of, same_currency}
 use Rattle.iss_model.specs.Forms.{is_amount, is_outcome}
 use Rattle.iss_model.specs.rules.CardActs.{counts_as_part}
+use Rattle.iss_jit.specs.declared.answers.TheConstants.{FUNDED, REFUSED}
 use Rattle.iss_jit.specs.Outcomes.{json_of, whole_of, text_or_units, amount_of, amount_said, has_token, outcome_of_amount, outcome_of_value, outcome_of_json, outcome_of, CountsIfPart}
 
 -- ---- amounts
@@ -89,25 +90,25 @@ of_json P instance o (Some d) funded other part =
     picked (has_token instance o d) P (outcome_of_amount o (amount_said o.currency d)) Application
     (λ is. of_amount P o (amount_said o.currency d) (said-is o.currency d) funded other part) other
 
-pub outcome_by : (P : Outcome → Type 0) (instance : ℕ) (o : Opened) (status : ℕ) (body : List ℕ) → (status ≡ 402 → P Refused) → P Funded → P Application → OfParts o P
+pub outcome_by : (P : Outcome → Type 0) (instance : ℕ) (o : Opened) (status : ℕ) (body : List ℕ) → (status ≡ REFUSED → P Refused) → P Funded → P Application → OfParts o P
     → P (outcome_of instance o status body)
 unfolding outcome_of
 outcome_by P instance o status body refused funded other part =
     let found = outcome_of_json instance o (json_of body) in
-    picked (status == 402) P Refused (cond (status == 200) found Application) (λ is. refused (eqb-true status 402 is))
-    (picked (status == 200) P found Application (λ is. of_json P instance o (json_of body) funded other part) other)
+    picked (status == REFUSED) P Refused (cond (status == FUNDED) found Application) (λ is. refused (eqb-true status REFUSED is))
+    (picked (status == FUNDED) P found Application (λ is. of_json P instance o (json_of body) funded other part) other)
 
 -- ---- what holds of an answer
 
-at_402 : (instance : ℕ) (o : Opened) (status : ℕ) (body : List ℕ) → status ≡ 402 → outcome_of instance o status body ≡ Refused
+at_refused : (instance : ℕ) (o : Opened) (status : ℕ) (body : List ℕ) → status ≡ REFUSED → outcome_of instance o status body ≡ Refused
 unfolding outcome_of
-at_402 instance o status body is =
-    ap (λ (n : ℕ). cond (n == 402) Refused (cond (status == 200) (outcome_of_json instance o (json_of body)) Application)) is
+at_refused instance o status body is =
+    ap (λ (n : ℕ). cond (n == REFUSED) Refused (cond (status == FUNDED) (outcome_of_json instance o (json_of body)) Application)) is
 
-pub refused_at : (instance : ℕ) (o : Opened) (status : ℕ) (body : List ℕ) → (outcome_of instance o status body ≡ Refused) ↔ (status ≡ 402)
+pub refused_at : (instance : ℕ) (o : Opened) (status : ℕ) (body : List ℕ) → (outcome_of instance o status body ≡ Refused) ↔ (status ≡ REFUSED)
 refused_at instance o status body =
-    let only = outcome_by (λ (x : Outcome). x ≡ Refused → status ≡ 402) instance o status body (λ at e. at) (λ e. absurd cc) (λ e. absurd cc) (λ amount is e. absurd cc) in
-    (only, at_402 instance o status body)
+    let only = outcome_by (λ (x : Outcome). x ≡ Refused → status ≡ REFUSED) instance o status body (λ at e. at) (λ e. absurd cc) (λ e. absurd cc) (λ amount is e. absurd cc) in
+    (only, at_refused instance o status body)
 
 pub no_connection : (instance : ℕ) (o : Opened) (status : ℕ) (body : List ℕ) → outcome_of instance o status body ≡ Connection → ⊥
 no_connection instance o status body =

@@ -13,6 +13,7 @@ use Rattle.iss_model.specs.Amounts.{amount_read, whole_amount_read}
 use Rattle.iss_model.specs.rules.CardActs.{counts_as_part}
 use Rattle.iss_model.specs.rules.Reasons.{is_some_with}
 use Rattle.iss_model.specs.texts.CallTokens.{call_uuid}
+use Rattle.iss_jit.specs.declared.answers.TheConstants.{FUNDED, REFUSED}
 
 -- the JSON value that a body is: text in UTF-8, the whole of which is one value, as `serde_json` reads it
 unfoldable pub json_of : List ℕ → Option Data
@@ -60,11 +61,12 @@ abbrev pub outcome_of_json : ℕ → Opened → Option Data → Outcome
 outcome_of_json instance o None = Application
 outcome_of_json instance o (Some d) = outcome_of_value instance o d
 
--- Funded or Partial if the status is 200 and the body funds the call, Refused if the status is 402, and else no answer that decides
+-- `Funded` or `Partial` if the status is `FUNDED` and the body funds the call or a part of it, `Refused` if the status is `REFUSED`, and else
+-- no answer that decides
 unfoldable pub outcome_of : ℕ → Opened → ℕ → List ℕ → Outcome
 outcome_of instance o status body =
-    if status == 402 then Refused
-    else if status == 200 then outcome_of_json instance o (json_of body)
+    if status == REFUSED then Refused
+    else if status == FUNDED then outcome_of_json instance o (json_of body)
     else Application
 
 -- if the outcome is a part, it is one that counts

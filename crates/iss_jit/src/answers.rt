@@ -5,6 +5,7 @@ ghost use Rattle.serde_json.specs.Read.{read as read_text};
 ghost use Rattle.serde_json.specs.View.{view};
 ghost use Rattle.iss_model.specs.declared.input.Outcome.TheVariants as outcome;
 ghost use Rattle.iss_model.specs.Forms.{is_outcome};
+ghost use Rattle.iss_jit.specs.declared.answers.TheConstants.{REFUSED};
 ghost use Rattle.iss_jit.specs.Echoes.{FundsEchoes};
 ghost use Rattle.iss_jit.specs.Outcomes.{json_of, uuid_of, amount_of, has_token, amount_said, outcome_of_amount, outcome_of_value, outcome_of_json, outcome_of, CountsIfPart};
 
@@ -15,10 +16,10 @@ use std::alloc::{AllocError, Global};
 use uuid::Uuid;
 
 /// The status of a gateway that funds: OK of RFC 9110.
-const FUNDED: u16 = 200;
+pub const FUNDED: u16 = 200;
 
 /// The status of a gateway that refuses: Payment Required of RFC 9110.
-const REFUSED: u16 = 402;
+pub const REFUSED: u16 = 402;
 
 /// What an HTTP answer with this status and body to the request of a call comes to.
 ///
@@ -35,7 +36,7 @@ pub fn answer(
 ) -> Result<Outcome, AllocError>
     requires { instance < INSTANCES }
     ensures value { IfOk result (λ said. said ≡ outcome_of instance opened.now status body.now) }
-    ensures refused { IfOk result (λ said. (said ≡ outcome.Refused) ↔ (status ≡ 402)) }
+    ensures refused { IfOk result (λ said. (said ≡ outcome.Refused) ↔ (status ≡ REFUSED)) }
     ensures never_connection { IfOk result (λ said. said ≢ outcome.Connection) }
     ensures form { IfOk result (λ said. IsTrue (is_outcome said)) }
     ensures part { IfOk result (λ said. CountsIfPart opened.now said) }

@@ -37,7 +37,7 @@ pub shows_firm : (region : Region) (bodies : List (List ℕ)) (image : List ℕ)
 shows_firm region bodies image firm =
     elim firm [ inl closed ↦ shows_closed region bodies image closed | inr left ↦ left.1.shows ]
 
--- a record that is left behind a gate: if that is 0 the records are shown closed, else it was left so
+-- a record that is left after a gate: if that is 0 the records are shown closed, else the record was left so
 module _ (region : Region) (bodies : List (List ℕ)) (start image : List ℕ) (j : ℕ) (same : image ≡ start) (body : List ℕ) (left : LeavesBehind region (take j bodies) body image) where
   left_by_gate : (gate : ℕ) → left.shows.gate ≡ gate → OpenedOrOneMore region bodies start image j
   left_by_gate zero is =

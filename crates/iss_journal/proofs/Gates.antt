@@ -31,7 +31,7 @@ splice_behind region bodies gate new rest image here room ends =
           ∙ append_assoc prefix (0 ∷ []) (new ++ drop (length new) rest);
     }
 
--- another gate in the place of the one that ends the records
+-- another gate in the place of the end gate
 pub splice_gate : (region : Region) (bodies : List (List ℕ)) (gate old new : ℕ) (rest image : List ℕ) → length (bytes_before_gate region bodies) ≡ gate → EndsWith region bodies old rest image → EndsWith region bodies new rest (splice gate (new ∷ []) image)
 splice_gate region bodies gate old new rest image here ends =
     record {

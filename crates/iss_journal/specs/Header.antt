@@ -2,7 +2,7 @@
 use Rattle.std.specs.Prelude.{◌≡◌, ℕ, ◌<◌, ◌≤◌, List, [], ◌∷◌, ◌++◌, length, take, drop, Result, Ok, Err}
 use Rattle.std.specs.Int.{w64, to_be_bytes}
 use Rattle.iss_edge.specs.World.{World}
-use Rattle.iss_journal.specs.declared.layout.TheConstants.{HEADER, INSTANCES, LEAST_SIZE, GREATEST_SIZE}
+use Rattle.iss_journal.specs.declared.layout.TheConstants.{HEADER, HEADER_INSTANCES, LEAST_SIZE, GREATEST_SIZE}
 use Rattle.iss_journal.specs.declared.fault.JournalFault.{JournalFault}
 use Rattle.iss_journal.specs.declared.fault.JournalFault.TheVariants.{Disk, NotFormatted, BadRecord, Full, OutOfMemory}
 
@@ -26,7 +26,7 @@ pub record IsSize (size : ℕ) : Type 0 where
 -- the image is a device whose header has this instance
 pub record HasInstance (image : List ℕ) (instance : ℕ) : Type 0 where
   pub size : IsSize (length image)
-  pub small : instance < INSTANCES
+  pub small : instance < HEADER_INSTANCES
   pub is : take HEADER image ≡ header instance
 
 -- its header has no instance

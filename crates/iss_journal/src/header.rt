@@ -3,7 +3,7 @@
 ghost use Rattle.std.specs.Prelude.{◌≡◌, ◌<◌, ℕ, IfNone, IfSome};
 ghost use Rattle.iss_journal.specs.Header.{header};
 ghost use Rattle.iss_journal.specs.Formatting.{tail_of};
-ghost use Rattle.iss_journal.specs.declared.layout.TheConstants.{INSTANCES};
+ghost use Rattle.iss_journal.specs.declared.layout.TheConstants.{HEADER_INSTANCES};
 
 use crate::frame::{CLOSED, OPEN};
 use crate::layout::HEADER;
@@ -32,8 +32,8 @@ pub(crate) fn tail_of(instance: u64) -> [u8; HEADER]
 /// The instance whose header this is.
 pub(crate) fn instance_of(bytes: [u8; HEADER]) -> Option<u64>
     ensures found { IfSome result (λ instance. bytes ≡ header instance) }
-    ensures small { IfSome result (λ instance. instance < INSTANCES) }
-    ensures none { IfNone result ((instance : ℕ) → instance < INSTANCES → bytes ≡ header instance → ⊥) }
+    ensures small { IfSome result (λ instance. instance < HEADER_INSTANCES) }
+    ensures none { IfNone result ((instance : ℕ) → instance < HEADER_INSTANCES → bytes ≡ header instance → ⊥) }
 {
     let instance = u64::from_be_bytes([
         0, 0, bytes[10], bytes[11], bytes[12], bytes[13], bytes[14], bytes[15],

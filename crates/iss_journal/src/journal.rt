@@ -3,7 +3,7 @@
 ghost use Rattle.std.specs.Prelude.{◌≡◌, ◌+◌, ◌<◌, ◌≤◌, length, OnOk, IfOk, IsErrOf};
 ghost use Rattle.iss_edge.specs.World.{Told, Stays};
 ghost use Rattle.iss_edge.specs.Calls.{Same, HearsNothing};
-ghost use Rattle.iss_journal.specs.declared.layout.TheConstants.{INSTANCES};
+ghost use Rattle.iss_journal.specs.declared.layout.TheConstants.{HEADER_INSTANCES};
 ghost use Rattle.iss_journal.specs.Place.{free_at};
 ghost use Rattle.iss_journal.specs.Answers.{DiskCause, DiskAlone, FullByNeed, OnFull};
 ghost use Rattle.iss_journal.specs.Append.{AppendsGood, AppendsGoing};
@@ -44,7 +44,7 @@ impl Journal {
     pub fn format<E: Edge>(edge: &mut E, instance: u64) -> Result<(), JournalFault>
         requires least { LEAST_SIZE ≤ E.extent edge.old }
         requires most { E.extent edge.old ≤ GREATEST_SIZE }
-        requires small { instance < INSTANCES }
+        requires small { instance < HEADER_INSTANCES }
         ensures formatted { OnOk result (Told (Formats instance) (E.told edge.old) (E.told edge.new)) }
         ensures moments { Told (FormatsGood instance) (E.told edge.old) (E.told edge.new) }
         ensures alone { DiskAlone result }
@@ -65,7 +65,7 @@ impl Journal {
     pub fn instance<E: Edge>(edge: &mut E) -> Result<u64, JournalFault>
         ensures read { Told (ReadsInstance result) (E.told edge.old) (E.told edge.new) }
         ensures same { Told Same (E.told edge.old) (E.told edge.new) }
-        ensures small { IfOk result (λ instance. instance < INSTANCES) }
+        ensures small { IfOk result (λ instance. instance < HEADER_INSTANCES) }
         ensures size { IfOk result (λ instance. IsSize (E.extent edge.old)) }
         ensures no_size { (IsSize (E.extent edge.old) → ⊥) → IsErrOf result NotFormatted }
         ensures faults { DiskOrUnformatted result }

@@ -3,8 +3,8 @@
 /// How long the header is: it takes the places 0 to 15.
 pub const HEADER: usize = 16;
 
-/// How many instances there are: the header spells one in six bytes.
-pub const INSTANCES: u64 = 1 << 48;
+/// How many instances a header can spell: it has six bytes for one.
+pub const HEADER_INSTANCES: u64 = 1 << 48;
 
 /// How long a gate is.
 pub const GATE: u64 = 1;

@@ -336,7 +336,7 @@ accepted_rest before (r ∷ rs) event h =
 new_event : (before : List Record) (r : Record) → Follows (history_of before) r → IsNewEvent (core_of before) r.input
 new_event before r follows = judged_new (core_of before) r (judge_history before r.input r.at ∙ follows.is_new)
 
--- a record's event has another name than one that was accepted before
+-- a record's event has another name than an event that was accepted before
 other_event : (before : List Record) (r : Record) (event token : List ℕ) → Follows (history_of before) r → is_accepted (core_of before).accepted event ≡ true → event_token r.input ≡ Some token
     → bytes_eq token event ≡ false
 other_event before r event token follows known its =

@@ -246,7 +246,7 @@ module _ (rows : List Row) (numbers : CallsNumberedFrom 1 (calls_of rows)) (all 
           clash : (closed asked opened : ℕ) → 1 ≤ closed → closed + asked ≡ opened → opened ≡ 0 → ⊥
           clash closed asked opened h k e = omega (arith, h, k, e)
 
-  -- and so does one that is voided
+  -- and so does a call that is voided
   voided_stands : (n : ℕ) → 1 ≤ times (voids n) rows → is_some (call_numbered n (calls_of rows)) ≡ true
   voided_stands n h =
       closed_stands n (more (times (voids n) rows) (times (closes_void n) rows) (times (closes n) rows) h (all.voided n) (times_weaker (closes_void n) (closes n) (closed_first n) rows))

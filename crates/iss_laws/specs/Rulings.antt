@@ -50,7 +50,7 @@ rulings_of entries = filter_map ruling_of entries
 
 -- what a record rules of its own event ----
 
--- an event that has a reason is declined with it, and one that has none is done
+-- an event that has a reason is declined with it, and an event that has none is done
 abbrev pub done_unless : Option Reason → Verdict
 done_unless (Some why) = verdict.Declined why
 done_unless None = verdict.Done

@@ -6,7 +6,6 @@ ghost use Rattle.std.specs.Cmp.{partial_equiv_from_equiv};
 ghost use Rattle.std.specs.Str.{bytes_eq};
 ghost use Rattle.std.specs.List.{list_all};
 ghost use Rattle.iss_model.specs.Sums.{account_key};
-ghost use Rattle.iss_model.specs.Currencies.{iso_number};
 ghost use Rattle.iss_ledger.specs.Keys.{kind_of, user_of, number_of, is_above_zero};
 
 use iss_model::Account;

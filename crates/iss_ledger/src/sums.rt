@@ -74,7 +74,7 @@ fn change(sums: &mut BTreeMap<AccountKey, i64>, key: AccountKey, by: i64) -> Res
     Ok(())
 }
 
-/// Gives a key that stands the sum that it had before, if it had one.
+/// Sets a key that stands back to the sum that it had before, if it had one.
 #[tactic(auto, using(crate::proofs::TreeSums::sums_put, crate::proofs::TreeSums::sums_taken))]
 fn put_back(sums: &mut BTreeMap<AccountKey, i64>, key: &AccountKey, before: Option<i64>)
     requires order { IsInOrder sums.old }

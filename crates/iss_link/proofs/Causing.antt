@@ -1,18 +1,21 @@
 -- What each answer on a link comes by.
 use Rattle.std.proofs.Common.{◌≡◌, ℕ, ◌==◌, Bool, true, false, cond, List, [], ◌∷◌, ◌++◌, Some, None, refl, sym, ap, ◌∙◌, arith, true≢false, inl, inr}
 use Rattle.std.proofs.lemmas.Bool.Decides.{nat_tests}
-use Rattle.std.specs.Prelude.{◌⊎◌, ◌&&◌}
+use Rattle.std.specs.Prelude.{◌⊎◌}
 use Rattle.iss_model.specs.declared.call.Opened.{Opened}
 use Rattle.iss_model.specs.declared.call.CallId.{CallId}
+use Rattle.iss_model.specs.declared.currency.Currency.{Currency}
 use Rattle.iss_model.specs.declared.input.Outcome.{Outcome}
-use Rattle.iss_model.specs.declared.input.Outcome.TheVariants.{Funded, Refused, Application, Connection}
-use Rattle.iss_model.specs.rules.Reasons.{is_some_with}
+use Rattle.iss_model.specs.declared.input.Outcome.TheVariants.{Funded, Refused, Application, Connection, Partial}
+use Rattle.iss_http.specs.declared.statuses.TheConstants.{OK}
 use Rattle.iss_http.specs.Answers.{Reading, more, ended, garbled, whole, answer_read}
 use Rattle.iss_http.proofs.Endings.{is_more, is_ended, no_more_once_over, no_end_before}
-use Rattle.iss_jit.specs.Outcomes.{outcome_of, is_funding, json_of}
+use Rattle.iss_jit.specs.declared.answers.TheConstants.{REFUSED}
+use Rattle.iss_jit.specs.Outcomes.{outcome_of}
+use Rattle.iss_jit.proofs.EachOutcome.{refused_at, no_connection}
 use Rattle.iss_session.specs.Desks.{Subject, of_call, of_notice}
 use Rattle.iss_session.specs.Links.{Heard, unfinished, outcome, acknowledged, dropped, reading_early, heard_as}
-use Rattle.iss_link.specs.Causes.{UnfinishedOnlyAt, ConnectionOnlyAt, ApplicationExactly, RefusedExactly, AcknowledgedExactly, DroppedExactly}
+use Rattle.iss_link.specs.Causes.{UnfinishedOnlyAt, ConnectionOnlyAt, ApplicationExactly, RefusedExactly, PartExactly, AcknowledgedExactly, DroppedExactly}
 
 either : {A B C : Type 0} → (A → C) → (B → C) → A ⊎ B → C
 either f g (inl a) = f a
@@ -36,10 +39,6 @@ abbrev is_acknowledged : Heard → Bool
 is_acknowledged (acknowledged n) = true
 is_acknowledged _ = false
 
-abbrev is_connection : Outcome → Bool
-is_connection Connection = true
-is_connection _ = false
-
 abbrev is_refused : Outcome → Bool
 is_refused Refused = true
 is_refused _ = false
@@ -47,6 +46,10 @@ is_refused _ = false
 abbrev is_application : Outcome → Bool
 is_application Application = true
 is_application _ = false
+
+abbrev is_part : Outcome → Bool
+is_part (Partial currency amount) = true
+is_part _ = false
 
 -- what a whole answer means for a notice
 either_told : (test : Heard → Bool) (b : Bool) (n : ℕ) → test (acknowledged n) ≡ false → test (dropped n) ≡ false → test (cond b (acknowledged n) (dropped n)) ≡ false
@@ -61,29 +64,18 @@ more_only instance (of_call o) (whole status body) e = absurd (true≢false (sym
 more_only instance (of_notice n) ended e = absurd (true≢false (sym (ap is_unfinished e)))
 more_only instance (of_notice n) garbled e = absurd (true≢false (sym (ap is_unfinished e)))
 more_only instance (of_notice n) (whole status body) e =
-    absurd (true≢false (sym (ap is_unfinished e) ∙ either_told is_unfinished (status == 200) n refl refl))
-
--- an outcome of a whole answer
-outcome_by : (test : Outcome → Bool) (instance : ℕ) (o : Opened) (status : ℕ) (body : List ℕ) → test Refused ≡ false → test Funded ≡ false → test Application ≡ false → test (outcome_of instance o status body) ≡ false
-unfolding outcome_of
-outcome_by test instance o status body r f a =
-    pick (status == 402) Refused (cond (status == 200 && is_some_with (is_funding instance o) (json_of body)) Funded Application) r
-    (pick (status == 200 && is_some_with (is_funding instance o) (json_of body)) Funded Application f a)
-  where
-    pick : (b : Bool) (x y : Outcome) → test x ≡ false → test y ≡ false → test (cond b x y) ≡ false
-    pick true x y p q = p
-    pick false x y p q = q
+    absurd (true≢false (sym (ap is_unfinished e) ∙ either_told is_unfinished (status == OK) n refl refl))
 
 ended_only : (instance : ℕ) (subject : Subject) (reading : Reading) (call : CallId) → heard_as (outcome_of instance) subject reading ≡ outcome call Connection → reading ≡ ended
 ended_only instance subject ended call e = refl
 ended_only instance (of_call o) more call e = absurd (true≢false (ap is_unfinished e))
 ended_only instance (of_notice n) more call e = absurd (true≢false (ap is_unfinished e))
-ended_only instance (of_call o) garbled call e = absurd (true≢false (sym (ap (λ (h : Heard). is_connection (outcome_in h)) e)))
+ended_only instance (of_call o) garbled call e = absurd (true≢false (ap (λ (h : Heard). is_application (outcome_in h)) e))
 ended_only instance (of_call o) (whole status body) call e =
-    absurd (true≢false (sym (ap (λ (h : Heard). is_connection (outcome_in h)) e) ∙ outcome_by is_connection instance o status body refl refl refl))
+    absurd (no_connection instance o status body (ap outcome_in e))
 ended_only instance (of_notice n) garbled call e = absurd (true≢false (sym (ap is_outcome e)))
 ended_only instance (of_notice n) (whole status body) call e =
-    absurd (true≢false (sym (ap is_outcome e) ∙ either_told is_outcome (status == 200) n refl refl))
+    absurd (true≢false (sym (ap is_outcome e) ∙ either_told is_outcome (status == OK) n refl refl))
 
 -- ---- by what a take brought
 
@@ -137,21 +129,6 @@ same_number n = grind (arith, nat_tests)
 is_number : (n m : ℕ) → (n == m) ≡ true → n ≡ m
 is_number n m e = grind (arith, nat_tests)
 
-at_402 : (instance : ℕ) (o : Opened) (status : ℕ) (body : List ℕ) → status ≡ 402 → outcome_of instance o status body ≡ Refused
-unfolding outcome_of
-at_402 instance o status body e =
-    ap (λ (n : ℕ). cond (n == 402) Refused (cond (status == 200 && is_some_with (is_funding instance o) (json_of body)) Funded Application)) e
-
-only_402 : (instance : ℕ) (o : Opened) (status : ℕ) (body : List ℕ) → outcome_of instance o status body ≡ Refused → status ≡ 402
-unfolding outcome_of
-only_402 instance o status body e =
-    is_number status 402 (pick (status == 402) (status == 200 && is_some_with (is_funding instance o) (json_of body)) e)
-  where
-    pick : (b c : Bool) → cond b Refused (cond c Funded Application) ≡ Refused → b ≡ true
-    pick true c e = refl
-    pick false true e = ap is_refused e
-    pick false false e = ap is_refused e
-
 pub refused_exactly : RefusedExactly
 refused_exactly instance o more = (λ e. absurd (true≢false (ap is_unfinished e)), λ w. absurd (true≢false (ap is_more w.is)))
 refused_exactly instance o ended = (λ e. absurd (true≢false (sym (ap (λ (h : Heard). is_refused (outcome_in h)) e))), λ w. absurd (true≢false (ap is_ended w.is)))
@@ -160,15 +137,31 @@ refused_exactly instance o garbled = (λ e. absurd (true≢false (sym (ap (λ (h
     not_whole : (status : ℕ) (body : List ℕ) → garbled ≡ whole status body → ⊥
     not_whole status body e = cc
 refused_exactly instance o (whole status body) = (
-  λ e. record { status = status; body = body; is = refl; so = only_402 instance o status body (ap outcome_in e) },
-  λ w. ap (outcome o.call) (at_402 instance o status body (by_whole status body w.status w.body w.is w.so)),
+  λ e. record { status = status; body = body; is = refl; so = (refused_at instance o status body).0 (ap outcome_in e) },
+  λ w. ap (outcome o.call) ((refused_at instance o status body).1 (by_whole status body w.status w.body w.is w.so)),
 )
   where
-    by_whole : (status : ℕ) (body : List ℕ) (s : ℕ) (b : List ℕ) → whole status body ≡ whole s b → s ≡ 402 → status ≡ 402
+    by_whole : (status : ℕ) (body : List ℕ) (s : ℕ) (b : List ℕ) → whole status body ≡ whole s b → s ≡ REFUSED → status ≡ REFUSED
     by_whole status body s b e so = cc
 
-at_200 : (n status : ℕ) → status ≡ 200 → cond (status == 200) (acknowledged n) (dropped n) ≡ acknowledged n
-at_200 n status e = ap (λ (m : ℕ). cond (m == 200) (acknowledged n) (dropped n)) e
+pub part_exactly : PartExactly
+part_exactly instance o c x more = (λ e. absurd (true≢false (ap is_unfinished e)), λ w. absurd (true≢false (ap is_more w.is)))
+part_exactly instance o c x ended = (λ e. absurd (true≢false (sym (ap (λ (h : Heard). is_part (outcome_in h)) e))), λ w. absurd (true≢false (ap is_ended w.is)))
+part_exactly instance o c x garbled = (λ e. absurd (true≢false (sym (ap (λ (h : Heard). is_part (outcome_in h)) e))), λ w. absurd (not_whole w.status w.body w.is))
+  where
+    not_whole : (status : ℕ) (body : List ℕ) → garbled ≡ whole status body → ⊥
+    not_whole status body e = cc
+part_exactly instance o c x (whole status body) = (
+  λ e. record { status = status; body = body; is = refl; so = ap outcome_in e },
+  λ w. ap (outcome o.call) (by_whole instance o c x status body w.status w.body w.is w.so),
+)
+  where
+    by_whole : (instance : ℕ) (o : Opened) (c : Currency) (x : ℕ) (status : ℕ) (body : List ℕ) (s : ℕ) (b : List ℕ) → whole status body ≡ whole s b
+        → outcome_of instance o s b ≡ Partial c x → outcome_of instance o status body ≡ Partial c x
+    by_whole instance o c x status body s b e so = cc
+
+at_200 : (n status : ℕ) → status ≡ OK → cond (status == OK) (acknowledged n) (dropped n) ≡ acknowledged n
+at_200 n status e = ap (λ (m : ℕ). cond (m == OK) (acknowledged n) (dropped n)) e
 
 only_200 : (n : ℕ) (b : Bool) → cond b (acknowledged n) (dropped n) ≡ acknowledged n → b ≡ true
 only_200 n true e = refl
@@ -182,15 +175,15 @@ acknowledged_exactly instance n garbled = (λ e. absurd (true≢false (sym (ap i
     not_whole : (status : ℕ) (body : List ℕ) → garbled ≡ whole status body → ⊥
     not_whole status body e = cc
 acknowledged_exactly instance n (whole status body) = (
-  λ e. record { status = status; body = body; is = refl; so = is_number status 200 (only_200 n (status == 200) e) },
+  λ e. record { status = status; body = body; is = refl; so = is_number status OK (only_200 n (status == OK) e) },
   λ w. at_200 n status (by_whole status body w.status w.body w.is w.so),
 )
   where
-    by_whole : (status : ℕ) (body : List ℕ) (s : ℕ) (b : List ℕ) → whole status body ≡ whole s b → s ≡ 200 → status ≡ 200
+    by_whole : (status : ℕ) (body : List ℕ) (s : ℕ) (b : List ℕ) → whole status body ≡ whole s b → s ≡ OK → status ≡ OK
     by_whole status body s b e so = cc
 
-not_200 : (n : ℕ) (status : ℕ) → (status ≡ 200 → ⊥) → cond (status == 200) (acknowledged n) (dropped n) ≡ dropped n
-not_200 n status other = pick (status == 200) (λ e. other (is_number status 200 e))
+not_200 : (n : ℕ) (status : ℕ) → (status ≡ OK → ⊥) → cond (status == OK) (acknowledged n) (dropped n) ≡ dropped n
+not_200 n status other = pick (status == OK) (λ e. other (is_number status OK e))
   where
     pick : (b : Bool) → (b ≡ true → ⊥) → cond b (acknowledged n) (dropped n) ≡ dropped n
     pick true other = absurd (other refl)
@@ -215,5 +208,5 @@ dropped_exactly instance n (whole status body) = (
     not_garbled : (status : ℕ) (body : List ℕ) → whole status body ≡ garbled → ⊥
     not_garbled status body e = cc
 
-    by_whole : (status : ℕ) (body : List ℕ) (s : ℕ) (b : List ℕ) → whole status body ≡ whole s b → status ≡ 200 → s ≡ 200
+    by_whole : (status : ℕ) (body : List ℕ) (s : ℕ) (b : List ℕ) → whole status body ≡ whole s b → status ≡ OK → s ≡ OK
     by_whole status body s b e so = cc

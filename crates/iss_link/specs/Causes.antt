@@ -2,8 +2,11 @@
 use Rattle.std.specs.Prelude.{◌≡◌, ◌⊎◌, ◌↔◌, ℕ, Bool, true, false, List, [], ◌∷◌, ◌++◌, Option, Some, None}
 use Rattle.iss_model.specs.declared.call.Opened.{Opened}
 use Rattle.iss_model.specs.declared.call.CallId.{CallId}
-use Rattle.iss_model.specs.declared.input.Outcome.TheVariants.{Refused, Application, Connection}
+use Rattle.iss_model.specs.declared.currency.Currency.{Currency}
+use Rattle.iss_model.specs.declared.input.Outcome.TheVariants.{Refused, Application, Connection, Partial}
+use Rattle.iss_http.specs.declared.statuses.TheConstants.{OK}
 use Rattle.iss_http.specs.Answers.{Reading, more, ended, garbled, whole, answer_read}
+use Rattle.iss_jit.specs.declared.answers.TheConstants.{REFUSED}
 use Rattle.iss_jit.specs.Outcomes.{outcome_of}
 use Rattle.iss_session.specs.Desks.{of_call, of_notice}
 use Rattle.iss_session.specs.Links.{Link, Heard, unfinished, outcome, acknowledged, dropped, link_reading, heard_as}
@@ -48,21 +51,28 @@ ApplicationExactly =
     → (heard_as (outcome_of instance) (of_call o) reading ≡ outcome o.call Application)
     ↔ ((reading ≡ garbled) ⊎ IsWholeAs (λ status body. outcome_of instance o status body ≡ Application) reading)
 
--- a call is refused exactly by a whole answer of status 402
+-- a call is refused exactly by a whole answer of status `REFUSED`
 abbrev pub RefusedExactly : Type 0
 RefusedExactly =
     (instance : ℕ) (o : Opened) (reading : Reading)
-    → (heard_as (outcome_of instance) (of_call o) reading ≡ outcome o.call Refused) ↔ IsWholeAs (λ status body. status ≡ 402) reading
+    → (heard_as (outcome_of instance) (of_call o) reading ≡ outcome o.call Refused) ↔ IsWholeAs (λ status body. status ≡ REFUSED) reading
 
--- a notice is acknowledged exactly by a whole answer of status 200
+-- a call is funded in part exactly by a whole answer that funds just this part of it
+abbrev pub PartExactly : Type 0
+PartExactly =
+    (instance : ℕ) (o : Opened) (currency : Currency) (amount : ℕ) (reading : Reading)
+    → (heard_as (outcome_of instance) (of_call o) reading ≡ outcome o.call (Partial currency amount))
+    ↔ IsWholeAs (λ status body. outcome_of instance o status body ≡ Partial currency amount) reading
+
+-- a notice is acknowledged exactly by a whole answer of status `OK`
 abbrev pub AcknowledgedExactly : Type 0
 AcknowledgedExactly =
     (instance n : ℕ) (reading : Reading)
-    → (heard_as (outcome_of instance) (of_notice n) reading ≡ acknowledged n) ↔ IsWholeAs (λ status body. status ≡ 200) reading
+    → (heard_as (outcome_of instance) (of_notice n) reading ≡ acknowledged n) ↔ IsWholeAs (λ status body. status ≡ OK) reading
 
 -- A notice isn't acknowledged exactly if its channel failed, ended early, sent what can't be understood or a whole answer of another status.
 abbrev pub DroppedExactly : Type 0
 DroppedExactly =
     (instance n : ℕ) (reading : Reading)
     → (heard_as (outcome_of instance) (of_notice n) reading ≡ dropped n)
-    ↔ ((reading ≡ ended) ⊎ ((reading ≡ garbled) ⊎ IsWholeAs (λ status body. status ≡ 200 → ⊥) reading))
+    ↔ ((reading ≡ ended) ⊎ ((reading ≡ garbled) ⊎ IsWholeAs (λ status body. status ≡ OK → ⊥) reading))

@@ -26,8 +26,8 @@ use Rattle.iss_link.specs.Values.{LinksNow, heard_of}
 abbrev pub got_in : List ℕ → Option ℕ → Option (List ℕ)
 got_in buffer count = option_map (λ n. take n buffer) count
 
--- A link had what a take brought: what its bytes are then, and the links. While no answer is whole the bytes are kept; then only the
--- other links are.
+-- A link received what a take brought. This is what its bytes then are. As long as no answer is whole, the bytes are kept. The other links
+-- stay as they are.
 pub record Reads (ch : Channel) (got : Option (List ℕ)) (before after : List Link) (said : Option Answer) : Type 0 where
   pub link : Link
   pub found : link_at ch before ≡ Some link
@@ -42,7 +42,7 @@ abbrev pub closing : Channel → link.Heard → List Action
 closing ch unfinished = []
 closing ch _ = Close ch ∷ []
 
--- and then it isn't open any more
+-- after its close a channel isn't open
 abbrev pub channels_after : Channel → link.Heard → Channels → Channels
 channels_after ch unfinished channels = channels
 channels_after ch _ channels = after_close ch channels
@@ -62,8 +62,8 @@ pub record Answers (before after : LinksNow) (ch : Channel) (got : Option (List 
 abbrev pub TakeFaultRose : Channel → Channels → Faults → Faults → Type 0
 TakeFaultRose ch channels f g = Rose (count_of (take_fault channels ch) f) (count_of (take_fault channels ch) g)
 
--- One take was made on a watched channel; it failed only if the count of that channel's kind rose. This was heard of it, and done:
--- the channel was closed after its answer was heard.
+-- One take was made on a watched channel, and failed only if the count of that channel's kind rose. This was heard of it. If its answer was
+-- heard, the channel was closed.
 pub record Listens {E : Type 0} (before after : LinksNow) (ch : Channel) (result : Result Heard E) (channels : Channels) (f g : Faults) (x y : Option Outer) : Type 0 where
   pub got : Option (List ℕ)
   pub piece : is_piece got ≡ true

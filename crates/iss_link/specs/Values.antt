@@ -43,11 +43,11 @@ abbrev pub HasBegun : Option (List ℕ) → Type 0
 HasBegun None = Unit {0}
 HasBegun (Some bytes) = is_empty bytes ≡ false
 
--- a link with these bytes more
+-- a link with these further bytes
 abbrev pub joined : Link → List ℕ → Link
 joined l piece = record l { bytes = l.bytes ++ piece }
 
--- a link had some bytes, and told the answer once it is whole; while none is the bytes are kept
+-- A link took this piece: it returned what all its bytes are read as, and keeps them as long as they are no answer.
 pub record HasRead {E : Type 0} (before : Link) (piece : List ℕ) (told : Result (Option Answer) E) (after : Link) : Type 0 where
   pub read : IfOk told (λ said. IsReadAs (before.bytes ++ piece) (is_empty piece) (came.heard said))
   pub kept : IfOk told (λ said. IfNone said (after ≡ joined before piece))

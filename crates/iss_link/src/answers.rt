@@ -1,5 +1,5 @@
 //! An answer on a watched channel: one take, and what its bytes come to.
-ghost use Rattle.std.specs.Prelude.{◌≡◌, ◌<◌, ◌≤◌, ◌^◌, ℕ, List, length, [], ◌∷◌, Some, None, IfOk, IfSome, IsSome, OnErr, IfErr};
+ghost use Rattle.std.specs.Prelude.{◌≡◌, ◌<◌, ◌≤◌, ℕ, List, length, [], ◌∷◌, Some, None, IfOk, IfSome, IsSome, OnErr};
 ghost use Rattle.iss_edge.specs.declared.outside.Answered.TheVariants.{Took};
 ghost use Rattle.iss_edge.specs.World.{Later, Stays};
 ghost use Rattle.iss_edge.specs.Outer.{Adds, ToldBoth};
@@ -21,12 +21,13 @@ use crate::watched::{About, Watched};
 use iss_channels::ByChannel;
 use iss_edge::{Channel, Edge};
 use iss_http::Answer;
+use iss_http::statuses::OK;
 use iss_jit::answer as jit_answer;
 use iss_model::{Opened, Outcome};
 use std::alloc::{AllocError, Global};
 
-/// The status of a gateway that acknowledges a notice: OK of RFC 9110.
-const ACKNOWLEDGED: u16 = 200;
+/// The status of a gateway that acknowledges a notice.
+const ACKNOWLEDGED: u16 = OK;
 
 /// Takes once from a watched channel that is ready, and returns what its bytes come to. After a whole answer, the channel is closed and
 /// watched no longer.
@@ -108,7 +109,7 @@ fn read(
     }
 }
 
-/// Gives a channel its next bytes, none at their end.
+/// Adds the next bytes to what a channel's reader has, none at their end.
 fn feed(
     links: &mut ByChannel<Watched>,
     alloc: Global,

@@ -1,17 +1,18 @@
 //! Laws of what is heard on links.
 ghost use Rattle.iss_link.specs.Hearing.{ClosingsAreGood};
-ghost use Rattle.iss_link.specs.Causes.{UnfinishedOnlyAt, ConnectionOnlyAt, ApplicationExactly, RefusedExactly, AcknowledgedExactly, DroppedExactly};
+ghost use Rattle.iss_link.specs.Causes.{UnfinishedOnlyAt, ConnectionOnlyAt, ApplicationExactly, RefusedExactly, PartExactly, AcknowledgedExactly, DroppedExactly};
 
 use iss_edge::Showing;
 
-/// What each answer on a link comes by: nothing only if bytes came and no answer is whole; a call that isn't connected only if the
-/// take failed or the bytes ended early; a refusal, an answer that can't be understood, an acknowledgement and none exactly so.
+/// What each answer on a link comes by. Nothing is heard only if bytes came and no answer is whole. A call isn't connected only if the
+/// take failed or the bytes ended early. For a refusal, an answer that decides nothing, an acknowledgement and none, the laws are exact.
 
 pub fn answers_are_caused()
     ensures unfinished { UnfinishedOnlyAt }
     ensures connection { ConnectionOnlyAt }
     ensures application { ApplicationExactly }
     ensures refused { RefusedExactly }
+    ensures part { PartExactly }
     ensures acknowledged { AcknowledgedExactly }
     ensures dropped { DroppedExactly }
 {}

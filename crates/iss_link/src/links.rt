@@ -1,5 +1,5 @@
 //! The channels on which the gateway's answers are awaited.
-ghost use Rattle.std.specs.Prelude.{◌≡◌, ◌<◌, ◌^◌, ◌++◌, [], map, length, Some, IfOk, OnOk, OnErr, IsSome};
+ghost use Rattle.std.specs.Prelude.{◌≡◌, ◌<◌, ◌++◌, [], map, length, Some, IfOk, OnOk, OnErr, IsSome};
 ghost use Rattle.iss_edge.specs.World.{Later, Stays};
 ghost use Rattle.iss_model.specs.declared.limits.TheConstants.{INSTANCES};
 ghost use Rattle.iss_session.specs.Hearings.{link_at, links_of};
@@ -37,7 +37,7 @@ impl Model for Links {
 }
 
 impl Links {
-    /// No channel is watched.
+    /// Links of which no channel is watched.
     pub fn new(alloc: Global, instance: u64) -> Result<Links, AllocError>
         requires { instance < INSTANCES }
         ensures { IfOk result (λ links. links ≡ record { instance = instance; links = [] }) }
@@ -71,8 +71,8 @@ impl Links {
 
     /// Takes once from a watched channel that is ready, and returns what was heard.
     ///
-    /// `Nothing` only if bytes came and the answer isn't whole; `Connection` only if the take failed or the bytes ended before a
-    /// whole answer. After each answer but `Nothing` the channel is closed and watched no longer. If an allocation fails, the
+    /// It returns `Nothing` only if bytes came and the answer isn't whole, and `Connection` only if the take failed or the bytes
+    /// ended before a whole answer. After each answer but `Nothing` the channel is closed and watched no longer. If an allocation fails, the
     /// take was made, and what is watched is open.
     pub fn ready<E: Edge>(
         &mut self,
@@ -106,7 +106,7 @@ impl Links {
     }
 }
 
-/// Zeros, in the number given.
+/// `size` zeros.
 fn zeros(alloc: Global, size: usize) -> Result<Vec<u8>, AllocError>
     ensures { IfOk result (λ bytes. length bytes.items ≡ size) }
 {

@@ -14,6 +14,7 @@ mod currency;
 mod decision;
 mod entry;
 mod input;
+pub mod layout;
 pub mod limits;
 mod mccs;
 mod named;

@@ -21,10 +21,10 @@ pub const GREATEST_USAGE: u32 = 1_000_000;
 /// The greatest merchant category code of ISO 18245: codes have four decimal digits.
 pub const GREATEST_MCC: u16 = 9999;
 
-/// The least offset of a control's clock from UTC: 12 hours behind, in minutes.
+/// The least offset of a control's clock from UTC: 12 hours behind UTC, in minutes.
 pub const LEAST_OFFSET: i16 = -720;
 
-/// The greatest offset of a control's clock from UTC: 14 hours ahead, in minutes.
+/// The greatest offset of a control's clock from UTC: 14 hours ahead of UTC, in minutes.
 pub const GREATEST_OFFSET: i16 = 840;
 
 /// The most merchant category codes of a group.
@@ -36,7 +36,7 @@ pub const SHORTEST_TIMEOUT: u64 = 1;
 /// The longest time for an answer of the gateway: a minute, in milliseconds.
 pub const LONGEST_TIMEOUT: u64 = 60_000;
 
-/// The time for an answer of a product whose line gives none, in milliseconds: three seconds.
+/// The time for an answer of a product whose line names none, in milliseconds: three seconds.
 pub const DEFAULT_TIMEOUT: u64 = 3000;
 
 /// The shortest time that an authorisation holds its amount: a day, in milliseconds.
@@ -45,7 +45,7 @@ pub const SHORTEST_HOLD: u64 = 86_400_000;
 /// The longest time that an authorisation holds its amount: 31 days, in milliseconds.
 pub const LONGEST_HOLD: u64 = 2_678_400_000;
 
-/// The time that a product holds whose line gives none: seven days, in milliseconds.
+/// How long a product holds an amount if its line says nothing of it: seven days, in milliseconds.
 pub const DEFAULT_HOLD: u64 = 604_800_000;
 
 /// The most products with the built-in one, the most groups, the most controls and the most sets.

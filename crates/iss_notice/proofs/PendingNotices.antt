@@ -1,4 +1,4 @@
--- The notices by number: one more, one less, and one that is found.
+-- The notices by number: one more, one less, and a notice that is found.
 use Rattle.std.proofs.Common.{◌≡◌, ℕ, suc, ◌+◌, ◌<◌, ◌≤◌, nat_lt, nat_le, ◌==◌, Bool, true, false, cond, not, ◌&&◌, ◌||◌, List, [], ◌∷◌, ◌++◌, map, filter, length, refl, sym, ap, ◌∙◌, subst, true≢false, arith}
 use Rattle.std.proofs.lemmas.Bool.Decides.{nat_tests}
 use Rattle.std.specs.Prelude.{Option, Some, Ok, Err, IsTrue, IsErrOf, is_some, is_ok, find}
@@ -194,7 +194,7 @@ acked_already p m h = (λ e. absurd (true≢false (ap is_ok e)), λ e. absurd (t
     neither true = refl
     neither false = refl
 
--- what acknowledging one that doesn't wait is
+-- acknowledging a notice that doesn't wait
 pub refused_exactly : (p : Bool) → p ≡ false → (false ≡ true → IsTrue p) × (IsTrue p → false ≡ true)
 refused_exactly p h = (λ e. absurd (true≢false (sym e)), λ e. sym h ∙ e)
 

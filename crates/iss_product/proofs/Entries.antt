@@ -182,7 +182,7 @@ module _ (es : List (List ℕ × Listed)) (ps : List ProductNow) (name key : Lis
       ap is_on is ∙ ap (λ (k : List ℕ). is_on (lookup (bytes_eq k) es)) same ∙ switch_found name es listed.by_name listed.apart
       ∙ ap (λ (xs : List ProductNow). is_named_in (switched_in xs) name) shown
 
--- A write at a name that the map has, or none at one that it lacks, turns the switch of that name alone.
+-- A write at a name that the map has, or no write at a name that it lacks, turns only the switch of that name.
 module _ (es : List (List ℕ × Listed)) (ps : List ProductNow) (name key : List ℕ) (listed : IsListed es) (shown : listed_in es ≡ ps) (same : key ≡ name) where
   pub switch_turned : (v w : Listed) (after : List (List ℕ × Listed)) → Some v ≡ lookup (bytes_eq key) es → w.product ≡ v.product
       → after ≡ set_value (bytes_eq key) es w → listed_in after ≡ with_switch ps name w.on

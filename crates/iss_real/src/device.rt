@@ -1,6 +1,6 @@
 //! The file that a device is.
 
-ghost use Rattle.std.specs.Prelude.{◌≡◌, IfErr, IsErr, None};
+ghost use Rattle.std.specs.Prelude.{◌≡◌, IsErr, None};
 
 use std::fs::{File, Files, OpenOptions, remove_file};
 use std::io;

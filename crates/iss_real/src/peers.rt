@@ -19,6 +19,9 @@ use std::net::{Net, Shutdown, TcpStream};
 /// How often what came and wasn't taken is read at a close.
 const LAST_READS: u32 = 16;
 
+/// How many bytes one such read takes at most.
+const LAST_PIECE: usize = 4096;
+
 /// A channel, and its socket once that is connected. The socket doesn't block.
 #[derive(Drop)]
 pub struct Peer {
@@ -45,7 +48,7 @@ impl Peer {
         }
     }
 
-    /// Gives the channel its socket.
+    /// Sets the socket of the channel.
     pub fn connect(&self, socket: TcpStream) {
         let _ = self.socket.set(socket);
     }
@@ -99,7 +102,7 @@ impl Peer {
     /// Ends what goes out and reads what came. If bytes were left unread, closing the socket would take back what the peer
     /// hasn't read yet.
     fn finish(&self) {
-        let mut left = [0; 4096];
+        let mut left = [0; LAST_PIECE];
         let Ok(mut socket) = self.socket() else {
             return;
         };

@@ -1,9 +1,9 @@
-//! The outside as the system gives it.
+//! The outside that the system provides.
 
-ghost use Rattle.std.specs.Prelude.{◌≡◌, ◌<◌, ◌≤◌, ◌⊎◌, Some, None, length, take, IfOk, OnErr, OnOk, IsErr};
+ghost use Rattle.std.specs.Prelude.{◌≡◌, ◌<◌, ◌≤◌, None, length, take, IfOk, OnErr, OnOk, IsErr};
 ghost use Rattle.std.specs.Io.KnownBytes.{Keeps, Appends, Consumes, IsAtEnd};
-ghost use Rattle.iss_edge.specs.World.{Later, Rose, HasCause};
-ghost use Rattle.iss_edge.specs.Channels.{no_channels, count_of, take_fault, emit_fault};
+ghost use Rattle.iss_edge.specs.World.{HasCause};
+ghost use Rattle.iss_edge.specs.Channels.{count_of, take_fault, emit_fault};
 ghost use Rattle.iss_edge.specs.Memory.{stream_faults};
 
 use crate::device::Device;
@@ -46,7 +46,7 @@ impl<R, W, N> RealEdge<R, W, N> {
     }
 }
 
-// Where the streams tell their bytes, a call ensures which of them it took or sent.
+// If the streams tell their bytes, a call ensures which of them it took or sent.
 impl<R: Read + Drop, W: Write + Drop, N: Net<Stream = TcpStream> + Clock + Drop> Edge
     for RealEdge<R, W, N> {
     ghost told = { λ _. None };
@@ -163,7 +163,7 @@ fn write_through<W: Write>(output: &mut W, bytes: &[u8]) -> io::Result<()>
     output.flush()
 }
 
-/// The same answer, where a failure is told by its count alone.
+/// The same answer, of which a failure only raises a count.
 fn counted<T>(outcome: io::Result<T>, fault: Fault, faults: &mut FaultCounts) -> Result<T, Failed>
     ensures same { IfOk result (λ value. outcome ≡ Ok value) }
     ensures failed { OnErr result (IsErr outcome) }

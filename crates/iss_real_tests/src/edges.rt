@@ -16,7 +16,7 @@ const WAITS: u32 = 60;
 /// Ports that no other program here is likely to have, one for each test. The system gives none of them to a client.
 const PORTS: [u16; 4] = [17217, 17218, 17219, 17220];
 
-/// A file that a test makes where it runs, and takes away.
+/// A file that a test makes in its folder, and removes.
 const FILE: &str = "edge-test";
 
 /// Where the system lists this process's open handles.
@@ -111,7 +111,7 @@ fn a_file_and_a_connection(rt: HostRuntime) -> Result<(), Fail> {
     Ok(())
 }
 
-/// Whether an emit on the channel fails in the end, as it has to where nobody reads.
+/// Whether an emit on the channel fails in the end, as it has to if nobody reads.
 fn fails_to_emit<E: Edge>(edge: &mut E, ch: Channel) -> bool {
     for _ in 0..EMITS {
         if edge.emit(ch, &[b'x'; 65536]).is_err() {
@@ -180,7 +180,7 @@ fn open_many<E: Edge>(edge: &mut E) {
     close_if_one_comes(edge);
 }
 
-/// Where no handle was left for a client, it comes once there is one.
+/// If no handle was left for a client, it comes once there is one.
 fn close_if_one_comes<E: Edge>(edge: &mut E) {
     if let Some(late) = client(edge) {
         edge.close(late);

@@ -95,7 +95,7 @@ fn answers() -> &'static [Row] {
     &ANSWERS
 }
 
-/// The number of the dial for the first purchase. Where it fails, the channel that is dialled next is the notice's.
+/// The number of the dial for the first purchase. If it fails, the channel that is dialled next is the notice's.
 const DIAL: u64 = 18;
 
 /// How many records stand once the notice of a call that wasn't reached is sent.

@@ -1,4 +1,4 @@
-//! Tests of the top call over an outside in memory: what each run does, with each of its calls failing, and where it stops.
+//! Tests of the top call over an outside in memory: what each run does, if each of its calls fails, and if it stops anywhere.
 //!
 //! It may cite every crate below.
 //! Nothing may cite it.

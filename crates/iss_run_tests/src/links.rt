@@ -4,7 +4,7 @@ use iss_link::{Gone, Links};
 use std::alloc::{AllocError, Global};
 use std::test::Fail;
 
-/// How many of `count` links are found, which are watched on falling channels, and whether they are listed as they were watched.
+/// Watches `count` links on falling channels. Returns how many of them are found, and whether they are listed as they were watched.
 fn found(alloc: Global, count: u32) -> Result<(usize, bool), AllocError> {
     let mut links = Links::new(alloc, 7)?;
     for number in 0..count {

@@ -65,7 +65,7 @@ fn first_bad_line(alloc: Global, row: &Run) -> Result<Option<usize>, AllocError>
     Ok(None)
 }
 
-/// The first of these runs that leaves one, and after how many actions.
+/// The first of these runs that leaves such an image, and after how many actions.
 fn first_lost(alloc: Global, rows: &[Run]) -> Result<Option<(&'static str, usize)>, AllocError> {
     for row in rows {
         if let Some(count) = first_bad_line(alloc, row)? {
@@ -189,7 +189,7 @@ fn first_bad_serving(alloc: Global, row: &Run) -> Result<Option<usize>, AllocErr
     Ok(None)
 }
 
-/// The first of these runs that leaves one, and after how many actions.
+/// The first of these runs that leaves such an image, and after how many actions.
 fn first_stuck(alloc: Global, rows: &[Run]) -> Result<Option<(&'static str, usize)>, AllocError> {
     for row in rows {
         if let Some(count) = first_bad_serving(alloc, row)? {

@@ -20,7 +20,7 @@ causes_then : {A : Type 0} (f g h : Faults) (r : Result A ServeFault) → Later 
 causes_then f g h (Ok x) p q e = tt
 causes_then f g h (Err why) p q e = cause_then f g h why p q e
 
--- one call, and then another, which has a cause where it fails
+-- one call, and then another, which has a cause if it fails
 pub caused_then : {A : Type 0} (f g h : Faults) (r : Result A ServeFault) → Later f g → IsServeCaused g h r → IsServeCaused f h r
 caused_then f g h r p q = record { later = later_then f g h p q.later; cause = causes_then f g h r p q.later q.cause }
 
@@ -50,7 +50,7 @@ caused_commit f g store.Disk P c l = record { later = c.later; cause = c.disk re
 caused_commit f g store.Output P c l = absurd l
 caused_commit f g store.OutOfMemory P c l = record { later = c.later; cause = tt }
 
--- what holds anyway, where a call failed
+-- what holds anyway, if a call failed
 pub anyway : {T E : Type 0} (r : Result T E) (P : Type 0) → P → OnErr r P
 anyway (Ok x) P p = tt
 anyway (Err e) P p = p

@@ -34,7 +34,7 @@ not_begun failed store turns a =
 pub told_not_begun : (failed : Type 0) (store : StoreNow) (turns : ℕ) (x : Option Outer) → Told (ServesUpTo failed store turns) x x
 told_not_begun failed store turns x = told_self (ServesUpTo failed store turns) x (not_begun failed store turns)
 
--- nothing is held, and so many waits are left
+-- nothing is held, and this many waits are left
 abbrev pub fresh : StoreNow → ℕ → HeldNow
 fresh store turns =
     record { clients = []; served = []; links = record { instance = store.core.instance; links = [] }; unreached = []; clock = 0; turns = turns }

@@ -60,7 +60,7 @@ heard_then a b c xs ys p q =
     ∙ append_assoc a (answers_of xs) (answers_of ys)
     ∙ ap (λ (h : List Answered). a ++ h) (sym (answers_append xs ys))
 
--- a session behind these happenings, and what it did
+-- a session after these happenings, and what it did
 after_then : (read : Readers) (s t : Session) (xs ys : List Happening) → session_after read s xs ≡ t → session_after read s (xs ++ ys) ≡ session_after read t ys
 after_then read s t xs ys ends = after_append read s xs ys ∙ ap (λ (m : Session). session_after read m ys) ends
 
@@ -114,7 +114,7 @@ module _ (read : Readers) (region : Region) (s t : Session) (a b c : Outer) (p :
         ];
       }
 
-  -- a session that went to where nothing comes next, and then the last closes
+  -- a session that went on until nothing comes next, and then the last closes
   pub goes_to_end : IsComplete t → Adds (actions_of (last_steps t)) [] b c → GoesToEnd read region s t a c
   goes_to_end over closed =
       record {

@@ -123,7 +123,7 @@ is_taken store h ch e = ap (λ (b : Bool). record (taking store h ch) { ready = 
 pub is_passed : (store : StoreNow) (h : HeldNow) (ch : Channel) → listens_to h ch ≡ false → arrived store h ch ≡ idle store h
 is_passed store h ch e = ap (λ (b : Bool). record (taking store h ch) { ready = cond b (Some ch) None }) e
 
--- a link's state is there where it is
+-- a link that is there has its state
 pub unlinked : (ch : Channel) (links : List Link) → state_on ch links ≡ None → link_at ch links ≡ None
 unlinked ch links e = by (link_at ch links) e
   where

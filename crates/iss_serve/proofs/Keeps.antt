@@ -140,7 +140,7 @@ told_client_answer store h now first client ch a x y e is p =
     subst (λ (c : Option Channel). Told (ServesOn (sending store h first (answer_tasks c a)) (to_judge store now first)) x y) (sym e)
     (told_replied store h now ch (respond (status_of a) (answer_text a)) (respond (status_of a) (answer_text a)) first x y refl is p)
 
--- ---- behind a record fewer may still come
+-- ---- after a record fewer may still come
 
 less_left : (most before now : ℕ) → now ≡ before + 1 → now ≤ most → most - now < most - before
 less_left most before now one few = omega (arith, one, few)

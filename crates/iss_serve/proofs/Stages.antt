@@ -159,7 +159,7 @@ told_some_as failed x x' o p e t = subst (λ (s : Stage). Told (ServesSome faile
 
 -- ---- each kind of part, on a store that stays as it is
 
--- an answer that was called for, where a fault keeps what the session does then from being done
+-- an answer that was called for, if a fault keeps what the session does then from being done
 heard_goes_part : (failed : Type 0) (read : Readers) (region : Region) (s : Session) (item : Item) (a b : Outer) → IsNext s item → Adds [] (item.answer ∷ []) a b → GoesPart failed read region s a b
 heard_goes_part failed read region s item a b next adds =
     let t = session_after read s (hears item ∷ []) in
@@ -206,7 +206,7 @@ heard_on store x y item actions a b xs ys next came leads does adds =
           };
     }
 
--- the same where a fault keeps the session's steps from being done
+-- the same if a fault keeps the session's steps from being done
 pub heard_some : (failed : Type 0) (x : Stage) (item : Item) (a b : Outer) → ((rs : List Record) → IsNext (session_at x rs) item) → Adds [] (item.answer ∷ []) a b → ServesSome failed x a b
 heard_some failed x item a b next adds =
     record { on_book = λ rs stands. heard_goes_part failed program_readers (region_under x.store) (session_at x rs) item a b (next rs) adds }

@@ -33,7 +33,7 @@ not_done Wait e = cc
 not_done Disk e = cc
 not_done OutOfMemory e = cc
 
--- behind the opening the device isn't at fault
+-- after the opening the device isn't at fault
 not_device : {A : Type 0} (why : ServeFault) (before now : Faults) → IsServeCaused {A = A} before now (Err why) → ends_with why ≡ 4 → ⊥
 not_device Device before now caused e = caused.cause
 not_device Wait before now caused e = cc
@@ -150,7 +150,7 @@ caused_by_opening (open_fault.BadRecord gate) before now cause = record { later 
 caused_by_opening (open_fault.BadSpelling gate) before now cause = record { later = cause.later; cause = tt }
 caused_by_opening (open_fault.BadHistory gate) before now cause = record { later = cause.later; cause = tt }
 
--- behind an opening, which counts no fault down
+-- after an opening, which counts no fault down
 cause_behind : (before middle now : Faults) (why : ServeFault) → Later before middle → Later middle now → ServeCause middle now why → EndingCause before now why
 cause_behind before middle now Device first second cause = absurd cause
 cause_behind before middle now Wait first second cause = rose_later before.input middle.input now.input now.input first.input second.input (omega arith) cause

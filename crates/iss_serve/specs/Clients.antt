@@ -4,7 +4,7 @@ use Rattle.iss_http.specs.declared.faults.FeedFault.{FeedFault}
 use Rattle.iss_http.specs.Requests.{request, answered, IsCause}
 use Rattle.iss_session.specs.Sessions.{Reader}
 
--- A client had some bytes, and told its request's body once that is whole, or why it is none; while it isn't whole the bytes are kept.
+-- A client's bytes came to this: its request's body once that is whole, or why there is none. As long as it isn't whole, the bytes are kept.
 pub record HasRead {V : Type 0} (text_of : V → List ℕ) (before : Reader) (piece : List ℕ) (told : Result (Option V) FeedFault) (after : Reader) : Type 0 where
   pub body : IfOk told (λ said. request (before.bytes ++ piece) ≡ answered (option_map text_of said))
   pub fault : IfErr told (IsCause (before.bytes ++ piece))

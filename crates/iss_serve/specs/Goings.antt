@@ -35,7 +35,7 @@ pub record Goes (read : Readers) (region : Region) (s t : Session) (a b : Outer)
   pub ends : session_after read s happenings ≡ t
   pub goes : device.Goes region (records_in s) (records_in t) (session_steps read s happenings) a.world b.world
 
--- The same where a fault ended it: the last steps of the session may not have been done. It might have gone on from there, unless this failed.
+-- The same if a fault ended it: the last steps of the session may not have been done. It might have gone on from there, unless this failed.
 pub record GoesPart (failed : Type 0) (read : Readers) (region : Region) (s : Session) (a b : Outer) : Type 0 where
   pub happenings : List Happening
   pub heard : b.heard ≡ a.heard ++ answers_of happenings
@@ -46,7 +46,7 @@ pub record GoesPart (failed : Type 0) (read : Readers) (region : Region) (s : Se
   pub part : device.GoesPart region (records_in s) (records_in (session_after read s happenings)) said a.world b.world
   pub whole : device.Goes region (records_in s) (records_in (session_after read s happenings)) said a.world b.world ⊎ failed
 
--- A session went from s to t, where nothing comes next, and then every channel that was still open was closed.
+-- A session went from s to t, after which nothing comes, and then every channel that was still open was closed.
 pub record GoesToEnd (read : Readers) (region : Region) (s t : Session) (a b : Outer) : Type 0 where
   pub happenings : List Happening
   pub heard : b.heard ≡ a.heard ++ answers_of happenings

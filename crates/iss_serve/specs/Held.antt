@@ -107,7 +107,11 @@ listens_to h ch = is_reading ch h.clients || is_waiting ch h.served || is_linked
 abbrev pub arrived : StoreNow → HeldNow → Channel → Stage
 arrived s h ch = record { store = s; held = h; ready = (if listens_to h ch then Some ch else None); first = []; tasks = [] }
 
--- the session that stands, where the store stands for these records
+-- the same on each store, with what is held
+abbrev pub arrived_on : Held → Channel → StoreNow → Stage
+arrived_on h ch = λ s. arrived s (now_of h) ch
+
+-- the session that stands, if the store stands for these records
 abbrev pub session_at : Stage → List Record → Session
 session_at x rs =
     record {
@@ -162,7 +166,7 @@ pub record IsHeld (h : Held) : Type 0 where
   pub calls : CallsNumbered h.unreached.items
   pub links : LinksNumbered h.links.links
 
--- The time, the room, the links' instance and the waits that are left are as before. Calls and notices are numbered from 1 where they were.
+-- The time, the room, the links' instance and the waits that are left are as before. Calls and notices are numbered from 1 if they were.
 pub record IsStillHeld (before after : Held) : Type 0 where
   pub clock : after.clock ≡ before.clock
   pub room : length after.buffer.items ≡ length before.buffer.items

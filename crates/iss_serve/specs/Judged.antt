@@ -14,7 +14,7 @@ use Rattle.iss_store.specs.Standing.{StandsFor}
 use Rattle.iss_serve.specs.declared.held.Held.{Held}
 use Rattle.iss_serve.specs.Held.{HeldNow, IsHeld, IsOf, records_left}
 
--- An input was judged: a record was made, so that fewer may still come, or no call more has an answer that is to be judged.
+-- An input was judged. Either a record was made, so that fewer may still come, or no further call has an answer that is to be judged.
 pub record Judges (store next : StoreNow) (before after : Held) : Type 0 where
   pub held : IsHeld after
   pub instance : IsOf next after
@@ -35,7 +35,7 @@ abbrev pub judged_again : Bool → Queued → List Queued → List Queued
 judged_again true q rest = q ∷ rest
 judged_again false q rest = rest
 
--- the client of a new event waits; where a time record goes before an answer, nobody does
+-- the client of a new event waits; if a time record goes before an answer, nobody does
 abbrev pub waiting_for : Queued → Bool → HeldNow → HeldNow
 waiting_for q true h = h
 waiting_for q false h = record h { served = h.served ++ waiters_of q.client (event_token q.input) }

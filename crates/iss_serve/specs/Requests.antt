@@ -2,6 +2,7 @@
 use Rattle.std.specs.Prelude.{◌≡◌, Bool, true, List, [], ◌∷◌, ◌++◌, ℕ, Some, Result, Ok, Err, IsTrue}
 use Rattle.iss_edge.specs.declared.outside.Channel.{Channel}
 use Rattle.iss_http.specs.Requests.{request, IsHopelessRequest}
+use Rattle.iss_http.specs.declared.statuses.TheConstants.{BAD_REQUEST}
 use Rattle.iss_http.specs.Messages.{respond}
 use Rattle.iss_model.specs.declared.input.Input.{Input}
 use Rattle.iss_model.specs.Forms.{is_in_form}
@@ -18,7 +19,7 @@ requested s ch clients More = record s { readers = clients }
 requested s ch clients (Says i) = with_queued (record s { readers = clients }) (record { input = i; client = Some ch })
 requested s ch clients (Bad text) = with_tasks (record s { readers = clients }) (to_reply ch text.items ∷ [])
 
--- A client's request was read on: in each session with these clients, its bytes come to this. They are answered early only where no head
+-- A client's request was read on: in each session with these clients, its bytes come to this. They are answered early only if no head
 -- begins with them.
 pub record ReadsOn (ch : Channel) (piece : List ℕ) (before after : List Reader) (said : Request) : Type 0 where
   pub early : Bool
@@ -31,7 +32,7 @@ abbrev pub SaysLine : Result Input (List ℕ) → Request → Type 0
 SaysLine line More = ⊥
 SaysLine line (Says i) = line ≡ Ok i
 SaysLine (Ok i) (Bad text) = ⊥
-SaysLine (Err line) (Bad text) = text.items ≡ respond 400 line
+SaysLine (Err line) (Bad text) = text.items ≡ respond BAD_REQUEST line
 
 -- an input that is said is in form
 abbrev pub IsRequestInForm : Request → Type 0

@@ -1,15 +1,18 @@
--- A run that serves, from the store that was opened on, whatever records it stands for.
+-- A run that serves, since its store was opened, whatever records that stands for.
 use Rattle.std.specs.Prelude.{◌≡◌, ℕ, Bool, List, Option, Result, IfOk, IfErr, OnOk, OnErr}
 use Rattle.iss_edge.specs.declared.outside.Answered.{Answered}
 use Rattle.iss_edge.specs.declared.outside.Channel.{Channel}
 use Rattle.iss_edge.specs.World.{World}
 use Rattle.iss_edge.specs.Outer.{Outer, ToldBoth}
+use Rattle.iss_model.specs.declared.decision.Answer.{Answer}
 use Rattle.iss_model.specs.declared.input.Record.{Record}
 use Rattle.iss_model.specs.rules.Histories.{history_of}
 use Rattle.iss_session.specs.Desks.{Task}
+use Rattle.iss_session.specs.Judgements.{answer_tasks}
 use Rattle.iss_session.specs.Sessions.{Session, Queued, session_of}
 use Rattle.iss_session_examples.specs.Program.{program_readers}
-use Rattle.iss_store.specs.Values.{StoreNow, Plan, room_of}
+use Rattle.iss_store.specs.Serving.{tasks_of_record}
+use Rattle.iss_store.specs.Values.{StoreNow, Plan, DurableNow, room_of}
 use Rattle.iss_store.specs.Standing.{StandsFor, AreHistory, region_under}
 use Rattle.iss_serve.specs.declared.fault.ServeFault.{ServeFault}
 use Rattle.iss_serve.specs.declared.held.Held.{Held}
@@ -19,7 +22,7 @@ use Rattle.iss_serve.specs.Held.{Stage, session_at, now_of, queued_as, to_judge,
 use Rattle.iss_serve.specs.Judged.{judged_again}
 use Rattle.iss_serve.specs.Goings.{Goes, GoesPart, GoesToEnd, records_in}
 
--- if the store stood for some records, a run went on to where it stands for these
+-- if the store stood for some records, a run went on until it stands for these
 pub record ServesFrom (x y : Stage) (rs : List Record) (a b : Outer) : Type 0 where
   pub now : List Record
   pub stands : StandsFor y.store now
@@ -75,6 +78,14 @@ abbrev pub JudgesPart : {E T : Type 0} → (E → Option World) → (E → Optio
 JudgesPart told heard a b store before queued result =
     (rest : List Queued) → ServesInPart told heard a b (judging_first store before queued rest) result
 
+-- the texts that tell a client why its input makes no record, if a client sent it
+abbrev pub tasks_told : code.Queued → Answer → List Task
+tasks_told q answer = answer_tasks q.client answer
+
+-- the texts that go out for a record that lasts, with what is held
+abbrev pub tasks_said : StoreNow → DurableNow → Held → List Task
+tasks_said s d h = tasks_of_record s d h.served
+
 -- If the call succeeded, these texts went out, and the inputs are left to judge, whichever they are.
 abbrev pub SendsFirst : {E T F : Type 0} → (E → Option World) → (E → Option (List Answered)) → E → E → StoreNow → Held → Held → List Task → Result T F → Type 0
 SendsFirst told heard a b store before after tasks result =
@@ -86,23 +97,23 @@ abbrev pub SendsFirstPart : {E T F : Type 0} → (E → Option World) → (E →
 SendsFirstPart told heard a b store before tasks result =
     (first : List Queued) → ServesShort told heard a b (sending store (now_of before) first tasks) result
 
--- Whatever store the links are of: if the call succeeded, the run went on from this stage to judging what was heard.
+-- Whichever store the links belong to: if the call succeeded, the run went on from this stage to judging what was heard.
 abbrev pub HearsFrom : {E F : Type 0} → (E → Option World) → (E → Option (List Answered)) → E → E
     → Held → Held → (StoreNow → Stage) → Result (Option code.Queued) F → Type 0
 HearsFrom told heard a b before after from result =
     (store : StoreNow) → IsOf store before → ServesTo told heard a b (from store) result (judging_heard store after)
 
--- The same of a channel that is taken from, and of any store.
+-- The same for a channel that is taken from, and any store.
 abbrev pub HearsOfAny : {E F : Type 0} → (E → Option World) → (E → Option (List Answered)) → E → E
     → Held → Held → Channel → Result (Option code.Queued) F → Type 0
 HearsOfAny told heard a b before after ch result =
     (store : StoreNow) → ServesTo told heard a b (taking store (now_of before) ch) result (judging_heard store after)
 
--- Whatever store the links are of: if memory was short, the run went on in part from this stage.
+-- Whichever store the links belong to: if memory was short, the run went on in part from this stage.
 abbrev pub HearsShort : {E T F : Type 0} → (E → Option World) → (E → Option (List Answered)) → E → E → Held → (StoreNow → Stage) → Result T F → Type 0
 HearsShort told heard a b before from result = (store : StoreNow) → IsOf store before → ServesShort told heard a b (from store) result
 
--- What came on this channel was passed over, whatever the store.
+-- What came on this channel was ignored, whatever the store.
 abbrev pub PassesOver : {E : Type 0} → (E → Option World) → (E → Option (List Answered)) → E → E → Held → Held → Channel → Type 0
 PassesOver told heard a b before after ch =
     (store : StoreNow) → ToldBoth told heard (ServesOn (taking store (now_of before) ch) (idle store (now_of after))) a b

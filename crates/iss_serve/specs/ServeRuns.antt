@@ -75,8 +75,8 @@ pub record AllClosed (s : Session) (happenings : List Happening) : Type 0 where
   pub clients : (before after : List Happening) (item : Item) (ch : Channel) → item.answer ≡ Waited (Some (Client ch)) → happenings ≡ before ++ hears item ∷ after
       → left_open ch.0 true (actions_of (all_steps_said (session_then s (before ++ hears item ∷ [])) after)) ≡ false
 
--- What a run did that served to its end: no wait failed, nothing was left to hear, each channel has exactly the bytes that the session says, each was closed
--- after its last bytes, and the device stands for the records that stood and those that the session made. If the run began at rest, the
+-- What a run did that served to its end: no wait failed, and nothing was left to hear. Each channel has exactly the bytes that the session
+-- says, and was closed after its last bytes. The device stands for the records that stood and those that the session made. If the run began at rest, the
 -- next one begins there.
 pub record ServedWhole (instance : ℕ) (rs : List Record) (s : Session) (happenings : List Happening) (actions : List Action) (a b : World) : Type 0 where
   pub came : NoWaitFailed happenings
@@ -90,8 +90,8 @@ pub record ServedWhole (instance : ℕ) (rs : List Record) (s : Session) (happen
 -- for, and waited at most as often as it has turns. The opening of the device writes to it and syncs it, and no more. What was done
 -- on channels after it is what the session says, or a first part of it; and so are the bytes on each channel. Assume that the device stood
 -- firmly for its records. Then at whatever moment the run stops, the device stands for them and a first part of those that the session
--- makes. These are a history, at least as many as the level of each text of which a byte went out; within the opening one more may stand,
--- which is left behind. So it does of a device with unsynced writes, once a sync of the opening has succeeded. The next run may begin with what a stop
+-- makes. These are a history, and at least as many as the level of each text of which a byte went out. Within the opening the record that was
+-- left behind may stand too. The same holds of a device with unsynced writes, once a sync of the opening has succeeded. The next run may begin with what a stop
 -- leaves. At 0 all of it was done. Unless a call on the device failed, nothing was done but maybe a sync, or the run ended where the next
 -- one begins.
 pub record ServeOn (turns status instance : ℕ) (rs : List Record) (s : Session) (a b : Outer) : Type 0 where

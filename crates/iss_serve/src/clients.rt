@@ -86,7 +86,7 @@ impl Clients {
         self.clients.find(ch).is_some()
     }
 
-    /// Gives a client's request its next bytes, and gives its body once it is whole. `None` where it isn't yet.
+    /// Adds the next bytes to a client's request, and returns its body once it is whole. `None` if it isn't yet.
     pub(crate) fn feed(
         &mut self,
         alloc: Global,

@@ -15,7 +15,7 @@ ghost use Rattle.iss_store.specs.Numbers.{is_from_one};
 ghost use Rattle.iss_store.specs.Serving.{SendsReply};
 ghost use Rattle.iss_store.specs.Values.{StoreNow};
 ghost use Rattle.iss_serve.specs.Causes.{IsServeCaused};
-ghost use Rattle.iss_serve.specs.Held.{now_of, queued_maybe, queued_as, IsQueuedInForm, resting, taking, arrived, is_heard_numbered, IsHeld, IsStillHeld, IsOf};
+ghost use Rattle.iss_serve.specs.Held.{now_of, queued_maybe, queued_as, IsQueuedInForm, resting, taking, arrived_on, is_heard_numbered, IsHeld, IsStillHeld, IsOf};
 ghost use Rattle.iss_serve.specs.Runs.{HearsFrom, HearsOfAny, HearsShort, PassesOver, ServesInPart, ServesShort};
 
 use crate::ServeFault;
@@ -29,7 +29,7 @@ use iss_store::reply;
 use std::alloc::{AllocError, Global};
 
 impl Held {
-    /// Waits once, takes in what came, and gives the input that is to be judged for it.
+    /// Waits once, takes in what came, and returns the input that is to be judged for it.
     pub(crate) fn hear<E: Edge>(
         &mut self,
         alloc: Global,
@@ -71,7 +71,7 @@ impl Held {
         }
     }
 
-    /// Takes from a channel that is ready. One that nobody listens to is passed over.
+    /// Takes from a channel that is ready. A channel that nobody listens to is left alone.
     fn take<E: Edge>(
         &mut self,
         alloc: Global,
@@ -84,8 +84,8 @@ impl Held {
         ensures still { IfOk result (λ heard. IsStillHeld self.old self.new) }
         ensures settled { IfOk result (λ heard. self.new.unreached.items ≡ []) }
         ensures forms { IfOk result (λ heard. IfSome heard IsQueuedInForm) }
-        ensures hears { HearsFrom E.told E.heard edge.old edge.new self.old self.new (λ store. arrived store (now_of self.old) ch) result }
-        ensures part { HearsShort E.told E.heard edge.old edge.new self.old (λ store. arrived store (now_of self.old) ch) result }
+        ensures hears { HearsFrom E.told E.heard edge.old edge.new self.old self.new (arrived_on self.old ch) result }
+        ensures part { HearsShort E.told E.heard edge.old edge.new self.old (arrived_on self.old ch) result }
         ensures later { Later (E.faults edge.old) (E.faults edge.new) }
         ensures kept { Stays E.extent edge.old edge.new }
     {
@@ -102,7 +102,7 @@ impl Held {
         Ok(None)
     }
 
-    /// Takes from a client whose request isn't whole. One that fails or ends early is closed.
+    /// Takes from a client whose request isn't whole. If the take fails, or the bytes end early, the channel is closed.
     fn take_request<E: Edge>(
         &mut self,
         alloc: Global,
@@ -167,7 +167,7 @@ impl Held {
         self.served.forget(ch);
     }
 
-    /// Takes from a client that waits, and passes over what comes. One that fails is closed, and waits no longer.
+    /// Takes from a client that waits, and ignores what comes. If the take fails, the channel is closed, and the client waits no longer.
     fn pass_over<E: Edge>(&mut self, edge: &mut E, ch: Channel)
         requires other { is_reading ch self.old.clients ≡ false }
         requires waiting { is_waiting ch self.old.served ≡ true }
@@ -225,7 +225,7 @@ impl Held {
     }
 }
 
-/// Takes the next bytes of a channel that is ready, none at their end, and gives how many came. `None` where it failed.
+/// Takes the next bytes of a channel that is ready, and returns how many came: 0 at their end, `None` if the take failed.
 #[tactic(auto, using(iss_edge::proofs::Outers::told_takes, iss_edge::proofs::Outers::told_untaken))]
 fn take_piece<E: Edge>(edge: &mut E, ch: Channel, buffer: &mut [u8]) -> Option<usize>
     requires ready { (E.channels edge.old).ready ≡ Some ch.0 }
@@ -275,7 +275,7 @@ pub(crate) fn answer(call: CallId, outcome: Outcome) -> Queued
     unasked(Input::Answer { call, outcome })
 }
 
-/// The acknowledgement of a notice, which has a number from 1 too.
+/// The acknowledgement of a notice. Notices are numbered from 1 too.
 fn ack(notice: u32) -> Queued
     requires { is_from_one notice ≡ true }
     ensures said { queued_as result ≡ unasked (input_of.Ack notice) }

@@ -92,7 +92,7 @@ impl Held {
     }
 }
 
-/// So many zeros.
+/// `size` zeros.
 fn zeros(alloc: Global, size: usize) -> Result<Vec<u8>, AllocError>
     ensures { IfOk result (λ bytes. length bytes.items ≡ size) }
 {

@@ -1,14 +1,12 @@
 //! Inputs are judged one after the other. What a record makes lasts before anything of it goes out.
 ghost use Rattle.std.specs.Prelude.{◌≡◌, ◌<◌, [], true, IfOk, OnOk};
 ghost use Rattle.iss_edge.specs.World.{Told, Later, Stays};
-ghost use Rattle.iss_session.specs.Judgements.{answer_tasks};
 ghost use Rattle.iss_store.specs.Planning.{IsPlanOf};
 ghost use Rattle.iss_store.specs.Saying.{IsDurableOf};
-ghost use Rattle.iss_store.specs.Serving.{tasks_of_record};
 ghost use Rattle.iss_serve.specs.Causes.{IsServeCaused};
 ghost use Rattle.iss_serve.specs.Held.{now_of, queued_as, answers_unreached, IsQueuedInForm, judging_first, left_to_judge, resting, CallsNumbered, IsHeld, IsStillHeld, IsOf, records_left};
 ghost use Rattle.iss_serve.specs.Judged.{Judges, Settles, waiting_for, IsPlannedFor};
-ghost use Rattle.iss_serve.specs.Runs.{ServesTo, ServesInPart, JudgesFirst, JudgesOnce, JudgesPart, KeepsPlan, SendsFirst, SendsFirstPart};
+ghost use Rattle.iss_serve.specs.Runs.{ServesTo, ServesInPart, JudgesFirst, JudgesOnce, JudgesPart, KeepsPlan, tasks_told, tasks_said, SendsFirst, SendsFirstPart};
 
 use crate::ServeFault;
 use crate::hearing::answer;
@@ -41,7 +39,7 @@ pub(crate) fn judge_all<E: Edge>(
     judge_unreached(alloc, next, held, edge)
 }
 
-/// Judges the answers of the calls that weren't reached, in their order, and of those that weren't reached meanwhile.
+/// Judges the answers of the calls that weren't reached, in their order, and of those that aren't reached meanwhile.
 pub(crate) fn judge_unreached<E: Edge>(
     alloc: Global,
     store: Store,
@@ -192,9 +190,9 @@ fn release<E: Edge>(
 ) -> Result<(), AllocError>
     requires last { IsDurableOf store.now durable }
     ensures released { SendsFirst E.told E.heard edge.old edge.new
-        store.now held.old held.new (tasks_of_record store.now durable held.old.served) result }
+        store.now held.old held.new (tasks_said store.now durable held.old) result }
     ensures part { SendsFirstPart E.told E.heard edge.old edge.new
-        store.now held.old (tasks_of_record store.now durable held.old.served) result }
+        store.now held.old (tasks_said store.now durable held.old) result }
     ensures still { OnOk result (IsStillHeld held.old held.new) }
     ensures later { Later (E.faults edge.old) (E.faults edge.new) }
     ensures kept { Stays E.extent edge.old edge.new }
@@ -203,7 +201,7 @@ fn release<E: Edge>(
     held.note_all(&gone)
 }
 
-/// Tells a client why its input makes no record. What the gateway or the clock gave is told to nobody.
+/// Tells a client why its input makes no record. If the input came from the gateway or the clock, nobody is told.
 fn tell<E: Edge>(
     alloc: Global,
     store: &Store,
@@ -213,9 +211,9 @@ fn tell<E: Edge>(
     edge: &mut E,
 ) -> Result<(), AllocError>
     ensures told { SendsFirst E.told E.heard edge.old edge.new
-        store.now held.old held.new (answer_tasks queued.now.client answer.now) result }
+        store.now held.old held.new (tasks_told queued.now answer.now) result }
     ensures part { SendsFirstPart E.told E.heard edge.old edge.new
-        store.now held.old (answer_tasks queued.now.client answer.now) result }
+        store.now held.old (tasks_told queued.now answer.now) result }
     ensures still { OnOk result (IsStillHeld held.old held.new) }
     ensures unreached { OnOk result (held.new.unreached.items ≡ held.old.unreached.items) }
     ensures later { Later (E.faults edge.old) (E.faults edge.new) }
@@ -230,7 +228,7 @@ fn tell<E: Edge>(
 }
 
 impl Held {
-    /// The client of a new event waits until it is decided. A time record that only goes before an answer lets nobody wait.
+    /// The client of a new event waits until it is decided. If a time record only goes before an answer, nobody waits.
     fn wait_for(&mut self, queued: &Queued, is_clock: bool) -> Result<(), AllocError>
         ensures now { OnOk result (now_of self.new ≡ waiting_for (queued_as queued.now) is_clock (now_of self.old)) }
         ensures still { OnOk result (IsStillHeld self.old self.new) }
@@ -244,7 +242,7 @@ impl Held {
         }
     }
 
-    /// The calls that weren't reached, which are given away.
+    /// The calls that weren't reached, of which none is left then.
     fn take_unreached(&mut self, alloc: Global) -> Vec<CallId>
         ensures calls { result.items ≡ self.old.unreached.items }
         ensures now { now_of self.new ≡ record (now_of self.old) { unreached = [] } }

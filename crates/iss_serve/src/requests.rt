@@ -26,7 +26,7 @@ pub(crate) enum Request {
 }
 
 impl Clients {
-    /// Reads a client's request on. Unless more of it is to come, nothing is read on its channel any longer.
+    /// Reads on in a client's request. Unless more of it is to come, nothing more is read on its channel.
     pub(crate) fn read(
         &mut self,
         alloc: Global,

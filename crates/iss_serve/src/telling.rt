@@ -1,26 +1,22 @@
 //! The responses that tell a client what is wrong with its request.
 ghost use Rattle.std.specs.Prelude.{◌≡◌, IfOk};
 ghost use Rattle.iss_event.specs.FormLines.{form_text};
+ghost use Rattle.iss_http.specs.declared.statuses.TheConstants.{BAD_REQUEST};
 ghost use Rattle.iss_http.specs.Messages.{respond, IsStatus};
 ghost use Rattle.iss_model.specs.texts.AnswerLines.{http_fault_line};
 ghost use Rattle.iss_session.specs.Hearings.{fault_status, fault_text, fault_response};
 
 use iss_event::{FormFault, form_line};
+use iss_http::statuses::{BAD_REQUEST, NOT_FOUND};
 use iss_http::{HttpFault, respond};
 use std::alloc::{AllocError, Global};
 
-/// The status of a response that tells a fault: Bad Request of RFC 9110.
-const BAD: u16 = 400;
-
-/// The status of a response that tells another path: Not Found of RFC 9110.
-const NOT_FOUND: u16 = 404;
-
 /// The response that tells the fault of a line.
 pub(crate) fn form_response(alloc: Global, fault: &FormFault) -> Result<Vec<u8>, AllocError>
-    ensures { IfOk result (λ text. text.items ≡ respond 400 (form_text fault.now)) }
+    ensures { IfOk result (λ text. text.items ≡ respond BAD_REQUEST (form_text fault.now)) }
 {
     let line = form_line(alloc, fault)?;
-    respond(alloc, BAD, &line)
+    respond(alloc, BAD_REQUEST, &line)
 }
 
 /// The response that tells the fault of a request.
@@ -38,7 +34,7 @@ fn fault_status(fault: HttpFault) -> u16
 {
     match fault {
         HttpFault::Path => NOT_FOUND,
-        _ => BAD,
+        _ => BAD_REQUEST,
     }
 }
 

@@ -125,7 +125,7 @@ keeps_request read n s ch bytes (faulty fault) none =
       queue = λ h. queues h;
     }
 
--- a channel that is closed: another's stays where it is
+-- a channel that is closed: what stands on another one stays where it is
 keeps_gone : (n : ℕ) (s : Session) (ch : Channel) → Keeps n s (change_to (record s { readers = readers_without ch s.readers }) (leveled (count s) (Close ch) ∷ []))
 keeps_gone n s ch =
     record {

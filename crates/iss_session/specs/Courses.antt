@@ -22,7 +22,7 @@ use Rattle.iss_session.specs.Turns.{waits_in}
 abbrev pub session_then : Readers → Session → List Happening → List Happening → Session
 session_then read s a b = session_after read (session_after read s a) b
 
--- if happenings fit after others, both fit one after the other
+-- if happenings fit, and others fit after them, both fit in a row
 abbrev pub FitThen : Readers → Session → List Happening → List Happening → Type 0
 FitThen read s a b = Fits read (session_after read s a) b → Fits read s (a ++ b)
 
@@ -59,7 +59,7 @@ AddsRecords read s happenings =
 abbrev pub IsBookOf : List Record → Session → Type 0
 IsBookOf rs s = s.run.history ≡ history_of rs
 
--- of any records whose book stands, and then those that these happenings make, the book stands after these
+-- if the book of some records stands, then after these happenings the book of those and of the records that they make does
 abbrev pub AddsToBook : Readers → Session → List Happening → Type 0
 AddsToBook read s happenings =
     (rs : List Record) → IsBookOf rs s → IsBookOf (rs ++ session_records read s happenings) (session_after read s happenings)
@@ -84,12 +84,12 @@ StartsStand starts stands j = (bytes : List ℕ) → starts bytes j → stands b
 abbrev pub StaysGood : (starts stands : List ℕ → ℕ → Type 0) → ℕ → List Step → Type 0
 StaysGood starts stands j steps = GoesOn starts stands starts j j steps
 
--- what is done in happenings up to this number of records is such a stretch
+-- what is done in happenings up to this number of records is a stretch of that kind
 abbrev pub StaysGoodUpTo : (starts stands : List ℕ → ℕ → Type 0) → ℕ → Readers → Session → List Happening → Type 0
 StaysGoodUpTo starts stands j read s happenings =
     count (session_after read s happenings) ≤ j → StaysGood starts stands j (session_steps read s happenings)
 
--- and so are the closes at the end of a session of so many records
+-- the closes at the end of a session of at most this many records are such a stretch too
 abbrev pub EndsGood : (starts stands : List ℕ → ℕ → Type 0) → ℕ → Session → Type 0
 EndsGood starts stands j s = count s ≤ j → StaysGood starts stands j (last_steps s)
 
@@ -103,7 +103,7 @@ DialledIsClosed read run turns happenings n =
     Fits read (session_of run turns) happenings → IsComplete (run_session read run turns happenings)
     → left_open n false (actions_of (steps_to_end read (session_of run turns) happenings)) ≡ false
 
--- on this channel a client comes
+-- a client comes on this channel
 abbrev pub ComesOn : Item → Channel → Type 0
 ComesOn item ch = item.answer ≡ Waited (Some (Client ch))
 

@@ -15,7 +15,7 @@ pub data Subject : Type 0 where
   of_call : Opened → Subject
   of_notice : ℕ → Subject
 
--- a text for the gateway that has no channel yet, one that has, or the response to a client
+-- a text for the gateway that has no channel yet, a text for it on its channel, or the response to a client
 pub data Task : Type 0 where
   to_dial : Subject → List ℕ → Task
   to_send : Channel → Subject → List ℕ → Task
@@ -36,13 +36,13 @@ pub record Desk : Type 0 where
   pub tasks : List Task
   pub waiting : List Waiter
 
--- the desk then, what became of texts to the gateway, and what was done meanwhile
+-- the desk after a change, what became of texts to the gateway, and what was done in it
 pub record DeskChange : Type 0 where
   pub desk : Desk
   pub gone : List Gone
   pub steps : List Step
 
--- the desk is this then
+-- a change to this desk
 abbrev pub desk_change_to : Desk → List Gone → List Step → DeskChange
 desk_change_to d gone steps = record { desk = d; gone = gone; steps = steps }
 
@@ -89,7 +89,7 @@ abbrev pub desk_change_by : ℕ → Desk → List Task → Item → DeskChange
 desk_change_by level d [] item = desk_change_to d [] []
 desk_change_by level d (task ∷ tasks) item = task_change level (desk_with tasks d.waiting) task item item.answer
 
--- a desk by one item, at this number of records
+-- what one item makes of a desk, at this number of records
 abbrev pub desk_change : ℕ → Desk → Item → DeskChange
 desk_change level d item = desk_change_by level d d.tasks item
 

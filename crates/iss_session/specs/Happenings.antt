@@ -12,7 +12,7 @@ use Rattle.iss_session.specs.Sessions.{Readers, Session, count, next_of}
 use Rattle.iss_session.specs.Judgements.{judged_first}
 use Rattle.iss_session.specs.Hearings.{Change, change_to, is_reading, is_waiting, bytes_on, link_at, after_item}
 
--- a session by one happening
+-- what one happening makes of a session
 abbrev pub session_change : Readers → Session → Happening → Change
 session_change read s (hears item) = after_item read s item s.desk.tasks
 session_change read s judges = change_to (judged_first s s.queue) []
@@ -22,12 +22,12 @@ abbrev pub MayAnswerEarly : Session → Channel → Option (List ℕ) → Bool �
 MayAnswerEarly s ch (Some (b ∷ piece)) true = is_reading ch s.readers ≡ true → IsHopelessRequest (bytes_on ch s.readers ++ b ∷ piece)
 MayAnswerEarly s ch _ _ = Unit {0}
 
--- so may the gateway's bytes
+-- the gateway's bytes may be read as garbled early only if the link allows it
 abbrev pub MayEndEarly : Option Link → Option (List ℕ) → Bool → Type 0
 MayEndEarly None got early = Unit {0}
 MayEndEarly (Some link) got early = MayReadEarly link got early
 
--- on a channel on which no client reads or waits
+-- the same on a channel, if no client reads or waits on it
 abbrev pub MayEndEarlyOn : Session → Channel → Option (List ℕ) → Bool → Type 0
 MayEndEarlyOn s ch got early =
     is_reading ch s.readers ≡ false → is_waiting ch s.desk.waiting ≡ false → MayEndEarly (link_at ch s.links) got early
@@ -59,7 +59,7 @@ session_steps read s [] = []
 session_steps read s (happening ∷ happenings) =
     (session_change read s happening).steps ++ session_steps read (session_change read s happening).session happenings
 
--- they fit: each of them is the next one
+-- these happenings fit: each of them is the next one
 abbrev pub Fits : Readers → Session → List Happening → Type 0
 Fits read s [] = Unit {0}
 Fits read s (happening ∷ happenings) = Follows s happening × Fits read (session_change read s happening).session happenings

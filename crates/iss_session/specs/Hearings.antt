@@ -15,6 +15,7 @@ use Rattle.iss_model.specs.declared.limits.TheConstants.{LAST_STAMP}
 use Rattle.iss_model.specs.texts.AnswerLines.{http_fault_line}
 use Rattle.iss_http.specs.declared.faults.HttpFault.{HttpFault}
 use Rattle.iss_http.specs.declared.faults.HttpFault.TheVariants.{Head, HeadLong, Method, Path, Coding, NoLength, BodyLong}
+use Rattle.iss_http.specs.declared.statuses.TheConstants.{BAD_REQUEST, NOT_FOUND}
 use Rattle.iss_http.specs.Messages.{respond}
 use Rattle.iss_http.specs.Requests.{Request, more, body, faulty, request}
 use Rattle.iss_session.specs.Items.{Item, same_channel, leveled}
@@ -22,12 +23,12 @@ use Rattle.iss_session.specs.Desks.{Task, to_reply, Gone, reached, unreached, Wa
 use Rattle.iss_session.specs.Links.{Link, Heard, unfinished, outcome, acknowledged, dropped, link_reading, heard_as, piece_of, links_after}
 use Rattle.iss_session.specs.Sessions.{Readers, Reader, Queued, Session, count, with_tasks, with_queued, unasked}
 
--- the session then, and what was done meanwhile
+-- the session after a change, and what was done in it
 pub record Change : Type 0 where
   pub session : Session
   pub steps : List Step
 
--- the session is this then
+-- a change to this session, with these steps
 abbrev pub change_to : Session → List Step → Change
 change_to s steps = record { session = s; steps = steps }
 
@@ -71,8 +72,8 @@ one_less (suc n) = n
 
 -- the status of a response that tells a fault of HTTP
 abbrev pub fault_status : HttpFault → ℕ
-fault_status Path = 404
-fault_status _ = 400
+fault_status Path = NOT_FOUND
+fault_status _ = BAD_REQUEST
 
 -- the name of a fault of HTTP
 abbrev pub fault_text : HttpFault → List ℕ
@@ -106,7 +107,7 @@ bytes_on ch (r ∷ readers) = if same_channel r.ch ch then r.bytes else bytes_on
 -- a client's line is to be judged, or its fault is sent
 abbrev pub after_line : Session → Channel → Result Input (List ℕ) → Session
 after_line s ch (Ok i) = with_queued s (record { input = i; client = Some ch })
-after_line s ch (Err line) = with_tasks s (to_reply ch (respond 400 line) ∷ [])
+after_line s ch (Err line) = with_tasks s (to_reply ch (respond BAD_REQUEST line) ∷ [])
 
 -- the request that a client's bytes are
 abbrev pub after_request : Readers → Session → Channel → List ℕ → Request → Session
@@ -131,7 +132,8 @@ after_reading read s ch (Some (b ∷ piece)) early =
     let bytes = bytes_on ch s.readers ++ b ∷ piece in
     change_to (after_request read s ch bytes (request_early early (request bytes))) []
 
--- What a take brought on the channel of a client that waits. Bytes and an end are ignored; one that fails is closed, and waits no longer.
+-- What a take brought on the channel of a client that waits. Bytes and an end are ignored. If the take failed, the channel is closed, and the
+-- client waits no longer.
 abbrev pub after_waiting : Session → Channel → Option (List ℕ) → Change
 after_waiting s ch None = change_to (record s { desk = desk_with s.desk.tasks (waiters_without ch s.desk.waiting) }) (close_steps s ch)
 after_waiting s ch (Some piece) = change_to s []

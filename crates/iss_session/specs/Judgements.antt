@@ -13,18 +13,19 @@ use Rattle.iss_model.specs.rules.Histories.{history_keeper}
 use Rattle.iss_model.specs.run.Sayings.{reaction_to_record}
 use Rattle.iss_model.specs.run.Rooms.{room_left}
 use Rattle.iss_model.specs.run.Runs.{Run, judgement_in}
+use Rattle.iss_http.specs.declared.statuses.TheConstants.{OK, CONFLICT, INSUFFICIENT_STORAGE}
 use Rattle.iss_http.specs.Messages.{respond}
 use Rattle.iss_session.specs.Desks.{Task, to_reply, Waiter, desk_with}
 use Rattle.iss_session.specs.Sessions.{Queued, Session, tasks_of, with_tasks}
 
 -- the status of a response that tells why an event isn't new
 abbrev pub status_of : Answer → ℕ
-status_of (Conflict token number) = 409
-status_of (Full free need) = 507
-status_of Spent = 507
-status_of _ = 200
+status_of (Conflict token number) = CONFLICT
+status_of (Full free need) = INSUFFICIENT_STORAGE
+status_of Spent = INSUFFICIENT_STORAGE
+status_of _ = OK
 
--- the client receives why its event isn't new; what the gateway or the clock brought is answered to nobody
+-- a client is told why its event isn't new; if the gateway or the clock brought the input, nobody is told
 abbrev pub answer_tasks : Option Channel → Answer → List Task
 answer_tasks None a = []
 answer_tasks (Some ch) a = to_reply ch (respond (status_of a) (answer_text a)) ∷ []
@@ -51,7 +52,7 @@ session_with s r waiting queue =
       desk = desk_with (flat_map (tasks_of s.run.instance waiting) (reaction_to_record history_keeper s.run.history r).said) waiting;
     }
 
--- An input has this judgement, with these to be judged after it. A new one makes its record, and its client waits. If a time record goes before
+-- An input has this judgement, with these to be judged after it. If it is new, it makes its record, and its client waits. If a time record goes before
 -- its answer, that is made first, and the input is judged again.
 abbrev pub judged_so : Session → Queued → List Queued → Judged → Session
 judged_so s q queue (New r) = session_with s r (s.desk.waiting ++ waiters_of q.client (event_token q.input)) queue

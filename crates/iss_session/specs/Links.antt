@@ -5,6 +5,7 @@ use Rattle.iss_model.specs.declared.call.Opened.{Opened}
 use Rattle.iss_model.specs.declared.call.CallId.{CallId}
 use Rattle.iss_model.specs.declared.input.Outcome.{Outcome}
 use Rattle.iss_model.specs.declared.input.Outcome.TheVariants.{Connection, Application}
+use Rattle.iss_http.specs.declared.statuses.TheConstants.{OK}
 use Rattle.iss_http.specs.Heads.{is_empty}
 use Rattle.iss_http.specs.Answers.{Reading, more, ended, garbled, whole, answer_read, IsHopelessAnswer}
 use Rattle.iss_session.specs.Items.{same_channel}
@@ -27,19 +28,19 @@ pub data Heard : Type 0 where
 abbrev pub reading_early : Bool → Reading → Reading
 reading_early early reading = if early then garbled else reading
 
--- what a link's bytes are read as after a take brought this; one that failed ends them
+-- what a link's bytes are read as after a take brought this; a take that failed ends them
 abbrev pub link_reading : Link → Option (List ℕ) → Bool → Reading
 link_reading link None early = ended
 link_reading link (Some piece) early = reading_early early (answer_read (link.bytes ++ piece) (is_empty piece))
 
--- What that means for the link's subject; `read` returns the outcome of a whole answer to a call. A notice is acknowledged by status 200 alone,
+-- What that means for the link's subject; `read` returns the outcome of a whole answer to a call. A notice is acknowledged by status `OK` alone,
 -- with any body.
 abbrev pub heard_as : (Opened → ℕ → List ℕ → Outcome) → Subject → Reading → Heard
 heard_as read subject more = unfinished
 heard_as read (of_call o) ended = outcome o.call Connection
 heard_as read (of_call o) garbled = outcome o.call Application
 heard_as read (of_call o) (whole status body) = outcome o.call (read o status body)
-heard_as read (of_notice n) (whole status body) = if status == 200 then acknowledged n else dropped n
+heard_as read (of_notice n) (whole status body) = if status == OK then acknowledged n else dropped n
 heard_as read (of_notice n) _ = dropped n
 
 -- the bytes that a take brought

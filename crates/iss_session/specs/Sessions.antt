@@ -11,6 +11,7 @@ use Rattle.iss_model.specs.texts.GatewayTexts.{request_text, notice_text}
 use Rattle.iss_model.specs.rules.Histories.{history_facts}
 use Rattle.iss_model.specs.run.Sayings.{Said, decided, asked, noticed}
 use Rattle.iss_model.specs.run.Runs.{Run, said_first}
+use Rattle.iss_http.specs.declared.statuses.TheConstants.{OK}
 use Rattle.iss_http.specs.Messages.{respond}
 use Rattle.iss_session.specs.Items.{Next, waits, takes, judging, nothing}
 use Rattle.iss_session.specs.Desks.{of_call, of_notice, Task, to_dial, to_reply, Waiter, Desk, desk_with, next_for}
@@ -64,7 +65,7 @@ unasked i = record { input = i; client = None }
 -- the response with which the client is answered that waits for an event
 abbrev pub response_to : Option Waiter → List ℕ → List Task
 response_to None line = []
-response_to (Some w) line = to_reply w.ch (respond 200 line) ∷ []
+response_to (Some w) line = to_reply w.ch (respond OK line) ∷ []
 
 -- the client that waits for this event, if one does
 abbrev pub waiter_for : List ℕ → List Waiter → Option Waiter

@@ -13,7 +13,8 @@ use Rattle.iss_session_examples.specs.Telling.{WorkedSession, comes, is_ready, t
 abbrev pub gateway_device : Run
 gateway_device = run_after (fresh_device 7 3000) (line script.gateway_product ∷ line script.new_user ∷ line (script.card_of "g") ∷ [])
 
--- Two purchases wait for the gateway at once. It funds the second one first and then refuses the first; a client that comes and ends costs nothing.
+-- Two purchases wait for the gateway at once. It first funds the second, and then refuses the first. A client that comes and ends changes
+-- nothing.
 abbrev pub two_in_flight : WorkedSession
 two_in_flight =
     record {
@@ -40,7 +41,7 @@ two_in_flight =
       records = 7;
     }
 
--- the gateway can't be reached for a purchase, and is told so by a notice, which waits for its acknowledgement at the end
+-- The gateway can't be reached for a purchase. A notice tells it so, and still waits for its acknowledgement at the end.
 abbrev pub unreachable_gateway : WorkedSession
 unreachable_gateway =
     record {
@@ -54,7 +55,7 @@ unreachable_gateway =
       records = 5;
     }
 
--- a run that is over after two requests went out: both clients and both links are closed
+-- a run ends after two requests went out, and closes both clients and both links
 abbrev pub stopped_in_flight : WorkedSession
 stopped_in_flight =
     record {
@@ -71,7 +72,7 @@ stopped_in_flight =
       records = 5;
     }
 
--- the next run sends both again with the same bytes; it waits once, and nothing comes
+-- The next run sends both requests again with the same bytes. It waits once, and nothing comes.
 abbrev pub asked_again : WorkedSession
 asked_again =
     record {
@@ -85,7 +86,7 @@ asked_again =
       records = 5;
     }
 
--- the gateway's answer comes in three pieces, and then a time at which nothing is due
+-- the gateway's answer comes in three pieces, and after it a time at which nothing is due
 abbrev pub answer_in_pieces : WorkedSession
 answer_in_pieces =
     record {
@@ -146,7 +147,7 @@ part_not_permitted =
       records = 5;
     }
 
--- A time later than the last stamp, which counts as that, comes before the gateway answers. The third wait is the last.
+-- Before the gateway answers, a time later than the last stamp comes, which counts as the last stamp. The third wait is the last.
 abbrev pub too_late : WorkedSession
 too_late =
     record {
@@ -184,7 +185,7 @@ bytes_behind_a_request =
       records = 5;
     }
 
--- while an event waits for the gateway, the same again is pending, and another of its token is in conflict with its record
+-- While an event waits for the gateway, the same event again is pending, and another one of its token is in conflict with its record.
 abbrev pub pending_and_conflict : WorkedSession
 pending_and_conflict =
     record {
@@ -203,7 +204,7 @@ pending_and_conflict =
       records = 4;
     }
 
--- A run on what the unreachable gateway left sends the notice again. An answer of another status than 200 leaves it waiting.
+-- A run on the device that the unreachable gateway left sends the notice again. An answer with another status than 200 leaves it waiting.
 abbrev pub notice_refused : WorkedSession
 notice_refused =
     record {
@@ -214,7 +215,7 @@ notice_refused =
       records = 5;
     }
 
--- an answer of status 200 acknowledges it, which is a record of its own
+-- an answer with status 200 acknowledges the notice, by a record of its own
 abbrev pub notice_acknowledged : WorkedSession
 notice_acknowledged =
     record {
@@ -225,7 +226,7 @@ notice_acknowledged =
       records = 6;
     }
 
--- an answer that can't be understood declines the purchase, and a notice tells the gateway so
+-- an answer can't be understood, so the purchase is declined, and a notice tells the gateway so
 abbrev pub garbled_answer : WorkedSession
 garbled_answer =
     record {
@@ -244,7 +245,7 @@ garbled_answer =
       records = 5;
     }
 
--- The connection ends amid an answer. That is a failure of the connection, as if there were none.
+-- The connection ends amid an answer, which counts as if there were no connection.
 abbrev pub answer_cut_short : WorkedSession
 answer_cut_short =
     record {
@@ -264,7 +265,7 @@ answer_cut_short =
       records = 5;
     }
 
--- a client whose connection fails while its event waits: the event is decided, and nobody is told
+-- The connection of a client fails while its event waits. The event is decided, and nobody is told.
 abbrev pub waiting_client_fails : WorkedSession
 waiting_client_fails =
     record {

@@ -18,7 +18,7 @@ pub record Effect (s : CoreState) (es : List Entry) (moved used up down : ℕ) :
   pub txns : begun_txns (fold after_entry s es) ≡ begun_txns s
   pub orderly : IsOrderlyState (fold after_entry s es)
 
--- Entries are paid from what was at stake, and by so much more money and use. What is put at stake is paid twice in money, once in use.
+-- Entries are paid from what was at stake, and by this much further money and use. What is put at stake is paid twice in money, once in use.
 pub record Paid (more_money more_use : ℕ) (s : CoreState) (es : List Entry) : Type 0 where
   pub moved : ℕ
   pub used : ℕ

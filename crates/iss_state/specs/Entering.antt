@@ -27,7 +27,7 @@ abbrev pub IsNextNotice : CoreState → Entry → Type 0
 IsNextNotice s (entry.Notice notice) = notice.number ≡ s.outbox.made + 1
 IsNextNotice s _ = Unit {0}
 
--- What holds where an entry is entered: it fits the state before it, and leaves small sums.
+-- What holds if an entry is entered: it fits the state before it, and leaves small sums.
 pub record IsEnterable (s : CoreState) (e : Entry) : Type 0 where
   pub fit : Fits s e
   pub next : IsNextNotice s e

@@ -72,7 +72,7 @@ KeepsHeld s _ = Unit {0}
 abbrev pub BegunBy : ℕ → List TxnNow → Type 0
 BegunBy now txns = (token : List ℕ) (t : TxnNow) → txn_named token txns ≡ Some t → t.txn.at ≤ now
 
--- each entry finds what it needs behind those before it
+-- each entry finds what it needs after those before it
 abbrev pub AllKeepHeld : CoreState → List Entry → Type 0
 AllKeepHeld s [] = Unit {0}
 AllKeepHeld s (e ∷ es) = KeepsHeld s e × AllKeepHeld (after_entry s e) es

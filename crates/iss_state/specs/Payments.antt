@@ -19,11 +19,11 @@ use Rattle.iss_model.specs.state.Cores.{CoreState}
 use Rattle.iss_state.specs.Effects.{Effect, Paid}
 use Rattle.iss_state.specs.Stakes.{at_least_one, part_held, total_asked}
 
--- a hold of so much more moves it, and puts it at stake
+-- an amount that is held moves a sum by that amount, and is put at stake
 abbrev pub MoreIsPaid : CoreState → Txn → Part → ℕ → Type 0
 MoreIsPaid s t p amount = Effect s (entry.Hold t.token t.user t.currency p (pos amount) ∷ []) amount 0 amount 0
 
--- a hold of so much less, and no more than is held, moves it, and takes it from what is at stake
+-- an amount that is let go, at most what is held, moves a sum by that amount, and is taken from what is at stake
 abbrev pub LessIsPaid : CoreState → Txn → Part → ℕ → Type 0
 LessIsPaid s t p amount =
     amount ≤ part_held s.holdings.parts t.token p

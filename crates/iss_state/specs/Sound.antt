@@ -17,7 +17,7 @@ use Rattle.iss_state.specs.Stakes.{IsOrderlyState, at_stake, txn_tokens}
 abbrev pub record_reach : ℕ
 record_reach = 4 * GREATEST_AMOUNT
 
--- how far so many records can take a sum
+-- how far this many records can take a sum
 abbrev pub reach_of : ℕ → ℕ
 reach_of records = records * record_reach
 
@@ -25,7 +25,7 @@ reach_of records = records * record_reach
 abbrev pub is_accepted : List Accepted → List ℕ → Bool
 is_accepted accepted token = is_some (find (λ a. is_event token a.input) accepted)
 
--- What holds of a state when so many records have made their entries: each sum, with what is still at stake, stays within their reach;
+-- What holds of a state when this many records have made their entries: each sum, with what is still at stake, stays within their reach;
 -- transactions have names of their own, of accepted events, and each began with one of the records so far.
 pub record IsSoundAt (records : ℕ) (s : CoreState) : Type 0 where
   pub money : ℕ
@@ -64,7 +64,7 @@ IsReadyWith n s r = IsReady n (with_record s r) r.input
 abbrev pub IfReadyInForm : ℕ → CoreState → Input → Type 0 → Type 0
 IfReadyInForm n s i Holds = is_in_form i ≡ true → IsReady n s i → Holds
 
--- a state that is ready is followed by one that is
+-- a state that is ready is followed by one that is ready
 abbrev pub StaysReady : ℕ → Input → CoreState → CoreState → Type 0
 StaysReady n i s t = IsReady n s i → IsReady n t i
 

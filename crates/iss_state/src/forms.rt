@@ -12,7 +12,7 @@ ghost use Rattle.iss_state.specs.InForm.{ApprovesSmall, AreEntriesInForm, IfInFo
 ghost use Rattle.iss_state.specs.Asked.{IsApprovedSmall, IsFundedSmall};
 ghost use Rattle.iss_state.specs.After.{after_entries, due_entries, input_entries};
 
-/// The empty state is in form, and stays so where a record at a stamp is taken up and where entries in form are entered.
+/// The empty state is in form. It stays so when a record at a stamp is taken up, and when entries in form are entered.
 pub fn states_stay_in_form()
     ensures begins { IsInForm no_core }
     ensures taken_up { (s : CoreState) (r : Record) → is_stamp r.at ≡ true → IsInForm s → IsInForm (with_record s r) }

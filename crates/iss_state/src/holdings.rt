@@ -10,8 +10,8 @@ ghost use Rattle.iss_state.specs.After.{due_entries, input_entries};
 ghost use Rattle.iss_state.specs.Pending.{HasTakenUp, IfNewAndWell};
 ghost use Rattle.iss_state.specs.Holdings.{EndsOnce, KeepHeldWell, IsHeldWell};
 
-/// Legal records leave what transactions hold well: no part is below 0, and a transaction that has ended holds nothing, and neither does
-/// one whose authorisation's call is asked. A step keeps it so where the event is new.
+/// Legal records leave what transactions hold well: no part is below 0. A transaction that has ended holds nothing, and neither does one
+/// whose authorisation's call is asked. A step keeps it so if the event is new.
 pub fn holdings_are_well()
     ensures begins { IsHeldWell no_core }
     ensures records { (rs : List Record) → IsLegal rs → IsHeldWell (core_of rs) }
@@ -25,7 +25,7 @@ pub fn entries_keep_holdings()
     ensures own { (s : CoreState) (i : Input) (at : ℕ) → at ≤ s.now → HasTakenUp s i → KeepHeldWell s (input_entries s i at) }
 {}
 
-/// A step ends a transaction at most as often as it may still end: a live one once, and one that has ended not again.
+/// A step ends a live transaction at most once, and never one that has ended.
 pub fn transactions_end_once()
     ensures { (s : CoreState) (r : Record) (token : List ℕ) → IfNewAndWell s r (IsHeldWell s → EndsOnce s r token) }
 {}

@@ -6,7 +6,7 @@ ghost use Rattle.iss_model.specs.state.Cores.{CoreState};
 ghost use Rattle.iss_state.specs.Needs.{Stands};
 ghost use Rattle.iss_state.specs.Begun.{begun_txn, has_begun, has_origin, have_begun_before};
 
-/// A token that is named is found, and one that isn't is not; what stands is what is found by its token.
+/// A token is found exactly if it is named, and what stands is what is found by its token.
 /// A transaction of a later record than all that began has another origin than each of them.
 pub fn transactions_are_found_by_name()
     ensures named { (s : CoreState) (token : List ℕ) → has_begun s token ≡ true → IsSome (txn_named token s.holdings.txns) }

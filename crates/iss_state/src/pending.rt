@@ -14,8 +14,8 @@ ghost use Rattle.iss_state.specs.After.{after_thing, due_entries, input_entries}
 ghost use Rattle.iss_state.specs.Asked.{IfAsked};
 ghost use Rattle.iss_agreement.specs.Stepped.{core_after};
 
-/// Legal records leave a core well: its calls, its transactions and its decisions. A step keeps it so where the event is new; and then an
-/// asked call's transaction stands and is live.
+/// Legal records leave a core well: its calls, its transactions and its decisions. A step keeps it so if the event is new, and then the
+/// transaction of an asked call stands and is live.
 #[tactic(auto, using(crate::proofs::calls::Legal::nothing_well, crate::proofs::calls::Legal::core_well))]
 pub fn calls_are_well()
     ensures begins { IsWell no_core }

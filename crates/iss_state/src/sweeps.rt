@@ -8,7 +8,7 @@ ghost use Rattle.iss_model.specs.state.Cores.{CoreState};
 ghost use Rattle.iss_state.specs.After.{after_all_due};
 ghost use Rattle.iss_state.specs.Asked.{EndsOnTime, IfAskedOf, IsNewInTime, IsStill, LateIsTold, StaysInTime, UnknownIsTold, call_at, opened_calls};
 
-/// All that is due at a moment opens no call, and leaves closed calls as they are. It closes an asked call exactly where
+/// All that is due at a moment opens no call, and leaves closed calls as they are. It closes an asked call exactly if
 /// the call's deadline or its transaction's expiry has come; else that call stays as it is.
 pub fn due_items_close_calls()
     ensures opened { (s : CoreState) (at : ℕ) → opened_calls (after_all_due s at) ≡ opened_calls s }

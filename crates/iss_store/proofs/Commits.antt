@@ -174,7 +174,7 @@ refused_by_disk {T = T} {U = U} s place p r frame before now fault here same fra
     let short : length frame ≤ free_at place = omega (arith, need, room, fits) in
     record { later = cause.later; disk = λ _. append_refused_by_disk {T = U} place frame before now fault short full cause }
 
--- the place behind so many bytes
+-- the place after this many bytes
 abbrev behind : Place → ℕ → Place
 behind place n = record { gate = place.gate + n; to = place.to }
 

@@ -1,4 +1,4 @@
--- Where a device stands for records, no fault of them is found.
+-- If a device stands for records, no fault of them is found.
 use Rattle.std.proofs.Common.{◌≡◌, ℕ, ◌+◌, true, List, [], ◌∷◌, ◌++◌, length, fold, refl, sym, ap, subst, ◌∙◌}
 use Rattle.std.specs.Prelude.{Some}
 use Rattle.std.specs.List.{list_all}

@@ -1,4 +1,4 @@
--- Records behind others, and the one that comes next.
+-- Records after others, and the record that comes next.
 use Rattle.std.proofs.Common.{◌≡◌, ℕ, ◌+◌, List, [], ◌∷◌, ◌++◌, length, take, fold, refl, sym, ap, subst, ◌∙◌, append_assoc, append-nil, length-append}
 use Rattle.std.proofs.Math.Seq.{take-append_seam}
 use Rattle.iss_journal.specs.Region.{Region, ShowsClosed}
@@ -10,7 +10,7 @@ use Rattle.iss_store.specs.Values.{StoreNow}
 use Rattle.iss_store.specs.Standing.{bodies_of, StandsFor, RestsIn}
 use Rattle.iss_store.specs.Goings.{AreFirstOf}
 
--- this record behind those
+-- this record after those
 abbrev pub with_record : List Record → Record → List Record
 with_record rs r = rs ++ r ∷ []
 
@@ -32,7 +32,7 @@ first_then xs ys zs f g =
 pub first_one : (rs : List Record) (r : Record) → AreFirstOf rs (with_record rs r)
 first_one rs r = record { later = r ∷ []; cut = refl }
 
--- the bodies of the first records don't rest on those behind them
+-- the bodies of the first records don't depend on those after them
 bodies_first : (rs more : List Record) → take (length rs) (bodies_of rs) ≡ take (length rs) (bodies_of (rs ++ more))
 bodies_first [] more = refl
 bodies_first (r ∷ rs) more = ap (λ (bodies : List (List ℕ)). spelling r ∷ bodies) (bodies_first rs more)
@@ -44,7 +44,7 @@ pub rests_first : (region : Region) (rs all : List Record) (image : List ℕ) �
 rests_first region rs all image first rests =
     subst (λ (bodies : List (List ℕ)). ShowsClosed region bodies image) (first_bodies rs all first) rests
 
--- ---- the one that comes next
+-- ---- the record that comes next
 
 -- after the first j of these records, for which the store stands, this one comes next
 pub record ComesNext (s : StoreNow) (rs : List Record) (j : ℕ) (r : Record) : Type 0 where
@@ -64,12 +64,12 @@ comes_behind s rs r later stands =
           ∙ ap (λ (l : List Record). with_record l r) (sym front);
     }
 
--- it comes next where the store stands for those, whatever comes behind it
+-- it comes next if the store stands for those, whatever comes after it
 pub comes_next : (s : StoreNow) (rs all : List Record) (r : Record) → StandsFor s rs → AreFirstOf (with_record rs r) all → ComesNext s all (length rs) r
 comes_next s rs all r stands first =
     subst (λ (l : List Record). ComesNext s l (length rs) r) (sym first.cut) (comes_behind s rs r first.later stands)
 
--- ---- records that are legal, and more that are legal behind them
+-- ---- records that are legal, and more that are legal after them
 
 pub legal_append : (h : History) (xs ys : List Record) → IsLegalAfter h xs → IsLegalAfter (fold (λ (k : History) (r : Record). (step history_keeper k r).world) h xs) ys → IsLegalAfter h (xs ++ ys)
 legal_append h [] ys legal more = more

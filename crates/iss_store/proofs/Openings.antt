@@ -78,7 +78,7 @@ only_synced a b ok left trace =
 
 -- ---- the end gate was found, and closed
 
--- where records were read up to a gate that isn't open, that is the end gate of what the device shows firmly
+-- if records were read up to a gate that isn't open, that is the end gate of what the device shows firmly
 end_gate_read : (region : Region) (others bodies : List (List ℕ)) (place : Place) (device : List ℕ) → ReadUpTo region others place device → (slice_index device place.gate ≡ 1 → ⊥) → ShowsFirmly region bodies device
     → IsEndGate region bodies place
 end_gate_read region others bodies place device read shut firm =

@@ -1,4 +1,4 @@
--- A plan is the record that judging gives, where it fits.
+-- A plan is the record that judging returns, if it fits.
 use Rattle.std.proofs.Common.{◌≡◌, ℕ, ◌-◌, ◌<◌, ◌≤◌, Bool, true, false, cond, List, length, refl, sym, ap, subst, ◌∙◌, arith}
 use Rattle.std.specs.Prelude.{Result, Ok, Err, nat_le}
 use Rattle.std.proofs.lemmas.Bool.Decides.{nat_tests}
@@ -61,7 +61,7 @@ few_stand s rs is stands =
     ap (λ (state : CoreState). state.count) stands.core.rest ∙ ap (λ (f : Facts). f.count) (facts_history rs) ∙ ap (λ (l : List Record). length l) (records_history rs) in
     omega (arith, count, is.behind, is.within, is.size)
 
--- what comes of a record behind this gate
+-- what comes of a record that follows this gate
 abbrev made_behind : ℕ → Record → Judged → ℕ → Judged
 made_behind to r made gate = cond (nat_le (need_of r) (to - 1 - gate)) made (judged.Told (answer.Full (to - 1 - gate) (need_of r)))
 

@@ -57,7 +57,7 @@ new_later s i stamp r e =
 later_of : (now at : ℕ) → now ≤ at → max at now ≡ at
 later_of now at late = grind (arith, nat_tests)
 
--- a record at no earlier stamp than the time is the one that judging its input gives, where that is new
+-- judging the input of a record at no earlier stamp than the time returns that record, if it is new
 pub judged_itself : (c : CoreNow) (r made : Record) → c.state.now ≤ r.at → judged.New made ≡ judge core_keeper c.state r.input r.at → IsNext c r
 judged_itself c r made late new =
     let later : max r.at c.state.now ≡ r.at = later_of c.state.now r.at late in
@@ -75,7 +75,7 @@ too_early c r now told early rs stands follows =
     let time : time_of (history_of rs).records ≡ now = ap time_of (records_history rs) ∙ sym (told rs stands) in
     below_itself (time_of (history_of rs).records) r.at now follows.stamp time early
 
--- and so does one that isn't judged new
+-- and so does a record that isn't judged new
 pub not_judged_new : (c : CoreNow) (r : Record) (j : Judged) → j ≡ judge core_keeper c.state r.input r.at → ((x : Record) → j ≡ judged.New x → ⊥)
     → (rs : List Record) → cores.StandsFor c rs → Follows (history_of rs) r → ⊥
 not_judged_new c r j is not_new rs stands follows = not_new r (judged_on_book c rs r.input r.at j stands is ∙ follows.is_new)

@@ -56,7 +56,7 @@ sends_on_then t u g k p q a b c first second =
 none_sent : (a : Outer) → SendsOn [] [] [] a a
 none_sent a = record { sends = λ level rest waiting. sends_nothing level (desk_with rest waiting) a }
 
--- what is told of one text at each level, whatever comes behind it and whoever waits
+-- what is told of one text at each level, whatever comes after it and whoever waits
 pub one_sent : (task : Task) (gone : List Gone) (answered : List Channel) (x y : Option Outer)
     → ((level : ℕ) (rest : List Task) (waiting : List Waiter) → Told (Sends level (desk_with (task ∷ rest) waiting) (desk_with rest (waiters_after answered waiting)) gone) x y)
     → Told (SendsOn (task ∷ []) gone answered) x y
@@ -304,7 +304,7 @@ noted_one f g n ch later = record { later = later; unreached = λ e. absurd (tru
 pub unreached_one : (f g : Faults) (call : CallId) → Later f g → Rose f.link g.link → CausesGone f g (Unreached call ∷ [])
 unreached_one f g call later rose = record { later = later; unreached = λ e. rose }
 
--- a text went out, or didn't, and then memory was wanting
+-- a text went out, or didn't, and then an allocation failed
 pub text_in_part : (subject : Subject) (text : List ℕ) (sent : Option Channel) (x y : Option Outer)
     → ((level : ℕ) (tasks : List Task) (waiting : List Waiter) → Told (Sends level (desk_with (to_dial subject text ∷ tasks) waiting) (desk_with tasks waiting) (gone_on subject sent)) x y)
     → Told (SendsSomeOf (to_dial subject text ∷ [])) x y

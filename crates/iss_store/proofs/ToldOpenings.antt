@@ -93,7 +93,7 @@ has_read c place a b d synced read =
       reads = subst (λ (l : List ℕ). ReadsCore place c l) (sym read.same.device) read.reads;
     }
 
--- All records were read where a sync came before, on a device of the size that the edge tells.
+-- All records were read after a sync, on a device of the size that the edge tells.
 module _ (instance size : ℕ) (c : CoreNow) (place : Place) (v w x y : Option World) (sized : Sized size x) (whole : place.to ≡ size) (first : Told Same v w) (syncs : Told Syncs w x) (reads : Told (ReadsAll instance place (Ok c)) x y) (same : Told Same x y) where
   read_from : Told (HasReadFrom c place) x y
   read_from =

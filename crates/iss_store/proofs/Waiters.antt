@@ -87,7 +87,7 @@ module _ (events : List (List ℕ × ℕ)) (p : Placed Waiting) (kept : AreKept 
         → None ≡ option_map (λ waiter. waiter.ch) (waiter_for event (map waiter_of (things_of p)))
     one_there place first at = ap (option_map (λ (x : Waiting). x.ch)) (at ∙ first_at place first) ∙ channel_as event (things_of p)
 
-    -- where the event has no place nobody waits for it
+    -- if the event has no place, nobody waits for it
     pub no_channel : ((n : ℕ) → n < 2 ^ 64 → has (slice_cmp nat_cmp) events event n ≡ false) → None ≡ option_map (λ waiter. waiter.ch) (waiter_for event (map waiter_of (things_of p)))
     no_channel none =
         ap (option_map (λ (x : Waiting). x.ch))
@@ -118,7 +118,7 @@ module _ (events : List (List ℕ × ℕ)) (p : Placed Waiting) (kept : AreKept 
             (subst (λ (n : ℕ). thing_at p n ≡ None) (sym at) (none_below p.next p.entries kept.placed.below));
       })
 
-  -- one that waited was taken out
+  -- a client that waited was taken out
   pub less_kept : (test : Waiting → Bool) (new : List (List ℕ × ℕ)) (place : ℕ) (w : Waiting) (after : Placed Waiting) → Takes test place w p after → Puts (slice_cmp nat_cmp) w.event place false events new
       → ArePlaced after → AreKept new after
   less_kept test new place w after takes puts placed =
@@ -135,7 +135,7 @@ pub others_wait : (ch : Channel) (place : ℕ) (w : Waiting) (before after : Pla
 others_wait ch place w before after takes =
     ap (λ (es : List (ℕ × Waiting)). filter (λ x. not (x.ch.0 == ch.0)) (values_of es)) takes.entries ∙ others_stay (λ x. x.ch.0 == ch.0) before.entries place w takes.own takes.at
 
--- and all are left where none is on it
+-- and all are left if none is on it
 pub all_wait : (ch : Channel) (before after : Placed Waiting) (old : List Waiting) → AllByRecursion (λ x. (x.ch.0 == ch.0) ≡ false) (things_of before) → after ≡ before
     → filter (λ x. not (x.ch.0 == ch.0)) (things_of before) ≡ filter (λ x. not (x.ch.0 == ch.0)) old → map waiter_of (things_of after) ≡ waiters_without ch (map waiter_of old)
 all_wait ch before after old none same left =

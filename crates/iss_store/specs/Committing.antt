@@ -14,7 +14,8 @@ use Rattle.iss_store.specs.Values.{StoreNow, Plan, DurableNow, is_told_time, sai
 use Rattle.iss_store.specs.Standing.{StandsFor, region_under}
 use Rattle.iss_store.specs.Goings.{Goes, GoesPart}
 
--- A record was committed: the core took it up, the end gate is behind it, and this is what it has to say. No more records stand than may.
+-- A record was committed: the core took it up, the end gate stands right after it, and this is what it has to say. At most `MOST_RECORDS`
+-- records stand.
 pub record Commits (before : StoreNow) (p : Plan) (after : StoreNow) (d : DurableNow) : Type 0 where
   pub stepped : Steps before.core after.core p.accepted d.entries
   pub place : after.place ≡ record { gate = before.place.gate + need_of p.accepted; to = before.place.to }
@@ -45,7 +46,7 @@ pub record KeepsPart (s : StoreNow) (r : Record) (a b : World) : Type 0 where
   pub left : b.left ≡ a.left
   pub goes : (rs : List Record) → StandsFor s rs → GoesPart (region_under s) rs (rs ++ r ∷ []) [] a b
 
--- the gate was opened: nothing failed, or memory alone was wanting, behind the gate
+-- the gate was opened: after that nothing failed, or only an allocation did
 abbrev pub WhereItLasts : {T : Type 0} → Result T StoreFault → Type 0 → Type 0
 WhereItLasts (Ok value) P = P
 WhereItLasts (Err OutOfMemory) P = P

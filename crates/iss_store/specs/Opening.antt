@@ -28,7 +28,7 @@ pub record ReadsHistory (instance : ℕ) (rs : List Record) (place : Place) (dev
   pub history : AreHistory rs
   pub read : ReadUpTo (region_of instance (length device)) (bodies_of rs) place device
 
--- the record behind this gate, after a history
+-- the record that follows this gate, after a history
 pub record BodyAfterHistory (gate : ℕ) (device : List ℕ) : Type 0 where
   pub instance : ℕ
   pub rs : List Record
@@ -38,7 +38,7 @@ pub record BodyAfterHistory (gate : ℕ) (device : List ℕ) : Type 0 where
   pub body : List ℕ
   pub there : RecordAt place body device
 
--- behind this open gate, after a history, the length is wrong
+-- after a history, the length that follows this open gate is wrong
 pub record BadRecordAt (gate : ℕ) (device : List ℕ) : Type 0 where
   pub instance : ℕ
   pub rs : List Record
@@ -47,12 +47,12 @@ pub record BadRecordAt (gate : ℕ) (device : List ℕ) : Type 0 where
   pub reads : ReadsHistory instance rs place device
   pub bad : BadAt place device
 
--- behind this gate, after a history, the bytes spell no record
+-- after a history, the bytes that follow this gate spell no record
 pub record BadSpellingAt (gate : ℕ) (device : List ℕ) : Type 0 where
   pub after : BodyAfterHistory gate device
   pub none : (r : Record) → IsSpellingOf r after.body → ⊥
 
--- behind this gate, after a history, stands a record that isn't new on it, or goes back in time
+-- after a history, the record that follows this gate isn't new on it, or goes back in time
 pub record BadHistoryAt (gate : ℕ) (device : List ℕ) : Type 0 where
   pub after : BodyAfterHistory gate device
   pub r : Record
@@ -75,7 +75,7 @@ Opens (Err (BadHistory gate)) a b = BadHistoryAt gate a.device
 Opens (Err Disk) a b = Unit {0}
 Opens (Err OutOfMemory) a b = Unit {0}
 
--- a fault of the disk, or that an allocation failed
+-- a fault of the disk, or a failed allocation
 abbrev pub IsOfDiskOrMemory : OpenFault → Type 0
 IsOfDiskOrMemory Disk = Unit {0}
 IsOfDiskOrMemory OutOfMemory = Unit {0}
@@ -84,7 +84,7 @@ IsOfDiskOrMemory (BadRecord gate) = ⊥
 IsOfDiskOrMemory (BadSpelling gate) = ⊥
 IsOfDiskOrMemory (BadHistory gate) = ⊥
 
--- where a device stands for records, no other fault is found
+-- if a device stands for records, no other fault is found
 abbrev pub GoodDevicesOpen : Type 0
 GoodDevicesOpen =
     (instance : ℕ) (rs : List Record) (fault : OpenFault) (a b : World)
@@ -109,7 +109,7 @@ pub record ReadsAlone (a b : World) : Type 0 where
   pub left : b.left ≡ a.left
   pub trace : (b.trace ≡ a.trace) ⊎ (b.trace ≡ a.trace ++ Sync true ∷ [])
 
--- where a device was not opened, and no call on it failed
+-- if a device wasn't opened, and no call on it failed
 abbrev pub OnRefused : {T : Type 0} → Result T OpenFault → Type 0 → Type 0
 OnRefused (Ok value) P = Unit {0}
 OnRefused (Err Disk) P = Unit {0}
@@ -130,7 +130,7 @@ SyncsFirst (Dial ch ∷ more) = ⊥
 SyncsFirst (Close ch ∷ more) = ⊥
 
 -- What an opening does is good, whichever records the device stands for at its start: each image of each moment stands for them, with nothing
--- left behind or with what was, or also for the one that was left behind at the start. It begins with a sync.
+-- left behind or with what was left behind at the start, or for that record too. The opening begins with a sync.
 pub record OpensGood (a b : World) : Type 0 where
   pub left : b.left ≡ a.left
   pub added : List Action
@@ -142,7 +142,7 @@ pub record OpensGood (a b : World) : Type 0 where
       → IsGood (OpensFirst (region_of instance (length a.device)) (bodies_of rs) a.device)
       (OpenedOrOneMore (region_of instance (length a.device)) (bodies_of rs) a.device) j j steps
 
--- And the run may go on after it: the device is then at rest and stands for the same records, with an end gate of 0. It reads as it was
+-- The run may go on after it: the device is then at rest and stands for the same records, with an end gate of 0. It reads as it was
 -- left, and the first sync succeeded.
 pub record OpensGoing (a b : World) : Type 0 where
   pub left : b.left ≡ a.left

@@ -17,17 +17,17 @@ use Rattle.iss_store.specs.declared.fault.PlanFault.TheVariants as plan_fault
 use Rattle.iss_store.specs.Standing.{StandsFor}
 use Rattle.iss_store.specs.Values.{StoreNow, Plan, room_of}
 
--- a record that is to be made as what judging gave
+-- a record that is to be made, as judging returned it
 abbrev pub judged_as : Plan → Judged
 judged_as p = if p.is_clock then judged.Clock p.accepted else judged.New p.accepted
 
--- A record is made where it fits behind the gate; else its input is told how much is free, and how much it needs.
+-- A record is made if it fits after the gate; else its input is told how much is free, and how much it needs.
 abbrev pub made_of : Place → Plan → Judged
 made_of place p =
     if nat_le (need_of p.accepted) (free_at place) then judged_as p
     else judged.Told (answer.Full (free_at place) (need_of p.accepted))
 
--- what judging comes to where a record has to fit behind this gate
+-- what judging comes to if a record has to fit after this gate
 abbrev pub judged_within : Place → Judged → Judged
 judged_within place (judged.New r) = made_of place (record { accepted = r; is_clock = false })
 judged_within place (judged.Clock r) = made_of place (record { accepted = r; is_clock = true })
@@ -37,7 +37,7 @@ judged_within place (judged.Told a) = judged.Told a
 abbrev pub judged_at : StoreNow → Input → ℕ → Judged
 judged_at s i at = judged_within s.place (judge core_keeper s.core.state i at)
 
--- A plan of exactly the record that is to be made, or exactly what the input is told; else an allocation failed.
+-- The result is a plan of exactly the record that is to be made, or exactly what the input is told; else an allocation failed.
 abbrev pub Plans : Judged → Result Plan PlanFault → Type 0
 Plans (judged.New r) (Ok p) = p ≡ record { accepted = r; is_clock = false }
 Plans (judged.Clock r) (Ok p) = p ≡ record { accepted = r; is_clock = true }
@@ -52,7 +52,7 @@ abbrev pub PlansOnBook : StoreNow → Input → ℕ → Result Plan PlanFault �
 PlansOnBook s i at result =
     (rs : List Record) → StandsFor s rs → Plans (judgement_within (room_of s) rs (judge history_keeper (history_of rs) i at)) result
 
--- a plan of this store: its record is next on the store's core, in form, and fits behind its gate
+-- a plan of this store: its record is next on the store's core, in form, and fits after its gate
 pub record IsPlanOf (s : StoreNow) (p : Plan) : Type 0 where
   pub next : IsNext s.core p.accepted
   pub input_form : IsTrue (is_in_form p.accepted.input)

@@ -45,7 +45,7 @@ texts_pending_on_book instance rs = said_texts instance (said_first (history_fac
 abbrev pub TextsOnBook : StoreNow → Type 0
 TextsOnBook s = (rs : List Record) → StandsFor s rs → texts_pending s ≡ texts_pending_on_book s.core.instance rs
 
--- Nothing was written or synced. So a device that stands for j records does so at each moment, and the run may go on after it, where
+-- Nothing was written or synced. So a device that stands for j records does so at each moment, and the run may go on after it, if
 -- each text of which a byte went out has at most that level.
 pub record StaysGood (a b : World) : Type 0 where
   pub device : b.device ≡ a.device

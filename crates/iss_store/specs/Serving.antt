@@ -1,10 +1,11 @@
 -- What a store says while clients are served, by the definitions of serving.
-use Rattle.std.specs.Prelude.{◌≡◌, ℕ, Bool, true, false, List, [], ◌∷◌, ◌++◌, map, Option, Result, OnOk}
+use Rattle.std.specs.Prelude.{◌≡◌, ℕ, Bool, true, false, List, [], ◌∷◌, ◌++◌, map, Option, Result, OnOk, OnErr}
 use Rattle.std.specs.List.{flat_map, list_all, list_any}
 use Rattle.iss_edge.specs.declared.outside.Channel.{Channel}
 use Rattle.iss_edge.specs.declared.outside.Answered.{Answered}
 use Rattle.iss_edge.specs.World.{World, Told, Faults, Later, Rose}
 use Rattle.iss_edge.specs.Outer.{Outer, outer, ToldBoth}
+use Rattle.iss_http.specs.declared.statuses.TheConstants.{OK}
 use Rattle.iss_http.specs.Messages.{ask, respond}
 use Rattle.iss_model.specs.declared.call.Notice.{Notice}
 use Rattle.iss_model.specs.declared.call.Opened.{Opened}
@@ -41,7 +42,7 @@ tasks_by_each instance waiting entries = flat_map (tasks_by instance waiting) en
 
 -- the response on this channel that tells a decision
 abbrev pub decision_tasks : Channel → List ℕ → Verdict → List Task
-decision_tasks ch event verdict = to_reply ch (respond 200 (reply_line event (Decided verdict))) ∷ []
+decision_tasks ch event verdict = to_reply ch (respond OK (reply_line event (Decided verdict))) ∷ []
 
 -- the request of a call
 abbrev pub request_tasks : ℕ → Opened → List Task
@@ -86,7 +87,7 @@ pub record SendsOn (tasks : List Task) (gone : List Gone) (answered : List Chann
   pub sends : (level : ℕ) (rest : List Task) (waiting : List Waiter)
       → Sends level (desk_with (tasks ++ rest) waiting) (desk_with rest (waiters_after answered waiting)) gone a b
 
--- a desk went on to where it was left
+-- a desk went on to this one
 pub record SendsPart (level : ℕ) (d : Desk) (a b : Outer) : Type 0 where
   pub left : Desk
   pub gone : List Gone
@@ -126,6 +127,10 @@ SendsPending s waiting gone = SendsAll s.core.state.count (tasks_pending s) wait
 abbrev pub SendsPendingPart : StoreNow → List Waiter → Outer → Outer → Type 0
 SendsPendingPart s waiting = SendsPart s.core.state.count (desk_with (tasks_pending s) waiting)
 
+-- If the call failed, some of what still waits for the gateway went out, whoever waits.
+abbrev pub ResumesPart : {E T F : Type 0} → (E → Option World) → (E → Option (List Answered)) → E → E → StoreNow → Result T F → Type 0
+ResumesPart told heard a b s result = (waiting : List Waiter) → OnErr result (ToldBoth told heard (SendsPendingPart s waiting) a b)
+
 -- This text went out on a channel of its own, or didn't, as the result says, at any level, whatever comes after it and whoever waits.
 abbrev pub SendsDialled : {E : Type 0} → (E → Option World) → (E → Option (List Answered)) → E → E → List ℕ → Option Channel → Type 0
 SendsDialled told heard a b bytes result =
@@ -150,7 +155,7 @@ is_unreached (Asked opened ch) = false
 is_unreached (Noted number ch) = false
 is_unreached (Unreached call) = true
 
--- no count of faults has fallen, and where a call wasn't reached the links' count rose
+-- no count of faults has fallen, and if a call wasn't reached the links' count rose
 pub record CausesGone (before now : Faults) (gone : List link.Gone) : Type 0 where
   pub later : Later before now
   pub unreached : list_any is_unreached gone ≡ true → Rose before.link now.link
@@ -182,7 +187,7 @@ abbrev pub NotesAnswered : {E T F : Type 0} → (E → Faults) → (E → Option
 NotesAnswered faults told heard a b tasks ended answered result =
     (gone : List link.Gone) → OnOk result (NotesOn faults told heard a b tasks gone gone ended answered)
 
--- Some first texts went out and were noted; these are left of all.
+-- The first of all texts went out and were noted, and these are left.
 pub record SentUpTo (all rest : List Task) (gone : List link.Gone) (answered : List Channel) (f g : Faults) (x y : Option Outer) : Type 0 where
   pub front : List Task
   pub cut : all ≡ front ++ rest

@@ -10,7 +10,7 @@ use Rattle.iss_model.specs.run.Rooms.{end_gate}
 use Rattle.iss_core.specs.Values as cores
 use Rattle.iss_store.specs.Values.{StoreNow}
 
--- the journal of a device of this instance and size: all that is behind the header
+-- the journal of a device of this instance and size: all that comes after the header
 abbrev pub region_of : ℕ → ℕ → Region
 region_of instance size = record { below = header instance; to = size; size = size }
 

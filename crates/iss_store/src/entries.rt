@@ -11,16 +11,14 @@ use crate::Served;
 use crate::sending::{reply, send};
 use iss_edge::{Channel, Edge};
 use iss_event::reply_line;
+use iss_http::statuses::OK;
 use iss_http::{ask, respond};
 use iss_jit::{notice_text, request_text};
 use iss_link::Gone;
 use iss_model::{Entry, Notice, Opened, Reply, Token, Verdict};
 use std::alloc::{AllocError, Global};
 
-/// The status of a response that tells a decision: OK of RFC 9110.
-const DECIDED: u16 = 200;
-
-/// Sends the texts of entries in their order, each decision to the client that waited for it before. Gives what became of those to
+/// Sends the texts of entries in their order, each decision to the client that waited for it before. Returns what became of those to
 /// the gateway, and the channels that were answered.
 #[tactic(auto, using(crate::proofs::ServedTexts::sent_to_begin, crate::proofs::Stays::told_nothing_stays, crate::proofs::StaysServed::told_stays_then))]
 pub(crate) fn send_entries<E: Edge>(
@@ -56,7 +54,7 @@ pub(crate) fn send_entries<E: Edge>(
     Ok((gone, answered))
 }
 
-/// Sends the text of an entry, where it has one that goes out, and notes what became of it.
+/// Sends the text of an entry if it has one that goes out, and notes what became of it.
 #[tactic(auto, using(crate::proofs::ServedTexts::notes_nothing, crate::proofs::ServedTexts::told_nothing_sent, crate::proofs::ServedTexts::told_none_of, crate::proofs::Stays::told_nothing_stays))]
 fn send_entry<E: Edge>(
     alloc: Global,
@@ -107,7 +105,7 @@ fn send_decision<E: Edge>(
     ensures kept { Stays E.extent edge.old edge.new }
 {
     let line = reply_line(alloc, event, &Reply::Decided(*verdict))?;
-    let text = respond(alloc, DECIDED, &line)?;
+    let text = respond(alloc, OK, &line)?;
     answered.push(ch)?;
     reply(edge, ch, &text);
     Ok(())
@@ -141,7 +139,7 @@ fn send_request<E: Edge>(
     }
 }
 
-/// Sends a notice, and notes on which channel. One that doesn't go out waits for the next run.
+/// Sends a notice, and notes on which channel. A notice that doesn't go out waits for the next run.
 #[tactic(auto, using(crate::proofs::ServedTexts::told_none_of, crate::proofs::Stays::told_nothing_stays))]
 fn send_notice<E: Edge>(
     alloc: Global,

@@ -17,11 +17,11 @@ pub enum OpenFault {
     Disk,
     /// The device's size or header is that of no formatted device.
     NotFormatted,
-    /// Behind this open gate stands no record: the length there is 0, over 8192, or passes the device's end.
+    /// No record follows this open gate: the length there is 0, over 8192, or passes the device's end.
     BadRecord(u64),
-    /// The bytes behind this gate spell no record.
+    /// The bytes that follow this gate spell no record.
     BadSpelling(u64),
-    /// The record behind this gate isn't new on those before it, or its stamp is below their time.
+    /// The record that follows this gate isn't new on those before it, or its stamp is below their time.
     BadHistory(u64),
     /// An allocation failed.
     OutOfMemory,

@@ -1,7 +1,7 @@
 //! The store: the one place where a decision lasts before anybody hears of it.
 //!
-//! An input is planned, its record is committed, and then what it says is released: a `Planned` is a record that is new and
-//! fits, and can't be sent; a `Durable` is one that lasts, and is made by a commit alone. Between a plan and its open gate
+//! An input is planned, its record is committed, and then what it says is released. A `Planned` is a record that is new and
+//! fits, and can't be sent. A `Durable` is a record that lasts, and only a commit makes one. Between a plan and its open gate
 //! nothing but the device can refuse.
 //!
 //! It may cite `iss_edge`, `iss_channels`, `iss_journal`, `iss_codec`, `iss_core`, `iss_link`, `iss_event`, `iss_texts`, `iss_model` and its laws.
@@ -23,7 +23,9 @@ mod store;
 
 pub use durable::Durable;
 pub use fault::{OpenFault, PlanFault, StoreFault};
-pub use laws::{calls_and_notices_are_numbered, good_devices_open};
+pub use laws::{
+    calls_and_notices_are_numbered, good_devices_open, the_journal_has_the_sizes_of_the_model,
+};
 pub use planned::Planned;
 pub use routes::Routes;
 pub use sending::reply;

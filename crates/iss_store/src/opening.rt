@@ -19,12 +19,12 @@ use std::alloc::Global;
 
 impl Store {
     /// Opens the device: its records are read in order, each is decoded, judged and taken up, and an end gate other than 0
-    /// is made 0, so that a record which a stop has left behind it never stands.
+    /// is made 0, so that a record which a stop has left after it never stands.
     ///
     /// # Errors
     ///
-    /// `NotFormatted` where the size or the header is wrong, `BadRecord`, `BadSpelling` and `BadHistory` with the place of
-    /// the first gate behind which stands no record, no spelling, or a record that isn't new or goes back in time.
+    /// `NotFormatted` if the size or the header is wrong. `BadRecord`, `BadSpelling` and `BadHistory`, with the place of the
+    /// first bad gate, if no record follows it, no spelling, or a record that isn't new or goes back in time.
     #[tactic(auto, using(crate::proofs::ToldOpenings::told_unopened, crate::proofs::ToldOpenings::told_unsynced, crate::proofs::ToldOpenings::told_refused_header, crate::proofs::ToldOpenings::told_refused_records, crate::proofs::ToldOpenings::told_unread, crate::proofs::ToldOpenings::told_unclosed, crate::proofs::ToldOpenings::told_closed, crate::proofs::ToldOpenings::told_opens, crate::proofs::ToldOpenings::told_opens_fault, crate::proofs::ToldOpenings::told_header_fault, crate::proofs::ToldOpenings::told_opens_disk, crate::proofs::Causes::caused_well, crate::proofs::Causes::caused_by_header, crate::proofs::Causes::caused_by_disk, crate::proofs::Causes::caused_after))]
     pub fn open<E: Edge>(alloc: Global, edge: &mut E) -> Result<Store, OpenFault>
         ensures opens { Told (Opens result) (E.told edge.old) (E.told edge.new) }
@@ -81,7 +81,7 @@ fn read_all<E: Edge>(
     }
 }
 
-/// Takes up the record that this body spells, which stands behind that gate.
+/// Takes up the record that this body spells. `gate` is the place of the gate before it.
 #[tactic(auto, using(crate::proofs::Readings::judged_itself, crate::proofs::Readings::too_early, crate::proofs::Readings::not_judged_new, crate::proofs::Readings::takes_up, crate::proofs::Counts::step_count))]
 fn take_in(alloc: Global, core: Core, gate: u64, body: &[u8]) -> Result<Core, OpenFault>
     requires room { FIRST_GATE + SHORTEST_RECORD * core.state.count ≤ gate }

@@ -89,7 +89,7 @@ impl Store {
         Ok(texts)
     }
 
-    /// Sends what an input is told that makes no record.
+    /// Tells why an input makes no record.
     #[tactic(auto, using(crate::proofs::Stays::told_nothing_stays, crate::proofs::ServedTexts::told_unchanged, crate::proofs::Stays::emitted_stays, crate::proofs::Telling::tell_sent, crate::proofs::Telling::tell_stopped, crate::proofs::Stays::emitted_in_part, crate::proofs::Stays::prefix_stays))]
     pub fn tell<E: Edge>(
         &self,

@@ -6,7 +6,7 @@ ghost use Rattle.iss_store.specs.Serving.{SendsDialled, SendsReply};
 
 use iss_edge::{Channel, Edge};
 
-/// Dials a channel and sends a text on it. `None` where it doesn't go out whole; a channel that was dialled is closed then.
+/// Dials a channel and sends a text on it. `None` if the text doesn't go out whole; then the channel is closed if it was dialled.
 #[tactic(auto, using(iss_session::proofs::ToldSendings::undialled_told, iss_session::proofs::ToldSendings::sent_told, iss_session::proofs::ToldSendings::torn_told, crate::proofs::StaysServed::told_sent_stays, crate::proofs::StaysServed::told_undialled_stays, crate::proofs::StaysServed::told_torn_stays, crate::proofs::ServedTexts::torn_link))]
 pub(crate) fn send<E: Edge>(edge: &mut E, bytes: &[u8]) -> Option<Channel>
     ensures sends { SendsDialled E.told E.heard edge.old edge.new bytes.now result }

@@ -58,7 +58,7 @@ impl Served {
         }
     }
 
-    /// A client waits on a channel until an event is decided. Where allocation fails all stays as it was.
+    /// A client waits on a channel until an event is decided. If an allocation fails, nothing changes.
     pub fn wait_for(&mut self, event: &Token, ch: Channel) -> Result<(), AllocError>
         ensures waits { OnOk result (self.new ≡ self.old ++ record { event = event.now; ch = ch } ∷ []) }
         ensures unchanged { OnErr result (self.new ≡ self.old) }

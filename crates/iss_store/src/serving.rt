@@ -8,7 +8,7 @@ ghost use Rattle.iss_session.specs.Desks.{Waiter};
 ghost use Rattle.iss_session.specs.Judgements.{status_of};
 ghost use Rattle.iss_store.specs.Saying.{StaysGood, IsDurableOf};
 ghost use Rattle.iss_store.specs.Numbers.{AreNumbered};
-ghost use Rattle.iss_store.specs.Serving.{SendsAnswer, SendsPending, SendsPendingPart, SendsRecord, SendsRecordPart, TasksOnBook, CausesGone, HaveNumbers, tasks_by_each, tasks_pending};
+ghost use Rattle.iss_store.specs.Serving.{SendsAnswer, SendsPending, ResumesPart, SendsRecord, SendsRecordPart, TasksOnBook, CausesGone, HaveNumbers, tasks_by_each, tasks_pending};
 
 use crate::entries::send_entries;
 use crate::sending::reply;
@@ -16,14 +16,15 @@ use crate::{Durable, Served, Store};
 use iss_edge::{Channel, Edge};
 use iss_event::told_line;
 use iss_http::respond;
+use iss_http::statuses::{CONFLICT, INSUFFICIENT_STORAGE, OK};
 use iss_link::Gone;
 use iss_model::{Answer, Entry, Notice, Opened};
 use std::alloc::{AllocError, Global};
 
 impl Store {
     /// Sends what the record of this store's last commit says while clients are served: each decision to the client that waits for it,
-    /// whose channel is closed by it, and each request and notice to the gateway, in the order of the record's entries. Gives what
-    /// became of those: the channels on which they went out, and the calls that weren't reached.
+    /// whose channel is closed by it, and each request and notice to the gateway, in the order of the record's entries. Returns
+    /// what became of those: the channels on which they went out, and the calls that weren't reached.
     #[tactic(auto, using(crate::proofs::ServedTexts::told_whole_desk, crate::proofs::ServedTexts::told_part_desk, crate::proofs::ServedTexts::record_tasks))]
     pub fn release_served<E: Edge>(
         &self,
@@ -61,7 +62,7 @@ impl Store {
         edge: &mut E,
     ) -> Result<Vec<Gone>, AllocError>
         ensures sends { (waiting : List Waiter) → IfOk result (λ gone. ToldBoth E.told E.heard (SendsPending self.now waiting gone.items) edge.old edge.new) }
-        ensures part { (waiting : List Waiter) → OnErr result (ToldBoth E.told E.heard (SendsPendingPart self.now waiting) edge.old edge.new) }
+        ensures part { ResumesPart E.told E.heard edge.old edge.new self.now result }
         ensures on_book { TasksOnBook self.now }
         ensures stays { Told StaysGood (E.told edge.old) (E.told edge.new) }
         ensures later { Later (E.faults edge.old) (E.faults edge.new) }
@@ -87,7 +88,7 @@ impl Store {
         Ok(entries)
     }
 
-    /// Sends a client what its input is told that makes no record, and closes its channel.
+    /// Tells a client why its input makes no record, and closes its channel.
     #[tactic(auto, using(crate::proofs::ServedTexts::told_unchanged, crate::proofs::Stays::told_nothing_stays))]
     pub fn tell_served<E: Edge>(
         &self,
@@ -115,10 +116,10 @@ fn status_of(answer: &Answer) -> u16
     ensures known { IsStatus result }
 {
     match answer {
-        Answer::Conflict(..) => 409,
-        Answer::Full { .. } => 507,
-        Answer::Spent => 507,
-        _ => 200,
+        Answer::Conflict(..) => CONFLICT,
+        Answer::Full { .. } => INSUFFICIENT_STORAGE,
+        Answer::Spent => INSUFFICIENT_STORAGE,
+        _ => OK,
     }
 }
 

@@ -24,7 +24,7 @@ use std::alloc::{AllocError, Global};
 use std::marker::Model;
 
 /// The records on a device, and what they make. Contracts see its core, the place of the end gate, and the place where the
-/// device ends; a store *stands for* records where its core does and they end at that gate.
+/// device ends; a store *stands for* records if its core does and they end at that gate.
 #[derive(Drop)]
 pub struct Store {
     pub(crate) core: Core,
@@ -55,9 +55,9 @@ impl Store {
         &self.core
     }
 
-    /// The record that an input makes at a stamp, where it makes one: its own where it is new, else that of a time where
-    /// something is due before its answer. An input that makes none is told why; one whose record doesn't fit is told how
-    /// many bytes are free, and how many it needs. Nothing is changed.
+    /// The record that an input makes at a stamp, if it makes one: its own if it is new, else that of a time if something is
+    /// due before its answer. An input that makes none is told why. If the record doesn't fit, the input is told how many
+    /// bytes are free, and how many it needs. Nothing is changed.
     #[tactic(auto, using(crate::proofs::Plans::plans_new, crate::proofs::Plans::plans_clock, crate::proofs::Plans::planned_on_book))]
     pub fn plan(&self, alloc: Global, input: &Input, at: u64) -> Result<Planned, PlanFault>
         requires input_form { IsTrue (is_in_form input.now) }
@@ -73,7 +73,7 @@ impl Store {
         }
     }
 
-    /// The plan of a record that is next, where it fits.
+    /// The plan of a record that is next, if it fits.
     #[tactic(auto, using(crate::proofs::Plans::has_room, crate::proofs::Plans::has_no_room, crate::proofs::Lengths::body_of_spelling))]
     fn plan_record(
         &self,
@@ -101,9 +101,9 @@ impl Store {
         })
     }
 
-    /// Makes the record of a plan last, and takes it up. The edge has the size of the one that was opened. After a fault the
-    /// store is gone, and the device may be opened again: it stands for the old records or also for the new one, and surely
-    /// for the new one where only memory was wanting.
+    /// Makes the record of a plan last, and takes it up. The device has the size that it had when it was opened. After a
+    /// fault the store is gone, and the device may be opened again: it stands for the old records or also for the new one,
+    /// and surely for the new one if only an allocation failed.
     pub fn commit<E: Edge>(
         self,
         alloc: Global,

@@ -120,7 +120,7 @@ impl Texts {
         }
     }
 
-    /// Sends each of the texts on channel 0, in order, by an emit of its own. The first one that fails ends it.
+    /// Sends each of the texts on channel 0, in order, by an emit of its own. If one fails, nothing more is sent.
     #[tactic(auto, using(crate::proofs::ToldSaying::all_told, crate::proofs::ToldSaying::some_told, crate::proofs::ToldSaying::all_sent_told, crate::proofs::ToldSaying::stops_told))]
     pub fn send<E: Edge>(&self, edge: &mut E) -> Result<(), Failed>
         requires ends { AreEnds 0 (length self.now.bytes.items) self.now.ends.items }

@@ -7,7 +7,7 @@ ghost use Rattle.iss_texts.specs.Sending.{Says, SaysSome, SentEach, StopsAt, IsS
 
 use iss_edge::{Channel, Edge, Failed};
 
-/// Sends each text of a row on channel 0, in order, by an emit of its own. The first one that fails ends it.
+/// Sends each text of a row on channel 0, in order, by an emit of its own. If one fails, nothing more is sent.
 pub(crate) fn send_each<E: Edge>(edge: &mut E, bytes: &[u8], ends: &[usize]) -> Result<(), Failed>
     requires { AreEnds 0 (length bytes.now) ends.now }
     ensures told { OnOk result (Told (Says (cut_at 0 bytes.now ends.now)) (E.told edge.old) (E.told edge.new)) }

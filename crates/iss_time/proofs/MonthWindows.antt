@@ -1,5 +1,5 @@
 -- The window of a stamp, put together.
-use Rattle.std.proofs.Common.{◌≡◌, ℕ, ℤ, pos, sym, ap, ◌∙◌}
+use Rattle.std.proofs.Common.{◌≡◌, ℕ, ℤ, sym, ap, ◌∙◌}
 use Rattle.iss_model.specs.declared.setting.Window.{Window}
 use Rattle.iss_model.specs.declared.setting.Window.TheVariants.{Month}
 use Rattle.iss_model.specs.Calendar.{day_at, month_of, window_at}

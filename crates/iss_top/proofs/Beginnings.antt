@@ -74,9 +74,9 @@ pub begins_goes : (s : StoreNow) (rs : List Record) (b c : World) → texts_pend
 begins_goes s rs b c on_book says =
     subst (λ (t : List Text). Goes s rs rs t b c) (waits s rs on_book) (says_goes s rs (texts_pending s) b c says)
 
--- ---- the lines behind it
+-- ---- the lines after it
 
--- what was done for the lines, behind what waited
+-- what was done for the lines, after what waited
 whole_from_start : (s : StoreNow) (rs : List Record) (parts : List (List ℕ)) (b c d : World) → Goes s rs rs (first_texts (run_at s rs)) b c → GoesWhole s rs (told_lines (run_at s rs) parts) c d
     → GoesWhole s rs (told_from_start (run_at s rs) parts) b d
 whole_from_start s rs parts b c d begins lines =

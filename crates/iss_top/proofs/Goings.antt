@@ -51,7 +51,7 @@ goes_then s rs rs' rs'' t u a b c f g =
     subst (λ (l : List Step). device.Goes (region_under s) rs rs'' l a c) (sym (map-append text_step t u))
     (joins.goes_then (region_under s) rs rs' rs'' (text_steps t) (text_steps u) a b c f g)
 
--- some of the texts that come behind others went out, and those others did
+-- some of the texts that come after others went out, and those others did
 out_then : (xs ys : List (List ℕ)) (actions : List Action) → GoOut ys actions → GoOut (xs ++ ys) (emits xs ++ actions)
 out_then xs ys actions out =
     record {
@@ -102,7 +102,7 @@ goes_part failed s rs rs' t a b f =
       whole = inl f;
     }
 
--- ---- texts that are said where so many records stand
+-- ---- texts that are said when this many records stand
 
 emits_still : (texts : List (List ℕ)) → AreStill (emits texts)
 emits_still [] = tt
@@ -184,7 +184,7 @@ says_goes_part failed s rs texts a b says =
       whole = inl (some_goes (region_under s) rs texts a b says);
     }
 
--- ---- texts behind those of which some went out
+-- ---- texts after those of which some went out
 
 fails_more : (xs ys : List (List ℕ)) (last : List Action) → FailsAt xs last → FailsAt (xs ++ ys) last
 fails_more xs ys last f =

@@ -19,7 +19,7 @@ line_slice bytes next filled at end is fits =
     let size : end - next ≡ at = omega (arith, is) in
     ap (λ (n : ℕ). take n (drop next bytes)) size ∙ sym (take-take at (filled - next) (drop next bytes) (omega (arith, fits)))
 
--- and those behind them and one more
+-- and those after them and one more
 rest_slice : (bytes : List ℕ) (next filled at from : ℕ) → from ≡ next + (at + 1) → next + at < filled → slice_of bytes from filled ≡ drop (at + 1) (slice_of bytes next filled)
 rest_slice bytes next filled at from is fits =
     let more : filled - next ≡ (at + 1) + (filled - from) = omega (arith, is, fits) in
@@ -39,7 +39,7 @@ kept_where kept whole false e empty = refl
 none_between : (bytes : List ℕ) (from to : ℕ) → from ≡ 0 → to ≡ 0 → slice_of bytes from to ≡ []
 none_between bytes from to first last = rw (first, last) refl
 
--- where no line lies in the piece, it is what is kept
+-- if no line lies in the piece, it is what is kept
 pub line_is_kept : (kept bytes : List ℕ) (start end : ℕ) → start ≡ 0 → end ≡ 0 → line_at_hand kept (slice_of bytes start end) ≡ kept
 line_is_kept kept bytes start end first last =
     kept_where kept (slice_of bytes start end) (nat_eq (length kept) 0) refl (none_between bytes start end first last)

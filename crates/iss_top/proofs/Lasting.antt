@@ -42,7 +42,7 @@ planned_texts s s' p d rs same said =
     ∙ ap (λ (x : List Said). texts_at s.core.instance (with_record rs p.accepted) x) (sym said)
     ∙ ap (λ (instance : ℕ). texts_at instance (with_record rs p.accepted) (said_of d)) (sym same)
 
--- so many records and texts as are told of it
+-- as many records and texts as are told of it
 as_planned : (s s' : StoreNow) (p : Plan) (d : DurableNow) (rs : List Record) (F : List Record → List Text → Type 0) → s'.core.instance ≡ s.core.instance → said_of d ≡ said_on_book rs p
     → F (with_record rs p.accepted) (at_level (length (with_record rs p.accepted)) (texts_of_record s' d))
     → F (response_to_plan p (run_at s rs)).run.history.records (response_to_plan p (run_at s rs)).texts

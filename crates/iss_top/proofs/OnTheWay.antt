@@ -107,7 +107,7 @@ module _ (opened s : StoreNow) (before now : ReaderNow) (a b c : World) (way : I
       let told = told_lines (run_at opened rs) way.parts in
       goes_still opened rs told.run.history.records told.texts a b c (way.on_book rs stands).1 reads.takes.device reads.takes.trace
 
-  -- what the line is told, behind the others, is what the parts are told with its part
+  -- what the line is told, after the others, is what the parts are told with its part
   told_more : (rs : List Record) → then_told (told_lines (run_at opened rs) way.parts).texts (told_line (run_at s (told_lines (run_at opened rs) way.parts).run.history.records) now.line) ≡ told_lines (run_at opened rs) (way.parts ++ reads.part ∷ [])
   told_more rs =
       ap (then_told (told_lines (run_at opened rs) way.parts).texts) (told_there opened s rs way.parts now.line reads.part way.same reads.line)
@@ -219,7 +219,7 @@ ends_reading opened s now why a b c not_done way reads =
       bound = stops.bound;
     }
 
--- nothing was done, as memory was wanting
+-- nothing was done, since an allocation failed
 pub ends_at_start : (opened : StoreNow) (a : World) → RunsFrom 7 opened a a
 ends_at_start opened a =
     record {

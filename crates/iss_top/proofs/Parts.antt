@@ -19,7 +19,7 @@ part_alone (b ∷ bs) e =
     ap (λ (t : Bool). cond t ([] ∷ parts_of bs) (onto_first (b ∷ []) (parts_of bs))) (neither_first (nat_eq b 10) (has_line_feed bs) e)
     ∙ ap (onto_first (b ∷ [])) (part_alone bs (neither_second (nat_eq b 10) (has_line_feed bs) e))
 
--- with a line feed behind them they are the first part
+-- with a line feed after them they are the first part
 pub part_first : (part rest : List ℕ) → has_line_feed part ≡ false → parts_of (part ++ 10 ∷ rest) ≡ part ∷ parts_of rest
 part_first [] rest e = refl
 part_first (b ∷ bs) rest e =
@@ -62,7 +62,7 @@ all_of : (bytes part : List ℕ) (now : ReaderNow) (b : World) → Ends bytes pa
 all_of bytes part now b (inl e) ended = absurd (never (sym ended ∙ e.0))
 all_of bytes part now b (inr e) ended = (e.1, e.2)
 
--- where the next part ended, the rest begins behind its line feed
+-- if the next part ended, the rest begins after its line feed
 next_cut : (unread took part unread' rest : List ℕ) (parts : List (List ℕ)) → has_line_feed part ≡ false → unread ++ took ≡ part ++ 10 ∷ unread'
     → parts ++ parts_of (unread ++ (took ++ rest)) ≡ (parts ++ part ∷ []) ++ parts_of (unread' ++ rest)
 next_cut unread took part unread' rest parts one_line cut =

@@ -96,7 +96,7 @@ pub record_tells : (s : CoreState) (i : Input) (at : Option ℕ) (stamp : ℕ) (
 record_tells s i at stamp r after none made texts few is fresh empty records put =
     replies_as s i at stamp (judged.New r) after texts few is fresh records.state (record_and s after r (said_of_time i) none made texts empty records put)
 
--- one that isn't new where something is due is told what the time's entries send out, and then the answer that is left
+-- if something is due, an input that isn't new is told what the time's entries send out, and then the answer that is left
 pub clock_tells : (s : CoreState) (i : Input) (at : Option ℕ) (stamp : ℕ) (r : Record) (after : CoreState) (none made texts : Texts) → s.count < MOST_RECORDS → stamp ≡ unwrap_or at 0 → judged.Clock r ≡ judge core_keeper s i stamp
     → HasNone none → Records s r after none made → Gains (map said_text (answer_left (judge core_keeper after i stamp))) made texts → Replies (after_line core_keeper s (sound i at)) after texts
 clock_tells s i at stamp r after none made texts few is due empty records put =
@@ -114,7 +114,7 @@ fault_tells s line fault none texts read empty put =
     subst (λ (r : Reading). Replies (after_line core_keeper s r) s texts) (ap as_reading (sym read))
     (record { state = refl; texts = gained_all (form_text fault ∷ []) none texts empty put })
 
--- one that is read is told as its input
+-- a line that is read is told as its input
 pub read_tells : (s after : CoreState) (line : List ℕ) (said : Line) (texts : Texts) → line_read Lines line ≡ Ok said → Replies (after_line core_keeper s (sound said.input said.at)) after texts
     → Replies (reply_of_line s line) after texts
 unfolding reading_of

@@ -174,7 +174,7 @@ ends_in_line status s now line a b c other is w said =
     (omega (arith, read.count, w.bound))
     (texts_first parts (parts_of (a.left 0)) (parts_first parts now a c read))
 
--- what was told where reading on failed
+-- what was told if reading on failed
 pub ends_at_input : (status : ℕ) (why : Stop) (s : CoreState) (before : ReaderNow) (a b c : World) → (status ≡ 0 → ⊥) → ((status ≡ 3) ⊎ (status ≡ 8) → why ≡ stop.Memory → ⊥)
     → (status ≡ 8 → why ≡ stop.InputLong) → (why ≡ stop.InputLong → status ≡ 8) → IsOnItsWay s before a b → ReadsNoPart before why b c → Ran status a c
 ends_at_input status why s before a b c not_done not_memory long is_long w r =

@@ -92,7 +92,7 @@ plans_told (judged.Told b) a h = ap judged.Told (sym h)
 abbrev judged_on : StoreNow → Input → ℕ → List Record → Judged
 judged_on s i stamp rs = judgement_within (room_of s) rs (judge history_keeper (history_of rs) i stamp)
 
--- what is told of it where it comes to this
+-- what is told of it if it comes to this
 response_is : (s : StoreNow) (i : Input) (at : Option ℕ) (stamp : ℕ) (rs : List Record) (j : Judged) → stamp ≡ unwrap_or at 0 → judged_on s i stamp rs ≡ j
     → response (run_at s rs) (sound i at) ≡ response_as (run_at s rs) i stamp j
 response_is s i at stamp rs j is e =
@@ -138,7 +138,7 @@ told_clock s i stamp p clock =
     said_then (length r.world.records) s.instance r.said left
     ∙ ap (λ (b : Bool). (saying p s (cond b [] (said_of_time p.accepted.input))).texts ++ at_level (length r.world.records) (map (said_text_at s.instance) left)) (sym clock)
 
--- ---- one that isn't new, and makes no record
+-- ---- an input that isn't new, and makes no record
 
 -- what was planned on each list of records that the store stands for
 abbrev PlansOn : StoreNow → Input → ℕ → Result Plan PlanFault → Type 0
@@ -151,13 +151,13 @@ told_input i at = λ s. response s (sound i at)
 pub same_device : (s : StoreNow) → IsSameDevice s s
 same_device s = record { instance = refl; to = refl }
 
--- where a run stands at these records, and something was said
+-- if a run stands at these records, and something was said
 pub stays_and_says : (s : StoreNow) (rs : List Record) (texts : List (List ℕ)) (a b : World) → StandsFor s rs → Says texts a b
     → StandsFor s (history_of rs).records × Goes s rs (history_of rs).records (at_level (length (history_of rs).records) texts) a b
 stays_and_says s rs texts a b stands says =
     subst (λ (l : List Record). StandsFor s l × Goes s rs l (at_level (length l) texts) a b) (sym (records_history rs)) (stands, says_goes s rs texts a b says)
 
--- some of what is said where no record is made
+-- some of what is said if no record is made
 pub says_in_part : (failed : Type 0) (s : StoreNow) (rs : List Record) (told : Response) (texts : List (List ℕ)) (a b : World) → AreFirstOf (history_of rs).records told.run.history.records
     → told.texts ≡ at_level (length (history_of rs).records) texts → SaysSome texts a b → GoesSome failed s rs told a b
 says_in_part failed s rs told texts a b first is says =

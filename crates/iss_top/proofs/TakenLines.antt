@@ -1,4 +1,4 @@
--- A line is taken: nothing where it is blank, and else what it is read as.
+-- A line is taken: nothing if it is blank, and else what it is read as.
 use Rattle.std.proofs.Common.{◌≡◌, ℕ, Bool, true, false, cond, List, [], ◌∷◌, Option, Ok, Err, refl, sym, ap, subst, ◌∙◌}
 use Rattle.iss_edge.specs.World.{World, Told}
 use Rattle.iss_edge.proofs.Tolds.{told_map, told_self}

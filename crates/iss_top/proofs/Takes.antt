@@ -66,7 +66,7 @@ unread_is bytes buffer next filled count same start whole =
     let all : count - 0 ≡ count = omega arith in
     rw (same, start, whole) (ap (λ (n : ℕ). take n buffer) all)
 
--- so many bytes of a piece that was just taken aren't read
+-- this many bytes of a piece that was just taken aren't read
 pub count_is : (bytes : List ℕ) (next filled count : ℕ) → next ≡ 0 → filled ≡ count → count ≤ length bytes → length (slice_of bytes next filled) ≡ count
 count_is bytes next filled count start whole le =
     ap (λ (l : List ℕ). length l) (unread_is bytes bytes next filled count refl start whole) ∙ length-take-le count bytes le

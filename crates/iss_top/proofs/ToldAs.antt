@@ -106,7 +106,7 @@ kept_long line b h false e =
 abbrev IsKept : List ℕ → List ℕ → Type 0
 IsKept line part = (line ≡ part) ⊎ IsAlike line part
 
--- what is kept with one more byte, where the line is short or isn't
+-- what is kept with one more byte, if the line is short and if it isn't
 abbrev kept_where : Bool → List ℕ → ℕ → List ℕ
 kept_where short line b = cond short (line ++ b ∷ []) (cond (is_blank_byte b) line (take (length line - 1) line ++ b ∷ []))
 
@@ -139,7 +139,7 @@ none_there : (part : List ℕ) → IsKept [] part → part ≡ []
 none_there part (inl same) = sym same
 none_there part (inr alike) = absurd (omega (arith, alike.long))
 
--- where nothing is kept, nothing came
+-- if nothing is kept, nothing came
 nothing_came : (kept part : List ℕ) → kept ≡ fold kept_with [] part → kept ≡ [] → part ≡ []
 nothing_came kept part is none =
     none_there part (subst (λ (l : List ℕ). IsKept l part) (sym is ∙ none) (kept_bytes [] [] part (inl refl)))

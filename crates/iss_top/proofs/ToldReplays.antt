@@ -204,7 +204,7 @@ caused_by_opening (BadRecord gate) before now cause = record { later = cause.lat
 caused_by_opening (BadSpelling gate) before now cause = record { later = cause.later; cause = tt }
 caused_by_opening (BadHistory gate) before now cause = record { later = cause.later; cause = tt }
 
--- behind calls that counted no fault down
+-- after calls that counted no fault down
 cause_behind : (before middle now : Faults) (s : Stop) → Later before middle → Later middle now → ReplayCause middle now s → ReplayCause before now s
 cause_behind before middle now stop.Input first second cause = rose_later before.input middle.input now.input now.input first.input second.input (omega arith) cause
 cause_behind before middle now stop.Device first second cause = tt

@@ -1,5 +1,5 @@
 -- The same of what an edge tells: a dry run's way, and each of its ends.
-use Rattle.std.proofs.Common.{◌≡◌, ◌⊎◌, inl, inr, ℕ, ◌+◌, ◌-◌, ◌*◌, ◌≤◌, ◌<◌, true, false, List, length, Option, Err, refl, ap, arith}
+use Rattle.std.proofs.Common.{◌≡◌, ◌⊎◌, inl, inr, ℕ, ◌+◌, ◌*◌, ◌≤◌, true, false, List, length, Option, Err, refl, ap, arith}
 use Rattle.iss_edge.specs.World.{World, Told, Faults}
 use Rattle.iss_edge.proofs.Tolds.{told_then, told_self}
 use Rattle.iss_model.specs.declared.limits.TheConstants.{MOST_INPUT}

@@ -88,7 +88,7 @@ told_line_fails why f f' opened s before now line x y z w cause same way reads t
     (told_next opened s before now x y z way reads)
     (subst (λ (l : List ℕ). Told (TakesPartAs (IsOfDisk why) (λ k. told_line k l) s) z w) same taken)
 
--- reading ends with status 3, 7 or 8, and with 8 where the input is too long alone
+-- reading ends with status 3, 7 or 8, and with 8 only if the input is too long
 reading_not_done : (before now : Faults) (s : Stop) → ReadingCause before now s → ends_with s ≡ 0 → ⊥
 reading_not_done before now stop.Input cause e = cc
 reading_not_done before now stop.Device cause e = absurd cause

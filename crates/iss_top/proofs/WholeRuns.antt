@@ -46,7 +46,7 @@ made_legal instance rs a stands =
     let lines = readings_of (parts_of (a.left 0)) in
     legal_append nothing_yet rs (accepted_records run lines) stands.history.legal (accepted_legal run lines)
 
--- what the lines make behind those
+-- what the lines make after those
 abbrev made_later : ℕ → List Record → World → List Record
 made_later instance rs a = accepted_records (run_on_device instance rs a.device) (readings_of (parts_of (a.left 0)))
 

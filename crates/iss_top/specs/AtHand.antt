@@ -20,11 +20,11 @@ line_of h = line_at_hand h.kept (slice_of h.pieces.bytes.items h.start h.end)
 abbrev pub now_of : AtHand → ReaderNow
 now_of h = record { taken = h.pieces.taken; unread = unread_of h.pieces; line = line_of h; ended = h.ended }
 
--- the line once its last bytes came: they are all of it where none of it was kept
+-- the line once its last bytes came: they are all of it if none of it was kept
 abbrev pub line_with : List ℕ → List ℕ → List ℕ
 line_with kept last = if length kept == 0 then last else fold kept_with kept last
 
--- the line ends so many bytes on, before the byte that is passed over
+-- the line ends after this many bytes, before the byte that is passed over
 pub record EndsLine (at : ℕ) (before now : AtHand) : Type 0 where
   pub taken : now.pieces.taken ≡ before.pieces.taken
   pub unread : unread_of now.pieces ≡ drop (at + 1) (unread_of before.pieces)

@@ -13,12 +13,12 @@ drill_status (Ok done) = DONE
 drill_status (Err drill_fault.Output) = OUTPUT_FAULT
 drill_status (Err drill_fault.OutOfMemory) = OUT_OF_MEMORY
 
--- Of a drill of n events with this status, nothing was done but that its line went out by one emit, and at 0 all of it; else nothing, or
--- by a failed emit a prefix of it.
+-- A drill of n events with this status did nothing but emit its line, once. At 0 all of it went out; else nothing did, or a prefix of it by an
+-- emit that failed.
 pub record DrillRun (n status : ℕ) (a b : World) : Type 0 where
   pub part : SaysSome (drill_text n ∷ []) a b
   pub whole : status ≡ DONE → Says (drill_text n ∷ []) a b
 
--- where the count of output didn't rise, the status is 0 or 7
+-- if the count of output didn't rise, the status is 0 or 7
 abbrev pub DrillEndsWell : Faults → Faults → ℕ → Type 0
 DrillEndsWell before now status = (Rose before.output now.output → ⊥) → (status ≡ DONE) ⊎ (status ≡ OUT_OF_MEMORY)

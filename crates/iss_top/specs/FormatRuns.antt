@@ -13,7 +13,7 @@ pub record FormatRun (size instance extent status : ℕ) (before now : Faults) (
   pub formatted : status ≡ DONE → Told (Formats instance) x y
   -- at every status, what each image of each moment is
   pub moments : Told (FormatsGood instance) x y
-  -- no count has fallen, and where the size is right and the disk isn't at fault, the device is formatted
+  -- no count has fallen, and if the size is right and the disk isn't at fault, the device is formatted
   pub later : Later before now
   pub complete : extent ≡ size → (Rose before.disk now.disk → ⊥) → status ≡ DONE
 

@@ -12,7 +12,7 @@ use Rattle.iss_top.specs.Lines.{is_blank, parts_of}
 use Rattle.iss_top.specs.Dry.{reply_of_line, each_bytes}
 use Rattle.iss_top.specs.Reader.{ReaderNow, TakesIn}
 
--- what a line is told: nothing where it is blank
+-- what a line is told: nothing if it is blank
 unfoldable pub line_texts : CoreState → List ℕ → List (List ℕ)
 line_texts s line = if is_blank line then [] else each_bytes (reply_of_line s line).texts
 
@@ -62,7 +62,7 @@ pub record IsOnItsWay (s : CoreState) (now : ReaderNow) (a b : World) : Type 0 w
   pub sends : SendsEach (lines_texts no_core parts) a b
   pub state : s ≡ lines_next no_core parts
 
--- what is still to be told where this text came first
+-- what is still to be told if this text came first
 pub record Begins (text whole : List ℕ) : Type 0 where
   pub back : List ℕ
   pub cut : whole ≡ text ++ back

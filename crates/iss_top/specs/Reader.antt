@@ -33,7 +33,7 @@ pub record Advances (before now : ReaderNow) : Type 0 where
 abbrev pub slice_of : List ℕ → ℕ → ℕ → List ℕ
 slice_of items from to = take (to - from) (drop from items)
 
--- the line at hand: what was kept of it, or where nothing was, what lies in the piece
+-- the line at hand: what was kept of it, or if nothing was, what lies in the piece
 abbrev pub line_at_hand : List ℕ → List ℕ → List ℕ
 line_at_hand kept whole = if length kept == 0 then whole else kept
 
@@ -48,8 +48,8 @@ pub record OnlyTakesIn (took : List ℕ) (a b : World) : Type 0 where
   pub device : b.device ≡ a.device
   pub trace : b.trace ≡ a.trace
 
--- A line that is told the same as this part of the input, whatever stands: both are blank, or they are read the same. Of a part of more
--- than 16384 bytes not all is kept.
+-- A line is told the same as this part of the input, whatever stands: both are blank, or they are read the same. Of a part of more than 16384
+-- bytes not all is kept.
 pub record IsToldAs (line part : List ℕ) : Type 0 where
   pub blank : is_blank line ≡ is_blank part
   pub reading : reading_of line ≡ reading_of part
@@ -70,13 +70,13 @@ pub record ReadsPart (before now : ReaderNow) (a b : World) : Type 0 where
   pub line : IsToldAs now.line part
   pub ends : Ends (before.unread ++ took) part now b
 
--- what reading on comes to: the next part, or nothing where the input has ended
+-- what reading on comes to: the next part, or nothing if the input has ended
 abbrev pub ReadsOn : Bool → ReaderNow → ReaderNow → World → World → Type 0
 ReadsOn true before now a b = (before.ended ≡ false) × ReadsPart before now a b
 ReadsOn false before now a b = (before.ended ≡ true) × (now ≡ before) × Same a b
 
--- Reading on failed: some bytes were taken, and unless memory was wanting no line ended within the 4294967296 that may be taken. One byte
--- more came exactly where the input is too long.
+-- Reading on failed. Some bytes were taken, and unless an allocation failed, no line ended within the 4294967296 that may be taken. One byte
+-- more came exactly if the input is too long.
 pub record ReadsNoPart (before : ReaderNow) (why : Stop) (a b : World) : Type 0 where
   pub going : before.ended ≡ false
   pub limit : before.taken ≤ MOST_INPUT

@@ -78,7 +78,7 @@ step_levels steps = map (λ step. step.level) steps
 abbrev pub Goes : StoreNow → List Record → List Record → List Text → World → World → Type 0
 Goes s rs rs' texts a b = device.Goes (region_under s) rs rs' (text_steps texts) a b
 
--- The same in part: some of these texts went out, the last one maybe as a prefix of it; the run ends. It might have gone on from there,
+-- The same in part: some of these texts went out, of the last one maybe a prefix, and the run ended. It might have gone on from there,
 -- unless this failed.
 pub record GoesPart (failed : Type 0) (s : StoreNow) (rs rs' : List Record) (texts : List Text) (a b : World) : Type 0 where
   pub said : List Step
@@ -166,8 +166,8 @@ pub record GoesWhole (s : StoreNow) (rs : List Record) (told : Response) (a b : 
   pub goes : Goes s rs told.run.history.records told.texts a b
   pub history : AreHistory told.run.history.records
 
--- What a run with this status did on a store that stood for these records, where parts of the input are told so. What went out is the
--- first of what its input is to be told, and the records are the first of those that it makes; at 0 it is all of that, and at 3 and 8
+-- What a run with this status did on a store that stood for these records, if this is what the parts of the input are told. What went out is a
+-- prefix of what its input is to be told, and the records are the first of those that it makes. At 0 it is all of that. At 3 and 8 it is
 -- that of exactly the lines which ended within the bytes that were taken. The run might have gone on from there, unless a call on the device
 -- failed.
 pub record RunsAs (tell : List (List ℕ) → Response) (status : ℕ) (opened : StoreNow) (rs : List Record) (took : List ℕ) (a b : World) : Type 0 where
@@ -177,7 +177,7 @@ pub record RunsAs (tell : List (List ℕ) → Response) (status : ℕ) (opened :
   pub whole : status ≡ DONE → (b.left 0 ≡ []) × GoesWhole opened rs (tell (parts_of (a.left 0))) a b
   pub stopped : (status ≡ INPUT_FAULT) ⊎ (status ≡ INPUT_TOO_LONG) → GoesWhole opened rs (tell (all_but_last (parts_of (take MOST_INPUT took)))) a b
 
--- the same since its store was opened on these records
+-- the same, since its store was opened on these records
 abbrev pub RunsOnBook : ℕ → StoreNow → List Record → List ℕ → World → World → Type 0
 RunsOnBook status opened rs took a b = RunsAs (told_lines (run_at opened rs)) status opened rs took a b
 

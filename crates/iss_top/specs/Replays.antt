@@ -47,7 +47,7 @@ EndsSomewhere instance rs actions a b =
 -- What a run with this status did on a device that stands for these records. Nothing was done but on the device and on channel 0. What
 -- went out is the transcript of the input, text by text, or a prefix of it. At 0 it is all of it, and the input was read to its end. At 3
 -- and 8 it is that of exactly the lines that ended within the bytes that were taken. In each of these cases the device stands for the
--- records of the lines. Status 8 comes exactly where 4294967296 bytes were taken and another came.
+-- records of the lines. The status is 8 exactly if 4294967296 bytes were taken and another came.
 pub record ReplayOn (status : ℕ) (instance : ℕ) (rs : List Record) (a b : World) : Type 0 where
   pub took : List ℕ
   pub takes : TakesIn took a b
@@ -66,7 +66,7 @@ pub record ReplayOn (status : ℕ) (instance : ℕ) (rs : List Record) (a b : Wo
 abbrev pub ReplayRun : ℕ → World → World → Type 0
 ReplayRun status a b = (instance : ℕ) (rs : List Record) → DeviceStandsFor instance rs a.device → ReplayOn status instance rs a b
 
--- Every moment of a run on a device that stands firmly for these records, where some first ones of all of those stand in the end, and
+-- Every moment of a run on a device that stands firmly for these records, if the first of all of those stand in the end, and
 -- these texts are to go out. The opening writes to the device and syncs it, and no more. The records that the run made last are a history:
 -- they are legal, and each has a spelling.
 pub record MomentsOf (instance : ℕ) (rs all : List Record) (texts : List Text) (a b : World) : Type 0 where
@@ -80,7 +80,7 @@ pub record MomentsOf (instance : ℕ) (rs all : List Record) (texts : List Text)
   pub history : AreHistory made
   -- each text that was sent has its level, in the order of the texts
   pub levels : (unsent : List ℕ) × (levels_of texts ≡ output_levels (opening ++ later) ++ unsent)
-  -- begun on a device at rest, and on one with unsynced writes
+  -- the run began on a device at rest, or on one with unsynced writes
   pub each : EachMoment instance rs made opening later a.device
   pub unsynced : EachMomentUnsynced instance rs made opening later a.device
   -- the next run may begin with what a stop leaves
@@ -105,7 +105,7 @@ TranscriptsContinue =
     ≡ transcript_of (run_on instance size rs) xs
     ++ line_texts (run_on instance size (rs ++ accepted_records (run_on instance size rs) xs)) ys
 
--- where no count on the device, input or output rose, the input has at most 4294967296 bytes and the device stands for records, the status is 0 or 7
+-- if no count on the device, input or output rose, the input has at most 4294967296 bytes and the device stands for records, the status is 0 or 7
 abbrev pub ReplayEndsWell : Faults → Faults → ℕ → World → World → Type 0
 ReplayEndsWell before now status a b =
     (instance : ℕ) (rs : List Record) → DeviceStandsFor instance rs a.device

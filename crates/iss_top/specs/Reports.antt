@@ -19,14 +19,14 @@ use Rattle.iss_top.specs.Replays.{MomentsOf}
 abbrev pub report_lines : List Record → List (List ℕ)
 report_lines rs = balance_lines (history_of rs)
 
--- as texts that go out where so many records stand
+-- as texts that go out when this many records stand
 abbrev pub report_texts : List Record → List Text
 report_texts rs = at_level (length rs) (report_lines rs)
 
 -- What a run with this status did on a device that stands for these records. Nothing was taken. First there was an opening, which is on
--- the device alone, and then the lines of the report went out, each by an emit of its own, and at 0 all of them; where the run ended
--- early, some first ones did, and maybe a prefix of the next. At 0, and where the output failed, the device stands for the records, and
--- if the run began at rest, the next one begins there. So it is at 7, unless nothing was done but maybe a sync.
+-- the device alone, and then the lines of the report went out, each by an emit of its own, and at 0 all of them. If the run ended
+-- early, the first of them did, and maybe a prefix of the next. At 0, and if the output failed, the device stands for the records. Then,
+-- if the run began at rest, the next one begins there. The same holds at 7, unless nothing was done but maybe a sync.
 pub record ReportOn (status : ℕ) (instance : ℕ) (rs : List Record) (a b : World) : Type 0 where
   pub left : b.left ≡ a.left
   pub opening : List Action
@@ -63,7 +63,7 @@ pub record IsReportCaused {A : Type 0} (before now : Faults) (result : Result A 
   pub later : Later before now
   pub cause : IfErr result (ReportCause before now)
 
--- where no count on the device or output rose, and the device stands for records, the status is 0 or 7
+-- if no count on the device or output rose, and the device stands for records, the status is 0 or 7
 abbrev pub ReportEndsWell : Faults → Faults → ℕ → World → World → Type 0
 ReportEndsWell before now status a b =
     (instance : ℕ) (rs : List Record) → DeviceStandsFor instance rs a.device

@@ -18,8 +18,8 @@ pub record Passes (took text : List ℕ) (a b : World) : Type 0 where
   pub others : (c : ℕ) → (c ≡ 0 → ⊥) → b.left c ≡ a.left c
   pub sends : Sends text a b
 
--- What a dry run with this status did. What went out is a prefix of what its input is to be told, and all of it at status 0, where the input was read to its end.
--- Status 8 comes exactly where 4294967296 bytes were taken and another came.
+-- What a dry run with this status did. What went out is a prefix of what its input is to be told. At 0 it is all of it, and the input was read
+-- to its end. The status is 8 exactly if 4294967296 bytes were taken and another came.
 pub record DryRun (status : ℕ) (a b : World) : Type 0 where
   pub took : List ℕ
   pub text : List ℕ
@@ -29,15 +29,15 @@ pub record DryRun (status : ℕ) (a b : World) : Type 0 where
   pub long : (status ≡ INPUT_TOO_LONG) ↔ (length took ≡ MOST_INPUT + 1)
   pub bound : length took ≤ MOST_INPUT + 1
 
--- What a dry run with this status emitted: the texts that its input is to be told, in order, each by an emit of its own, and all of them at status 0.
--- Where it ended early, the last emit may have failed, and a prefix of its text went out.
+-- What a dry run with this status emitted: the texts that its input is to be told, in order, each by an emit of its own, and at 0 all of them.
+-- If it ended early, the last emit may have failed, and a prefix of its text went out.
 pub record EmitsTexts (status : ℕ) (a b : World) : Type 0 where
   pub actions : List Action
   pub grew : b.trace ≡ a.trace ++ actions
   pub out : GoOut (each_bytes (dry_texts (a.left 0))) actions
   pub whole : status ≡ DONE → actions ≡ emits (each_bytes (dry_texts (a.left 0)))
 
--- the emits of what the lines are told that ended within the first 4294967296 of these bytes
+-- the emits for the lines that ended within the first 4294967296 of these bytes
 abbrev pub emits_of_ended : List ℕ → List Action
 emits_of_ended took = emits (each_bytes (texts_of_lines (ended_lines (take MOST_INPUT took))))
 
@@ -77,7 +77,7 @@ pub record IsCaused {A : Type 0} (before now : Faults) (result : Result A Stop) 
 abbrev pub ToldByFaults : {E : Type 0} → (E → Faults) → (E → Option World) → (Faults → Faults → ℕ → World → World → Type 0) → E → E → ℕ → Type 0
 ToldByFaults faults told R a b status = Told (R (faults a) (faults b) status) (told a) (told b)
 
--- where no count on input or output rose, and the input has at most 4294967296 bytes, the status is 0 or 7
+-- if no count on input or output rose, and the input has at most 4294967296 bytes, the status is 0 or 7
 abbrev pub EndsWell : Faults → Faults → ℕ → World → World → Type 0
 EndsWell before now status a b =
     (Rose before.input now.input → ⊥) → (Rose before.output now.output → ⊥) → length (a.left 0) ≤ MOST_INPUT

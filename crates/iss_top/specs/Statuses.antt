@@ -1,5 +1,5 @@
 -- The exit status of a run.
-use Rattle.std.specs.Prelude.{ℕ, Result, Ok, Err}
+use Rattle.std.specs.Prelude.{ℕ, List, [], ◌∷◌, Result, Ok, Err}
 use Rattle.iss_edge.specs.declared.status.TheConstants.{DONE, INPUT_FAULT, BAD_DEVICE, OUTPUT_FAULT, DISK_FAULT, OUT_OF_MEMORY, INPUT_TOO_LONG}
 use Rattle.iss_store.specs.declared.fault.OpenFault.{OpenFault}
 use Rattle.iss_store.specs.declared.fault.OpenFault.TheVariants as open_fault
@@ -16,6 +16,10 @@ status_of (Err Output) = OUTPUT_FAULT
 status_of (Err Disk) = DISK_FAULT
 status_of (Err Memory) = OUT_OF_MEMORY
 status_of (Err InputLong) = INPUT_TOO_LONG
+
+-- the statuses of a run that serves
+abbrev pub serve_statuses : List ℕ
+serve_statuses = DONE ∷ INPUT_FAULT ∷ BAD_DEVICE ∷ DISK_FAULT ∷ OUT_OF_MEMORY ∷ []
 
 -- what ends a run whose device doesn't open so
 abbrev pub stop_of_opening : OpenFault → Stop

@@ -14,7 +14,7 @@ pub record Replies (told : LineReply CoreState) (after : CoreState) (kept : Text
   pub state : after ≡ told.world
   pub texts : HasAll (each_bytes told.texts) kept
 
--- this state stands after a record, and the texts of its entries came behind those that were there
+-- this state stands after a record, and the texts of its entries came after those that were there
 pub record Records (before : CoreState) (r : Record) (after : CoreState) (old new : Texts) : Type 0 where
   pub state : after ≡ (step core_keeper before r).world
   pub texts : Gains (flat_map entry_texts (step core_keeper before r).entries) old new

@@ -1,14 +1,14 @@
 -- The words of a run, and what they ask for.
-use Rattle.std.specs.Prelude.{ℕ, ◌<◌, ◌≤◌, ◌^◌, Bool, not, ◌&&◌, ◌==◌, nat_le, nat_lt, List, [], ◌∷◌, length, map, slice_index, codes, String, string_bytes, Option, Some, None, if◌then◌else◌}
-use Rattle.std.specs.List.{list_all}
+use Rattle.std.specs.Prelude.{ℕ, ◌<◌, ◌≤◌, Bool, not, ◌&&◌, ◌==◌, nat_le, nat_lt, List, [], ◌∷◌, length, map, slice_index, codes, String, string_bytes, Option, Some, None, if◌then◌else◌}
 use Rattle.std.specs.Str.{bytes_eq}
 use Rattle.iss_edge.specs.declared.status.TheConstants.{DONE, USAGE, INPUT_FAULT, BAD_DEVICE, OUTPUT_FAULT, DISK_FAULT, OUT_OF_MEMORY, INPUT_TOO_LONG}
 use Rattle.iss_amount.specs.Digits.{number_in}
-use Rattle.iss_journal.specs.declared.layout.TheConstants.{INSTANCES, LEAST_SIZE, GREATEST_SIZE}
+use Rattle.iss_journal.specs.declared.layout.TheConstants.{HEADER_INSTANCES, LEAST_SIZE, GREATEST_SIZE}
 use Rattle.iss_drill.specs.declared.limits.TheConstants.{MOST_EVENTS}
 use Rattle.iss_top.specs.declared.words.TheConstants.{LONGEST_NAME, GREATEST_INSTANCE, GREATEST_PORT, MOST_TURNS}
 use Rattle.iss_top.specs.declared.words.Command.{Command}
 use Rattle.iss_top.specs.declared.words.Command.TheVariants.{Dry, Format, Replay, Balances, Serve, Drill}
+use Rattle.iss_top.specs.Statuses.{serve_statuses}
 
 -- a device's name: 1 to 4096 bytes, of which the first is no minus sign
 abbrev pub is_device : List ℕ → Bool
@@ -18,18 +18,18 @@ is_device word = nat_lt 0 (length word) && not (slice_index word 0 == 45) && nat
 abbrev pub on_device : Command → List ℕ → Option Command
 on_device command device = if is_device device then Some command else None
 
--- making so many events, where the number is there
+-- making this many events, if the number is there
 abbrev pub drill_of : Option ℕ → Option Command
 drill_of (Some n) = Some (Drill n)
 drill_of None = None
 
--- formatting, where both numbers are there
+-- formatting, if both numbers are there
 abbrev pub format_of : Option ℕ → Option ℕ → Option Command
 format_of (Some size) (Some instance) = Some (Format size instance)
 format_of (Some size) None = None
 format_of None instance = None
 
--- serving, where all three numbers are there
+-- serving, if all three numbers are there
 abbrev pub serve_of : Option ℕ → Option ℕ → Option ℕ → Option Command
 serve_of (Some port) (Some gateway) (Some turns) = Some (Serve port gateway turns)
 serve_of (Some port) (Some gateway) None = None
@@ -79,7 +79,7 @@ abbrev pub IsInRange : Command → Type 0
 IsInRange Dry = Unit {0}
 IsInRange Replay = Unit {0}
 IsInRange Balances = Unit {0}
-IsInRange (Format size instance) = (LEAST_SIZE ≤ size) × (size ≤ GREATEST_SIZE) × (instance < INSTANCES)
+IsInRange (Format size instance) = (LEAST_SIZE ≤ size) × (size ≤ GREATEST_SIZE) × (instance < HEADER_INSTANCES)
 IsInRange (Serve port gateway turns) =
     ((1 ≤ port) × (port ≤ GREATEST_PORT)) × ((1 ≤ gateway) × (gateway ≤ GREATEST_PORT)) × ((1 ≤ turns) × (turns ≤ MOST_TURNS))
 IsInRange (Drill n) = (1 ≤ n) × (n ≤ MOST_EVENTS)
@@ -90,11 +90,11 @@ statuses (Some Dry) = DONE ∷ INPUT_FAULT ∷ OUTPUT_FAULT ∷ OUT_OF_MEMORY �
 statuses (Some (Format size instance)) = DONE ∷ BAD_DEVICE ∷ DISK_FAULT ∷ []
 statuses (Some Replay) = DONE ∷ INPUT_FAULT ∷ BAD_DEVICE ∷ OUTPUT_FAULT ∷ DISK_FAULT ∷ OUT_OF_MEMORY ∷ INPUT_TOO_LONG ∷ []
 statuses (Some Balances) = DONE ∷ BAD_DEVICE ∷ OUTPUT_FAULT ∷ DISK_FAULT ∷ OUT_OF_MEMORY ∷ []
-statuses (Some (Serve port gateway turns)) = DONE ∷ INPUT_FAULT ∷ BAD_DEVICE ∷ DISK_FAULT ∷ OUT_OF_MEMORY ∷ []
+statuses (Some (Serve port gateway turns)) = serve_statuses
 statuses (Some (Drill n)) = DONE ∷ OUTPUT_FAULT ∷ OUT_OF_MEMORY ∷ []
 statuses None = USAGE ∷ []
 
--- where the words ask for a dry run, this holds
+-- if the words ask for a dry run, this holds
 abbrev pub OnDry : Option Command → Type 0 → Type 0
 OnDry (Some Dry) P = P
 OnDry (Some (Format size instance)) P = Unit {0}
@@ -104,7 +104,7 @@ OnDry (Some (Serve port gateway turns)) P = Unit {0}
 OnDry (Some (Drill n)) P = Unit {0}
 OnDry None P = Unit {0}
 
--- where the words ask for formatting, this holds of the size and the instance
+-- if the words ask for formatting, this holds of the size and the instance
 abbrev pub OnFormat : Option Command → (ℕ → ℕ → Type 0) → Type 0
 OnFormat (Some (Format size instance)) P = P size instance
 OnFormat (Some Dry) P = Unit {0}
@@ -114,7 +114,7 @@ OnFormat (Some (Serve port gateway turns)) P = Unit {0}
 OnFormat (Some (Drill n)) P = Unit {0}
 OnFormat None P = Unit {0}
 
--- where the words ask for a run on a device, this holds
+-- if the words ask for a run on a device, this holds
 abbrev pub OnReplay : Option Command → Type 0 → Type 0
 OnReplay (Some Replay) P = P
 OnReplay (Some Dry) P = Unit {0}
@@ -124,7 +124,7 @@ OnReplay (Some (Serve port gateway turns)) P = Unit {0}
 OnReplay (Some (Drill n)) P = Unit {0}
 OnReplay None P = Unit {0}
 
--- where the words ask for a report, this holds
+-- if the words ask for a report, this holds
 abbrev pub OnBalances : Option Command → Type 0 → Type 0
 OnBalances (Some Balances) P = P
 OnBalances (Some Dry) P = Unit {0}
@@ -134,7 +134,7 @@ OnBalances (Some (Serve port gateway turns)) P = Unit {0}
 OnBalances (Some (Drill n)) P = Unit {0}
 OnBalances None P = Unit {0}
 
--- where the words ask for serving, this holds of the turns
+-- if the words ask for serving, this holds of the turns
 abbrev pub OnServe : Option Command → (ℕ → Type 0) → Type 0
 OnServe (Some (Serve port gateway turns)) P = P turns
 OnServe (Some Dry) P = Unit {0}
@@ -144,7 +144,7 @@ OnServe (Some Balances) P = Unit {0}
 OnServe (Some (Drill n)) P = Unit {0}
 OnServe None P = Unit {0}
 
--- where the words ask for a drill, this holds of its number
+-- if the words ask for a drill, this holds of its number
 abbrev pub OnDrill : Option Command → (ℕ → Type 0) → Type 0
 OnDrill (Some (Drill n)) P = P n
 OnDrill (Some Dry) P = Unit {0}

@@ -1,5 +1,5 @@
 //! What a line is told.
-ghost use Rattle.std.specs.Prelude.{◌≡◌, ◌<◌, map, IfOk, OnOk, IsTrue};
+ghost use Rattle.std.specs.Prelude.{◌<◌, map, IfOk, OnOk, IsTrue};
 ghost use Rattle.iss_model.specs.declared.limits.TheConstants.{MOST_RECORDS};
 ghost use Rattle.iss_model.specs.Forms.{is_in_form, is_stamp, is_stamp_or_none};
 ghost use Rattle.iss_model.specs.rules.Judging.{judge};
@@ -20,7 +20,7 @@ use std::alloc::{AllocError, Global};
 /// The instance whose tokens stand in the texts of a dry run.
 pub(crate) const DRY_INSTANCE: u64 = 0;
 
-/// Takes a line that is not blank, adds what it is told to no texts, and returns the core after it.
+/// Takes a line that is not blank, writes what it is told into empty texts, and returns the core after it.
 pub(crate) fn answer(
     alloc: Global,
     core: Core,
@@ -42,8 +42,8 @@ pub(crate) fn answer(
     }
 }
 
-/// Judges the input of a line at its stamp. A new one is a record. One that isn't new gets its answer, after the record of
-/// its time where something is due by then.
+/// Judges the input of a line at its stamp. If it is new, it is a record. Else it gets its answer, after the record of its
+/// time if something is due by then.
 fn decide(alloc: Global, core: Core, said: &Line, texts: &mut Texts) -> Result<Core, AllocError>
     requires room { core.state.count < MOST_RECORDS }
     requires input_form { IsTrue (is_in_form said.now.input) }
@@ -88,7 +88,7 @@ fn take_up(
     Ok(next)
 }
 
-/// Adds that a time was taken, where the input is one.
+/// Adds that a time was taken, if the input is one.
 #[tactic(auto, using(iss_texts::proofs::Rows::none_more))]
 fn put_time_taken(input: &Input, texts: &mut Texts) -> Result<(), AllocError>
     ensures { OnOk result (Gains (map said_text (said_of_time input.now)) texts.old texts.new) }

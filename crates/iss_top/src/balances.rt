@@ -10,7 +10,7 @@ use iss_report::report;
 use iss_store::Store;
 use std::alloc::Global;
 
-/// Opens the device and writes the report of what stands on it, each line by one emit. All lines are made before the first one
+/// Opens the device and writes the report of what stands on it, each line by one emit. All lines are made before the first
 /// goes out.
 pub(crate) fn balances<E: Edge>(alloc: Global, edge: &mut E) -> Result<(), Stop>
     ensures ran { Told (ReportRun (status_of result)) (E.told edge.old) (E.told edge.new) }

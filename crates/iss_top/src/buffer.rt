@@ -1,12 +1,12 @@
 //! The line that is being read.
-ghost use Rattle.std.specs.Prelude.{◌≡◌, ◌≤◌, ◌+◌, [], length, fold, OnOk};
+ghost use Rattle.std.specs.Prelude.{◌≡◌, [], fold, OnOk};
 ghost use Rattle.iss_top.specs.Lines.{is_blank_byte, is_blank, kept_with};
 
 use iss_model::limits::LONGEST_LINE;
 use std::alloc::{AllocError, Global};
 use std::marker::Model;
 
-/// One byte more than a line may have, so that a longer line can be told from one that fits.
+/// One byte more than a line may have, so that a longer line differs from all that fit.
 const KEPT: usize = LONGEST_LINE + 1;
 
 /// The bytes of a line so far. Of a longer line it keeps enough to know that it is long, and whether it is blank.
@@ -81,7 +81,7 @@ fn push_kept(line: &mut Vec<u8>, byte: u8) -> Result<(), AllocError>
     Ok(())
 }
 
-/// Whether the line has spaces, tabs and carriage returns alone.
+/// Whether the line has only spaces, tabs and carriage returns.
 pub(crate) fn is_blank(line: &[u8]) -> bool
     ensures { result ≡ is_blank line.now }
 {

@@ -36,32 +36,32 @@ use std::alloc::Global;
 /// for the gateway, and takes event lines from clients over HTTP (RFC 9112), in at most TURNS waits; the ports are the outside's.
 /// `drill N` makes N events, takes them on a device in memory, and writes a line of what they came to.
 ///
-/// The statuses are 0 for a run that came to its end, 2 for words that are no command, 3 where the input or a wait failed, 4 where
-/// the device has another size or stands for no records, 5 where the output failed, 6 where a call on the device failed, 7 where an
-/// allocation failed, and 8 where the input has more than 4294967296 bytes.
+/// The statuses are 0 for a run that came to its end, 2 for words that are no command, 3 if the input or a wait failed, 4 if
+/// the device has another size or stands for no records, 5 if the output failed, 6 if a call on the device failed, 7 if an
+/// allocation failed, and 8 if the input has more than 4294967296 bytes.
 #[tactic(auto, using(crate::proofs::RunBytes::told_run, crate::proofs::RunBytes::told_emits, crate::proofs::RunBytes::told_stops, crate::proofs::Commands::told_ends_well, crate::proofs::ToldReplays::told_replay_ends_well, crate::proofs::ToldReports::told_report_ends_well, crate::proofs::Continues::transcripts_continue))]
 pub fn run<E: Edge>(alloc: Global, words: &[String], edge: &mut E) -> u8
-    // No other status, by the words.
+    // By the words there is no other status.
     ensures known { IsTrue (list_any (λ status. result == status) (statuses (command_in words.now))) }
 
-    // The words decide over 2, and then nothing is done.
+    // The status is 2 exactly if the words are no command, and then nothing is done.
     ensures usage { (result ≡ USAGE) ↔ (command_in words.now ≡ None) }
     ensures untouched { result ≡ USAGE → edge.new ≡ edge.old }
 
-    // Of formatting the device's size decides over 4, and then nothing is done.
+    // Formatting ends with 4 exactly if the device has another size, and then nothing is done.
     ensures other_size { OnFormat (command_in words.now) (λ size instance.
         (result ≡ BAD_DEVICE) ↔ (E.extent edge.old ≡ size → ⊥)) }
     ensures unwritten { OnFormat (command_in words.now) (λ size instance.
         result ≡ BAD_DEVICE → edge.new ≡ edge.old) }
 
-    // The outside is at fault where it is blamed.
+    // If a status blames the outside, that is at fault.
     ensures input_fault { result ≡ INPUT_FAULT → Rose (E.faults edge.old).input (E.faults edge.new).input }
     ensures output_fault { result ≡ OUTPUT_FAULT → Rose (E.faults edge.old).output (E.faults edge.new).output }
     ensures disk_fault { result ≡ DISK_FAULT → Rose (E.faults edge.old).disk (E.faults edge.new).disk }
 
-    // Of a dry run what went out is the transcript of the input's lines, or a prefix of it; 8 comes exactly at its number.
+    // A dry run writes the transcript of the input's lines, or a prefix of it. Its status is 8 exactly at its number of bytes.
     // Each text of the transcript goes out by an emit of its own, in their order.
-    // Where the outside isn't at fault, and the input isn't too long, it comes to its end, or an allocation fails.
+    // If the outside isn't at fault, and the input isn't too long, it comes to its end, or an allocation fails.
     ensures transcript { OnDry (command_in words.now)
         (Told (DryRun result) (E.told edge.old) (E.told edge.new)) }
     ensures emits { OnDry (command_in words.now)
@@ -79,7 +79,7 @@ pub fn run<E: Edge>(alloc: Global, words: &[String], edge: &mut E) -> u8
         (Told (ReplayRun result) (E.told edge.old) (E.told edge.new)) }
 
     // At whatever moment it stops, the device stands for the old records and a prefix of the accepted inputs that holds every one
-    // of which a byte went out, where it stood firmly for the old ones. Within the opening one record more may stand, which is left behind.
+    // of which a byte went out, if it stood firmly for the old ones. Within the opening a record that was left behind may stand too.
     ensures moments { OnReplay (command_in words.now)
         (Told EveryMomentStands (E.told edge.old) (E.told edge.new)) }
 
@@ -87,14 +87,14 @@ pub fn run<E: Edge>(alloc: Global, words: &[String], edge: &mut E) -> u8
     // records that it left, what the second is told, without the texts with which a run begins.
     ensures continues { OnReplay (command_in words.now) TranscriptsContinue }
 
-    // A device that stands for no records decides over 4. Where the outside isn't at fault, the input isn't too long and the device
-    // stands for records, the run comes to its end, or an allocation fails.
+    // The status is 4 exactly if the device stands for no records. If the outside isn't at fault, the input isn't too long and the
+    // device stands for records, the run comes to its end, or an allocation fails.
     ensures refused { OnReplay (command_in words.now)
         (Told (RefusesExactly result) (E.told edge.old) (E.told edge.new)) }
     ensures replay_complete { OnReplay (command_in words.now)
         (ToldByFaults E.faults E.told ReplayEndsWell edge.old edge.new result) }
 
-    // A report of a device that stands for records: what went out are its lines, each by an emit of its own, or some first ones of them,
+    // A report of a device that stands for records: what went out are its lines, each by an emit of its own, or the first of them,
     // and the device stands for the records, as it does at every moment. Nothing is taken.
     ensures reporting { OnBalances (command_in words.now)
         (Told (ReportRun result) (E.told edge.old) (E.told edge.new)) }
@@ -107,8 +107,8 @@ pub fn run<E: Edge>(alloc: Global, words: &[String], edge: &mut E) -> u8
 
     // A run that serves: what was heard and done is what the session of the device's records says, and at whatever moment it stops, the
     // device stands for the old records and a prefix of the accepted inputs that holds every one of which a byte went out, as above. At 0 no
-    // wait failed. A device that stands for no records decides over 4. Where device and input aren't at fault, it comes to its end, or an
-    // allocation fails.
+    // wait failed. The status is 4 exactly if the device stands for no records. If device and input aren't at fault, it comes to its end,
+    // or an allocation fails.
     ensures serving { OnServe (command_in words.now) (λ turns.
         ToldBoth E.told E.heard (ServeRun turns result) edge.old edge.new) }
     ensures serve_refused { OnServe (command_in words.now) (λ turns.

@@ -3,7 +3,7 @@ ghost use Rattle.std.specs.Prelude.{◌≡◌, ◌==◌, ◌≤◌, [], ◌∷�
 ghost use Rattle.std.specs.List.{list_any};
 ghost use Rattle.iss_edge.specs.World.{Told, Rose};
 ghost use Rattle.iss_drill.specs.declared.limits.TheConstants.{MOST_EVENTS};
-ghost use Rattle.iss_top.specs.DrillRuns.{drill_status, DrillRun, DrillEndsWell};
+ghost use Rattle.iss_top.specs.DrillRuns.{DrillRun, DrillEndsWell};
 
 use iss_drill::{DrillFault, drill};
 use iss_edge::Edge;

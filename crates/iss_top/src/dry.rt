@@ -1,5 +1,4 @@
 //! A dry run: the lines of channel 0 get their replies, with no device.
-ghost use Rattle.std.specs.Prelude.{◌≡◌};
 ghost use Rattle.iss_edge.specs.World.{Told};
 ghost use Rattle.iss_top.specs.Statuses.{status_of};
 ghost use Rattle.iss_top.specs.Runs.{Ran, IsCaused};

@@ -2,7 +2,7 @@
 ghost use Rattle.std.specs.Prelude.{◌≡◌, ◌==◌, ◌↔◌, ◌≤◌, ◌<◌, [], ◌∷◌, IsTrue};
 ghost use Rattle.std.specs.List.{list_any};
 ghost use Rattle.iss_edge.specs.World.{Rose};
-ghost use Rattle.iss_journal.specs.declared.layout.TheConstants.{INSTANCES, LEAST_SIZE, GREATEST_SIZE};
+ghost use Rattle.iss_journal.specs.declared.layout.TheConstants.{HEADER_INSTANCES, LEAST_SIZE, GREATEST_SIZE};
 ghost use Rattle.iss_top.specs.FormatRuns.{FormatRunOn};
 
 use iss_edge::Edge;
@@ -14,7 +14,7 @@ use iss_journal::Journal;
 pub(crate) fn format<E: Edge>(edge: &mut E, size: u64, instance: u64) -> u8
     requires least { LEAST_SIZE ≤ size }
     requires most { size ≤ GREATEST_SIZE }
-    requires small { instance < INSTANCES }
+    requires small { instance < HEADER_INSTANCES }
     ensures ran { FormatRunOn E.extent E.faults E.told edge.old edge.new size instance result }
     ensures known { IsTrue (list_any (λ status. result == status) (DONE ∷ BAD_DEVICE ∷ DISK_FAULT ∷ [])) }
     ensures other_size { (result ≡ BAD_DEVICE) ↔ (E.extent edge.old ≡ size → ⊥) }

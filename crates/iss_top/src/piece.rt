@@ -70,7 +70,7 @@ impl Pieces {
     }
 }
 
-/// So many bytes of zero.
+/// `len` zeros.
 fn zeros(alloc: Global, len: usize) -> Result<Vec<u8>, AllocError>
     ensures { IfOk result (λ bytes. length bytes.items ≡ len) }
 {

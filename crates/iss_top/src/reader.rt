@@ -53,7 +53,7 @@ impl LineReader {
         self.hand.line()
     }
 
-    /// Reads on to the next line, and tells whether there is one. Behind the last line feed one more begins, which may be empty.
+    /// Reads on to the next line, and tells whether there is one. After the last line feed one more begins, which may be empty.
     pub(crate) fn read_line<E: Edge>(&mut self, edge: &mut E) -> Result<bool, Stop>
         ensures reads { IfOk result (λ more.
             Told (ReadsOn more self.old self.new) (E.told edge.old) (E.told edge.new)) }
@@ -71,7 +71,7 @@ impl LineReader {
 #[derive(Drop)]
 pub(crate) struct AtHand {
     pub(crate) pieces: Pieces,
-    /// The line at hand lies here in the piece where none of it was kept.
+    /// Where the line at hand lies in the piece, if none of it was kept.
     pub(crate) start: usize,
     pub(crate) end: usize,
     /// What came of the line at hand in earlier pieces, and then all of it.
@@ -121,7 +121,7 @@ impl AtHand {
         }
     }
 
-    /// The line at hand ends so many bytes on. One that lies whole in the piece isn't copied.
+    /// The line at hand ends after `at` further bytes. If it lies whole in the piece, it isn't copied.
     fn end_line(&mut self, at: usize) -> Result<(), AllocError>
         requires fit { IsAtHand self.old }
         requires start { self.old.start ≡ 0 }

@@ -1,9 +1,10 @@
 //! A run that serves clients and the gateway over a device.
-ghost use Rattle.std.specs.Prelude.{◌≡◌, ◌==◌, [], ◌∷◌, IsTrue};
+ghost use Rattle.std.specs.Prelude.{◌≡◌, ◌==◌, IsTrue};
 ghost use Rattle.std.specs.List.{list_any};
 ghost use Rattle.iss_edge.specs.World.{Rose};
 ghost use Rattle.iss_edge.specs.Outer.{ToldBoth};
 ghost use Rattle.iss_device.specs.Refusals.{RefusesExactly};
+ghost use Rattle.iss_top.specs.Statuses.{serve_statuses};
 ghost use Rattle.iss_serve.specs.ServeRuns.{status_of, ServeRun, OfWorlds, ServeEndsWellOn};
 
 use iss_edge::Edge;
@@ -11,11 +12,10 @@ use iss_edge::status::{BAD_DEVICE, DISK_FAULT, DONE, INPUT_FAULT, OUT_OF_MEMORY}
 use iss_serve::{ServeFault, serve};
 use std::alloc::Global;
 
-/// Serves over the device in at most `turns` waits, and gives the exit status.
+/// Serves over the device in at most `turns` waits, and returns the exit status.
 #[tactic(auto, using(crate::proofs::ServedStatuses::input_caused, crate::proofs::ServedStatuses::disk_caused))]
 pub(crate) fn serve_on_device<E: Edge>(alloc: Global, turns: u32, edge: &mut E) -> u8
-    ensures known { IsTrue (list_any (λ status. result == status)
-        (DONE ∷ INPUT_FAULT ∷ BAD_DEVICE ∷ DISK_FAULT ∷ OUT_OF_MEMORY ∷ [])) }
+    ensures known { IsTrue (list_any (λ status. result == status) serve_statuses) }
     ensures serving { ToldBoth E.told E.heard (ServeRun turns result) edge.old edge.new }
     ensures refused { ToldBoth E.told E.heard (OfWorlds (RefusesExactly result)) edge.old edge.new }
     ensures complete { ServeEndsWellOn E.faults E.told E.heard edge.old edge.new result }
@@ -28,8 +28,7 @@ pub(crate) fn serve_on_device<E: Edge>(alloc: Global, turns: u32, edge: &mut E) 
 /// The exit status of a run that served so.
 fn served_status(served: Result<(), ServeFault>) -> u8
     ensures status { result ≡ status_of served }
-    ensures known { IsTrue (list_any (λ status. result == status)
-        (DONE ∷ INPUT_FAULT ∷ BAD_DEVICE ∷ DISK_FAULT ∷ OUT_OF_MEMORY ∷ [])) }
+    ensures known { IsTrue (list_any (λ status. result == status) serve_statuses) }
 {
     match served {
         Ok(()) => DONE,

@@ -61,7 +61,7 @@ fn tell_fault<E: Edge>(texts: &mut Texts, fault: &FormFault, edge: &mut E) -> Re
     }
 }
 
-/// Takes the input of a line at its stamp. A record that it makes lasts first; an input that makes none is told why.
+/// Takes the input of a line at its stamp. If it makes a record, that lasts first; else the input is told why.
 fn take_input<E: Edge>(
     alloc: Global,
     store: Store,

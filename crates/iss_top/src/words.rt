@@ -1,18 +1,18 @@
 //! What the words of a run ask for.
-ghost use Rattle.std.specs.Prelude.{◌≡◌, ◌≤◌, IfOk, IfSome};
+ghost use Rattle.std.specs.Prelude.{◌≡◌, IfOk, IfSome};
 ghost use Rattle.std.specs.Result.{result_ok};
 ghost use Rattle.iss_amount.specs.Digits.{number_in};
 ghost use Rattle.iss_top.specs.Words.{is_device, dry_command, two_word_command, drill_of, format_command, serve_command, command_in, IsInRange};
 
 use iss_amount::number_in;
 use iss_drill::limits::MOST_EVENTS;
-use iss_journal::layout::{GREATEST_SIZE, INSTANCES, LEAST_SIZE};
+use iss_journal::layout::{GREATEST_SIZE, HEADER_INSTANCES, LEAST_SIZE};
 
 /// The most bytes that the name of a device has.
 const LONGEST_NAME: usize = 4096;
 
 /// The greatest instance.
-const GREATEST_INSTANCE: u64 = INSTANCES - 1;
+const GREATEST_INSTANCE: u64 = HEADER_INSTANCES - 1;
 
 /// The greatest port.
 const GREATEST_PORT: u64 = 65_535;

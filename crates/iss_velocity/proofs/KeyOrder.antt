@@ -58,7 +58,7 @@ tails (x ∷ u) (y ∷ v) s t p q =
     (tails u v s t (and_parts (nat_lt 0 x) (has_no_zero u) p).1 (and_parts (nat_lt 0 y) (has_no_zero v) q).1)
     ∙ sym (regrouped (nat_cmp x y) (slice_cmp nat_cmp u v) (slice_cmp nat_cmp s t))
 
--- numbers below 0 by how many zeros they begin with, and then by what is behind
+-- numbers below 0 by how many zeros they begin with, and then by what follows
 zeros : (m n : ℕ) (s t : List ℕ) → slice_cmp nat_cmp (replicate m 0 ++ 1 ∷ s) (replicate n 0 ++ 1 ∷ t) ≡ ordering_then (nat_cmp n m) (slice_cmp nat_cmp s t)
 zeros zero zero s t = refl
 zeros zero (suc n) s t = sym (ap (λ (r : Ordering). ordering_then r (slice_cmp nat_cmp s t)) (zero_above_first n))
@@ -96,7 +96,7 @@ first_tells true false h = refl
 first_tells false true h = refl
 first_tells false false h = refl
 
--- what is behind is equal where the zeros are as many
+-- what follows is equal if the numbers of zeros are
 settled : (m n : ℕ) → ordering_then (nat_cmp n m) (ordering_then (nat_cmp m n) Equal) ≡ nat_cmp n m
 settled m n =
     ap (λ (r : Ordering). ordering_then (nat_cmp n m) r) (ended (nat_cmp m n) ∙ by_less m n)

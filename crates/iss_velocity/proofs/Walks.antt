@@ -75,7 +75,7 @@ at_append place (x ∷ xs) ys = at (x.place == place) (at_append place xs ys)
     at true rest = refl
     at false rest = rest
 
--- the counter at an index, its change and one that is put there
+-- the counter at an index, its change, and a counter that is put there
 got : (xs ys : List Counter) → slice_get (xs ++ ys) (length xs) ≡ slice_get ys 0
 got [] ys = refl
 got (x ∷ xs) ys = got xs ys
@@ -170,7 +170,7 @@ module _ (cs : List Counter) (next place : ℕ) (s : IsSplit cs next place) wher
             high = lower (place + 1) (y.place + 1) ys low parts.1;
           }
 
-  -- or before one that comes later
+  -- or before a counter that comes later
   pub waits : (c : Counter) → slice_get cs next ≡ Some c → (c.place == place) ≡ false → IsSplit cs next (place + 1)
   waits c e d =
       record {
@@ -207,7 +207,7 @@ module _ (cs : List Counter) (next place : ℕ) (s : IsSplit cs next place) wher
       nothing [] g = refl
       nothing (y ∷ ys) g = cc
 
-  -- another counter of the place in the place of the one that stands there
+  -- another counter of that place, put for the one that stands there
   pub put_split : (c d : Counter) → slice_get cs next ≡ Some c → (c.place == place) ≡ true → d.place ≡ c.place → IsSplit (set cs next d) next place
   put_split c d e h p = changed s.after s.joined s.high (sym split_get ∙ e)
     where

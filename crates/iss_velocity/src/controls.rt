@@ -73,7 +73,7 @@ impl Controls {
         self.table.put(number, control)
     }
 
-    /// Gives a control other limits, of an amount in minor units and of a count. False exactly if there is no control of that name.
+    /// Sets other limits of a control, of an amount in minor units and of a count. It returns false exactly if there is no control of that name.
     pub fn set_limit(&mut self, name: &Token, amount: Option<u64>, usage: Option<u32>) -> bool
         ensures known { result ≡ is_some (kept_named name.now self.old) }
         ensures set { self.new ≡ map (control_after_limits name.now amount usage) self.old }

@@ -3,7 +3,7 @@ ghost use Rattle.std.specs.Prelude.{◌≡◌, ◌+◌, ◌+ℤ◌, ◌==◌, �
 ghost use Rattle.std.specs.Option.{option_copied};
 ghost use Rattle.iss_model.specs.Forms.{is_stamp};
 ghost use Rattle.iss_model.specs.state.Kept.{IsSmall};
-ghost use Rattle.iss_velocity.specs.Counting.{at_place, in_span, or_else, past_at, used_in, used_more, counter_then};
+ghost use Rattle.iss_velocity.specs.Counting.{at_place, in_span, or_else, past_at, used_more, counter_then};
 ghost use Rattle.iss_velocity.specs.Lists.{rising_from, IsSplit, AreReady};
 ghost use Rattle.iss_velocity.specs.Keeping.{has_no_zero, IsSmallUse, StaySmall, FitsMore, FitMore, StaysSame, IsKeptPast, IsTurned, IsReady, IsCounted};
 
@@ -96,7 +96,7 @@ pub(crate) fn used_by(
     Some(used)
 }
 
-/// What a counter has counted in a span, if that is the one that was noted last.
+/// What a counter has counted in a span, if that is the last that was noted.
 fn last_used(counter: Option<&Counter>, number: i64) -> Option<Used>
     ensures { result ≡ in_span number (option_copied counter.entry) }
 {

@@ -5,7 +5,7 @@ ghost use Rattle.iss_velocity.specs.Counting.{past_at};
 use iss_model::{Token, Used};
 use std::collections::BTreeMap;
 
-/// What was counted in each span but the one that was noted last, by user, place of the control and number of the span.
+/// What was counted in each span but the last that was noted, by user, place of the control and number of the span.
 pub(crate) type Past = BTreeMap<(Token, (usize, i64)), Used>;
 
 /// What was counted in a span that isn't the last one.

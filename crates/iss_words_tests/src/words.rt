@@ -61,7 +61,7 @@ fn serve(alloc: Global) -> Result<Command<'static>, AllocError> {
         .arg(number(alloc, "turns", 1, 4_294_967_296))
 }
 
-/// Words that `clap` refuses, where it had the memory to read them.
+/// Words that `clap` refuses, though it had the memory to read them.
 fn refused(kind: ErrorKind) -> Result<bool, AllocError> {
     match kind {
         ErrorKind::OutOfMemory => Err(AllocError),
@@ -77,7 +77,7 @@ fn is_taken_by_clap(alloc: Global, words: &'static [&'static str]) -> Result<boo
     }
 }
 
-/// Whether the program takes the words behind its name.
+/// Whether the program takes the words after its name.
 fn is_taken(alloc: Global, words: &[&str]) -> Result<bool, AllocError> {
     let mut list = Vec::new(alloc);
     for word in words.get(1..).unwrap_or(&[]) {

@@ -1,6 +1,6 @@
 //! What an outside in memory notes of its calls: what was done, and what was answered.
 
-ghost use Rattle.std.specs.Prelude.{◌≡◌, ◌≤◌, ◌⊎◌, ◌++◌, ◌∷◌, [], take, true, false, Some, None, IfOk, IfSome, IfNone, OnOk, OnErr, IsTrue, IsSome};
+ghost use Rattle.std.specs.Prelude.{◌≡◌, ◌⊎◌, ◌++◌, ◌∷◌, [], take, true, false, Some, OnOk, OnErr, IsTrue};
 ghost use Rattle.iss_edge.specs.World.{Told, Later, Rose};
 ghost use Rattle.iss_edge.specs.Calls.{Hears, HearsNothing};
 ghost use Rattle.iss_edge.specs.Channels.{count_of};

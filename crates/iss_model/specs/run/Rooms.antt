@@ -4,6 +4,7 @@ use Rattle.iss_model.specs.declared.input.Record.{Record}
 use Rattle.iss_model.specs.declared.decision.Answer.TheVariants as answer
 use Rattle.iss_model.specs.declared.decision.Judged.{Judged}
 use Rattle.iss_model.specs.declared.decision.Judged.TheVariants as judged
+use Rattle.iss_model.specs.declared.layout.TheConstants.{GATE_SIZE, LENGTH_SIZE, RECORD_HEAD, HEADER_END, HALVES_START}
 use Rattle.iss_model.specs.declared.limits.TheConstants.{MOST_RECORDS}
 use Rattle.iss_model.specs.texts.Spelling.{spelling}
 
@@ -20,13 +21,13 @@ pub record Room : Type 0 where
 abbrev pub one_journal : ℕ → Room
 one_journal size = record { halved = false; size = size; second = false; point = 0; image = λ rs. [] }
 
--- a record takes its spelling, four bytes for its length and a byte for its gate
+-- a record takes its spelling, with its gate and its length before it
 abbrev pub need_of : Record → ℕ
-need_of r = 5 + length (spelling r)
+need_of r = RECORD_HEAD + length (spelling r)
 
--- the place of the gate at which these records end: the first gate is after the header of 16 bytes
+-- the place of the gate at which these records end: the first gate is right after the header
 abbrev pub end_gate : List Record → ℕ
-end_gate rs = fold (λ place r. place + need_of r) 16 rs
+end_gate rs = fold (λ place r. place + need_of r) HEADER_END rs
 
 -- what these records need together
 abbrev pub needs_of : List Record → ℕ
@@ -34,19 +35,19 @@ needs_of rs = fold (λ needs r. needs + need_of r) 0 rs
 
 -- the size of a half: the header and the byte that names the current half are before both
 abbrev pub half_size : ℕ → ℕ
-half_size size = (size - 17) / 2
+half_size size = (size - HALVES_START) / 2
 
--- The bytes that a turn leaves free in the half that it makes the current one: these records are in its image, which has four bytes for its
--- length before it, and the last byte is kept for the gate at the end.
+-- The bytes that a turn leaves free in the half that it makes the current one: these records are in its image, which has its length before it,
+-- and the last byte is kept for the gate at the end.
 abbrev pub free_turned : Room → List Record → ℕ
-free_turned room rs = half_size room.size - 5 - length (room.image rs)
+free_turned room rs = half_size room.size - (LENGTH_SIZE + GATE_SIZE) - length (room.image rs)
 
 -- The bytes that are free after these records, with no turn. In halves they are what the last turn left, less what the records after the point
 -- need. In one journal the last byte is kept for the gate at the end.
 abbrev pub free_in : Room → List Record → ℕ
 free_in room rs =
     if room.halved then free_turned room (take room.point rs) - needs_of (drop room.point rs)
-    else room.size - 1 - end_gate rs
+    else room.size - GATE_SIZE - end_gate rs
 
 -- the most bytes that one more record may need: those that are free, or in halves those that a turn leaves free if they are more
 abbrev pub most_free : Room → List Record → ℕ

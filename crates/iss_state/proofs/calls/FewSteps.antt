@@ -108,7 +108,7 @@ reversal_costs f token amount now =
     more (more (then (then (costs_either (nat_eq freed (in_all (parts_held f now.txn))) (comes_to 0 0 0 (more (none_costs 0)) (omega arith) (omega arith)) (none_costs 0))
     (told now.txn (some freed (more (none_costs 0))))) (more (none_costs 0))))
 
--- the notice of a last clearing is the one that its transaction leaves
+-- the notice of a last clearing is what its transaction leaves
 clearing_costs : (f : Facts) (token : List ℕ) (amount : ℕ) (last : Bool) (at : ℕ) (now : TxnNow) → ActsCost (clearing_acts f token amount last at (Some now)) 0 1 0
 clearing_costs f token amount last at now =
     let rest = left_of (parts_held f now.txn) (taken_to_clear (parts_held f now.txn) amount) in

@@ -50,7 +50,7 @@ abbrev pub with_all_closed : How → List CallNow → List CallNow → List Call
 with_all_closed how [] calls = calls
 with_all_closed how (k ∷ ks) calls = with_all_closed how ks (map (call_after_close k.opened.call.0 how) calls)
 
--- 0 where a test holds
+-- 0 if a test holds
 abbrev zero_where : Bool → ℕ → ℕ
 zero_where true n = 0
 zero_where false n = n

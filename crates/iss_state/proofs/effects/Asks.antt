@@ -43,7 +43,7 @@ end_paid s number f t parts why h stands has same =
 
 -- ---- asks
 
--- a transaction ends where a test holds
+-- a transaction ends if a test holds
 end_where : (s : CoreState) (b : Bool) (t : Txn) → IsOrderlyState s → Stands s t → Effect s (cond b (entry.Ended t.token ∷ []) []) 0 0 0 0
 end_where s true t h stands = end_effect s t h stands
 end_where s false t h stands = no_effect s h

@@ -84,7 +84,7 @@ comes_to n v c d h le also stake =
       orderly = h.orderly;
     }
 
--- a transaction stands after an effect, where it stood
+-- a transaction that stood stands after an effect
 pub stands_then : {s : CoreState} {es : List Entry} {m u a b : ℕ} (t : Txn) → Effect s es m u a b → Stands s t → Stands (fold after_entry s es) t
 stands_then t h stands = ap (λ (ts : List Txn). find (λ (x : Txn). bytes_eq x.token t.token) ts) h.txns ∙ stands
 

@@ -33,7 +33,7 @@ found_grows {A} p (x ∷ xs) ys h = by (p x) (found_grows p xs ys) h
     by true later h = refl
     by false later h = later h
 
--- where the last element passes, something is found
+-- if the last element passes, something is found
 pub found_last : {A : Type 0} (p : A → Bool) (xs : List A) (x : A) → p x ≡ true → is_some (find p (xs ++ x ∷ [])) ≡ true
 found_last p [] x h = ap (λ (b : Bool). is_some (cond b (Some x) None)) h
 found_last {A} p (y ∷ ys) x h = by (p y) (found_last p ys x h)

@@ -77,7 +77,7 @@ whole_more parts token part.P m =
 whole_more parts token part.S m =
     omega (arith, part_more parts (part_key token part.S) m token part.S (its_name token), part_same parts (part_key token part.S) (pos m) token part.G refl, part_same parts (part_key token part.S) (pos m) token part.P refl)
 
--- a hold of less takes its amount, where the part has it
+-- a hold of less takes its amount, if the part has it
 pub whole_less : (parts : Kept) (token : List ℕ) (p : Part) (m : ℕ) → m ≤ part_held parts token p → whole_held (after_changes parts (change_of (part_key token p) (neg_ℤ (pos m)))) token + m ≡ whole_held parts token
 whole_less parts token part.G m le =
     omega (arith, part_less parts (part_key token part.G) m token part.G (its_name token) le, part_same parts (part_key token part.G) (neg_ℤ (pos m)) token part.P refl, part_same parts (part_key token part.G) (neg_ℤ (pos m)) token part.S refl)

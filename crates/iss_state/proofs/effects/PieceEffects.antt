@@ -20,9 +20,9 @@ use Rattle.iss_state.proofs.effects.Effects.{calm_effect, comes_to, down_size, i
 use Rattle.iss_state.proofs.effects.Finds.{number_is}
 use Rattle.iss_state.proofs.effects.Parts.{part_less, part_same}
 
--- ---- what is left out where it comes to nothing
+-- ---- what is left out if it comes to nothing
 
--- entries that are left out where an amount is 0 have the effect that they have, where then no more is taken from what is at stake than is put there
+-- Entries that are left out if an amount is 0 have their effect anyway, if at 0 no more is taken from what is at stake than is put there.
 pub only_where_effect : {s : CoreState} {es : List Entry} {m u a b : ℕ} (amount : ℕ) → IsOrderlyState s → (amount ≡ 0 → b ≤ a) → Effect s es m u a b → Effect s (only_where amount es) m u a b
 only_where_effect {s} {es} {m} {u} {a} {b} amount h none effect = by (nat_eq amount 0) refl
   where
@@ -30,7 +30,7 @@ only_where_effect {s} {es} {m} {u} {a} {b} amount h none effect = by (nat_eq amo
     by true e = comes_to m u a b (no_effect s h) (omega arith) (omega arith) (omega (arith, none (number_is amount 0 e)))
     by false e = effect
 
--- entries for a gateway product alone have the effect that they have, where they take nothing from what is at stake
+-- Entries that are made only for a gateway product have their effect anyway, if they take nothing from what is at stake.
 pub only_gateway_effect : {s : CoreState} {es : List Entry} {m u a : ℕ} (t : Txn) → IsOrderlyState s → Effect s es m u a 0 → Effect s (only_gateway t es) m u a 0
 only_gateway_effect {s} {es} {m} {u} {a} t h effect = by (is_account_funded t.funding)
   where
@@ -38,7 +38,7 @@ only_gateway_effect {s} {es} {m} {u} {a} t h effect = by (is_account_funded t.fu
     by true = comes_to m u a 0 (no_effect s h) (omega arith) (omega arith) (omega arith)
     by false = effect
 
--- and they are calm where the entries are
+-- entries under a test are calm if the entries are
 pub calm_where : (b : Bool) (es : List Entry) → list_all is_calm es ≡ true → list_all is_calm (cond b [] es) ≡ true
 calm_where true es h = refl
 calm_where false es h = h

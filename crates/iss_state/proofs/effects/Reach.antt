@@ -37,7 +37,7 @@ within_sum : (n amount : ℕ) (sum more : ℤ) → IsWithin n sum → IsWithin a
 within_sum n amount sum more w v =
     record { low = omega (arith, ints, w.low, v.low); high = omega (arith, ints, w.high, v.high) }
 
--- changes that come to an amount at most at each key take sums so much further
+-- if changes come to at most an amount at each key, they take each sum at most that much further
 within_changed : (n amount : ℕ) (sums : Kept) (cs : List Change) → AreWithin n sums → ((key : List ℕ) → IsWithin amount (changed_at key cs)) → AreWithin (n + amount) (after_changes sums cs)
 within_changed n amount sums cs within each key =
     subst (λ (z : ℤ). IsWithin (n + amount) z) (sym (kept_at-after_changes sums cs key)) (within_sum n amount (kept_at sums key) (changed_at key cs) (within key) (each key))
@@ -166,7 +166,7 @@ sums_within_more m n u v s le also h =
       controls = counted_more u v s.controls also h.controls;
     }
 
--- where an entry leaves the sums alone, they reach no further
+-- if an entry leaves the sums alone, they reach no further
 same_sums : (m u : ℕ) (s t : CoreState) → t.balances ≡ s.balances → t.holdings.held ≡ s.holdings.held → t.holdings.parts ≡ s.holdings.parts → t.txn_sums ≡ s.txn_sums
     → t.stand_ins.stood ≡ s.stand_ins.stood → HaveCounted u t.controls → SumsAreWithin m u s → SumsAreWithin (m + 0) (u + 0) t
 same_sums m u s t balances held parts sums stood controls h =

@@ -1,4 +1,4 @@
--- Where entries are entered, each fits, each notice is the next one, and sums stay small.
+-- If entries are entered, each fits, each notice is the next one, and sums stay small.
 use Rattle.std.specs.Prelude.{Some}
 use Rattle.std.proofs.Common.{List, [], ap, arith, length, refl, sym, true, ℕ, ◌+◌, ◌<◌, ◌^◌, ◌∙◌, ◌∷◌, ◌≡◌, ◌≤◌}
 use Rattle.std.proofs.lemmas.Int.{ints}

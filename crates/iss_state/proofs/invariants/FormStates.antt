@@ -1,4 +1,4 @@
--- A state in form stays so where a record is taken up and where entries in form are entered.
+-- A state in form stays so when a record is taken up, and when entries in form are entered.
 use Rattle.std.specs.Prelude.{None, Option, Some, find, option_map}
 use Rattle.std.proofs.Common.{Bool, List, [], ap, ap₂, arith, cond, false, fold, map, max, nat_eq, nat_le, refl, sym, true, ℕ, ◌&&◌, ◌++◌, ◌<◌, ◌^◌, ◌∙◌, ◌∷◌, ◌≡◌, ◌≤◌}
 use Rattle.std.specs.List.{list_all}

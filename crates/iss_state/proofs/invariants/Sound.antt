@@ -1,4 +1,4 @@
--- What is sound stays sound where entries are paid, and where a transaction begins.
+-- What is sound stays sound if entries are paid, and if a transaction begins.
 use Rattle.std.proofs.Common.{Bool, List, [], ap, ap₂, arith, false, fold, nat_le, subst, sym, true, ℕ, ◌&&◌, ◌*◌, ◌++◌, ◌+◌, ◌∙◌, ◌∷◌, ◌≡◌, ◌≤◌}
 use Rattle.std.specs.List.{list_all}
 use Rattle.std.proofs.lemmas.List.{map-append}
@@ -20,7 +20,7 @@ use Rattle.iss_state.proofs.effects.TransactionsHeld.{held_after_begin, orderly_
 use Rattle.iss_state.specs.Sound.{IsSoundAt, is_accepted, reach_of}
 use Rattle.iss_state.proofs.invariants.Kept.{entries_accepted, entries_count}
 
--- each transaction began with one of so many records
+-- each transaction began with one of this many records
 abbrev up_to : ℕ → List Txn → Bool
 up_to count txns = list_all (λ t. nat_le t.origin count) txns
 
@@ -37,7 +37,7 @@ pub record Enters (records : ℕ) (s : CoreState) (es : List Entry) : Type 0 whe
 
 -- ---- entries that are paid
 
--- moves only add up, so where all of them are within a bound each part of them is
+-- moves only add up, so if all of them are within a bound, each part of them is
 all_within : (bound m u : ℕ) (s : CoreState) (es : List Entry) → SumsAreWithin m u s → m + total_of moved_money es ≤ bound → u + total_of moved_use es ≤ bound → AllAreWithin bound s es
 all_within bound m u s [] h le also = tt
 all_within bound m u s (e ∷ es) h le also =
@@ -46,7 +46,7 @@ all_within bound m u s (e ∷ es) h le also =
       all_within bound (m + moved_money e) (u + moved_use e) (after_entry s e) es first (omega (arith, le)) (omega (arith, also)),
     )
 
--- entries that are paid by what is at stake, and by so much more as further records bring, can be entered
+-- entries that are paid by what is at stake, and by what further records bring, can be entered
 pub paid_enters : {more_money more_use : ℕ} {s : CoreState} {es : List Entry} (n m : ℕ) → reach_of n + more_money ≤ reach_of m → reach_of n + more_use ≤ reach_of m
     → Paid more_money more_use s es → IsSoundAt n s → Enters m s es
 paid_enters {more_money} {more_use} {s} {es} n m money_brought use_brought p h =

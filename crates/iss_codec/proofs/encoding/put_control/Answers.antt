@@ -1,10 +1,10 @@
-use Rattle.std.proofs.Common.{rules, ◌≡◌, ◌++◌, OnOk, ℕ, ℤ, FitsSigned, w16, to_z, of_z, List, [], ◌∷◌, Result, Ok, Err, append_assoc, ap, ◌∙◌}
+use Rattle.std.proofs.Common.{rules, ◌≡◌, ◌++◌, OnOk, ℕ, FitsSigned, w16, List, [], ◌∷◌, Result, Ok, Err, append_assoc, ap, ◌∙◌}
 use Rattle.std.proofs.lemmas.Int.{to_z-of_z}
-use Rattle.iss_model.specs.Inputs.{with_length, flag_contents, window_number, association_contents}
-use Rattle.iss_model.specs.texts.Spelling.{currency_bytes, limits_bytes, scope_bytes, offset_bytes, field_bytes}
+use Rattle.iss_model.specs.Inputs.{with_length, window_number}
+use Rattle.iss_model.specs.texts.Spelling.{currency_bytes, limits_bytes, offset_bytes, field_bytes}
 use Rattle.iss_codec.proofs.encoding.put_control.Goals as goal
 
--- a text after what stands behind the first ones
+-- a text after what follows the first ones
 added : (o t p x q : List ℕ) → p ≡ o ++ t → q ≡ p ++ x → q ≡ o ++ (t ++ x)
 added o t p x q e h = h ∙ ap (λ (l : List ℕ). l ++ x) e ∙ append_assoc o t x
 

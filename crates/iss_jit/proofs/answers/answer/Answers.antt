@@ -9,7 +9,7 @@ use Rattle.iss_jit.proofs.answers.answer.Goals as goal
 
 pub returns-clause-refused : goal.returns-clause-refused
 returns-clause-refused c =
-    said_as (λ (o : Outcome). (o ≡ Refused) ↔ (c.args.status ≡ 402)) c.outcome_of.result _ c.outcome_of.ensures
+    said_as (λ (o : Outcome). (o ≡ Refused) ↔ (c.args.status ≡ REFUSED)) c.outcome_of.result _ c.outcome_of.ensures
     (refused_at c.args.instance c.args.opened.now c.args.status c.args.body.now)
 
 pub returns-clause-never_connection : goal.returns-clause-never_connection

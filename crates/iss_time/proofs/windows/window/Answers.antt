@@ -1,4 +1,4 @@
-use Rattle.std.proofs.Common.{◌≡◌, pos, FitsSigned, w16, w64, to_z, of_z, ap, ◌∙◌, arith, rules}
+use Rattle.std.proofs.Common.{◌≡◌, FitsSigned, w16, w64, to_z, of_z, ap, ◌∙◌, arith, rules}
 use Rattle.std.proofs.lemmas.Int.{ints, to_z-of_z}
 use Rattle.iss_model.specs.Calendar.{day_at}
 use Rattle.iss_time.proofs.MonthWindows.{month_window}
