@@ -123,9 +123,6 @@ application_exactly instance o (whole status body) = (
     by_whole : (instance : ℕ) (o : Opened) (status : ℕ) (body : List ℕ) (s : ℕ) (b : List ℕ) → whole status body ≡ whole s b → outcome_of instance o s b ≡ Application → outcome_of instance o status body ≡ Application
     by_whole instance o status body s b e so = cc
 
-same_number : (n : ℕ) → (n == n) ≡ true
-same_number n = grind (arith, nat_tests)
-
 is_number : (n m : ℕ) → (n == m) ≡ true → n ≡ m
 is_number n m e = grind (arith, nat_tests)
 

@@ -5,7 +5,7 @@ ghost use Rattle.iss_link.specs.Causes.{UnfinishedOnlyAt, ConnectionOnlyAt, Appl
 use iss_edge::Showing;
 
 /// What each answer on a link comes by. Nothing is heard only if bytes came and no answer is whole. A call isn't connected only if the
-/// take failed or the bytes ended early. For a refusal, an answer that decides nothing, an acknowledgement and none, the laws are exact.
+/// take failed or the bytes ended early. For a refusal, a part, an answer that decides nothing, an acknowledgement and none, the laws are exact.
 
 pub fn answers_are_caused()
     ensures unfinished { UnfinishedOnlyAt }

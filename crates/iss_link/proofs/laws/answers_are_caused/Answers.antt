@@ -1,4 +1,4 @@
-use Rattle.iss_link.proofs.Causing.{unfinished_only, connection_only, application_exactly, refused_exactly, acknowledged_exactly, dropped_exactly}
+use Rattle.iss_link.proofs.Causing.{unfinished_only, connection_only, application_exactly, refused_exactly, part_exactly, acknowledged_exactly, dropped_exactly}
 use Rattle.iss_link.proofs.laws.answers_are_caused.Goals as goal
 
 pub returns-clause-unfinished : goal.returns-clause-unfinished
@@ -12,6 +12,9 @@ returns-clause-application c = application_exactly
 
 pub returns-clause-refused : goal.returns-clause-refused
 returns-clause-refused c = refused_exactly
+
+pub returns-clause-part : goal.returns-clause-part
+returns-clause-part c = part_exactly
 
 pub returns-clause-acknowledged : goal.returns-clause-acknowledged
 returns-clause-acknowledged c = acknowledged_exactly
