@@ -3,6 +3,7 @@ use Rattle.std.proofs.Common.{◌≡◌, IsTrue}
 use Rattle.iss_model.specs.declared.input.Outcome.{Outcome}
 use Rattle.iss_model.specs.declared.input.Outcome.TheVariants.{Refused, Connection}
 use Rattle.iss_model.specs.Forms.{is_outcome}
+use Rattle.iss_jit.specs.declared.answers.TheConstants.{REFUSED}
 use Rattle.iss_jit.specs.Outcomes.{CountsIfPart}
 use Rattle.iss_jit.proofs.EachOutcome.{said_as, refused_at, no_connection, in_form, counts}
 use Rattle.iss_jit.proofs.answers.answer.Goals as goal
