@@ -100,7 +100,7 @@ FLAG = {"type": "boolean"}
 FORMS = {
     **dict.fromkeys(["token", "user", "card", "product", "group", "control", "set", "mid", "txn"], ref("Name")),
     **dict.fromkeys(["amount", "amount_limit", "max", "day_limit"], ref("Money")),
-    **dict.fromkeys(["active", "connection", "timeout", "application", "on", "final"], FLAG),
+    **dict.fromkeys(["active", "connection", "timeout", "application", "on", "final", "partial"], FLAG),
     **dict.fromkeys(["call", "notice"], ref("Number")),
     "currency": ref("Currency"),
     "usage_limit": whole(0, 1000000),
@@ -112,10 +112,18 @@ FORMS = {
     "to": words(*dict.fromkeys(CARD_STATES + USER_STATES)),
     "timeout_ms": whole(1, 60000),
     "hold_ms": whole(86400000, 2678400000),
-    "outcome": words("FUNDED", "REFUSED", "CONNECTION", "APPLICATION"),
+    "outcome": words("FUNDED", "REFUSED", "CONNECTION", "APPLICATION", "PARTIAL"),
 }
+# Fields that a rule alone tests: if it doesn't, they are ignored.
+BY_RULE = {"answer": ["currency", "amount"]}
 # What holds between the fields of a type.
 RULES = {
+    "answer": [{
+        "if": {"properties": {"outcome": {"const": "PARTIAL"}}, "required": ["outcome"]},
+        "then": {
+            "properties": {field: FORMS[field] for field in BY_RULE["answer"]}, "required": BY_RULE["answer"], "allOf": [ref("MoneySaid")],
+        },
+    }],
     "move": [{"oneOf": [
         {**present("card"), "allOf": [absent("user"), {"properties": {"to": words(*CARD_STATES)}}]},
         {**present("user"), "allOf": [absent("card"), {"properties": {"to": words(*USER_STATES)}}]},
@@ -175,6 +183,8 @@ def type_name(kind):
 def line_schema(kind, fields, text):
     properties = {"type": {"const": kind}}
     for name, is_optional, default in fields:
+        if name in BY_RULE.get(kind, []):
+            continue
         schema = nullable(FORMS[name]) if is_optional else FORMS[name]
         properties[name] = schema if default is None else {**schema, "default": default}
     required = ["type", *(name for name, is_optional, _ in fields if not is_optional)]
@@ -206,10 +216,11 @@ def lines_in():
 
 # ---- texts out
 
-def text_of(description, rules=(), **members):
-    """An object with exactly these members."""
+def text_of(description, rules=(), optional=(), **members):
+    """An object with exactly these members, of which some may be absent."""
     return {
-        "description": description, "type": "object", "properties": members, "required": list(members), "additionalProperties": False,
+        "description": description, "type": "object", "properties": members,
+        "required": [name for name in members if name not in optional], "additionalProperties": False,
         **({"allOf": list(rules)} if rules else {}),
     }
 
@@ -226,11 +237,14 @@ def fault_schemas():
 
 
 def reply_schemas():
-    states = ["FUNDED", "REFUSED", "CONNECTION", "TIMEOUT", "APPLICATION", "ABANDONED"]
+    states = ["FUNDED", "PARTIAL", "REFUSED", "CONNECTION", "TIMEOUT", "APPLICATION", "ABANDONED"]
     event, count = {"event": ref("Name")}, {"type": "integer", "minimum": 0}
     return {
         "Accepted": text_of("The event is done or approved, or it waits for the gateway.",
                             **event, reply=words("done", "approved", "pending")),
+        "PartlyAccepted": text_of("The authorisation is approved for a part of its amount.",
+                                  amount={"type": "string", "pattern": "^(0|[1-9][0-9]*)(\\.[0-9]{2,3})?$"}, **event,
+                                  reply={"const": "partial"}),
         "Declined": text_of("The event is declined.", **event, reason=ref("Reason"), reply={"const": "declined"}),
         "Conflict": text_of("The event's token stands with other fields, by the record of this number.",
                             **event, record=whole(1, 1073741823), reply={"const": "conflict"}),
@@ -247,13 +261,14 @@ def message_schemas():
     told = {"amount": {"type": "string"}, "currency": ref("Currency"), "user": ref("Name"), "txn": ref("Name")}
     request = {
         **told, "card": ref("Name"), "event": ref("Name"), "mcc": ref("CategoryCode"), "mid": ref("Name"), "number": ref("Number"),
-        "token": ref("CallToken"), "method": words("pgfs.authorization", "pgfs.authorization.incremental"),
+        "partial": {"const": True}, "token": ref("CallToken"), "method": words("pgfs.authorization", "pgfs.authorization.incremental"),
     }
     notice = {**told, "gateway": {"type": "string"}, "notice": ref("Number")}
     others = ["x.standin", "x.expiry", "pgfs.authorization.reversal", "pgfs.authorization.capture", "pgfs.refund"]
     rules = [ref("MoneyTold")]
     return {
-        "Request": text_of("Asks the gateway for the funds of a purchase, or of more of one.", rules, **dict(sorted(request.items()))),
+        "Request": text_of(
+            "Asks the gateway for the funds of a purchase, or of more of one.", rules, ["partial"], **dict(sorted(request.items()))),
         "Void": text_of("The call ended without an answer that decides: the gateway undoes or refuses its token.", rules,
                         **dict(sorted({**notice, "method": {"const": "x.void"}, "token": ref("CallToken")}.items()))),
         "Happened": text_of("Tells the gateway what happened.", rules, **dict(sorted({**notice, "method": words(*others)}.items()))),
@@ -293,11 +308,16 @@ def gateway_answers():
     plain = f"{digit}{{32}}"
     hyphens = "-".join(f"{digit}{{{count}}}" for count in (8, 4, 4, 4, 12))
     return {"Funding": {
-        "description": "Funds a request whose token and amount it has. Other members are ignored.",
+        "description": (
+            "Funds a request whose token and amount it has, or a part of it if the amount is smaller and the request has `partial`. Other "
+            "members are ignored."),
         "type": "object",
         "properties": {
             "token": {"type": "string", "pattern": f"^({hyphens}|{plain}|\\{{{hyphens}\\}}|urn:uuid:{hyphens})$"},
-            "amount": {"type": ["string", "integer"], "description": f"The request's own text, or as many whole units. {INTEGERS}"},
+            "amount": {
+                "type": ["string", "integer"],
+                "description": f"The request's own text, or as many whole units; or a part, written likewise. {INTEGERS}",
+            },
         },
         "required": ["token", "amount"],
     }}

@@ -67,7 +67,7 @@ def events():
             "requestBody": {"required": True, "content": body({"$ref": "#/$defs/ClientLine"}, PURCHASE)},
             "responses": {
                 "200": response("The event was decided, or it waits for the gateway; a decline is a decision.",
-                                ["Accepted", "Declined"], {"event": "a1", "reply": "approved"}),
+                                ["Accepted", "PartlyAccepted", "Declined"], {"event": "a1", "reply": "approved"}),
                 "400": response("The line has a fault of form, or the request one of HTTP. The same bytes will never do.",
                                 ["LineFault", "FieldFault", "HttpFault"], {"fault": "FIELD", "field": "type", "reply": "form"}),
                 "404": response("The path isn't `/events`.", ["HttpFault"], {"fault": "PATH", "reply": "http"}),
@@ -92,8 +92,9 @@ def gateway():
             "responses": {
                 "200": {
                     "description": (
-                        "Funds a request if the body has its token and amount; with another body it is no answer that decides. Acknowledges "
-                        "a notice, with any body or none. A Content-Length is needed, or the end of the connection."),
+                        "Funds a request if the body has its token and amount, or a part if the request permits one; with another body it is no "
+                        "answer that decides. Acknowledges a notice, with any body or none. A Content-Length is needed, or the end of the "
+                        "connection."),
                     "content": body({"$ref": "#/$defs/Funding"}, FUNDING),
                 },
                 "402": {"description": "Refuses a request, with any body."},

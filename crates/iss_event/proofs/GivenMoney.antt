@@ -1,25 +1,31 @@
 -- What holds of each input that the fields of a type about money or the gateway may give holds of what they give.
-use Rattle.std.proofs.Common.{◌≡◌, ℕ, Bool, true, false, List, Result, Ok, Err, IfOk}
+use Rattle.std.proofs.Common.{◌≡◌, ℕ, Bool, true, false, List, Result, Ok, Err, IfOk, refl}
 use Rattle.serde_json.specs.Data.{Data}
 use Rattle.serde_json.specs.Find.{as_bool}
 use Rattle.iss_model.specs.declared.limits.TheConstants.{FIRST_NUMBER, GREATEST_NUMBER}
 use Rattle.iss_model.specs.declared.currency.Currency.{Currency}
 use Rattle.iss_model.specs.declared.call.CallId.{CallId}
 use Rattle.iss_model.specs.declared.input.Outcome.{Outcome}
+use Rattle.iss_model.specs.declared.input.Outcome.TheVariants as outcome
 use Rattle.iss_model.specs.declared.input.Input.{Input}
 use Rattle.iss_model.specs.declared.input.Input.TheVariants as input
-use Rattle.iss_model.specs.Forms.{is_amount, is_mcc, is_number}
+use Rattle.iss_model.specs.Forms.{is_amount, is_mcc, is_number, is_outcome}
 use Rattle.iss_field.specs.declared.name.Name.{Name}
 use Rattle.iss_field.specs.declared.name.Name.TheVariants as name
+use Rattle.iss_field.specs.declared.words.OutcomeWord.{OutcomeWord}
+use Rattle.iss_field.specs.declared.words.OutcomeWord.TheVariants as word
 use Rattle.iss_field.specs.Fields.{◌>>=◌, required_field, optional_field_or}
 use Rattle.iss_field.specs.Values.{token_of, currency_of, amount_of, whole_within, mcc_of, outcome_of}
 use Rattle.iss_field.proofs.ValuesInForm.{Meets, amount_of-meets, whole_within-meets, mcc_of-meets}
 use Rattle.iss_field.proofs.FieldsInForm.{required-is}
 use Rattle.iss_event.specs.declared.payments.Operation.{Operation}
-use Rattle.iss_event.specs.Inputs.{load_input, authorization_input, operation_said, increment_input, reversal_input, clearing_input, refund_input, answer_input, ack_input}
+use Rattle.iss_event.specs.Inputs.{load_input, authorization_input, operation_said, increment_input, reversal_input, clearing_input, refund_input, part_said, outcome_said, answer_input, ack_input}
 
 abbrev Text : Type 0
 Text = Result (List ℕ) Name
+
+abbrev Flag : Type 0
+Flag = Result Bool Name
 
 abbrev Number : Type 0
 Number = Result ℕ Name
@@ -50,25 +56,26 @@ load-gives P d h =
 
 abbrev AuthorizationOf : (Input → Type 0) → Type 0
 AuthorizationOf P =
-    (token card : List ℕ) (currency : Currency) (amount mcc : ℕ) (mid : List ℕ) → is_amount amount ≡ true → is_mcc mcc ≡ true → P (input.Authorization token card currency amount mcc mid)
+    (token card : List ℕ) (currency : Currency) (amount mcc : ℕ) (mid : List ℕ) (partial : Bool)
+    → is_amount amount ≡ true → is_mcc mcc ≡ true → P (input.Authorization token card currency amount mcc mid partial)
 
-of_asked : (P : Input → Type 0) (token card : List ℕ) (currency : Currency) (a m : Number) (i : Text) → IfOk a (Meets is_amount) → IfOk m (Meets is_mcc) → AuthorizationOf P
-    → IfOk (a >>= λ amount. m >>= λ mcc. i >>= λ mid. Ok (input.Authorization token card currency amount mcc mid)) P
-of_asked P token card currency (Ok amount) (Ok mcc) (Ok mid) h g f = f token card currency amount mcc mid h g
-of_asked P token card currency _ _ _ h g f = tt
+of_asked : (P : Input → Type 0) (token card : List ℕ) (currency : Currency) (a m : Number) (i : Text) (b : Flag) → IfOk a (Meets is_amount) → IfOk m (Meets is_mcc) → AuthorizationOf P
+    → IfOk (a >>= λ amount. m >>= λ mcc. i >>= λ mid. b >>= λ partial. Ok (input.Authorization token card currency amount mcc mid partial)) P
+of_asked P token card currency (Ok amount) (Ok mcc) (Ok mid) (Ok partial) h g f = f token card currency amount mcc mid partial h g
+of_asked P token card currency _ _ _ _ h g f = tt
 
-of_authorization : (P : Input → Type 0) (t c : Text) (u : Result Currency Name) (a : Currency → Number) (m : Number) (i : Text)
+of_authorization : (P : Input → Type 0) (t c : Text) (u : Result Currency Name) (a : Currency → Number) (m : Number) (i : Text) (b : Flag)
     → ((currency : Currency) → IfOk (a currency) (Meets is_amount)) → IfOk m (Meets is_mcc) → AuthorizationOf P
-    → IfOk (t >>= λ token. c >>= λ card. u >>= λ currency. a currency >>= λ amount. m >>= λ mcc. i >>= λ mid. Ok (input.Authorization token card currency amount mcc mid)) P
-of_authorization P (Ok token) (Ok card) (Ok currency) a m i h g f = of_asked P token card currency (a currency) m i (h currency) g f
-of_authorization P _ _ _ a m i h g f = tt
+    → IfOk (t >>= λ token. c >>= λ card. u >>= λ currency. a currency >>= λ amount. m >>= λ mcc. i >>= λ mid. b >>= λ partial. Ok (input.Authorization token card currency amount mcc mid partial)) P
+of_authorization P (Ok token) (Ok card) (Ok currency) a m i b h g f = of_asked P token card currency (a currency) m i b (h currency) g f
+of_authorization P _ _ _ a m i b h g f = tt
 
 pub authorization-gives : (P : Input → Type 0) (d : Data) → AuthorizationOf P → IfOk (authorization_input d) P
 unfolding authorization_input
 authorization-gives P d h =
     of_authorization P (required_field token_of name.Token d) (required_field token_of name.Card d) (required_field currency_of name.Currency d)
     (λ currency. required_field (amount_of currency) name.Amount d) (required_field mcc_of name.Mcc d) (required_field token_of name.Mid d)
-    (amount-is d) (required-is mcc_of name.Mcc d (Meets is_mcc) mcc_of-meets) h
+    (optional_field_or as_bool false name.Partial d) (amount-is d) (required-is mcc_of name.Mcc d (Meets is_mcc) mcc_of-meets) h
 
 -- ---- operations on transactions
 
@@ -123,14 +130,44 @@ clearing-gives P d h = of_clearing P (operation_said d) (optional_field_or as_bo
 number-is : (which : Name) (d : Data) → IfOk (required_field (whole_within FIRST_NUMBER GREATEST_NUMBER) which d) (Meets is_number)
 number-is which d = required-is (whole_within FIRST_NUMBER GREATEST_NUMBER) which d (Meets is_number) (whole_within-meets FIRST_NUMBER GREATEST_NUMBER)
 
-of_answer : (P : Input → Type 0) (c : Number) (o : Result Outcome Name) → IfOk c (Meets is_number) → ((call : CallId) (outcome : Outcome) → is_number call.0 ≡ true → P (input.Answer call outcome))
-    → IfOk (c >>= λ call. o >>= λ outcome. Ok (input.Answer (record { 0 = call }) outcome)) P
-of_answer P (Ok call) (Ok outcome) h g = g (record { 0 = call }) outcome h
-of_answer P _ _ h g = tt
+abbrev IsOutcome : Outcome → Type 0
+IsOutcome o = is_outcome o ≡ true
 
-pub answer-gives : (P : Input → Type 0) (d : Data) → ((call : CallId) (outcome : Outcome) → is_number call.0 ≡ true → P (input.Answer call outcome)) → IfOk (answer_input d) P
+of_part : (currency : Currency) (a : Number) → IfOk a (Meets is_amount) → IfOk (a >>= λ amount. Ok (outcome.Partial currency amount)) IsOutcome
+of_part currency (Ok amount) h = h
+of_part currency (Err name) h = tt
+
+of_parts : (c : Result Currency Name) (a : Currency → Number) → ((currency : Currency) → IfOk (a currency) (Meets is_amount))
+    → IfOk (c >>= λ currency. a currency >>= λ amount. Ok (outcome.Partial currency amount)) IsOutcome
+of_parts (Ok currency) a h = of_part currency (a currency) (h currency)
+of_parts (Err name) a h = tt
+
+outcome-is : (w : OutcomeWord) (d : Data) → IfOk (outcome_said w d) IsOutcome
+unfolding part_said
+outcome-is word.Funded d = refl
+outcome-is word.Refused d = refl
+outcome-is word.Connection d = refl
+outcome-is word.Application d = refl
+outcome-is word.Partial d = of_parts (required_field currency_of name.Currency d) (λ currency. required_field (amount_of currency) name.Amount d) (amount-is d)
+
+abbrev AnswerOf : (Input → Type 0) → Type 0
+AnswerOf P = (call : CallId) (outcome : Outcome) → is_number call.0 ≡ true → is_outcome outcome ≡ true → P (input.Answer call outcome)
+
+of_answered : (P : Input → Type 0) (call : ℕ) (o : Result Outcome Name) → is_number call ≡ true → IfOk o IsOutcome → AnswerOf P
+    → IfOk (o >>= λ outcome. Ok (input.Answer (record { 0 = call }) outcome)) P
+of_answered P call (Ok outcome) h k g = g (record { 0 = call }) outcome h k
+of_answered P call (Err name) h k g = tt
+
+of_answer : (P : Input → Type 0) (c : Number) (w : Result OutcomeWord Name) (o : OutcomeWord → Result Outcome Name) → IfOk c (Meets is_number)
+    → ((w : OutcomeWord) → IfOk (o w) IsOutcome) → AnswerOf P → IfOk (c >>= λ call. w >>= λ word. o word >>= λ outcome. Ok (input.Answer (record { 0 = call }) outcome)) P
+of_answer P (Ok call) (Ok word) o h k g = of_answered P call (o word) h (k word) g
+of_answer P _ _ o h k g = tt
+
+pub answer-gives : (P : Input → Type 0) (d : Data) → AnswerOf P → IfOk (answer_input d) P
 unfolding answer_input
-answer-gives P d h = of_answer P (required_field (whole_within FIRST_NUMBER GREATEST_NUMBER) name.Call d) (required_field outcome_of name.Outcome d) (number-is name.Call d) h
+answer-gives P d h =
+    of_answer P (required_field (whole_within FIRST_NUMBER GREATEST_NUMBER) name.Call d) (required_field outcome_of name.Outcome d) (λ w. outcome_said w d)
+    (number-is name.Call d) (λ w. outcome-is w d) h
 
 of_ack : (P : Input → Type 0) (n : Number) → IfOk n (Meets is_number) → ((notice : ℕ) → is_number notice ≡ true → P (input.Ack notice)) → IfOk (n >>= λ notice. Ok (input.Ack notice)) P
 of_ack P (Ok notice) h g = g notice h

@@ -1,20 +1,22 @@
 -- The lines of the definitions, piece by piece.
-use Rattle.std.proofs.Common.{◌≡◌, ℕ, List, [], ◌∷◌, ◌++◌, codes, decimal, Result, Ok, Err, is_ok, cond, OnOk, refl, sym, ap, ◌∙◌, append_assoc}
+use Rattle.std.proofs.Common.{◌≡◌, ℕ, pos, List, [], ◌∷◌, ◌++◌, codes, decimal, Result, Ok, Err, is_ok, cond, OnOk, refl, sym, ap, ◌∙◌, append_assoc}
 use Rattle.std.proofs.lemmas.Result.{on_ok_weaker}
 use Rattle.iss_model.specs.declared.call.CallId.{CallId}
 use Rattle.iss_model.specs.declared.call.How.{How}
+use Rattle.iss_model.specs.declared.currency.Currency.{Currency}
 use Rattle.iss_model.specs.declared.decision.Reason.{Reason}
-use Rattle.iss_model.specs.declared.decision.Verdict.TheVariants.{Done, Approved, Declined}
+use Rattle.iss_model.specs.declared.decision.Verdict.TheVariants.{Done, Approved, Partial, Declined}
 use Rattle.iss_model.specs.declared.decision.Reply.{Reply}
 use Rattle.iss_model.specs.declared.decision.Reply.TheVariants.{Decided, Pending}
 use Rattle.iss_model.specs.declared.decision.Answer.TheVariants as answer
+use Rattle.iss_model.specs.Amounts.{amount_text}
 use Rattle.iss_model.specs.texts.Wordings.{reason_text, reply_line, fault_line}
 use Rattle.iss_model.specs.texts.AnswerLines.{how_text, answer_text, acked_line}
 use Rattle.iss_field.specs.declared.name.Name.{Name}
 use Rattle.iss_event.specs.declared.line.FormFault.TheVariants.{Field}
 use Rattle.iss_field.specs.Names.{name_text}
 use Rattle.iss_event.specs.FormLines.{form_text}
-use Rattle.iss_event.specs.Replies.{declined_end, reply_end}
+use Rattle.iss_event.specs.Replies.{part_start, reply_start, declined_end, reply_end}
 
 pub four : (a b c d : List ℕ) → a ++ b ++ c ++ d ≡ a ++ (b ++ (c ++ d))
 four a b c d = append_assoc (a ++ b) c d ∙ append_assoc a b (c ++ d)
@@ -38,16 +40,34 @@ declined event why =
     quoted event (codes ",\"reason\":\"" ++ (why ++ (34 ∷ []) ++ codes ",\"reply\":\"declined\""))
     ∙ ap (λ (t : List ℕ). event ++ (codes "\",\"reason\":\"" ++ t)) (four why (34 ∷ []) (codes ",\"reply\":\"declined\"") (codes "}\n"))
 
-pub reply : (event : List ℕ) (r : Reply) → reply_line event r ≡ codes "{\"event\":\"" ++ (event ++ reply_end r)
+part : (amount event : List ℕ) → amount ++ (34 ∷ []) ++ (codes ",\"event\":\"" ++ (event ++ (34 ∷ []) ++ codes ",\"reply\":\"partial\"")) ++ (125 ∷ []) ++ (10 ∷ [])
+    ≡ amount ++ (codes "\",\"event\":\"" ++ (event ++ codes "\",\"reply\":\"partial\"}\n"))
+part amount event =
+    quoted amount (codes ",\"event\":\"" ++ (event ++ (34 ∷ []) ++ codes ",\"reply\":\"partial\""))
+    ∙ ap (λ (t : List ℕ). amount ++ (codes "\",\"event\":\"" ++ t)) (four event (34 ∷ []) (codes ",\"reply\":\"partial\"") (codes "}\n"))
+
+-- what stands before an event, and the event with what follows it
+begun : (a t b more : List ℕ) → a ++ (t ++ (b ++ more)) ≡ (a ++ (t ++ b)) ++ more
+begun a t b more = ap (λ (l : List ℕ). a ++ l) (sym (append_assoc t b more)) ∙ sym (append_assoc a (t ++ b) more)
+
+pub reply : (event : List ℕ) (r : Reply) → reply_line event r ≡ reply_start r ++ (event ++ reply_end r)
 unfolding reply_line
 reply event (Decided Done) = ap (λ (t : List ℕ). codes "{\"event\":\"" ++ t) (quoted event (codes ",\"reply\":\"done\""))
 reply event (Decided Approved) = ap (λ (t : List ℕ). codes "{\"event\":\"" ++ t) (quoted event (codes ",\"reply\":\"approved\""))
+reply event (Decided (Partial currency amount)) =
+    let text = amount_text (pos amount) currency in
+    ap (λ (t : List ℕ). codes "{\"amount\":\"" ++ t) (part text event)
+    ∙ begun (codes "{\"amount\":\"") text (codes "\",\"event\":\"") (event ++ codes "\",\"reply\":\"partial\"}\n")
 reply event (Decided (Declined why)) = ap (λ (t : List ℕ). codes "{\"event\":\"" ++ t) (declined event (reason_text why))
 reply event Pending = ap (λ (t : List ℕ). codes "{\"event\":\"" ++ t) (quoted event (codes ",\"reply\":\"pending\""))
 
 -- ---- the same after other bytes
-pub reply_after : (old event : List ℕ) (r : Reply) → old ++ codes "{\"event\":\"" ++ event ++ reply_end r ≡ old ++ reply_line event r
-reply_after old event r = rw (reply event r) (four old (codes "{\"event\":\"") event (reply_end r))
+pub reply_after : (old event : List ℕ) (r : Reply) → old ++ reply_start r ++ event ++ reply_end r ≡ old ++ reply_line event r
+reply_after old event r = rw (reply event r) (four old (reply_start r) event (reply_end r))
+
+pub part_after : (old : List ℕ) (currency : Currency) (amount : ℕ)
+    → old ++ codes "{\"amount\":\"" ++ amount_text (pos amount) currency ++ codes "\",\"event\":\"" ≡ old ++ part_start currency amount
+part_after old currency amount = four old (codes "{\"amount\":\"") (amount_text (pos amount) currency) (codes "\",\"event\":\"")
 
 pub declined_after : (old : List ℕ) (why : Reason) → old ++ codes "\",\"reason\":\"" ++ reason_text why ++ codes "\",\"reply\":\"declined\"}\n" ≡ old ++ declined_end why
 declined_after old why = four old (codes "\",\"reason\":\"") (reason_text why) (codes "\",\"reply\":\"declined\"}\n")

@@ -46,12 +46,12 @@ input-in_form kind.Control d =
 input-in_form kind.Set d = set-gives InForm d (λ token set product currency connection timeout application max day_limit active most day. two _ _ most day)
 input-in_form kind.Switch d = switch-gives InForm d (λ token product on. refl)
 input-in_form kind.Load d = load-gives InForm d (λ token user currency amount form. form)
-input-in_form kind.Authorization d = authorization-gives InForm d (λ token card currency amount mcc mid form code. two _ _ form code)
+input-in_form kind.Authorization d = authorization-gives InForm d (λ token card currency amount mcc mid partial form code. two _ _ form code)
 input-in_form kind.Increment d = increment-gives InForm d (λ o form. form)
 input-in_form kind.Reversal d = reversal-gives InForm d (λ o form. form)
 input-in_form kind.Clearing d = clearing-gives InForm d (λ o last form. form)
 input-in_form kind.Refund d = refund-gives InForm d (λ o form. form)
-input-in_form kind.Answer d = answer-gives InForm d (λ call outcome form. form)
+input-in_form kind.Answer d = answer-gives InForm d (λ call outcome form part. two _ _ form part)
 input-in_form kind.Ack d = ack-gives InForm d (λ notice form. form)
 input-in_form kind.Time d = refl
 

@@ -4,6 +4,8 @@ use Rattle.serde_json.specs.Data.{Data}
 use Rattle.serde_json.specs.Find.{as_bool}
 use Rattle.iss_model.specs.declared.limits.TheConstants.{DEFAULT_TIMEOUT, DEFAULT_HOLD, SHORTEST_TIMEOUT, LONGEST_TIMEOUT, SHORTEST_HOLD, LONGEST_HOLD, GREATEST_USAGE, FIRST_NUMBER, GREATEST_NUMBER}
 use Rattle.iss_model.specs.declared.currency.Currency.{Currency}
+use Rattle.iss_model.specs.declared.input.Outcome.{Outcome}
+use Rattle.iss_model.specs.declared.input.Outcome.TheVariants as outcome
 use Rattle.iss_model.specs.declared.input.Input.{Input}
 use Rattle.iss_model.specs.declared.input.Input.TheVariants as input
 use Rattle.iss_model.specs.declared.setting.Moved.{Moved}
@@ -16,6 +18,8 @@ use Rattle.iss_model.specs.declared.setting.Scope.{Scope}
 use Rattle.iss_model.specs.declared.setting.Scope.TheVariants as scope
 use Rattle.iss_field.specs.declared.name.Name.{Name}
 use Rattle.iss_field.specs.declared.name.Name.TheVariants as name
+use Rattle.iss_field.specs.declared.words.OutcomeWord.{OutcomeWord}
+use Rattle.iss_field.specs.declared.words.OutcomeWord.TheVariants as word
 use Rattle.iss_field.specs.Fields.{◌>>=◌, field, form_if, required_field, required_field_unless, optional_field, optional_field_or}
 use Rattle.iss_field.specs.Values.{token_of, currency_of, amount_of, limit_of, whole_within, mcc_of, mccs_of, funding_of, window_of, offset_of, outcome_of, card_state_of, user_state_of}
 use Rattle.iss_event.specs.declared.kind.Kind.{Kind}
@@ -179,7 +183,7 @@ load_input d = do
   amount ← required_field (amount_of currency) name.Amount d
   Ok (input.Load token user currency amount)
 
--- a merchant asks whether a card may pay
+-- a merchant asks whether a card may pay; no part will do if the line doesn't tell otherwise
 unfoldable pub authorization_input : Data → Result Input Name
 authorization_input d = do
   token ← required_field token_of name.Token d
@@ -188,7 +192,8 @@ authorization_input d = do
   amount ← required_field (amount_of currency) name.Amount d
   mcc ← required_field mcc_of name.Mcc d
   mid ← required_field token_of name.Mid d
-  Ok (input.Authorization token card currency amount mcc mid)
+  partial ← optional_field_or as_bool false name.Partial d
+  Ok (input.Authorization token card currency amount mcc mid partial)
 
 -- what every operation on a transaction has
 unfoldable pub operation_said : Data → Result Operation Name
@@ -226,11 +231,27 @@ refund_input d = do
 
 -- ---- the gateway
 
+-- a part of a call's amount
+unfoldable pub part_said : Data → Result Outcome Name
+part_said d = do
+  currency ← required_field currency_of name.Currency d
+  amount ← required_field (amount_of currency) name.Amount d
+  Ok (outcome.Partial currency amount)
+
+-- the outcome of this word; only a part has a currency and an amount
+abbrev pub outcome_said : OutcomeWord → Data → Result Outcome Name
+outcome_said word.Funded d = Ok outcome.Funded
+outcome_said word.Refused d = Ok outcome.Refused
+outcome_said word.Connection d = Ok outcome.Connection
+outcome_said word.Application d = Ok outcome.Application
+outcome_said word.Partial d = part_said d
+
 -- the gateway answered a call
 unfoldable pub answer_input : Data → Result Input Name
 answer_input d = do
   call ← required_field (whole_within FIRST_NUMBER GREATEST_NUMBER) name.Call d
-  outcome ← required_field outcome_of name.Outcome d
+  word ← required_field outcome_of name.Outcome d
+  outcome ← outcome_said word d
   Ok (input.Answer (record { 0 = call }) outcome)
 
 -- the gateway acknowledged a notice

@@ -1,7 +1,7 @@
 //! The input of a line of each type.
 ghost use Rattle.std.specs.Prelude.{◌≡◌, IfOk};
 ghost use Rattle.iss_field.specs.Seen.{seen};
-ghost use Rattle.iss_event.specs.Inputs.{answer_input, ack_input, input_of_kind};
+ghost use Rattle.iss_event.specs.Inputs.{part_said, outcome_said, answer_input, ack_input, input_of_kind};
 
 use crate::kind::Kind;
 use crate::payments::{
@@ -11,9 +11,9 @@ use crate::settings::{
     card_input, control_input, group_input, move_input, product_input, set_input, switch_input,
     user_input,
 };
-use iss_field::{Name, NumberForm, Object, OutcomeForm};
+use iss_field::{AmountForm, CurrencyForm, Name, NumberForm, Object, OutcomeForm, OutcomeWord};
 use iss_model::limits::{FIRST_NUMBER, GREATEST_NUMBER};
-use iss_model::{CallId, Input};
+use iss_model::{CallId, Input, Outcome};
 use std::alloc::{AllocError, Global};
 
 /// The numbers of calls and notices.
@@ -53,8 +53,31 @@ fn answer_input(line: &Object<'_>) -> Result<Input, Name>
     ensures { result ≡ answer_input (seen line.now.value) }
 {
     let call = CallId(line.required(Name::Call, NUMBERS)?);
-    let outcome = line.required(Name::Outcome, OutcomeForm)?;
+    let word = line.required(Name::Outcome, OutcomeForm)?;
+    let outcome = outcome_said(word, line)?;
     Ok(Input::Answer { call, outcome })
+}
+
+/// The outcome of this word. Only a part has a currency and an amount.
+fn outcome_said(word: OutcomeWord, line: &Object<'_>) -> Result<Outcome, Name>
+    ensures { result ≡ outcome_said word (seen line.now.value) }
+{
+    match word {
+        OutcomeWord::Funded => Ok(Outcome::Funded),
+        OutcomeWord::Refused => Ok(Outcome::Refused),
+        OutcomeWord::Connection => Ok(Outcome::Connection),
+        OutcomeWord::Application => Ok(Outcome::Application),
+        OutcomeWord::Partial => part_said(line),
+    }
+}
+
+#[tactic(auto, unfolding(crate::specs::Inputs::part_said))]
+fn part_said(line: &Object<'_>) -> Result<Outcome, Name>
+    ensures { result ≡ part_said (seen line.now.value) }
+{
+    let currency = line.required(Name::Currency, CurrencyForm)?;
+    let amount = line.required(Name::Amount, AmountForm(currency))?;
+    Ok(Outcome::Partial(currency, amount))
 }
 
 #[tactic(auto, unfolding(crate::specs::Inputs::ack_input))]

@@ -40,6 +40,7 @@ pub(crate) fn authorization_input(line: &Object<'_>) -> Result<Input, Name>
     let amount = line.required(Name::Amount, AmountForm(currency))?;
     let mcc = line.required(Name::Mcc, MccForm)?;
     let mid = line.required(Name::Mid, TokenForm)?;
+    let partial = line.optional_or(Name::Partial, FlagForm, false)?;
     Ok(Input::Authorization {
         token,
         card,
@@ -47,6 +48,7 @@ pub(crate) fn authorization_input(line: &Object<'_>) -> Result<Input, Name>
         amount,
         mcc,
         mid,
+        partial,
     })
 }
 

@@ -5,12 +5,13 @@ ghost use Rattle.iss_model.specs.texts.Wordings.{reply_line, fault_line};
 ghost use Rattle.iss_model.specs.declared.decision.Answer.TheVariants as answer;
 ghost use Rattle.iss_event.specs.declared.line.FormFault.TheVariants.{Field};
 ghost use Rattle.iss_event.specs.FormLines.{form_text};
-ghost use Rattle.iss_event.specs.Replies.{reply_end, declined_end};
+ghost use Rattle.iss_event.specs.Replies.{reply_start, part_start, reply_end, declined_end};
 
 use crate::FormFault;
 use crate::reason::put_reason;
+use iss_amount::put_amount_text;
 use iss_field::Name;
-use iss_model::{Answer, CallId, Failure, How, Reason, Reply, Token, Verdict};
+use iss_model::{Answer, CallId, Currency, Failure, How, Reason, Reply, Token, Verdict};
 use itoa::Buffer;
 use std::alloc::{AllocError, Global};
 
@@ -64,7 +65,7 @@ pub fn form_line(alloc: Global, fault: &FormFault) -> Result<Vec<u8>, AllocError
 pub fn put_reply(out: &mut Vec<u8>, event: &Token, reply: &Reply) -> Result<(), AllocError>
     ensures { OnOk result (out.new.items ≡ out.old.items ++ reply_line event.now reply.now) }
 {
-    out.extend_from_slice(b"{\"event\":\"")?;
+    put_reply_start(out, reply)?;
     out.extend_from_slice(event.text())?;
     put_reply_end(out, reply)
 }
@@ -137,12 +138,35 @@ fn put_bad_field(out: &mut Vec<u8>, name: Name) -> Result<(), AllocError>
     )
 }
 
+fn put_reply_start(out: &mut Vec<u8>, reply: &Reply) -> Result<(), AllocError>
+    ensures { OnOk result (out.new.items ≡ out.old.items ++ reply_start reply.now) }
+{
+    match reply {
+        Reply::Decided(Verdict::Partial(currency, amount)) => {
+            put_part_start(out, *currency, *amount)
+        }
+        Reply::Decided(Verdict::Done | Verdict::Approved | Verdict::Declined(_)) | Reply::Pending =>
+            out.extend_from_slice(b"{\"event\":\""),
+    }
+}
+
+fn put_part_start(out: &mut Vec<u8>, currency: Currency, amount: u64) -> Result<(), AllocError>
+    ensures { OnOk result (out.new.items ≡ out.old.items ++ part_start currency amount) }
+{
+    out.extend_from_slice(b"{\"amount\":\"")?;
+    put_amount_text(out, amount, currency)?;
+    out.extend_from_slice(b"\",\"event\":\"")
+}
+
 fn put_reply_end(out: &mut Vec<u8>, reply: &Reply) -> Result<(), AllocError>
     ensures { OnOk result (out.new.items ≡ out.old.items ++ reply_end reply.now) }
 {
     match reply {
         Reply::Decided(Verdict::Done) => out.extend_from_slice(b"\",\"reply\":\"done\"}\n"),
         Reply::Decided(Verdict::Approved) => out.extend_from_slice(b"\",\"reply\":\"approved\"}\n"),
+        Reply::Decided(Verdict::Partial(..)) => {
+            out.extend_from_slice(b"\",\"reply\":\"partial\"}\n")
+        }
         Reply::Decided(Verdict::Declined(reason)) => put_declined_end(out, reason),
         Reply::Pending => out.extend_from_slice(b"\",\"reply\":\"pending\"}\n"),
     }
@@ -243,6 +267,7 @@ fn how_text(how: How) -> &'static str
 {
     match how {
         How::Funded => "FUNDED",
+        How::Partial(_) => "PARTIAL",
         How::Refused => "REFUSED",
         How::Failed(Failure::Connection) => "CONNECTION",
         How::Failed(Failure::Timeout) => "TIMEOUT",

@@ -1,5 +1,5 @@
 //! What a gateway's answers come to, and the tokens of calls.
-use iss_jit::answer;
+use iss_jit::{answer, request_text};
 use iss_model::{CallId, Currency, Method, Opened, Outcome, Token};
 use std::alloc::{AllocError, Global};
 use std::test::Fail;
@@ -19,6 +19,7 @@ fn purchase() -> Option<Opened> {
         mcc: 5411,
         mid: name,
         amount: 6000,
+        partial: false,
         at: 1000,
         deadline: 4000,
     })
@@ -95,6 +96,56 @@ fn bodies_with_their_outcomes(rt: HostRuntime) -> Result<(), Fail> {
         b"{\"amount\":60,\"token\":\"00000000-0000-8000-8000-000000000001\",\"x\":\"\xff\"}";
     let said = answer(rt.alloc(), 200, no_text, &asked, 0)?;
     assert_eq!(rt; said, Outcome::Application);
+    Ok(())
+}
+
+/// Bodies that fund a part of the call, if it permits one.
+const PARTS: &str = r#"{"token":"00000000-0000-8000-8000-000000000001","amount":40,"x":1}
+{"amount":"40.00","token":"00000000-0000-8000-8000-000000000001"}
+{"amount":60,"token":"00000000000080008000000000000001","amount":"40.00"}"#;
+
+/// Bodies that fund nothing of it, though it permits a part: of too much, of nothing, or of another token.
+const NO_PARTS: &str = r#"{"amount":"60.01","token":"00000000-0000-8000-8000-000000000001"}
+{"amount":61,"token":"00000000-0000-8000-8000-000000000001"}
+{"amount":"0.00","token":"00000000-0000-8000-8000-000000000001"}
+{"amount":0,"token":"00000000-0000-8000-8000-000000000001"}
+{"amount":-40,"token":"00000000-0000-8000-8000-000000000001"}
+{"amount":"40","token":"00000000-0000-8000-8000-000000000001"}
+{"amount":40,"token":"00000000-0000-8000-8000-000000000002"}
+{"amount":40}
+{"token":"00000000-0000-8000-8000-000000000001"}"#;
+
+/// The texts of the call's request, without and with the permission of a part.
+const REQUESTS: [&str; 2] = [
+    r#"{"amount":"60.00","card":"a1","currency":"USD","event":"a1","mcc":"5411","method":"pgfs.authorization","mid":"a1","number":1,"token":"00000000-0000-8000-8000-000000000001","txn":"a1","user":"a1"}"#,
+    r#"{"amount":"60.00","card":"a1","currency":"USD","event":"a1","mcc":"5411","method":"pgfs.authorization","mid":"a1","number":1,"partial":true,"token":"00000000-0000-8000-8000-000000000001","txn":"a1","user":"a1"}"#,
+];
+
+#[test]
+fn requests_with_what_they_permit(rt: HostRuntime) -> Result<(), Fail> {
+    let [without, with] = REQUESTS;
+    let mut asked = purchase().ok_or("no token")?;
+    let text = request_text(rt.alloc(), &asked, 0)?;
+    assert!(rt; text.as_slice() == without.as_bytes());
+    asked.partial = true;
+    let text = request_text(rt.alloc(), &asked, 0)?;
+    assert!(rt; text.as_slice() == with.as_bytes());
+    Ok(())
+}
+
+#[test]
+fn parts_with_their_outcomes(rt: HostRuntime) -> Result<(), Fail> {
+    let mut asked = purchase().ok_or("no token")?;
+    let other = first_other(rt.alloc(), PARTS, &asked, Outcome::Application)?;
+    assert_eq!(rt; other, None);
+    asked.partial = true;
+    let part = Outcome::Partial(Currency::Usd, 4000);
+    let other = first_other(rt.alloc(), PARTS, &asked, part)?;
+    assert_eq!(rt; other, None);
+    let other = first_other(rt.alloc(), FUNDING, &asked, Outcome::Funded)?;
+    assert_eq!(rt; other, None);
+    let other = first_other(rt.alloc(), NO_PARTS, &asked, Outcome::Application)?;
+    assert_eq!(rt; other, None);
     Ok(())
 }
 

@@ -1,6 +1,6 @@
 //! Lines of all types with the bytes of their records, and bytes that are no records.
 use iss_codec::{decode, encode};
-use iss_event::{Mode, read_line};
+use iss_event::{FormFault, LineFault, Mode, read_line};
 use iss_model::Record;
 use std::test::Fail;
 
@@ -22,11 +22,17 @@ const RECORDS: &str =
 {"type":"switch","at":7,"token":"t9","product":"gold","on":false} 08000000000000000702743904676f6c6400
 {"type":"load","at":8,"token":"l1","user":"u1","currency":"AUD","amount":50} 090000000000000008026c3102753100240000000000001388
 {"type":"authorization","at":1000,"token":"a1","card":"c1","currency":"USD","amount":"60.00","mcc":"5411","mid":"m1"} 0a00000000000003e8026131026331034800000000000017701523026d31
+{"type":"authorization","at":1000,"token":"a1","card":"c1","currency":"USD","amount":"60.00","mcc":"5411","mid":"m1","partial":true} 1400000000000003e8026131026331034800000000000017701523026d31
+{"type":"authorization","at":1000,"token":"a1","card":"c1","currency":"USD","amount":"60.00","mcc":"5411","mid":"m1","partial":false} 0a00000000000003e8026131026331034800000000000017701523026d31
+{"type":"authorization","partial":null,"at":1000,"token":"a1","card":"c1","currency":"USD","amount":"60.00","mcc":"5411","mid":"m1"} 0a00000000000003e8026131026331034800000000000017701523026d31
 {"type":"increment","at":1001,"token":"i1","txn":"a1","currency":"USD","amount":"0.01"} 0b00000000000003e902693102613103480000000000000001
 {"type":"reversal","at":1002,"token":"r1","txn":"a1","currency":"USD","amount":"10000000.00"} 0c00000000000003ea0272310261310348000000003b9aca00
 {"type":"clearing","at":1003,"token":"k1","txn":"a1","currency":"USD","amount":"38.20","final":true} 0d00000000000003eb026b3102613103480000000000000eec01
 {"type":"refund","at":1004,"token":"f1","txn":"a1","currency":"USD","amount":"2.58"} 0e00000000000003ec02663102613103480000000000000102
 {"type":"answer","at":1005,"call":66051,"outcome":"APPLICATION"} 0f00000000000003ed0001020304
+{"type":"answer","at":1005,"call":66051,"outcome":"PARTIAL","currency":"USD","amount":"40.00"} 1300000000000003ed0001020303480000000000000fa0
+{"type":"answer","at":1005,"amount":10,"currency":"KWD","call":4294967295,"outcome":"PARTIAL"} 1300000000000003edffffffff019e0000000000002710
+{"type":"answer","at":1005,"call":1,"outcome":"FUNDED","currency":[],"amount":"x"} 0f00000000000003ed0000000101
 {"type":"ack","at":1006,"notice":4294967295} 1000000000000003eeffffffff
 {"type":"time","at":253370764799999} 110000e6707a6eafff
 {"type":"user","token":"t1","user":"u1"} 010000000000000009027431027531
@@ -76,6 +82,30 @@ fn lines_and_the_bytes_of_their_records(rt: HostRuntime) -> Result<(), Fail> {
     Ok(())
 }
 
+/// Lines that a bad field makes bad, and the field.
+const FAULTS: &str =
+    r#"{"type":"authorization","token":"a1","card":"c1","currency":"USD","amount":"60.00","mcc":"5411","mid":"m1","partial":1} partial
+{"type":"authorization","token":"a1","card":"c1","currency":"USD","amount":"60.00","mcc":"5411","mid":"m1","partial":"true"} partial
+{"type":"answer","call":1,"outcome":"PARTIAL"} currency
+{"type":"answer","call":1,"outcome":"PARTIAL","currency":null,"amount":"1.00"} currency
+{"type":"answer","call":1,"outcome":"PARTIAL","currency":"USD"} amount
+{"type":"answer","call":1,"outcome":"PARTIAL","currency":"USD","amount":"0.00"} amount
+{"type":"answer","call":1,"outcome":"PARTIAL","currency":"JPY","amount":"1.00"} amount
+{"type":"answer","call":1,"outcome":"partial","currency":"USD","amount":"1.00"} outcome"#;
+
+#[test]
+fn lines_and_their_bad_fields(rt: HostRuntime) -> Result<(), Fail> {
+    for row in FAULTS.split('\n') {
+        let (text, field) = row.split_once(' ').ok_or("no field")?;
+        let name = match read_line(rt.alloc(), text.as_bytes(), Mode::Lines) {
+            Err(LineFault::Form(FormFault::Field(name))) => name.text(),
+            _ => "",
+        };
+        assert!(rt; name == field, "{text}");
+    }
+    Ok(())
+}
+
 /// Bytes that are no records, in base 16, and why.
 const OTHERS: &str = r#"000000000000000000027431027531 no kind 0
 120000000000000000027431027531 a control that ends early
@@ -84,7 +114,14 @@ const OTHERS: &str = r#"000000000000000000027431027531 no kind 0
 120000000000000009027434027631034802010000000000002710000000010349 an offset of 14 hours and a minute
 12000000000000000902743402763103480201000000000000271000000001fd2f an offset of 12 hours and a minute behind UTC
 06000000000000000902743402763103480201000000000000271000000001014a a control in UTC with an offset
-130000000000000000027431027531 no kind 19
+1300000000000003ed00010203034800000000000fa0 a part that ends early
+1300000000000003ed0001020303480000000000000000 a part of nothing
+1300000000000003ed000102030348000000003b9aca01 a part that is too much
+1300000000000003ed0001020302f40000000000000fa0 a part in an unknown currency
+1300000000000003ed0000000003480000000000000fa0 a part of a call 0
+1300000000000003ed000102030503480000000000000fa0 a part after its outcome's number
+1400000000000003e8026131026331034800000000000017701523026d3101 a flag after an authorisation that permits a part
+0a00000000000003e8026131026331034800000000000017701523026d3101 a flag after an authorisation that permits none
 150000000000000000027431027531 no kind 21
 110000e6707a6eb000 a stamp past the last
 01000000000000000000027531 an empty token
