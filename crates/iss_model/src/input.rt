@@ -159,7 +159,7 @@ impl Input {
         }
     }
 
-    /// A copy. Most inputs are purchases, and their copy takes none of the room that other kinds need for theirs.
+    /// A copy. A purchase, the most common input, is copied apart: the derived copy clears room for the fields of every kind.
     #[tactic(auto, using(crate::proofs::Copies::copy_is))]
     pub fn copied(&self) -> Result<Input, AllocError>
         ensures { IfOk result (λ copy. copy ≡ self.now) }
