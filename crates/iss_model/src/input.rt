@@ -176,6 +176,7 @@ impl Input {
                 amount,
                 mcc,
                 mid,
+                partial,
             } => Ok(Input::Authorization {
                 token: *token,
                 card: *card,
@@ -183,6 +184,7 @@ impl Input {
                 amount: *amount,
                 mcc: *mcc,
                 mid: *mid,
+                partial: *partial,
             }),
             _ => self.clone(),
         }
