@@ -8,7 +8,7 @@ use Rattle.iss_model.specs.Inputs.{event_token, is_event}
 use Rattle.iss_model.specs.texts.Spelling.{spelling, is_record}
 use Rattle.iss_model.specs.rules.Facts.{Accepted}
 use Rattle.iss_index.proofs.Placed.{names-last}
-use Rattle.iss_accepted.specs.declared.row.Row.{Row}
+use Rattle.iss_accepted.specs.declared.row.EventRow.{EventRow}
 use Rattle.iss_accepted.specs.Values.{EventsNow}
 use Rattle.iss_accepted.specs.Standing.{Standing, name_of, token_or_none, standing_named, AreDecided}
 use Rattle.iss_accepted.specs.Kept.{standing_of, standings_of, events_now, IsSpelledIn, IsKept}
@@ -18,28 +18,28 @@ use Rattle.iss_accepted.proofs.Found.{event_in, event_found}
 use Rattle.iss_accepted.proofs.Steps.{all_named}
 
 -- what is kept agrees, and shows these events
-pub record Shows (bytes : List ℕ) (rows : List Row) (names : List (List ℕ)) (decided : List ℕ) (value : EventsNow) : Type 0 where
+pub record Shows (bytes : List ℕ) (rows : List EventRow) (names : List (List ℕ)) (decided : List ℕ) (value : EventsNow) : Type 0 where
   pub kept : IsKept bytes rows names decided
   pub view : events_now (standings_of bytes rows) decided ≡ value
 
 -- the same with an input of this stamp and number, if it is an event
-abbrev pub with_input : EventsNow → Row → Input → EventsNow
+abbrev pub with_input : EventsNow → EventRow → Input → EventsNow
 with_input value row i = record value { accepted = value.accepted ++ (cond (is_some (event_token i)) (record { number = row.number; at = row.at; input = i } ∷ []) []) }
 
-module _ (bytes : List ℕ) (rows : List Row) (names : List (List ℕ)) (decided : List ℕ) (value : EventsNow)
+module _ (bytes : List ℕ) (rows : List EventRow) (names : List (List ℕ)) (decided : List ℕ) (value : EventsNow)
     (kept : IsKept bytes rows names decided) (view : events_now (standings_of bytes rows) decided ≡ value) where
   -- ---- bytes are added, and no row
 
-  module _ (all more : List ℕ) (rows_now : List Row) (names_now : List (List ℕ)) (grown : all ≡ bytes ++ more) (same : rows_now ≡ rows) (unchanged : names_now ≡ names) where
+  module _ (all more : List ℕ) (rows_now : List EventRow) (names_now : List (List ℕ)) (grown : all ≡ bytes ++ more) (same : rows_now ≡ rows) (unchanged : names_now ≡ names) where
     standings_same : standings_of all rows_now ≡ standings_of bytes rows
-    standings_same = ap₂ (λ (bs : List ℕ) (rs : List Row). standings_of bs rs) grown same ∙ standings_stay bytes more rows kept.spelled
+    standings_same = ap₂ (λ (bs : List ℕ) (rs : List EventRow). standings_of bs rs) grown same ∙ standings_stay bytes more rows kept.spelled
 
     grown_kept : IsKept all rows_now names_now decided
     grown_kept =
         record {
           spelled =
               subst (λ (bs : List ℕ). AllByRecursion (IsSpelledIn bs) rows_now) (sym grown)
-              (subst (λ (rs : List Row). AllByRecursion (IsSpelledIn (bytes ++ more)) rs) (sym same) (all_stay bytes more rows kept.spelled));
+              (subst (λ (rs : List EventRow). AllByRecursion (IsSpelledIn (bytes ++ more)) rs) (sym same) (all_stay bytes more rows kept.spelled));
           placed = unchanged ∙ kept.placed ∙ ap (λ (ss : List Standing). map name_of ss) (sym standings_same);
           verdicts = subst (λ (ss : List Standing). AreDecided ss decided) (sym standings_same) kept.verdicts;
         }
@@ -52,7 +52,7 @@ module _ (bytes : List ℕ) (rows : List Row) (names : List (List ℕ)) (decided
 
   -- ---- an event is added
 
-  module _ (all : List ℕ) (rows_now : List Row) (names_now : List (List ℕ)) (row : Row) (i : Input) (token : List ℕ)
+  module _ (all : List ℕ) (rows_now : List EventRow) (names_now : List (List ℕ)) (row : EventRow) (i : Input) (token : List ℕ)
       (added : all ≡ bytes ++ spelling (record_with row i)) (begins : row.start ≡ length bytes) (ends : row.end ≡ length all)
       (form : is_record (record_with row i) ≡ true) (pending : row.verdict ≡ None)
       (own : event_token i ≡ Some token) (unknown : find (λ (a : Accepted). is_event token a.input) value.accepted ≡ None)
@@ -67,7 +67,7 @@ module _ (bytes : List ℕ) (rows : List Row) (names : List (List ℕ)) (decided
 
     standings_now : standings_of all rows_now ≡ standings_of bytes rows ++ newest ∷ []
     standings_now =
-        ap (λ (rs : List Row). standings_of all rs) pushed
+        ap (λ (rs : List EventRow). standings_of all rs) pushed
         ∙ map-append (standing_of all) rows (row ∷ [])
         ∙ ap₂ (λ (ss : List Standing) (s : Standing). ss ++ s ∷ [])
         (ap (λ (bs : List ℕ). standings_of bs rows) added ∙ standings_stay bytes (spelling (record_with row i)) rows kept.spelled)
@@ -92,7 +92,7 @@ module _ (bytes : List ℕ) (rows : List Row) (names : List (List ℕ)) (decided
     added_kept =
         record {
           spelled =
-              subst (λ (rs : List Row). AllByRecursion (IsSpelledIn all) rs) (sym pushed)
+              subst (λ (rs : List EventRow). AllByRecursion (IsSpelledIn all) rs) (sym pushed)
               (all_last (IsSpelledIn all) rows row
               (subst (λ (bs : List ℕ). AllByRecursion (IsSpelledIn bs) rows) (sym added) (all_stay bytes (spelling (record_with row i)) rows kept.spelled))
               (new_spelled bytes all row i added begins ends form row_named));

@@ -9,7 +9,7 @@ use Rattle.iss_model.specs.Inputs.{event_token}
 use Rattle.iss_model.specs.texts.Spelling.{spelling, is_record}
 use Rattle.iss_codec.specs.TakingRecords.{record_spelled}
 use Rattle.iss_codec.proofs.TakenRecords.{spelled_again}
-use Rattle.iss_accepted.specs.declared.row.Row.{Row}
+use Rattle.iss_accepted.specs.declared.row.EventRow.{EventRow}
 use Rattle.iss_accepted.specs.Standing.{Standing, IsNamed}
 use Rattle.iss_accepted.specs.Kept.{bytes_of, input_read, record_of, standing_of, standings_of, IsSpelledIn}
 
@@ -29,13 +29,13 @@ part_added bytes more start end begins ends =
     ap (take (end - start)) (drop_at bytes more start (sym begins)) ∙ take_all (end - start) more long
 
 -- a standing by its row's bytes
-abbrev pub standing_by : Row → List ℕ → Standing
+abbrev pub standing_by : EventRow → List ℕ → Standing
 standing_by row spelled = record { event = record { number = row.number; at = row.at; input = input_read (record_spelled spelled) }; verdict = row.verdict }
 
-pub standing_stays : (bytes more : List ℕ) (row : Row) → IsSpelledIn bytes row → standing_of (bytes ++ more) row ≡ standing_of bytes row
+pub standing_stays : (bytes more : List ℕ) (row : EventRow) → IsSpelledIn bytes row → standing_of (bytes ++ more) row ≡ standing_of bytes row
 standing_stays bytes more row spelled = ap (standing_by row) (part_stays bytes more row.start row.end spelled.begins spelled.within)
 
-spelled_stays : (bytes more : List ℕ) (row : Row) → IsSpelledIn bytes row → IsSpelledIn (bytes ++ more) row
+spelled_stays : (bytes more : List ℕ) (row : EventRow) → IsSpelledIn bytes row → IsSpelledIn (bytes ++ more) row
 spelled_stays bytes more row spelled =
     let same : standing_of (bytes ++ more) row ≡ standing_of bytes row = standing_stays bytes more row spelled in
     record {
@@ -49,24 +49,24 @@ spelled_stays bytes more row spelled =
       named = subst IsNamed (sym same) spelled.named;
     }
 
-pub standings_stay : (bytes more : List ℕ) (rows : List Row) → AllByRecursion (IsSpelledIn bytes) rows → standings_of (bytes ++ more) rows ≡ standings_of bytes rows
+pub standings_stay : (bytes more : List ℕ) (rows : List EventRow) → AllByRecursion (IsSpelledIn bytes) rows → standings_of (bytes ++ more) rows ≡ standings_of bytes rows
 standings_stay bytes more [] spelled = refl
 standings_stay bytes more (row ∷ rows) spelled =
     ap₂ (λ (s : Standing) (ss : List Standing). s ∷ ss) (standing_stays bytes more row spelled.0) (standings_stay bytes more rows spelled.1)
 
-pub all_stay : (bytes more : List ℕ) (rows : List Row) → AllByRecursion (IsSpelledIn bytes) rows → AllByRecursion (IsSpelledIn (bytes ++ more)) rows
+pub all_stay : (bytes more : List ℕ) (rows : List EventRow) → AllByRecursion (IsSpelledIn bytes) rows → AllByRecursion (IsSpelledIn (bytes ++ more)) rows
 all_stay bytes more [] spelled = tt
 all_stay bytes more (row ∷ rows) spelled = (spelled_stays bytes more row spelled.0, all_stay bytes more rows spelled.1)
 
 -- the standing of a row whose bytes were added
-abbrev pub standing_new : Row → Input → Standing
+abbrev pub standing_new : EventRow → Input → Standing
 standing_new row i = record { event = record { number = row.number; at = row.at; input = i }; verdict = row.verdict }
 
 -- the record of a row's stamp with this input
-abbrev pub record_with : Row → Input → Record
+abbrev pub record_with : EventRow → Input → Record
 record_with row i = record { at = row.at; input = i }
 
-module _ (bytes all : List ℕ) (row : Row) (i : Input) (added : all ≡ bytes ++ spelling (record_with row i)) (begins : row.start ≡ length bytes) (ends : row.end ≡ length all) (form : is_record (record_with row i) ≡ true) where
+module _ (bytes all : List ℕ) (row : EventRow) (i : Input) (added : all ≡ bytes ++ spelling (record_with row i)) (begins : row.start ≡ length bytes) (ends : row.end ≡ length all) (form : is_record (record_with row i) ≡ true) where
   bytes_new : bytes_of all row ≡ spelling (record_with row i)
   bytes_new =
       ap (bytes_of_row) added

@@ -25,7 +25,7 @@ use Rattle.iss_codec.proofs.TakenRecords.{spelled_again}
 use Rattle.iss_codec.proofs.EqualInputs.{same_exactly}
 use Rattle.iss_index.specs.Places.{place_of}
 use Rattle.iss_index.proofs.Placed.{found-within, found-named, none-named, found-names}
-use Rattle.iss_accepted.specs.declared.row.Row.{Row}
+use Rattle.iss_accepted.specs.declared.row.EventRow.{EventRow}
 use Rattle.iss_model.specs.rules.Judging.{token_answer}
 use Rattle.iss_accepted.specs.Values.{EventsNow, events_facts, answer_in}
 use Rattle.iss_accepted.specs.Standing.{Standing, IsNamed, name_of, standing_named, decision_made, decisions_at, decision_named, AreDecided}
@@ -68,7 +68,7 @@ all_at P [] i d all within = absurd (omega (arith, within))
 all_at P (x ∷ xs) zero d all within = all.0
 all_at P (x ∷ xs) (suc i) d all within = all_at P xs i d all.1 (omega (arith, within))
 
-pub all_named : (bytes : List ℕ) (rows : List Row) → AllByRecursion (IsSpelledIn bytes) rows → AllByRecursion IsNamed (standings_of bytes rows)
+pub all_named : (bytes : List ℕ) (rows : List EventRow) → AllByRecursion (IsSpelledIn bytes) rows → AllByRecursion IsNamed (standings_of bytes rows)
 all_named bytes [] spelled = tt
 all_named bytes (row ∷ rows) spelled = (spelled.0.named, all_named bytes rows spelled.1)
 
@@ -102,18 +102,18 @@ placed_found name (s ∷ ss) =
 
 -- ---- at the start
 
-pub kept_none : (bytes : List ℕ) (rows : List Row) (names : List (List ℕ)) (decided : List ℕ) → rows ≡ [] → names ≡ [] → decided ≡ []
+pub kept_none : (bytes : List ℕ) (rows : List EventRow) (names : List (List ℕ)) (decided : List ℕ) → rows ≡ [] → names ≡ [] → decided ≡ []
     → IsKept bytes rows names decided
 kept_none bytes rows names decided none empty undecided =
     record {
-      spelled = subst (λ (rs : List Row). AllByRecursion (IsSpelledIn bytes) rs) (sym none) tt;
-      placed = empty ∙ sym (ap (λ (rs : List Row). map name_of (standings_of bytes rs)) none);
-      verdicts = nothing_decided (standings_of bytes rows) decided (ap (λ (rs : List Row). standings_of bytes rs) none) undecided;
+      spelled = subst (λ (rs : List EventRow). AllByRecursion (IsSpelledIn bytes) rs) (sym none) tt;
+      placed = empty ∙ sym (ap (λ (rs : List EventRow). map name_of (standings_of bytes rs)) none);
+      verdicts = nothing_decided (standings_of bytes rows) decided (ap (λ (rs : List EventRow). standings_of bytes rs) none) undecided;
     }
 
 -- ---- a look-up
 
-module _ (bytes : List ℕ) (rows : List Row) (names : List (List ℕ)) (decided : List ℕ) (value : EventsNow) (token : List ℕ)
+module _ (bytes : List ℕ) (rows : List EventRow) (names : List (List ℕ)) (decided : List ℕ) (value : EventsNow) (token : List ℕ)
     (kept : IsKept bytes rows names decided) (view : events_now (standings_of bytes rows) decided ≡ value) where
   -- what stands
   abbrev pub standing : List Standing
@@ -173,7 +173,7 @@ module _ (bytes : List ℕ) (rows : List Row) (names : List (List ℕ)) (decided
   placed_within place is =
       subst (λ (n : ℕ). place < n) (length-map rows (standing_of bytes)) (found-within name_of standing token place (is ∙ ap (place_of token) kept.placed))
 
-  module _ (place : ℕ) (row : Row) (is : Some place ≡ place_of token names) (own : row ≡ get_or rows place row) where
+  module _ (place : ℕ) (row : EventRow) (is : Some place ≡ place_of token names) (own : row ≡ get_or rows place row) where
     within : place < length rows
     within = placed_within place is
 
@@ -224,7 +224,7 @@ module _ (bytes : List ℕ) (rows : List Row) (names : List (List ℕ)) (decided
 
     module _ (verdict : Verdict) (undecided : decision_named token value.decisions ≡ None) where
       -- the row with the verdict
-      abbrev pub row_decided : Row
+      abbrev pub row_decided : EventRow
       row_decided = record row { verdict = Some verdict }
 
       -- the event before and after
@@ -270,12 +270,12 @@ module _ (bytes : List ℕ) (rows : List Row) (names : List (List ℕ)) (decided
           ∙ sym (found-named name_of standing_after token place (with_verdict before verdict) (is ∙ ap (place_of token) placed_after)
           (sym (get_or-set_same standing place (with_verdict before verdict) (with_verdict before verdict) below)))
 
-      rows_after : (rs : List Row) (p : ℕ) → standings_of bytes (set rs p row_decided) ≡ set (standings_of bytes rs) p (with_verdict before verdict)
+      rows_after : (rs : List EventRow) (p : ℕ) → standings_of bytes (set rs p row_decided) ≡ set (standings_of bytes rs) p (with_verdict before verdict)
       rows_after [] p = refl
       rows_after (r ∷ rs) zero = refl
       rows_after (r ∷ rs) (suc p) = ap (λ (ss : List Standing). standing_of bytes r ∷ ss) (rows_after rs p)
 
-      spelled_after : (rs : List Row) (p : ℕ) → AllByRecursion (IsSpelledIn bytes) rs → AllByRecursion (IsSpelledIn bytes) (set rs p row_decided)
+      spelled_after : (rs : List EventRow) (p : ℕ) → AllByRecursion (IsSpelledIn bytes) rs → AllByRecursion (IsSpelledIn bytes) (set rs p row_decided)
       spelled_after [] p all = tt
       spelled_after (r ∷ rs) zero all = (
         record {
@@ -294,14 +294,14 @@ module _ (bytes : List ℕ) (rows : List Row) (names : List (List ℕ)) (decided
       events_after (s ∷ ss) zero at = ap (λ (x : Standing). x.event ∷ map (λ (s : Standing). s.event) ss) (sym (same_Some s before at))
       events_after (s ∷ ss) (suc p) at = ap (λ (es : List Accepted). s.event ∷ es) (events_after ss p at)
 
-      module _ (rows_now : List Row) (decided_now : List ℕ) (set_so : rows_now ≡ set rows place row_decided) (pushed : decided_now ≡ decided ++ place ∷ []) where
+      module _ (rows_now : List EventRow) (decided_now : List ℕ) (set_so : rows_now ≡ set rows place row_decided) (pushed : decided_now ≡ decided ++ place ∷ []) where
         standings_now : standings_of bytes rows_now ≡ standing_after
-        standings_now = ap (λ (rs : List Row). standings_of bytes rs) set_so ∙ rows_after rows place
+        standings_now = ap (λ (rs : List EventRow). standings_of bytes rs) set_so ∙ rows_after rows place
 
         pub decided_kept : IsKept bytes rows_now names decided_now
         decided_kept =
             record {
-              spelled = subst (λ (rs : List Row). AllByRecursion (IsSpelledIn bytes) rs) (sym set_so) (spelled_after rows place kept.spelled);
+              spelled = subst (λ (rs : List EventRow). AllByRecursion (IsSpelledIn bytes) rs) (sym set_so) (spelled_after rows place kept.spelled);
               placed = placed_after ∙ ap (λ (ss : List Standing). map name_of ss) (sym standings_now);
               verdicts =
                   subst (λ (ss : List Standing). AreDecided ss decided_now) (sym standings_now)

@@ -10,12 +10,12 @@ use Rattle.iss_model.specs.declared.input.Record.{Record}
 use Rattle.iss_model.specs.texts.Spelling.{spelling, is_record}
 use Rattle.iss_model.specs.rules.Facts.{Accepted, reply_of_verdict}
 use Rattle.iss_codec.specs.TakingRecords.{record_spelled}
-use Rattle.iss_accepted.specs.declared.row.Row.{Row}
+use Rattle.iss_accepted.specs.declared.row.EventRow.{EventRow}
 use Rattle.iss_accepted.specs.Values.{EventsNow}
 use Rattle.iss_accepted.specs.Standing.{Standing, IsNamed, name_of, decisions_at, AreDecided}
 
 -- the bytes of a row's record
-abbrev pub bytes_of : List ℕ → Row → List ℕ
+abbrev pub bytes_of : List ℕ → EventRow → List ℕ
 bytes_of bytes row = slice_range bytes row.start row.end
 
 -- the input of a record that was read
@@ -24,7 +24,7 @@ input_read None = input.Time
 input_read (Some r) = r.input
 
 -- the event of a row: its bytes are read
-abbrev pub event_of : List ℕ → Row → Accepted
+abbrev pub event_of : List ℕ → EventRow → Accepted
 event_of bytes row = record { number = row.number; at = row.at; input = input_read (record_spelled (bytes_of bytes row)) }
 
 -- the record of an event
@@ -32,15 +32,15 @@ abbrev pub record_of : Accepted → Record
 record_of a = record { at = a.at; input = a.input }
 
 -- the event of a row with its verdict
-abbrev pub standing_of : List ℕ → Row → Standing
+abbrev pub standing_of : List ℕ → EventRow → Standing
 standing_of bytes row = record { event = event_of bytes row; verdict = row.verdict }
 
 -- the events of all rows
-abbrev pub standings_of : List ℕ → List Row → List Standing
+abbrev pub standings_of : List ℕ → List EventRow → List Standing
 standings_of bytes rows = map (standing_of bytes) rows
 
 -- a row's bytes are the spelling of its event's record
-pub record IsSpelledIn (bytes : List ℕ) (row : Row) : Type 0 where
+pub record IsSpelledIn (bytes : List ℕ) (row : EventRow) : Type 0 where
   pub begins : row.start ≤ row.end
   pub within : row.end ≤ length bytes
   pub spelled : bytes_of bytes row ≡ spelling (record_of (event_of bytes row))
@@ -48,7 +48,7 @@ pub record IsSpelledIn (bytes : List ℕ) (row : Row) : Type 0 where
   pub named : IsNamed (standing_of bytes row)
 
 -- The answer of an input by the row of its token: the reply again if the row's bytes spell it, and else the number of the row's record.
-abbrev pub row_answer : List ℕ → Row → List ℕ → Input → Answer
+abbrev pub row_answer : List ℕ → EventRow → List ℕ → Input → Answer
 row_answer bytes row token i =
     if bytes_eq (bytes_of bytes row) (spelling (record { at = row.at; input = i })) then answer.Repeat token (reply_of_verdict row.verdict)
     else answer.Conflict token row.number
@@ -58,7 +58,7 @@ abbrev pub events_now : List Standing → List ℕ → EventsNow
 events_now ss decided = record { accepted = map (λ s. s.event) ss; decisions = decisions_at ss decided }
 
 -- Each row is spelled in the buffer, the names are those of the rows, and the decided rows are known.
-pub record IsKept (bytes : List ℕ) (rows : List Row) (names : List (List ℕ)) (decided : List ℕ) : Type 0 where
+pub record IsKept (bytes : List ℕ) (rows : List EventRow) (names : List (List ℕ)) (decided : List ℕ) : Type 0 where
   pub spelled : AllByRecursion (IsSpelledIn bytes) rows
   pub placed : names ≡ map name_of (standings_of bytes rows)
   pub verdicts : AreDecided (standings_of bytes rows) decided

@@ -6,7 +6,7 @@ ghost use Rattle.iss_model.specs.Inputs.{is_event};
 ghost use Rattle.iss_model.specs.rules.Facts.{event_reply};
 ghost use Rattle.iss_accepted.specs.Values.{IsUnknown, no_events, events_facts, answer_in, with_decision, with_input};
 
-use crate::row::{Row, push};
+use crate::row::{EventRow, push};
 use iss_codec::put_record;
 use iss_index::Names;
 use iss_model::{Answer, Input, Reply, Token, Verdict};
@@ -19,7 +19,7 @@ use std::marker::Model;
 /// The row of an event stands at the place of its name.
 #[derive(Drop)]
 pub struct Events {
-    rows: Vec<Row>,
+    rows: Vec<EventRow>,
     bytes: Vec<u8>,
     names: Names,
     decided: Vec<u32>,
@@ -105,7 +105,7 @@ impl Events {
         self.names.add(&token)?;
         push(
             &mut self.rows,
-            &Row {
+            &EventRow {
                 number,
                 at,
                 start,

@@ -15,7 +15,7 @@ use std::alloc::{AllocError, Global};
 /// An accepted event: its record's number and stamp, where its record's bytes begin and end, and its verdict if it is
 /// decided.
 #[derive(Clone, Copy)]
-pub(crate) struct Row {
+pub(crate) struct EventRow {
     pub(crate) number: u32,
     pub(crate) at: u64,
     pub(crate) start: usize,
@@ -23,7 +23,7 @@ pub(crate) struct Row {
     pub(crate) verdict: Option<Verdict>,
 }
 
-impl Row {
+impl EventRow {
     /// The verdict, or that the event's call is open.
     pub(crate) fn reply(&self) -> Reply
         ensures { result ≡ reply_of_verdict self.now.verdict }

@@ -9,7 +9,7 @@ ghost use Rattle.iss_model.specs.texts.CallTokens.{call_uuid, uuid_text};
 ghost use Rattle.iss_model.specs.rules.Settings.{default_product};
 ghost use Rattle.iss_model.specs.rules.Reasons.{is_full};
 ghost use Rattle.iss_model.specs.rules.Pieces.{taken_to_clear, taken_to_release};
-ghost use Rattle.iss_book_examples.specs.WorkedParts.{parts_of, funded_by_all};
+ghost use Rattle.iss_book_examples.specs.WorkedParts.{three_parts, funded_by_all};
 ghost use Rattle.iss_book_examples.specs.Scripts.{Plays, used_after};
 ghost use Rattle.iss_book_examples.specs.WorkedTexts.{RequestLine, DivisibleRequestLine, IncrementRequestLine, VoidLine, StandInNoticeLine, CaptureNoticeLine, RefundNoticeLine, DoneEventLine, ApprovedEventLine, PartialEventLine, DeclinedByAControlLine, DeclinedMoveLine, LateAnswerLine, LatePartLine, TimedOutCallLine, AbandonedCallLine, UnknownCallLine, AcknowledgedLine, AcknowledgedBeforeLine, IdleLine, SpentLine, TimeLine};
 ghost use Rattle.iss_book_examples.specs.WorkedPurchases.{purchase_of_all, purchase_of_more, repeated_purchase, changed_purchase, raised_reversed_cleared, refunded_once, before_expiry, after_expiry, cleared_after_expiry, states_of_a_card, loads_in_three_currencies, greatest_load};
@@ -109,13 +109,13 @@ pub fn worked_amounts()
 
 /// In which order a clearing and a release take the parts of what is held: 12 of 20 by the gateway, 5 by the programme, 3 of the user's own.
 pub fn worked_parts()
-    ensures cleared_of_the_gateway { taken_to_clear funded_by_all 12 ≡ parts_of 12 0 0 }
-    ensures cleared_of_the_programme { taken_to_clear funded_by_all 16 ≡ parts_of 12 4 0 }
-    ensures cleared_of_the_user { taken_to_clear funded_by_all 19 ≡ parts_of 12 5 2 }
+    ensures cleared_of_the_gateway { taken_to_clear funded_by_all 12 ≡ three_parts 12 0 0 }
+    ensures cleared_of_the_programme { taken_to_clear funded_by_all 16 ≡ three_parts 12 4 0 }
+    ensures cleared_of_the_user { taken_to_clear funded_by_all 19 ≡ three_parts 12 5 2 }
     ensures cleared_of_all { taken_to_clear funded_by_all 21 ≡ funded_by_all }
-    ensures released_of_the_programme { taken_to_release funded_by_all 5 ≡ parts_of 0 5 0 }
-    ensures released_of_the_gateway { taken_to_release funded_by_all 16 ≡ parts_of 11 5 0 }
-    ensures released_of_the_user { taken_to_release funded_by_all 19 ≡ parts_of 12 5 2 }
+    ensures released_of_the_programme { taken_to_release funded_by_all 5 ≡ three_parts 0 5 0 }
+    ensures released_of_the_gateway { taken_to_release funded_by_all 16 ≡ three_parts 11 5 0 }
+    ensures released_of_the_user { taken_to_release funded_by_all 19 ≡ three_parts 12 5 2 }
     ensures released_of_all { taken_to_release funded_by_all 21 ≡ funded_by_all }
 {}
 

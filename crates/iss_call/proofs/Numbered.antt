@@ -6,7 +6,7 @@ use Rattle.iss_model.specs.declared.call.How.{How}
 use Rattle.iss_model.specs.declared.call.CallState.TheVariants as call_state
 use Rattle.iss_model.specs.rules.Activity.{CallNow, call_numbered, is_asked}
 use Rattle.iss_model.specs.state.Cores.{call_after_close}
-use Rattle.iss_call.specs.States.{state_by, state_of, state_in}
+use Rattle.iss_call.specs.States.{state_by, call_state_of, state_in}
 use Rattle.iss_call.specs.Orders.{AreNumbered}
 
 apart : (m k n : ℕ) → m ≡ k → n < k → (m == n) ≡ false
@@ -97,7 +97,7 @@ not_asked : {A : Type 0} (h : Option How) (x y : A) → (state_by h ≡ call_sta
 not_asked None x y isnt = absurd (isnt refl)
 not_asked (Some how) x y isnt = refl
 
-not_closed : (b : Bool) (how : How) (x : CallNow) → (state_of (Some x) ≡ call_state.Asked → ⊥) → cond (b && is_asked x) (closed how x) x ≡ x
+not_closed : (b : Bool) (how : How) (x : CallNow) → (call_state_of (Some x) ≡ call_state.Asked → ⊥) → cond (b && is_asked x) (closed how x) x ≡ x
 not_closed false how x isnt = refl
 not_closed true how x isnt = not_asked x.how x (closed how x) isnt
 
@@ -106,11 +106,11 @@ asked_by None e = refl
 asked_by (Some how) e = cc
 
 -- a call in the state asked is asked
-pub asked_in_state : (c : CallNow) → state_of (Some c) ≡ call_state.Asked → is_asked c ≡ true
+pub asked_in_state : (c : CallNow) → call_state_of (Some c) ≡ call_state.Asked → is_asked c ≡ true
 asked_in_state c e = asked_by c.how e
 
 stay_by : (k : ℕ) (cs : List CallNow) (x : CallNow) (n : ℕ) (how : How) (b : Bool) → (x.opened.call.0 == n) ≡ b → AreNumbered k (x ∷ cs)
-    → (state_of (cond b (Some x) (call_numbered n cs)) ≡ call_state.Asked → ⊥)
+    → (call_state_of (cond b (Some x) (call_numbered n cs)) ≡ call_state.Asked → ⊥)
     → ((state_in cs n ≡ call_state.Asked → ⊥) → map (call_after_close n how) cs ≡ cs)
     → map (call_after_close n how) (x ∷ cs) ≡ x ∷ cs
 stay_by k cs x n how true e a isnt rest =

@@ -12,8 +12,8 @@ use Rattle.iss_model.specs.rules.Due.{DueItem, due_call, items_with}
 use Rattle.iss_call.specs.declared.call.Call.{Call}
 
 -- a call as contracts see it
-abbrev pub now_of : Call → CallNow
-now_of call = record { opened = call.opened; how = call.how }
+abbrev pub seen_call : Call → CallNow
+seen_call call = record { opened = call.opened; how = call.how }
 
 -- a call is asked until it was closed
 abbrev pub state_by : Option How → CallState
@@ -21,13 +21,13 @@ state_by None = call_state.Asked
 state_by (Some how) = call_state.Closed how
 
 -- the state of a call, unknown if there is none
-abbrev pub state_of : Option CallNow → CallState
-state_of None = call_state.Unknown
-state_of (Some c) = state_by c.how
+abbrev pub call_state_of : Option CallNow → CallState
+call_state_of None = call_state.Unknown
+call_state_of (Some c) = state_by c.how
 
 -- the state of the call of this number
 abbrev pub state_in : List CallNow → ℕ → CallState
-state_in calls number = state_of (call_numbered number calls)
+state_in calls number = call_state_of (call_numbered number calls)
 
 -- the asked calls whose deadline has come, by deadline and number
 abbrev pub calls_due : List CallNow → ℕ → List DueItem

@@ -1,6 +1,6 @@
 //! One call, and why it can't be closed.
 ghost use Rattle.std.specs.Prelude.{◌≡◌, Some};
-ghost use Rattle.iss_call.specs.States.{now_of, state_of};
+ghost use Rattle.iss_call.specs.States.{seen_call, call_state_of};
 
 use iss_model::{CallState, How, Opened};
 
@@ -19,7 +19,7 @@ pub struct NotOpen(pub CallState);
 impl Call {
     /// Asked, or closed and how.
     pub fn state(&self) -> CallState
-        ensures { result ≡ state_of (Some (now_of self.now)) }
+        ensures { result ≡ call_state_of (Some (seen_call self.now)) }
     {
         match self.how {
             None => CallState::Asked,

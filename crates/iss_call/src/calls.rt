@@ -6,7 +6,7 @@ ghost use Rattle.iss_model.specs.declared.call.CallState.TheVariants as call_sta
 ghost use Rattle.iss_model.specs.rules.Activity.{call_numbered, is_asked};
 ghost use Rattle.iss_model.specs.rules.Due.{call_due, is_quiet};
 ghost use Rattle.iss_model.specs.state.Cores.{with_closed};
-ghost use Rattle.iss_call.specs.States.{now_of, state_in, calls_due, asked_of, looked_up};
+ghost use Rattle.iss_call.specs.States.{seen_call, state_in, calls_due, asked_of, looked_up};
 
 use crate::call::{Call, NotOpen};
 use crate::orders::Orders;
@@ -28,12 +28,12 @@ impl Model for Calls {
 
     ghost Value = { List CallNow };
 
-    ghost use Rattle.iss_call.specs.States.{now_of};
+    ghost use Rattle.iss_call.specs.States.{seen_call};
     ghost use Rattle.iss_call.specs.Orders.{AreOrdered};
 
-    ghost view = { λ c. map now_of c.calls.items };
+    ghost view = { λ c. map seen_call c.calls.items };
 
-    ghost invariant = { λ c. AreOrdered (map now_of c.calls.items) c.orders };
+    ghost invariant = { λ c. AreOrdered (map seen_call c.calls.items) c.orders };
 }
 
 impl Calls {
@@ -85,7 +85,7 @@ impl Calls {
 
     /// A call as it stands, `None` exactly if it was never asked.
     pub fn get(&self, id: CallId) -> Option<&Call>
-        ensures { option_map (λ call. now_of call.now) result ≡ call_numbered id.0 self.now }
+        ensures { option_map (λ call. seen_call call.now) result ≡ call_numbered id.0 self.now }
     {
         let calls = self.calls.as_slice();
         calls.get((id.0 as usize).checked_sub(1)?)

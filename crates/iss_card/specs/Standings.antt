@@ -36,15 +36,15 @@ abbrev pub have_holders : List User → List Card → Bool
 have_holders users cards = list_all (λ card. is_some (user_named card.user users)) cards
 
 -- the reason of a fault; a failed allocation has none
-abbrev pub fault_reason : CardFault → Option Reason
-fault_reason fault.UserUnknown = Some reason.UserUnknown
-fault_reason fault.CardUnknown = Some reason.CardUnknown
-fault_reason fault.Exists = Some reason.Exists
-fault_reason (fault.MoveUser from to) = Some (reason.MoveUser from to)
-fault_reason (fault.MoveCard from to) = Some (reason.MoveCard from to)
-fault_reason fault.OutOfMemory = None
+abbrev pub card_fault_reason : CardFault → Option Reason
+card_fault_reason fault.UserUnknown = Some reason.UserUnknown
+card_fault_reason fault.CardUnknown = Some reason.CardUnknown
+card_fault_reason fault.Exists = Some reason.Exists
+card_fault_reason (fault.MoveUser from to) = Some (reason.MoveUser from to)
+card_fault_reason (fault.MoveCard from to) = Some (reason.MoveCard from to)
+card_fault_reason fault.OutOfMemory = None
 
 -- the reason of a result
-abbrev pub reason_of_result : {A : Type 0} → Result A CardFault → Option Reason
-reason_of_result (Ok x) = None
-reason_of_result (Err fault) = fault_reason fault
+abbrev pub card_result_reason : {A : Type 0} → Result A CardFault → Option Reason
+card_result_reason (Ok x) = None
+card_result_reason (Err fault) = card_fault_reason fault

@@ -4,7 +4,7 @@ ghost use Rattle.iss_model.specs.declared.decision.Reason.TheVariants as reason;
 ghost use Rattle.iss_model.specs.rules.Settings.{user_named, card_named};
 ghost use Rattle.iss_model.specs.rules.Reasons.{first_reason, user_move_reason, card_move_reason};
 ghost use Rattle.iss_model.specs.state.Cores.{no_core, with_user, with_user_moved, with_card, with_card_moved};
-ghost use Rattle.iss_card.specs.Standings.{standing_in, is_unknown, reason_of_result};
+ghost use Rattle.iss_card.specs.Standings.{standing_in, is_unknown, card_result_reason};
 
 use crate::moves::{card_may_move, first_card_state, user_may_move};
 use crate::standing::Standing;
@@ -62,7 +62,7 @@ impl Cards {
     pub fn add_user(&mut self, user: &Token) -> Result<(), CardFault>
         ensures added { OnOk result (self.new ≡ with_user self.old user.now) }
         ensures refused { OnErr result (self.new ≡ self.old) }
-        ensures reason { reason_of_result result
+        ensures reason { card_result_reason result
             ≡ first_reason ((is_some (user_named user.now self.old.users), reason.Exists) ∷ []) }
     {
         if self.users.get(user).is_some() {
@@ -86,7 +86,7 @@ impl Cards {
     ) -> Result<(), CardFault>
         ensures added { OnOk result (self.new ≡ with_card self.old card.now user.now product.now active) }
         ensures refused { OnErr result (self.new ≡ self.old) }
-        ensures reason { reason_of_result result ≡ first_reason ((is_none (user_named user.now self.old.users), reason.UserUnknown)
+        ensures reason { card_result_reason result ≡ first_reason ((is_none (user_named user.now self.old.users), reason.UserUnknown)
             ∷ (is_some (card_named card.now self.old.cards), reason.Exists) ∷ []) }
     {
         if self.users.get(user).is_none() {
@@ -108,7 +108,7 @@ impl Cards {
     pub fn move_user(&mut self, user: &Token, to: UserState) -> Result<(), CardFault>
         ensures moved { OnOk result (self.new ≡ with_user_moved self.old user.now to) }
         ensures refused { OnErr result (self.new ≡ self.old) }
-        ensures reason { reason_of_result result ≡ user_move_reason (user_named user.now self.old.users) to }
+        ensures reason { card_result_reason result ≡ user_move_reason (user_named user.now self.old.users) to }
         ensures without_memory { ¬ (IsErrOf result CardFault.OutOfMemory) }
     {
         let Some(found) = self.users.get(user) else {
@@ -129,7 +129,7 @@ impl Cards {
     pub fn move_card(&mut self, card: &Token, to: CardState) -> Result<(), CardFault>
         ensures moved { OnOk result (self.new ≡ with_card_moved self.old card.now to) }
         ensures refused { OnErr result (self.new ≡ self.old) }
-        ensures reason { reason_of_result result ≡ card_move_reason (card_named card.now self.old.cards) to }
+        ensures reason { card_result_reason result ≡ card_move_reason (card_named card.now self.old.cards) to }
         ensures without_memory { ¬ (IsErrOf result CardFault.OutOfMemory) }
     {
         let Some(found) = self.issued.get(card) else {

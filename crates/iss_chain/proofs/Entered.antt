@@ -14,8 +14,8 @@ use Rattle.iss_hold.specs.Holdings.{tokens}
 use Rattle.iss_chain.specs.declared.sums.PostSums.{PostSums}
 use Rattle.iss_chain.specs.Values.{ChainNow, chain_after_entry}
 use Rattle.iss_chain.specs.declared.books.Books.{Books}
-use Rattle.iss_chain.specs.Entering.{KeepsSmall}
-use Rattle.iss_chain.specs.Rows.{row_sums, sums_after, txn_sums_of, by_place, row_in, rows_from, rows_in, chain_of, AreKept}
+use Rattle.iss_chain.specs.Entering.{IsChainSmall}
+use Rattle.iss_chain.specs.Rows.{row_sums, sums_after, txn_sums_of, by_place, row_in, rows_from, rows_in, chain_of, AreBooksKept}
 use Rattle.iss_chain.proofs.RowSums.{sums_more, sums_ended, ended_length, sums_set}
 use Rattle.iss_chain.proofs.RowPlaces.{rows_same, rows_more, rows_length, put_rows, later_same, one_more}
 
@@ -32,30 +32,30 @@ begun ledger h g t rows more paired e f =
     ∙ ap (λ (sums : SumsByTxn). record { balances = ledger; holdings = with_txn h t; txn_sums = sums }) (sums_more h.txns (record { txn = t; live = is_live h.txns t.token }) rows paired)
 
 -- a transaction began in these books, and there is room for no more than its row
-pub begun_in : (b : Books) (g : Holdings) (t : Txn) → AreKept b → g ≡ with_txn b.holds t → chain_of (record b { holds = g }) ≡ chain_after_entry (chain_of b) (entry.Began t)
+pub begun_in : (b : Books) (g : Holdings) (t : Txn) → AreBooksKept b → g ≡ with_txn b.holds t → chain_of (record b { holds = g }) ≡ chain_after_entry (chain_of b) (entry.Began t)
 begun_in b g t kept e =
     let n = length b.holds.txns in
     begun b.ledger b.holds g t (rows_in b) (rows_from (row_in b.sums) 0 (length g.txns)) (rows_length (row_in b.sums) 0 n) e
     (rows_more (row_in b.sums) n (length g.txns) (one_more b.holds g t e) (ap (λ (o : Option (Option PostSums)). unwrap_or o None) (kept.none_after n (omega arith))))
 
-pub begun_kept : (b : Books) (g : Holdings) (t : Txn) → AreKept b → g ≡ with_txn b.holds t → KeepsSmall (chain_after_entry (chain_of b) (entry.Began t)) → AreKept (record b { holds = g })
+pub begun_kept : (b : Books) (g : Holdings) (t : Txn) → AreBooksKept b → g ≡ with_txn b.holds t → IsChainSmall (chain_after_entry (chain_of b) (entry.Began t)) → AreBooksKept (record b { holds = g })
 begun_kept b g t kept e small =
     let more = one_more b.holds g t e in
     record {
       none_after = λ place h. kept.none_after place (omega (arith, more, h));
-      small = subst (λ (x : ChainNow). KeepsSmall x) (sym (begun_in b g t kept e)) small;
+      small = subst (λ (x : ChainNow). IsChainSmall x) (sym (begun_in b g t kept e)) small;
     }
 
 -- room for the row of a transaction changes nothing
 pub roomy : (b : Books) (room : BTreeMap ℕ (Option PostSums)) → ((at : ℕ) → row_in room at ≡ row_in b.sums at) → chain_of (record b { sums = room }) ≡ chain_of b
 roomy b room same = ap (λ (rows : List (Option PostSums)). chain_with b.ledger b.holds rows) (rows_same (length b.holds.txns) same)
 
-pub roomy_kept : (b : Books) (room : BTreeMap ℕ (Option PostSums)) (place : ℕ) → AreKept b → place < length b.holds.txns → ((at : ℕ) → row_in room at ≡ row_in b.sums at)
-    → ((at : ℕ) → place < at → tree.get by_place room at ≡ tree.get by_place b.sums at) → AreKept (record b { sums = room })
+pub roomy_kept : (b : Books) (room : BTreeMap ℕ (Option PostSums)) (place : ℕ) → AreBooksKept b → place < length b.holds.txns → ((at : ℕ) → row_in room at ≡ row_in b.sums at)
+    → ((at : ℕ) → place < at → tree.get by_place room at ≡ tree.get by_place b.sums at) → AreBooksKept (record b { sums = room })
 roomy_kept b room place kept within same later =
     record {
       none_after = λ at h. later at (omega (arith, within, h)) ∙ kept.none_after at h;
-      small = subst (λ (x : ChainNow). KeepsSmall x) (sym (roomy b room same)) kept.small;
+      small = subst (λ (x : ChainNow). IsChainSmall x) (sym (roomy b room same)) kept.small;
     }
 
 -- a transaction ended
@@ -73,12 +73,12 @@ pub ended_in : (b : Books) (g : Holdings) (k : List ℕ) → g ≡ with_end b.ho
 ended_in b g k e =
     ap (λ (n : ℕ). chain_with b.ledger g (rows_from (row_in b.sums) 0 n)) (ended_count b g k e) ∙ ended b.ledger b.holds g k (rows_in b) e
 
-pub ended_kept : (b : Books) (g : Holdings) (k : List ℕ) → AreKept b → g ≡ with_end b.holds k → KeepsSmall (chain_after_entry (chain_of b) (entry.Ended k)) → AreKept (record b { holds = g })
+pub ended_kept : (b : Books) (g : Holdings) (k : List ℕ) → AreBooksKept b → g ≡ with_end b.holds k → IsChainSmall (chain_after_entry (chain_of b) (entry.Ended k)) → AreBooksKept (record b { holds = g })
 ended_kept b g k kept e small =
     let same = ended_count b g k e in
     record {
       none_after = λ place h. kept.none_after place (omega (arith, same, h));
-      small = subst (λ (x : ChainNow). KeepsSmall x) (sym (ended_in b g k e)) small;
+      small = subst (λ (x : ChainNow). IsChainSmall x) (sym (ended_in b g k e)) small;
     }
 
 -- a post was counted for the transaction at a place
@@ -103,7 +103,7 @@ counted_in b ledger room put place k s t from to amount same u after within name
     ∙ ap (λ (x : Kept). record { balances = x; holdings = b.holds; txn_sums = with_post (txn_sums_of b.holds.txns (rows_in b)) (entry.Post from to amount (Some k)) }) posted
 
 -- what stands after the last transaction's place is as it was
-pub put_after : (b : Books) (room put : BTreeMap ℕ (Option PostSums)) (place : ℕ) (t : PostSums) → AreKept b → place < length b.holds.txns
+pub put_after : (b : Books) (room put : BTreeMap ℕ (Option PostSums)) (place : ℕ) (t : PostSums) → AreBooksKept b → place < length b.holds.txns
     → ((at : ℕ) → place < at → tree.get by_place room at ≡ tree.get by_place b.sums at) → tree.Updates by_place room put place (Some (Some t))
     → (at : ℕ) → length b.holds.txns ≤ at → tree.get by_place put at ≡ None
 put_after b room put place t kept within later u at h =

@@ -22,7 +22,7 @@ use Rattle.iss_model.specs.rules.CardReasons.{is_account_funded}
 use Rattle.iss_model.specs.rules.Pieces.{only_where, only_gateway, post_entries, hold_entries, unhold_entries, user_account, Parts, in_all, taken_to_clear, left_of, taken_to_release, release_entries, clearing_money_entries}
 use Rattle.iss_model.proofs.Names.{its_name}
 use Rattle.iss_model.proofs.KeptSums.{kept_at-after_change}
-use Rattle.iss_hold.specs.Entries.{IsCovered}
+use Rattle.iss_hold.specs.Entries.{IsHoldCovered}
 use Rattle.iss_chain.specs.Values.{ChainNow, chain_after_entry}
 use Rattle.iss_chain.specs.Entering.{IsTxn, AreFit}
 
@@ -115,7 +115,7 @@ own_part : (parts : Kept) (token : List ℕ) (p : Part) (n m : ℕ) → n ≤ m 
 own_part parts token p n m le h =
     subst (λ (x : ℤ). m - n ≤ not_below x) (sym (part_after parts token p p (neg_ℤ (pos n)) true (its_name (part_key token p)))) (left_over (kept_at parts (part_key token p)) m n le h)
 
-covers : (n there : ℕ) → (n == 0) ≡ false → n ≤ there → IsCovered (neg_ℤ (pos n)) there
+covers : (n there : ℕ) → (n == 0) ≡ false → n ≤ there → IsHoldCovered (neg_ℤ (pos n)) there
 covers zero there e le = cc
 covers (suc n) there e le = le
 

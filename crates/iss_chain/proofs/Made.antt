@@ -13,7 +13,7 @@ use Rattle.iss_model.specs.rules.Reasons.{is_some_with}
 use Rattle.iss_model.specs.rules.CardReasons.{passes_cleared}
 use Rattle.iss_model.specs.rules.Pieces.{owed_to_programme, Parts, parts_held}
 use Rattle.iss_hold.specs.declared.hold.Hold.{Hold}
-use Rattle.iss_hold.specs.Holdings.{now_of, tokens, parts_of}
+use Rattle.iss_hold.specs.Holdings.{txn_of_hold, tokens, parts_of_hold}
 use Rattle.iss_hold.specs.Indexes.{place_in}
 use Rattle.iss_hold.specs.Entries.{parts_in}
 use Rattle.iss_chain.specs.declared.sums.PostSums.{PostSums}
@@ -29,10 +29,10 @@ pub alone : {made before es : List Entry} → made ≡ before ++ es → before �
 alone {made} {before} {es} e f = e ∙ ap (λ (xs : List Entry). xs ++ es) f
 
 -- of a known transaction
-pub made_for : (c : ChainNow) (name : List ℕ) (hold : Hold) (make : TxnNow → Parts → List Entry) → Some (now_of hold) ≡ txn_named name c.holdings.txns → parts_of hold ≡ parts_in c.holdings name
-    → make (now_of hold) (parts_of hold) ≡ entries_for c (txn_named name c.holdings.txns) make
+pub made_for : (c : ChainNow) (name : List ℕ) (hold : Hold) (make : TxnNow → Parts → List Entry) → Some (txn_of_hold hold) ≡ txn_named name c.holdings.txns → parts_of_hold hold ≡ parts_in c.holdings name
+    → make (txn_of_hold hold) (parts_of_hold hold) ≡ entries_for c (txn_named name c.holdings.txns) make
 made_for c name hold make e parts =
-    ap (λ (p : Parts). make (now_of hold) p) (parts ∙ ap (λ (k : List ℕ). parts_in c.holdings k) (sym (found_token name c.holdings.txns (now_of hold) (sym e))))
+    ap (λ (p : Parts). make (txn_of_hold hold) p) (parts ∙ ap (λ (k : List ℕ). parts_in c.holdings k) (sym (found_token name c.holdings.txns (txn_of_hold hold) (sym e))))
     ∙ ap (λ (o : Option TxnNow). entries_for c o make) e
 
 -- of an unknown one there are none
@@ -40,22 +40,22 @@ pub made_none : (c : ChainNow) (name : List ℕ) (make : TxnNow → Parts → Li
 made_none c name make e = ap (λ (o : Option TxnNow). entries_for c o make) (sym e)
 
 -- what a known transaction holds, by its own token
-pub held_so : (c : ChainNow) (name : List ℕ) (r : Option Hold) → option_map now_of r ≡ txn_named name c.holdings.txns
-    → IfSome r (λ hold. parts_of hold ≡ parts_in c.holdings name) → IfSome r (λ hold. parts_of hold ≡ parts_held (chain_facts c) hold.txn)
+pub held_so : (c : ChainNow) (name : List ℕ) (r : Option Hold) → option_map txn_of_hold r ≡ txn_named name c.holdings.txns
+    → IfSome r (λ hold. parts_of_hold hold ≡ parts_in c.holdings name) → IfSome r (λ hold. parts_of_hold hold ≡ parts_held (chain_facts c) hold.txn)
 held_so c name None named parts = tt
-held_so c name (Some hold) named parts = parts ∙ ap (λ (k : List ℕ). parts_in c.holdings k) (sym (found_token name c.holdings.txns (now_of hold) (sym named)))
+held_so c name (Some hold) named parts = parts ∙ ap (λ (k : List ℕ). parts_in c.holdings k) (sym (found_token name c.holdings.txns (txn_of_hold hold) (sym named)))
 
 same_now : (x y : TxnNow) → Some x ≡ Some y → x ≡ y
 same_now x y e = cc
 
 -- what the programme is owed, by what stands at the place of a transaction
 pub owed_at : (ledger : Kept) (h : Holdings) (rows : List (Option PostSums)) (i : ℕ) (name : List ℕ) (hold : Hold) (s : PostSums) (owed : ℕ)
-    → Some i ≡ place_in name (tokens h.txns) → IsDistinct bytes_eq (tokens h.txns) → slice_get h.txns i ≡ Some (now_of hold) → parts_of hold ≡ parts_in h hold.txn.token
+    → Some i ≡ place_in name (tokens h.txns) → IsDistinct bytes_eq (tokens h.txns) → slice_get h.txns i ≡ Some (txn_of_hold hold) → parts_of_hold hold ≡ parts_in h hold.txn.token
     → Some s ≡ option_map row_sums (slice_get rows i) → owed ≡ not_below (s.paid -ℤ pos hold.p)
     → IfSome (txn_named name h.txns) (λ t. owed ≡ owed_to_programme (chain_facts (chain_with ledger h rows)) t.txn)
 owed_at ledger h rows i name hold s owed place once at parts row is =
     let there = found name h.txns i (sym place) in
-    let same : there.now ≡ now_of hold = same_now there.now (now_of hold) (sym there.stands ∙ at) in
+    let same : there.now ≡ txn_of_hold hold = same_now there.now (txn_of_hold hold) (sym there.stands ∙ at) in
     let token : hold.txn.token ≡ name = ap (λ (x : TxnNow). x.txn.token) (sym same) ∙ there.token in
     let paid : kept_at (txn_sums_of h.txns rows).paid hold.txn.token ≡ s.paid =
     ap (λ (k : List ℕ). kept_at (txn_sums_of h.txns rows).paid k) token ∙ row_kept (λ q. q.paid) refl (tokens h.txns) rows i name s once there.name_there (sym row) in
@@ -67,7 +67,7 @@ pub owed_none : (c : ChainNow) (name : List ℕ) (owed : ℕ) → txn_named name
 owed_none c name owed e = subst (λ (o : Option TxnNow). IfSome o (λ t. owed ≡ owed_to_programme (chain_facts c) t.txn)) (sym e) tt
 
 -- a refund, by what is owed
-pub refund_made : (c : ChainNow) (name : List ℕ) (hold : Hold) (owed amount : ℕ) → Some (now_of hold) ≡ txn_named name c.holdings.txns
+pub refund_made : (c : ChainNow) (name : List ℕ) (hold : Hold) (owed amount : ℕ) → Some (txn_of_hold hold) ≡ txn_named name c.holdings.txns
     → IfSome (txn_named name c.holdings.txns) (λ t. owed ≡ owed_to_programme (chain_facts c) t.txn) → refund_money_entries hold.txn owed amount ≡ entries_of_refund c name amount
 refund_made c name hold owed amount e owes =
     let is : owed ≡ owed_to_programme (chain_facts c) hold.txn = subst (λ (o : Option TxnNow). IfSome o (λ t. owed ≡ owed_to_programme (chain_facts c) t.txn)) (sym e) owes in

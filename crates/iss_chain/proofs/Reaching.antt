@@ -19,15 +19,15 @@ use Rattle.iss_model.proofs.Names.{its_name}
 use Rattle.iss_model.proofs.KeptSums.{kept_at-after_changes}
 use Rattle.iss_chain.specs.Values.{ChainNow, chain_after_entry}
 use Rattle.iss_chain.specs.Calls.{fund_money_entries}
-use Rattle.iss_chain.specs.Entering.{KeepsSmall, StaysSmall}
+use Rattle.iss_chain.specs.Entering.{IsChainSmall, StaysSmall}
 use Rattle.iss_chain.proofs.FitPieces.{after}
 
 -- a first list of two leaves small sums, and so does each entry of the second
 pub record GoesOn (c : ChainNow) (xs ys : List Entry) : Type 0 where
-  pub first : KeepsSmall (after c xs)
+  pub first : IsChainSmall (after c xs)
   pub rest : StaysSmall (after c xs) ys
 
-pub goes_on : (c : ChainNow) (xs ys : List Entry) → KeepsSmall c → StaysSmall c (xs ++ ys) → GoesOn c xs ys
+pub goes_on : (c : ChainNow) (xs ys : List Entry) → IsChainSmall c → StaysSmall c (xs ++ ys) → GoesOn c xs ys
 goes_on c [] ys small stays = record { first = small; rest = stays }
 goes_on c (x ∷ xs) ys small stays = let later = goes_on (chain_after_entry c x) xs ys stays.0 stays.1 in record { first = later.first; rest = later.rest }
 
@@ -49,7 +49,7 @@ own_change : (b : Bool) (amount : ℕ) → b ≡ true → cond b (pos amount) (p
 own_change true amount e = omega (arith, ints)
 own_change false amount e = cc
 
-hold_reaches : (c : ChainNow) (t : Txn) (p : Part) (amount : ℕ) → KeepsSmall c → StaysSmall c (hold_entries t p amount) → amount < 2 ^ 63
+hold_reaches : (c : ChainNow) (t : Txn) (p : Part) (amount : ℕ) → IsChainSmall c → StaysSmall c (hold_entries t p amount) → amount < 2 ^ 63
 hold_reaches c t p amount small stays = by (amount == 0) refl stays
   where
     by : (b : Bool) → (amount == 0) ≡ b → StaysSmall c (cond b [] (entry.Hold t.token t.user t.currency p (pos amount) ∷ [])) → amount < 2 ^ 63
@@ -59,7 +59,7 @@ hold_reaches c t p amount small stays = by (amount == 0) refl stays
         (own_change (bytes_eq (user_key t.user t.currency) (user_key t.user t.currency)) amount (its_name (user_key t.user t.currency)))
 
 -- an amount that is paid in and held
-pub fund_reaches : (c : ChainNow) (t : Txn) (p : Part) (amount : ℕ) → KeepsSmall c → StaysSmall c (fund_money_entries t p amount) → amount < 2 ^ 63
+pub fund_reaches : (c : ChainNow) (t : Txn) (p : Part) (amount : ℕ) → IsChainSmall c → StaysSmall c (fund_money_entries t p amount) → amount < 2 ^ 63
 fund_reaches c t part.G amount small stays =
     let later = goes_on c (post_entries t (account.Gateway t.currency) (user_account t) amount) (hold_entries t part.G amount) small stays in
     hold_reaches (after c (post_entries t (account.Gateway t.currency) (user_account t) amount)) t part.G amount later.first later.rest
@@ -73,7 +73,7 @@ network_change true false amount e f = omega (arith, ints)
 network_change true true amount e f = cc
 network_change false d amount e f = cc
 
-paid_reaches : (c : ChainNow) (t : Txn) (amount : ℕ) → KeepsSmall c → StaysSmall c (post_entries t (user_account t) (account.Network t.currency) amount) → amount < 2 ^ 63
+paid_reaches : (c : ChainNow) (t : Txn) (amount : ℕ) → IsChainSmall c → StaysSmall c (post_entries t (user_account t) (account.Network t.currency) amount) → amount < 2 ^ 63
 paid_reaches c t amount small stays = by (amount == 0) refl stays
   where
     by : (b : Bool) → (amount == 0) ≡ b → StaysSmall c (cond b [] (entry.Post (user_account t) (account.Network t.currency) amount (Some t.token) ∷ [])) → amount < 2 ^ 63
@@ -85,7 +85,7 @@ paid_reaches c t amount small stays = by (amount == 0) refl stays
         (network_change (bytes_eq network network) (bytes_eq own network) amount (its_name network) refl)
 
 -- an amount that is cleared
-pub clear_reaches : (c : ChainNow) (t : Txn) (taken : Parts) (amount at : ℕ) (more : List Entry) → KeepsSmall c → StaysSmall c (clearing_money_entries t taken amount at ++ more) → amount < 2 ^ 63
+pub clear_reaches : (c : ChainNow) (t : Txn) (taken : Parts) (amount at : ℕ) (more : List Entry) → IsChainSmall c → StaysSmall c (clearing_money_entries t taken amount at ++ more) → amount < 2 ^ 63
 clear_reaches c t taken amount at more small stays =
     let excess = amount - in_all taken in
     let before = unhold_entries t part.G taken.g ++ unhold_entries t part.P taken.p ++ unhold_entries t part.S taken.s ++ only_gateway t (post_entries t (account.Programme t.currency) (user_account t) excess) in
@@ -96,7 +96,7 @@ clear_reaches c t taken amount at more small stays =
     let d = goes_on c before paid small b in
     paid_reaches (after c before) t amount d.first d.rest
   where
-    first_of : (c : ChainNow) (xs ys : List Entry) → KeepsSmall c → StaysSmall c (xs ++ ys) → StaysSmall c xs
+    first_of : (c : ChainNow) (xs ys : List Entry) → IsChainSmall c → StaysSmall c (xs ++ ys) → StaysSmall c xs
     first_of c [] ys small stays = tt
     first_of c (x ∷ xs) ys small stays = (stays.0, first_of (chain_after_entry c x) xs ys stays.0 stays.1)
 
@@ -108,7 +108,7 @@ same_sum : (z w : ℤ) → w ≡ pos 0 → z ≡ z +ℤ w
 same_sum z w e = omega (arith, ints, e)
 
 -- a transaction that begins leaves all sums as they were
-pub begun_small : (c : ChainNow) (t : Txn) → KeepsSmall c → KeepsSmall (chain_after_entry c (entry.Began t))
+pub begun_small : (c : ChainNow) (t : Txn) → IsChainSmall c → IsChainSmall (chain_after_entry c (entry.Began t))
 begun_small c t small =
     record {
       balances = small.balances;

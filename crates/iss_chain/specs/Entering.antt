@@ -12,7 +12,7 @@ use Rattle.iss_model.specs.state.Kept.{kept_at, AreSmall}
 use Rattle.iss_model.specs.rules.Activity.{txn_named}
 use Rattle.iss_model.specs.rules.Facts.{not_below}
 use Rattle.iss_model.specs.state.Cores.{Holdings, SumsByTxn}
-use Rattle.iss_hold.specs.Entries.{IsCovered}
+use Rattle.iss_hold.specs.Entries.{IsHoldCovered}
 use Rattle.iss_chain.specs.Values.{ChainNow, chain_after_entry}
 
 -- what was cleared, refunded and paid of each transaction lies strictly between -2^62 and 2^62
@@ -22,7 +22,7 @@ pub record AreSumsSmall (sums : SumsByTxn) : Type 0 where
   pub paid : AreSmall sums.paid
 
 -- each sum that a chain keeps lies in that range too
-pub record KeepsSmall (c : ChainNow) : Type 0 where
+pub record IsChainSmall (c : ChainNow) : Type 0 where
   pub balances : AreSmall c.balances
   pub held : AreSmall c.holdings.held
   pub txn_sums : AreSumsSmall c.txn_sums
@@ -30,7 +30,7 @@ pub record KeepsSmall (c : ChainNow) : Type 0 where
 -- each sum lies in that range after each of these entries
 abbrev pub StaysSmall : ChainNow → List Entry → Type 0
 StaysSmall c [] = Unit {0}
-StaysSmall c (e ∷ es) = KeepsSmall (chain_after_entry c e) × StaysSmall (chain_after_entry c e) es
+StaysSmall c (e ∷ es) = IsChainSmall (chain_after_entry c e) × StaysSmall (chain_after_entry c e) es
 
 -- a transaction is unknown, and no known one began with its record
 pub record IsNewTxn (h : Holdings) (t : Txn) : Type 0 where
@@ -48,7 +48,7 @@ pub record HoldFits (h : Holdings) (txn user : List ℕ) (currency : Currency) (
   pub of_txn : txn ≡ its.token
   pub of_user : user ≡ its.user
   pub of_currency : currency ≡ its.currency
-  pub covered : IsCovered amount (not_below (kept_at h.parts (part_key txn p)))
+  pub covered : IsHoldCovered amount (not_below (kept_at h.parts (part_key txn p)))
 
 -- a post for a transaction is for a known one
 abbrev pub PostFits : Holdings → Option (List ℕ) → Type 0
@@ -69,6 +69,6 @@ AreFit c [] = Unit {0}
 AreFit c (e ∷ es) = Fits c e × AreFit (chain_after_entry c e) es
 
 -- an entry fits the chain that it is entered into, and leaves small sums
-pub record IsEnterable (c : ChainNow) (e : Entry) : Type 0 where
+pub record IsChainEnterable (c : ChainNow) (e : Entry) : Type 0 where
   pub fits : Fits c e
-  pub small : KeepsSmall (chain_after_entry c e)
+  pub small : IsChainSmall (chain_after_entry c e)

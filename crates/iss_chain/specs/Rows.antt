@@ -14,7 +14,7 @@ use Rattle.iss_hold.specs.Holdings.{tokens}
 use Rattle.iss_chain.specs.declared.sums.PostSums.{PostSums}
 use Rattle.iss_chain.specs.declared.books.Books.{Books}
 use Rattle.iss_chain.specs.Values.{ChainNow}
-use Rattle.iss_chain.specs.Entering.{KeepsSmall}
+use Rattle.iss_chain.specs.Entering.{IsChainSmall}
 
 -- the sums of a transaction without a post
 abbrev pub no_sums : PostSums
@@ -77,6 +77,6 @@ abbrev pub chain_of : Books → ChainNow
 chain_of b = record { balances = b.ledger; holdings = b.holds; txn_sums = txn_sums_of b.holds.txns (rows_in b) }
 
 -- there are no sums after the last transaction's, and each sum is small
-pub record AreKept (b : Books) : Type 0 where
+pub record AreBooksKept (b : Books) : Type 0 where
   pub none_after : (place : ℕ) → length b.holds.txns ≤ place → tree.get by_place b.sums place ≡ None
-  pub small : KeepsSmall (chain_of b)
+  pub small : IsChainSmall (chain_of b)

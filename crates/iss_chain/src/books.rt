@@ -4,8 +4,8 @@ ghost use Rattle.std.specs.Option.{option_map};
 ghost use Rattle.iss_model.specs.declared.entry.Entry.TheVariants as entry;
 ghost use Rattle.iss_model.specs.rules.Activity.{txn_named};
 ghost use Rattle.iss_chain.specs.Values.{IsPosted, no_chain, chain_after_entry};
-ghost use Rattle.iss_chain.specs.Entering.{KeepsSmall, StaysSmall, IsNewTxn, PostFits, AreFit, IsEnterable};
-ghost use Rattle.iss_chain.specs.Rows.{row_sums, rows_in, chain_of, AreKept};
+ghost use Rattle.iss_chain.specs.Entering.{IsChainSmall, StaysSmall, IsNewTxn, PostFits, AreFit, IsChainEnterable};
+ghost use Rattle.iss_chain.specs.Rows.{row_sums, rows_in, chain_of, AreBooksKept};
 
 use crate::rows::{make_room, set_sums, sums_of};
 use crate::sums::PostSums;
@@ -28,7 +28,7 @@ impl Books {
     /// Books without a transaction or a post.
     pub(crate) fn new(alloc: Global) -> Result<Books, AllocError>
         ensures value { IfOk result (λ books. chain_of books ≡ no_chain) }
-        ensures kept { IfOk result (λ books. AreKept books) }
+        ensures kept { IfOk result (λ books. AreBooksKept books) }
     {
         Ok(Books {
             ledger: Ledger::new(alloc)?,
@@ -47,11 +47,11 @@ impl Books {
 
     /// Enters entries one by one. Those of other kinds than a chain's change nothing.
     pub(crate) fn enter_all(&mut self, entries: &[Entry]) -> Result<(), AllocError>
-        requires kept { AreKept self.old }
+        requires kept { AreBooksKept self.old }
         requires fit { AreFit (chain_of self.old) entries.now }
         requires small { StaysSmall (chain_of self.old) entries.now }
         ensures entered { OnOk result (chain_of self.new ≡ fold chain_after_entry (chain_of self.old) entries.now) }
-        ensures kept { AreKept self.new }
+        ensures kept { AreBooksKept self.new }
     {
         for entry in entries {
             self.enter(entry)?;
@@ -61,11 +61,11 @@ impl Books {
 
     /// Enters one entry. If an allocation fails, nothing changes.
     pub(crate) fn enter(&mut self, entry: &Entry) -> Result<(), AllocError>
-        requires kept { AreKept self.old }
-        requires enterable { IsEnterable (chain_of self.old) entry.now }
+        requires kept { AreBooksKept self.old }
+        requires enterable { IsChainEnterable (chain_of self.old) entry.now }
         ensures entered { OnOk result (chain_of self.new ≡ chain_after_entry (chain_of self.old) entry.now) }
         ensures unchanged { OnErr result (chain_of self.new ≡ chain_of self.old) }
-        ensures kept { AreKept self.new }
+        ensures kept { AreBooksKept self.new }
     {
         match entry {
             Entry::Began(txn) => self.begin(txn),
@@ -102,12 +102,12 @@ impl Books {
 
     /// Begins a transaction.
     fn begin(&mut self, txn: &Txn) -> Result<(), AllocError>
-        requires kept { AreKept self.old }
+        requires kept { AreBooksKept self.old }
         requires new { IsNewTxn self.old.holds txn.now }
-        requires small { KeepsSmall (chain_after_entry (chain_of self.old) (entry.Began txn.now)) }
+        requires small { IsChainSmall (chain_after_entry (chain_of self.old) (entry.Began txn.now)) }
         ensures entered { OnOk result (chain_of self.new ≡ chain_after_entry (chain_of self.old) (entry.Began txn.now)) }
         ensures unchanged { OnErr result (chain_of self.new ≡ chain_of self.old) }
-        ensures kept { AreKept self.new }
+        ensures kept { AreBooksKept self.new }
     {
         self.holds.start(txn)?;
         Ok(())
@@ -121,12 +121,12 @@ impl Books {
         amount: u64,
         txn: &Option<Token>,
     ) -> Result<(), AllocError>
-        requires kept { AreKept self.old }
+        requires kept { AreBooksKept self.old }
         requires known { PostFits self.old.holds txn.now }
-        requires small { KeepsSmall (chain_after_entry (chain_of self.old) (entry.Post from.now to.now amount txn.now)) }
+        requires small { IsChainSmall (chain_after_entry (chain_of self.old) (entry.Post from.now to.now amount txn.now)) }
         ensures entered { OnOk result (IsPosted (chain_of self.old) from.now to.now amount txn.now (chain_of self.new)) }
         ensures unchanged { OnErr result (chain_of self.new ≡ chain_of self.old) }
-        ensures kept { AreKept self.new }
+        ensures kept { AreBooksKept self.new }
     {
         match txn {
             Some(txn) => self.post_for(from, to, amount, txn),
@@ -145,12 +145,12 @@ impl Books {
         amount: u64,
         txn: &Token,
     ) -> Result<(), AllocError>
-        requires kept { AreKept self.old }
+        requires kept { AreBooksKept self.old }
         requires known { IsSome (txn_named txn.now self.old.holds.txns) }
-        requires small { KeepsSmall (chain_after_entry (chain_of self.old) (entry.Post from.now to.now amount (Some txn.now))) }
+        requires small { IsChainSmall (chain_after_entry (chain_of self.old) (entry.Post from.now to.now amount (Some txn.now))) }
         ensures entered { OnOk result (IsPosted (chain_of self.old) from.now to.now amount (Some txn.now) (chain_of self.new)) }
         ensures unchanged { OnErr result (chain_of self.new ≡ chain_of self.old) }
-        ensures kept { AreKept self.new }
+        ensures kept { AreBooksKept self.new }
     {
         match self.holds.place(txn) {
             Some(place) => {

@@ -11,11 +11,11 @@ ghost use Rattle.iss_model.specs.rules.Reasons.{is_some_with};
 ghost use Rattle.iss_model.specs.rules.CardReasons.{passes_cleared};
 ghost use Rattle.iss_model.specs.rules.Due.{txn_due, is_quiet};
 ghost use Rattle.iss_model.specs.rules.Pieces.{parts_held, owed_to_programme};
-ghost use Rattle.iss_hold.specs.Holdings.{now_of, parts_of, whole_of};
+ghost use Rattle.iss_hold.specs.Holdings.{txn_of_hold, parts_of_hold, whole_of};
 ghost use Rattle.iss_hold.specs.Expiries.{txns_due};
 ghost use Rattle.iss_chain.specs.Values.{no_chain, chain_after_entry, chain_facts, txn_state};
 ghost use Rattle.iss_chain.specs.Calls.{load_money_entries, entries_of_fund, entries_of_reverse, entries_before_end, entries_of_clear, entries_of_refund, entries_of_end};
-ghost use Rattle.iss_chain.specs.Entering.{IsNewTxn, StaysSmall, AreFit, IsEnterable};
+ghost use Rattle.iss_chain.specs.Entering.{IsNewTxn, StaysSmall, AreFit, IsChainEnterable};
 
 use crate::books::Books;
 use crate::state::TxnState;
@@ -42,11 +42,11 @@ impl Model for Chain {
 
     ghost coded = { Prim.hlevel (codes, kept_code) };
 
-    ghost use Rattle.iss_chain.specs.Rows.{chain_of, AreKept};
+    ghost use Rattle.iss_chain.specs.Rows.{chain_of, AreBooksKept};
 
     ghost view = { λ c. chain_of c.books };
 
-    ghost invariant = { λ c. AreKept c.books };
+    ghost invariant = { λ c. AreBooksKept c.books };
 }
 
 impl Chain {
@@ -175,7 +175,7 @@ impl Chain {
     /// Enters one entry: what began, was posted, held or ended; others change nothing. If an allocation fails, all stays as
     /// it was.
     pub fn enter(&mut self, entry: &Entry) -> Result<(), AllocError>
-        requires { IsEnterable self.old entry.now }
+        requires { IsChainEnterable self.old entry.now }
         ensures entered { OnOk result (self.new ≡ chain_after_entry self.old entry.now) }
         ensures unchanged { OnErr result (self.new ≡ self.old) }
     {
@@ -193,8 +193,8 @@ impl Chain {
 
     /// A transaction with what it holds, `None` exactly if it is unknown.
     pub fn hold(&self, txn: &Token) -> Option<Hold>
-        ensures txn { option_map now_of result ≡ txn_named txn.now self.now.holdings.txns }
-        ensures parts { IfSome result (λ hold. parts_of hold ≡ parts_held (chain_facts self.now) hold.txn) }
+        ensures txn { option_map txn_of_hold result ≡ txn_named txn.now self.now.holdings.txns }
+        ensures parts { IfSome result (λ hold. parts_of_hold hold ≡ parts_held (chain_facts self.now) hold.txn) }
         ensures small { IfSome result (λ hold. whole_of hold < 2 ^ 62) }
     {
         self.books.holds.get(txn)

@@ -9,7 +9,7 @@ ghost use Rattle.iss_model.specs.rules.Pieces.{owed_to_programme};
 ghost use Rattle.iss_chain.specs.Values.{chain_facts};
 ghost use Rattle.iss_chain.specs.Calls.{entries_of_fund, entries_of_reverse, entries_of_end, entries_before_end, entries_of_clear, entries_of_refund};
 ghost use Rattle.iss_chain.specs.Entering.{StaysSmall};
-ghost use Rattle.iss_chain.specs.Rows.{chain_of, AreKept};
+ghost use Rattle.iss_chain.specs.Rows.{chain_of, AreBooksKept};
 
 use crate::books::Books;
 use crate::pieces;
@@ -26,7 +26,7 @@ impl Books {
         part: Part,
         amount: u64,
     ) -> Result<Vec<Entry>, AllocError>
-        requires kept { AreKept self.now }
+        requires kept { AreBooksKept self.now }
         requires small { StaysSmall (chain_of self.now) (entries_of_fund (chain_of self.now) txn.now part amount) }
         ensures { IfOk result (λ made. made.items ≡ entries_of_fund (chain_of self.now) txn.now part amount) }
     {
@@ -65,7 +65,7 @@ impl Books {
         last: bool,
         at: u64,
     ) -> Result<(Vec<Entry>, usize), AllocError>
-        requires kept { AreKept self.now }
+        requires kept { AreBooksKept self.now }
         requires small { StaysSmall (chain_of self.now) (entries_of_clear (chain_of self.now) txn.now amount last at) }
         ensures entries { IfOk result (λ made. made.0.items ≡ entries_of_clear (chain_of self.now) txn.now amount last at) }
         ensures place { IfOk result (λ made. made.1 ≡ length (entries_before_end (chain_of self.now) txn.now amount at)) }
@@ -87,7 +87,7 @@ impl Books {
         txn: &Token,
         amount: u64,
     ) -> Result<Vec<Entry>, AllocError>
-        requires { AreKept self.now }
+        requires { AreBooksKept self.now }
         ensures { IfOk result (λ made. made.items ≡ entries_of_refund (chain_of self.now) txn.now amount) }
     {
         let mut entries = Vec::new(alloc);
@@ -100,7 +100,7 @@ impl Books {
 
     /// What the programme is owed for a transaction.
     pub(crate) fn owed(&self, txn: &Token) -> u64
-        requires { AreKept self.now }
+        requires { AreBooksKept self.now }
         ensures { IfSome (txn_named txn.now self.now.holds.txns) (λ t. result ≡ owed_to_programme (chain_facts (chain_of self.now)) t.txn) }
     {
         let Some(place) = self.holds.place(txn) else {
@@ -123,7 +123,7 @@ impl Books {
 
     /// Whether the refunds of a transaction with this one pass what was cleared of it.
     pub(crate) fn over(&self, txn: &Token, amount: u64) -> bool
-        requires { AreKept self.now }
+        requires { AreBooksKept self.now }
         ensures { result ≡ is_some_with (passes_cleared (chain_facts (chain_of self.now)) amount) (txn_named txn.now self.now.holds.txns) }
     {
         let Some(place) = self.holds.place(txn) else {

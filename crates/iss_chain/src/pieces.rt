@@ -6,7 +6,7 @@ ghost use Rattle.std.specs.Prelude.{◌≡◌, ◌-◌, ◌≤◌, ◌<◌, ◌^
 ghost use Rattle.iss_model.specs.declared.entry.Entry.TheVariants as entry;
 ghost use Rattle.iss_model.specs.rules.Asks.{usage_of};
 ghost use Rattle.iss_model.specs.rules.Pieces.{post_entries, hold_entries, unhold_entries, use_return_entries, user_account, release_entries};
-ghost use Rattle.iss_hold.specs.Holdings.{now_of, parts_of, whole_of};
+ghost use Rattle.iss_hold.specs.Holdings.{txn_of_hold, parts_of_hold, whole_of};
 ghost use Rattle.iss_chain.specs.Calls.{cleared_hold_entries, excess_entries, more_use_entries, paid_back_entries, fund_money_entries, reversal_money_entries, end_money_entries, clearing_end_entries, refund_money_entries};
 
 use iss_hold::Hold;
@@ -149,7 +149,7 @@ pub fn fund(out: &mut Vec<Entry>, txn: &Txn, part: Part, amount: u64) -> Result<
 /// own.
 pub fn release(out: &mut Vec<Entry>, hold: &Hold, amount: u64) -> Result<(), AllocError>
     requires { amount < 2 ^ 63 }
-    ensures { OnOk result (out.new.items ≡ out.old.items ++ release_entries hold.now.txn (parts_of hold.now) amount) }
+    ensures { OnOk result (out.new.items ≡ out.old.items ++ release_entries hold.now.txn (parts_of_hold hold.now) amount) }
 {
     let txn = &hold.txn;
     let taken = hold.taken_to_release(amount);
@@ -176,7 +176,7 @@ pub fn release(out: &mut Vec<Entry>, hold: &Hold, amount: u64) -> Result<(), All
 /// Up to an amount is let go, and a transaction that then holds nothing ends.
 pub fn reverse(out: &mut Vec<Entry>, hold: &Hold, amount: u64) -> Result<(), AllocError>
     requires { whole_of hold.now < 2 ^ 62 }
-    ensures { OnOk result (out.new.items ≡ out.old.items ++ reversal_money_entries hold.now.txn (parts_of hold.now) amount) }
+    ensures { OnOk result (out.new.items ≡ out.old.items ++ reversal_money_entries hold.now.txn (parts_of_hold hold.now) amount) }
 {
     let whole = hold.whole();
     let freed = amount.min(whole);
@@ -190,7 +190,7 @@ pub fn reverse(out: &mut Vec<Entry>, hold: &Hold, amount: u64) -> Result<(), All
 /// A transaction ends, and all that it still holds is let go.
 pub fn end(out: &mut Vec<Entry>, hold: &Hold) -> Result<(), AllocError>
     requires { whole_of hold.now < 2 ^ 62 }
-    ensures { OnOk result (out.new.items ≡ out.old.items ++ end_money_entries hold.now.txn (parts_of hold.now)) }
+    ensures { OnOk result (out.new.items ≡ out.old.items ++ end_money_entries hold.now.txn (parts_of_hold hold.now)) }
 {
     release(out, hold, hold.whole())?;
     out.push(Entry::Ended(hold.txn.token))?;
@@ -201,7 +201,7 @@ pub fn end(out: &mut Vec<Entry>, hold: &Hold) -> Result<(), AllocError>
 pub fn clear(out: &mut Vec<Entry>, hold: &Hold, amount: u64, at: u64) -> Result<(), AllocError>
     requires small { whole_of hold.now < 2 ^ 62 }
     requires amount { amount < 2 ^ 63 }
-    ensures { OnOk result (out.new.items ≡ out.old.items ++ cleared_hold_entries hold.now.txn (parts_of hold.now) amount at) }
+    ensures { OnOk result (out.new.items ≡ out.old.items ++ cleared_hold_entries hold.now.txn (parts_of_hold hold.now) amount at) }
 {
     let txn = &hold.txn;
     let taken = hold.taken_to_clear(amount);
@@ -227,7 +227,7 @@ pub fn end_clearing(
     last: bool,
 ) -> Result<(), AllocError>
     requires { whole_of hold.now < 2 ^ 62 }
-    ensures { OnOk result (out.new.items ≡ out.old.items ++ clearing_end_entries (now_of hold.now) (parts_of hold.now) amount last) }
+    ensures { OnOk result (out.new.items ≡ out.old.items ++ clearing_end_entries (txn_of_hold hold.now) (parts_of_hold hold.now) amount last) }
 {
     let rest = hold.without(&hold.taken_to_clear(amount));
     if hold.live && (last || rest.whole() == 0) {

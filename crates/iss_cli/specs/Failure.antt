@@ -4,11 +4,11 @@ use Rattle.iss_cli.specs.declared.failure.Failure.{Failure}
 use Rattle.iss_cli.specs.declared.failure.Failure.TheVariants.{Usage, Input, Device, Output, Disk, Memory, InputTooLong}
 
 -- the status that the program ends with for this failure
-abbrev pub status_of : Failure → ℕ
-status_of Usage = USAGE
-status_of Input = INPUT_FAULT
-status_of Device = BAD_DEVICE
-status_of Output = OUTPUT_FAULT
-status_of Disk = DISK_FAULT
-status_of Memory = OUT_OF_MEMORY
-status_of InputTooLong = INPUT_TOO_LONG
+abbrev pub failure_status : Failure → ℕ
+failure_status Usage = USAGE
+failure_status Input = INPUT_FAULT
+failure_status Device = BAD_DEVICE
+failure_status Output = OUTPUT_FAULT
+failure_status Disk = DISK_FAULT
+failure_status Memory = OUT_OF_MEMORY
+failure_status InputTooLong = INPUT_TOO_LONG

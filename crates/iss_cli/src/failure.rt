@@ -1,7 +1,7 @@
 //! What the program says on standard error if it ends with another status than 0.
 
 ghost use Rattle.std.specs.Prelude.{◌≡◌, ◌↔◌, ◌≤◌, IsSome, IfSome};
-ghost use Rattle.iss_cli.specs.Failure.{status_of};
+ghost use Rattle.iss_cli.specs.Failure.{failure_status};
 
 use iss_edge::status::{
     BAD_DEVICE, DISK_FAULT, INPUT_FAULT, INPUT_TOO_LONG, OUT_OF_MEMORY, OUTPUT_FAULT, USAGE,
@@ -30,7 +30,7 @@ pub enum Failure {
 /// The failure that a status stands for.
 pub fn failure_of(status: u8) -> Option<Failure>
     ensures known { IsSome result ↔ ((USAGE ≤ status) × (status ≤ INPUT_TOO_LONG)) }
-    ensures told { IfSome result (λ failure. status_of failure ≡ status) }
+    ensures told { IfSome result (λ failure. failure_status failure ≡ status) }
 {
     match status {
         USAGE => Some(Failure::Usage),

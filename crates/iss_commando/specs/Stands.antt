@@ -7,8 +7,8 @@ use Rattle.iss_model.specs.Sums.{stood_key}
 use Rattle.iss_model.specs.rules.Asks.{Ask}
 use Rattle.iss_model.specs.rules.StandIns as rule
 use Rattle.iss_model.specs.rules.StandIns.{covers_failure}
-use Rattle.iss_commando.specs.declared.stand.Stand.{Stand}
-use Rattle.iss_commando.specs.declared.stand.Stand.TheVariants.{Yes, Limit, No}
+use Rattle.iss_commando.specs.declared.stand.SetStand.{SetStand}
+use Rattle.iss_commando.specs.declared.stand.SetStand.TheVariants.{Yes, Limit, No}
 
 -- what holds if an ask is of this product and user, and for this amount
 abbrev pub IfAsks : Ask → List ℕ → List ℕ → ℕ → Type 0 → Type 0
@@ -33,7 +33,7 @@ stand_on sets stood product user amount why at =
     stand_by (stood (stood_key product user at)) amount (find (is_for product why) sets)
 
 -- the same by the set's name
-abbrev pub stand_named : rule.Stand → Stand
+abbrev pub stand_named : rule.Stand → SetStand
 stand_named (rule.allowed s) = Yes s.name
 stand_named (rule.over_limit s) = Limit s.name
 stand_named rule.uncovered = No

@@ -12,4 +12,4 @@ mod stand;
 mod sums;
 
 pub use sets::{SetFault, Sets};
-pub use stand::Stand;
+pub use stand::SetStand;

@@ -16,7 +16,7 @@ ghost use Rattle.iss_commando.specs.Puts.{is_fixed};
 ghost use Rattle.iss_commando.specs.Stands.{IfAsks, is_for, stand_on, stand_named};
 
 use crate::day::DayKey;
-use crate::stand::{Stand, is_for, stand_by};
+use crate::stand::{SetStand, is_for, stand_by};
 use crate::sums::{add_to, sum_at};
 use iss_model::limits::MOST_OF_A_KIND;
 use iss_model::{Failure, Set, Token};
@@ -129,14 +129,14 @@ impl Sets {
         amount: u64,
         failure: Failure,
         at: u64,
-    ) -> Stand
+    ) -> SetStand
         requires { IsTrue (is_stamp at) }
         ensures answer { result ≡ stand_named (stand_on self.now.sets (kept_at self.now.stood) product.now user.now amount failure at) }
         ensures by_rule { (f : Facts) → (ask : Ask) → f.sets ≡ self.now.sets → f.stood ≡ kept_at self.now.stood
             → IfAsks ask product.now user.now amount (result ≡ stand_named (stand f ask failure at)) }
     {
         let Some(set) = deciding(&self.sets, product, failure) else {
-            return Stand::No;
+            return SetStand::No;
         };
         let stood = sum_at(&self.stood, &DayKey::new(product, user, at));
         stand_by(set, stood, amount)

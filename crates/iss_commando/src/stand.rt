@@ -7,7 +7,7 @@ use iss_model::{Failure, Set, Token};
 
 /// What the sets of a product decide if the gateway didn't.
 #[derive(Clone, Copy)]
-pub enum Stand {
+pub enum SetStand {
     /// The set of this name allows the amount.
     Yes(Token),
     /// The set of this name decides, and doesn't allow the amount.
@@ -36,13 +36,13 @@ fn covers(set: &Set, failure: Failure) -> bool
 }
 
 /// What a set that was found decides of an amount, if `stood` stood in on that day.
-pub(crate) fn stand_by(set: &Set, stood: i64, amount: u64) -> Stand
+pub(crate) fn stand_by(set: &Set, stood: i64, amount: u64) -> SetStand
     ensures { result ≡ stand_named (stand_by stood amount (Some set.now)) }
 {
     let total = i128::from(stood) + i128::from(amount);
     if amount <= set.max && total <= i128::from(set.day_limit) {
-        Stand::Yes(set.name)
+        SetStand::Yes(set.name)
     } else {
-        Stand::Limit(set.name)
+        SetStand::Limit(set.name)
     }
 }

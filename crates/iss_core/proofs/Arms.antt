@@ -15,24 +15,24 @@ use Rattle.iss_model.specs.Inputs.{is_event}
 use Rattle.iss_model.specs.rules.Facts.{Accepted, Decision}
 use Rattle.iss_model.specs.state.Kept.{AreSmall}
 use Rattle.iss_model.specs.state.Cores.{CoreState, ControlKept, control_after_use, core_facts}
-use Rattle.iss_state.specs.Needs as needs
+use Rattle.iss_state.specs.Needs.{IsCovered}
 use Rattle.iss_state.proofs.effects.FoundByName.{named_found, standing_found, later_unlike}
 use Rattle.iss_state.specs.Entering.{HaveCountedSmall}
-use Rattle.iss_hold.specs.Entries as holds
+use Rattle.iss_hold.specs.Entries.{IsHoldCovered}
 use Rattle.iss_chain.specs.Values.{chain_part}
-use Rattle.iss_chain.specs.Entering as chain
+use Rattle.iss_chain.specs.Entering.{IsChainSmall, Fits, IsChainEnterable}
 use Rattle.iss_chain.proofs.InCore.{after_entry_part}
-use Rattle.iss_velocity.specs.Keeping.{KeepsSmall, HaveSmallSums}
+use Rattle.iss_velocity.specs.Keeping.{IsControlSmall, HaveSmallSums}
 use Rattle.iss_commando.specs.Trees.{after_stood}
 use Rattle.iss_core.specs.Entering.{MayEnter}
 
 -- ---- the chain's kinds
 
-covered : (amount : ℤ) (held : ℕ) → needs.IsCovered amount held → holds.IsCovered amount held
+covered : (amount : ℤ) (held : ℕ) → IsCovered amount held → IsHoldCovered amount held
 covered (pos n) held h = tt
 covered (negsuc n) held h = h
 
-fits_chain : (s : CoreState) (e : Entry) → MayEnter s e → chain.Fits (chain_part s) e
+fits_chain : (s : CoreState) (e : Entry) → MayEnter s e → Fits (chain_part s) e
 fits_chain s (entry.Began t) may = record { unknown = may.allowed; origin = later_unlike s t.origin may.enterable.fit.later }
 fits_chain s (entry.Post from to amount None) may = tt
 fits_chain s (entry.Post from to amount (Some txn)) may = named_found s txn may.enterable.fit
@@ -57,12 +57,12 @@ fits_chain s (entry.Notice notice) may = tt
 fits_chain s (entry.Acked notice) may = tt
 
 -- an entry may be entered into the chain
-pub chain_may : (s : CoreState) (e : Entry) → MayEnter s e → chain.IsEnterable (chain_part s) e
+pub chain_may : (s : CoreState) (e : Entry) → MayEnter s e → IsChainEnterable (chain_part s) e
 chain_may s e may =
     let small = may.enterable.small in
     record {
       fits = fits_chain s e may;
-      small = subst chain.KeepsSmall (after_entry_part s e) (record {
+      small = subst IsChainSmall (after_entry_part s e) (record {
         balances = small.balances;
         held = small.held;
         txn_sums = record { cleared = small.cleared; refunded = small.refunded; paid = small.paid };
@@ -99,9 +99,9 @@ undecided_may s e event verdict is may = none_found (λ (d : Decision). bytes_eq
 pub use_stamp : (s : CoreState) (e : Entry) (row : UsageRow) → e ≡ entry.Usage row → MayEnter s e → is_stamp row.at ≡ true
 use_stamp s e row is may = (subst (MayEnter s) is may).formed
 
-counted_small : (cs : List ControlKept) → HaveCountedSmall cs → (i : ℕ) (c : ControlKept) → slice_get cs i ≡ Some c → KeepsSmall c
+counted_small : (cs : List ControlKept) → HaveCountedSmall cs → (i : ℕ) (c : ControlKept) → slice_get cs i ≡ Some c → IsControlSmall c
 counted_small [] h i c at = cc
-counted_small (x ∷ cs) h zero c at = let same : x ≡ c = cc in subst KeepsSmall same (record { amounts = h.0; times = h.1.0 })
+counted_small (x ∷ cs) h zero c at = let same : x ≡ c = cc in subst IsControlSmall same (record { amounts = h.0; times = h.1.0 })
 counted_small (x ∷ cs) h (suc i) c at = counted_small cs h.1.1 i c at
 
 pub use_small : (s : CoreState) (e : Entry) (row : UsageRow) → e ≡ entry.Usage row → MayEnter s e → HaveSmallSums (map (control_after_use s.groups (entry.Usage row)) s.controls)

@@ -24,7 +24,7 @@ use Rattle.iss_model.specs.rules.Activity.{TxnNow, txn_named}
 use Rattle.iss_model.specs.rules.Reasons.{is_some_with}
 use Rattle.iss_model.specs.rules.Histories.{history_keeper, history_of}
 use Rattle.iss_state.specs.Well.{has_live}
-use Rattle.iss_core.specs.Values.{CoreNow, StandsFor, GivesNext, GivesInForm}
+use Rattle.iss_core.specs.Values.{CoreNow, CoreStandsFor, GivesNext, GivesInForm}
 use Rattle.iss_core.proofs.OnBook.{judged_on_book}
 
 -- ---- what is due
@@ -173,6 +173,6 @@ all_formed c (Ok j) i stamp h form stamped now = gives_formed c.state i stamp j 
 all_formed c (Err e) i stamp h form stamped now = tt
 
 pub all_on_book : {E : Type 0} (c : CoreNow) (rs : List Record) (r : Result Judged E) (i : Input) (stamp : ℕ) → IfOk r (λ j. j ≡ judge core_keeper c.state i stamp)
-    → StandsFor c rs → IfOk r (λ j. j ≡ judge history_keeper (history_of rs) i stamp)
+    → CoreStandsFor c rs → IfOk r (λ j. j ≡ judge history_keeper (history_of rs) i stamp)
 all_on_book c rs (Ok j) i stamp h stands = judged_on_book c rs i stamp j stands h
 all_on_book c rs (Err e) i stamp h stands = tt

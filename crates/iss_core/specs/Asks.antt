@@ -10,7 +10,7 @@ use Rattle.iss_model.specs.rules.Asks as rule
 use Rattle.iss_model.specs.rules.Asks.{breach}
 use Rattle.iss_model.specs.rules.Reasons.{first_reason}
 use Rattle.iss_model.specs.rules.CardReasons.{control_breach, lacks_funds}
-use Rattle.iss_velocity.specs.declared.ask.Ask as velocity
+use Rattle.iss_velocity.specs.declared.ask.Spending.{Spending}
 use Rattle.iss_core.specs.declared.asks.Ask.{Ask}
 
 -- an ask as the rules speak of it
@@ -26,7 +26,7 @@ abbrev pub unpaid_ask_acts : Facts → rule.Ask → List Act
 unpaid_ask_acts f ask = gateway_acts (product_named ask.txn.product f.products) f ask
 
 -- an ask as velocity controls are asked
-abbrev pub wanted_of : rule.Ask → velocity.Ask
+abbrev pub wanted_of : rule.Ask → Spending
 wanted_of ask =
     record {
       txn = ask.txn.token;

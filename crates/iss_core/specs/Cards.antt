@@ -24,7 +24,7 @@ use Rattle.iss_model.specs.rules.Stepping.{acts_unless}
 use Rattle.iss_model.specs.state.Cores.{CoreState, core_facts}
 use Rattle.iss_core.specs.Asks.{ask_reason}
 use Rattle.iss_hold.specs.declared.hold.Hold.{Hold}
-use Rattle.iss_hold.specs.Holdings.{now_of, parts_of, whole_of}
+use Rattle.iss_hold.specs.Holdings.{txn_of_hold, parts_of_hold, whole_of}
 use Rattle.iss_core.specs.declared.purchases.Purchase.{Purchase}
 use Rattle.iss_core.specs.declared.operations.Operation.{Operation}
 
@@ -81,18 +81,18 @@ refund_on f o known = acts_unless (refund_reason f known o.currency o.amount) o.
 
 -- the acts of a reversal that isn't declined, of a transaction with this hold
 abbrev pub reversed_on : Facts → Operation → Hold → List Act
-reversed_on f o hold = reversed_acts f o.token o.amount hold.txn (parts_of hold)
+reversed_on f o hold = reversed_acts f o.token o.amount hold.txn (parts_of_hold hold)
 
 -- the acts of a clearing that isn't declined, of a transaction with this hold
 abbrev pub cleared_on : Facts → Operation → Hold → List Act
-cleared_on f o hold = cleared_acts f o.token o.amount o.last o.at (now_of hold) (parts_of hold)
+cleared_on f o hold = cleared_acts f o.token o.amount o.last o.at (txn_of_hold hold) (parts_of_hold hold)
 
 -- the acts that follow on a clearing's money, which leaves this hold
 abbrev pub captured_on : Facts → Hold → ℕ → Bool → List Act
 captured_on f rest amount last =
-    after_clearing_acts f rest.txn (parts_of rest) amount (rest.live && (last || in_all (parts_of rest) == 0))
+    after_clearing_acts f rest.txn (parts_of_hold rest) amount (rest.live && (last || in_all (parts_of_hold rest) == 0))
 
 -- a hold has what its transaction holds, and that is small
 pub record IsHeld (s : CoreState) (hold : Hold) : Type 0 where
-  pub parts : parts_of hold ≡ parts_held (core_facts s) hold.txn
+  pub parts : parts_of_hold hold ≡ parts_held (core_facts s) hold.txn
   pub small : whole_of hold < 2 ^ 62

@@ -9,8 +9,8 @@ use Rattle.iss_model.specs.declared.entry.Entry.{Entry}
 use Rattle.iss_model.specs.declared.entry.Entry.TheVariants as entry
 use Rattle.iss_model.specs.rules.Asks.{Ask}
 use Rattle.iss_model.specs.rules.Pieces.{notice_entry, declined_ask_entries, failure_reason}
-use Rattle.iss_commando.specs.declared.stand.Stand.{Stand}
-use Rattle.iss_commando.specs.declared.stand.Stand.TheVariants.{Yes, Limit, No}
+use Rattle.iss_commando.specs.declared.stand.SetStand.{SetStand}
+use Rattle.iss_commando.specs.declared.stand.SetStand.TheVariants.{Yes, Limit, No}
 use Rattle.iss_chain.specs.Calls.{fund_money_entries}
 
 -- the programme pays in the gateway's place, by the set of this name
@@ -23,7 +23,7 @@ stood_entries number ask at set =
     ∷ []
 
 -- what the sets decide by name, as entries: the first notice has this number
-abbrev pub named_stand_entries : Stand → ℕ → Ask → Failure → ℕ → List Entry
+abbrev pub named_stand_entries : SetStand → ℕ → Ask → Failure → ℕ → List Entry
 named_stand_entries (Yes set) number ask why at = stood_entries number ask at set
 named_stand_entries (Limit set) number ask why at = declined_ask_entries ask (reason.StandInLimit set)
 named_stand_entries No number ask why at = declined_ask_entries ask (failure_reason why)

@@ -4,8 +4,8 @@ use Rattle.iss_model.specs.state.Cores.{CoreState, core_facts}
 use Rattle.iss_core.specs.declared.state.State.{State}
 
 -- the state that the parts keep
-abbrev pub state_of : State → CoreState
-state_of p =
+abbrev pub kept_state : State → CoreState
+kept_state p =
     record {
       now = p.time;
       count = p.count;
@@ -25,4 +25,4 @@ state_of p =
 
 -- the facts of that state
 abbrev pub facts_of : State → Facts
-facts_of p = core_facts (state_of p)
+facts_of p = core_facts (kept_state p)

@@ -17,8 +17,8 @@ pub record CoreNow : Type 0 where
   pub state : CoreState
 
 -- a core stands for these records: its state is like the one that they make
-abbrev pub StandsFor : CoreNow → List Record → Type 0
-StandsFor c rs = AreAlike c.state (core_of rs)
+abbrev pub CoreStandsFor : CoreNow → List Record → Type 0
+CoreStandsFor c rs = AreAlike c.state (core_of rs)
 
 -- a record is next on a core: judged by itself, its input is new
 abbrev pub IsNext : CoreNow → Record → Type 0
@@ -44,5 +44,5 @@ pub record Steps (before after : CoreNow) (r : Record) (made : List Entry) : Typ
 
 -- The same on the book: the core after the record stands for one record more, and these are its entries.
 pub record StepsOnBook (after : CoreNow) (rs : List Record) (r : Record) (made : List Entry) : Type 0 where
-  pub stands : StandsFor after (rs ++ r ∷ [])
+  pub stands : CoreStandsFor after (rs ++ r ∷ [])
   pub entries : made ≡ (step history_keeper (history_of rs) r).entries

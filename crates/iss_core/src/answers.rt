@@ -7,7 +7,7 @@ ghost use Rattle.iss_model.specs.rules.Acts.{entries_of_acts};
 ghost use Rattle.iss_model.specs.rules.CardActs.{answer_acts, failed_acts, outcome_acts};
 ghost use Rattle.iss_model.specs.rules.Due.{expiry_acts};
 ghost use Rattle.iss_model.specs.rules.Pieces.{abandoned_calls_entries, notice_after_abandonment};
-ghost use Rattle.iss_core.specs.States.{facts_of, state_of};
+ghost use Rattle.iss_core.specs.States.{facts_of, kept_state};
 ghost use Rattle.iss_core.specs.Cards.{IsHeld};
 ghost use Rattle.iss_core.specs.Order.{IsInOrder};
 ghost use Rattle.iss_core.specs.Answers.{asked_with, abandoned_entries};
@@ -31,7 +31,7 @@ impl State {
         outcome: Outcome,
         at: u64,
     ) -> Result<(), AllocError>
-        requires order { IsInOrder (state_of self.now) }
+        requires order { IsInOrder (kept_state self.now) }
         requires stamp { IsTrue (is_stamp at) }
         ensures { OnOk result (out.new.items ≡ out.old.items ++ entries_of_acts (answer_acts call outcome at (facts_of self.now))) }
     {
@@ -43,7 +43,7 @@ impl State {
 
     /// A call that is asked, with its transaction.
     pub(crate) fn asked(&self, call: CallId) -> Option<(Opened, Txn)>
-        requires order { IsInOrder (state_of self.now) }
+        requires order { IsInOrder (kept_state self.now) }
         ensures known { result ≡ asked_with (call_in (facts_of self.now) call.0) (facts_of self.now) }
         ensures small { IfSome result (λ x. x.0.amount < 2 ^ 62) }
     {
@@ -63,7 +63,7 @@ impl State {
         txn: &Txn,
         at: u64,
     ) -> Result<(), AllocError>
-        requires order { IsInOrder (state_of self.now) }
+        requires order { IsInOrder (kept_state self.now) }
         requires amount { opened.now.amount < 2 ^ 62 }
         requires stamp { IsTrue (is_stamp at) }
         ensures { OnOk result (out.new.items ≡ out.old.items ++ entries_of_acts (outcome_acts outcome (facts_of self.now) opened.now txn.now at)) }
@@ -91,7 +91,7 @@ impl State {
         failure: Failure,
         at: u64,
     ) -> Result<(), AllocError>
-        requires order { IsInOrder (state_of self.now) }
+        requires order { IsInOrder (kept_state self.now) }
         requires amount { opened.now.amount < 2 ^ 62 }
         requires stamp { IsTrue (is_stamp at) }
         ensures { OnOk result (out.new.items ≡ out.old.items ++ entries_of_acts (failed_acts (facts_of self.now) opened.now txn.now failure at)) }
@@ -109,8 +109,8 @@ impl State {
         out: &mut Vec<Entry>,
         hold: &Hold,
     ) -> Result<(), AllocError>
-        requires order { IsInOrder (state_of self.now) }
-        requires held { IsHeld (state_of self.now) hold.now }
+        requires order { IsInOrder (kept_state self.now) }
+        requires held { IsHeld (kept_state self.now) hold.now }
         ensures { OnOk result (out.new.items ≡ out.old.items ++ entries_of_acts (expiry_acts (facts_of self.now) hold.now.txn)) }
     {
         let txn = &hold.txn;
@@ -128,7 +128,7 @@ impl State {
         txn: &Txn,
         why: &Reason,
     ) -> Result<u32, AllocError>
-        requires order { IsInOrder (state_of self.now) }
+        requires order { IsInOrder (kept_state self.now) }
         requires next { number ≡ next_notice (facts_of self.now) }
         ensures entries { OnOk result (out.new.items ≡ out.old.items ++ abandoned_calls_entries number txn.now why.now (asked_calls_of (facts_of self.now) txn.now.token)) }
         ensures next { IfOk result (λ n. n ≡ notice_after_abandonment number (facts_of self.now) txn.now) }

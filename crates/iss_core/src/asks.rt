@@ -9,14 +9,14 @@ ghost use Rattle.iss_model.specs.rules.CardActs.{funding_acts, stand_acts};
 ghost use Rattle.iss_model.specs.rules.StandIns.{stand};
 ghost use Rattle.iss_model.specs.rules.Facts.{next_notice};
 ghost use Rattle.iss_model.specs.rules.Pieces.{ask_method, call_for};
-ghost use Rattle.iss_core.specs.States.{facts_of, state_of};
+ghost use Rattle.iss_core.specs.States.{facts_of, kept_state};
 ghost use Rattle.iss_core.specs.Asks.{ask_of, ask_reason, unpaid_ask_acts, wanted_of};
 ghost use Rattle.iss_core.specs.Order.{IsInOrder};
 
 use crate::pieces::{failure_reason, put_decided, put_declined_ask, put_stood};
 use crate::state::State;
 use iss_chain::pieces;
-use iss_commando::Stand;
+use iss_commando::SetStand;
 use iss_model::{
     Entry, Failure, Funding, Method, Opened, Part, Product, Reason, Token, Txn, UsageRow, Verdict,
 };
@@ -78,10 +78,10 @@ impl Ask {
     }
 
     /// The ask as velocity controls are asked.
-    fn wanted(&self) -> iss_velocity::Ask
+    fn wanted(&self) -> iss_velocity::Spending
         ensures { result ≡ wanted_of (ask_of self.now) }
     {
-        iss_velocity::Ask {
+        iss_velocity::Spending {
             txn: self.txn.token,
             origin: self.txn.origin,
             user: self.txn.user,
@@ -149,7 +149,7 @@ impl State {
 
     /// An ask is paid from the user's own balance, which is held, or the gateway decides.
     pub(crate) fn put_funding(&self, out: &mut Vec<Entry>, ask: &Ask) -> Result<(), AllocError>
-        requires order { IsInOrder (state_of self.now) }
+        requires order { IsInOrder (kept_state self.now) }
         requires amount { IsTrue (is_amount ask.now.amount) }
         requires stamp { IsTrue (is_stamp ask.now.at) }
         ensures { OnOk result (out.new.items ≡ out.old.items ++ entries_of_acts (funding_acts (facts_of self.now) (ask_of ask.now))) }
@@ -165,7 +165,7 @@ impl State {
 
     /// The gateway is asked, save while the product's switch is on: then the programme stands in.
     fn put_gateway_ask(&self, out: &mut Vec<Entry>, ask: &Ask) -> Result<(), AllocError>
-        requires order { IsInOrder (state_of self.now) }
+        requires order { IsInOrder (kept_state self.now) }
         requires amount { IsTrue (is_amount ask.now.amount) }
         requires stamp { IsTrue (is_stamp ask.now.at) }
         ensures { OnOk result (out.new.items ≡ out.old.items
@@ -185,7 +185,7 @@ impl State {
 
     /// The call for an ask: the gateway has the product's time to answer.
     fn call_for(&self, product: &Product, ask: &Ask) -> Opened
-        requires order { IsInOrder (state_of self.now) }
+        requires order { IsInOrder (kept_state self.now) }
         requires time { IsTrue (is_timeout product.now.timeout_ms) }
         requires stamp { IsTrue (is_stamp ask.now.at) }
         ensures { result ≡ call_for (facts_of self.now) product.now (ask_of ask.now) }
@@ -227,9 +227,9 @@ impl State {
             .sets
             .stands(&txn.product, &txn.user, ask.amount, failure, at)
         {
-            Stand::Yes(set) => put_stood(out, number, ask, at, &set),
-            Stand::Limit(set) => put_declined_ask(out, ask, Reason::StandInLimit(set)),
-            Stand::No => put_declined_ask(out, ask, failure_reason(failure)),
+            SetStand::Yes(set) => put_stood(out, number, ask, at, &set),
+            SetStand::Limit(set) => put_declined_ask(out, ask, Reason::StandInLimit(set)),
+            SetStand::No => put_declined_ask(out, ask, failure_reason(failure)),
         }
     }
 }

@@ -4,10 +4,10 @@ ghost use Rattle.iss_model.specs.state.Cores.{after_setting, with_user, with_car
 ghost use Rattle.iss_model.specs.rules.Reasons.{user_reason, card_reason, move_reason, product_reason, group_reason, control_reason, set_reason};
 ghost use Rattle.iss_model.specs.declared.setting.Moved.TheVariants as moved;
 ghost use Rattle.iss_state.specs.Needs.{setting_reason};
-ghost use Rattle.iss_card.specs.Standings as card;
-ghost use Rattle.iss_velocity.specs.Puts as control;
-ghost use Rattle.iss_scope.specs.Merchants as group;
-ghost use Rattle.iss_core.specs.States.{facts_of, state_of};
+ghost use Rattle.iss_card.specs.Standings.{card_fault_reason};
+ghost use Rattle.iss_velocity.specs.Puts.{control_fault_reason};
+ghost use Rattle.iss_scope.specs.Merchants.{group_fault_reason};
+ghost use Rattle.iss_core.specs.States.{facts_of, kept_state};
 ghost use Rattle.iss_core.specs.Settings.{product_fault_reason, set_fault_reason};
 
 use crate::state::State;
@@ -23,7 +23,7 @@ impl State {
     /// A setting that has no reason to be declined takes effect.
     pub(crate) fn configure(&mut self, alloc: Global, input: &Input) -> Result<(), AllocError>
         requires { setting_reason (facts_of self.old) input.now ≡ None }
-        ensures { OnOk result (state_of self.new ≡ after_setting (state_of self.old) input.now) }
+        ensures { OnOk result (kept_state self.new ≡ after_setting (kept_state self.old) input.now) }
     {
         match input {
             Input::User { token: _, user } => self.put_user(user),
@@ -202,7 +202,7 @@ impl State {
 }
 
 fn card_memory(fault: CardFault) -> AllocError
-    requires { card.fault_reason fault ≡ None }
+    requires { card_fault_reason fault ≡ None }
 {
     match fault {
         CardFault::OutOfMemory => AllocError,
@@ -224,7 +224,7 @@ fn product_memory(fault: ProductFault) -> AllocError
 }
 
 fn group_memory(fault: GroupFault) -> AllocError
-    requires { group.fault_reason fault ≡ None }
+    requires { group_fault_reason fault ≡ None }
 {
     match fault {
         GroupFault::OutOfMemory => AllocError,
@@ -233,7 +233,7 @@ fn group_memory(fault: GroupFault) -> AllocError
 }
 
 fn control_memory(fault: ControlFault) -> AllocError
-    requires { control.fault_reason fault ≡ None }
+    requires { control_fault_reason fault ≡ None }
 {
     match fault {
         ControlFault::OutOfMemory => AllocError,

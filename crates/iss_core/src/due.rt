@@ -3,7 +3,7 @@ ghost use Rattle.std.specs.Prelude.{◌≡◌, ◌++◌, map, fold, not, IfOk, O
 ghost use Rattle.iss_model.specs.Forms.{is_stamp};
 ghost use Rattle.iss_model.specs.rules.Activity.{txn_named, call_numbered};
 ghost use Rattle.iss_model.specs.rules.Due.{due_items, is_quiet, items_with, thing_entries};
-ghost use Rattle.iss_core.specs.States.{facts_of, state_of};
+ghost use Rattle.iss_core.specs.States.{facts_of, kept_state};
 ghost use Rattle.iss_core.specs.Order.{IsInOrder};
 ghost use Rattle.iss_core.specs.Sweeps.{thing_of, HasOwnNames, AreOrdered, merged_things, txn_items, deadline_of, expiry_of, calls_until, calls_after};
 ghost use Rattle.iss_core.specs.declared.due.Due.TheVariants.{Call};
@@ -29,7 +29,7 @@ impl State {
 
     /// All that is due at a moment: by the moment since when, calls before transactions, and then by number.
     pub(crate) fn due(&self, alloc: Global, at: u64) -> Result<Vec<Due>, AllocError>
-        requires names { HasOwnNames (state_of self.now) }
+        requires names { HasOwnNames (kept_state self.now) }
         ensures { IfOk result (λ v. map thing_of v.items ≡ map (λ item. item.thing) (due_items (facts_of self.now) at)) }
     {
         let calls = self.calls.due(alloc, at)?;
@@ -103,7 +103,7 @@ impl State {
         thing: &Due,
         at: u64,
     ) -> Result<(), AllocError>
-        requires order { IsInOrder (state_of self.now) }
+        requires order { IsInOrder (kept_state self.now) }
         requires stamp { IsTrue (is_stamp at) }
         ensures { OnOk result (out.new.items ≡ out.old.items ++ thing_entries (thing_of thing.now) at (facts_of self.now)) }
     {

@@ -6,7 +6,7 @@ ghost use Rattle.iss_model.specs.Forms.{is_in_form, is_stamp};
 ghost use Rattle.iss_model.specs.rules.Judging.{judge};
 ghost use Rattle.iss_model.specs.rules.Histories.{history_keeper, history_of};
 ghost use Rattle.iss_model.specs.state.Cores.{no_core, core_keeper};
-ghost use Rattle.iss_core.specs.Values.{StandsFor, IsNext, GivesNext, GivesInForm, Steps, StepsOnBook};
+ghost use Rattle.iss_core.specs.Values.{CoreStandsFor, IsNext, GivesNext, GivesInForm, Steps, StepsOnBook};
 
 use crate::state::State;
 use iss_model::{Entry, Input, Judged, Record};
@@ -31,12 +31,12 @@ impl Model for Core {
 
     ghost coded = { Prim.hlevel (codes, kept_code) };
 
-    ghost use Rattle.iss_core.specs.States.{state_of};
+    ghost use Rattle.iss_core.specs.States.{kept_state};
     ghost use Rattle.iss_core.specs.Sound.{IsSound};
 
-    ghost view = { λ c. record { instance = c.instance; state = state_of c.state.value } };
+    ghost view = { λ c. record { instance = c.instance; state = kept_state c.state.value } };
 
-    ghost invariant = { λ c. IsSound (state_of c.state.value) };
+    ghost invariant = { λ c. IsSound (kept_state c.state.value) };
 }
 
 impl Core {
@@ -44,7 +44,7 @@ impl Core {
     pub fn new(alloc: Global, instance: u64) -> Result<Core, AllocError>
         requires { instance < INSTANCES }
         ensures value { IfOk result (λ c. c ≡ record { instance = instance; state = no_core }) }
-        ensures stands { IfOk result (λ c. StandsFor c []) }
+        ensures stands { IfOk result (λ c. CoreStandsFor c []) }
     {
         Ok(Core {
             instance,
@@ -63,7 +63,7 @@ impl Core {
         ensures judged { IfOk result (λ j. j ≡ judge core_keeper self.now.state input.now at) }
         ensures next { IfOk result (GivesNext self.now) }
         ensures in_form { IfOk result GivesInForm }
-        ensures on_book { (rs : List Record) → StandsFor self.now rs
+        ensures on_book { (rs : List Record) → CoreStandsFor self.now rs
             → IfOk result (λ j. j ≡ judge history_keeper (history_of rs) input.now at) }
     {
         self.state.judge(alloc, input, at.max(self.state.time))
@@ -81,7 +81,7 @@ impl Core {
         requires stamp_form { IsTrue (is_stamp accepted.now.at) }
         requires room { self.state.count < MOST_RECORDS }
         ensures stepped { IfOk result (λ x. Steps self x.0 accepted.now x.1.items) }
-        ensures on_book { (rs : List Record) → StandsFor self rs
+        ensures on_book { (rs : List Record) → CoreStandsFor self rs
             → IfOk result (λ x. StepsOnBook x.0 rs accepted.now x.1.items) }
     {
         let mut entries = Vec::new(alloc);

@@ -1,7 +1,7 @@
 //! Entries are entered into the parts, one by one.
 ghost use Rattle.std.specs.Prelude.{◌≡◌, fold, OnOk};
 ghost use Rattle.iss_model.specs.state.Cores.{after_entry, with_closed, with_acked};
-ghost use Rattle.iss_core.specs.States.{state_of};
+ghost use Rattle.iss_core.specs.States.{kept_state};
 ghost use Rattle.iss_core.specs.Entering.{MayEnter, MayAllEnter};
 
 use crate::state::State;
@@ -11,8 +11,8 @@ use std::alloc::{AllocError, Global};
 impl State {
     /// Enters entries one after the other.
     pub(crate) fn enter_all(&mut self, alloc: Global, entries: &[Entry]) -> Result<(), AllocError>
-        requires { MayAllEnter (state_of self.old) entries.now }
-        ensures { OnOk result (state_of self.new ≡ fold after_entry (state_of self.old) entries.now) }
+        requires { MayAllEnter (kept_state self.old) entries.now }
+        ensures { OnOk result (kept_state self.new ≡ fold after_entry (kept_state self.old) entries.now) }
     {
         for entry in entries {
             self.enter(alloc, entry)?;
@@ -22,8 +22,8 @@ impl State {
 
     /// Enters one entry.
     fn enter(&mut self, alloc: Global, entry: &Entry) -> Result<(), AllocError>
-        requires { MayEnter (state_of self.old) entry.now }
-        ensures { OnOk result (state_of self.new ≡ after_entry (state_of self.old) entry.now) }
+        requires { MayEnter (kept_state self.old) entry.now }
+        ensures { OnOk result (kept_state self.new ≡ after_entry (kept_state self.old) entry.now) }
     {
         match entry {
             Entry::Conf(input) => self.configure(alloc, input),

@@ -3,7 +3,7 @@ ghost use Rattle.std.specs.Prelude.{◌≡◌, ℕ, ◌++◌, true, OnOk, IsTrue
 ghost use Rattle.iss_model.specs.Forms.{is_in_form, is_stamp};
 ghost use Rattle.iss_model.specs.rules.Acts.{entries_of_acts};
 ghost use Rattle.iss_model.specs.rules.Stepping.{acknowledgement_acts, entries_of};
-ghost use Rattle.iss_core.specs.States.{facts_of, state_of};
+ghost use Rattle.iss_core.specs.States.{facts_of, kept_state};
 ghost use Rattle.iss_core.specs.Order.{IsInOrder};
 ghost use Rattle.iss_core.specs.Settings.{is_setting};
 
@@ -22,7 +22,7 @@ impl State {
         out: &mut Vec<Entry>,
         accepted: &Record,
     ) -> Result<(), AllocError>
-        requires order { IsInOrder (state_of self.now) }
+        requires order { IsInOrder (kept_state self.now) }
         requires input_form { IsTrue (is_in_form accepted.now.input) }
         requires stamp { IsTrue (is_stamp accepted.now.at) }
         ensures { OnOk result (out.new.items ≡ out.old.items ++ entries_of accepted.now.input accepted.now.at (facts_of self.now)) }

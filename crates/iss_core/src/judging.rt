@@ -8,7 +8,7 @@ ghost use Rattle.iss_model.specs.rules.Due.{due_items, is_quiet};
 ghost use Rattle.iss_model.specs.rules.Judging.{judgement_as, judgement_at, notice_answer, is_ack};
 ghost use Rattle.iss_model.specs.state.Cores.{core_keeper};
 ghost use Rattle.iss_state.specs.Pending.{IsWell};
-ghost use Rattle.iss_core.specs.States.{facts_of, state_of};
+ghost use Rattle.iss_core.specs.States.{facts_of, kept_state};
 
 use crate::state::State;
 use iss_model::{Answer, CallId, Input, Judged, Outcome, Record};
@@ -17,9 +17,9 @@ use std::alloc::{AllocError, Global};
 impl State {
     /// An input judged at a moment.
     pub(crate) fn judge(&self, alloc: Global, input: &Input, at: u64) -> Result<Judged, AllocError>
-        requires well { IsWell (state_of self.now) }
+        requires well { IsWell (kept_state self.now) }
         requires form { IsTrue (is_in_form input.now) }
-        ensures { IfOk result (λ j. j ≡ judgement_at core_keeper (state_of self.now) input.now at) }
+        ensures { IfOk result (λ j. j ≡ judgement_at core_keeper (kept_state self.now) input.now at) }
     {
         match input.event() {
             Some(_) => {
@@ -32,9 +32,9 @@ impl State {
 
     /// An input that is no event: an answer, an acknowledgement or a time.
     fn judge_other(&self, input: &Input, at: u64) -> Result<Judged, AllocError>
-        requires well { IsWell (state_of self.now) }
+        requires well { IsWell (kept_state self.now) }
         requires other { event_token input.now ≡ None }
-        ensures { IfOk result (λ j. j ≡ judgement_at core_keeper (state_of self.now) input.now at) }
+        ensures { IfOk result (λ j. j ≡ judgement_at core_keeper (kept_state self.now) input.now at) }
     {
         match input {
             Input::Answer { call, outcome } => self.judge_answer(*call, *outcome, at),
@@ -72,8 +72,8 @@ impl State {
     /// The answer to a call that was never opened, or is closed, is refused. One to a call that is asked is new until the
     /// call's deadline and its transaction's expiry; from then on it comes too late.
     fn judge_answer(&self, call: CallId, outcome: Outcome, at: u64) -> Result<Judged, AllocError>
-        requires { IsWell (state_of self.now) }
-        ensures { IfOk result (λ j. j ≡ judgement_at core_keeper (state_of self.now) (input.Answer call outcome) at) }
+        requires { IsWell (kept_state self.now) }
+        ensures { IfOk result (λ j. j ≡ judgement_at core_keeper (kept_state self.now) (input.Answer call outcome) at) }
     {
         let Some(asked) = self.call(call) else {
             let answer = Answer::UnknownCall(call);

@@ -6,8 +6,8 @@ ghost use Rattle.iss_model.specs.rules.Activity.{txn_named, call_numbered};
 ghost use Rattle.iss_model.specs.rules.Facts.{available_in, next_notice, next_call};
 ghost use Rattle.iss_model.specs.rules.Reasons.{user_is};
 ghost use Rattle.iss_model.specs.rules.Pieces.{parts_held};
-ghost use Rattle.iss_hold.specs.Holdings as held;
-ghost use Rattle.iss_call.specs.States as called;
+ghost use Rattle.iss_hold.specs.Holdings.{txn_of_hold, parts_of_hold, whole_of};
+ghost use Rattle.iss_call.specs.States.{seen_call};
 ghost use Rattle.iss_product.specs.Listed.{products_in};
 ghost use Rattle.iss_core.specs.States.{facts_of};
 
@@ -41,15 +41,15 @@ impl State {
 
     /// A transaction with what it holds.
     pub(crate) fn hold(&self, txn: &Token) -> Option<Hold>
-        ensures txn { option_map held.now_of result ≡ txn_named txn.now (facts_of self.now).txns }
-        ensures parts { IfSome result (λ hold. held.parts_of hold ≡ parts_held (facts_of self.now) hold.txn) }
-        ensures small { IfSome result (λ hold. held.whole_of hold < 2 ^ 62) }
+        ensures txn { option_map txn_of_hold result ≡ txn_named txn.now (facts_of self.now).txns }
+        ensures parts { IfSome result (λ hold. parts_of_hold hold ≡ parts_held (facts_of self.now) hold.txn) }
+        ensures small { IfSome result (λ hold. whole_of hold < 2 ^ 62) }
     {
         self.chain.hold(txn)
     }
 
     pub(crate) fn call(&self, call: CallId) -> Option<Call>
-        ensures { option_map called.now_of result ≡ call_numbered call.0 (facts_of self.now).calls }
+        ensures { option_map seen_call result ≡ call_numbered call.0 (facts_of self.now).calls }
     {
         self.calls.get(call).copied()
     }

@@ -9,8 +9,8 @@ ghost use Rattle.iss_model.specs.rules.Reasons.{is_some_with};
 ghost use Rattle.iss_model.specs.rules.CardReasons.{further_ask, increment_reason, is_pending, reversal_reason, clearing_reason};
 ghost use Rattle.iss_model.specs.rules.Acts.{entries_of_acts};
 ghost use Rattle.iss_model.specs.rules.CardActs.{refund_acts};
-ghost use Rattle.iss_hold.specs.Holdings.{now_of, parts_of, whole_of};
-ghost use Rattle.iss_core.specs.States.{facts_of, state_of};
+ghost use Rattle.iss_hold.specs.Holdings.{txn_of_hold, parts_of_hold, whole_of};
+ghost use Rattle.iss_core.specs.States.{facts_of, kept_state};
 ghost use Rattle.iss_core.specs.Asks.{ask_of};
 ghost use Rattle.iss_core.specs.Cards.{increment_on, reversal_on, reversed_on, clearing_on, cleared_on, captured_on, refund_on};
 ghost use Rattle.iss_core.specs.Order.{IsInOrder};
@@ -61,7 +61,7 @@ impl State {
         out: &mut Vec<Entry>,
         operation: &Operation,
     ) -> Result<(), AllocError>
-        requires order { IsInOrder (state_of self.now) }
+        requires order { IsInOrder (kept_state self.now) }
         requires amount { IsTrue (is_amount operation.now.amount) }
         requires stamp { IsTrue (is_stamp operation.now.at) }
         ensures { OnOk result (out.new.items ≡ out.old.items
@@ -81,11 +81,11 @@ impl State {
         operation: &Operation,
         hold: &Hold,
     ) -> Result<(), AllocError>
-        requires order { IsInOrder (state_of self.now) }
+        requires order { IsInOrder (kept_state self.now) }
         requires amount { IsTrue (is_amount operation.now.amount) }
         requires stamp { IsTrue (is_stamp operation.now.at) }
         ensures { OnOk result (out.new.items ≡ out.old.items
-            ++ entries_of_acts (increment_on (facts_of self.now) operation.now (Some (now_of hold.now)))) }
+            ++ entries_of_acts (increment_on (facts_of self.now) operation.now (Some (txn_of_hold hold.now)))) }
     {
         let ask = operation.ask(&hold.txn);
         if let Some(why) = self.increment_reason(alloc, operation, hold, &ask)? {
@@ -104,7 +104,7 @@ impl State {
     ) -> Result<Option<Reason>, AllocError>
         requires amount { IsTrue (is_amount ask.now.amount) }
         requires stamp { IsTrue (is_stamp ask.now.at) }
-        ensures { IfOk result (λ why. why ≡ increment_reason (facts_of self.now) (Some (now_of hold.now)) operation.now.currency (Some (ask_of ask.now))) }
+        ensures { IfOk result (λ why. why ≡ increment_reason (facts_of self.now) (Some (txn_of_hold hold.now)) operation.now.currency (Some (ask_of ask.now))) }
     {
         let txn = &hold.txn;
         if !hold.live {
@@ -150,7 +150,7 @@ impl State {
         out: &mut Vec<Entry>,
         operation: &Operation,
     ) -> Result<(), AllocError>
-        requires order { IsInOrder (state_of self.now) }
+        requires order { IsInOrder (kept_state self.now) }
         ensures { OnOk result (out.new.items ≡ out.old.items
             ++ entries_of_acts (reversal_on (facts_of self.now) operation.now (txn_in (facts_of self.now) operation.now.txn))) }
     {
@@ -170,7 +170,7 @@ impl State {
         operation: &Operation,
         hold: &Hold,
     ) -> Result<(), AllocError>
-        requires order { IsInOrder (state_of self.now) }
+        requires order { IsInOrder (kept_state self.now) }
         requires small { whole_of hold.now < 2 ^ 62 }
         ensures { OnOk result (out.new.items ≡ out.old.items
             ++ entries_of_acts (reversed_on (facts_of self.now) operation.now hold.now)) }
@@ -192,7 +192,7 @@ impl State {
         out: &mut Vec<Entry>,
         operation: &Operation,
     ) -> Result<(), AllocError>
-        requires order { IsInOrder (state_of self.now) }
+        requires order { IsInOrder (kept_state self.now) }
         requires amount { IsTrue (is_amount operation.now.amount) }
         ensures { OnOk result (out.new.items ≡ out.old.items
             ++ entries_of_acts (clearing_on (facts_of self.now) operation.now (txn_in (facts_of self.now) operation.now.txn))) }
@@ -213,7 +213,7 @@ impl State {
         operation: &Operation,
         hold: &Hold,
     ) -> Result<(), AllocError>
-        requires order { IsInOrder (state_of self.now) }
+        requires order { IsInOrder (kept_state self.now) }
         requires small { whole_of hold.now < 2 ^ 62 }
         requires amount { IsTrue (is_amount operation.now.amount) }
         ensures { OnOk result (out.new.items ≡ out.old.items
@@ -235,7 +235,7 @@ impl State {
         amount: u64,
         last: bool,
     ) -> Result<(), AllocError>
-        requires order { IsInOrder (state_of self.now) }
+        requires order { IsInOrder (kept_state self.now) }
         requires small { whole_of rest.now < 2 ^ 62 }
         ensures { OnOk result (out.new.items ≡ out.old.items
             ++ entries_of_acts (captured_on (facts_of self.now) rest.now amount last)) }
@@ -256,7 +256,7 @@ impl State {
         out: &mut Vec<Entry>,
         operation: &Operation,
     ) -> Result<(), AllocError>
-        requires order { IsInOrder (state_of self.now) }
+        requires order { IsInOrder (kept_state self.now) }
         ensures { OnOk result (out.new.items ≡ out.old.items
             ++ entries_of_acts (refund_on (facts_of self.now) operation.now (txn_in (facts_of self.now) operation.now.txn))) }
     {
@@ -278,10 +278,10 @@ impl State {
         operation: &Operation,
         hold: &Hold,
     ) -> Result<(), AllocError>
-        requires order { IsInOrder (state_of self.now) }
-        requires known { txn_in (facts_of self.now) operation.now.txn ≡ Some (now_of hold.now) }
+        requires order { IsInOrder (kept_state self.now) }
+        requires known { txn_in (facts_of self.now) operation.now.txn ≡ Some (txn_of_hold hold.now) }
         ensures { OnOk result (out.new.items ≡ out.old.items
-            ++ entries_of_acts (refund_acts (facts_of self.now) operation.now.token operation.now.amount (Some (now_of hold.now)))) }
+            ++ entries_of_acts (refund_acts (facts_of self.now) operation.now.token operation.now.amount (Some (txn_of_hold hold.now)))) }
     {
         let txn = &hold.txn;
         let amount = operation.amount;
@@ -302,7 +302,7 @@ impl State {
 
 /// Why a reversal of a known transaction is declined.
 fn reversal_reason(hold: &Hold, currency: Currency) -> Option<Reason>
-    ensures { result ≡ reversal_reason (Some (now_of hold.now)) currency }
+    ensures { result ≡ reversal_reason (Some (txn_of_hold hold.now)) currency }
 {
     if !hold.live {
         return Some(Reason::TxnClosed);
@@ -312,7 +312,7 @@ fn reversal_reason(hold: &Hold, currency: Currency) -> Option<Reason>
 
 /// Why a clearing of a known transaction is declined: it may come after the transaction ended.
 fn clearing_reason(hold: &Hold, currency: Currency) -> Option<Reason>
-    ensures { result ≡ clearing_reason (Some (now_of hold.now)) currency }
+    ensures { result ≡ clearing_reason (Some (txn_of_hold hold.now)) currency }
 {
     if hold.txn.currency != currency {
         return Some(Reason::Currency);

@@ -3,7 +3,7 @@ ghost use Rattle.std.specs.Prelude.{◌≡◌, ◌<◌, ◌^◌, ◌++◌, Some,
 ghost use Rattle.iss_model.specs.Forms.{is_amount, is_stamp, is_hold_time};
 ghost use Rattle.iss_model.specs.rules.Settings.{card_named};
 ghost use Rattle.iss_model.specs.rules.Acts.{entries_of_acts};
-ghost use Rattle.iss_core.specs.States.{facts_of, state_of};
+ghost use Rattle.iss_core.specs.States.{facts_of, kept_state};
 ghost use Rattle.iss_core.specs.Asks.{ask_of};
 ghost use Rattle.iss_core.specs.Cards.{first_ask_acts, purchase_acts, purchase_ask};
 ghost use Rattle.iss_core.specs.Order.{IsInOrder};
@@ -37,7 +37,7 @@ impl State {
         out: &mut Vec<Entry>,
         purchase: &Purchase,
     ) -> Result<(), AllocError>
-        requires order { IsInOrder (state_of self.now) }
+        requires order { IsInOrder (kept_state self.now) }
         requires amount { IsTrue (is_amount purchase.now.amount) }
         requires stamp { IsTrue (is_stamp purchase.now.at) }
         ensures { OnOk result (out.new.items ≡ out.old.items
@@ -56,7 +56,7 @@ impl State {
         purchase: &Purchase,
         card: &Card,
     ) -> Result<(), AllocError>
-        requires order { IsInOrder (state_of self.now) }
+        requires order { IsInOrder (kept_state self.now) }
         requires amount { IsTrue (is_amount purchase.now.amount) }
         requires stamp { IsTrue (is_stamp purchase.now.at) }
         ensures { OnOk result (out.new.items ≡ out.old.items
@@ -107,7 +107,7 @@ impl State {
 
     /// The first ask of a transaction is declined, or begins it.
     fn put_first_ask(&self, out: &mut Vec<Entry>, ask: &Ask) -> Result<(), AllocError>
-        requires order { IsInOrder (state_of self.now) }
+        requires order { IsInOrder (kept_state self.now) }
         requires amount { IsTrue (is_amount ask.now.amount) }
         requires stamp { IsTrue (is_stamp ask.now.at) }
         ensures { OnOk result (out.new.items ≡ out.old.items ++ entries_of_acts (first_ask_acts (facts_of self.now) (ask_of ask.now))) }

@@ -4,7 +4,7 @@ ghost use Rattle.std.specs.List.{find};
 ghost use Rattle.iss_model.specs.Inputs.{event_token, is_event};
 ghost use Rattle.iss_model.specs.Forms.{is_in_form, is_stamp};
 ghost use Rattle.iss_model.specs.state.Cores.{no_core, with_record};
-ghost use Rattle.iss_core.specs.States.{state_of};
+ghost use Rattle.iss_core.specs.States.{kept_state};
 
 use iss_accepted::Events;
 use iss_call::Calls;
@@ -37,7 +37,7 @@ pub(crate) struct State {
 impl State {
     /// The built-in product alone.
     pub(crate) fn new(alloc: Global) -> Result<State, AllocError>
-        ensures { IfOk result (λ state. state_of state ≡ no_core) }
+        ensures { IfOk result (λ state. kept_state state ≡ no_core) }
     {
         // What may fail comes first, so that few parts are let go if it does.
         let products = Products::new(alloc)?;
@@ -67,7 +67,7 @@ impl State {
         requires stamp_form { IsTrue (is_stamp accepted.now.at) }
         requires new { (token : List ℕ) → event_token accepted.now.input ≡ Some token
             → find (λ a. is_event token a.input) self.old.events.accepted ≡ None }
-        ensures { OnOk result (state_of self.new ≡ with_record (state_of self.old) accepted.now) }
+        ensures { OnOk result (kept_state self.new ≡ with_record (kept_state self.old) accepted.now) }
     {
         self.time = self.time.max(accepted.at);
         self.count += 1;

@@ -3,7 +3,7 @@ ghost use Rattle.std.specs.Prelude.{◌≡◌, ◌++◌, [], fold, OnOk, IsTrue}
 ghost use Rattle.iss_model.specs.Forms.{is_in_form, is_stamp};
 ghost use Rattle.iss_model.specs.rules.Stepping.{after_due, entries_of};
 ghost use Rattle.iss_model.specs.state.Cores.{core_keeper, after_entry};
-ghost use Rattle.iss_core.specs.States.{facts_of, state_of};
+ghost use Rattle.iss_core.specs.States.{facts_of, kept_state};
 ghost use Rattle.iss_core.specs.Sound.{IsTakenUp};
 ghost use Rattle.iss_core.specs.Sweeps.{grown, settle_thing, thing_of};
 
@@ -20,11 +20,11 @@ impl State {
         out: &mut Vec<Entry>,
         accepted: &Record,
     ) -> Result<(), AllocError>
-        requires taken_up { IsTakenUp accepted.now.input (state_of self.old) }
+        requires taken_up { IsTakenUp accepted.now.input (kept_state self.old) }
         requires stamp { IsTrue (is_stamp accepted.now.at) }
         requires empty { out.old.items ≡ [] }
-        ensures settled { OnOk result (grown (state_of self.new) out.new.items ≡ after_due core_keeper (state_of self.old) accepted.now.at) }
-        ensures taken_up { OnOk result (IsTakenUp accepted.now.input (state_of self.new)) }
+        ensures settled { OnOk result (grown (kept_state self.new) out.new.items ≡ after_due core_keeper (kept_state self.old) accepted.now.at) }
+        ensures taken_up { OnOk result (IsTakenUp accepted.now.input (kept_state self.new)) }
     {
         if !self.is_due(accepted.at) {
             return Ok(());
@@ -44,11 +44,11 @@ impl State {
         thing: &Due,
         accepted: &Record,
     ) -> Result<(), AllocError>
-        requires taken_up { IsTakenUp accepted.now.input (state_of self.old) }
+        requires taken_up { IsTakenUp accepted.now.input (kept_state self.old) }
         requires stamp { IsTrue (is_stamp accepted.now.at) }
-        ensures settled { OnOk result (grown (state_of self.new) out.new.items
-            ≡ settle_thing accepted.now.at (grown (state_of self.old) out.old.items) (thing_of thing.now)) }
-        ensures taken_up { OnOk result (IsTakenUp accepted.now.input (state_of self.new)) }
+        ensures settled { OnOk result (grown (kept_state self.new) out.new.items
+            ≡ settle_thing accepted.now.at (grown (kept_state self.old) out.old.items) (thing_of thing.now)) }
+        ensures taken_up { OnOk result (IsTakenUp accepted.now.input (kept_state self.new)) }
     {
         let start = out.len();
         self.put_due(alloc, out, thing, accepted.at)?;
@@ -62,12 +62,12 @@ impl State {
         out: &mut Vec<Entry>,
         accepted: &Record,
     ) -> Result<(), AllocError>
-        requires taken_up { IsTakenUp accepted.now.input (state_of self.old) }
+        requires taken_up { IsTakenUp accepted.now.input (kept_state self.old) }
         requires input_form { IsTrue (is_in_form accepted.now.input) }
         requires stamp { IsTrue (is_stamp accepted.now.at) }
         ensures entries { OnOk result (out.new.items ≡ out.old.items ++ entries_of accepted.now.input accepted.now.at (facts_of self.old)) }
-        ensures state { OnOk result (state_of self.new
-            ≡ fold after_entry (state_of self.old) (entries_of accepted.now.input accepted.now.at (facts_of self.old))) }
+        ensures state { OnOk result (kept_state self.new
+            ≡ fold after_entry (kept_state self.old) (entries_of accepted.now.input accepted.now.at (facts_of self.old))) }
     {
         let start = out.len();
         self.put_own(alloc, out, accepted)?;

@@ -10,8 +10,8 @@ ghost use Rattle.iss_model.specs.rules.Asks.{used_in};
 ghost use Rattle.iss_model.specs.texts.BalanceLines.{accounts_of};
 ghost use Rattle.iss_model.specs.rules.Histories.{book_facts, history_of, time_of};
 ghost use Rattle.iss_model.specs.state.Cores.{core_facts};
-ghost use Rattle.iss_call.specs.States as called;
-ghost use Rattle.iss_core.specs.Values.{StandsFor};
+ghost use Rattle.iss_call.specs.States.{call_state_of};
+ghost use Rattle.iss_core.specs.Values.{CoreStandsFor};
 ghost use Rattle.iss_core.specs.Views.{pending_notice, asked_calls, asked_openings, pending_numbers};
 
 use crate::Core;
@@ -22,7 +22,7 @@ impl Core {
     /// The greatest stamp of a record, or 0.
     pub fn now(&self) -> u64
         ensures value { result ≡ self.now.state.now }
-        ensures on_book { (rs : List Record) → StandsFor self.now rs → result ≡ time_of rs }
+        ensures on_book { (rs : List Record) → CoreStandsFor self.now rs → result ≡ time_of rs }
     {
         self.state.time
     }
@@ -30,7 +30,7 @@ impl Core {
     /// How many records were taken up.
     pub fn count(&self) -> u32
         ensures value { result ≡ self.now.state.count }
-        ensures on_book { (rs : List Record) → StandsFor self.now rs → result ≡ length rs }
+        ensures on_book { (rs : List Record) → CoreStandsFor self.now rs → result ≡ length rs }
     {
         self.state.count
     }
@@ -45,7 +45,7 @@ impl Core {
     /// What an account has, in minor units: 0 if no money was moved to it or from it.
     pub fn balance(&self, account: &Account) -> i64
         ensures value { result ≡ balance_in (core_facts self.now.state) account.now }
-        ensures on_book { (rs : List Record) → StandsFor self.now rs
+        ensures on_book { (rs : List Record) → CoreStandsFor self.now rs
             → result ≡ balance_in (book_facts rs) account.now }
     {
         self.state.chain.balance(account)
@@ -54,7 +54,7 @@ impl Core {
     /// What all transactions of a user hold in a currency, in minor units.
     pub fn held(&self, user: &Token, currency: Currency) -> i64
         ensures value { result ≡ held_in (core_facts self.now.state) user.now currency }
-        ensures on_book { (rs : List Record) → StandsFor self.now rs
+        ensures on_book { (rs : List Record) → CoreStandsFor self.now rs
             → result ≡ held_in (book_facts rs) user.now currency }
     {
         self.state.chain.held_by(user, currency)
@@ -65,7 +65,7 @@ impl Core {
     pub fn used(&self, control: &Token, user: &Token, at: u64) -> Option<Used>
         requires { IsTrue (is_stamp at) }
         ensures value { result ≡ used_in (core_facts self.now.state) control.now user.now at }
-        ensures on_book { (rs : List Record) → StandsFor self.now rs
+        ensures on_book { (rs : List Record) → CoreStandsFor self.now rs
             → result ≡ used_in (book_facts rs) control.now user.now at }
     {
         self.state.controls.used(control, user, at)
@@ -73,9 +73,9 @@ impl Core {
 
     /// The state of a call, `Unknown` exactly if it was never asked.
     pub fn call(&self, call: CallId) -> CallState
-        ensures value { result ≡ called.state_of (call_in (core_facts self.now.state) call.0) }
-        ensures on_book { (rs : List Record) → StandsFor self.now rs
-            → result ≡ called.state_of (call_in (book_facts rs) call.0) }
+        ensures value { result ≡ call_state_of (call_in (core_facts self.now.state) call.0) }
+        ensures on_book { (rs : List Record) → CoreStandsFor self.now rs
+            → result ≡ call_state_of (call_in (book_facts rs) call.0) }
     {
         self.state.calls.state(call)
     }
@@ -83,7 +83,7 @@ impl Core {
     /// A call as it was opened, `None` exactly if it was never asked.
     pub fn opened(&self, call: CallId) -> Option<&Opened>
         ensures value { option_copied result ≡ option_map (λ c. c.opened) (call_in (core_facts self.now.state) call.0) }
-        ensures on_book { (rs : List Record) → StandsFor self.now rs
+        ensures on_book { (rs : List Record) → CoreStandsFor self.now rs
             → option_copied result ≡ option_map (λ c. c.opened) (call_in (book_facts rs) call.0) }
     {
         self.state.calls.opened(call)
@@ -92,7 +92,7 @@ impl Core {
     /// A notice, `None` exactly if there is none of that number or it is acknowledged.
     pub fn notice(&self, number: u32) -> Option<&Notice>
         ensures value { option_copied result ≡ pending_notice (core_facts self.now.state) number }
-        ensures on_book { (rs : List Record) → StandsFor self.now rs
+        ensures on_book { (rs : List Record) → CoreStandsFor self.now rs
             → option_copied result ≡ pending_notice (book_facts rs) number }
     {
         self.state.notices.get(number)
@@ -101,7 +101,7 @@ impl Core {
     /// How an event was decided, or that it is pending. `None` if there is no such event.
     pub fn reply(&self, event: &Token) -> Option<Reply>
         ensures value { result ≡ event_reply (core_facts self.now.state) event.now }
-        ensures on_book { (rs : List Record) → StandsFor self.now rs
+        ensures on_book { (rs : List Record) → CoreStandsFor self.now rs
             → result ≡ event_reply (book_facts rs) event.now }
     {
         self.state.events.reply(event)
@@ -110,7 +110,7 @@ impl Core {
     /// The calls that are asked, by number.
     pub fn calls(&self, alloc: Global) -> Result<Vec<CallId>, AllocError>
         ensures value { IfOk result (λ v. v.items ≡ asked_calls (core_facts self.now.state)) }
-        ensures on_book { (rs : List Record) → StandsFor self.now rs
+        ensures on_book { (rs : List Record) → CoreStandsFor self.now rs
             → IfOk result (λ v. v.items ≡ asked_calls (book_facts rs)) }
     {
         self.state.calls.asked(alloc)
@@ -119,7 +119,7 @@ impl Core {
     /// The numbers of the notices that aren't acknowledged yet, in their order.
     pub fn notices(&self, alloc: Global) -> Result<Vec<u32>, AllocError>
         ensures value { IfOk result (λ v. v.items ≡ pending_numbers (core_facts self.now.state)) }
-        ensures on_book { (rs : List Record) → StandsFor self.now rs
+        ensures on_book { (rs : List Record) → CoreStandsFor self.now rs
             → IfOk result (λ v. v.items ≡ pending_numbers (book_facts rs)) }
     {
         self.state.notices.pending(alloc)
@@ -128,7 +128,7 @@ impl Core {
     /// The calls that are asked as they were opened, by number.
     pub fn asked(&self, alloc: Global) -> Result<Vec<Opened>, AllocError>
         ensures value { IfOk result (λ v. v.items ≡ asked_openings (core_facts self.now.state)) }
-        ensures on_book { (rs : List Record) → StandsFor self.now rs
+        ensures on_book { (rs : List Record) → CoreStandsFor self.now rs
             → IfOk result (λ v. v.items ≡ asked_openings (book_facts rs)) }
     {
         self.state.calls.asked_opened(alloc)
@@ -137,7 +137,7 @@ impl Core {
     /// The notices that aren't acknowledged yet, in the order of their numbers.
     pub fn pending(&self, alloc: Global) -> Result<Vec<Notice>, AllocError>
         ensures value { IfOk result (λ v. v.items ≡ (core_facts self.now.state).pending) }
-        ensures on_book { (rs : List Record) → StandsFor self.now rs
+        ensures on_book { (rs : List Record) → CoreStandsFor self.now rs
             → IfOk result (λ v. v.items ≡ (book_facts rs).pending) }
     {
         self.state.notices.pending_notices(alloc)
@@ -148,7 +148,7 @@ impl Core {
     /// currency.
     pub fn accounts(&self, alloc: Global) -> Result<Vec<Account>, AllocError>
         ensures value { IfOk result (λ v. map account_key v.items ≡ finite.keys self.now.state.balances) }
-        ensures on_book { (rs : List Record) → StandsFor self.now rs
+        ensures on_book { (rs : List Record) → CoreStandsFor self.now rs
             → IfOk result (λ v. map account_key v.items ≡ map account_key (accounts_of (history_of rs).rows)) }
     {
         self.state.chain.accounts(alloc)

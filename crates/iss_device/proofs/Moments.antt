@@ -14,7 +14,7 @@ use Rattle.iss_model.specs.declared.input.Record.{Record}
 use Rattle.iss_model.specs.texts.Spelling.{spelling}
 use Rattle.iss_store.specs.Values.{StoreNow}
 use Rattle.iss_store.specs.Standing.{region_of, region_under, bodies_of, DeviceStandsFor, RestsIn, StandsIn}
-use Rattle.iss_store.specs.Goings.{AreFirstOf, Goes, GoesPart}
+use Rattle.iss_store.specs.Goings.{AreFirstOf, StepsGo, StepsGoPart}
 use Rattle.iss_store.specs.Opening.{AreOnDevice, SyncsFirst, OpensGood, OpenedAs}
 use Rattle.iss_store.proofs.NextRecords.{first_self, first_bodies}
 use Rattle.iss_store.proofs.Goings.{goes_rests}
@@ -139,7 +139,7 @@ module _ (instance : ℕ) (rs : List Record) (s : StoreNow) (a b : World) (openi
   opening_goes_on all =
       opening.going.goes_on instance all (length rs) opening_steps stands.header (actions_of-leveled 0 opening.good.added ∙ same_opening)
 
-  module _ (now : List Record) (said : List Step) (d : World) (part : GoesPart (region_under s) rs now said b d) where
+  module _ (now : List Record) (said : List Step) (d : World) (part : StepsGoPart (region_under s) rs now said b d) where
     later_good : IsGood (RestsIn region now) (StandsIn region now) (length rs) (length now) part.steps
     later_good =
         subst (λ (r : Region). IsGood (RestsIn r now) (StandsIn r now) (length rs) (length now) part.steps) region_is (part.good now (first_self now))
@@ -183,7 +183,7 @@ module _ (instance : ℕ) (rs : List Record) (s : StoreNow) (a b : World) (openi
 
   -- ---- where it ends
 
-  module _ (now : List Record) (said : List Step) (d : World) (goes : Goes (region_under s) rs now said b d) where
+  module _ (now : List Record) (said : List Step) (d : World) (goes : StepsGo (region_under s) rs now said b d) where
     pub rests_now : RestsIn region now d.device (length now)
     rests_now =
         let begins : RestsIn (region_under s) rs b.device (length rs) =

@@ -12,7 +12,7 @@ use Rattle.iss_model.specs.rules.Stepping.{step}
 use Rattle.iss_agreement.proofs.Records.{step_rows}
 use Rattle.iss_drill.specs.declared.tally.Tally.{Tally}
 use Rattle.iss_drill.specs.Drills.{rows_with, is_approval, is_decline, is_notice_made}
-use Rattle.iss_drill.specs.Tallies.{among, Counts, Room}
+use Rattle.iss_drill.specs.Tallies.{among, Counts, CanCountMore}
 use Rattle.iss_drill.specs.Giving.{TellsAnswer}
 
 -- ---- counted
@@ -73,7 +73,7 @@ room_at most more i a b test xs e lt room is =
     let few : among test (take i xs) ≤ i = omega (arith, among_few test (take i xs), length-take i xs) in
     omega (arith, lt, room, is, few)
 
-pub room_left : (xs : List Entry) (i : ℕ) (a b : Tally) → i < length xs → Room (length xs) a → Counts (take i xs) a b → Room 1 b
+pub room_left : (xs : List Entry) (i : ℕ) (a b : Tally) → i < length xs → CanCountMore (length xs) a → Counts (take i xs) a b → CanCountMore 1 b
 room_left xs i a b lt room counts =
     record {
       approved = room_at (2 ^ 128) (length xs) i a.approved b.approved is_approval xs refl lt room.approved counts.approved;

@@ -21,7 +21,7 @@ pub record Counts (entries : List Entry) (before after : Tally) : Type 0 where
   pub repeats : after.repeats ≡ before.repeats
 
 -- this number of further entries can be counted
-pub record Room (more : ℕ) (t : Tally) : Type 0 where
+pub record CanCountMore (more : ℕ) (t : Tally) : Type 0 where
   pub approved : t.approved + more < 2 ^ 128
   pub declined : t.declined + more < 2 ^ 128
   pub notices : t.notices + more < 2 ^ 128

@@ -2,7 +2,7 @@
 ghost use Rattle.std.specs.Prelude.{◌≡◌, ◌+◌, ◌<◌, ◌^◌, [], ◌∷◌, length};
 ghost use Rattle.iss_drill.specs.Drills.{call_opened, opened_of, is_repeat};
 ghost use Rattle.iss_drill.specs.Giving.{TellsAnswer};
-ghost use Rattle.iss_drill.specs.Tallies.{no_tally, Counts, Room};
+ghost use Rattle.iss_drill.specs.Tallies.{no_tally, Counts, CanCountMore};
 
 use iss_model::{Answer, CallId, Entry, Verdict};
 
@@ -31,7 +31,7 @@ impl Tally {
 
     /// Counts the entries of a record.
     pub(crate) fn count(&mut self, entries: &[Entry])
-        requires { Room (length entries.now) self.old }
+        requires { CanCountMore (length entries.now) self.old }
         ensures { Counts entries.now self.old self.new }
     {
         for entry in entries {
@@ -40,7 +40,7 @@ impl Tally {
     }
 
     fn count_entry(&mut self, entry: &Entry)
-        requires { Room 1 self.old }
+        requires { CanCountMore 1 self.old }
         ensures { Counts (entry.now ∷ []) self.old self.new }
     {
         match entry {

@@ -19,7 +19,7 @@ use Rattle.iss_model.specs.Forms.{is_limit, is_usage_limit, is_none_or, is_mcc, 
 use Rattle.iss_field.specs.declared.name.Name.{Name}
 use Rattle.iss_field.specs.declared.name.Name.TheVariants as name
 use Rattle.iss_field.specs.Fields.{◌>>=◌, field, form_if, required_field, found_unless, required_field_unless, field_or, optional_field, optional_field_or}
-use Rattle.iss_field.specs.Values.{token_of, currency_of, limit_of, whole_within, mcc_of, mccs_of, funding_of, window_of, offset_of}
+use Rattle.iss_field.specs.Values.{token_of, currency_value, limit_of, whole_within, mcc_of, mccs_of, funding_of, window_of, offset_of}
 use Rattle.iss_field.proofs.ValuesInForm.{Meets, IsWithin, limit_of-meets, whole_within-meets, mcc_of-meets, offset_of-meets}
 use Rattle.iss_field.proofs.RisingCodes.{mccs_of-meets}
 use Rattle.iss_field.proofs.FieldsInForm.{required-is, optional-is, optional_or-is}
@@ -86,7 +86,7 @@ pub product-gives : (P : Input → Type 0) (d : Data)
     → IfOk (product_input d) P
 unfolding product_input
 product-gives P d h =
-    of_product P (required_field token_of name.Token d) (required_field token_of name.Product d) (required_field currency_of name.Currency d)
+    of_product P (required_field token_of name.Token d) (required_field token_of name.Product d) (required_field currency_value name.Currency d)
     (required_field funding_of name.Funding d) (optional_field_or (whole_within SHORTEST_TIMEOUT LONGEST_TIMEOUT) 3000 name.TimeoutMs d)
     (optional_field_or (whole_within SHORTEST_HOLD LONGEST_HOLD) 604800000 name.HoldMs d)
     (optional_or-is (whole_within SHORTEST_TIMEOUT LONGEST_TIMEOUT) 3000 name.TimeoutMs d (Meets is_timeout) refl (whole_within-meets SHORTEST_TIMEOUT LONGEST_TIMEOUT))
@@ -232,7 +232,7 @@ of_control P _ _ _ _ l o s z a h g k f = tt
 pub control-gives : (P : Input → Type 0) (d : Data) → ControlOf P → IfOk (control_input d) P
 unfolding control_input
 control-gives P d h =
-    of_control P (required_field token_of name.Token d) (required_field token_of name.Control d) (required_field currency_of name.Currency d) (required_field window_of name.Window d)
+    of_control P (required_field token_of name.Token d) (required_field token_of name.Control d) (required_field currency_value name.Currency d) (required_field window_of name.Window d)
     (λ currency window. limits_said currency window d) (association_said d) (scope_said d) (optional_field_or offset_of (pos 0) name.UtcOffset d) (optional_field_or as_bool true name.Active d)
     (λ currency window. limits-are currency window d) (scope-is d)
     (optional_or-is offset_of (pos 0) name.UtcOffset d (λ o. is_offset o ≡ true) refl offset_of-meets) h
@@ -261,7 +261,7 @@ of_set P _ _ _ _ c o i m l a h g f = tt
 pub set-gives : (P : Input → Type 0) (d : Data) → SetOf P → IfOk (set_input d) P
 unfolding set_input
 set-gives P d h =
-    of_set P (required_field token_of name.Token d) (required_field token_of name.Set d) (required_field token_of name.Product d) (required_field currency_of name.Currency d)
+    of_set P (required_field token_of name.Token d) (required_field token_of name.Set d) (required_field token_of name.Product d) (required_field currency_value name.Currency d)
     (optional_field_or as_bool false name.Connection d) (optional_field_or as_bool false name.Timeout d) (optional_field_or as_bool false name.Application d)
     (λ currency. required_field (limit_of currency) name.Max d) (λ currency. required_field (limit_of currency) name.DayLimit d) (optional_field_or as_bool true name.Active d)
     (λ currency. required-is (limit_of currency) name.Max d (Meets is_limit) (limit_of-meets currency))

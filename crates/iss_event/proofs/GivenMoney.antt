@@ -15,7 +15,7 @@ use Rattle.iss_field.specs.declared.name.Name.TheVariants as name
 use Rattle.iss_field.specs.declared.words.OutcomeWord.{OutcomeWord}
 use Rattle.iss_field.specs.declared.words.OutcomeWord.TheVariants as word
 use Rattle.iss_field.specs.Fields.{◌>>=◌, required_field, optional_field_or}
-use Rattle.iss_field.specs.Values.{token_of, currency_of, amount_of, whole_within, mcc_of, outcome_of}
+use Rattle.iss_field.specs.Values.{token_of, currency_value, amount_of, whole_within, mcc_of, outcome_of}
 use Rattle.iss_field.proofs.ValuesInForm.{Meets, amount_of-meets, whole_within-meets, mcc_of-meets}
 use Rattle.iss_field.proofs.FieldsInForm.{required-is}
 use Rattle.iss_event.specs.declared.payments.Operation.{Operation}
@@ -51,7 +51,7 @@ of_load P _ _ _ a h g = tt
 pub load-gives : (P : Input → Type 0) (d : Data) → LoadOf P → IfOk (load_input d) P
 unfolding load_input
 load-gives P d h =
-    of_load P (required_field token_of name.Token d) (required_field token_of name.User d) (required_field currency_of name.Currency d)
+    of_load P (required_field token_of name.Token d) (required_field token_of name.User d) (required_field currency_value name.Currency d)
     (λ currency. required_field (amount_of currency) name.Amount d) (amount-is d) h
 
 abbrev AuthorizationOf : (Input → Type 0) → Type 0
@@ -73,7 +73,7 @@ of_authorization P _ _ _ a m i b h g f = tt
 pub authorization-gives : (P : Input → Type 0) (d : Data) → AuthorizationOf P → IfOk (authorization_input d) P
 unfolding authorization_input
 authorization-gives P d h =
-    of_authorization P (required_field token_of name.Token d) (required_field token_of name.Card d) (required_field currency_of name.Currency d)
+    of_authorization P (required_field token_of name.Token d) (required_field token_of name.Card d) (required_field currency_value name.Currency d)
     (λ currency. required_field (amount_of currency) name.Amount d) (required_field mcc_of name.Mcc d) (required_field token_of name.Mid d)
     (optional_field_or as_bool false name.Partial d) (amount-is d) (required-is mcc_of name.Mcc d (Meets is_mcc) mcc_of-meets) h
 
@@ -95,7 +95,7 @@ of_operation _ _ _ a h = tt
 operation-is : (d : Data) → IfOk (operation_said d) HasAmount
 unfolding operation_said
 operation-is d =
-    of_operation (required_field token_of name.Token d) (required_field token_of name.Txn d) (required_field currency_of name.Currency d)
+    of_operation (required_field token_of name.Token d) (required_field token_of name.Txn d) (required_field currency_value name.Currency d)
     (λ currency. required_field (amount_of currency) name.Amount d) (amount-is d)
 
 then_input : (P : Input → Type 0) (o : Result Operation Name) (f : Operation → Input) → IfOk o HasAmount → ((o : Operation) → is_amount o.amount ≡ true → P (f o))
@@ -148,7 +148,7 @@ outcome-is word.Funded d = refl
 outcome-is word.Refused d = refl
 outcome-is word.Connection d = refl
 outcome-is word.Application d = refl
-outcome-is word.Partial d = of_parts (required_field currency_of name.Currency d) (λ currency. required_field (amount_of currency) name.Amount d) (amount-is d)
+outcome-is word.Partial d = of_parts (required_field currency_value name.Currency d) (λ currency. required_field (amount_of currency) name.Amount d) (amount-is d)
 
 abbrev AnswerOf : (Input → Type 0) → Type 0
 AnswerOf P = (call : CallId) (outcome : Outcome) → is_number call.0 ≡ true → is_outcome outcome ≡ true → P (input.Answer call outcome)

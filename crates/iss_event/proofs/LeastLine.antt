@@ -17,7 +17,7 @@ use Rattle.iss_event.specs.declared.line.FormFault.{FormFault}
 use Rattle.iss_event.specs.declared.line.FormFault.TheVariants.{Long}
 use Rattle.iss_event.specs.declared.line.LineFault.{LineFault}
 use Rattle.iss_event.specs.Kinds.{kind_of}
-use Rattle.iss_event.specs.Readings.{Opened, as_fault, stamp_said, opened_object, opened_if_found, opened_line, said_line, line_read, Reads}
+use Rattle.iss_event.specs.Readings.{Opened, as_fault, stamp_said, opened_object, opened_if_found, opened_line, said_line, line_read, IsReadAsLine}
 
 -- what holds anyway holds of each result
 always : {A F : Type 0} (r : Result A F) (P : Type 0) → P → IfOk r (λ found. P)
@@ -69,6 +69,6 @@ pub least_line : (mode : Mode) (line : List ℕ) (said : Line) → line_read mod
 least_line mode line said is = subst (λ (r : Result Line FormFault). IfOk r (λ found. 4 ≤ length line)) is (line_read-least mode line)
 
 -- a line that is read has at least four bytes
-pub read_least : (mode : Mode) (line : List ℕ) (r : Result Line LineFault) → Reads (line_read mode line) r → IfOk r (λ said. 4 ≤ length line)
+pub read_least : (mode : Mode) (line : List ℕ) (r : Result Line LineFault) → IsReadAsLine (line_read mode line) r → IfOk r (λ said. 4 ≤ length line)
 read_least mode line (Ok said) is = least_line mode line said is
 read_least mode line (Err fault) is = tt

@@ -23,7 +23,7 @@ use Rattle.iss_event.specs.declared.line.LineFault.{LineFault}
 use Rattle.iss_event.specs.declared.line.LineFault.TheVariants.{Form, OutOfMemory}
 use Rattle.iss_event.specs.Kinds.{kind_of, may_lack_stamp}
 use Rattle.iss_event.specs.Inputs.{input_of_kind}
-use Rattle.iss_event.specs.Readings.{as_fault, stamp_said, opened_object, opened_if_found, opened_line, said_line, line_read, Reads}
+use Rattle.iss_event.specs.Readings.{as_fault, stamp_said, opened_object, opened_if_found, opened_line, said_line, line_read, IsReadAsLine}
 use Rattle.iss_event.proofs.Given.{user-gives, card-gives, move-gives, product-gives, group-gives, control-gives, set-gives, switch-gives}
 use Rattle.iss_event.proofs.GivenMoney.{load-gives, authorization-gives, increment-gives, reversal-gives, clearing-gives, refund-gives, answer-gives, ack-gives}
 
@@ -107,7 +107,7 @@ unfolding line_read opened_line
 line_read-good mode line = unless_long (nat_lt LONGEST_LINE (length line)) mode (object_of line)
 
 -- what holds of what is said holds of what is read
-pub read_as : (P : Line → Type 0) (said : Result Line FormFault) (r : Result Line LineFault) → Reads said r → IfOk said P → IfOk r P
+pub read_as : (P : Line → Type 0) (said : Result Line FormFault) (r : Result Line LineFault) → IsReadAsLine said r → IfOk said P → IfOk r P
 read_as P said (Ok line) is h = subst (λ (s : Result Line FormFault). IfOk s P) is h
 read_as P said (Err (Form fault)) is h = tt
 read_as P said (Err OutOfMemory) is h = tt
@@ -122,8 +122,8 @@ stamp_form : (r : Result Line LineFault) → IfOk r IsGoodLine → IfOk r (λ li
 stamp_form (Ok line) h = h.1
 stamp_form (Err fault) h = tt
 
-pub read_input_in_form : (mode : Mode) (line : List ℕ) (r : Result Line LineFault) → Reads (line_read mode line) r → IfOk r (λ said. is_in_form said.input ≡ true)
+pub read_input_in_form : (mode : Mode) (line : List ℕ) (r : Result Line LineFault) → IsReadAsLine (line_read mode line) r → IfOk r (λ said. is_in_form said.input ≡ true)
 read_input_in_form mode line r is = input_form r (read_as IsGoodLine (line_read mode line) r is (line_read-good mode line))
 
-pub read_stamp_in_form : (mode : Mode) (line : List ℕ) (r : Result Line LineFault) → Reads (line_read mode line) r → IfOk r (λ said. is_stamp_or_none said.at ≡ true)
+pub read_stamp_in_form : (mode : Mode) (line : List ℕ) (r : Result Line LineFault) → IsReadAsLine (line_read mode line) r → IfOk r (λ said. is_stamp_or_none said.at ≡ true)
 read_stamp_in_form mode line r is = stamp_form r (read_as IsGoodLine (line_read mode line) r is (line_read-good mode line))

@@ -21,7 +21,7 @@ use Rattle.iss_field.specs.declared.name.Name.TheVariants as name
 use Rattle.iss_field.specs.declared.words.OutcomeWord.{OutcomeWord}
 use Rattle.iss_field.specs.declared.words.OutcomeWord.TheVariants as word
 use Rattle.iss_field.specs.Fields.{◌>>=◌, field, form_if, required_field, required_field_unless, optional_field, optional_field_or}
-use Rattle.iss_field.specs.Values.{token_of, currency_of, amount_of, limit_of, whole_within, mcc_of, mccs_of, funding_of, window_of, offset_of, outcome_of, card_state_of, user_state_of}
+use Rattle.iss_field.specs.Values.{token_of, currency_value, amount_of, limit_of, whole_within, mcc_of, mccs_of, funding_of, window_of, offset_of, outcome_of, card_state_of, user_state_of}
 use Rattle.iss_event.specs.declared.kind.Kind.{Kind}
 use Rattle.iss_event.specs.declared.kind.Kind.TheVariants as kind
 use Rattle.iss_event.specs.declared.payments.Operation.{Operation}
@@ -78,7 +78,7 @@ unfoldable pub product_input : Data → Result Input Name
 product_input d = do
   token ← required_field token_of name.Token d
   product ← required_field token_of name.Product d
-  currency ← required_field currency_of name.Currency d
+  currency ← required_field currency_value name.Currency d
   funding ← required_field funding_of name.Funding d
   timeout_ms ← optional_field_or (whole_within SHORTEST_TIMEOUT LONGEST_TIMEOUT) DEFAULT_TIMEOUT name.TimeoutMs d
   hold_ms ← optional_field_or (whole_within SHORTEST_HOLD LONGEST_HOLD) DEFAULT_HOLD name.HoldMs d
@@ -140,7 +140,7 @@ unfoldable pub control_input : Data → Result Input Name
 control_input d = do
   token ← required_field token_of name.Token d
   control ← required_field token_of name.Control d
-  currency ← required_field currency_of name.Currency d
+  currency ← required_field currency_value name.Currency d
   window ← required_field window_of name.Window d
   limits ← limits_said currency window d
   association ← association_said d
@@ -155,7 +155,7 @@ set_input d = do
   token ← required_field token_of name.Token d
   set ← required_field token_of name.Set d
   product ← required_field token_of name.Product d
-  currency ← required_field currency_of name.Currency d
+  currency ← required_field currency_value name.Currency d
   connection ← optional_field_or as_bool false name.Connection d
   timeout ← optional_field_or as_bool false name.Timeout d
   application ← optional_field_or as_bool false name.Application d
@@ -179,7 +179,7 @@ unfoldable pub load_input : Data → Result Input Name
 load_input d = do
   token ← required_field token_of name.Token d
   user ← required_field token_of name.User d
-  currency ← required_field currency_of name.Currency d
+  currency ← required_field currency_value name.Currency d
   amount ← required_field (amount_of currency) name.Amount d
   Ok (input.Load token user currency amount)
 
@@ -188,7 +188,7 @@ unfoldable pub authorization_input : Data → Result Input Name
 authorization_input d = do
   token ← required_field token_of name.Token d
   card ← required_field token_of name.Card d
-  currency ← required_field currency_of name.Currency d
+  currency ← required_field currency_value name.Currency d
   amount ← required_field (amount_of currency) name.Amount d
   mcc ← required_field mcc_of name.Mcc d
   mid ← required_field token_of name.Mid d
@@ -200,7 +200,7 @@ unfoldable pub operation_said : Data → Result Operation Name
 operation_said d = do
   token ← required_field token_of name.Token d
   txn ← required_field token_of name.Txn d
-  currency ← required_field currency_of name.Currency d
+  currency ← required_field currency_value name.Currency d
   amount ← required_field (amount_of currency) name.Amount d
   Ok (record { token = token; txn = txn; currency = currency; amount = amount })
 
@@ -234,7 +234,7 @@ refund_input d = do
 -- a part of a call's amount
 unfoldable pub part_said : Data → Result Outcome Name
 part_said d = do
-  currency ← required_field currency_of name.Currency d
+  currency ← required_field currency_value name.Currency d
   amount ← required_field (amount_of currency) name.Amount d
   Ok (outcome.Partial currency amount)
 

@@ -65,10 +65,10 @@ line_read mode line = do
   as_fault (said_line opened)
 
 -- reading gave this, unless an allocation failed, which may happen at any line
-abbrev pub Reads : {A : Type 0} → Result A FormFault → Result A LineFault → Type 0
-Reads said (Ok line) = said ≡ Ok line
-Reads said (Err (Form fault)) = said ≡ Err fault
-Reads said (Err OutOfMemory) = Unit {0}
+abbrev pub IsReadAsLine : {A : Type 0} → Result A FormFault → Result A LineFault → Type 0
+IsReadAsLine said (Ok line) = said ≡ Ok line
+IsReadAsLine said (Err (Form fault)) = said ≡ Err fault
+IsReadAsLine said (Err OutOfMemory) = Unit {0}
 
 -- an open line as these definitions see it
 abbrev pub opened_as : OpenLine → Opened

@@ -3,7 +3,7 @@ ghost use Rattle.std.specs.Prelude.{◌≡◌, ◌≤◌, length, IfOk, IsTrue};
 ghost use Rattle.iss_model.specs.Forms.{is_in_form, is_stamp_or_none};
 ghost use Rattle.iss_field.specs.Seen.{seen};
 ghost use Rattle.iss_event.specs.Kinds.{may_lack_stamp};
-ghost use Rattle.iss_event.specs.Readings.{Reads, Opens, opened_as, as_fault, stamp_said, opened_line, said_line, line_read};
+ghost use Rattle.iss_event.specs.Readings.{IsReadAsLine, Opens, opened_as, as_fault, stamp_said, opened_line, said_line, line_read};
 
 use crate::inputs::input_of_kind;
 use crate::kind::{Kind, KindForm};
@@ -16,7 +16,7 @@ use std::alloc::Global;
 /// What a line spells, without the line feed that ends it, or its first fault: `Long`, `Json`, or the first bad field in the
 /// order `type`, `at` and then that of its type. A line is one JSON object (RFC 8259).
 pub fn read_line(alloc: Global, line: &[u8], mode: Mode) -> Result<Line, LineFault>
-    ensures read { Reads (line_read mode line.now) result }
+    ensures read { IsReadAsLine (line_read mode line.now) result }
     ensures input_form { IfOk result (λ said. IsTrue (is_in_form said.input)) }
     ensures stamp_form { IfOk result (λ said. IsTrue (is_stamp_or_none said.at)) }
     ensures least { IfOk result (λ said. 4 ≤ length line.now) }
@@ -33,7 +33,7 @@ pub fn read_line_in(
     line: &[u8],
     mode: Mode,
 ) -> Result<Line, LineFault>
-    ensures read { Reads (line_read mode line.now) result }
+    ensures read { IsReadAsLine (line_read mode line.now) result }
     ensures input_form { IfOk result (λ said. IsTrue (is_in_form said.input)) }
     ensures stamp_form { IfOk result (λ said. IsTrue (is_stamp_or_none said.at)) }
     ensures least { IfOk result (λ said. 4 ≤ length line.now) }
@@ -94,7 +94,7 @@ impl OpenLine<'_> {
     /// What the line spells, or its first bad field after its type.
     #[tactic(auto, unfolding(crate::specs::Readings::said_line))]
     fn read(&self, alloc: Global) -> Result<Line, LineFault>
-        ensures { Reads (as_fault (said_line (opened_as self.now))) result }
+        ensures { IsReadAsLine (as_fault (said_line (opened_as self.now))) result }
     {
         let at = match self.stamp {
             Ok(at) => at,

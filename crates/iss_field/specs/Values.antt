@@ -17,7 +17,7 @@ use Rattle.iss_model.specs.declared.setting.UserState.TheVariants as user
 use Rattle.iss_model.specs.declared.setting.Window.{Window}
 use Rattle.iss_model.specs.declared.setting.Window.TheVariants as window
 use Rattle.iss_model.specs.Tokens.{is_token}
-use Rattle.iss_model.specs.Currencies as currencies
+use Rattle.iss_model.specs.Currencies.{currency_of}
 use Rattle.iss_model.specs.Forms.{is_offset}
 use Rattle.iss_model.specs.Amounts.{is_digit, digits_value, if_form, amount_read, whole_amount_read, limit_read, whole_limit_read}
 use Rattle.iss_model.specs.texts.Wordings.{card_state_text, user_state_text}
@@ -33,8 +33,8 @@ unfoldable pub token_of : Data → Option (List ℕ)
 token_of d = option_and_then if_token (as_str d)
 
 -- a text that is the code of a currency
-unfoldable pub currency_of : Data → Option Currency
-currency_of d = option_and_then currencies.currency_of (as_str d)
+unfoldable pub currency_value : Data → Option Currency
+currency_value d = option_and_then currency_of (as_str d)
 
 -- a whole number: one that JSON keeps as an unsigned 64-bit number
 abbrev pub whole_of : Data → Option ℕ

@@ -1,5 +1,5 @@
 //! The forms of fields that are a text: a token, or a word of a few.
-ghost use Rattle.iss_field.specs.Values.{token_of, currency_of, funding_of, window_of, outcome_of, card_state_of, user_state_of};
+ghost use Rattle.iss_field.specs.Values.{token_of, currency_value, funding_of, window_of, outcome_of, card_state_of, user_state_of};
 
 use crate::fields::Form;
 use crate::found::text;
@@ -28,9 +28,9 @@ pub struct CurrencyForm;
 impl Form for CurrencyForm {
     type Said = Currency;
 
-    ghost said = { λ _. currency_of };
+    ghost said = { λ _. currency_value };
 
-    #[tactic(auto, unfolding(crate::specs::Values::currency_of))]
+    #[tactic(auto, unfolding(crate::specs::Values::currency_value))]
     fn read(self, found: &Value<'_>) -> Option<Currency> {
         from_code(text(found)?.as_bytes())
     }

@@ -12,7 +12,7 @@ use Rattle.iss_model.specs.rules.Activity.{TxnNow, txn_named}
 use Rattle.iss_model.specs.state.Kept.{Kept, nothing_kept, after_changes}
 use Rattle.iss_model.specs.state.Cores.{is_live, with_txn}
 use Rattle.iss_hold.specs.declared.hold.Hold.{Hold}
-use Rattle.iss_hold.specs.Holdings.{begun, now_of, part_sums, user_sums, holdings_of}
+use Rattle.iss_hold.specs.Holdings.{begun, txn_of_hold, part_sums, user_sums, holdings_of}
 use Rattle.iss_hold.specs.Expiries.{Expiry, expiry_of, item_of, with_expiry, expiries}
 use Rattle.iss_hold.specs.Indexes.{by_expiry}
 
@@ -37,11 +37,11 @@ none_ended name [] e = refl
 none_ended name (t ∷ ts) e = none_ended_by name t ts (bytes_eq t.txn.token name) refl (none_ended name ts) e
 
 -- the holdings with one more transaction
-pub holdings_more : (hs : List Hold) (t : Txn) → txn_named t.token (map now_of hs) ≡ None → holdings_of (hs ++ begun t ∷ []) ≡ with_txn (holdings_of hs) t
+pub holdings_more : (hs : List Hold) (t : Txn) → txn_named t.token (map txn_of_hold hs) ≡ None → holdings_of (hs ++ begun t ∷ []) ≡ with_txn (holdings_of hs) t
 holdings_more hs t none =
-    let live : is_live (map now_of hs) t.token ≡ true = ap not (none_ended t.token (map now_of hs) none) in
-    let txns : map now_of (hs ++ begun t ∷ []) ≡ map now_of hs ++ record { txn = t; live = is_live (map now_of hs) t.token } ∷ [] =
-    map_push now_of hs (begun t) ∙ ap (λ (b : Bool). map now_of hs ++ record { txn = t; live = b } ∷ []) (sym live) in
+    let live : is_live (map txn_of_hold hs) t.token ≡ true = ap not (none_ended t.token (map txn_of_hold hs) none) in
+    let txns : map txn_of_hold (hs ++ begun t ∷ []) ≡ map txn_of_hold hs ++ record { txn = t; live = is_live (map txn_of_hold hs) t.token } ∷ [] =
+    map_push txn_of_hold hs (begun t) ∙ ap (λ (b : Bool). map txn_of_hold hs ++ record { txn = t; live = b } ∷ []) (sym live) in
     let parts = fold_push (λ (kept : Kept) (h : Hold). after_changes kept (part_sums h)) nothing_kept hs (begun t) in
     let held = fold_push (λ (kept : Kept) (h : Hold). after_changes kept (user_sums h)) nothing_kept hs (begun t) in
     λ j. record { txns = txns j; parts = parts j; held = held j }
@@ -77,10 +77,10 @@ none_or : (a b : Bool) → (a || b) ≡ false → (a ≡ false) × (b ≡ false)
 none_or true b h = cc
 none_or false b h = (refl, h)
 
-none_live : (number : ℕ) (hs : List Hold) → list_any (λ t. number == t.txn.origin) (map now_of hs) ≡ false → NoneOf number (map expiry_of (filter (λ h. h.live) hs))
+none_live : (number : ℕ) (hs : List Hold) → list_any (λ t. number == t.txn.origin) (map txn_of_hold hs) ≡ false → NoneOf number (map expiry_of (filter (λ h. h.live) hs))
 none_live number [] e = tt
 none_live number (h ∷ hs) e =
-    let parts = none_or (number == h.txn.origin) (list_any (λ t. number == t.txn.origin) (map now_of hs)) e in
+    let parts = none_or (number == h.txn.origin) (list_any (λ t. number == t.txn.origin) (map txn_of_hold hs)) e in
     elim h.live as (λ t. NoneOf number (map expiry_of (cond t (h ∷ filter (λ k. k.live) hs) (filter (λ k. k.live) hs)))) [
       | true ↦ (parts.0, none_live number hs parts.1)
       | false ↦ none_live number hs parts.1
@@ -101,7 +101,7 @@ inserted x (a ∷ es) n =
     goes_by (nat_lt x.0.0 a.0.0) (x.0.0 == a.0.0) (nat_lt x.0.1 a.0.1) (x.0.1 == a.0.1) (x ∷ a ∷ es) ((a.0, x.1) ∷ es) (a ∷ insert_entry by_expiry es x.0 x.1) n.0
     ∙ ap (λ (rest : List Expiry). cond (is_before (item_of x) (item_of a)) (x ∷ a ∷ es) (a ∷ rest)) (inserted x es n.1)
 
-pub entries_more : (hs : List Hold) (t : Txn) → list_any (λ u. t.origin == u.txn.origin) (map now_of hs) ≡ false
+pub entries_more : (hs : List Hold) (t : Txn) → list_any (λ u. t.origin == u.txn.origin) (map txn_of_hold hs) ≡ false
     → insert_entry by_expiry (expiries hs) (t.expires, t.origin) t.token ≡ expiries (hs ++ begun t ∷ [])
 entries_more hs t none =
     inserted (expiry_of (begun t)) (expiries hs) (none_fold t.origin [] (map expiry_of (filter (λ h. h.live) hs)) tt (none_live t.origin hs none))

@@ -17,7 +17,7 @@ use Rattle.iss_model.specs.state.Cores.{with_end, txn_after_end}
 use Rattle.iss_model.specs.Sums.{Change}
 use Rattle.iss_model.proofs.Names.{name-sym, its_name}
 use Rattle.iss_hold.specs.declared.hold.Hold.{Hold}
-use Rattle.iss_hold.specs.Holdings.{now_of, part_sums, user_sums, sums_from, holdings_of}
+use Rattle.iss_hold.specs.Holdings.{txn_of_hold, part_sums, user_sums, sums_from, holdings_of}
 use Rattle.iss_hold.specs.Expiries.{Expiry, expiry_of, with_expiry, expiries}
 use Rattle.iss_hold.specs.Indexes.{by_expiry, origins, names}
 use Rattle.iss_hold.proofs.HoldTotals.{apart_from}
@@ -27,7 +27,7 @@ use Rattle.iss_hold.proofs.ExpiryOrder.{filter_fold}
 abbrev pub ended : Hold → Hold
 ended h = record h { live = false }
 
-others_stay : (name : List ℕ) (hs : List Hold) → AllByRecursion (λ other. bytes_eq name other ≡ false) (names hs) → map (txn_after_end name) (map now_of hs) ≡ map now_of hs
+others_stay : (name : List ℕ) (hs : List Hold) → AllByRecursion (λ other. bytes_eq name other ≡ false) (names hs) → map (txn_after_end name) (map txn_of_hold hs) ≡ map txn_of_hold hs
 others_stay name [] h = refl
 others_stay name (x ∷ hs) h =
     let apart = h.0 in
@@ -35,12 +35,12 @@ others_stay name (x ∷ hs) h =
     rw (apart, rest) refl
 
 txns_end : (hs : List Hold) (i : ℕ) (h : Hold) → slice_get hs i ≡ Some h → IsDistinct bytes_eq (names hs)
-    → map (txn_after_end h.txn.token) (map now_of hs) ≡ map now_of (set hs i (ended h))
+    → map (txn_after_end h.txn.token) (map txn_of_hold hs) ≡ map txn_of_hold (set hs i (ended h))
 unfolding IsDistinct
 txns_end [] i h e d = cc
 txns_end (x ∷ hs) zero h e d =
     let same : x ≡ h = cc in
-    subst (λ (y : Hold). map (txn_after_end y.txn.token) (map now_of (x ∷ hs)) ≡ now_of (ended y) ∷ map now_of hs) same
+    subst (λ (y : Hold). map (txn_after_end y.txn.token) (map txn_of_hold (x ∷ hs)) ≡ txn_of_hold (ended y) ∷ map txn_of_hold hs) same
     (let own = its_name x.txn.token in
     let rest = others_stay x.txn.token hs d.0 in
     rw (own, rest) refl)

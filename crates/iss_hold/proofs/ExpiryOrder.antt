@@ -5,7 +5,7 @@ use Rattle.std.proofs.lemmas.Bool.Decides.{nat_tests}
 use Rattle.std.specs.List.{AllByRecursion}
 use Rattle.iss_model.specs.rules.Due.{DueItem, due_txn, txn_due, is_before, is_quiet, items_with}
 use Rattle.iss_hold.specs.declared.hold.Hold.{Hold}
-use Rattle.iss_hold.specs.Holdings.{now_of, holdings_of}
+use Rattle.iss_hold.specs.Holdings.{txn_of_hold, holdings_of}
 use Rattle.iss_hold.specs.Expiries.{Expiry, expiry_of, item_of, with_expiry, expiries, txns_due}
 
 abbrev pub before : Expiry → Expiry → Bool
@@ -129,11 +129,11 @@ items_come now (e ∷ es) =
       | false ↦ items_come now es
     ]
 
-live_items : (hs : List Hold) → map due_txn (filter (λ t. t.live) (map now_of hs)) ≡ map item_of (map expiry_of (filter (λ h. h.live) hs))
+live_items : (hs : List Hold) → map due_txn (filter (λ t. t.live) (map txn_of_hold hs)) ≡ map item_of (map expiry_of (filter (λ h. h.live) hs))
 live_items [] = refl
 live_items (h ∷ hs) =
-    elim h.live as (λ t. map due_txn (cond t (now_of h ∷ filter (λ u. u.live) (map now_of hs)) (filter (λ u. u.live) (map now_of hs))) ≡ map item_of (map expiry_of (cond t (h ∷ filter (λ k. k.live) hs) (filter (λ k. k.live) hs)))) [
-      | true ↦ ap (λ (items : List DueItem). due_txn (now_of h) ∷ items) (live_items hs)
+    elim h.live as (λ t. map due_txn (cond t (txn_of_hold h ∷ filter (λ u. u.live) (map txn_of_hold hs)) (filter (λ u. u.live) (map txn_of_hold hs))) ≡ map item_of (map expiry_of (cond t (h ∷ filter (λ k. k.live) hs) (filter (λ k. k.live) hs)))) [
+      | true ↦ ap (λ (items : List DueItem). due_txn (txn_of_hold h) ∷ items) (live_items hs)
       | false ↦ live_items hs
     ]
 

@@ -26,9 +26,9 @@ use Rattle.std.specs.Ordering.{nat_cmp}
 use Rattle.iss_index.specs.Places.{place_of}
 use Rattle.iss_hold.specs.declared.hold.Hold.{Hold}
 use Rattle.iss_hold.specs.declared.hold.Taken.{Taken}
-use Rattle.iss_hold.specs.Holdings.{now_of, part_of, with_part, parts_of, without_parts, whole_of, part_sums, sums_from, holdings_of}
+use Rattle.iss_hold.specs.Holdings.{txn_of_hold, part_of, with_part, parts_of_hold, without_parts, whole_of, part_sums, sums_from, holdings_of}
 use Rattle.iss_hold.specs.Bounds.{AreLow}
-use Rattle.iss_hold.specs.Entries.{after_holds, entries_on, change_entries, IsCovered, parts_in, clearing_unhold_entries, release_unhold_entries, taken_in_all, parts_taken}
+use Rattle.iss_hold.specs.Entries.{after_holds, entries_on, change_entries, IsHoldCovered, parts_in, clearing_unhold_entries, release_unhold_entries, taken_in_all, parts_taken}
 use Rattle.iss_hold.specs.Indexes.{names, is_of, total_of, ArePlaced, AreSummed, IsAt}
 use Rattle.iss_hold.proofs.HoldSums.{holdings_set}
 use Rattle.iss_hold.proofs.HoldTotals.{user_total, part_kept, whole_within, total_set}
@@ -108,16 +108,16 @@ three_gone hs i h p q r a b c at ha hb hc =
 -- what a taking of an amount lets go of a hold, and its entries
 abbrev pub IsTaking : (Parts → ℕ → Parts) → (Parts → Txn → List Entry) → Type 0
 IsTaking take entries = (hs : List Hold) (i : ℕ) (h : Hold) (amount : ℕ) → slice_get hs i ≡ Some h
-    → holdings_of (set hs i (without_parts (take (parts_of h) amount) h)) ≡ fold with_hold (holdings_of hs) (entries (take (parts_of h) amount) h.txn)
+    → holdings_of (set hs i (without_parts (take (parts_of_hold h) amount) h)) ≡ fold with_hold (holdings_of hs) (entries (take (parts_of_hold h) amount) h.txn)
 
 pub clearing : IsTaking taken_to_clear clearing_unhold_entries
 clearing hs i h amount at =
-    let taken = taken_to_clear (parts_of h) amount in
+    let taken = taken_to_clear (parts_of_hold h) amount in
     three_gone hs i h part.G part.P part.S taken.g taken.p taken.s at (omega arith) (omega arith) (omega arith)
 
 pub releasing : IsTaking taken_to_release release_unhold_entries
 releasing hs i h amount at =
-    let taken = taken_to_release (parts_of h) amount in
+    let taken = taken_to_release (parts_of_hold h) amount in
     three_gone hs i h part.P part.G part.S taken.p taken.g taken.s at (omega arith) (omega arith) (omega arith)
 
 -- what is kept of a user is what the holds come to
@@ -154,18 +154,18 @@ not_negative : (x : ℤ) → pos 0 ≤ℤ x → x ≡ pos (not_below x)
 not_negative (pos n) h = refl
 not_negative (negsuc n) h = absurd (omega (arith, ints, h))
 
-covered_sum : (z : ℤ) (there : ℕ) → IsCovered z there → pos 0 ≤ℤ (pos there +ℤ z)
+covered_sum : (z : ℤ) (there : ℕ) → IsHoldCovered z there → pos 0 ≤ℤ (pos there +ℤ z)
 covered_sum (pos n) there h = omega (arith, ints)
 covered_sum (negsuc n) there h = omega (arith, ints, h)
 
 -- what is left of a part
-left_over : (z : ℤ) (there : ℕ) → IsCovered z there → (pos there +ℤ z) ≡ pos (not_below (pos there +ℤ z))
+left_over : (z : ℤ) (there : ℕ) → IsHoldCovered z there → (pos there +ℤ z) ≡ pos (not_below (pos there +ℤ z))
 left_over z there h = not_negative (pos there +ℤ z) (covered_sum z there h)
 
 -- a place among the transactions is one of the holds'
 pub within_holds : (hs : List Hold) (i : ℕ) {s : Holdings} → holdings_of hs ≡ s → i < length s.txns → i < length hs
 within_holds hs i {s} view within =
-    let len : length hs ≡ length s.txns = sym (length-map hs now_of) ∙ ap (λ (x : Holdings). length x.txns) view in
+    let len : length hs ≡ length s.txns = sym (length-map hs txn_of_hold) ∙ ap (λ (x : Holdings). length x.txns) view in
     omega (arith, len, within)
 
 -- the part that is kept of what stands at a place is that of its hold
@@ -175,7 +175,7 @@ part_at hs i h view d at p =
     sym (part_kept p nothing_kept hs i h at d (ap (λ (o : Option ℤ). unwrap_or o (pos 0)) (finite.get-empty (slice_cmp nat_cmp) (part_key h.txn.token p))))
     ∙ ap (λ (x : Holdings). kept_at x.parts (part_key h.txn.token p)) view
 
-pub parts_at : (hs : List Hold) (i : ℕ) (h : Hold) {s : Holdings} → holdings_of hs ≡ s → IsDistinct bytes_eq (names hs) → slice_get hs i ≡ Some h → parts_of h ≡ parts_in s h.txn.token
+pub parts_at : (hs : List Hold) (i : ℕ) (h : Hold) {s : Holdings} → holdings_of hs ≡ s → IsDistinct bytes_eq (names hs) → slice_get hs i ≡ Some h → parts_of_hold h ≡ parts_in s h.txn.token
 parts_at hs i h view d at =
     let g = ap not_below (part_at hs i h view d at part.G) in
     let p = ap not_below (part_at hs i h view d at part.P) in
@@ -201,7 +201,7 @@ module _ {name : List ℕ} {hs : List Hold} {i : ℕ} {h : Hold} (at : IsAt name
       ∙ part_kept p nothing_kept hs i h at.is_there d (ap (λ (o : Option ℤ). unwrap_or o (pos 0)) (finite.get-empty (slice_cmp nat_cmp) (part_key h.txn.token p))))
       ∙ ap (λ (x : Holdings). kept_at x.parts (part_key name p)) view
 
-  pub parts_there : IsDistinct bytes_eq (names hs) → parts_of h ≡ parts_in s name
+  pub parts_there : IsDistinct bytes_eq (names hs) → parts_of_hold h ≡ parts_in s name
   parts_there d =
       let g = ap not_below (part_there d part.G) in
       let p = ap not_below (part_there d part.P) in
@@ -239,17 +239,17 @@ module _ {name : List ℕ} {hs : List Hold} {i : ℕ} {h : Hold} (at : IsAt name
   lessened p amount le e f =
       ap holdings_of (f ∙ ap (λ (x : Hold). set hs i x) e) ∙ less_held hs i h p amount at.is_there le ∙ made_there (λ t. unhold_entries t p amount)
 
-  pub its_change : (p : Part) (z : ℤ) → IsDistinct bytes_eq (names hs) → IsCovered z (not_below (kept_at s.parts (part_key name p))) → IsCovered z (part_of p h)
-  its_change p z d covered = subst (λ (x : ℤ). IsCovered z (not_below x)) (sym (part_there d p)) covered
+  pub its_change : (p : Part) (z : ℤ) → IsDistinct bytes_eq (names hs) → IsHoldCovered z (not_below (kept_at s.parts (part_key name p))) → IsHoldCovered z (part_of p h)
+  its_change p z d covered = subst (λ (x : ℤ). IsHoldCovered z (not_below x)) (sym (part_there d p)) covered
 
-  pub changed : (p : Part) (z : ℤ) {k : Hold} {ks : List Hold} → IsCovered z (part_of p h) → k ≡ with_part p (not_below (pos (part_of p h) +ℤ z)) h → ks ≡ set hs i k
+  pub changed : (p : Part) (z : ℤ) {k : Hold} {ks : List Hold} → IsHoldCovered z (part_of p h) → k ≡ with_part p (not_below (pos (part_of p h) +ℤ z)) h → ks ≡ set hs i k
       → holdings_of ks ≡ after_holds s name (change_entries p z)
   changed p z covered e f =
       ap holdings_of (f ∙ ap (λ (x : Hold). set hs i x) e)
       ∙ holdings_set hs i h p (not_below (pos (part_of p h) +ℤ z)) z at.is_there (left_over z (part_of p h) covered)
       ∙ made_there (change_entries p z)
 
-  pub changed_low : (p : Part) (z : ℤ) {k : Hold} → IsCovered z (part_of p h) → k ≡ with_part p (not_below (pos (part_of p h) +ℤ z)) h → AreLow (after_holds s name (change_entries p z)).held
+  pub changed_low : (p : Part) (z : ℤ) {k : Hold} → IsHoldCovered z (part_of p h) → k ≡ with_part p (not_below (pos (part_of p h) +ℤ z)) h → AreLow (after_holds s name (change_entries p z)).held
       → total_of k.txn.user (iso_number k.txn.currency) (set hs i k) < 2 ^ 62
   changed_low p z {k} covered e low =
       let key = user_key k.txn.user k.txn.currency in
@@ -258,7 +258,7 @@ module _ {name : List ℕ} {hs : List Hold} {i : ℕ} {h : Hold} (at : IsAt name
       let below = subst (λ (z : ℤ). z <ℤ pos (2 ^ 62)) kept (low key) in
       omega (arith, ints)
 
-  pub changed_fits : (p : Part) (z : ℤ) → IsCovered z (part_of p h) → AreLow (after_holds s name (change_entries p z)).held → (pos (part_of p h) +ℤ z) <ℤ pos (2 ^ 64)
+  pub changed_fits : (p : Part) (z : ℤ) → IsHoldCovered z (part_of p h) → AreLow (after_holds s name (change_entries p z)).held → (pos (part_of p h) +ℤ z) <ℤ pos (2 ^ 64)
   changed_fits p z covered low =
       let n = not_below (pos (part_of p h) +ℤ z) in
       let k = with_part p n h in
@@ -270,15 +270,15 @@ module _ {name : List ℕ} {hs : List Hold} {i : ℕ} {h : Hold} (at : IsAt name
 
   -- what is taken of an amount, as the holdings tell it
   pub taken_there : (take : Parts → ℕ → Parts) (entries : Parts → Txn → List Entry) (amount : ℕ) {taken : Taken} {k : Hold} {ks : List Hold} → IsTaking take entries
-      → IsDistinct bytes_eq (names hs) → taken ≡ taken_in_all (take (parts_of h) amount) amount → k ≡ without_parts (parts_taken taken) h → ks ≡ set hs i k
+      → IsDistinct bytes_eq (names hs) → taken ≡ taken_in_all (take (parts_of_hold h) amount) amount → k ≡ without_parts (parts_taken taken) h → ks ≡ set hs i k
       → holdings_of ks ≡ after_holds s name (entries (take (parts_in s name) amount))
   taken_there take entries amount is d e f g =
       ap holdings_of (g ∙ ap (λ (x : Hold). set hs i x) (f ∙ ap (λ (t : Taken). without_parts (parts_taken t) h) e))
       ∙ is hs i h amount at.is_there
-      ∙ made_there (entries (take (parts_of h) amount))
+      ∙ made_there (entries (take (parts_of_hold h) amount))
       ∙ ap (λ (parts : Parts). after_holds s name (entries (take parts amount))) (parts_there d)
 
-  pub told_there : (take : Parts → ℕ → Parts) (amount : ℕ) {taken : Taken} → IsDistinct bytes_eq (names hs) → taken ≡ taken_in_all (take (parts_of h) amount) amount
+  pub told_there : (take : Parts → ℕ → Parts) (amount : ℕ) {taken : Taken} → IsDistinct bytes_eq (names hs) → taken ≡ taken_in_all (take (parts_of_hold h) amount) amount
       → taken ≡ taken_in_all (take (parts_in s name) amount) amount
   told_there take amount d e = e ∙ ap (λ (parts : Parts). taken_in_all (take parts amount) amount) (parts_there d)
 
@@ -312,6 +312,6 @@ module _ {name : List ℕ} {hs : List Hold} {i : ℕ} {h : Hold} (at : IsAt name
   left_low taken {k} e = lower k (ap (λ (x : Hold). x.txn) e) (subst (λ (x : Hold). whole_of x ≤ whole_of h) (sym e) (omega arith))
 
 -- a name without a place was not started
-pub not_started : {hs : List Hold} {places : List (List ℕ)} (name : List ℕ) → ArePlaced hs places → None ≡ place_of name places → txn_named name (map now_of hs) ≡ None
+pub not_started : {hs : List Hold} {places : List (List ℕ)} (name : List ℕ) → ArePlaced hs places → None ≡ place_of name places → txn_named name (map txn_of_hold hs) ≡ None
 not_started {hs} name placed e =
-    none_some (txn_named name (map now_of hs)) (sym (has_place name hs) ∙ ap (λ (o : Option ℕ). is_some o) (sym (place_is placed name) ∙ sym e))
+    none_some (txn_named name (map txn_of_hold hs)) (sym (has_place name hs) ∙ ap (λ (o : Option ℕ). is_some o) (sym (place_is placed name) ∙ sym e))

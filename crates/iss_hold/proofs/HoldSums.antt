@@ -9,7 +9,7 @@ use Rattle.iss_model.specs.Sums.{Change, part_key, user_key}
 use Rattle.iss_model.specs.state.Kept.{Kept, nothing_kept, after_change, after_changes}
 use Rattle.iss_model.specs.state.Cores.{with_hold}
 use Rattle.iss_hold.specs.declared.hold.Hold.{Hold}
-use Rattle.iss_hold.specs.Holdings.{now_of, part_of, with_part, whole_of, part_sums, user_sums, sums_from, holdings_of}
+use Rattle.iss_hold.specs.Holdings.{txn_of_hold, part_of, with_part, whole_of, part_sums, user_sums, sums_from, holdings_of}
 use Rattle.iss_hold.proofs.KeptChanges.{as_one, comes_last}
 
 -- a change may come after all holds
@@ -63,7 +63,7 @@ part_changes_by part.S n z h e m =
     raised (after_change (after_change m (record { key = part_key h.txn.token part.G; by = pos h.g })) (record { key = part_key h.txn.token part.P; by = pos h.p }))
     (part_key h.txn.token part.S) (pos h.s) z (pos n) [] e
 
-same_now : (p : Part) (n : ℕ) (h : Hold) → now_of (with_part p n h) ≡ now_of h
+same_now : (p : Part) (n : ℕ) (h : Hold) → txn_of_hold (with_part p n h) ≡ txn_of_hold h
 same_now part.G n h = refl
 same_now part.P n h = refl
 same_now part.S n h = refl
@@ -80,7 +80,7 @@ map_set f (a ∷ xs) (suc i) x y e h = ap (λ bs. f a ∷ bs) (map_set f xs i x 
 pub holdings_set : (hs : List Hold) (i : ℕ) (h : Hold) (p : Part) (n : ℕ) (z : ℤ) → slice_get hs i ≡ Some h → pos (part_of p h) +ℤ z ≡ pos n
     → holdings_of (set hs i (with_part p n h)) ≡ with_hold (holdings_of hs) (entry.Hold h.txn.token h.txn.user h.txn.currency p z)
 holdings_set hs i h p n z at e =
-    let txns : map now_of (set hs i (with_part p n h)) ≡ map now_of hs = map_set now_of hs i h (with_part p n h) at (same_now p n h) in
+    let txns : map txn_of_hold (set hs i (with_part p n h)) ≡ map txn_of_hold hs = map_set txn_of_hold hs i h (with_part p n h) at (same_now p n h) in
     let parts = sums_set part_sums (record { key = part_key h.txn.token p; by = z }) h (with_part p n h) (part_changes_by p n z h e) nothing_kept hs i at in
     let held = sums_set user_sums (record { key = user_key h.txn.user h.txn.currency; by = z }) h (with_part p n h) (user_changes p n z h e) nothing_kept hs i at in
     λ j. record { txns = txns j; parts = parts j; held = held j }

@@ -17,7 +17,7 @@ use Rattle.iss_model.specs.rules.Due.{is_before}
 use Rattle.iss_model.specs.Currencies.{iso_number}
 use Rattle.iss_index.specs.Places.{place_of}
 use Rattle.iss_hold.specs.declared.hold.Hold.{Hold}
-use Rattle.iss_hold.specs.Holdings.{begun, now_of}
+use Rattle.iss_hold.specs.Holdings.{begun, txn_of_hold}
 use Rattle.iss_hold.specs.Expiries.{Expiry, expiry_of, item_of, with_expiry, expiries}
 use Rattle.iss_hold.specs.Indexes.{names, origins, place_in, total_of, by_user, by_expiry, by_later, earliest, with_name, with_token, AreSummed, AreIndexed}
 use Rattle.iss_hold.specs.Sums.{sum_in}
@@ -43,7 +43,7 @@ length_map : {A B : Type 0} (f : A → B) (xs : List A) → length (map f xs) �
 length_map f [] = refl
 length_map f (a ∷ xs) = ap suc (length_map f xs)
 
-no_origin : (number : ℕ) (hs : List Hold) → list_any (λ t. number == t.txn.origin) (map now_of hs) ≡ list_any (nat_eq number) (origins hs)
+no_origin : (number : ℕ) (hs : List Hold) → list_any (λ t. number == t.txn.origin) (map txn_of_hold hs) ≡ list_any (nat_eq number) (origins hs)
 no_origin number [] = refl
 no_origin number (h ∷ hs) = ap (λ (b : Bool). (number == h.txn.origin) || b) (no_origin number hs)
 
@@ -63,17 +63,17 @@ all_put P acc (x ∷ xs) all more = all_put P (with_expiry acc x) xs (all_with P
 abbrev pub IsOther : ℕ → Expiry → Type 0
 IsOther origin e = (origin == e.0.1) ≡ false
 
-all_others : (origin : ℕ) (hs : List Hold) → list_any (λ u. origin == u.txn.origin) (map now_of hs) ≡ false
+all_others : (origin : ℕ) (hs : List Hold) → list_any (λ u. origin == u.txn.origin) (map txn_of_hold hs) ≡ false
     → AllByRecursion (IsOther origin) (map expiry_of (filter (λ h. h.live) hs))
 all_others origin [] new = tt
 all_others origin (h ∷ hs) new = at (origin == h.txn.origin) refl (all_others origin hs)
   where
     at : (b : Bool) → (origin == h.txn.origin) ≡ b
-        → (list_any (λ u. origin == u.txn.origin) (map now_of hs) ≡ false → AllByRecursion (IsOther origin) (map expiry_of (filter (λ k. k.live) hs)))
+        → (list_any (λ u. origin == u.txn.origin) (map txn_of_hold hs) ≡ false → AllByRecursion (IsOther origin) (map expiry_of (filter (λ k. k.live) hs)))
         → AllByRecursion (IsOther origin) (map expiry_of (filter (λ k. k.live) (h ∷ hs)))
     at true e others = cc
     at false e others =
-        let rest : list_any (λ u. origin == u.txn.origin) (map now_of hs) ≡ false = rw e at new in
+        let rest : list_any (λ u. origin == u.txn.origin) (map txn_of_hold hs) ≡ false = rw e at new in
         elim h.live as (λ t. AllByRecursion (IsOther origin) (map expiry_of (cond t (h ∷ filter (λ k. k.live) hs) (filter (λ k. k.live) hs)))) [
           | true ↦ (e, others rest)
           | false ↦ others rest
@@ -85,7 +85,7 @@ keys_others expires origin (e ∷ es) all = (other_key (expires, origin) e.0 all
 
 -- a new transaction's expiry isn't there yet
 pub no_expiry_yet : (hs : List Hold) (places : List (List ℕ)) (sums : BTreeMap (List ℕ × ℕ) ℕ) (order : BTreeMap (Reverse (ℕ × ℕ)) ℕ) (expires origin : ℕ)
-    → AreIndexed hs places sums order → list_any (λ u. origin == u.txn.origin) (map now_of hs) ≡ false
+    → AreIndexed hs places sums order → list_any (λ u. origin == u.txn.origin) (map txn_of_hold hs) ≡ false
     → tree.get by_later order (record { 0 = (expires, origin) }) ≡ None
 no_expiry_yet hs places sums order expires origin a new =
     none_later (record { 0 = (expires, origin) }) order.entries
@@ -99,8 +99,8 @@ no_expiry_yet hs places sums order expires origin a new =
 -- one more transaction: its place, its user's sum and its expiry are there
 pub indexed_more : (hs : List Hold) (places more_places : List (List ℕ)) (sums more_sums : BTreeMap (List ℕ × ℕ) ℕ) (order more_order : BTreeMap (Reverse (ℕ × ℕ)) ℕ) (t : Txn)
     → AreIndexed hs places sums order
-    → txn_named t.token (map now_of hs) ≡ None
-    → list_any (λ u. t.origin == u.txn.origin) (map now_of hs) ≡ false
+    → txn_named t.token (map txn_of_hold hs) ≡ None
+    → list_any (λ u. t.origin == u.txn.origin) (map txn_of_hold hs) ≡ false
     → more_places ≡ places ++ t.token ∷ []
     → ((user : List ℕ) (number : ℕ) → sum_in more_sums user number ≡ sum_in sums user number)
     → ((user : List ℕ) (number : ℕ) → IsSome (tree.get by_user sums (user, number)) → IsSome (tree.get by_user more_sums (user, number)))
@@ -230,6 +230,6 @@ indexed_none hs places sums order e p s o rising =
     })
 
 pub no_place_yet : (hs : List Hold) (places : List (List ℕ)) (sums : BTreeMap (List ℕ × ℕ) ℕ) (order : BTreeMap (Reverse (ℕ × ℕ)) ℕ) (name : List ℕ)
-    → AreIndexed hs places sums order → txn_named name (map now_of hs) ≡ None → place_of name places ≡ None
+    → AreIndexed hs places sums order → txn_named name (map txn_of_hold hs) ≡ None → place_of name places ≡ None
 no_place_yet hs places sums order name a unknown =
     place_is a.placed name ∙ none_some (place_in name (names hs)) (has_place name hs ∙ ap (λ (o : Option TxnNow). is_some o) unknown)

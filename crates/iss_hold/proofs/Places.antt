@@ -11,12 +11,12 @@ use Rattle.iss_index.specs.Places.{place_of}
 use Rattle.iss_hold.specs.declared.hold.Hold.{Hold}
 use Rattle.iss_model.specs.state.Cores.{Holdings}
 use Rattle.iss_model.proofs.Lists.{map-map}
-use Rattle.iss_hold.specs.Holdings.{now_of, tokens, holdings_of}
+use Rattle.iss_hold.specs.Holdings.{txn_of_hold, tokens, holdings_of}
 use Rattle.iss_hold.specs.Indexes.{names, place_in, ArePlaced, IsAt}
 
 -- the names of the holds are the tokens of the holdings that they make
 pub same_names : (hs : List Hold) {s : Holdings} → holdings_of hs ≡ s → names hs ≡ tokens s.txns
-same_names hs view = sym (map-map now_of (λ (t : TxnNow). t.txn.token) hs) ∙ ap (λ (h : Holdings). tokens h.txns) view
+same_names hs view = sym (map-map txn_of_hold (λ (t : TxnNow). t.txn.token) hs) ∙ ap (λ (h : Holdings). tokens h.txns) view
 
 one_less : (o : Option ℕ) (i : ℕ) → option_map suc o ≡ Some (suc i) → o ≡ Some i
 one_less None i e = cc
@@ -52,12 +52,12 @@ is_at_by : (name : List ℕ) (x : Hold) (hs : List Hold) (i : ℕ) (h : Hold) (b
     → cond b (Some 0) (option_map suc (place_in name (names hs))) ≡ Some i → h ≡ get_or (x ∷ hs) i h → IsAt name (x ∷ hs) i h
 is_at_by name x hs zero h true e rest p g =
     subst (λ (y : Hold). IsAt name (x ∷ hs) 0 y) (sym g)
-    (record { is_there = refl; named = one_name x.txn.token name e; found = ap (λ (b : Bool). cond b (Some (now_of x)) (txn_named name (map now_of hs))) e })
+    (record { is_there = refl; named = one_name x.txn.token name e; found = ap (λ (b : Bool). cond b (Some (txn_of_hold x)) (txn_named name (map txn_of_hold hs))) e })
 is_at_by name x hs (suc i) h true e rest p g = cc
 is_at_by name x hs zero h false e rest p g = not_first (place_in name (names hs)) (IsAt name (x ∷ hs) 0 h) p
 is_at_by name x hs (suc i) h false e rest p g =
     let at = rest i (one_less (place_in name (names hs)) i p) g in
-    record { is_there = at.is_there; named = at.named; found = ap (λ (b : Bool). cond b (Some (now_of x)) (txn_named name (map now_of hs))) e ∙ at.found }
+    record { is_there = at.is_there; named = at.named; found = ap (λ (b : Bool). cond b (Some (txn_of_hold x)) (txn_named name (map txn_of_hold hs))) e ∙ at.found }
 
 is_at_list : (name : List ℕ) (hs : List Hold) (i : ℕ) (h : Hold) → place_in name (names hs) ≡ Some i → h ≡ get_or hs i h → IsAt name hs i h
 is_at_list name [] i h e g = cc
@@ -70,22 +70,22 @@ is_at {name} {hs} {places} {i} {h} placed e g = is_at_list name hs i h (sym (pla
 -- a hold stands at a place that another of its transaction may take
 pub record IsReplaced (hs : List Hold) (i : ℕ) (h k : Hold) : Type 0 where
   pub is_there : slice_get hs i ≡ Some h
-  pub same : now_of h ≡ now_of k
+  pub same : txn_of_hold h ≡ txn_of_hold k
 
 unwrapped : {t u : TxnNow} → Some t ≡ Some u → t ≡ u
 unwrapped f = cc
 
-pub replaced : {hs : List Hold} {i : ℕ} {h : Hold} (k : Hold) → option_map now_of (slice_get hs i) ≡ Some (now_of k) → slice_get hs i ≡ Some h → IsReplaced hs i h k
-replaced {hs} {i} {h} k e g = record { is_there = g; same = unwrapped (ap (λ (o : Option Hold). option_map now_of o) (sym g) ∙ e) }
+pub replaced : {hs : List Hold} {i : ℕ} {h : Hold} (k : Hold) → option_map txn_of_hold (slice_get hs i) ≡ Some (txn_of_hold k) → slice_get hs i ≡ Some h → IsReplaced hs i h k
+replaced {hs} {i} {h} k e g = record { is_there = g; same = unwrapped (ap (λ (o : Option Hold). option_map txn_of_hold o) (sym g) ∙ e) }
 
-pub stood_inside : (hs : List Hold) (i : ℕ) (t : TxnNow) → option_map now_of (slice_get hs i) ≡ Some t → i < length hs
+pub stood_inside : (hs : List Hold) (i : ℕ) (t : TxnNow) → option_map txn_of_hold (slice_get hs i) ≡ Some t → i < length hs
 stood_inside [] i t e = cc
 stood_inside (x ∷ hs) zero t e = omega arith
 stood_inside (x ∷ hs) (suc i) t e = let below = stood_inside hs i t e in omega arith
 
 has_place_by : (name : List ℕ) (h : Hold) (hs : List Hold) (b : Bool) → bytes_eq h.txn.token name ≡ b
-    → is_some (place_in name (names hs)) ≡ is_some (txn_named name (map now_of hs))
-    → is_some (cond b (Some 0) (option_map suc (place_in name (names hs)))) ≡ is_some (cond b (Some (now_of h)) (txn_named name (map now_of hs)))
+    → is_some (place_in name (names hs)) ≡ is_some (txn_named name (map txn_of_hold hs))
+    → is_some (cond b (Some 0) (option_map suc (place_in name (names hs)))) ≡ is_some (cond b (Some (txn_of_hold h)) (txn_named name (map txn_of_hold hs)))
 has_place_by name h hs true e rest = refl
 has_place_by name h hs false e rest = same_some (place_in name (names hs)) ∙ rest
   where
@@ -94,7 +94,7 @@ has_place_by name h hs false e rest = same_some (place_in name (names hs)) ∙ r
     same_some (Some j) = refl
 
 -- a name has a place if its transaction was started
-pub has_place : (name : List ℕ) (hs : List Hold) → is_some (place_in name (names hs)) ≡ is_some (txn_named name (map now_of hs))
+pub has_place : (name : List ℕ) (hs : List Hold) → is_some (place_in name (names hs)) ≡ is_some (txn_named name (map txn_of_hold hs))
 has_place name [] = refl
 has_place name (h ∷ hs) = has_place_by name h hs (bytes_eq h.txn.token name) refl (has_place name hs)
 

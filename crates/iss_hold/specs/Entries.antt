@@ -65,6 +65,6 @@ abbrev pub change_entries : Part → ℤ → Txn → List Entry
 change_entries part amount t = entry.Hold t.token t.user t.currency part amount ∷ []
 
 -- what is let go is there
-abbrev pub IsCovered : ℤ → ℕ → Type 0
-IsCovered (pos n) there = Unit {0}
-IsCovered (negsuc n) there = suc n ≤ there
+abbrev pub IsHoldCovered : ℤ → ℕ → Type 0
+IsHoldCovered (pos n) there = Unit {0}
+IsHoldCovered (negsuc n) there = suc n ≤ there

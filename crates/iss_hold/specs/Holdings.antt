@@ -15,8 +15,8 @@ abbrev pub begun : Txn → Hold
 begun t = record { txn = t; live = true; g = 0; p = 0; s = 0 }
 
 -- the transaction of a hold as it stands
-abbrev pub now_of : Hold → TxnNow
-now_of hold = record { txn = hold.txn; live = hold.live }
+abbrev pub txn_of_hold : Hold → TxnNow
+txn_of_hold hold = record { txn = hold.txn; live = hold.live }
 
 -- the tokens of transactions, in the order in which they began
 abbrev pub tokens : List TxnNow → List (List ℕ)
@@ -35,8 +35,8 @@ with_part part.P amount hold = record hold { p = amount }
 with_part part.S amount hold = record hold { s = amount }
 
 -- the parts of a hold
-abbrev pub parts_of : Hold → Parts
-parts_of hold = record { g = hold.g; p = hold.p; s = hold.s }
+abbrev pub parts_of_hold : Hold → Parts
+parts_of_hold hold = record { g = hold.g; p = hold.p; s = hold.s }
 
 -- a hold without these parts
 abbrev pub without_parts : Parts → Hold → Hold
@@ -66,7 +66,7 @@ sums_from changes sums holds = fold (λ kept hold. after_changes kept (changes h
 abbrev pub holdings_of : List Hold → Holdings
 holdings_of holds =
     record {
-      txns = map now_of holds;
+      txns = map txn_of_hold holds;
       parts = sums_from part_sums nothing_kept holds;
       held = sums_from user_sums nothing_kept holds;
     }

@@ -13,7 +13,7 @@ use Rattle.iss_model.specs.Currencies.{iso_number}
 use Rattle.iss_model.specs.rules.Activity.{txn_named}
 use Rattle.iss_hold.specs.declared.hold.Hold.{Hold}
 use Rattle.iss_hold.specs.declared.table.Table.{Table}
-use Rattle.iss_hold.specs.Holdings.{now_of, whole_of}
+use Rattle.iss_hold.specs.Holdings.{txn_of_hold, whole_of}
 use Rattle.iss_hold.specs.Expiries.{Expiry, expiries}
 
 -- the tokens of the transactions, in the order in which they began
@@ -58,7 +58,7 @@ earliest (e ∷ es) = earliest es ++ (e.0.0, e.1) ∷ []
 pub record IsAt (name : List ℕ) (holds : List Hold) (place : ℕ) (hold : Hold) : Type 0 where
   pub is_there : slice_get holds place ≡ Some hold
   pub named : hold.txn.token ≡ name
-  pub found : txn_named name (map now_of holds) ≡ Some (now_of hold)
+  pub found : txn_named name (map txn_of_hold holds) ≡ Some (txn_of_hold hold)
 
 -- the names whose places are known are those of the holds
 pub record ArePlaced (holds : List Hold) (places : List (List ℕ)) : Type 0 where

@@ -1,7 +1,7 @@
 -- Names that are kept once, and holds with the places of their names.
 use Rattle.std.specs.Prelude.{◌≡◌, ℕ, List, [], ◌∷◌, slice_get, Some, IsSome, unwrap_or}
 use Rattle.iss_hold.specs.declared.hold.Hold.{Hold}
-use Rattle.iss_hold.specs.declared.list.Row.{Row}
+use Rattle.iss_hold.specs.declared.list.HoldRow.{HoldRow}
 
 -- each name that stood stands at its place
 pub record IsGrown (before after : List (List ℕ)) : Type 0 where
@@ -12,7 +12,7 @@ abbrev pub name_in : List (List ℕ) → ℕ → List ℕ
 name_in names place = unwrap_or (slice_get names place) []
 
 -- the hold of a row, over these names
-abbrev pub hold_in : List (List ℕ) → Row → Hold
+abbrev pub hold_in : List (List ℕ) → HoldRow → Hold
 hold_in names row =
     record {
       txn = record {
@@ -35,13 +35,13 @@ hold_in names row =
     }
 
 -- each place of a row has its name
-pub record IsNamed (names : List (List ℕ)) (row : Row) : Type 0 where
+pub record IsNamed (names : List (List ℕ)) (row : HoldRow) : Type 0 where
   pub card : IsSome (slice_get names row.card)
   pub user : IsSome (slice_get names row.user)
   pub product : IsSome (slice_get names row.product)
   pub mid : IsSome (slice_get names row.mid)
 
 -- and so of each row
-abbrev pub AreNamed : List (List ℕ) → List Row → Type 0
+abbrev pub AreNamed : List (List ℕ) → List HoldRow → Type 0
 AreNamed names [] = Unit {0}
 AreNamed names (row ∷ rows) = IsNamed names row × AreNamed names rows

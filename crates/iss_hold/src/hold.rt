@@ -2,8 +2,8 @@
 ghost use Rattle.std.specs.Prelude.{◌≡◌, false, ◌+◌, ◌-◌, ◌^◌, ◌<◌, ◌≤◌, pos, ◌+ℤ◌, ◌<ℤ◌};
 ghost use Rattle.iss_model.specs.rules.Facts.{not_below};
 ghost use Rattle.iss_model.specs.rules.Pieces.{taken_to_clear, taken_to_release};
-ghost use Rattle.iss_hold.specs.Holdings.{part_of, with_part, parts_of, whole_of, without_parts};
-ghost use Rattle.iss_hold.specs.Entries.{IsCovered, taken_in_all, parts_taken};
+ghost use Rattle.iss_hold.specs.Holdings.{part_of, with_part, parts_of_hold, whole_of, without_parts};
+ghost use Rattle.iss_hold.specs.Entries.{IsHoldCovered, taken_in_all, parts_taken};
 
 use iss_model::{Part, Txn};
 
@@ -75,7 +75,7 @@ impl Hold {
 
     /// The hold with a part changed by an amount, which is negative if it is let go.
     pub(crate) fn with_change(&self, part: Part, amount: i64) -> Hold
-        requires covered { IsCovered amount (part_of part self.now) }
+        requires covered { IsHoldCovered amount (part_of part self.now) }
         requires fits { (pos (part_of part self.now) +ℤ amount) <ℤ pos (2 ^ 64) }
         ensures { result ≡ with_part part (not_below (pos (part_of part self.now) +ℤ amount)) self.now }
     {
@@ -111,7 +111,7 @@ impl Hold {
 
     /// What a clearing takes: the gateway's part first, then the programme's, then the user's own.
     pub fn taken_to_clear(&self, amount: u64) -> Taken
-        ensures { result ≡ taken_in_all (taken_to_clear (parts_of self.now) amount) amount }
+        ensures { result ≡ taken_in_all (taken_to_clear (parts_of_hold self.now) amount) amount }
     {
         let g = amount.min(self.g);
         let p = (amount - g).min(self.p);
@@ -126,7 +126,7 @@ impl Hold {
 
     /// What a release takes: the programme's part first, then the gateway's, then the user's own.
     pub fn taken_to_release(&self, amount: u64) -> Taken
-        ensures { result ≡ taken_in_all (taken_to_release (parts_of self.now) amount) amount }
+        ensures { result ≡ taken_in_all (taken_to_release (parts_of_hold self.now) amount) amount }
     {
         let p = amount.min(self.p);
         let g = (amount - p).min(self.g);

@@ -11,9 +11,9 @@ ghost use Rattle.iss_model.specs.rules.Due.{txn_due, is_quiet};
 ghost use Rattle.iss_model.specs.rules.Pieces.{hold_entries, unhold_entries};
 ghost use Rattle.iss_model.specs.state.Cores.{with_txn, with_end};
 ghost use Rattle.iss_hold.specs.Bounds.{AreLow};
-ghost use Rattle.iss_hold.specs.Holdings.{now_of, tokens, parts_of, whole_of};
+ghost use Rattle.iss_hold.specs.Holdings.{txn_of_hold, tokens, parts_of_hold, whole_of};
 ghost use Rattle.iss_hold.specs.Indexes.{place_in};
-ghost use Rattle.iss_hold.specs.Entries.{live_now, after_holds, change_entries, IsCovered, parts_in, cleared_parts, released_parts, taken_in_all, clearing_unhold_entries, release_unhold_entries};
+ghost use Rattle.iss_hold.specs.Entries.{live_now, after_holds, change_entries, IsHoldCovered, parts_in, cleared_parts, released_parts, taken_in_all, clearing_unhold_entries, release_unhold_entries};
 ghost use Rattle.iss_hold.specs.Expiries.{txns_due};
 
 use crate::hold::{Hold, Taken};
@@ -68,8 +68,8 @@ impl Holds {
 
     /// A transaction with what it holds, `None` exactly if it wasn't started.
     pub fn get(&self, txn: &Token) -> Option<Hold>
-        ensures txn { option_map (λ hold. now_of hold) result ≡ txn_named txn.now self.now.txns }
-        ensures parts { IfSome result (λ hold. parts_of hold ≡ parts_in self.now txn.now) }
+        ensures txn { option_map (λ hold. txn_of_hold hold) result ≡ txn_named txn.now self.now.txns }
+        ensures parts { IfSome result (λ hold. parts_of_hold hold ≡ parts_in self.now txn.now) }
         ensures small { IfSome result (λ hold. whole_of hold < 2 ^ 62) }
     {
         let place = self.table.places.find(txn)?;
@@ -88,8 +88,8 @@ impl Holds {
     /// The transaction at a place with what it holds.
     pub fn at(&self, place: usize) -> Hold
         requires { place < length self.now.txns }
-        ensures txn { slice_get self.now.txns place ≡ Some (now_of result) }
-        ensures parts { parts_of result ≡ parts_in self.now result.txn.token }
+        ensures txn { slice_get self.now.txns place ≡ Some (txn_of_hold result) }
+        ensures parts { parts_of_hold result ≡ parts_in self.now result.txn.token }
         ensures small { whole_of result < 2 ^ 62 }
     {
         self.table.holds.at(place)
@@ -154,7 +154,7 @@ impl Holds {
     /// Changes a part of a transaction by an amount, which is negative if it is let go.
     pub fn change(&mut self, txn: &Token, part: Part, amount: i64)
         requires started { IsSome (txn_named txn.now self.old.txns) }
-        requires covered { IsCovered amount (not_below (kept_at self.old.parts (part_key txn.now part))) }
+        requires covered { IsHoldCovered amount (not_below (kept_at self.old.parts (part_key txn.now part))) }
         requires small { AreLow (after_holds self.old txn.now (change_entries part amount)).held }
         ensures { self.new ≡ after_holds self.old txn.now (change_entries part amount) }
     {

@@ -12,7 +12,7 @@ use std::marker::Model;
 
 /// A hold, with the places of its transaction's names in place of the names.
 #[derive(Clone, Copy)]
-pub(crate) struct Row {
+pub(crate) struct HoldRow {
     token: Token,
     // These three fill a word with the token's 37 bytes.
     live: bool,
@@ -34,7 +34,7 @@ pub(crate) struct Row {
 /// Holds in the order in which their transactions began. Contracts see their list.
 #[derive(Drop)]
 pub(crate) struct HoldList {
-    rows: Vec<Row>,
+    rows: Vec<HoldRow>,
     names: Names,
 }
 
@@ -104,12 +104,12 @@ impl HoldList {
     }
 }
 
-impl Row {
+impl HoldRow {
     /// The row with what another hold of its transaction holds.
-    fn with_parts(&self, hold: &Hold) -> Row
+    fn with_parts(&self, hold: &Hold) -> HoldRow
         ensures { result ≡ record (self.now) { live = hold.now.live; g = hold.now.g; p = hold.now.p; s = hold.now.s } }
     {
-        Row {
+        HoldRow {
             live: hold.live,
             g: hold.g,
             p: hold.p,
@@ -120,7 +120,7 @@ impl Row {
 }
 
 /// The hold of a row.
-fn hold_of(names: &Names, row: &Row) -> Hold
+fn hold_of(names: &Names, row: &HoldRow) -> Hold
     requires { IsNamed names.now row.now }
     ensures { result ≡ hold_in names.now row.now }
 {
@@ -147,7 +147,7 @@ fn hold_of(names: &Names, row: &Row) -> Hold
 }
 
 /// The row of a transaction that begins. Names that have no place are added.
-fn row_of(names: &mut Names, txn: &Txn) -> Result<Row, AllocError>
+fn row_of(names: &mut Names, txn: &Txn) -> Result<HoldRow, AllocError>
     ensures grown { IsGrown names.old names.new }
     ensures named { IfOk result (λ row. IsNamed names.new row) }
     ensures begun { IfOk result (λ row. hold_in names.new row ≡ begun txn.now) }
@@ -156,7 +156,7 @@ fn row_of(names: &mut Names, txn: &Txn) -> Result<Row, AllocError>
     let user = place_of(names, &txn.user)?;
     let product = place_of(names, &txn.product)?;
     let mid = place_of(names, &txn.mid)?;
-    Ok(Row {
+    Ok(HoldRow {
         token: txn.token,
         card,
         user,

@@ -5,7 +5,7 @@ ghost use Rattle.iss_model.specs.Currencies.{iso_number};
 ghost use Rattle.iss_model.specs.rules.Activity.{txn_named};
 ghost use Rattle.iss_model.specs.rules.Due.{txn_due};
 ghost use Rattle.iss_hold.specs.Expiries.{txns_due};
-ghost use Rattle.iss_hold.specs.Holdings.{now_of, holdings_of};
+ghost use Rattle.iss_hold.specs.Holdings.{txn_of_hold, holdings_of};
 ghost use Rattle.iss_hold.specs.Indexes.{total_of, IsAt, IsIndexed};
 
 use crate::hold::Hold;
@@ -31,7 +31,7 @@ impl Table {
     /// The place of a transaction that was started, and what it holds.
     pub(crate) fn hold_of(&self, txn: &Token) -> (usize, Hold)
         requires indexed { IsIndexed self.now }
-        requires started { IsSome (txn_named txn.now (map now_of self.now.holds)) }
+        requires started { IsSome (txn_named txn.now (map txn_of_hold self.now.holds)) }
         ensures { IsAt txn.now self.now.holds result.0 result.1 }
     {
         match self.places.find_last(txn) {
@@ -43,7 +43,7 @@ impl Table {
     /// Puts a hold in the place of another of its transaction, and changes its user's sum by as much.
     pub(crate) fn change(&mut self, place: usize, hold: Hold)
         requires indexed { IsIndexed self.old }
-        requires same { option_map now_of (slice_get self.old.holds place) ≡ Some (now_of hold) }
+        requires same { option_map txn_of_hold (slice_get self.old.holds place) ≡ Some (txn_of_hold hold) }
         requires low { total_of hold.txn.user (iso_number hold.txn.currency) (set self.old.holds place hold) < 2 ^ 62 }
         ensures indexed { IsIndexed self.new }
         ensures put { self.new.holds ≡ set self.old.holds place hold }

@@ -12,8 +12,7 @@ use Rattle.iss_http.specs.declared.faults.FeedFault.{FeedFault}
 use Rattle.iss_http.specs.declared.faults.FeedFault.TheVariants.{Http, OutOfMemory}
 use Rattle.iss_http.specs.Heads.{RequestHead, request_head}
 use Rattle.iss_http.specs.Lengths.{has, content_length}
-use Rattle.iss_http.specs.Requests as asks
-use Rattle.iss_http.specs.Requests.{Request, more, body, faulty, request_at, answered, told, IsHopelessRequest, HasFaultAs, IsCauseAs}
+use Rattle.iss_http.specs.Requests.{Request, more, body, faulty, request_at, answered, told, IsHopelessRequest, HasFaultAs, IsCauseAs, request_within, request_headed, request_coded, request_by_head, request_sized}
 use Rattle.iss_http.proofs.Sections.{is_there}
 use Rattle.iss_http.proofs.RequestHeads.{head_read}
 use Rattle.iss_http.proofs.RequestsBack.{head_back}
@@ -26,7 +25,7 @@ within_cut n k xs small =
       | inr fits ↦ le-leb n (length (take k xs)) (omega (arith, length-take k xs, small, fits)) ∙ sym (le-leb n (length xs) fits)
     ]
 
-body_cut : (n k : ℕ) (rest : List ℕ) → 16384 ≤ k → asks.body_within (take k rest) n ≡ asks.body_within rest n
+body_cut : (n k : ℕ) (rest : List ℕ) → 16384 ≤ k → request_within (take k rest) n ≡ request_within rest n
 body_cut n k rest room = by n k rest room (nat_lt 16384 n) refl
   where
     by : (n k : ℕ) (rest : List ℕ) → 16384 ≤ k → (t : Bool) → nat_lt 16384 n ≡ t
@@ -38,19 +37,19 @@ body_cut n k rest room = by n k rest room (nat_lt 16384 n) refl
         ap (λ (t : Bool). if t then body (take n (take k rest)) else more) (within_cut n k rest small)
         ∙ ap (λ (xs : List ℕ). if nat_le n (length rest) then body xs else more) (take-take n k rest small)
 
-sized_cut : (size : ContentLength) (k : ℕ) (rest : List ℕ) → 16384 ≤ k → asks.sized_body (take k rest) size ≡ asks.sized_body rest size
+sized_cut : (size : ContentLength) (k : ℕ) (rest : List ℕ) → 16384 ≤ k → request_sized (take k rest) size ≡ request_sized rest size
 sized_cut Absent k rest room = refl
 sized_cut Bad k rest room = refl
 sized_cut (Good n) k rest room = body_cut n k rest room
 
-headed_cut : (path bytes : List ℕ) (h : RequestHead) → h.size ≤ 8192 → asks.headed path (take 24576 bytes) h ≡ asks.headed path bytes h
-unfolding asks.headed
+headed_cut : (path bytes : List ℕ) (h : RequestHead) → h.size ≤ 8192 → request_headed path (take 24576 bytes) h ≡ request_headed path bytes h
+unfolding request_headed
 headed_cut path bytes h small =
     let k = 24576 - h.size in
     let total : 24576 ≡ h.size + k = omega (arith, small) in
     let rest : drop h.size (take 24576 bytes) ≡ take k (drop h.size bytes) = ap (λ (n : ℕ). drop h.size (take n bytes)) total ∙ drop-take h.size k bytes in
-    let same = ap (λ (xs : List ℕ). asks.sized_body xs (content_length h.headers)) rest ∙ sized_cut (content_length h.headers) k (drop h.size bytes) (omega (arith, small)) in
-    ap (asks.headed_with path h) same
+    let same = ap (λ (xs : List ℕ). request_sized xs (content_length h.headers)) rest ∙ sized_cut (content_length h.headers) k (drop h.size bytes) (omega (arith, small)) in
+    ap (request_coded path h) same
 
 -- a head is no longer than the bytes that it is read from
 pub small_head : (buf : List ℕ) (h : RequestHead) → request_head buf ≡ Some h → h.size ≤ length buf
@@ -67,10 +66,10 @@ small_head buf h is =
 
 pub request_cut : (path bytes : List ℕ) → request_at path (take 24576 bytes) ≡ request_at path bytes
 request_cut path bytes =
-    ap (λ (front : List ℕ). asks.read_by path (take 24576 bytes) (request_head front)) (take-take 8192 24576 bytes (omega arith))
+    ap (λ (front : List ℕ). request_by_head path (take 24576 bytes) (request_head front)) (take-take 8192 24576 bytes (omega arith))
     ∙ by bytes (request_head (take 8192 bytes)) refl
   where
-    by : (bytes : List ℕ) (o : Option RequestHead) → request_head (take 8192 bytes) ≡ o → asks.read_by path (take 24576 bytes) o ≡ asks.read_by path bytes o
+    by : (bytes : List ℕ) (o : Option RequestHead) → request_head (take 8192 bytes) ≡ o → request_by_head path (take 24576 bytes) o ≡ request_by_head path bytes o
     by bytes None is = ap (λ (t : Bool). if t then faulty HeadLong else more) (within_cut 8192 24576 bytes (omega arith))
     by bytes (Some h) is = headed_cut path bytes h (omega (arith, small_head (take 8192 bytes) h is, length-take 8192 bytes))
 
@@ -87,7 +86,7 @@ is_more more = true
 is_more (body text) = false
 is_more (faulty f) = false
 
-body_short : (n : ℕ) (rest : List ℕ) → is_more (asks.body_within rest n) ≡ true → length rest < 16384
+body_short : (n : ℕ) (rest : List ℕ) → is_more (request_within rest n) ≡ true → length rest < 16384
 body_short n rest e = by (nat_lt 16384 n) refl (nat_le n (length rest)) refl e
   where
     by : (s : Bool) → nat_lt 16384 n ≡ s → (t : Bool) → nat_le n (length rest) ≡ t
@@ -96,12 +95,12 @@ body_short n rest e = by (nat_lt 16384 n) refl (nat_le n (length rest)) refl e
     by false es true et e = absurd (false≢true e)
     by false es false et e = omega (arith, ltb-false 16384 n es, leb-false n (length rest) et)
 
-sized_short : (size : ContentLength) (rest : List ℕ) → is_more (asks.sized_body rest size) ≡ true → length rest < 16384
+sized_short : (size : ContentLength) (rest : List ℕ) → is_more (request_sized rest size) ≡ true → length rest < 16384
 sized_short Absent rest e = absurd (false≢true e)
 sized_short Bad rest e = absurd (false≢true e)
 sized_short (Good n) rest e = body_short n rest e
 
-with_more : (path : List ℕ) (h : RequestHead) (sized : Request) → is_more (asks.headed_with path h sized) ≡ true → is_more sized ≡ true
+with_more : (path : List ℕ) (h : RequestHead) (sized : Request) → is_more (request_coded path h sized) ≡ true → is_more sized ≡ true
 with_more path h sized e =
     by (not (bytes_eq h.method (codes "POST"))) (not (bytes_eq h.target path))
     (has (codes "transfer-encoding") h.headers || has (codes "content-encoding") h.headers) sized e
@@ -112,10 +111,10 @@ with_more path h sized e =
     by false false true sized e = absurd (false≢true e)
     by false false false sized e = e
 
-head_short : (path bytes : List ℕ) (h : RequestHead) → is_more (asks.headed path bytes h) ≡ true → length (drop h.size bytes) < 16384
-unfolding asks.headed
+head_short : (path bytes : List ℕ) (h : RequestHead) → is_more (request_headed path bytes h) ≡ true → length (drop h.size bytes) < 16384
+unfolding request_headed
 head_short path bytes h e =
-    sized_short (content_length h.headers) (drop h.size bytes) (with_more path h (asks.sized_body (drop h.size bytes) (content_length h.headers)) e)
+    sized_short (content_length h.headers) (drop h.size bytes) (with_more path h (request_sized (drop h.size bytes) (content_length h.headers)) e)
 
 pub more_short : (path bytes : List ℕ) → request_at path bytes ≡ more → take 24576 bytes ≡ bytes
 more_short path bytes e = take_all 24576 bytes (by (request_head (take 8192 bytes)) refl (ap is_more e))
@@ -124,7 +123,7 @@ more_short path bytes e = take_all 24576 bytes (by (request_head (take 8192 byte
     early true et e = absurd (false≢true e)
     early false et e = omega (arith, leb-false 8192 (length bytes) et)
 
-    by : (o : Option RequestHead) → request_head (take 8192 bytes) ≡ o → is_more (asks.read_by path bytes o) ≡ true → length bytes ≤ 24576
+    by : (o : Option RequestHead) → request_head (take 8192 bytes) ≡ o → is_more (request_by_head path bytes o) ≡ true → length bytes ≤ 24576
     by None is e = early (nat_le 8192 (length bytes)) refl e
     by (Some h) is e =
         omega (arith, head_short path bytes h e, length-drop h.size bytes, small_head (take 8192 bytes) h is, length-take 8192 bytes)
@@ -140,19 +139,19 @@ is_head (faulty f) = false
 is_head (body text) = false
 is_head more = false
 
-never_head : (path bytes : List ℕ) (h : RequestHead) → is_head (asks.headed path bytes h) ≡ false
-unfolding asks.headed
+never_head : (path bytes : List ℕ) (h : RequestHead) → is_head (request_headed path bytes h) ≡ false
+unfolding request_headed
 never_head path bytes h =
     by (not (bytes_eq h.method (codes "POST"))) (not (bytes_eq h.target path))
     (has (codes "transfer-encoding") h.headers || has (codes "content-encoding") h.headers)
-    (asks.sized_body (drop h.size bytes) (content_length h.headers)) (sized (content_length h.headers) (drop h.size bytes))
+    (request_sized (drop h.size bytes) (content_length h.headers)) (sized (content_length h.headers) (drop h.size bytes))
   where
     within : (s t : Bool) (text : List ℕ) → is_head (if s then faulty BodyLong else if t then body text else more) ≡ false
     within true t text = refl
     within false true text = refl
     within false false text = refl
 
-    sized : (l : ContentLength) (rest : List ℕ) → is_head (asks.sized_body rest l) ≡ false
+    sized : (l : ContentLength) (rest : List ℕ) → is_head (request_sized rest l) ≡ false
     sized Absent rest = refl
     sized Bad rest = refl
     sized (Good n) rest = within (nat_lt 16384 n) (nat_le n (length rest)) (take n rest)
@@ -163,11 +162,11 @@ never_head path bytes h =
     by false false true r e = refl
     by false false false r e = e
 
-pub whole_request : (path bytes : List ℕ) (h : RequestHead) → request_head (take 8192 bytes) ≡ Some h → request_at path bytes ≡ asks.headed path bytes h
-whole_request path bytes h e = ap (asks.read_by path bytes) e
+pub whole_request : (path bytes : List ℕ) (h : RequestHead) → request_head (take 8192 bytes) ≡ Some h → request_at path bytes ≡ request_headed path bytes h
+whole_request path bytes h e = ap (request_by_head path bytes) e
 
 pub whole_fault : {A : Type 0} (text : A → List ℕ) (path bytes : List ℕ) (h : RequestHead) (r : Result (Option A) HttpFault)
-    → request_head (take 8192 bytes) ≡ Some h → told text r ≡ asks.headed path bytes h → IfErr r (HasFaultAs (request_at path) bytes)
+    → request_head (take 8192 bytes) ≡ Some h → told text r ≡ request_headed path bytes h → IfErr r (HasFaultAs (request_at path) bytes)
 whole_fault text path bytes h (Ok said) is e = tt
 whole_fault text path bytes h (Err Head) is e = absurd (false≢true (sym (never_head path bytes h) ∙ ap is_head (sym e)))
 whole_fault text path bytes h (Err HeadLong) is e = whole_request path bytes h is ∙ sym e

@@ -8,13 +8,13 @@ use Rattle.iss_http.specs.declared.lengths.ContentLength.{ContentLength}
 use Rattle.iss_http.specs.declared.lengths.ContentLength.TheVariants.{Absent, Bad, Good}
 use Rattle.iss_http.specs.Heads.{ResponseHead, response_head}
 use Rattle.iss_http.specs.Lengths.{has, content_length}
-use Rattle.iss_http.specs.Answers.{Reading, more, ended, garbled, whole, unless_over, body_within, open_body, sized_body, headed_with, headed, read_by, answer_read, IsHopelessAnswer, IsReadAs}
+use Rattle.iss_http.specs.Answers.{AnswerReading, more, ended, garbled, whole, unless_over, answer_within, open_body, answer_sized, answer_coded, answer_headed, answer_by_head, answer_read, IsHopelessAnswer, IsReadAs}
 use Rattle.iss_http.proofs.Sections.{is_there}
 use Rattle.iss_http.proofs.ResponseHeads.{response_read}
 use Rattle.iss_http.proofs.ResponsesBack.{response_back}
 use Rattle.iss_http.proofs.Kept.{within_cut}
 
-body_cut : (status n k : ℕ) (rest : List ℕ) (over : Bool) → 16384 ≤ k → body_within status (take k rest) over n ≡ body_within status rest over n
+body_cut : (status n k : ℕ) (rest : List ℕ) (over : Bool) → 16384 ≤ k → answer_within status (take k rest) over n ≡ answer_within status rest over n
 body_cut status n k rest over room = by (nat_lt 16384 n) refl
   where
     by : (t : Bool) → nat_lt 16384 n ≡ t
@@ -35,19 +35,19 @@ open_cut status k rest over room =
       | inr short ↦ ap (λ (xs : List ℕ). open_body status xs over) (take_all k rest (omega (arith, short, room)))
     ]
 
-sized_cut : (status k : ℕ) (rest : List ℕ) (over : Bool) (size : ContentLength) → 16385 ≤ k → sized_body status (take k rest) over size ≡ sized_body status rest over size
+sized_cut : (status k : ℕ) (rest : List ℕ) (over : Bool) (size : ContentLength) → 16385 ≤ k → answer_sized status (take k rest) over size ≡ answer_sized status rest over size
 sized_cut status k rest over Absent room = open_cut status k rest over room
 sized_cut status k rest over Bad room = refl
 sized_cut status k rest over (Good n) room = body_cut status n k rest over (omega (arith, room))
 
-headed_cut : (bytes : List ℕ) (over : Bool) (h : ResponseHead) → h.size ≤ 8192 → headed (take 24577 bytes) over h ≡ headed bytes over h
-unfolding headed
+headed_cut : (bytes : List ℕ) (over : Bool) (h : ResponseHead) → h.size ≤ 8192 → answer_headed (take 24577 bytes) over h ≡ answer_headed bytes over h
+unfolding answer_headed
 headed_cut bytes over h small =
     let k = 24577 - h.size in
     let total : 24577 ≡ h.size + k = omega (arith, small) in
     let rest : drop h.size (take 24577 bytes) ≡ take k (drop h.size bytes) = ap (λ (n : ℕ). drop h.size (take n bytes)) total ∙ drop-take h.size k bytes in
-    ap (headed_with h)
-    (ap (λ (xs : List ℕ). sized_body h.status xs over (content_length h.headers)) rest
+    ap (answer_coded h)
+    (ap (λ (xs : List ℕ). answer_sized h.status xs over (content_length h.headers)) rest
     ∙ sized_cut h.status k (drop h.size bytes) over (content_length h.headers) (omega (arith, small)))
 
 pub small_head : (buf : List ℕ) (h : ResponseHead) → response_head buf ≡ Some h → h.size ≤ length buf
@@ -65,10 +65,10 @@ small_head buf h is =
 pub answer_cut : (bytes : List ℕ) (over : Bool) → answer_read (take 24577 bytes) over ≡ answer_read bytes over
 unfolding answer_read
 answer_cut bytes over =
-    ap (λ (front : List ℕ). read_by (take 24577 bytes) over (response_head front)) (take-take 8192 24577 bytes (omega arith))
+    ap (λ (front : List ℕ). answer_by_head (take 24577 bytes) over (response_head front)) (take-take 8192 24577 bytes (omega arith))
     ∙ by (response_head (take 8192 bytes)) refl
   where
-    by : (o : Option ResponseHead) → response_head (take 8192 bytes) ≡ o → read_by (take 24577 bytes) over o ≡ read_by bytes over o
+    by : (o : Option ResponseHead) → response_head (take 8192 bytes) ≡ o → answer_by_head (take 24577 bytes) over o ≡ answer_by_head bytes over o
     by None is = ap (λ (t : Bool). if t then garbled else unless_over over) (within_cut 8192 24577 bytes (omega arith))
     by (Some h) is = headed_cut bytes over h (omega (arith, small_head (take 8192 bytes) h is, length-take 8192 bytes))
 
@@ -80,7 +80,7 @@ hopeless_cut n bytes none = λ rest.
     ∙ none (drop n bytes ++ rest)
 
 -- what is kept is read as all that came is
-pub read_kept : (bytes : List ℕ) (over : Bool) (r : Reading) → IsReadAs (take 24577 bytes) over r → IsReadAs bytes over r
+pub read_kept : (bytes : List ℕ) (over : Bool) (r : AnswerReading) → IsReadAs (take 24577 bytes) over r → IsReadAs bytes over r
 read_kept bytes over more e = sym (answer_cut bytes over) ∙ e
 read_kept bytes over ended e = sym (answer_cut bytes over) ∙ e
 read_kept bytes over (whole status text) e = sym (answer_cut bytes over) ∙ e
@@ -88,13 +88,13 @@ read_kept bytes over garbled (inl e) = inl (sym (answer_cut bytes over) ∙ e)
 read_kept bytes over garbled (inr e) = inr (hopeless_cut 24577 bytes e)
 
 -- an answer that waits for more is shorter than the longest
-abbrev pub is_more : Reading → Bool
+abbrev pub is_more : AnswerReading → Bool
 is_more more = true
 is_more ended = false
 is_more garbled = false
 is_more (whole status text) = false
 
-body_short : (status n : ℕ) (rest : List ℕ) → is_more (body_within status rest false n) ≡ true → length rest ≤ 16384
+body_short : (status n : ℕ) (rest : List ℕ) → is_more (answer_within status rest false n) ≡ true → length rest ≤ 16384
 body_short status n rest e = by (nat_lt 16384 n) refl (nat_le n (length rest)) refl e
   where
     by : (s : Bool) → nat_lt 16384 n ≡ s → (t : Bool) → nat_le n (length rest) ≡ t
@@ -110,23 +110,23 @@ open_short status rest e = by (nat_lt 16384 (length rest)) refl e
     by true et e = absurd (false≢true e)
     by false et e = ltb-false 16384 (length rest) et
 
-sized_short : (status : ℕ) (size : ContentLength) (rest : List ℕ) → is_more (sized_body status rest false size) ≡ true → length rest ≤ 16384
+sized_short : (status : ℕ) (size : ContentLength) (rest : List ℕ) → is_more (answer_sized status rest false size) ≡ true → length rest ≤ 16384
 sized_short status Absent rest e = open_short status rest e
 sized_short status Bad rest e = absurd (false≢true e)
 sized_short status (Good n) rest e = body_short status n rest e
 
-with_more : (h : ResponseHead) (sized : Reading) → is_more (headed_with h sized) ≡ true → is_more sized ≡ true
+with_more : (h : ResponseHead) (sized : AnswerReading) → is_more (answer_coded h sized) ≡ true → is_more sized ≡ true
 with_more h sized e = by (has (codes "transfer-encoding") h.headers) e
   where
     by : (t : Bool) → is_more (if t then garbled else sized) ≡ true → is_more sized ≡ true
     by true e = absurd (false≢true e)
     by false e = e
 
-head_short : (bytes : List ℕ) (h : ResponseHead) → is_more (headed bytes false h) ≡ true → length (drop h.size bytes) ≤ 16384
-unfolding headed
+head_short : (bytes : List ℕ) (h : ResponseHead) → is_more (answer_headed bytes false h) ≡ true → length (drop h.size bytes) ≤ 16384
+unfolding answer_headed
 head_short bytes h e =
     sized_short h.status (content_length h.headers) (drop h.size bytes)
-    (with_more h (sized_body h.status (drop h.size bytes) false (content_length h.headers)) e)
+    (with_more h (answer_sized h.status (drop h.size bytes) false (content_length h.headers)) e)
 
 pub more_short : (bytes : List ℕ) → answer_read bytes false ≡ more → take 24577 bytes ≡ bytes
 unfolding answer_read
@@ -136,7 +136,7 @@ more_short bytes e = take_all 24577 bytes (by (response_head (take 8192 bytes)) 
     early true et e = absurd (false≢true e)
     early false et e = omega (arith, leb-false 8192 (length bytes) et)
 
-    by : (o : Option ResponseHead) → response_head (take 8192 bytes) ≡ o → is_more (read_by bytes false o) ≡ true → length bytes ≤ 24577
+    by : (o : Option ResponseHead) → response_head (take 8192 bytes) ≡ o → is_more (answer_by_head bytes false o) ≡ true → length bytes ≤ 24577
     by None is e = early (nat_le 8192 (length bytes)) refl e
     by (Some h) is e =
         omega (arith, head_short bytes h e, length-drop h.size bytes, small_head (take 8192 bytes) h is, length-take 8192 bytes)

@@ -11,9 +11,9 @@ use Rattle.iss_http.specs.declared.faults.HttpFault.TheVariants.{HeadLong, Metho
 use Rattle.iss_http.specs.Heads.{RequestHead, ResponseHead, request_head, response_head}
 use Rattle.iss_http.specs.Lengths.{has, content_length}
 use Rattle.iss_http.specs.Requests as asks
-use Rattle.iss_http.specs.Requests.{Request, body, faulty, request, request_at, IsHopelessRequest}
+use Rattle.iss_http.specs.Requests.{Request, body, faulty, request, request_at, IsHopelessRequest, request_within, request_sized, request_coded, request_headed, request_by_head}
 use Rattle.iss_http.specs.Answers as answers
-use Rattle.iss_http.specs.Answers.{Reading, garbled, whole, unless_over, answer_read, IsHopelessAnswer}
+use Rattle.iss_http.specs.Answers.{AnswerReading, garbled, whole, unless_over, answer_read, IsHopelessAnswer, answer_within, answer_sized, answer_coded, answer_headed, answer_by_head}
 use Rattle.iss_http.proofs.Sections.{is_there}
 use Rattle.iss_http.proofs.RequestHeads.{head_read}
 use Rattle.iss_http.proofs.RequestsBack.{head_back}
@@ -71,7 +71,7 @@ front_response bytes rest h is =
 abbrev IsLater : Request → Request → Type 0
 IsLater now later = (now ≡ asks.more) ⊎ (later ≡ now)
 
-body_later : (size : ℕ) (bytes rest : List ℕ) → IsLater (asks.body_within bytes size) (asks.body_within (bytes ++ rest) size)
+body_later : (size : ℕ) (bytes rest : List ℕ) → IsLater (request_within bytes size) (request_within (bytes ++ rest) size)
 body_later size bytes rest = by (nat_lt 16384 size) (nat_le size (length bytes)) (nat_le size (length (bytes ++ rest))) refl refl
   where
     by : (s t u : Bool) → nat_le size (length bytes) ≡ t → nat_le size (length (bytes ++ rest)) ≡ u
@@ -83,12 +83,12 @@ body_later size bytes rest = by (nat_lt 16384 size) (nat_le size (length bytes))
     by false true false et eu =
         absurd (omega (arith, leb-true size (length bytes) et, leb-false size (length (bytes ++ rest)) eu, length-append bytes rest))
 
-sized_later : (size : ContentLength) (bytes rest : List ℕ) → IsLater (asks.sized_body bytes size) (asks.sized_body (bytes ++ rest) size)
+sized_later : (size : ContentLength) (bytes rest : List ℕ) → IsLater (request_sized bytes size) (request_sized (bytes ++ rest) size)
 sized_later Absent bytes rest = inr refl
 sized_later Bad bytes rest = inr refl
 sized_later (Good n) bytes rest = body_later n bytes rest
 
-with_later : (path : List ℕ) (h : RequestHead) (now later : Request) → IsLater now later → IsLater (asks.headed_with path h now) (asks.headed_with path h later)
+with_later : (path : List ℕ) (h : RequestHead) (now later : Request) → IsLater now later → IsLater (request_coded path h now) (request_coded path h later)
 with_later path h now later same =
     by (not (bytes_eq h.method (codes "POST"))) (not (bytes_eq h.target path))
     (has (codes "transfer-encoding") h.headers || has (codes "content-encoding") h.headers)
@@ -101,30 +101,30 @@ with_later path h now later same =
     by false false true = inr refl
     by false false false = same
 
-headed_later : (path bytes rest : List ℕ) (h : RequestHead) → h.size ≤ length bytes → IsLater (asks.headed path bytes h) (asks.headed path (bytes ++ rest) h)
-unfolding asks.headed
+headed_later : (path bytes rest : List ℕ) (h : RequestHead) → h.size ≤ length bytes → IsLater (request_headed path bytes h) (request_headed path (bytes ++ rest) h)
+unfolding request_headed
 headed_later path bytes rest h fits =
     let size = content_length h.headers in
-    let now = asks.sized_body (drop h.size bytes) size in
-    subst (λ (xs : List ℕ). IsLater (asks.headed_with path h now) (asks.headed_with path h (asks.sized_body xs size))) (sym (drop-append-le h.size bytes rest fits))
-    (with_later path h now (asks.sized_body (drop h.size bytes ++ rest) size) (sized_later size (drop h.size bytes) rest))
+    let now = request_sized (drop h.size bytes) size in
+    subst (λ (xs : List ℕ). IsLater (request_coded path h now) (request_coded path h (request_sized xs size))) (sym (drop-append-le h.size bytes rest fits))
+    (with_later path h now (request_sized (drop h.size bytes ++ rest) size) (sized_later size (drop h.size bytes) rest))
 
 long_later : (path bytes rest : List ℕ) → request_head (take 8192 bytes) ≡ None → (t : Bool) → nat_le 8192 (length bytes) ≡ t
     → IsLater (if t then faulty HeadLong else asks.more) (request_at path (bytes ++ rest))
 long_later path bytes rest none false et = inl refl
 long_later path bytes rest none true et =
     let long = leb-true 8192 (length bytes) et in
-    inr (ap (asks.read_by path (bytes ++ rest)) (ap request_head (take-append-le 8192 bytes rest long) ∙ none)
+    inr (ap (request_by_head path (bytes ++ rest)) (ap request_head (take-append-le 8192 bytes rest long) ∙ none)
     ∙ ap (λ (t : Bool). if t then faulty HeadLong else asks.more) (le-leb 8192 (length (bytes ++ rest)) (omega (arith, long, length-append bytes rest))))
 
 -- to any path
 pub later_at : (path bytes rest : List ℕ) → IsLater (request_at path bytes) (request_at path (bytes ++ rest))
 later_at path bytes rest = by (request_head (take 8192 bytes)) refl
   where
-    by : (o : Option RequestHead) → request_head (take 8192 bytes) ≡ o → IsLater (asks.read_by path bytes o) (request_at path (bytes ++ rest))
+    by : (o : Option RequestHead) → request_head (take 8192 bytes) ≡ o → IsLater (request_by_head path bytes o) (request_at path (bytes ++ rest))
     by None is = long_later path bytes rest is (nat_le 8192 (length bytes)) refl
     by (Some h) is =
-        subst (λ (o : Option RequestHead). IsLater (asks.headed path bytes h) (asks.read_by path (bytes ++ rest) o)) (sym (front_head bytes rest h is))
+        subst (λ (o : Option RequestHead). IsLater (request_headed path bytes h) (request_by_head path (bytes ++ rest) o)) (sym (front_head bytes rest h is))
         (headed_later path bytes rest h (omega (arith, requests.small_head (take 8192 bytes) h is, length-take 8192 bytes)))
 
 pub request_later : (bytes rest : List ℕ) → IsLater (request bytes) (request (bytes ++ rest))
@@ -133,11 +133,11 @@ request_later bytes rest = later_at (codes "/events") bytes rest
 
 -- Answers.
 
-abbrev IsHeardLater : Reading → Reading → Type 0
+abbrev IsHeardLater : AnswerReading → AnswerReading → Type 0
 IsHeardLater now later = (now ≡ answers.more) ⊎ (later ≡ now)
 
 text_later : (status size : ℕ) (bytes rest : List ℕ) (over : Bool)
-    → IsHeardLater (answers.body_within status bytes false size) (answers.body_within status (bytes ++ rest) over size)
+    → IsHeardLater (answer_within status bytes false size) (answer_within status (bytes ++ rest) over size)
 text_later status size bytes rest over = by (nat_lt 16384 size) (nat_le size (length bytes)) (nat_le size (length (bytes ++ rest))) refl refl
   where
     by : (s t u : Bool) → nat_le size (length bytes) ≡ t → nat_le size (length (bytes ++ rest)) ≡ u
@@ -159,12 +159,12 @@ open_later status bytes rest over = by (nat_lt 16384 (length bytes)) refl
         (lt-ltb 16384 (length (bytes ++ rest)) (omega (arith, ltb-true 16384 (length bytes) et, length-append bytes rest))))
 
 measured_later : (status : ℕ) (size : ContentLength) (bytes rest : List ℕ) (over : Bool)
-    → IsHeardLater (answers.sized_body status bytes false size) (answers.sized_body status (bytes ++ rest) over size)
+    → IsHeardLater (answer_sized status bytes false size) (answer_sized status (bytes ++ rest) over size)
 measured_later status Absent bytes rest over = open_later status bytes rest over
 measured_later status Bad bytes rest over = inr refl
 measured_later status (Good n) bytes rest over = text_later status n bytes rest over
 
-coded_later : (h : ResponseHead) (now later : Reading) → IsHeardLater now later → IsHeardLater (answers.headed_with h now) (answers.headed_with h later)
+coded_later : (h : ResponseHead) (now later : AnswerReading) → IsHeardLater now later → IsHeardLater (answer_coded h now) (answer_coded h later)
 coded_later h now later same = by (has (codes "transfer-encoding") h.headers)
   where
     by : (t : Bool) → IsHeardLater (if t then garbled else now) (if t then garbled else later)
@@ -172,20 +172,20 @@ coded_later h now later same = by (has (codes "transfer-encoding") h.headers)
     by false = same
 
 answered_later : (bytes rest : List ℕ) (over : Bool) (h : ResponseHead) → h.size ≤ length bytes
-    → IsHeardLater (answers.headed bytes false h) (answers.headed (bytes ++ rest) over h)
-unfolding answers.headed
+    → IsHeardLater (answer_headed bytes false h) (answer_headed (bytes ++ rest) over h)
+unfolding answer_headed
 answered_later bytes rest over h fits =
     let size = content_length h.headers in
-    let now = answers.sized_body h.status (drop h.size bytes) false size in
-    subst (λ (xs : List ℕ). IsHeardLater (answers.headed_with h now) (answers.headed_with h (answers.sized_body h.status xs over size))) (sym (drop-append-le h.size bytes rest fits))
-    (coded_later h now (answers.sized_body h.status (drop h.size bytes ++ rest) over size) (measured_later h.status size (drop h.size bytes) rest over))
+    let now = answer_sized h.status (drop h.size bytes) false size in
+    subst (λ (xs : List ℕ). IsHeardLater (answer_coded h now) (answer_coded h (answer_sized h.status xs over size))) (sym (drop-append-le h.size bytes rest fits))
+    (coded_later h now (answer_sized h.status (drop h.size bytes ++ rest) over size) (measured_later h.status size (drop h.size bytes) rest over))
 
 endless_later : (bytes rest : List ℕ) (over : Bool) → response_head (take 8192 bytes) ≡ None → (t : Bool) → nat_le 8192 (length bytes) ≡ t
-    → IsHeardLater (if t then garbled else answers.more) (answers.read_by (bytes ++ rest) over (response_head (take 8192 (bytes ++ rest))))
+    → IsHeardLater (if t then garbled else answers.more) (answer_by_head (bytes ++ rest) over (response_head (take 8192 (bytes ++ rest))))
 endless_later bytes rest over none false et = inl refl
 endless_later bytes rest over none true et =
     let long = leb-true 8192 (length bytes) et in
-    inr (ap (answers.read_by (bytes ++ rest) over) (ap response_head (take-append-le 8192 bytes rest long) ∙ none)
+    inr (ap (answer_by_head (bytes ++ rest) over) (ap response_head (take-append-le 8192 bytes rest long) ∙ none)
     ∙ ap (λ (t : Bool). if t then garbled else unless_over over) (le-leb 8192 (length (bytes ++ rest)) (omega (arith, long, length-append bytes rest))))
 
 pub answer_later : (bytes rest : List ℕ) (over : Bool) → IsHeardLater (answer_read bytes false) (answer_read (bytes ++ rest) over)
@@ -193,10 +193,10 @@ unfolding answer_read
 answer_later bytes rest over = by (response_head (take 8192 bytes)) refl
   where
     by : (o : Option ResponseHead) → response_head (take 8192 bytes) ≡ o
-        → IsHeardLater (answers.read_by bytes false o) (answers.read_by (bytes ++ rest) over (response_head (take 8192 (bytes ++ rest))))
+        → IsHeardLater (answer_by_head bytes false o) (answer_by_head (bytes ++ rest) over (response_head (take 8192 (bytes ++ rest))))
     by None is = endless_later bytes rest over is (nat_le 8192 (length bytes)) refl
     by (Some h) is =
-        subst (λ (o : Option ResponseHead). IsHeardLater (answers.headed bytes false h) (answers.read_by (bytes ++ rest) over o)) (sym (front_response bytes rest h is))
+        subst (λ (o : Option ResponseHead). IsHeardLater (answer_headed bytes false h) (answer_by_head (bytes ++ rest) over o)) (sym (front_response bytes rest h is))
         (answered_later bytes rest over h (omega (arith, readings.small_head (take 8192 bytes) h is, length-take 8192 bytes)))
 
 -- Bytes that no head begins with.
@@ -214,7 +214,7 @@ no_front bytes none = by (request_head (take 8192 bytes)) refl
         absurd (false≢true (ap is_there (sym (none []) ∙ ap request_head (behind_front bytes) ∙ head_stays (take 8192 bytes) (drop 8192 bytes ++ []) h is)))
 
 pub waits_at : (path bytes : List ℕ) → IsHopelessRequest bytes → request_at path bytes ≡ (if nat_le 8192 (length bytes) then faulty HeadLong else asks.more)
-waits_at path bytes none = ap (asks.read_by path bytes) (no_front bytes none)
+waits_at path bytes none = ap (request_by_head path bytes) (no_front bytes none)
 
 pub hopeless_waits : (bytes : List ℕ) → IsHopelessRequest bytes → request bytes ≡ (if nat_le 8192 (length bytes) then faulty HeadLong else asks.more)
 unfolding request
@@ -231,4 +231,4 @@ no_response bytes none = by (response_head (take 8192 bytes)) refl
 
 pub hopeless_ends : (bytes : List ℕ) (over : Bool) → IsHopelessAnswer bytes → answer_read bytes over ≡ (if nat_le 8192 (length bytes) then garbled else unless_over over)
 unfolding answer_read
-hopeless_ends bytes over none = ap (answers.read_by bytes over) (no_response bytes none)
+hopeless_ends bytes over none = ap (answer_by_head bytes over) (no_response bytes none)

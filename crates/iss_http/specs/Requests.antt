@@ -17,36 +17,36 @@ pub data Request : Type 0 where
   faulty : HttpFault → Request
 
 -- a body of this length, after it came
-abbrev pub body_within : List ℕ → ℕ → Request
-body_within rest size =
+abbrev pub request_within : List ℕ → ℕ → Request
+request_within rest size =
     if nat_lt MOST_BODY size then faulty BodyLong else if nat_le size (length rest) then body (take size rest) else more
 
 -- by the length of the body, if there is a good one
-abbrev pub sized_body : List ℕ → ContentLength → Request
-sized_body rest Absent = faulty NoLength
-sized_body rest Bad = faulty NoLength
-sized_body rest (Good size) = body_within rest size
+abbrev pub request_sized : List ℕ → ContentLength → Request
+request_sized rest Absent = faulty NoLength
+request_sized rest Bad = faulty NoLength
+request_sized rest (Good size) = request_within rest size
 
 -- a POST to this path, with no coding, is what its body is
-abbrev pub headed_with : List ℕ → RequestHead → Request → Request
-headed_with path h sized =
+abbrev pub request_coded : List ℕ → RequestHead → Request → Request
+request_coded path h sized =
     if not (bytes_eq h.method (codes "POST")) then faulty Method
     else if not (bytes_eq h.target path) then faulty Path
     else if has (codes "transfer-encoding") h.headers || has (codes "content-encoding") h.headers then faulty Coding
     else sized
 
 -- a request to this path whose head came whole
-unfoldable pub headed : List ℕ → List ℕ → RequestHead → Request
-headed path bytes h = headed_with path h (sized_body (drop h.size bytes) (content_length h.headers))
+unfoldable pub request_headed : List ℕ → List ℕ → RequestHead → Request
+request_headed path bytes h = request_coded path h (request_sized (drop h.size bytes) (content_length h.headers))
 
 -- by the head, if there is one in the first 8192 bytes
-abbrev pub read_by : List ℕ → List ℕ → Option RequestHead → Request
-read_by path bytes None = if nat_le MOST_HEAD (length bytes) then faulty HeadLong else more
-read_by path bytes (Some h) = headed path bytes h
+abbrev pub request_by_head : List ℕ → List ℕ → Option RequestHead → Request
+request_by_head path bytes None = if nat_le MOST_HEAD (length bytes) then faulty HeadLong else more
+request_by_head path bytes (Some h) = request_headed path bytes h
 
 -- what the bytes are as a request to this path, if a bad head is told as late as may be
 abbrev pub request_at : List ℕ → List ℕ → Request
-request_at path bytes = read_by path bytes (request_head (take MOST_HEAD bytes))
+request_at path bytes = request_by_head path bytes (request_head (take MOST_HEAD bytes))
 
 -- what the bytes are as a client's request, which goes to the path of events
 unfoldable pub request : List ℕ → Request

@@ -1,6 +1,6 @@
 //! The gateway's answer, read in any pieces.
 ghost use Rattle.std.specs.Prelude.{◌≡◌, ◌≤◌, ◌++◌, [], length, IfOk, IfNone, true, false};
-ghost use Rattle.iss_http.specs.Answers.{IsReadAs, headed, open_body, body_within, unless_over};
+ghost use Rattle.iss_http.specs.Answers.{IsReadAs, answer_headed, open_body, answer_within, unless_over};
 ghost use Rattle.iss_http.specs.Heard.{heard, reading_of, came_as};
 ghost use Rattle.iss_http.specs.Spans.{response_from};
 
@@ -141,7 +141,7 @@ fn read(bytes: &[u8], over: bool) -> Came<'_>
 }
 
 /// What the bytes are by their head, whose parts lie in `start`.
-#[tactic(auto, unfolding(crate::specs::Answers::headed))]
+#[tactic(auto, unfolding(crate::specs::Answers::answer_headed))]
 fn behind_head<'b>(
     bytes: &'b [u8],
     start: &[u8],
@@ -149,7 +149,7 @@ fn behind_head<'b>(
     head: ResponseSpans,
     headers: &[HeaderSpan],
 ) -> Came<'b>
-    ensures { came_as result ≡ headed bytes.now over (response_from start.now headers.now head) }
+    ensures { came_as result ≡ answer_headed bytes.now over (response_from start.now headers.now head) }
 {
     if has_header(start, headers, "transfer-encoding") {
         return Came::Garbled;
@@ -177,7 +177,7 @@ fn open_body(status: u16, rest: &[u8], over: bool) -> Came<'_>
 
 /// A body of `size` bytes.
 fn body_within(status: u16, rest: &[u8], over: bool, size: u64) -> Came<'_>
-    ensures { came_as result ≡ body_within status rest.now over size }
+    ensures { came_as result ≡ answer_within status rest.now over size }
 {
     if size > MOST_BODY {
         return Came::Garbled;

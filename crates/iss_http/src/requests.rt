@@ -1,6 +1,6 @@
 //! A client's request, read in any pieces.
 ghost use Rattle.std.specs.Prelude.{◌≡◌, ◌≤◌, ◌++◌, [], length, option_map, IfOk, IfErr, IfNone};
-ghost use Rattle.iss_http.specs.Requests.{request, request_at, answered, told, headed, sized_body, HasFaultAs, IsCause, IsCauseAs};
+ghost use Rattle.iss_http.specs.Requests.{request, request_at, answered, told, request_headed, request_sized, HasFaultAs, IsCause, IsCauseAs};
 ghost use Rattle.iss_http.specs.Spans.{request_from};
 
 use crate::faults::{FeedFault, HttpFault};
@@ -18,11 +18,11 @@ const EVENTS: &str = "/events";
 
 /// Reads one request, whose bytes come in any pieces. A contract sees the bytes that came so far.
 #[derive(Drop)]
-pub struct Reader {
+pub struct RequestReader {
     bytes: Vec<u8>,
 }
 
-impl Model for Reader {
+impl Model for RequestReader {
     ghost use Rattle.std.specs.Prelude.{List, ℕ, length, ◌≤◌};
     ghost use Rattle.iss_http.specs.declared.limits.TheConstants.{MOST_REQUEST};
 
@@ -33,12 +33,12 @@ impl Model for Reader {
     ghost invariant = { λ r. length r.bytes.items ≤ MOST_REQUEST };
 }
 
-impl Reader {
+impl RequestReader {
     /// A reader that has received no bytes.
-    pub fn new(alloc: Global) -> Result<Reader, AllocError>
+    pub fn new(alloc: Global) -> Result<RequestReader, AllocError>
         ensures { IfOk result (λ reader. reader ≡ []) }
     {
-        Ok(Reader {
+        Ok(RequestReader {
             bytes: Vec::with_capacity(alloc, 1024)?,
         })
     }
@@ -113,7 +113,7 @@ fn body_of<'b>(path: &str, bytes: &'b [u8]) -> Result<Option<&'b [u8]>, HttpFaul
 }
 
 /// What the bytes are by their head, whose parts lie in `start`.
-#[tactic(auto, unfolding(crate::specs::Requests::headed))]
+#[tactic(auto, unfolding(crate::specs::Requests::request_headed))]
 fn body_behind<'b>(
     path: &str,
     bytes: &'b [u8],
@@ -122,7 +122,7 @@ fn body_behind<'b>(
     headers: &[HeaderSpan],
 ) -> Result<Option<&'b [u8]>, HttpFault>
     ensures { told (λ text. text.now) result
-        ≡ headed path.now bytes.now (request_from start.now headers.now head) }
+        ≡ request_headed path.now bytes.now (request_from start.now headers.now head) }
 {
     if part(start, head.method) != Method::POST.as_str().as_bytes() {
         return Err(HttpFault::Method);
@@ -140,7 +140,7 @@ fn body_behind<'b>(
 
 /// What the bytes after the head are, by the length of the body.
 fn sized_body(rest: &[u8], length: ContentLength) -> Result<Option<&[u8]>, HttpFault>
-    ensures { told (λ text. text.now) result ≡ sized_body rest.now length }
+    ensures { told (λ text. text.now) result ≡ request_sized rest.now length }
 {
     match length {
         ContentLength::Good(size) if size > MOST_BODY => Err(HttpFault::BodyLong),

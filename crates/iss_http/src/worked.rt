@@ -8,7 +8,7 @@ ghost use Rattle.iss_http.specs.Messages.{respond, ask};
 ghost use Rattle.iss_http.specs.Worked.{last_headers, sent, posted};
 
 /// Requests that are taken, and the front of one.
-#[tactic(auto, unfolding(crate::specs::Requests::request, crate::specs::Requests::headed, crate::specs::Heads::request_head, crate::specs::Lengths::content_length, crate::specs::Lengths::length_of, crate::specs::Worked::is_utf8, crate::specs::Worked::is_token_byte, crate::specs::Worked::trim_ows))]
+#[tactic(auto, unfolding(crate::specs::Requests::request, crate::specs::Requests::request_headed, crate::specs::Heads::request_head, crate::specs::Lengths::content_length, crate::specs::Lengths::length_of, crate::specs::Worked::is_utf8, crate::specs::Worked::is_token_byte, crate::specs::Worked::trim_ows))]
 pub fn worked_requests()
     ensures plain { request (posted ("Content-Length: 2" ∷ []) "{}") ≡ body (codes "{}") }
     ensures empty { request (posted ("Content-Length: 0" ∷ []) "") ≡ body [] }
@@ -19,7 +19,7 @@ pub fn worked_requests()
 {}
 
 /// Requests that are refused.
-#[tactic(auto, unfolding(crate::specs::Requests::request, crate::specs::Requests::headed, crate::specs::Heads::request_head, crate::specs::Lengths::content_length, crate::specs::Lengths::length_of, crate::specs::Worked::is_utf8, crate::specs::Worked::is_token_byte, crate::specs::Worked::trim_ows))]
+#[tactic(auto, unfolding(crate::specs::Requests::request, crate::specs::Requests::request_headed, crate::specs::Heads::request_head, crate::specs::Lengths::content_length, crate::specs::Lengths::length_of, crate::specs::Worked::is_utf8, crate::specs::Worked::is_token_byte, crate::specs::Worked::trim_ows))]
 pub fn worked_faults()
     ensures method { request (sent ("GET /events HTTP/1.1" ∷ []) "") ≡ faulty Method }
     ensures path { request (sent ("POST /x HTTP/1.1" ∷ []) "") ≡ faulty Path }
@@ -38,7 +38,7 @@ pub fn worked_hopeless()
 {}
 
 /// What a gateway answers.
-#[tactic(auto, unfolding(crate::specs::Answers::answer_read, crate::specs::Answers::headed, crate::specs::Heads::response_head, crate::specs::Lengths::content_length, crate::specs::Lengths::length_of, crate::specs::Worked::is_utf8, crate::specs::Worked::is_token_byte, crate::specs::Worked::trim_ows))]
+#[tactic(auto, unfolding(crate::specs::Answers::answer_read, crate::specs::Answers::answer_headed, crate::specs::Heads::response_head, crate::specs::Lengths::content_length, crate::specs::Lengths::length_of, crate::specs::Worked::is_utf8, crate::specs::Worked::is_token_byte, crate::specs::Worked::trim_ows))]
 pub fn worked_answers()
     ensures plain { answer_read (sent ("HTTP/1.1 200 OK" ∷ "Content-Length: 2" ∷ []) "{}") false ≡ whole 200 (codes "{}") }
     ensures chunked { answer_read (sent ("HTTP/1.1 200 OK" ∷ "Transfer-Encoding: chunked" ∷ []) "") false ≡ garbled }

@@ -13,7 +13,7 @@ use Rattle.std.proofs.lemmas.Bool.{cases_eq, false≢true}
 use Rattle.iss_index.specs.declared.groups.Group.{Group}
 use Rattle.iss_index.specs.declared.groups.Slot.{Slot}
 use Rattle.iss_index.specs.Places.{place_of}
-use Rattle.iss_index.specs.Hashing.{hash_of, tag_of, group_of, is_name, is_at, is_zero, slot_has, slots_of, has_room, in_slots, slots_at, found_in, AreWithin, AreFound, AreKept, PutsName, FillsSlot, FillsGroup, free_group}
+use Rattle.iss_index.specs.Hashing.{hash_of, tag_of, group_of, is_name, is_at, is_zero, slot_has, slots_of, has_room, in_slots, slots_at, found_in, AreWithin, AreFound, AreNamesKept, PutsName, FillsSlot, FillsGroup, free_group}
 use Rattle.iss_model.proofs.Names.{one_name, name-sym}
 use Rattle.iss_index.proofs.Placed.{later, place-last, apart-last, place_here, first_lacks, rest_apart}
 
@@ -445,20 +445,20 @@ new_at (n ∷ names) (suc i) d apart lt =
 
 -- names with one more after them, and its place put
 pub kept_more : (before after : List Group) (others others_after : BTreeMap (List ℕ) ℕ) (names now : List (List ℕ)) (k : List ℕ) (place : ℕ)
-    → AreKept before others names → PutsName before others after others_after k place → place ≡ length names → place_of k names ≡ None
-    → now ≡ names ++ k ∷ [] → AreKept after others_after now
+    → AreNamesKept before others names → PutsName before others after others_after k place → place ≡ length names → place_of k names ≡ None
+    → now ≡ names ++ k ∷ [] → AreNamesKept after others_after now
 kept_more before after others others_after names now k place kept puts is none more =
-    subst (AreKept after others_after) (sym more)
+    subst (AreNamesKept after others_after) (sym more)
     (record {
       found = puts names kept.found is none;
       apart = apart-last k names kept.apart none;
     })
 
 -- the same names, found as they were
-pub kept_still : (before after : List Group) (others others_after : BTreeMap (List ℕ) ℕ) (names now : List (List ℕ)) → AreKept before others names
-    → ((ns : List (List ℕ)) → AreFound before others ns → AreFound after others_after ns) → now ≡ names → AreKept after others_after now
+pub kept_still : (before after : List Group) (others others_after : BTreeMap (List ℕ) ℕ) (names now : List (List ℕ)) → AreNamesKept before others names
+    → ((ns : List (List ℕ)) → AreFound before others ns → AreFound after others_after ns) → now ≡ names → AreNamesKept after others_after now
 kept_still before after others others_after names now kept stays same =
-    subst (AreKept after others_after) (sym same) (record { found = stays names kept.found; apart = kept.apart })
+    subst (AreNamesKept after others_after) (sym same) (record { found = stays names kept.found; apart = kept.apart })
 
 -- ---- name by name
 

@@ -9,7 +9,7 @@ use Rattle.std.specs.Ordering.{nat_cmp}
 use Rattle.std.specs.Str.{bytes_eq}
 use Rattle.iss_index.specs.declared.groups.Group.{Group}
 use Rattle.iss_index.specs.declared.groups.Slot.{Slot}
-use Rattle.iss_index.specs.declared.places.Places.{Places}
+use Rattle.iss_index.specs.declared.places.NamePlaces.{NamePlaces}
 use Rattle.iss_index.specs.Places.{place_of}
 
 -- the hash of a name, in 64 bits
@@ -82,15 +82,15 @@ PutsName before others after others_after name place =
     → AreFound after others_after (names ++ name ∷ [])
 
 -- these places are those of these names, and of no other
-abbrev pub Finds : Places → List (List ℕ) → Type 0
+abbrev pub Finds : NamePlaces → List (List ℕ) → Type 0
 Finds places names = AreFound places.groups.items places.others names
 
 -- whatever names they were the places of, they are still
-abbrev pub StaysFound : Places → Places → Type 0
+abbrev pub StaysFound : NamePlaces → NamePlaces → Type 0
 StaysFound before after = (names : List (List ℕ)) → Finds before names → Finds after names
 
 -- the place of one name more was put among them
-abbrev pub PutsPlace : Places → Places → List ℕ → ℕ → Type 0
+abbrev pub PutsPlace : NamePlaces → NamePlaces → List ℕ → ℕ → Type 0
 PutsPlace before after name place = PutsName before.groups.items before.others after.groups.items after.others name place
 
 -- the group that a name's hash points to has a free slot
@@ -114,6 +114,6 @@ abbrev pub free_group : Group
 free_group = record { slots = replicate 8 (record { tag = 0; rank = 0 }) }
 
 -- groups and a tree find each of these names at its place, and no name stands twice
-pub record AreKept (groups : List Group) (others : BTreeMap (List ℕ) ℕ) (names : List (List ℕ)) : Type 0 where
+pub record AreNamesKept (groups : List Group) (others : BTreeMap (List ℕ) ℕ) (names : List (List ℕ)) : Type 0 where
   pub found : AreFound groups others names
   pub apart : IsDistinct bytes_eq names

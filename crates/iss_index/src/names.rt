@@ -6,7 +6,7 @@ ghost use Rattle.iss_index.specs.Hashing.{is_at};
 ghost use Rattle.iss_index.specs.Places.{place_of};
 
 use crate::groups::is_at;
-use crate::places::Places;
+use crate::places::NamePlaces;
 use iss_model::Token;
 use std::alloc::{AllocError, Global};
 use std::marker::Model;
@@ -18,7 +18,7 @@ use std::marker::Model;
 #[derive(Drop)]
 pub struct Names {
     names: Vec<Token>,
-    places: Places,
+    places: NamePlaces,
     alloc: Global,
 }
 
@@ -27,11 +27,11 @@ impl Model for Names {
 
     ghost Value = { List (List ℕ) };
 
-    ghost use Rattle.iss_index.specs.Hashing.{AreKept};
+    ghost use Rattle.iss_index.specs.Hashing.{AreNamesKept};
 
     ghost view = { λ n. n.names.items };
 
-    ghost invariant = { λ n. AreKept n.places.groups.items n.places.others n.names.items };
+    ghost invariant = { λ n. AreNamesKept n.places.groups.items n.places.others n.names.items };
 }
 
 impl Names {
@@ -41,7 +41,7 @@ impl Names {
     {
         Names {
             names: Vec::new(alloc),
-            places: Places::new(alloc),
+            places: NamePlaces::new(alloc),
             alloc,
         }
     }

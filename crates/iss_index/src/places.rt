@@ -20,30 +20,30 @@ const FIRST_GROUPS: usize = 16;
 
 /// The places of names in a list that stands elsewhere.
 #[derive(Drop)]
-pub(crate) struct Places {
+pub(crate) struct NamePlaces {
     groups: Vec<Group>,
     others: BTreeMap<Token, u32>,
 }
 
-impl Places {
+impl NamePlaces {
     /// No place. Nothing is allocated.
-    pub(crate) fn new(alloc: Global) -> Places
+    pub(crate) fn new(alloc: Global) -> NamePlaces
         ensures { Finds result [] }
     {
-        Places {
+        NamePlaces {
             groups: Vec::new(alloc),
             others: BTreeMap::new(alloc),
         }
     }
 
     /// The places of these names, in more groups than now.
-    pub(crate) fn widened(&self, alloc: Global, names: &[Token]) -> Result<Places, AllocError>
+    pub(crate) fn widened(&self, alloc: Global, names: &[Token]) -> Result<NamePlaces, AllocError>
         requires few { length names.now < 2 ^ 32 }
         requires apart { IsDistinct bytes_eq names.now }
         ensures { IfOk result (λ places. Finds places names.now) }
     {
         let count = self.groups.len().saturating_mul(GROWTH).max(FIRST_GROUPS);
-        let mut places = Places {
+        let mut places = NamePlaces {
             groups: free_groups(alloc, count)?,
             others: BTreeMap::new(alloc),
         };

@@ -14,7 +14,7 @@ use Rattle.iss_model.specs.Currencies.{decimals_of, unit_of, same_currency}
 use Rattle.iss_model.specs.Forms.{is_amount, is_outcome}
 use Rattle.iss_model.specs.rules.CardActs.{counts_as_part}
 use Rattle.iss_jit.specs.declared.answers.TheConstants.{FUNDED, REFUSED}
-use Rattle.iss_jit.specs.Outcomes.{json_of, whole_of, text_or_units, amount_of, amount_said, has_token, outcome_of_amount, outcome_of_value, outcome_of_json, outcome_of, CountsIfPart}
+use Rattle.iss_jit.specs.Outcomes.{json_of, whole_of, text_or_units, amount_echoed, amount_said, has_token, outcome_of_amount, outcome_of_value, outcome_of_json, outcome_of, CountsIfPart}
 
 -- ---- amounts
 
@@ -38,8 +38,8 @@ read-is c (Some text) units =
 read-is c None (Some n) = if_form-is (n * unit_of c)
 read-is c None None = tt
 
-found-is : (c : Currency) (found : Option Data) → IfSome (option_and_then (amount_of c) found) IsAmount
-unfolding amount_of
+found-is : (c : Currency) (found : Option Data) → IfSome (option_and_then (amount_echoed c) found) IsAmount
+unfolding amount_echoed
 found-is c None = tt
 found-is c (Some d) = read-is c (as_str d) (whole_of d)
 

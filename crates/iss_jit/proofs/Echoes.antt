@@ -15,7 +15,7 @@ use Rattle.iss_model.specs.rules.Reasons.{is_some_with}
 use Rattle.iss_model.specs.texts.CallTokens.{call_uuid}
 use Rattle.iss_model.specs.texts.GatewayTexts.{token_text}
 use Rattle.iss_amount.proofs.RoundTrips.{read_again}
-use Rattle.iss_jit.specs.Outcomes.{uuid_of, amount_of, has_token, amount_said, outcome_of_amount, outcome_of_value}
+use Rattle.iss_jit.specs.Outcomes.{uuid_of, amount_echoed, has_token, amount_said, outcome_of_amount, outcome_of_value}
 use Rattle.iss_jit.specs.Echoes.{IsEcho, FundsEchoes}
 use Rattle.iss_jit.proofs.CallTexts.{small, token}
 
@@ -46,9 +46,9 @@ has_its_token instance o amount d says =
     ∙ (bytes_eq-Decides id id).1 refl
 
 has_its_amount : (instance : ℕ) (o : Opened) (amount : ℕ) (d : Data) → IsTrue (is_amount amount) → IsEcho instance o amount d → amount_said o.currency d ≡ Some amount
-unfolding amount_said amount_of
+unfolding amount_said amount_echoed
 has_its_amount instance o amount d ok says =
-    ap (λ (found : Option Data). option_and_then (amount_of o.currency) found) says.amount_is ∙ (read_again (pos amount) o.currency).amount_again amount refl ok
+    ap (λ (found : Option Data). option_and_then (amount_echoed o.currency) found) says.amount_is ∙ (read_again (pos amount) o.currency).amount_again amount refl ok
 
 -- a value with the call's token comes to what its amount comes to
 by_amount : (instance : ℕ) (o : Opened) (amount : ℕ) (d : Data) → IsTrue (is_amount amount) → IsEcho instance o amount d

@@ -33,8 +33,8 @@ text_or_units c (Some text) units = amount_read text c
 text_or_units c None units = option_and_then (λ n. whole_amount_read n c) units
 
 -- an amount in a currency: a text such as `10.00`, or a number of whole units
-unfoldable pub amount_of : Currency → Data → Option ℕ
-amount_of c d = text_or_units c (as_str d) (whole_of d)
+unfoldable pub amount_echoed : Currency → Data → Option ℕ
+amount_echoed c d = text_or_units c (as_str d) (whole_of d)
 
 -- the value is an object whose last member `token` is the UUID of this call
 unfoldable pub has_token : ℕ → Opened → Data → Bool
@@ -42,7 +42,7 @@ has_token instance o d = is_some_with (λ id. bytes_eq id (call_uuid instance o.
 
 -- the amount that the value's last member `amount` holds, if it is an object
 unfoldable pub amount_said : Currency → Data → Option ℕ
-amount_said c d = option_and_then (amount_of c) (get (codes "amount") d)
+amount_said c d = option_and_then (amount_echoed c) (get (codes "amount") d)
 
 -- what a funded amount comes to: the call's own funds it, and a smaller one a part of it if the call permits that
 abbrev pub outcome_of_amount : Opened → Option ℕ → Outcome

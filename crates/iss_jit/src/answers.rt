@@ -7,7 +7,7 @@ ghost use Rattle.iss_model.specs.declared.input.Outcome.TheVariants as outcome;
 ghost use Rattle.iss_model.specs.Forms.{is_outcome};
 ghost use Rattle.iss_jit.specs.declared.answers.TheConstants.{REFUSED};
 ghost use Rattle.iss_jit.specs.Echoes.{FundsEchoes};
-ghost use Rattle.iss_jit.specs.Outcomes.{json_of, uuid_of, amount_of, has_token, amount_said, outcome_of_amount, outcome_of_value, outcome_of_json, outcome_of, CountsIfPart};
+ghost use Rattle.iss_jit.specs.Outcomes.{json_of, uuid_of, amount_echoed, has_token, amount_said, outcome_of_amount, outcome_of_value, outcome_of_json, outcome_of, CountsIfPart};
 
 use iss_amount::{read, whole};
 use iss_model::{Currency, Opened, Outcome};
@@ -122,7 +122,7 @@ fn has_token(value: &Value, opened: &Opened, instance: u64) -> bool
 fn amount_said(value: &Value, currency: Currency) -> Option<u64>
     ensures { result ≡ amount_said currency (view value.now) }
 {
-    amount_of(value.get("amount")?, currency)
+    amount_echoed(value.get("amount")?, currency)
 }
 
 #[tactic(auto, unfolding(crate::specs::Outcomes::uuid_of))]
@@ -136,9 +136,9 @@ fn uuid_of(value: &Value) -> Option<Uuid>
 }
 
 /// The minor units of a text such as `10.00`, or of a number of whole units.
-#[tactic(auto, unfolding(crate::specs::Outcomes::amount_of))]
-fn amount_of(value: &Value, currency: Currency) -> Option<u64>
-    ensures { result ≡ amount_of currency (view value.now) }
+#[tactic(auto, unfolding(crate::specs::Outcomes::amount_echoed))]
+fn amount_echoed(value: &Value, currency: Currency) -> Option<u64>
+    ensures { result ≡ amount_echoed currency (view value.now) }
 {
     match value.as_str() {
         Some(text) => read(text.as_bytes(), currency),

@@ -3,7 +3,7 @@ use Rattle.std.proofs.Common.{◌≡◌, ℕ, ◌+◌, ◌<◌, ◌≤◌, List,
 use Rattle.std.proofs.lemmas.List.{take_at, drop_at, set_at, length-set}
 use Rattle.iss_edge.specs.Disk.{splice}
 use Rattle.iss_edge.proofs.Splices.{length-spliced}
-use Rattle.iss_journal.specs.Region.{Region, IsBody, with_length, append_bytes, bytes_before_gate, EndsWith, LeavesBehind}
+use Rattle.iss_journal.specs.Region.{Region, IsBody, body_with_length, append_bytes, bytes_before_gate, EndsWith, LeavesBehind}
 use Rattle.iss_journal.proofs.Records.{front-push, are_bodies-push, length-spelled, length-behind}
 
 -- bytes put right after a prefix
@@ -59,8 +59,8 @@ set_gate region bodies old new rest image ends =
 pub gate_open : (region : Region) (bodies : List (List ℕ)) (body rest image : List ℕ) → IsBody body → length (bytes_before_gate region bodies) + length (append_bytes body) < region.to → EndsWith region bodies 1 (append_bytes body ++ rest) image → EndsWith region (bodies ++ body ∷ []) 0 rest image
 gate_open region bodies body rest image is_body room ends =
     let prefix = bytes_before_gate region bodies in
-    let more : length (bytes_before_gate region (bodies ++ body ∷ [])) ≡ length prefix + (1 + length (with_length body)) =
-    omega (arith, ap length (front-push region bodies body), length-append prefix (1 ∷ with_length body)) in
+    let more : length (bytes_before_gate region (bodies ++ body ∷ [])) ≡ length prefix + (1 + length (body_with_length body)) =
+    omega (arith, ap length (front-push region bodies body), length-append prefix (1 ∷ body_with_length body)) in
     record {
       whole = ends.whole;
       inside = ends.inside;
@@ -68,8 +68,8 @@ gate_open region bodies body rest image is_body room ends =
       within = omega (arith, more, room, length-behind body, length-spelled body);
       is =
           ends.is
-          ∙ ap (λ (l : List ℕ). prefix ++ 1 ∷ l) (append_assoc (with_length body) (0 ∷ []) rest)
-          ∙ sym (append_assoc prefix (1 ∷ with_length body) (0 ∷ rest))
+          ∙ ap (λ (l : List ℕ). prefix ++ 1 ∷ l) (append_assoc (body_with_length body) (0 ∷ []) rest)
+          ∙ sym (append_assoc prefix (1 ∷ body_with_length body) (0 ∷ rest))
           ∙ ap (λ (l : List ℕ). l ++ 0 ∷ rest) (sym (front-push region bodies body));
     }
 

@@ -4,7 +4,7 @@ use Rattle.std.specs.Int.{w32, to_be_bytes, from_be_bytes}
 use Rattle.std.proofs.lemmas.List.{append_cancel_left, take-append-drop, drop_more, get_or-drop}
 use Rattle.std.proofs.lemmas.Nat.{from_be_bytes-to_be_bytes_4}
 use Rattle.iss_journal.specs.Place.{Place}
-use Rattle.iss_journal.specs.Region.{Region, AreBodies, with_length, need_of, frames, bytes_before_gate, Shows}
+use Rattle.iss_journal.specs.Region.{Region, AreBodies, body_with_length, frame_size, frames, bytes_before_gate, Shows}
 use Rattle.iss_journal.specs.Opening.{BadAt}
 use Rattle.iss_journal.specs.Reading.{ReadUpTo, BeginsToRead, ReadsOn, ReadsToTheEnd, BadShowsNothing}
 use Rattle.iss_journal.proofs.Records.{front-push, are_bodies-push, length-spelled, SameSpelled, same_spelled}
@@ -26,9 +26,9 @@ begins_to_read region device whole inside within here =
 pub reads_on : ReadsOn
 reads_on region bodies body place device read found =
     let prefix = bytes_before_gate region bodies in
-    let rest = drop (place.gate + need_of body) device in
-    let longer : length (bytes_before_gate region (bodies ++ body ∷ [])) ≡ place.gate + need_of body =
-    omega (arith, ap length (front-push region bodies body), length-append prefix (1 ∷ with_length body), length-spelled body, read.end_gate.here) in
+    let rest = drop (place.gate + frame_size body) device in
+    let longer : length (bytes_before_gate region (bodies ++ body ∷ [])) ≡ place.gate + frame_size body =
+    omega (arith, ap length (front-push region bodies body), length-append prefix (1 ∷ body_with_length body), length-spelled body, read.end_gate.here) in
     record {
       whole = read.whole;
       inside = read.inside;
@@ -38,7 +38,7 @@ reads_on region bodies body place device read found =
       is =
           read.is
           ∙ ap (λ (l : List ℕ). prefix ++ l) found.there
-          ∙ sym (append_assoc prefix (1 ∷ with_length body) rest)
+          ∙ sym (append_assoc prefix (1 ∷ body_with_length body) rest)
           ∙ ap (λ (l : List ℕ). l ++ rest) (sym (front-push region bodies body));
     }
 
@@ -71,8 +71,8 @@ pub record NextOf (bodies others : List (List ℕ)) (gate : ℕ) (rest tail : Li
   size : length (frames others) ≡ length (frames bodies) + length (frames left)
   is : tail ≡ frames left ++ gate ∷ rest
 
-length-framed : (body : List ℕ) (bodies : List (List ℕ)) → length (frames (body ∷ bodies)) ≡ need_of body + length (frames bodies)
-length-framed body bodies = omega (arith, length-append (with_length body) (frames bodies), length-spelled body)
+length-framed : (body : List ℕ) (bodies : List (List ℕ)) → length (frames (body ∷ bodies)) ≡ frame_size body + length (frames bodies)
+length-framed body bodies = omega (arith, length-append (body_with_length body) (frames bodies), length-spelled body)
 
 -- records that stand before an open gate are the first of each list that the device shows
 first_of : (bodies others : List (List ℕ)) (gate : ℕ) (rest tail : List ℕ) → AreBodies bodies → AreBodies others → (gate ≡ 1 → ⊥) → frames bodies ++ tail ≡ frames others ++ gate ∷ rest → NextOf bodies others gate rest tail
@@ -80,9 +80,9 @@ first_of [] others gate rest tail sound_b sound_o shut e =
     record { left = others; begins = refl; sound = sound_o; size = omega arith; is = e }
 first_of (b ∷ bodies) [] gate rest tail sound_b sound_o shut e = let one : gate ≡ 1 = cc in absurd (shut one)
 first_of (b ∷ bodies) (o ∷ others) gate rest tail sound_b sound_o shut e =
-    let tails : (with_length b ++ frames bodies) ++ tail ≡ (with_length o ++ frames others) ++ gate ∷ rest = ap (λ (l : List ℕ). drop 1 l) e in
-    let grouped : with_length b ++ (frames bodies ++ tail) ≡ with_length o ++ (frames others ++ gate ∷ rest) =
-    sym (append_assoc (with_length b) (frames bodies) tail) ∙ tails ∙ append_assoc (with_length o) (frames others) (gate ∷ rest) in
+    let tails : (body_with_length b ++ frames bodies) ++ tail ≡ (body_with_length o ++ frames others) ++ gate ∷ rest = ap (λ (l : List ℕ). drop 1 l) e in
+    let grouped : body_with_length b ++ (frames bodies ++ tail) ≡ body_with_length o ++ (frames others ++ gate ∷ rest) =
+    sym (append_assoc (body_with_length b) (frames bodies) tail) ∙ tails ∙ append_assoc (body_with_length o) (frames others) (gate ∷ rest) in
     let same : SameSpelled b o (frames bodies ++ tail) (frames others ++ gate ∷ rest) = same_spelled b o (frames bodies ++ tail) (frames others ++ gate ∷ rest) sound_b.0 sound_o.0 grouped in
     let next : NextOf bodies others gate rest tail = first_of bodies others gate rest tail sound_b.1 sound_o.1 shut same.rest in
     record {
@@ -98,7 +98,7 @@ not_bad : (left : List (List ℕ)) (place : Place) (gate : ℕ) (rest device : L
 not_bad [] place gate rest device sound shut room is first bad =
     shut (sym (first ∙ ap (λ (l : List ℕ). get_or l 0 0) is) ∙ bad.open_gate)
 not_bad (body ∷ left) place gate rest device sound shut room is first bad =
-    let more : place.gate + need_of body < place.to = omega (arith, room, length-framed body left) in
+    let more : place.gate + frame_size body < place.to = omega (arith, room, length-framed body left) in
     elim bad.why [
       | inl short ↦ absurd (omega (arith, short, more))
       | inr spelt ↦

@@ -3,30 +3,30 @@ use Rattle.std.proofs.Common.{◌≡◌, ℕ, ◌+◌, List, [], ◌∷◌, ◌+
 use Rattle.std.specs.Int.{w32, to_be_bytes, from_be_bytes}
 use Rattle.std.proofs.lemmas.Nat.{from_be_bytes-to_be_bytes_4}
 use Rattle.std.proofs.lemmas.List.{append_cancel_left, take_at, drop_at}
-use Rattle.iss_journal.specs.Region.{Region, IsBody, AreBodies, with_length, append_bytes, frames, bytes_before_gate, ShowsOnce}
+use Rattle.iss_journal.specs.Region.{Region, IsBody, AreBodies, body_with_length, append_bytes, frames, bytes_before_gate, ShowsOnce}
 
 pub framed-append : (xs ys : List (List ℕ)) → frames (xs ++ ys) ≡ frames xs ++ frames ys
 framed-append [] ys = refl
 framed-append (x ∷ xs) ys =
-    ap (λ (l : List ℕ). 1 ∷ (with_length x ++ l)) (framed-append xs ys)
-    ∙ ap (λ (l : List ℕ). 1 ∷ l) (sym (append_assoc (with_length x) (frames xs) (frames ys)))
+    ap (λ (l : List ℕ). 1 ∷ (body_with_length x ++ l)) (framed-append xs ys)
+    ∙ ap (λ (l : List ℕ). 1 ∷ l) (sym (append_assoc (body_with_length x) (frames xs) (frames ys)))
 
 -- the prefix of records with one more
-pub front-push : (region : Region) (bodies : List (List ℕ)) (body : List ℕ) → bytes_before_gate region (bodies ++ body ∷ []) ≡ bytes_before_gate region bodies ++ 1 ∷ with_length body
+pub front-push : (region : Region) (bodies : List (List ℕ)) (body : List ℕ) → bytes_before_gate region (bodies ++ body ∷ []) ≡ bytes_before_gate region bodies ++ 1 ∷ body_with_length body
 front-push region bodies body =
     ap (λ (l : List ℕ). region.below ++ l) (framed-append bodies (body ∷ []))
     ∙ sym (append_assoc region.below (frames bodies) (frames (body ∷ [])))
-    ∙ ap (λ (l : List ℕ). bytes_before_gate region bodies ++ 1 ∷ l) (append-nil (with_length body))
+    ∙ ap (λ (l : List ℕ). bytes_before_gate region bodies ++ 1 ∷ l) (append-nil (body_with_length body))
 
 pub are_bodies-push : (bodies : List (List ℕ)) (body : List ℕ) → AreBodies bodies → IsBody body → AreBodies (bodies ++ body ∷ [])
 are_bodies-push [] body sound is = (is, tt)
 are_bodies-push (x ∷ xs) body sound is = (sound.0, are_bodies-push xs body sound.1 is)
 
-pub length-spelled : (body : List ℕ) → length (with_length body) ≡ 4 + length body
+pub length-spelled : (body : List ℕ) → length (body_with_length body) ≡ 4 + length body
 length-spelled body = length-append (to_be_bytes w32 (length body)) body
 
 pub length-behind : (body : List ℕ) → length (append_bytes body) ≡ 5 + length body
-length-behind body = omega (arith, length-append (with_length body) (0 ∷ []), length-spelled body)
+length-behind body = omega (arith, length-append (body_with_length body) (0 ∷ []), length-spelled body)
 
 -- two bodies with whatever follows, if all of it is the same
 pub record SameSpelled (x y X Y : List ℕ) : Type 0 where
@@ -39,7 +39,7 @@ same_length x y is_x is_y e =
     ∙ ap (λ (l : List ℕ). from_be_bytes w32 l) e
     ∙ from_be_bytes-to_be_bytes_4 (length y) (omega (arith, is_y.most))
 
-pub same_spelled : (x y X Y : List ℕ) → IsBody x → IsBody y → with_length x ++ X ≡ with_length y ++ Y → SameSpelled x y X Y
+pub same_spelled : (x y X Y : List ℕ) → IsBody x → IsBody y → body_with_length x ++ X ≡ body_with_length y ++ Y → SameSpelled x y X Y
 same_spelled x y X Y is_x is_y e =
     let lengths : to_be_bytes w32 (length x) ≡ to_be_bytes w32 (length y) = ap (λ (l : List ℕ). take 4 l) e in
     let tails : x ++ X ≡ y ++ Y = ap (λ (l : List ℕ). drop 4 l) e in
@@ -55,9 +55,9 @@ framed_once [] [] g h r s sound_x sound_y shut_g shut_h e = refl
 framed_once [] (y ∷ ys) g h r s sound_x sound_y shut_g shut_h e = let open_gate : g ≡ 1 = cc in absurd (shut_g open_gate)
 framed_once (x ∷ xs) [] g h r s sound_x sound_y shut_g shut_h e = let open_gate : h ≡ 1 = cc in absurd (shut_h open_gate)
 framed_once (x ∷ xs) (y ∷ ys) g h r s sound_x sound_y shut_g shut_h e =
-    let tails : (with_length x ++ frames xs) ++ g ∷ r ≡ (with_length y ++ frames ys) ++ h ∷ s = ap (λ (l : List ℕ). drop 1 l) e in
-    let grouped : with_length x ++ (frames xs ++ g ∷ r) ≡ with_length y ++ (frames ys ++ h ∷ s) =
-    sym (append_assoc (with_length x) (frames xs) (g ∷ r)) ∙ tails ∙ append_assoc (with_length y) (frames ys) (h ∷ s) in
+    let tails : (body_with_length x ++ frames xs) ++ g ∷ r ≡ (body_with_length y ++ frames ys) ++ h ∷ s = ap (λ (l : List ℕ). drop 1 l) e in
+    let grouped : body_with_length x ++ (frames xs ++ g ∷ r) ≡ body_with_length y ++ (frames ys ++ h ∷ s) =
+    sym (append_assoc (body_with_length x) (frames xs) (g ∷ r)) ∙ tails ∙ append_assoc (body_with_length y) (frames ys) (h ∷ s) in
     let same : SameSpelled x y (frames xs ++ g ∷ r) (frames ys ++ h ∷ s) = same_spelled x y (frames xs ++ g ∷ r) (frames ys ++ h ∷ s) sound_x.0 sound_y.0 grouped in
     ap (λ (b : List ℕ). b ∷ xs) same.body ∙ ap (λ (l : List (List ℕ)). y ∷ l) (framed_once xs ys g h r s sound_x.1 sound_y.1 shut_g shut_h same.rest)
 

@@ -8,7 +8,7 @@ use Rattle.iss_edge.specs.Calls.{Same, Reads}
 use Rattle.iss_edge.proofs.Tolds.{told_map, told_then, same_then}
 use Rattle.iss_journal.specs.declared.fault.JournalFault.TheVariants.{Disk, BadRecord, OutOfMemory}
 use Rattle.iss_journal.specs.Place.{Place}
-use Rattle.iss_journal.specs.Region.{IsBody, with_length, need_of}
+use Rattle.iss_journal.specs.Region.{IsBody, body_with_length, frame_size}
 use Rattle.iss_journal.specs.Opening.{ReadsHead, RecordAt, BadAt, Finds}
 
 pub same_then_told : (x y z : Option World) → Told Same x y → Told Same y z → Told Same x z
@@ -71,16 +71,16 @@ record_at place n body device is_body size room open_gate four read =
       | inr past ↦ absurd (let zero_there : get_or device gate 0 ≡ 0 = get_or_past device gate 0 past in omega (arith, zero_there, open_gate))
     ] in
     let five : drop 4 (drop (gate + 1) device) ≡ drop (gate + 5) device = drop-drop 4 (gate + 1) device ∙ ap (λ (k : ℕ). drop k device) (omega arith) in
-    let last : drop (length body) (drop (gate + 5) device) ≡ drop (gate + need_of body) device = drop-drop (length body) (gate + 5) device ∙ ap (λ (k : ℕ). drop k device) (omega arith) in
-    let tail : drop (gate + 5) device ≡ body ++ drop (gate + need_of body) device =
+    let last : drop (length body) (drop (gate + 5) device) ≡ drop (gate + frame_size body) device = drop-drop (length body) (gate + 5) device ∙ ap (λ (k : ℕ). drop k device) (omega arith) in
+    let tail : drop (gate + 5) device ≡ body ++ drop (gate + frame_size body) device =
     sym (take-append-drop (length body) (drop (gate + 5) device))
     ∙ ap (λ (l : List ℕ). l ++ drop (length body) (drop (gate + 5) device)) (sym read)
     ∙ ap (λ (l : List ℕ). body ++ l) last in
-    let rest : drop (gate + 1) device ≡ with_length body ++ drop (gate + need_of body) device =
+    let rest : drop (gate + 1) device ≡ body_with_length body ++ drop (gate + frame_size body) device =
     sym (take-append-drop 4 (drop (gate + 1) device))
     ∙ ap (λ (l : List ℕ). l ++ drop 4 (drop (gate + 1) device)) (four ∙ ap (λ (k : ℕ). to_be_bytes w32 k) (sym size))
     ∙ ap (λ (l : List ℕ). to_be_bytes w32 (length body) ++ l) (five ∙ tail)
-    ∙ sym (append_assoc (to_be_bytes w32 (length body)) body (drop (gate + need_of body) device)) in
+    ∙ sym (append_assoc (to_be_bytes w32 (length body)) body (drop (gate + frame_size body) device)) in
     record {
       is_body = is_body;
       room = omega (arith, size, room);
@@ -106,8 +106,8 @@ abbrev at_place : ℕ → ℕ → Place
 at_place gate to = record { gate = gate; to = to }
 
 -- the place after a record
-pub moved_on : (place now : Place) (gate to n : ℕ) (body : List ℕ) → place ≡ record { gate = gate; to = to } → now ≡ record { gate = gate + (5 + n); to = to } → length body ≡ n → now ≡ record { gate = place.gate + need_of body; to = place.to }
+pub moved_on : (place now : Place) (gate to n : ℕ) (body : List ℕ) → place ≡ record { gate = gate; to = to } → now ≡ record { gate = gate + (5 + n); to = to } → length body ≡ n → now ≡ record { gate = place.gate + frame_size body; to = place.to }
 moved_on place now gate to n body from is size =
     is
     ∙ ap (λ (k : ℕ). at_place (gate + (5 + k)) to) (sym size)
-    ∙ ap (λ (p : Place). at_place (p.gate + need_of body) p.to) (sym from)
+    ∙ ap (λ (p : Place). at_place (p.gate + frame_size body) p.to) (sym from)

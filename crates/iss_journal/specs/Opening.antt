@@ -11,13 +11,13 @@ use Rattle.iss_journal.specs.declared.fault.JournalFault.{JournalFault}
 use Rattle.iss_journal.specs.declared.fault.JournalFault.TheVariants.{Disk, NotFormatted, BadRecord, Full, OutOfMemory}
 use Rattle.iss_journal.specs.declared.layout.TheConstants.{GATE, LENGTH, HEAD, LONGEST_BODY}
 use Rattle.iss_journal.specs.Place.{Place}
-use Rattle.iss_journal.specs.Region.{Region, IsBody, with_length, need_of, bytes_before_gate, Shows, ShowsClosed, LeavesBehind, ShowsFirmly, RestsFirst}
+use Rattle.iss_journal.specs.Region.{Region, IsBody, body_with_length, frame_size, bytes_before_gate, Shows, ShowsClosed, LeavesBehind, ShowsFirmly, RestsFirst}
 
 -- the gate is open, a body stands after it, and after that there is place for a gate within the region
 pub record RecordAt (place : Place) (body device : List ℕ) : Type 0 where
   pub is_body : IsBody body
-  pub room : place.gate + need_of body < place.to
-  pub there : drop place.gate device ≡ 1 ∷ (with_length body ++ drop (place.gate + need_of body) device)
+  pub room : place.gate + frame_size body < place.to
+  pub there : drop place.gate device ≡ 1 ∷ (body_with_length body ++ drop (place.gate + frame_size body) device)
 
 -- the four bytes after the gate spell a length that is wrong: it is 0, over 8192, or passes the region's end
 pub record WrongLength (place : Place) (device : List ℕ) : Type 0 where
@@ -46,8 +46,8 @@ abbrev pub MovesOn : Place → Place → Result (Option (List ℕ)) JournalFault
 MovesOn place now (Ok None) = now ≡ place
 MovesOn place now (Ok (Some body)) =
     IsBody body
-    × (place.gate + need_of body < place.to)
-    × (now ≡ record { gate = place.gate + need_of body; to = place.to })
+    × (place.gate + frame_size body < place.to)
+    × (now ≡ record { gate = place.gate + frame_size body; to = place.to })
 MovesOn place now (Err (BadRecord at)) = (now ≡ place) × (at ≡ place.gate)
 MovesOn place now (Err Disk) = now ≡ place
 MovesOn place now (Err OutOfMemory) = now ≡ place

@@ -1,7 +1,7 @@
 -- What a scan has read, and what a device shows after it has come to an end.
 use Rattle.std.specs.Prelude.{◌≡◌, ℕ, ◌+◌, ◌<◌, ◌≤◌, List, [], ◌∷◌, ◌++◌, length, take, drop, slice_index}
 use Rattle.iss_journal.specs.Place.{Place}
-use Rattle.iss_journal.specs.Region.{Region, AreBodies, need_of, bytes_before_gate, Shows}
+use Rattle.iss_journal.specs.Region.{Region, AreBodies, frame_size, bytes_before_gate, Shows}
 use Rattle.iss_journal.specs.Opening.{RecordAt, BadAt, IsEndGate}
 
 -- on this device these records stand before this gate, which is within the region
@@ -25,7 +25,7 @@ abbrev pub ReadsOn : Type 0
 ReadsOn =
     (region : Region) (bodies : List (List ℕ)) (body : List ℕ) (place : Place) (device : List ℕ)
     → ReadUpTo region bodies place device → RecordAt place body device
-    → ReadUpTo region (bodies ++ body ∷ []) (record { gate = place.gate + need_of body; to = place.to }) device
+    → ReadUpTo region (bodies ++ body ∷ []) (record { gate = place.gate + frame_size body; to = place.to }) device
 
 -- at a gate that is not open the device shows what was read
 abbrev pub ReadsToTheEnd : Type 0

@@ -20,21 +20,21 @@ AreBodies [] = Unit {0}
 AreBodies (body ∷ bodies) = IsBody body × AreBodies bodies
 
 -- a body after its length in four bytes, the highest first
-abbrev pub with_length : List ℕ → List ℕ
-with_length body = to_be_bytes w32 (length body) ++ body
+abbrev pub body_with_length : List ℕ → List ℕ
+body_with_length body = to_be_bytes w32 (length body) ++ body
 
 -- what one write puts after the end gate: a record's length and body, and a closed gate after them
 abbrev pub append_bytes : List ℕ → List ℕ
-append_bytes body = with_length body ++ 0 ∷ []
+append_bytes body = body_with_length body ++ 0 ∷ []
 
 -- how many bytes a record takes after the gate before it, with the closed gate that follows it
-abbrev pub need_of : List ℕ → ℕ
-need_of body = HEAD + length body
+abbrev pub frame_size : List ℕ → ℕ
+frame_size body = HEAD + length body
 
 -- these records, each after an open gate
 abbrev pub frames : List (List ℕ) → List ℕ
 frames [] = []
-frames (body ∷ bodies) = 1 ∷ (with_length body ++ frames bodies)
+frames (body ∷ bodies) = 1 ∷ (body_with_length body ++ frames bodies)
 
 -- all that stands before the gate after these records
 abbrev pub bytes_before_gate : Region → List (List ℕ) → List ℕ

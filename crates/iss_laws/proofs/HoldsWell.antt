@@ -27,7 +27,7 @@ use Rattle.iss_state.proofs.calls.Legal.{nothing_well}
 use Rattle.iss_state.proofs.calls.Steps.{step_well}
 use Rattle.iss_state.specs.Holdings.{HoldsNothing, IsHeldWell, ended_times, ends_left, part_sum}
 use Rattle.iss_state.proofs.held.Steps.{HoldsWell, nothing_held, step_held, step_left}
-use Rattle.iss_laws.specs.Holds.{is_held_on, parts_and_ends, parts_of}
+use Rattle.iss_laws.specs.Holds.{is_held_on, parts_and_ends, parts_by_facts}
 use Rattle.iss_laws.specs.Tests.{not_negative, times}
 use Rattle.iss_laws.specs.CallEntries.{times_among}
 use Rattle.iss_laws.proofs.Rows.{next_times}
@@ -114,7 +114,7 @@ held_on s rows now held once stands =
     positive : (p : Part) → not_negative (part_sum s.holdings.parts now.txn.token p) ≡ true
     positive p = is_not_negative (part_sum s.holdings.parts now.txn.token p) (held.not_negative now.txn.token p)
 
-    by : (b : Bool) → now.live ≡ b → (b || list_all (λ part. int_eq part (pos 0)) (parts_of (core_facts s) now.txn.token)) ≡ true
+    by : (b : Bool) → now.live ≡ b → (b || list_all (λ part. int_eq part (pos 0)) (parts_by_facts (core_facts s) now.txn.token)) ≡ true
     by true e = refl
     by false e =
         let nothing : HoldsNothing s.holdings.parts now.txn.token = held.ended now.txn.token (ap (is_some_with (λ (t : TxnNow). t.live)) stands ∙ e) in

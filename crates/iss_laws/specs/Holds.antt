@@ -11,15 +11,15 @@ use Rattle.iss_model.specs.rules.Histories.{History, history_facts}
 use Rattle.iss_laws.specs.Tests.{times, not_negative}
 
 -- what a transaction holds, part by part
-abbrev pub parts_of : Facts → List ℕ → List ℤ
-parts_of f txn = f.parts (part_key txn part.G) ∷ f.parts (part_key txn part.P) ∷ f.parts (part_key txn part.S) ∷ []
+abbrev pub parts_by_facts : Facts → List ℕ → List ℤ
+parts_by_facts f txn = f.parts (part_key txn part.G) ∷ f.parts (part_key txn part.P) ∷ f.parts (part_key txn part.S) ∷ []
 
 -- by these facts and rows a transaction's parts aren't negative, it ended at most once, and is live or holds nothing
 abbrev pub is_held_on : Facts → List Row → TxnNow → Bool
 is_held_on f rows now =
-    list_all not_negative (parts_of f now.txn.token)
+    list_all not_negative (parts_by_facts f now.txn.token)
     && nat_le (times (ends_txn now.txn.token) rows) 1
-    && (now.live || list_all (λ part. int_eq part (pos 0)) (parts_of f now.txn.token))
+    && (now.live || list_all (λ part. int_eq part (pos 0)) (parts_by_facts f now.txn.token))
 
 -- by those of the book
 abbrev pub is_held_well : History → TxnNow → Bool

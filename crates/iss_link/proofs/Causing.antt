@@ -8,13 +8,13 @@ use Rattle.iss_model.specs.declared.currency.Currency.{Currency}
 use Rattle.iss_model.specs.declared.input.Outcome.{Outcome}
 use Rattle.iss_model.specs.declared.input.Outcome.TheVariants.{Funded, Refused, Application, Connection, Partial}
 use Rattle.iss_http.specs.declared.statuses.TheConstants.{OK}
-use Rattle.iss_http.specs.Answers.{Reading, more, ended, garbled, whole, answer_read}
+use Rattle.iss_http.specs.Answers.{AnswerReading, more, ended, garbled, whole, answer_read}
 use Rattle.iss_http.proofs.Endings.{is_more, is_ended, no_more_once_over, no_end_before}
 use Rattle.iss_jit.specs.declared.answers.TheConstants.{REFUSED}
 use Rattle.iss_jit.specs.Outcomes.{outcome_of}
 use Rattle.iss_jit.proofs.EachOutcome.{refused_at, no_connection}
 use Rattle.iss_session.specs.Desks.{Subject, of_call, of_notice}
-use Rattle.iss_session.specs.Links.{Heard, unfinished, outcome, acknowledged, dropped, reading_early, heard_as}
+use Rattle.iss_session.specs.Links.{LinkHeard, unfinished, outcome, acknowledged, dropped, reading_early, heard_as}
 use Rattle.iss_link.specs.Causes.{UnfinishedOnlyAt, ConnectionOnlyAt, ApplicationExactly, RefusedExactly, PartExactly, AcknowledgedExactly, DroppedExactly}
 
 either : {A B C : Type 0} → (A → C) → (B → C) → A ⊎ B → C
@@ -23,19 +23,19 @@ either f g (inr b) = g b
 
 -- ---- what is heard as what
 
-abbrev is_unfinished : Heard → Bool
+abbrev is_unfinished : LinkHeard → Bool
 is_unfinished unfinished = true
 is_unfinished _ = false
 
-abbrev outcome_in : Heard → Outcome
+abbrev outcome_in : LinkHeard → Outcome
 outcome_in (outcome call o) = o
 outcome_in _ = Funded
 
-abbrev is_outcome : Heard → Bool
+abbrev is_outcome : LinkHeard → Bool
 is_outcome (outcome call o) = true
 is_outcome _ = false
 
-abbrev is_acknowledged : Heard → Bool
+abbrev is_acknowledged : LinkHeard → Bool
 is_acknowledged (acknowledged n) = true
 is_acknowledged _ = false
 
@@ -52,11 +52,11 @@ is_part (Partial currency amount) = true
 is_part _ = false
 
 -- what a whole answer means for a notice
-either_told : (test : Heard → Bool) (b : Bool) (n : ℕ) → test (acknowledged n) ≡ false → test (dropped n) ≡ false → test (cond b (acknowledged n) (dropped n)) ≡ false
+either_told : (test : LinkHeard → Bool) (b : Bool) (n : ℕ) → test (acknowledged n) ≡ false → test (dropped n) ≡ false → test (cond b (acknowledged n) (dropped n)) ≡ false
 either_told test true n p q = p
 either_told test false n p q = q
 
-more_only : (instance : ℕ) (subject : Subject) (reading : Reading) → heard_as (outcome_of instance) subject reading ≡ unfinished → reading ≡ more
+more_only : (instance : ℕ) (subject : Subject) (reading : AnswerReading) → heard_as (outcome_of instance) subject reading ≡ unfinished → reading ≡ more
 more_only instance subject more e = refl
 more_only instance (of_call o) ended e = absurd (true≢false (sym (ap is_unfinished e)))
 more_only instance (of_call o) garbled e = absurd (true≢false (sym (ap is_unfinished e)))
@@ -66,11 +66,11 @@ more_only instance (of_notice n) garbled e = absurd (true≢false (sym (ap is_un
 more_only instance (of_notice n) (whole status body) e =
     absurd (true≢false (sym (ap is_unfinished e) ∙ either_told is_unfinished (status == OK) n refl refl))
 
-ended_only : (instance : ℕ) (subject : Subject) (reading : Reading) (call : CallId) → heard_as (outcome_of instance) subject reading ≡ outcome call Connection → reading ≡ ended
+ended_only : (instance : ℕ) (subject : Subject) (reading : AnswerReading) (call : CallId) → heard_as (outcome_of instance) subject reading ≡ outcome call Connection → reading ≡ ended
 ended_only instance subject ended call e = refl
 ended_only instance (of_call o) more call e = absurd (true≢false (ap is_unfinished e))
 ended_only instance (of_notice n) more call e = absurd (true≢false (ap is_unfinished e))
-ended_only instance (of_call o) garbled call e = absurd (true≢false (ap (λ (h : Heard). is_application (outcome_in h)) e))
+ended_only instance (of_call o) garbled call e = absurd (true≢false (ap (λ (h : LinkHeard). is_application (outcome_in h)) e))
 ended_only instance (of_call o) (whole status body) call e =
     absurd (no_connection instance o status body (ap outcome_in e))
 ended_only instance (of_notice n) garbled call e = absurd (true≢false (sym (ap is_outcome e)))
@@ -79,7 +79,7 @@ ended_only instance (of_notice n) (whole status body) call e =
 
 -- ---- by what a take brought
 
-not_early : (early : Bool) (reading : Reading) → (reading_early early reading ≡ garbled → ⊥) → reading_early early reading ≡ reading
+not_early : (early : Bool) (reading : AnswerReading) → (reading_early early reading ≡ garbled → ⊥) → reading_early early reading ≡ reading
 not_early true reading other = absurd (other refl)
 not_early false reading other = refl
 
@@ -110,7 +110,7 @@ connection_only instance link call (Some (b ∷ piece)) early e =
 pub application_exactly : ApplicationExactly
 application_exactly instance o more = (λ e. absurd (true≢false (ap is_unfinished e)), either (λ e. absurd (true≢false (ap is_more e))) (λ w. absurd (true≢false (ap is_more w.is))))
 application_exactly instance o ended =
-    (λ e. absurd (true≢false (sym (ap (λ (h : Heard). is_application (outcome_in h)) e))), either (λ e. absurd (true≢false (ap is_ended e))) (λ w. absurd (true≢false (ap is_ended w.is))))
+    (λ e. absurd (true≢false (sym (ap (λ (h : LinkHeard). is_application (outcome_in h)) e))), either (λ e. absurd (true≢false (ap is_ended e))) (λ w. absurd (true≢false (ap is_ended w.is))))
 application_exactly instance o garbled = (λ e. inl refl, λ w. refl)
 application_exactly instance o (whole status body) = (
   λ e. inr (record { status = status; body = body; is = refl; so = ap outcome_in e }),
@@ -128,8 +128,8 @@ is_number n m e = grind (arith, nat_tests)
 
 pub refused_exactly : RefusedExactly
 refused_exactly instance o more = (λ e. absurd (true≢false (ap is_unfinished e)), λ w. absurd (true≢false (ap is_more w.is)))
-refused_exactly instance o ended = (λ e. absurd (true≢false (sym (ap (λ (h : Heard). is_refused (outcome_in h)) e))), λ w. absurd (true≢false (ap is_ended w.is)))
-refused_exactly instance o garbled = (λ e. absurd (true≢false (sym (ap (λ (h : Heard). is_refused (outcome_in h)) e))), λ w. absurd (not_whole w.status w.body w.is))
+refused_exactly instance o ended = (λ e. absurd (true≢false (sym (ap (λ (h : LinkHeard). is_refused (outcome_in h)) e))), λ w. absurd (true≢false (ap is_ended w.is)))
+refused_exactly instance o garbled = (λ e. absurd (true≢false (sym (ap (λ (h : LinkHeard). is_refused (outcome_in h)) e))), λ w. absurd (not_whole w.status w.body w.is))
   where
     not_whole : (status : ℕ) (body : List ℕ) → garbled ≡ whole status body → ⊥
     not_whole status body e = cc
@@ -143,8 +143,8 @@ refused_exactly instance o (whole status body) = (
 
 pub part_exactly : PartExactly
 part_exactly instance o c x more = (λ e. absurd (true≢false (ap is_unfinished e)), λ w. absurd (true≢false (ap is_more w.is)))
-part_exactly instance o c x ended = (λ e. absurd (true≢false (sym (ap (λ (h : Heard). is_part (outcome_in h)) e))), λ w. absurd (true≢false (ap is_ended w.is)))
-part_exactly instance o c x garbled = (λ e. absurd (true≢false (sym (ap (λ (h : Heard). is_part (outcome_in h)) e))), λ w. absurd (not_whole w.status w.body w.is))
+part_exactly instance o c x ended = (λ e. absurd (true≢false (sym (ap (λ (h : LinkHeard). is_part (outcome_in h)) e))), λ w. absurd (true≢false (ap is_ended w.is)))
+part_exactly instance o c x garbled = (λ e. absurd (true≢false (sym (ap (λ (h : LinkHeard). is_part (outcome_in h)) e))), λ w. absurd (not_whole w.status w.body w.is))
   where
     not_whole : (status : ℕ) (body : List ℕ) → garbled ≡ whole status body → ⊥
     not_whole status body e = cc

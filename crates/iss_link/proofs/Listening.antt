@@ -26,28 +26,28 @@ use Rattle.iss_http.specs.declared.answers.Answer.{Answer}
 use Rattle.iss_http.specs.declared.answers.Answer.TheVariants as answer
 use Rattle.iss_http.specs.Heard as came
 use Rattle.iss_http.specs.Heads.{is_empty}
-use Rattle.iss_http.specs.Answers.{Reading, more, ended, garbled, whole, IsReadAs}
+use Rattle.iss_http.specs.Answers.{AnswerReading, more, ended, garbled, whole, IsReadAs}
 use Rattle.iss_jit.specs.Outcomes.{outcome_of}
 use Rattle.iss_session.specs.Items.{is_piece}
 use Rattle.iss_session.specs.Desks.{Subject, of_call, of_notice}
-use Rattle.iss_session.specs.Links.{Link, Heard, unfinished, outcome, acknowledged, dropped, link_reading, heard_as, piece_of, links_with, links_without, links_after, MayReadEarly}
+use Rattle.iss_session.specs.Links.{Link, LinkHeard, unfinished, outcome, acknowledged, dropped, link_reading, heard_as, piece_of, links_with, links_without, links_after, MayReadEarly}
 use Rattle.iss_session.specs.Hearings.{link_at}
 use Rattle.iss_model.specs.declared.call.Opened.{Opened}
 use Rattle.iss_model.specs.declared.input.Outcome.{Outcome}
 use Rattle.iss_link.specs.declared.heard.Heard as rust
 use Rattle.iss_link.specs.declared.heard.Heard.TheVariants as variant
 use Rattle.iss_link.specs.Values.{LinksNow, heard_of, joined, HasRead}
-use Rattle.iss_link.specs.Hearing.{Reads, Answers, Listens, closing, channels_after, got_in}
+use Rattle.iss_link.specs.Hearing.{ReadsLink, Answers, Listens, closing, channels_after, got_in}
 
 -- ---- how soon a bad head is told
 
 -- the bytes of a link are read as this, with a bad head told at once or not
-pub record ReadEarly (link : Link) (piece : List ℕ) (reading : Reading) : Type 0 where
+pub record ReadEarly (link : Link) (piece : List ℕ) (reading : AnswerReading) : Type 0 where
   pub early : Bool
   pub may : MayReadEarly link (Some piece) early
   pub is : reading ≡ link_reading link (Some piece) early
 
-pub read_early : (link : Link) (piece : List ℕ) (reading : Reading) → IsReadAs (link.bytes ++ piece) (is_empty piece) reading → ReadEarly link piece reading
+pub read_early : (link : Link) (piece : List ℕ) (reading : AnswerReading) → IsReadAs (link.bytes ++ piece) (is_empty piece) reading → ReadEarly link piece reading
 read_early link piece more read = record { early = false; may = tt; is = sym read }
 read_early link piece ended read = record { early = false; may = tt; is = sym read }
 read_early link piece (whole status body) read = record { early = false; may = tt; is = sym read }
@@ -57,7 +57,7 @@ read_early link piece garbled (inr hopeless) = record { early = true; may = hope
 -- ---- an answer is something that was heard
 
 -- something was heard
-abbrev pub IsAnswer : Heard → Type 0
+abbrev pub IsAnswer : LinkHeard → Type 0
 IsAnswer unfinished = ⊥
 IsAnswer _ = Unit {0}
 
@@ -73,31 +73,31 @@ is_answer read (of_notice n) (answer.Whole status body) = either (status == 200)
 is_answer read (of_notice n) answer.Garbled = tt
 is_answer read (of_notice n) answer.Ended = tt
 
-links_gone : (ch : Channel) (piece : List ℕ) (links : List Link) (h : Heard) → IsAnswer h → links_after ch piece links h ≡ links_without ch links
+links_gone : (ch : Channel) (piece : List ℕ) (links : List Link) (h : LinkHeard) → IsAnswer h → links_after ch piece links h ≡ links_without ch links
 links_gone ch piece links unfinished is = absurd is
 links_gone ch piece links (outcome call o) is = refl
 links_gone ch piece links (acknowledged n) is = refl
 links_gone ch piece links (dropped n) is = refl
 
-closed : (ch : Channel) (h : Heard) → IsAnswer h → closing ch h ≡ Close ch ∷ []
+closed : (ch : Channel) (h : LinkHeard) → IsAnswer h → closing ch h ≡ Close ch ∷ []
 closed ch unfinished is = absurd is
 closed ch (outcome call o) is = refl
 closed ch (acknowledged n) is = refl
 closed ch (dropped n) is = refl
 
-pub channels_closed : (ch : Channel) (h : Heard) (channels : Channels) → IsAnswer h → channels_after ch h channels ≡ after_close ch channels
+pub channels_closed : (ch : Channel) (h : LinkHeard) (channels : Channels) → IsAnswer h → channels_after ch h channels ≡ after_close ch channels
 channels_closed ch unfinished channels is = absurd is
 channels_closed ch (outcome call o) channels is = refl
 channels_closed ch (acknowledged n) channels is = refl
 channels_closed ch (dropped n) channels is = refl
 
 -- what was heard of a link's subject
-pub answered : (instance : ℕ) (subject : Subject) (a : Answer) (h : Heard) → h ≡ heard_as (outcome_of instance) subject (came.reading_of a) → IsAnswer h
+pub answered : (instance : ℕ) (subject : Subject) (a : Answer) (h : LinkHeard) → h ≡ heard_as (outcome_of instance) subject (came.reading_of a) → IsAnswer h
 answered instance subject a h e = subst IsAnswer (sym e) (is_answer (outcome_of instance) subject a)
 
 -- ---- what a take came to
 
-pub heard_nothing : (instance : ℕ) (before after : List Link) (ch : Channel) (got : Option (List ℕ)) → Reads ch got before after None
+pub heard_nothing : (instance : ℕ) (before after : List Link) (ch : Channel) (got : Option (List ℕ)) → ReadsLink ch got before after None
     → Answers (record { instance = instance; links = before }) (record { instance = instance; links = after }) ch got unfinished
 heard_nothing instance before after ch got reads =
     record {
@@ -120,7 +120,7 @@ subject_at (Some l) link subject e is = is ∙ ap (λ (x : Link). x.subject) (so
     some_link : (a b : Link) → Some a ≡ Some b → a ≡ b
     some_link a b e = cc
 
-pub heard_answer : (instance : ℕ) (before between after : List Link) (ch : Channel) (got : Option (List ℕ)) (a : Answer) (subject : Subject) (h : Heard) → Reads ch got before between (Some a)
+pub heard_answer : (instance : ℕ) (before between after : List Link) (ch : Channel) (got : Option (List ℕ)) (a : Answer) (subject : Subject) (h : LinkHeard) → ReadsLink ch got before between (Some a)
     → IfSome (link_at ch before) (λ link. subject ≡ link.subject) → h ≡ heard_as (outcome_of instance) subject (came.reading_of a) → after ≡ links_without ch between
     → Answers (record { instance = instance; links = before }) (record { instance = instance; links = after }) ch got h
 heard_answer instance before between after ch got a subject h reads about said gone =
@@ -135,7 +135,7 @@ heard_answer instance before between after ch got a subject h reads about said g
       links = gone ∙ reads.others ∙ sym (links_gone ch (piece_of got) before h (answered instance subject a h said));
     }
 
-pub told_answer : (instance : ℕ) (subject : Subject) (a : Answer) (h : Heard) (ch : Channel) (got : Option (List ℕ)) (x y z : Option World) (i j k : Option (List Answered))
+pub told_answer : (instance : ℕ) (subject : Subject) (a : Answer) (h : LinkHeard) (ch : Channel) (got : Option (List ℕ)) (x y z : Option World) (i j k : Option (List Answered))
     → h ≡ heard_as (outcome_of instance) subject (came.reading_of a)
     → Told (Adds [] (Took ch got ∷ [])) (outer_of x i) (outer_of y j) → (IsSome k → Told (Closes ch) y z) → Told HearsNothing j k
     → Told (Adds (closing ch h) (Took ch got ∷ [])) (outer_of x i) (outer_of z k)
@@ -165,7 +165,7 @@ one_piece buffer (Some n) room bound = within (length (take n buffer)) (let size
 closes : (starts stands : List ℕ → ℕ → Type 0) (j level : ℕ) (ch : Channel) → ((bytes : List ℕ) → starts bytes j → stands bytes j) → GoesOn starts stands starts j j (with_levels level (Close ch ∷ []))
 closes starts stands j level ch shows = still_goes_on starts stands j (with_levels level (Close ch ∷ [])) shows (refl, tt) (omega arith, tt)
 
-pub closing_goes_on : (starts stands : List ℕ → ℕ → Type 0) (j level : ℕ) (ch : Channel) (h : Heard) → ((bytes : List ℕ) → starts bytes j → stands bytes j)
+pub closing_goes_on : (starts stands : List ℕ → ℕ → Type 0) (j level : ℕ) (ch : Channel) (h : LinkHeard) → ((bytes : List ℕ) → starts bytes j → stands bytes j)
     → GoesOn starts stands starts j j (with_levels level (closing ch h))
 closing_goes_on starts stands j level ch unfinished shows = still_goes_on starts stands j [] shows tt tt
 closing_goes_on starts stands j level ch (outcome call o) shows = closes starts stands j level ch shows
@@ -203,7 +203,7 @@ listens_err before after ch result e channels f g x y buffer count is room bound
 -- no answer is whole yet
 pub listens_on : {E : Type 0} (instance : ℕ) (before after : List Link) (ch : Channel) (channels : Channels) (f g : Faults) (x y : Option Outer) (buffer : List ℕ) (count : Option ℕ)
     → length buffer ≡ 4096 → IfSome count (λ n. n ≤ length buffer) → (count ≡ None → Rose (count_of (take_fault channels ch) f) (count_of (take_fault channels ch) g))
-    → Told (Adds [] (Took ch (got_in buffer count) ∷ [])) x y → Reads ch (got_in buffer count) before after None
+    → Told (Adds [] (Took ch (got_in buffer count) ∷ [])) x y → ReadsLink ch (got_in buffer count) before after None
     → Listens {E = E} (record { instance = instance; links = before }) (record { instance = instance; links = after }) ch (Ok variant.Nothing) channels f g x y
 listens_on instance before after ch channels f g x y buffer count room bound failed told reads =
     record {
@@ -220,7 +220,7 @@ pub listens_ok : {E : Type 0} (instance : ℕ) (before between after : List Link
     (x y z : Option World) (i j k : Option (List Answered)) (buffer : List ℕ) (count : Option ℕ)
     → length buffer ≡ 4096 → IfSome count (λ n. n ≤ length buffer) → (count ≡ None → Rose (count_of (take_fault channels ch) f) (count_of (take_fault channels ch) g)) → Later f g → Later g h
     → Told (Adds [] (Took ch (got_in buffer count) ∷ [])) (outer_of x i) (outer_of y j) → (IsSome k → Told (Closes ch) y z) → Told HearsNothing j k
-    → Reads ch (got_in buffer count) before between (Some a) → IfSome (link_at ch before) (λ link. subject ≡ link.subject) → heard_of said ≡ heard_as (outcome_of instance) subject (came.reading_of a)
+    → ReadsLink ch (got_in buffer count) before between (Some a) → IfSome (link_at ch before) (λ link. subject ≡ link.subject) → heard_of said ≡ heard_as (outcome_of instance) subject (came.reading_of a)
     → after ≡ links_without ch between
     → Listens {E = E} (record { instance = instance; links = before }) (record { instance = instance; links = after }) ch (Ok said) channels f h (outer_of x i) (outer_of z k)
 listens_ok instance before between after ch said a subject channels f g h x y z i j k buffer count room bound failed first second told closes quiet reads about heard gone =
@@ -244,7 +244,7 @@ module _ (ch : Channel) (piece : List ℕ) where
       ∙ sym (ap (λ (b : Bool). cond b (joined l piece ∷ front ++ link ∷ rest) (l ∷ links_with ch piece (front ++ link ∷ rest))) others.0)
 
   module _ {E : Type 0} (before after : List Link) where
-    fed_reads : (said : Option Answer) → ChangesFirst (λ l. l.ch.0 == ch.0) (λ x y. HasRead {E = E} x piece (Ok said) y) before after → Reads ch (Some piece) before after said
+    fed_reads : (said : Option Answer) → ChangesFirst (λ l. l.ch.0 == ch.0) (λ x y. HasRead {E = E} x piece (Ok said) y) before after → ReadsLink ch (Some piece) before after said
     fed_reads said changes =
         let reading = read_early changes.was piece (came.heard said) changes.changed.read in
         record {
@@ -267,15 +267,15 @@ module _ (ch : Channel) (piece : List ℕ) where
         if_none (Some a) e = tt
 
     -- what a link's bytes told
-    pub fed_reads_if : (told : Result (Option Answer) E) → ChangesFirst (λ l. l.ch.0 == ch.0) (λ x y. HasRead x piece told y) before after → IfOk told (Reads ch (Some piece) before after)
+    pub fed_reads_if : (told : Result (Option Answer) E) → ChangesFirst (λ l. l.ch.0 == ch.0) (λ x y. HasRead x piece told y) before after → IfOk told (ReadsLink ch (Some piece) before after)
     fed_reads_if (Ok said) changes = fed_reads said changes
     fed_reads_if (Err e) changes = tt
 
 -- a take that failed ends a link's bytes
-pub failed_reads : (ch : Channel) (links : List Link) → IsSome (link_at ch links) → Reads ch None links links (Some answer.Ended)
+pub failed_reads : (ch : Channel) (links : List Link) → IsSome (link_at ch links) → ReadsLink ch None links links (Some answer.Ended)
 failed_reads ch links some = by (link_at ch links) refl some
   where
-    by : (o : Option Link) → link_at ch links ≡ o → IsSome o → Reads ch None links links (Some answer.Ended)
+    by : (o : Option Link) → link_at ch links ≡ o → IsSome o → ReadsLink ch None links links (Some answer.Ended)
     by None e some = absurd (true≢false (sym some))
     by (Some link) e some = record { link = link; found = e; early = false; may = tt; reading = refl; kept = tt; others = refl }
 

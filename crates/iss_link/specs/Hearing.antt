@@ -16,7 +16,7 @@ use Rattle.iss_model.specs.declared.call.Opened.{Opened}
 use Rattle.iss_model.specs.declared.input.Outcome.{Outcome}
 use Rattle.iss_session.specs.Desks.{of_call}
 use Rattle.iss_session.specs.Items.{is_piece}
-use Rattle.iss_session.specs.Links.{Link, unfinished, link_reading, heard_as, piece_of, links_with, links_without, links_after, MayReadEarly}
+use Rattle.iss_session.specs.Links.{Link, unfinished, link_reading, heard_as, piece_of, links_with, links_without, links_after, MayReadEarly, LinkHeard}
 use Rattle.iss_session.specs.Links as link
 use Rattle.iss_session.specs.Hearings.{link_at}
 use Rattle.iss_link.specs.declared.heard.Heard.{Heard}
@@ -28,7 +28,7 @@ got_in buffer count = option_map (λ n. take n buffer) count
 
 -- A link received what a take brought. This is what its bytes then are. As long as no answer is whole, the bytes are kept. The other links
 -- stay as they are.
-pub record Reads (ch : Channel) (got : Option (List ℕ)) (before after : List Link) (said : Option Answer) : Type 0 where
+pub record ReadsLink (ch : Channel) (got : Option (List ℕ)) (before after : List Link) (said : Option Answer) : Type 0 where
   pub link : Link
   pub found : link_at ch before ≡ Some link
   pub early : Bool
@@ -38,18 +38,18 @@ pub record Reads (ch : Channel) (got : Option (List ℕ)) (before after : List L
   pub others : links_without ch after ≡ links_without ch before
 
 -- a channel is closed after its answer was heard
-abbrev pub closing : Channel → link.Heard → List Action
+abbrev pub closing : Channel → LinkHeard → List Action
 closing ch unfinished = []
 closing ch _ = Close ch ∷ []
 
 -- after its close a channel isn't open
-abbrev pub channels_after : Channel → link.Heard → Channels → Channels
+abbrev pub channels_after : Channel → LinkHeard → Channels → Channels
 channels_after ch unfinished channels = channels
 channels_after ch _ channels = after_close ch channels
 
 -- A take brought this, what it was heard as by the link's subject and all of its bytes, and the links then: without the one whose
 -- answer was heard.
-pub record Answers (before after : LinksNow) (ch : Channel) (got : Option (List ℕ)) (said : link.Heard) : Type 0 where
+pub record Answers (before after : LinksNow) (ch : Channel) (got : Option (List ℕ)) (said : LinkHeard) : Type 0 where
   pub link : Link
   pub found : link_at ch before.links ≡ Some link
   pub early : Bool
@@ -82,7 +82,7 @@ ListensOn channels faults told heard old new before after ch result =
 -- some records stands for them.
 abbrev pub ClosingsAreGood : (starts stands : List ℕ → ℕ → Type 0) → Type 0
 ClosingsAreGood starts stands =
-    (ch : Channel) → (said : link.Heard) → (j level : ℕ) → ((bytes : List ℕ) → starts bytes j → stands bytes j)
+    (ch : Channel) → (said : LinkHeard) → (j level : ℕ) → ((bytes : List ℕ) → starts bytes j → stands bytes j)
     → GoesOn starts stands starts j j (with_levels level (closing ch said))
 
 -- the answer to the request of an opened call means this outcome

@@ -6,9 +6,9 @@ use Rattle.iss_http.specs.Answers.{IsReadAs}
 use Rattle.iss_http.specs.Heads.{is_empty}
 use Rattle.iss_http.specs.Heard as came
 use Rattle.iss_session.specs.Desks as desk
-use Rattle.iss_session.specs.Desks.{Subject, of_call, of_notice}
+use Rattle.iss_session.specs.Desks.{Subject, of_call, of_notice, TextFate}
 use Rattle.iss_session.specs.Links as link
-use Rattle.iss_session.specs.Links.{Link}
+use Rattle.iss_session.specs.Links.{Link, LinkHeard}
 use Rattle.iss_session.specs.Hearings.{link_at}
 use Rattle.iss_link.specs.declared.watched.About.{About}
 use Rattle.iss_link.specs.declared.watched.About.TheVariants as about
@@ -53,21 +53,21 @@ pub record HasRead {E : Type 0} (before : Link) (piece : List ℕ) (told : Resul
   pub kept : IfOk told (λ said. IfNone said (after ≡ joined before piece))
 
 -- how far a link's answer has come
-abbrev pub state_of : Link → LinkState
-state_of l = if is_empty l.bytes then Waiting else Reading
+abbrev pub link_state : Link → LinkState
+link_state l = if is_empty l.bytes then Waiting else Reading
 
 -- how far the answer on a channel has come, if it is watched
 abbrev pub state_on : Channel → List Link → Option LinkState
-state_on ch links = option_map state_of (link_at ch links)
+state_on ch links = option_map link_state (link_at ch links)
 
 -- what became of a text to the gateway
-abbrev pub gone_as : Gone → desk.Gone
+abbrev pub gone_as : Gone → TextFate
 gone_as (gone.Asked opened ch) = desk.reached ch (of_call opened)
 gone_as (gone.Noted number ch) = desk.reached ch (of_notice number)
 gone_as (gone.Unreached call) = desk.unreached call
 
 -- what a take on a link came to
-abbrev pub heard_of : Heard → link.Heard
+abbrev pub heard_of : Heard → LinkHeard
 heard_of heard.Nothing = link.unfinished
 heard_of (heard.Outcome call outcome) = link.outcome call outcome
 heard_of (heard.Acked number) = link.acknowledged number

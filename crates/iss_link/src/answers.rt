@@ -14,7 +14,7 @@ ghost use Rattle.iss_session.specs.Links.{heard_as};
 ghost use Rattle.iss_session.specs.declared.piece.TheConstants.{LONGEST_PIECE};
 ghost use Rattle.iss_session.specs.Hearings.{link_at};
 ghost use Rattle.iss_link.specs.Values.{subject_of, heard_of, links_at};
-ghost use Rattle.iss_link.specs.Hearing.{Reads, ListensOn, MeansOutcome, TakeFaultRose, got_in, channels_after};
+ghost use Rattle.iss_link.specs.Hearing.{ReadsLink, ListensOn, MeansOutcome, TakeFaultRose, got_in, channels_after};
 
 use crate::Heard;
 use crate::watched::{About, Watched};
@@ -101,7 +101,7 @@ fn read(
 ) -> Result<Option<Answer>, AllocError>
     requires watched { IsSome (link_at ch (things_of links.old)) }
     requires bound { IfSome got (λ count. count ≤ length buffer.now) }
-    ensures reads { IfOk result (Reads ch (got_in buffer.now got) (things_of links.old) (things_of links.new)) }
+    ensures reads { IfOk result (ReadsLink ch (got_in buffer.now got) (things_of links.old) (things_of links.new)) }
 {
     match got {
         None => Ok(Some(Answer::Ended)),
@@ -117,7 +117,7 @@ fn feed(
     piece: &[u8],
 ) -> Result<Option<Answer>, AllocError>
     requires watched { IsSome (link_at ch (things_of links.old)) }
-    ensures { IfOk result (Reads ch (Some piece.now) (things_of links.old) (things_of links.new)) }
+    ensures { IfOk result (ReadsLink ch (Some piece.now) (things_of links.old) (things_of links.new)) }
 {
     let Some(said) = links.receive(alloc, ch, piece) else {
         unreachable!()

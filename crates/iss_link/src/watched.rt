@@ -3,7 +3,7 @@ ghost use Rattle.std.specs.Prelude.{◌≡◌, ◌++◌, [], true, IfOk, IfNone,
 ghost use Rattle.iss_http.specs.Answers.{IsReadAs};
 ghost use Rattle.iss_http.specs.Heads.{is_empty};
 ghost use Rattle.iss_http.specs.Heard.{heard};
-ghost use Rattle.iss_link.specs.Values.{subject_of, state_of, bytes_of, joined};
+ghost use Rattle.iss_link.specs.Values.{subject_of, link_state, bytes_of, joined};
 
 use crate::LinkState;
 use iss_channels::{OnChannel, Receives};
@@ -73,7 +73,7 @@ impl Watched {
 
     /// How far the answer has come.
     pub(crate) fn state(&self) -> LinkState
-        ensures { result ≡ state_of self.now }
+        ensures { result ≡ link_state self.now }
     {
         match self.reader {
             None => LinkState::Waiting,

@@ -16,7 +16,7 @@ use Rattle.iss_model.specs.state.Cores.{Outbox, with_acked}
 use Rattle.iss_notice.specs.declared.notices.NoticeFault.{NoticeFault}
 use Rattle.iss_notice.specs.declared.notices.NoticeFault.TheVariants as fault
 use Rattle.iss_notice.specs.Pending.{is_made, is_pending, pending_notice}
-use Rattle.iss_notice.specs.Kept.{IsAtNumber, AreKept}
+use Rattle.iss_notice.specs.Kept.{IsAtNumber, AreNoticesKept}
 
 abbrev Entry : Type 0
 Entry = ℕ × Notice
@@ -49,19 +49,19 @@ kept_push made (x ∷ es) n notice e own all =
     (record { own = all.0.own; first = all.0.first; last = let last = all.0.last in omega arith }, kept_push made es n notice e own all.1)
 
 -- one more notice
-pub kept_more : (made n : ℕ) (old new : BTreeMap ℕ Notice) (notice : Notice) → AreKept made old → n ≡ made + 1 → notice.number ≡ n
-    → new.entries ≡ insert_entry nat_cmp old.entries n notice → tree.IsOrdered nat_cmp new → AreKept n new
+pub kept_more : (made n : ℕ) (old new : BTreeMap ℕ Notice) (notice : Notice) → AreNoticesKept made old → n ≡ made + 1 → notice.number ≡ n
+    → new.entries ≡ insert_entry nat_cmp old.entries n notice → tree.IsOrdered nat_cmp new → AreNoticesKept n new
 kept_more made n old new notice a e own entries rising = record {
   each = subst (λ (es : List Entry). AllByRecursion (IsAtNumber n) es) (sym (entries ∙ goes_last made old.entries n notice e a.each)) (kept_push made old.entries n notice e own a.each);
   rising = rising;
 }
 
-pub values_more : (made n : ℕ) (old new : BTreeMap ℕ Notice) (notice : Notice) → AreKept made old → n ≡ made + 1 → new.entries ≡ insert_entry nat_cmp old.entries n notice
+pub values_more : (made n : ℕ) (old new : BTreeMap ℕ Notice) (notice : Notice) → AreNoticesKept made old → n ≡ made + 1 → new.entries ≡ insert_entry nat_cmp old.entries n notice
     → values new ≡ values old ++ notice ∷ []
 values_more made n old new notice a e entries = ap (λ (es : List Entry). values_of es) (entries ∙ goes_last made old.entries n notice e a.each) ∙ values_push old.entries n notice
 
 -- no notice, in an empty tree
-pub kept_none : (pending : BTreeMap ℕ Notice) → pending.entries ≡ [] → tree.IsOrdered nat_cmp pending → AreKept 0 pending
+pub kept_none : (pending : BTreeMap ℕ Notice) → pending.entries ≡ [] → tree.IsOrdered nat_cmp pending → AreNoticesKept 0 pending
 kept_none pending e rising = record { each = subst (λ (es : List Entry). AllByRecursion (IsAtNumber 0) es) (sym e) tt; rising = rising }
 
 all_without : (P : Entry → Type 0) (test : ℕ → Bool) (es : List Entry) → AllByRecursion P es → AllByRecursion P (remove_entry test es)
@@ -73,7 +73,7 @@ all_without P test (x ∷ es) all =
     ]
 
 -- one less notice
-pub kept_less : (made n : ℕ) (old new : BTreeMap ℕ Notice) → AreKept made old → new.entries ≡ remove_entry (is_at (nat_cmp n)) old.entries → tree.IsOrdered nat_cmp new → AreKept made new
+pub kept_less : (made n : ℕ) (old new : BTreeMap ℕ Notice) → AreNoticesKept made old → new.entries ≡ remove_entry (is_at (nat_cmp n)) old.entries → tree.IsOrdered nat_cmp new → AreNoticesKept made new
 kept_less made n old new a entries rising = record {
   each = subst (λ (es : List Entry). AllByRecursion (IsAtNumber made) es) (sym entries) (all_without (IsAtNumber made) (is_at (nat_cmp n)) old.entries a.each);
   rising = rising;
@@ -108,7 +108,7 @@ less made n [] all rising = refl
 less made n (x ∷ es) all rising =
     less_by made n x es (is_at (nat_cmp n) x.0) refl (ap (λ (k : ℕ). n == k) all.0.own ∙ unsigned_ties n x.0) rising.0 all.1 (less made n es all.1 rising.1)
 
-pub values_less : (made n : ℕ) (old new : BTreeMap ℕ Notice) → AreKept made old → new.entries ≡ remove_entry (is_at (nat_cmp n)) old.entries → values new ≡ filter (is_other n) (values old)
+pub values_less : (made n : ℕ) (old new : BTreeMap ℕ Notice) → AreNoticesKept made old → new.entries ≡ remove_entry (is_at (nat_cmp n)) old.entries → values new ≡ filter (is_other n) (values old)
 values_less made n old new a entries = ap (λ (es : List Entry). values_of es) entries ∙ less made n old.entries a.each a.rising
 
 turned : (n m : ℕ) → (n == m) ≡ (m == n)
@@ -124,7 +124,7 @@ found made n (x ∷ es) all =
     ap (λ (b : Bool). cond b (Some x.1) (lookup (is_at (nat_cmp n)) es)) (own_test made n x all.0)
     ∙ ap (λ (o : Option Notice). cond (x.1.number == n) (Some x.1) o) (found made n es all.1)
 
-pub found_notice : (made n : ℕ) (pending : BTreeMap ℕ Notice) → AreKept made pending → lookup (is_at (nat_cmp n)) pending.entries ≡ pending_notice n (record { made = made; pending = values pending })
+pub found_notice : (made n : ℕ) (pending : BTreeMap ℕ Notice) → AreNoticesKept made pending → lookup (is_at (nat_cmp n)) pending.entries ≡ pending_notice n (record { made = made; pending = values pending })
 found_notice made n pending a = found made n pending.entries a.each
 
 some_any : (n : ℕ) (ns : List Notice) → is_some (find (λ notice. notice.number == n) ns) ≡ list_any (λ notice. notice.number == n) ns
@@ -136,7 +136,7 @@ some_any n (x ∷ ns) =
     ]
 
 -- whether a number finds one
-pub found_any : (made n : ℕ) (pending : BTreeMap ℕ Notice) → AreKept made pending → is_some (lookup (is_at (nat_cmp n)) pending.entries) ≡ is_pending n (record { made = made; pending = values pending })
+pub found_any : (made n : ℕ) (pending : BTreeMap ℕ Notice) → AreNoticesKept made pending → is_some (lookup (is_at (nat_cmp n)) pending.entries) ≡ is_pending n (record { made = made; pending = values pending })
 found_any made n pending a = ap is_some (found made n pending.entries a.each) ∙ some_any n (values pending)
 
 pub numbers : (made : ℕ) (es : List Entry) → AllByRecursion (IsAtNumber made) es → keys_of es ≡ map (λ notice. notice.number) (values_of es)
@@ -157,16 +157,16 @@ not_pending made n (x ∷ es) h all =
     other m k made n e first last h = grind (arith, nat_tests)
 
 -- a notice that wasn't made isn't pending
-pub none_pending : (made n : ℕ) (pending : BTreeMap ℕ Notice) → AreKept made pending → is_made n (record { made = made; pending = values pending }) ≡ false
+pub none_pending : (made n : ℕ) (pending : BTreeMap ℕ Notice) → AreNoticesKept made pending → is_made n (record { made = made; pending = values pending }) ≡ false
     → is_pending n (record { made = made; pending = values pending }) ≡ false
 none_pending made n pending a h = not_pending made n pending.entries h a.each
 
 -- the same of the outbox that contracts see
-pub pending_is : (made n : ℕ) (pending : BTreeMap ℕ Notice) (o : Outbox) → AreKept made pending → record { made = made; pending = values pending } ≡ o
+pub pending_is : (made n : ℕ) (pending : BTreeMap ℕ Notice) (o : Outbox) → AreNoticesKept made pending → record { made = made; pending = values pending } ≡ o
     → is_some (lookup (is_at (nat_cmp n)) pending.entries) ≡ is_pending n o
 pending_is made n pending o a e = found_any made n pending a ∙ ap (λ (x : Outbox). is_pending n x) e
 
-pub unmade : (made n : ℕ) (pending : BTreeMap ℕ Notice) (o : Outbox) → AreKept made pending → record { made = made; pending = values pending } ≡ o
+pub unmade : (made n : ℕ) (pending : BTreeMap ℕ Notice) (o : Outbox) → AreNoticesKept made pending → record { made = made; pending = values pending } ≡ o
     → is_made n o ≡ false → is_pending n o ≡ false
 unmade made n pending o a e =
     subst (λ (x : Outbox). is_made n x ≡ false → is_pending n x ≡ false) e (none_pending made n pending a)
@@ -203,7 +203,7 @@ pub refused_already : (p m : Bool) → p ≡ false → m ≡ true
 refused_already p m h k = (λ e. ap (λ (b : Bool). m && not b) h ∙ ap (λ (b : Bool). b && true) k, λ e. refl)
 
 -- the outbox after a number is taken out of what is kept
-pub outbox_less : (made n : ℕ) (old new : BTreeMap ℕ Notice) (o : Outbox) → AreKept made old → record { made = made; pending = values old } ≡ o
+pub outbox_less : (made n : ℕ) (old new : BTreeMap ℕ Notice) (o : Outbox) → AreNoticesKept made old → record { made = made; pending = values old } ≡ o
     → new.entries ≡ remove_entry (is_at (nat_cmp n)) old.entries → record { made = made; pending = values new } ≡ with_acked o n
 outbox_less made n old new o a e entries =
     ap (λ (notices : List Notice). record { made = made; pending = notices }) (values_less made n old new a entries)

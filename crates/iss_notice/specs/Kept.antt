@@ -13,6 +13,6 @@ pub record IsAtNumber (made : ℕ) (entry : ℕ × Notice) : Type 0 where
   pub last : entry.0 ≤ made
 
 -- each notice stands at its own number, in their order
-pub record AreKept (made : ℕ) (pending : BTreeMap ℕ Notice) : Type 0 where
+pub record AreNoticesKept (made : ℕ) (pending : BTreeMap ℕ Notice) : Type 0 where
   pub each : AllByRecursion (IsAtNumber made) pending.entries
   pub rising : tree.IsOrdered nat_cmp pending

@@ -31,11 +31,11 @@ impl Model for Notices {
 
     ghost Value = { Outbox };
 
-    ghost use Rattle.iss_notice.specs.Kept.{AreKept};
+    ghost use Rattle.iss_notice.specs.Kept.{AreNoticesKept};
 
     ghost view = { λ n. record { made = n.made; pending = values n.pending } };
 
-    ghost invariant = { λ n. AreKept n.made n.pending };
+    ghost invariant = { λ n. AreNoticesKept n.made n.pending };
 }
 
 impl Notices {

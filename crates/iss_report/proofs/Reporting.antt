@@ -8,7 +8,7 @@ use Rattle.iss_model.specs.rules.Facts.{Facts}
 use Rattle.iss_model.specs.rules.Histories.{history_of}
 use Rattle.iss_model.specs.state.Cores.{core_facts}
 use Rattle.iss_model.specs.texts.BalanceLines.{account_line, count_line, accounts_of, balance_lines}
-use Rattle.iss_core.specs.Values.{CoreNow, StandsFor}
+use Rattle.iss_core.specs.Values.{CoreNow, CoreStandsFor}
 use Rattle.iss_core.proofs.OnBook.{facts_on_book}
 use Rattle.iss_texts.specs.declared.row.Texts.{Texts}
 use Rattle.iss_texts.specs.TextRows.{Gains, HasNone, HasAll}
@@ -37,7 +37,7 @@ module _ (f : Facts) (accounts : List Account) (before middle after : Texts) (no
   whole_lines = record { lines = lines_by f accounts; all = all_lines }
 
 -- of the book they are the report
-pub reported : (c : CoreNow) (rs : List Record) (accounts : List Account) (before middle after : Texts) → StandsFor c rs → map account_key accounts ≡ map account_key (accounts_of (history_of rs).rows) → HasNone before
+pub reported : (c : CoreNow) (rs : List Record) (accounts : List Account) (before middle after : Texts) → CoreStandsFor c rs → map account_key accounts ≡ map account_key (accounts_of (history_of rs).rows) → HasNone before
     → Gains (map (account_line (core_facts c.state)) accounts) before middle → Gains (count_line (core_facts c.state) ∷ []) middle after → HasAll (balance_lines (history_of rs)) after
 reported c rs accounts before middle after stands keys none first last =
     let book = history_of rs in

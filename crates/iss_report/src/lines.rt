@@ -4,7 +4,7 @@ ghost use Rattle.iss_model.specs.declared.input.Record.{Record};
 ghost use Rattle.iss_model.specs.rules.Histories.{history_of};
 ghost use Rattle.iss_model.specs.state.Cores.{core_facts};
 ghost use Rattle.iss_model.specs.texts.BalanceLines.{account_line, count_line, balance_lines};
-ghost use Rattle.iss_core.specs.Values.{StandsFor};
+ghost use Rattle.iss_core.specs.Values.{CoreStandsFor};
 ghost use Rattle.iss_texts.specs.TextRows.{Gains, HasAll};
 ghost use Rattle.iss_report.specs.Reported.{held_of, AreWhole};
 
@@ -18,7 +18,7 @@ use std::alloc::{AllocError, Global};
 /// also what is held of it, in the order of `Core::accounts`; and then how many calls are open, how many notices aren't acknowledged,
 /// and how many records there are.
 pub fn report(alloc: Global, core: &Core) -> Result<Texts, AllocError>
-    ensures on_book { (rs : List Record) → StandsFor core.now rs
+    ensures on_book { (rs : List Record) → CoreStandsFor core.now rs
         → IfOk result (HasAll (balance_lines (history_of rs))) }
     ensures whole { IfOk result AreWhole }
 {

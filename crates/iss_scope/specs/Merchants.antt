@@ -12,12 +12,12 @@ abbrev pub group_of : MerchantGroup → Group
 group_of g = record { name = g.name; mccs = g.mccs }
 
 -- the reason of a fault; a failed allocation has none
-abbrev pub fault_reason : GroupFault → Option Reason
-fault_reason fault.Exists = Some reason.Exists
-fault_reason fault.Limit = Some reason.Limit
-fault_reason fault.OutOfMemory = None
+abbrev pub group_fault_reason : GroupFault → Option Reason
+group_fault_reason fault.Exists = Some reason.Exists
+group_fault_reason fault.Limit = Some reason.Limit
+group_fault_reason fault.OutOfMemory = None
 
 -- the reason of a result
-abbrev pub reason_of_result : {A : Type 0} → Result A GroupFault → Option Reason
-reason_of_result (Ok x) = None
-reason_of_result (Err f) = fault_reason f
+abbrev pub group_result_reason : {A : Type 0} → Result A GroupFault → Option Reason
+group_result_reason (Ok x) = None
+group_result_reason (Err f) = group_fault_reason f

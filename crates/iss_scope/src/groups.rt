@@ -3,7 +3,7 @@ ghost use Rattle.std.specs.Prelude.{◌≡◌, ◌∷◌, ◌++◌, [], false, i
 ghost use Rattle.iss_model.specs.declared.decision.Reason.TheVariants as reason;
 ghost use Rattle.iss_model.specs.rules.Controls.{group_named, holds_mcc};
 ghost use Rattle.iss_model.specs.rules.Reasons.{first_reason, is_full};
-ghost use Rattle.iss_scope.specs.Merchants.{reason_of_result};
+ghost use Rattle.iss_scope.specs.Merchants.{group_result_reason};
 
 use iss_index::Index;
 use iss_model::limits::MOST_OF_A_KIND;
@@ -70,7 +70,7 @@ impl Groups {
     pub fn add(&mut self, alloc: Global, name: &Token, mccs: &[u16]) -> Result<(), GroupFault>
         ensures added { OnOk result (self.new ≡ self.old ++ record { name = name.now; mccs = mccs.now } ∷ []) }
         ensures refused { OnErr result (self.new ≡ self.old) }
-        ensures reason { reason_of_result result ≡ first_reason ((is_some (group_named name.now self.old), reason.Exists)
+        ensures reason { group_result_reason result ≡ first_reason ((is_some (group_named name.now self.old), reason.Exists)
             ∷ (is_full self.old, reason.Limit) ∷ []) }
     {
         if self.has(name) {

@@ -14,7 +14,7 @@ use Rattle.iss_store.specs.Values.{StoreNow}
 use Rattle.iss_store.specs.Standing.{region_under, StandsFor, AreHistory}
 use Rattle.iss_store.specs.Serving.{tasks_pending, tasks_pending_on_book}
 use Rattle.iss_serve.specs.Closings.{open_channels}
-use Rattle.iss_serve.specs.Goings.{GoesPart, GoesToEnd}
+use Rattle.iss_serve.specs.Goings.{SessionGoesPart, GoesToEnd}
 use Rattle.iss_serve.specs.Held.{HeldNow, Stage, idle, sending, session_at}
 use Rattle.iss_serve.specs.Runs.{ServesOn, ServesSome, ServesToEnd, ServesUpTo, session_on}
 use Rattle.iss_serve.proofs.Going.{goes_self, goes_part, goes_to_end}
@@ -55,7 +55,7 @@ module _ (store : StoreNow) (turns : ℕ) (h : HeldNow) (is : h ≡ fresh store 
       record {
         on_book =
             λ rs stands.
-            subst (λ (s : Session). GoesPart failed program_readers (region_under store) s a b) (first_session rs stands) (p.on_book rs stands);
+            subst (λ (s : Session). SessionGoesPart failed program_readers (region_under store) s a b) (first_session rs stands) (p.on_book rs stands);
       }
 
   pub told_up_to : (failed : Type 0) (x y : Option Outer) → Told (ServesSome failed (first_stage store h)) x y → Told (ServesUpTo failed store turns) x y

@@ -7,11 +7,11 @@ use Rattle.iss_channels.proofs.Changes.{others_same}
 use Rattle.iss_edge.specs.declared.outside.Channel.{Channel}
 use Rattle.iss_http.specs.declared.faults.FeedFault.{FeedFault}
 use Rattle.iss_http.specs.Requests.{request, answered, IsCause}
-use Rattle.iss_session.specs.Sessions.{Reader}
+use Rattle.iss_session.specs.Sessions.{OpenRequest}
 use Rattle.iss_session.specs.Hearings.{is_reading, bytes_on, readers_with, readers_without}
 use Rattle.iss_serve.specs.Clients.{HasRead}
 
-some_reads : (ch : Channel) (clients : List Reader) → is_some (find (λ r. r.ch.0 == ch.0) clients) ≡ is_reading ch clients
+some_reads : (ch : Channel) (clients : List OpenRequest) → is_some (find (λ r. r.ch.0 == ch.0) clients) ≡ is_reading ch clients
 some_reads ch [] = refl
 some_reads ch (r ∷ clients) = first (r.ch.0 == ch.0) (some_reads ch clients)
   where
@@ -20,31 +20,31 @@ some_reads ch (r ∷ clients) = first (r.ch.0 == ch.0) (some_reads ch clients)
     first false rest = rest
 
 -- a client that is found on a channel reads there
-pub reads_as : (ch : Channel) (clients : List Reader) (found : Option (Bor Reader)) → option_copied found ≡ find (λ r. r.ch.0 == ch.0) clients → is_some found ≡ is_reading ch clients
+pub reads_as : (ch : Channel) (clients : List OpenRequest) (found : Option (Bor OpenRequest)) → option_copied found ≡ find (λ r. r.ch.0 == ch.0) clients → is_some found ≡ is_reading ch clients
 reads_as ch clients found e = by found ∙ ap is_some e ∙ some_reads ch clients
   where
-    by : (o : Option (Bor Reader)) → is_some o ≡ is_some (option_copied o)
+    by : (o : Option (Bor OpenRequest)) → is_some o ≡ is_some (option_copied o)
     by None = refl
     by (Some r) = refl
 
 -- and nobody does if none is on it
-pub none_reads : (ch : Channel) (clients : List Reader) → AllByRecursion (λ r. (r.ch.0 == ch.0) ≡ false) clients → is_reading ch clients ≡ true → ⊥
+pub none_reads : (ch : Channel) (clients : List OpenRequest) → AllByRecursion (λ r. (r.ch.0 == ch.0) ≡ false) clients → is_reading ch clients ≡ true → ⊥
 none_reads ch [] none reading = true≢false (sym reading)
 none_reads ch (r ∷ clients) none reading = none_reads ch clients none.1 (sym (ap (λ (b : Bool). b || is_reading ch clients) none.0) ∙ reading)
 
 module _ (ch : Channel) where
-  bytes_by : (front rest : List Reader) (r : Reader) → AllByRecursion (λ x. (x.ch.0 == ch.0) ≡ false) front → (r.ch.0 == ch.0) ≡ true → bytes_on ch (front ++ r ∷ rest) ≡ r.bytes
+  bytes_by : (front rest : List OpenRequest) (r : OpenRequest) → AllByRecursion (λ x. (x.ch.0 == ch.0) ≡ false) front → (r.ch.0 == ch.0) ≡ true → bytes_on ch (front ++ r ∷ rest) ≡ r.bytes
   bytes_by [] rest r others own = ap (λ (b : Bool). cond b r.bytes (bytes_on ch rest)) own
   bytes_by (x ∷ front) rest r others own = ap (λ (b : Bool). cond b x.bytes (bytes_on ch (front ++ r ∷ rest))) others.0 ∙ bytes_by front rest r others.1 own
 
-  with_by : (bytes : List ℕ) (front rest : List Reader) (r : Reader) → AllByRecursion (λ x. (x.ch.0 == ch.0) ≡ false) front → (r.ch.0 == ch.0) ≡ true
+  with_by : (bytes : List ℕ) (front rest : List OpenRequest) (r : OpenRequest) → AllByRecursion (λ x. (x.ch.0 == ch.0) ≡ false) front → (r.ch.0 == ch.0) ≡ true
       → front ++ record r { bytes = bytes } ∷ rest ≡ readers_with ch bytes (front ++ r ∷ rest)
   with_by bytes [] rest r others own = sym (ap (λ (b : Bool). cond b (record r { bytes = bytes } ∷ rest) (r ∷ readers_with ch bytes rest)) own)
   with_by bytes (x ∷ front) rest r others own =
-      ap (λ (l : List Reader). x ∷ l) (with_by bytes front rest r others.1 own)
+      ap (λ (l : List OpenRequest). x ∷ l) (with_by bytes front rest r others.1 own)
       ∙ sym (ap (λ (b : Bool). cond b (record x { bytes = bytes } ∷ front ++ r ∷ rest) (x ∷ readers_with ch bytes (front ++ r ∷ rest))) others.0)
 
-  module _ {V : Type 0} (text_of : V → List ℕ) (piece : List ℕ) (told : Result (Option V) FeedFault) (before after : List Reader)
+  module _ {V : Type 0} (text_of : V → List ℕ) (piece : List ℕ) (told : Result (Option V) FeedFault) (before after : List OpenRequest)
       (changes : ChangesFirst (λ r. r.ch.0 == ch.0) (λ x y. HasRead text_of x piece told y) before after) where
     bytes_were : bytes_on ch before ≡ changes.was.bytes
     bytes_were = ap (bytes_on ch) changes.found ∙ bytes_by changes.front changes.rest changes.was changes.others changes.own
@@ -58,7 +58,7 @@ module _ (ch : Channel) where
     fed_with : changes.is ≡ record changes.was { bytes = changes.was.bytes ++ piece } → after ≡ readers_with ch (bytes_on ch before ++ piece) before
     fed_with e =
         changes.then
-        ∙ ap (λ (r : Reader). changes.front ++ r ∷ changes.rest) (e ∙ ap (λ (bytes : List ℕ). record changes.was { bytes = bytes ++ piece }) (sym bytes_were))
+        ∙ ap (λ (r : OpenRequest). changes.front ++ r ∷ changes.rest) (e ∙ ap (λ (bytes : List ℕ). record changes.was { bytes = bytes ++ piece }) (sym bytes_were))
         ∙ with_by (bytes_on ch before ++ piece) changes.front changes.rest changes.was changes.others changes.own
         ∙ ap (readers_with ch (bytes_on ch before ++ piece)) (sym changes.found)
 

@@ -13,8 +13,8 @@ use Rattle.iss_edge.proofs.StretchLemmas.{sent_weaker}
 use Rattle.iss_journal.specs.Region.{Region}
 use Rattle.iss_model.specs.declared.input.Record.{Record}
 use Rattle.iss_model.specs.run.Runs.{Run}
-use Rattle.iss_session.specs.Items.{Item, Happening, hears, judges, judging, is_answer_to, answers_of}
-use Rattle.iss_session.specs.Desks.{Task, to_dial, to_send, to_reply, Desk, Gone, next_for, next_of_tasks, desk_change, FitsDesk}
+use Rattle.iss_session.specs.Items.{HeardItem, Happening, hears, judges, judging, is_answer_to, answers_of}
+use Rattle.iss_session.specs.Desks.{Task, to_dial, to_send, to_reply, Desk, TextFate, next_for, next_of_tasks, desk_change, FitsDesk}
 use Rattle.iss_session.specs.Sessions.{Readers, Session, count, next_of}
 use Rattle.iss_session.specs.Judgements.{judged_first}
 use Rattle.iss_session.specs.Levels.{AreStillAt}
@@ -26,11 +26,11 @@ use Rattle.iss_session.proofs.Runs.{run_item}
 use Rattle.iss_session.proofs.StillSteps.{steps_still, steps_sent, last_still}
 use Rattle.iss_store.specs.Values.{StoreNow}
 use Rattle.iss_store.specs.Standing.{region_under, StandsFor}
-use Rattle.iss_store.specs.Goings as device
+use Rattle.iss_store.specs.Goings.{StepsGo, StepsGoPart}
 use Rattle.iss_store.specs.Committing.{Keeps, KeepsPart}
 use Rattle.iss_store.proofs.Goings as joins
 use Rattle.iss_store.proofs.NextRecords.{with_record}
-use Rattle.iss_serve.specs.Goings.{has_come, NoWaitFailed, records_in, Goes, GoesPart, GoesToEnd}
+use Rattle.iss_serve.specs.Goings.{has_come, NoWaitFailed, records_in, SessionGoes, SessionGoesPart, GoesToEnd}
 
 -- ---- what a session's last closes are
 
@@ -76,8 +76,8 @@ came_then xs ys p q =
     ∙ list_all-append has_come (answers_of xs) (answers_of ys)
     ∙ and_from (list_all has_come (answers_of xs)) (list_all has_come (answers_of ys)) p q
 
-module _ (read : Readers) (region : Region) (s t : Session) (a b c : Outer) (p : Goes read region s t a b) where
-  pub goes_then : (u : Session) → Goes read region t u b c → Goes read region s u a c
+module _ (read : Readers) (region : Region) (s t : Session) (a b c : Outer) (p : SessionGoes read region s t a b) where
+  pub goes_then : (u : Session) → SessionGoes read region t u b c → SessionGoes read region s u a c
   goes_then u q =
       record {
         happenings = p.happenings ++ q.happenings;
@@ -86,11 +86,11 @@ module _ (read : Readers) (region : Region) (s t : Session) (a b c : Outer) (p :
         came = came_then p.happenings q.happenings p.came q.came;
         ends = after_then read s t p.happenings q.happenings p.ends ∙ q.ends;
         goes =
-            subst (λ (l : List Step). device.Goes region (records_in s) (records_in u) l a.world c.world) (sym (did_then read s t p.happenings q.happenings p.ends))
+            subst (λ (l : List Step). StepsGo region (records_in s) (records_in u) l a.world c.world) (sym (did_then read s t p.happenings q.happenings p.ends))
             (joins.goes_then region (records_in s) (records_in t) (records_in u) (session_steps read s p.happenings) (session_steps read t q.happenings) a.world b.world c.world p.goes q.goes);
       }
 
-  pub goes_then_part : (failed : Type 0) → GoesPart failed read region t b c → GoesPart failed read region s a c
+  pub goes_then_part : (failed : Type 0) → SessionGoesPart failed read region t b c → SessionGoesPart failed read region s a c
   goes_then_part failed q =
       let said = session_steps read s p.happenings ++ q.said in
       record {
@@ -104,11 +104,11 @@ module _ (read : Readers) (region : Region) (s t : Session) (a b c : Outer) (p :
             ∙ ap (λ (x : List Step). session_steps read s p.happenings ++ x) q.cut
             ∙ sym (append_assoc (session_steps read s p.happenings) q.said q.undone);
         part =
-            subst (λ (m : Session). device.GoesPart region (records_in s) (records_in m) said a.world c.world) (sym (after_then read s t p.happenings q.happenings p.ends))
+            subst (λ (m : Session). StepsGoPart region (records_in s) (records_in m) said a.world c.world) (sym (after_then read s t p.happenings q.happenings p.ends))
             (joins.goes_then_part region (records_in s) (records_in t) (records_in (session_after read t q.happenings)) (session_steps read s p.happenings) q.said a.world b.world c.world p.goes q.part);
         whole = elim q.whole [
           | inl goes ↦
-              inl (subst (λ (m : Session). device.Goes region (records_in s) (records_in m) said a.world c.world) (sym (after_then read s t p.happenings q.happenings p.ends))
+              inl (subst (λ (m : Session). StepsGo region (records_in s) (records_in m) said a.world c.world) (sym (after_then read s t p.happenings q.happenings p.ends))
               (joins.goes_then region (records_in s) (records_in t) (records_in (session_after read t q.happenings)) (session_steps read s p.happenings) q.said a.world b.world c.world p.goes goes))
           | inr fails ↦ inr fails
         ];
@@ -130,7 +130,7 @@ module _ (read : Readers) (region : Region) (s t : Session) (a b c : Outer) (p :
       }
 
 -- what a session went on to is a part of it
-pub goes_part : (failed : Type 0) (read : Readers) (region : Region) (s t : Session) (a b : Outer) → Goes read region s t a b → GoesPart failed read region s a b
+pub goes_part : (failed : Type 0) (read : Readers) (region : Region) (s t : Session) (a b : Outer) → SessionGoes read region s t a b → SessionGoesPart failed read region s a b
 goes_part failed read region s t a b p =
     record {
       happenings = p.happenings;
@@ -140,16 +140,16 @@ goes_part failed read region s t a b p =
       undone = [];
       cut = sym (append-nil (session_steps read s p.happenings));
       part =
-          subst (λ (m : Session). device.GoesPart region (records_in s) (records_in m) (session_steps read s p.happenings) a.world b.world) (sym p.ends)
+          subst (λ (m : Session). StepsGoPart region (records_in s) (records_in m) (session_steps read s p.happenings) a.world b.world) (sym p.ends)
           (joins.goes_part region (records_in s) (records_in t) (session_steps read s p.happenings) a.world b.world p.goes);
-      whole = inl (subst (λ (m : Session). device.Goes region (records_in s) (records_in m) (session_steps read s p.happenings) a.world b.world) (sym p.ends) p.goes);
+      whole = inl (subst (λ (m : Session). StepsGo region (records_in s) (records_in m) (session_steps read s p.happenings) a.world b.world) (sym p.ends) p.goes);
     }
 
 -- ---- what makes no record
 
 -- what neither writes nor makes a record
 pub still_goes : (read : Readers) (region : Region) (s t : Session) (happenings : List Happening) (a b : Outer) → Fits read s happenings → NoWaitFailed happenings → session_after read s happenings ≡ t → records_in t ≡ records_in s
-    → b.world.device ≡ a.world.device → b.heard ≡ a.heard ++ answers_of happenings → b.world.trace ≡ a.world.trace ++ actions_of (session_steps read s happenings) → Goes read region s t a b
+    → b.world.device ≡ a.world.device → b.heard ≡ a.heard ++ answers_of happenings → b.world.trace ≡ a.world.trace ++ actions_of (session_steps read s happenings) → SessionGoes read region s t a b
 still_goes read region s t happenings a b fits came ends same unwritten heard trace =
     let steps = session_steps read s happenings in
     let whole : count (session_after read s happenings) ≡ count s = ap count ends ∙ ap (λ (l : List Record). length l) same in
@@ -161,17 +161,17 @@ still_goes read region s t happenings a b fits came ends same unwritten heard tr
       came = came;
       ends = ends;
       goes =
-          subst (λ (l : List Record). device.Goes region (records_in s) l steps a.world b.world) (sym same)
+          subst (λ (l : List Record). StepsGo region (records_in s) l steps a.world b.world) (sym same)
           (joins.still_goes region (records_in s) steps a.world b.world (steps_still read s happenings) sent unwritten trace);
     }
 
-pub goes_self : (read : Readers) (region : Region) (s : Session) (a : Outer) → Goes read region s s a a
+pub goes_self : (read : Readers) (region : Region) (s : Session) (a : Outer) → SessionGoes read region s s a a
 goes_self read region s a =
     still_goes read region s s [] a a tt refl refl refl refl (sym (append-nil a.heard)) (sym (append-nil a.world.trace))
 
 -- an answer that was called for, with what the session does then
-pub heard_goes : (read : Readers) (region : Region) (s : Session) (item : Item) (a b : Outer) → IsNext s item → has_come item.answer ≡ true
-    → Adds (actions_of (session_change read s (hears item)).steps) (item.answer ∷ []) a b → Goes read region s (session_change read s (hears item)).session a b
+pub heard_goes : (read : Readers) (region : Region) (s : Session) (item : HeardItem) (a b : Outer) → IsNext s item → has_come item.answer ≡ true
+    → Adds (actions_of (session_change read s (hears item)).steps) (item.answer ∷ []) a b → SessionGoes read region s (session_change read s (hears item)).session a b
 heard_goes read region s item a b next came adds =
     let c = session_change read s (hears item) in
     still_goes read region s c.session (hears item ∷ []) a b (next, tt) (and_from (has_come item.answer) true came refl) refl (ap (λ (run : Run). run.history.records) (run_item read s item s.desk.tasks))
@@ -191,14 +191,14 @@ text_came (task ∷ tasks) (Took ch got) e = refl
 text_came (task ∷ tasks) (Dialled ch) e = refl
 text_came (task ∷ tasks) (Emitted ch ok) e = refl
 
-desk_came : (level : ℕ) (d : Desk) (items : List Item) → FitsDesk level d items → NoWaitFailed (all_heard items)
+desk_came : (level : ℕ) (d : Desk) (items : List HeardItem) → FitsDesk level d items → NoWaitFailed (all_heard items)
 desk_came level d [] fits = refl
 desk_came level d (item ∷ items) fits =
     and_from (has_come item.answer) (list_all has_come (answers_of (all_heard items))) (text_came d.tasks item.answer fits.0.answers)
     (desk_came level (desk_change level d item).desk items fits.1)
 
 -- what a desk did for its texts
-pub sends_goes : (read : Readers) (region : Region) (s : Session) (e : Desk) (gone : List Gone) (a b : Outer) → Sends (count s) s.desk e gone a b → Goes read region s (with_desk s e gone) a b
+pub sends_goes : (read : Readers) (region : Region) (s : Session) (e : Desk) (gone : List TextFate) (a b : Outer) → Sends (count s) s.desk e gone a b → SessionGoes read region s (with_desk s e gone) a b
 sends_goes read region s e gone a b p =
     still_goes read region s (with_desk s e gone) (all_heard p.items) a b (desk_fits_session read s p.items p.fits) (desk_came (count s) s.desk p.items p.fits)
     (desk_in_session read s p.items p.fits ∙ λ i. with_desk s (p.ends i) (p.became i)) refl p.device
@@ -207,7 +207,7 @@ sends_goes read region s e gone a b p =
 
 -- an input was judged that makes no record
 pub told_goes : (read : Readers) (region : Region) (s : Session) (a b : Outer) → next_of s ≡ judging → records_in (judged_first s s.queue) ≡ records_in s → Adds [] [] a b
-    → Goes read region s (judged_first s s.queue) a b
+    → SessionGoes read region s (judged_first s s.queue) a b
 told_goes read region s a b next same adds =
     still_goes read region s (judged_first s s.queue) (judges ∷ []) a b (next, tt) refl refl same adds.device adds.heard adds.trace
 
@@ -215,7 +215,7 @@ told_goes read region s a b next same adds =
 
 module _ (read : Readers) (store : StoreNow) (s : Session) (r : Record) (a b : Outer) (next : next_of s ≡ judging) (stands : StandsFor store (records_in s))
     (made : records_in (judged_first s s.queue) ≡ with_record (records_in s) r) (quiet : b.heard ≡ a.heard) where
-  pub commit_goes : Keeps store r a.world b.world → Goes read (region_under store) s (judged_first s s.queue) a b
+  pub commit_goes : Keeps store r a.world b.world → SessionGoes read (region_under store) s (judged_first s s.queue) a b
   commit_goes keeps =
       record {
         happenings = judges ∷ [];
@@ -224,12 +224,12 @@ module _ (read : Readers) (store : StoreNow) (s : Session) (r : Record) (a b : O
         came = refl;
         ends = refl;
         goes =
-            subst (λ (l : List Record). device.Goes (region_under store) (records_in s) l [] a.world b.world) (sym made)
+            subst (λ (l : List Record). StepsGo (region_under store) (records_in s) l [] a.world b.world) (sym made)
             (keeps.goes (records_in s) stands);
       }
 
   -- a part of it, before anything is said
-  pub commit_goes_part : (failed : Type 0) → failed → KeepsPart store r a.world b.world → GoesPart failed read (region_under store) s a b
+  pub commit_goes_part : (failed : Type 0) → failed → KeepsPart store r a.world b.world → SessionGoesPart failed read (region_under store) s a b
   commit_goes_part failed fails keeps =
       record {
         happenings = judges ∷ [];
@@ -239,7 +239,7 @@ module _ (read : Readers) (store : StoreNow) (s : Session) (r : Record) (a b : O
         undone = [];
         cut = refl;
         part =
-            subst (λ (l : List Record). device.GoesPart (region_under store) (records_in s) l [] a.world b.world) (sym made)
+            subst (λ (l : List Record). StepsGoPart (region_under store) (records_in s) l [] a.world b.world) (sym made)
             (keeps.goes (records_in s) stands);
         whole = inr fails;
       }

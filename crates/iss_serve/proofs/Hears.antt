@@ -18,7 +18,7 @@ use Rattle.iss_session.specs.Sessions.{Queued}
 use Rattle.iss_session.specs.Hearings.{is_reading, is_waiting, is_linked, link_at, readers_without, inputs_of}
 use Rattle.iss_session.specs.Sendings.{Sends}
 use Rattle.iss_link.specs.declared.heard.Heard.{Heard}
-use Rattle.iss_link.specs.Values.{LinksNow, heard_of, state_of, state_on}
+use Rattle.iss_link.specs.Values.{LinksNow, heard_of, link_state, state_on}
 use Rattle.iss_link.specs.declared.heard.LinkState.{LinkState}
 use Rattle.iss_link.specs.Hearing.{Listens, closing}
 use Rattle.iss_store.specs.Values.{StoreNow}
@@ -130,9 +130,9 @@ unlinked ch links e = by (link_at ch links) e
     no_state : (s : LinkState) → Some s ≡ None → ⊥
     no_state s e = cc
 
-    by : (o : Option Link) → option_map state_of o ≡ None → o ≡ None
+    by : (o : Option Link) → option_map link_state o ≡ None → o ≡ None
     by None e = refl
-    by (Some l) e = absurd (no_state (state_of l) e)
+    by (Some l) e = absurd (no_state (link_state l) e)
 
 not_linked : (ch : Channel) (links : List Link) → link_at ch links ≡ None → is_linked ch links ≡ false
 not_linked ch [] e = refl
@@ -176,6 +176,6 @@ state_there ch links s e = by (link_at ch links) e
     no_state : (s : LinkState) → None ≡ Some s → ⊥
     no_state s e = cc
 
-    by : (o : Option Link) → option_map state_of o ≡ Some s → IsSome o
+    by : (o : Option Link) → option_map link_state o ≡ Some s → IsSome o
     by None e = absurd (no_state s e)
     by (Some l) e = refl

@@ -31,7 +31,7 @@ use Rattle.iss_store.specs.Standing.{region_under, StandsFor}
 use Rattle.iss_store.specs.Committing.{Commits, CommitsOnBook, Keeps, KeepsPart}
 use Rattle.iss_store.specs.Serving.{tasks_of_record, all_gone, SendsAll, SendsPart}
 use Rattle.iss_store.proofs.NextRecords.{with_record}
-use Rattle.iss_serve.specs.Goings.{records_in, Goes}
+use Rattle.iss_serve.specs.Goings.{records_in, SessionGoes}
 use Rattle.iss_serve.specs.Held.{HeldNow, Stage, to_judge, sending, answer_unreached, answers_unreached, call_unreached, noted, session_at}
 use Rattle.iss_serve.specs.Judged.{judged_again, waiting_for, IsPlannedFor}
 use Rattle.iss_serve.specs.Runs.{ServesOn, ServesSome}
@@ -96,7 +96,7 @@ module _ (store : StoreNow) (h : HeldNow) (q : Queued) (rest : List Queued) wher
                 now = rs;
                 stands = stands;
                 goes =
-                    subst (λ (t : Session). Goes program_readers (region_under store) (start rs) t x x) (told_so rs stands)
+                    subst (λ (t : Session). SessionGoes program_readers (region_under store) (start rs) t x x) (told_so rs stands)
                     (told_goes program_readers (region_under store) (start rs) x x refl (ap records_in (told_so rs stands))
                     (record { device = refl; trace = sym (append-nil x.world.trace); heard = sym (append-nil x.heard) }));
               };
@@ -200,7 +200,7 @@ module _ (store : StoreNow) (h : HeldNow) (q : Queued) (rest : List Queued) wher
                   now = rs ++ p.accepted ∷ [];
                   stands = (on_book rs stands).stands;
                   goes =
-                      subst (λ (t : Session). Goes program_readers (region_under store) (start rs) t x y) (leads rs stands)
+                      subst (λ (t : Session). SessionGoes program_readers (region_under store) (start rs) t x y) (leads rs stands)
                       (commit_goes program_readers store (start rs) p.accepted x y refl (stands_there rs stands) (one_made rs stands) going.heard going.world);
                 };
           }

@@ -19,7 +19,7 @@ use Rattle.iss_session.specs.Sendings.{Sends}
 use Rattle.iss_http.specs.Messages.{respond}
 use Rattle.iss_model.specs.texts.AnswerLines.{answer_text}
 use Rattle.iss_session.specs.Sessions.{Queued}
-use Rattle.iss_session.specs.Judgements.{status_of, answer_tasks}
+use Rattle.iss_session.specs.Judgements.{answer_status, answer_tasks}
 use Rattle.iss_link.specs.declared.gone.Gone as link
 use Rattle.iss_store.specs.declared.fault.PlanFault.TheVariants as plan_fault
 use Rattle.iss_store.specs.declared.fault.StoreFault.{StoreFault}
@@ -134,11 +134,11 @@ told_nobody store h first client a x e =
 -- to its client
 pub told_client_answer : (store : StoreNow) (h now : HeldNow) (first : List Queued) (client : Option Channel) (ch : Channel) (a : Answer) (x y : Option Outer) → client ≡ Some ch
     → now ≡ record h { served = waiters_without ch h.served }
-    → Told (Sends store.core.state.count (desk_with (to_reply ch (respond (status_of a) (answer_text a)) ∷ []) h.served) (desk_with [] (waiters_without ch h.served)) []) x y
+    → Told (Sends store.core.state.count (desk_with (to_reply ch (respond (answer_status a) (answer_text a)) ∷ []) h.served) (desk_with [] (waiters_without ch h.served)) []) x y
     → Told (ServesOn (sending store h first (answer_tasks client a)) (to_judge store now first)) x y
 told_client_answer store h now first client ch a x y e is p =
     subst (λ (c : Option Channel). Told (ServesOn (sending store h first (answer_tasks c a)) (to_judge store now first)) x y) (sym e)
-    (told_replied store h now ch (respond (status_of a) (answer_text a)) (respond (status_of a) (answer_text a)) first x y refl is p)
+    (told_replied store h now ch (respond (answer_status a) (answer_text a)) (respond (answer_status a) (answer_text a)) first x y refl is p)
 
 -- ---- after a record fewer may still come
 

@@ -9,12 +9,12 @@ use Rattle.iss_model.specs.declared.call.CallId.{CallId}
 use Rattle.iss_model.specs.declared.call.Opened.{Opened}
 use Rattle.iss_model.specs.declared.input.Outcome.{Outcome}
 use Rattle.iss_model.proofs.Lists.{find_passes}
-use Rattle.iss_http.specs.Answers.{Reading, more, ended, garbled, whole}
+use Rattle.iss_http.specs.Answers.{AnswerReading, more, ended, garbled, whole}
 use Rattle.iss_jit.specs.Outcomes.{outcome_of}
 use Rattle.iss_session.specs.Desks.{Subject, of_call, of_notice}
 use Rattle.iss_session.specs.Hearings.{links_of}
 use Rattle.iss_session.specs.Items.{same_channel}
-use Rattle.iss_session.specs.Links.{Link, Heard, unfinished, outcome, acknowledged, dropped, heard_as, link_reading, piece_of, links_after, links_with, links_without}
+use Rattle.iss_session.specs.Links.{Link, LinkHeard, unfinished, outcome, acknowledged, dropped, heard_as, link_reading, piece_of, links_after, links_with, links_without}
 use Rattle.iss_link.specs.declared.gone.Gone as link
 use Rattle.iss_link.specs.declared.gone.Gone.TheVariants.{Asked, Noted, Unreached}
 use Rattle.iss_link.specs.Hearing.{Answers}
@@ -54,7 +54,7 @@ watched_numbered before after g e h links =
 
 -- ---- what is heard
 
-heard_numbered : (read : Opened → ℕ → List ℕ → Outcome) (subject : Subject) (reading : Reading) → is_about_number subject ≡ true → is_heard_numbered (heard_as read subject reading) ≡ true
+heard_numbered : (read : Opened → ℕ → List ℕ → Outcome) (subject : Subject) (reading : AnswerReading) → is_about_number subject ≡ true → is_heard_numbered (heard_as read subject reading) ≡ true
 heard_numbered read (of_call o) more h = refl
 heard_numbered read (of_call o) ended h = h
 heard_numbered read (of_call o) garbled h = h
@@ -68,7 +68,7 @@ heard_numbered read (of_notice n) (whole status body) h = by (status == 200)
     by true = h
     by false = refl
 
-pub answer_numbered : (before after : LinksNow) (ch : Channel) (got : Option (List ℕ)) (said : Heard) → Answers before after ch got said → LinksNumbered before.links → is_heard_numbered said ≡ true
+pub answer_numbered : (before after : LinksNow) (ch : Channel) (got : Option (List ℕ)) (said : LinkHeard) → Answers before after ch got said → LinksNumbered before.links → is_heard_numbered said ≡ true
 answer_numbered before after ch got said answers links =
     ap is_heard_numbered answers.answer
     ∙ heard_numbered (outcome_of before.instance) answers.link.subject (link_reading answers.link got answers.early)
@@ -95,11 +95,11 @@ without_numbered ch (l ∷ links) h =
     by true first rest = ap₂ (λ (a c : Bool). a && c) first rest
     by false first rest = rest
 
-after_numbered : (ch : Channel) (piece : List ℕ) (links : List Link) (said : Heard) → LinksNumbered links → LinksNumbered (links_after ch piece links said)
+after_numbered : (ch : Channel) (piece : List ℕ) (links : List Link) (said : LinkHeard) → LinksNumbered links → LinksNumbered (links_after ch piece links said)
 after_numbered ch piece links unfinished h = with_numbered ch piece links h
 after_numbered ch piece links (outcome call what) h = without_numbered ch links h
 after_numbered ch piece links (acknowledged number) h = without_numbered ch links h
 after_numbered ch piece links (dropped number) h = without_numbered ch links h
 
-pub left_numbered : (before after : LinksNow) (ch : Channel) (got : Option (List ℕ)) (said : Heard) → Answers before after ch got said → LinksNumbered before.links → LinksNumbered after.links
+pub left_numbered : (before after : LinksNow) (ch : Channel) (got : Option (List ℕ)) (said : LinkHeard) → Answers before after ch got said → LinksNumbered before.links → LinksNumbered after.links
 left_numbered before after ch got said answers links = subst LinksNumbered (sym answers.links) (after_numbered ch (piece_of got) before.links said links)

@@ -28,8 +28,7 @@ use Rattle.iss_session_examples.specs.Program.{program_readers}
 use Rattle.iss_session_examples.proofs.ClientLines.{program_reads_events}
 use Rattle.iss_store.specs.Values.{StoreNow}
 use Rattle.iss_store.specs.Standing.{region_under, AreHistory, StandsFor, DeviceStandsFor}
-use Rattle.iss_store.specs.Goings.{channel_steps}
-use Rattle.iss_store.specs.Goings as device
+use Rattle.iss_store.specs.Goings.{channel_steps, StepsGo, StepsGoPart}
 use Rattle.iss_store.proofs.Goings as joins
 use Rattle.iss_store.specs.Opening.{is_on_device, AreOnDevice, OpensGood, ReadsAlone, OpenedAs}
 use Rattle.iss_device.specs.Runs.{run_at}
@@ -39,7 +38,7 @@ use Rattle.iss_device.proofs.Devices.{stands_opened, run_opened, rests_stands}
 use Rattle.iss_store.proofs.NextRecords.{first_self}
 use Rattle.iss_device.proofs.Firmly.{stops_stand}
 use Rattle.iss_device.proofs.Moments.{opening_on_device, trace_opened, not_opened_moments, not_opened_unsynced, opened_moments, opened_unsynced, rests_now, ends_at_rest}
-use Rattle.iss_serve.specs.Goings.{records_in, GoesPart}
+use Rattle.iss_serve.specs.Goings.{records_in, SessionGoesPart}
 use Rattle.iss_serve.specs.Runs.{EndsWith}
 use Rattle.iss_serve.specs.ServeRuns.{session_on_device, session_then, steps_said, records_then, IsDoneInPart, DoneAt, AllClosed, ServeOn}
 
@@ -147,20 +146,20 @@ module _ (turns instance : ℕ) (rs : List Record) (s : StoreNow) (a b d : Outer
   made happenings = records_are (run_at s rs) turns rs happenings refl
 
   -- what was done from the session's start was done from the records that stood
-  part_there : (happenings : List Happening) (said : List Step) → device.GoesPart (region_under s) (records_in start) (records_in (session_then start happenings)) said b.world d.world
-      → device.GoesPart (region_under s) rs (records_then rs start happenings) said b.world d.world
+  part_there : (happenings : List Happening) (said : List Step) → StepsGoPart (region_under s) (records_in start) (records_in (session_then start happenings)) said b.world d.world
+      → StepsGoPart (region_under s) rs (records_then rs start happenings) said b.world d.world
   part_there happenings said part =
-      subst (λ (l : List Record). device.GoesPart (region_under s) rs l said b.world d.world) (made happenings)
-      (subst (λ (l : List Record). device.GoesPart (region_under s) l (records_in (session_then start happenings)) said b.world d.world) (records_history rs) part)
+      subst (λ (l : List Record). StepsGoPart (region_under s) rs l said b.world d.world) (made happenings)
+      (subst (λ (l : List Record). StepsGoPart (region_under s) l (records_in (session_then start happenings)) said b.world d.world) (records_history rs) part)
 
-  goes_there : (happenings : List Happening) (last : Session) (said : List Step) → session_then start happenings ≡ last → device.Goes (region_under s) (records_in start) (records_in last) said b.world d.world
-      → device.Goes (region_under s) rs (records_then rs start happenings) said b.world d.world
+  goes_there : (happenings : List Happening) (last : Session) (said : List Step) → session_then start happenings ≡ last → StepsGo (region_under s) (records_in start) (records_in last) said b.world d.world
+      → StepsGo (region_under s) rs (records_then rs start happenings) said b.world d.world
   goes_there happenings last said ends goes =
-      subst (λ (l : List Record). device.Goes (region_under s) rs l said b.world d.world) (ap records_in (sym ends) ∙ made happenings)
-      (subst (λ (l : List Record). device.Goes (region_under s) l (records_in last) said b.world d.world) (records_history rs) goes)
+      subst (λ (l : List Record). StepsGo (region_under s) rs l said b.world d.world) (ap records_in (sym ends) ∙ made happenings)
+      (subst (λ (l : List Record). StepsGo (region_under s) l (records_in last) said b.world d.world) (records_history rs) goes)
 
   -- where it ends, by what was done since the start
-  whole_ends : (all : List Record) (said : List Step) (part : device.GoesPart (region_under s) rs all said b.world d.world) → device.Goes (region_under s) rs all said b.world d.world
+  whole_ends : (all : List Record) (said : List Step) (part : StepsGoPart (region_under s) rs all said b.world d.world) → StepsGo (region_under s) rs all said b.world d.world
       → EndsAtRest instance rs all (actions_of (first_steps ++ part.steps)) a.world d.world
   whole_ends all said part goes =
       let same : actions_of part.steps ≡ actions_of goes.steps =
@@ -187,7 +186,7 @@ module _ (turns instance : ℕ) (rs : List Record) (s : StoreNow) (a b d : Outer
   silent : (later : List Step) → channel_steps (first_steps ++ later) ≡ channel_steps later
   silent later = opening_silent opening.good.added later opening.good.on_device
 
-  pub serve_part : (status : ℕ) → (status ≡ 0 → ⊥) → (status ≡ 4 → ⊥) → (failed : Type 0) → (failed → status ≡ 6) → GoesPart failed program_readers (region_under s) start b d
+  pub serve_part : (status : ℕ) → (status ≡ 0 → ⊥) → (status ≡ 4 → ⊥) → (failed : Type 0) → (failed → status ≡ 6) → SessionGoesPart failed program_readers (region_under s) start b d
       → ServeOn turns status instance rs (session_on_device turns instance rs a.world.device) a d
   serve_part status not_done not_device failed of_disk p =
       let all = records_then rs start p.happenings in
@@ -241,8 +240,8 @@ module _ (turns instance : ℕ) (rs : List Record) (s : StoreNow) (a b d : Outer
       let p = ends.goes in
       let all = records_then rs start p.happenings in
       let said = steps_said start p.happenings ++ last_steps ends.last in
-      let goes : device.Goes (region_under s) rs all said b.world d.world = goes_there p.happenings ends.last said p.ends p.goes in
-      let part : device.GoesPart (region_under s) rs all said b.world d.world = joins.goes_part (region_under s) rs all said b.world d.world goes in
+      let goes : StepsGo (region_under s) rs all said b.world d.world = goes_there p.happenings ends.last said p.ends p.goes in
+      let part : StepsGoPart (region_under s) rs all said b.world d.world = joins.goes_part (region_under s) rs all said b.world d.world goes in
       let part_steps : List Step = part.steps in
       let steps = first_steps ++ part_steps in
       let heard : d.heard ≡ a.heard ++ answers_of p.happenings = p.heard ∙ ap (λ (h : List Answered). h ++ answers_of p.happenings) quiet in

@@ -9,8 +9,8 @@ use Rattle.iss_journal.specs.Region.{Region}
 use Rattle.iss_model.specs.declared.call.CallId.{CallId}
 use Rattle.iss_model.specs.declared.input.Record.{Record}
 use Rattle.iss_agreement.proofs.Records.{records_history}
-use Rattle.iss_session.specs.Items.{Item, hears}
-use Rattle.iss_session.specs.Desks.{Desk, Gone, desk_with}
+use Rattle.iss_session.specs.Items.{HeardItem, hears}
+use Rattle.iss_session.specs.Desks.{Desk, TextFate, desk_with}
 use Rattle.iss_model.specs.run.Runs.{Run}
 use Rattle.iss_session.specs.Sessions.{Readers, Session, Queued, count}
 use Rattle.iss_session.specs.Happenings.{session_change, session_after, session_steps, IsNext}
@@ -20,10 +20,10 @@ use Rattle.iss_session.proofs.DesksInSessions.{with_desk}
 use Rattle.iss_session_examples.specs.Program.{program_readers}
 use Rattle.iss_store.specs.Values.{StoreNow}
 use Rattle.iss_store.specs.Standing.{region_of, region_under, StandsFor}
-use Rattle.iss_store.specs.Goings as device
+use Rattle.iss_store.specs.Goings.{StepsGo, StepsGoPart}
 use Rattle.iss_store.proofs.Goings as joins
 use Rattle.iss_store.proofs.Histories.{count_on_book}
-use Rattle.iss_serve.specs.Goings.{has_come, records_in, Goes, GoesPart}
+use Rattle.iss_serve.specs.Goings.{has_come, records_in, SessionGoes, SessionGoesPart}
 use Rattle.iss_serve.specs.Held.{HeldNow, Stage, idle, to_judge, answers_unreached, session_at}
 use Rattle.iss_serve.specs.Runs.{ServesOn, ServesSome}
 use Rattle.iss_serve.proofs.Going.{goes_self, goes_then, goes_then_part, goes_part, heard_goes, sends_goes}
@@ -59,7 +59,7 @@ on_then x y z a b c p q =
             stands = second.stands;
             goes =
                 goes_then program_readers (region_under x.store) (session_at x rs) (session_at y first.now) a b c first.goes (session_at z second.now)
-                (subst (λ (r : Region). Goes program_readers r (session_at y first.now) (session_at z second.now) b c) (same_region x y p.instance p.to) second.goes);
+                (subst (λ (r : Region). SessionGoes program_readers r (session_at y first.now) (session_at z second.now) b c) (same_region x y p.instance p.to) second.goes);
           };
     }
 
@@ -70,7 +70,7 @@ on_then_some failed x y a b c p q =
           λ rs stands.
           let first = p.on_book rs stands in
           goes_then_part program_readers (region_under x.store) (session_at x rs) (session_at y first.now) a b c first.goes failed
-          (subst (λ (r : Region). GoesPart failed program_readers r (session_at y first.now) b c) (same_region x y p.instance p.to) (q.on_book first.now first.stands));
+          (subst (λ (r : Region). SessionGoesPart failed program_readers r (session_at y first.now) b c) (same_region x y p.instance p.to) (q.on_book first.now first.stands));
     }
 
 pub some_of_on : (failed : Type 0) (x y : Stage) (a b : Outer) → ServesOn x y a b → ServesSome failed x a b
@@ -94,7 +94,7 @@ on_same x y a same is =
             now = rs;
             stands = subst (λ (s : StoreNow). StandsFor s rs) (sym same) stands;
             goes =
-                subst (λ (t : Session). Goes program_readers (region_under x.store) (session_at x rs) t a a) (is rs)
+                subst (λ (t : Session). SessionGoes program_readers (region_under x.store) (session_at x rs) t a a) (is rs)
                 (goes_self program_readers (region_under x.store) (session_at x rs) a);
           };
     }
@@ -160,7 +160,7 @@ told_some_as failed x x' o p e t = subst (λ (s : Stage). Told (ServesSome faile
 -- ---- each kind of part, on a store that stays as it is
 
 -- an answer that was called for, if a fault keeps what the session does then from being done
-heard_goes_part : (failed : Type 0) (read : Readers) (region : Region) (s : Session) (item : Item) (a b : Outer) → IsNext s item → Adds [] (item.answer ∷ []) a b → GoesPart failed read region s a b
+heard_goes_part : (failed : Type 0) (read : Readers) (region : Region) (s : Session) (item : HeardItem) (a b : Outer) → IsNext s item → Adds [] (item.answer ∷ []) a b → SessionGoesPart failed read region s a b
 heard_goes_part failed read region s item a b next adds =
     let t = session_after read s (hears item ∷ []) in
     let same : records_in t ≡ records_in s = ap (λ (run : Run). run.history.records) (run_item read s item s.desk.tasks) in
@@ -172,11 +172,11 @@ heard_goes_part failed read region s item a b next adds =
       undone = session_steps read s (hears item ∷ []);
       cut = refl;
       part =
-          subst (λ (l : List Record). device.GoesPart region (records_in s) l [] a.world b.world) (sym same)
+          subst (λ (l : List Record). StepsGoPart region (records_in s) l [] a.world b.world) (sym same)
           (joins.goes_part region (records_in s) (records_in s) [] a.world b.world
           (joins.still_goes region (records_in s) [] a.world b.world tt tt adds.device adds.trace));
       whole =
-          inl (subst (λ (l : List Record). device.Goes region (records_in s) l [] a.world b.world) (sym same)
+          inl (subst (λ (l : List Record). StepsGo region (records_in s) l [] a.world b.world) (sym same)
           (joins.still_goes region (records_in s) [] a.world b.world tt tt adds.device adds.trace));
     }
 
@@ -185,7 +185,7 @@ abbrev pub Leads : Stage → Stage → (Session → Session) → Type 0
 Leads x y change = (rs : List Record) → change (session_at x rs) ≡ session_at y rs
 
 -- an answer that was called for, with what the session does then
-pub heard_on : (store : StoreNow) (x y : Stage) (item : Item) (actions : List Action) (a b : Outer) → x.store ≡ store → y.store ≡ store
+pub heard_on : (store : StoreNow) (x y : Stage) (item : HeardItem) (actions : List Action) (a b : Outer) → x.store ≡ store → y.store ≡ store
     → ((rs : List Record) → IsNext (session_at x rs) item) → has_come item.answer ≡ true
     → Leads x y (λ s. (session_change program_readers s (hears item)).session)
     → ((rs : List Record) → actions_of (session_change program_readers (session_at x rs) (hears item)).steps ≡ actions)
@@ -200,19 +200,19 @@ heard_on store x y item actions a b xs ys next came leads does adds =
             now = rs;
             stands = subst (λ (s : StoreNow). StandsFor s rs) (xs ∙ sym ys) stands;
             goes =
-                subst (λ (t : Session). Goes program_readers (region_under x.store) (session_at x rs) t a b) (leads rs)
+                subst (λ (t : Session). SessionGoes program_readers (region_under x.store) (session_at x rs) t a b) (leads rs)
                 (heard_goes program_readers (region_under x.store) (session_at x rs) item a b (next rs) came
                 (subst (λ (l : List Action). Adds l (item.answer ∷ []) a b) (sym (does rs)) adds));
           };
     }
 
 -- the same if a fault keeps the session's steps from being done
-pub heard_some : (failed : Type 0) (x : Stage) (item : Item) (a b : Outer) → ((rs : List Record) → IsNext (session_at x rs) item) → Adds [] (item.answer ∷ []) a b → ServesSome failed x a b
+pub heard_some : (failed : Type 0) (x : Stage) (item : HeardItem) (a b : Outer) → ((rs : List Record) → IsNext (session_at x rs) item) → Adds [] (item.answer ∷ []) a b → ServesSome failed x a b
 heard_some failed x item a b next adds =
     record { on_book = λ rs stands. heard_goes_part failed program_readers (region_under x.store) (session_at x rs) item a b (next rs) adds }
 
 -- what a desk did for its texts
-pub sends_on : (store : StoreNow) (x y : Stage) (e : Desk) (gone : List Gone) (a b : Outer) → x.store ≡ store → y.store ≡ store
+pub sends_on : (store : StoreNow) (x y : Stage) (e : Desk) (gone : List TextFate) (a b : Outer) → x.store ≡ store → y.store ≡ store
     → Leads x y (λ s. with_desk s e gone)
     → Sends x.store.core.state.count (desk_with x.tasks x.held.served) e gone a b → ServesOn x y a b
 sends_on store x y e gone a b xs ys leads sends =
@@ -225,14 +225,14 @@ sends_on store x y e gone a b xs ys leads sends =
             now = rs;
             stands = subst (λ (s : StoreNow). StandsFor s rs) (xs ∙ sym ys) stands;
             goes =
-                subst (λ (t : Session). Goes program_readers (region_under x.store) (session_at x rs) t a b) (leads rs)
+                subst (λ (t : Session). SessionGoes program_readers (region_under x.store) (session_at x rs) t a b) (leads rs)
                 (sends_goes program_readers (region_under x.store) (session_at x rs) e gone a b
                 (subst (λ (n : ℕ). Sends n (desk_with x.tasks x.held.served) e gone a b) (sym (count_at x rs stands)) sends));
           };
     }
 
 -- and what it did in part
-pub sends_some : (failed : Type 0) (x : Stage) (e : Desk) (gone : List Gone) (a b : Outer) → Sends x.store.core.state.count (desk_with x.tasks x.held.served) e gone a b → ServesSome failed x a b
+pub sends_some : (failed : Type 0) (x : Stage) (e : Desk) (gone : List TextFate) (a b : Outer) → Sends x.store.core.state.count (desk_with x.tasks x.held.served) e gone a b → ServesSome failed x a b
 sends_some failed x e gone a b sends =
     record {
       on_book =

@@ -10,10 +10,10 @@ use Rattle.iss_http.specs.Requests.{request, IsHopelessRequest}
 use Rattle.iss_model.specs.declared.call.CallId.{CallId}
 use Rattle.iss_model.specs.declared.input.Record.{Record}
 use Rattle.iss_jit.specs.Outcomes.{outcome_of}
-use Rattle.iss_session.specs.Items.{Item, Next, takes, is_piece, is_answer_to, IsTornEmit}
+use Rattle.iss_session.specs.Items.{HeardItem, Next, takes, is_piece, is_answer_to, IsTornEmit}
 use Rattle.iss_session.specs.Desks.{to_reply, desk_with, waiters_without}
-use Rattle.iss_session.specs.Links.{Link, Heard, unfinished, outcome, acknowledged, dropped, link_reading, heard_as, piece_of, links_after, MayReadEarly}
-use Rattle.iss_session.specs.Sessions.{Session, Reader, Queued, next_of, next_idle}
+use Rattle.iss_session.specs.Links.{Link, LinkHeard, unfinished, outcome, acknowledged, dropped, link_reading, heard_as, piece_of, links_after, MayReadEarly}
+use Rattle.iss_session.specs.Sessions.{Session, OpenRequest, Queued, next_of, next_idle}
 use Rattle.iss_session.specs.Hearings.{Change, change_to, is_reading, is_waiting, bytes_on, link_at, readers_without, after_reading, after_waiting, after_link, after_answer, after_take, inputs_of, link_steps, request_early, after_request}
 use Rattle.iss_session.specs.Happenings.{MayAnswerEarly, MayEndEarly, MayBeEarly, IsNext}
 use Rattle.iss_session.specs.Sendings.{Sends}
@@ -27,7 +27,7 @@ use Rattle.iss_serve.specs.Held.{HeldNow, Stage, idle, to_judge, sending, taking
 use Rattle.iss_serve.specs.Runs.{ServesOn, ServesSome}
 use Rattle.iss_serve.proofs.Stages.{heard_on, heard_some, sends_on}
 
-abbrev took : Channel → Option (List ℕ) → Bool → Item
+abbrev took : Channel → Option (List ℕ) → Bool → HeardItem
 took ch got early = record { answer = Took ch got; early = early; torn = None }
 
 -- bytes that aren't answered early may always be so
@@ -157,7 +157,7 @@ module _ (store : StoreNow) (h : HeldNow) (ch : Channel) (settled : h.unreached 
       early_request s false b rest readers cut may = tt
       early_request s true b rest readers cut may =
           λ reading.
-          subst (λ (p : List ℕ). IsHopelessRequest (bytes_on ch s.readers ++ p)) cut (subst (λ (r : List Reader). IsHopelessRequest (bytes_on ch r ++ piece)) (sym readers) (may refl))
+          subst (λ (p : List ℕ). IsHopelessRequest (bytes_on ch s.readers ++ p)) cut (subst (λ (r : List OpenRequest). IsHopelessRequest (bytes_on ch r ++ piece)) (sym readers) (may refl))
 
       may_be : (rs : List Record) → MayBeEarly (session_at (taking store h ch) rs) (took ch (Some piece) read.early) (Took ch (Some piece))
       may_be rs =
@@ -179,7 +179,7 @@ module _ (store : StoreNow) (h : HeldNow) (ch : Channel) (settled : h.unreached 
           readers_are : (s : Session) → s.readers ≡ h.clients → read_as s piece
               ≡ after_request program_readers s ch (bytes_on ch h.clients ++ piece) (request_early read.early (request (bytes_on ch h.clients ++ piece)))
           readers_are s e =
-              ap (λ (r : List Reader). after_request program_readers s ch (bytes_on ch r ++ piece) (request_early read.early (request (bytes_on ch r ++ piece)))) e
+              ap (λ (r : List OpenRequest). after_request program_readers s ch (bytes_on ch r ++ piece) (request_early read.early (request (bytes_on ch r ++ piece)))) e
 
       -- the stage that a client's bytes lead to
       came : (rs : List Record) → requested (record (session_at (taking store h ch) rs) { ready = None }) ch now.clients said ≡ session_at (came_to store now ch said) rs
@@ -243,13 +243,13 @@ module _ (store : StoreNow) (h : HeldNow) (ch : Channel) (settled : h.unreached 
     early_client s (Some (b ∷ piece)) false e = tt
     early_client s (Some (b ∷ piece)) true e = λ reading. absurd (true≢false (sym reading ∙ e))
 
-    closing_steps : (s : Session) (said : Heard) → actions_of (link_steps s ch said) ≡ closing ch said
+    closing_steps : (s : Session) (said : LinkHeard) → actions_of (link_steps s ch said) ≡ closing ch said
     closing_steps s unfinished = refl
     closing_steps s (outcome call o) = refl
     closing_steps s (acknowledged n) = refl
     closing_steps s (dropped n) = refl
 
-    pub link_heard : (now : HeldNow) (got : Option (List ℕ)) (said : Heard) (a b : Outer) → is_piece got ≡ true → now ≡ record h { links = now.links }
+    pub link_heard : (now : HeldNow) (got : Option (List ℕ)) (said : LinkHeard) (a b : Outer) → is_piece got ≡ true → now ≡ record h { links = now.links }
         → Answers h.links now.links ch got said → Adds (closing ch said) (Took ch got ∷ []) a b
         → ServesOn (taking store h ch) (to_judge store now (inputs_of said)) a b
     link_heard now got said a b fits is answers adds =

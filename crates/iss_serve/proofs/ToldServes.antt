@@ -18,14 +18,14 @@ use Rattle.iss_serve.specs.declared.fault.ServeFault.{ServeFault}
 use Rattle.iss_serve.specs.declared.fault.ServeFault.TheVariants.{Device, Wait, Disk, OutOfMemory}
 use Rattle.iss_serve.specs.Causes.{fault_of_opening, ServeCause, IsServeCaused, IsOfDisk}
 use Rattle.iss_serve.specs.Runs.{ServesToEnd, ServesUpTo}
-use Rattle.iss_serve.specs.ServeRuns.{status_of, ServeRun, OfWorlds, EndingCause, EndsCaused, ServeEndsWell}
+use Rattle.iss_serve.specs.ServeRuns.{serve_status, ServeRun, OfWorlds, EndingCause, EndsCaused, ServeEndsWell}
 use Rattle.iss_serve.proofs.Quietly.{Quietly, told_quietly}
 use Rattle.iss_serve.proofs.ServeWhole.{stands_there, serve_part, serve_whole, not_opened}
 
 -- ---- statuses
 
 abbrev pub ends_with : ServeFault → ℕ
-ends_with why = status_of {A = Unit {0}} (Err why)
+ends_with why = serve_status {A = Unit {0}} (Err why)
 
 not_done : (why : ServeFault) → ends_with why ≡ 0 → ⊥
 not_done Device e = cc
@@ -131,12 +131,12 @@ module _ (turns : ℕ) (s : StoreNow) (x y z : Option World) (h k l : Option (Li
 
   -- both, by how it ended
   pub told_served : (result : Result (Unit {0}) ServeFault) (before now : Faults) → IsServeCaused before now result → OnOk result (Told (ServesToEnd s turns) (outer_of y k) (outer_of z l))
-      → IfErr result (λ why. Told (ServesUpTo (IsOfDisk why) s turns) (outer_of y k) (outer_of z l)) → Told (ServeRun turns (status_of result)) (outer_of x h) (outer_of z l)
+      → IfErr result (λ why. Told (ServesUpTo (IsOfDisk why) s turns) (outer_of y k) (outer_of z l)) → Told (ServeRun turns (serve_status result)) (outer_of x h) (outer_of z l)
   told_served (Ok done) before now caused whole part = told_served_whole whole
   told_served (Err why) before now caused whole part = told_served_part why before now caused part
 
   pub told_served_refuses : (result : Result (Unit {0}) ServeFault) (before now : Faults) → IsServeCaused before now result → OnOk result (Told (ServesToEnd s turns) (outer_of y k) (outer_of z l))
-      → IfErr result (λ why. Told (ServesUpTo (IsOfDisk why) s turns) (outer_of y k) (outer_of z l)) → Told (OfWorlds (RefusesExactly (status_of result))) (outer_of x h) (outer_of z l)
+      → IfErr result (λ why. Told (ServesUpTo (IsOfDisk why) s turns) (outer_of y k) (outer_of z l)) → Told (OfWorlds (RefusesExactly (serve_status result))) (outer_of x h) (outer_of z l)
   told_served_refuses (Ok done) before now caused whole part = told_whole_refuses whole
   told_served_refuses (Err why) before now caused whole part = told_part_refuses why before now caused part
 
@@ -164,14 +164,14 @@ caused_behind before middle now (Err why) first second =
 
 -- ---- the end
 
-ends_well : (turns : ℕ) (result : Result (Unit {0}) ServeFault) (before now : Faults) (a b : Outer) → EndsCaused before now result → ServeRun turns (status_of result) a b → OfWorlds (ServeEndsWell before now (status_of result)) a b
+ends_well : (turns : ℕ) (result : Result (Unit {0}) ServeFault) (before now : Faults) (a b : Outer) → EndsCaused before now result → ServeRun turns (serve_status result) a b → OfWorlds (ServeEndsWell before now (serve_status result)) a b
 ends_well turns (Ok done) before now a b caused run instance rs stands disk input = inl refl
 ends_well turns (Err Device) before now a b caused run instance rs stands disk input = absurd ((run instance rs stands).other_device refl)
 ends_well turns (Err Wait) before now a b caused run instance rs stands disk input = absurd (input caused.cause)
 ends_well turns (Err Disk) before now a b caused run instance rs stands disk input = absurd (disk caused.cause)
 ends_well turns (Err OutOfMemory) before now a b caused run instance rs stands disk input = inr refl
 
-pub told_ends_well : (turns : ℕ) (result : Result (Unit {0}) ServeFault) (before now : Faults) (x y : Option Outer) → EndsCaused before now result → Told (ServeRun turns (status_of result)) x y
-    → Told (OfWorlds (ServeEndsWell before now (status_of result))) x y
+pub told_ends_well : (turns : ℕ) (result : Result (Unit {0}) ServeFault) (before now : Faults) (x y : Option Outer) → EndsCaused before now result → Told (ServeRun turns (serve_status result)) x y
+    → Told (OfWorlds (ServeEndsWell before now (serve_status result))) x y
 told_ends_well turns result before now x y caused run =
-    told_map (ServeRun turns (status_of result)) (OfWorlds (ServeEndsWell before now (status_of result))) x y (λ a b. ends_well turns result before now a b caused) run
+    told_map (ServeRun turns (serve_status result)) (OfWorlds (ServeEndsWell before now (serve_status result))) x y (λ a b. ends_well turns result before now a b caused) run

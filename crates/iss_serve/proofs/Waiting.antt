@@ -15,8 +15,8 @@ use Rattle.iss_model.specs.declared.call.CallId.{CallId}
 use Rattle.iss_model.specs.declared.input.Input.TheVariants as input
 use Rattle.iss_model.specs.declared.input.Record.{Record}
 use Rattle.iss_model.specs.declared.limits.TheConstants.{LAST_STAMP}
-use Rattle.iss_session.specs.Items.{Item, Next, waits, nothing, is_answer_to, IsTornEmit}
-use Rattle.iss_session.specs.Sessions.{Session, Queued, Reader, unasked, wait_while, next_idle, next_of}
+use Rattle.iss_session.specs.Items.{HeardItem, Next, waits, nothing, is_answer_to, IsTornEmit}
+use Rattle.iss_session.specs.Sessions.{Session, Queued, OpenRequest, unasked, wait_while, next_idle, next_of}
 use Rattle.iss_session.specs.Hearings.{one_less, after_arrival}
 use Rattle.iss_session.specs.Happenings.{IsNext}
 use Rattle.iss_store.specs.Values.{StoreNow}
@@ -35,7 +35,7 @@ less_is : (n : ℕ) → one_less n ≡ n - 1
 less_is zero = omega arith
 less_is (suc n) = omega arith
 
-abbrev waited : Option Arrival → Item
+abbrev waited : Option Arrival → HeardItem
 waited arrival = record { answer = Waited arrival; early = false; torn = None }
 
 module _ (store : StoreNow) (h : HeldNow) (settled : h.unreached ≡ []) (turns : 0 < h.turns) where
@@ -79,7 +79,7 @@ module _ (store : StoreNow) (h : HeldNow) (settled : h.unreached ≡ []) (turns 
       (told_unwaited x z g k same heard)
 
   -- a session with these turns, this time, these clients and these inputs
-  abbrev with_these : List Record → ℕ → ℕ → List Reader → List Queued → Session
+  abbrev with_these : List Record → ℕ → ℕ → List OpenRequest → List Queued → Session
   with_these rs turns clock readers queue = record (session_at (idle store h) rs) { turns = turns; clock = clock; readers = readers; queue = queue }
 
   nothing_queued : (first : List Queued) → answers_unreached h.unreached ++ first ≡ first ++ answers_unreached h.unreached

@@ -2,10 +2,10 @@
 use Rattle.std.specs.Prelude.{◌≡◌, ℕ, List, ◌++◌, Option, option_map, Result, IfOk, IfErr, IfNone}
 use Rattle.iss_http.specs.declared.faults.FeedFault.{FeedFault}
 use Rattle.iss_http.specs.Requests.{request, answered, IsCause}
-use Rattle.iss_session.specs.Sessions.{Reader}
+use Rattle.iss_session.specs.Sessions.{OpenRequest}
 
 -- A client's bytes came to this: its request's body once that is whole, or why there is none. As long as it isn't whole, the bytes are kept.
-pub record HasRead {V : Type 0} (text_of : V → List ℕ) (before : Reader) (piece : List ℕ) (told : Result (Option V) FeedFault) (after : Reader) : Type 0 where
+pub record HasRead {V : Type 0} (text_of : V → List ℕ) (before : OpenRequest) (piece : List ℕ) (told : Result (Option V) FeedFault) (after : OpenRequest) : Type 0 where
   pub body : IfOk told (λ said. request (before.bytes ++ piece) ≡ answered (option_map text_of said))
   pub fault : IfErr told (IsCause (before.bytes ++ piece))
   pub kept : IfOk told (λ said. IfNone said (after ≡ record before { bytes = before.bytes ++ piece }))

@@ -11,8 +11,8 @@ use Rattle.iss_model.specs.Forms.{is_in_form, is_stamp}
 use Rattle.iss_model.specs.rules.Histories.{history_of}
 use Rattle.iss_session.specs.declared.piece.TheConstants.{LONGEST_PIECE}
 use Rattle.iss_session.specs.Desks.{Subject, of_call, of_notice, Task, Waiter, desk_with}
-use Rattle.iss_session.specs.Links.{Link, Heard, outcome, acknowledged}
-use Rattle.iss_session.specs.Sessions.{Session, Queued, Reader, unasked}
+use Rattle.iss_session.specs.Links.{Link, LinkHeard, outcome, acknowledged}
+use Rattle.iss_session.specs.Sessions.{Session, Queued, OpenRequest, unasked}
 use Rattle.iss_session.specs.Hearings.{is_reading, is_waiting, is_linked, links_of}
 use Rattle.iss_link.specs.Values.{LinksNow}
 use Rattle.iss_link.specs.declared.gone.Gone as link
@@ -21,33 +21,33 @@ use Rattle.iss_store.specs.Numbers.{is_from_one}
 use Rattle.iss_store.specs.Values.{StoreNow, room_of}
 use Rattle.iss_store.specs.Serving.{all_gone}
 use Rattle.iss_serve.specs.declared.held.Held.{Held}
-use Rattle.iss_serve.specs.declared.held.Queued as code
+use Rattle.iss_serve.specs.declared.held.QueuedInput.{QueuedInput}
 
 -- what is held: clients whose requests aren't whole, clients that wait, links, calls that weren't reached, the time that came last, and how many
 -- waits are left
 pub record HeldNow : Type 0 where
-  pub clients : List Reader
+  pub clients : List OpenRequest
   pub served : List Waiter
   pub links : LinksNow
   pub unreached : List CallId
   pub clock : ℕ
   pub turns : ℕ
 
-abbrev pub now_of : Held → HeldNow
-now_of h =
+abbrev pub seen_held : Held → HeldNow
+seen_held h =
     record { clients = h.clients; served = h.served; links = h.links; unreached = h.unreached.items; clock = h.clock; turns = h.turns }
 
 -- an input with its client's channel, as the definitions have it
-abbrev pub queued_as : code.Queued → Queued
+abbrev pub queued_as : QueuedInput → Queued
 queued_as q = record { input = q.input; client = q.client }
 
 -- the inputs that are to be judged first
-abbrev pub queued_maybe : Option code.Queued → List Queued
+abbrev pub queued_maybe : Option QueuedInput → List Queued
 queued_maybe None = []
 queued_maybe (Some q) = queued_as q ∷ []
 
 -- the input is in form
-abbrev pub IsQueuedInForm : code.Queued → Type 0
+abbrev pub IsQueuedInForm : QueuedInput → Type 0
 IsQueuedInForm q = IsTrue (is_in_form q.input)
 
 -- a call that wasn't reached has its answer
@@ -80,20 +80,20 @@ abbrev pub sending : StoreNow → HeldNow → List Queued → List Task → Stag
 sending s h first tasks = record { store = s; held = h; ready = None; first = first; tasks = tasks }
 
 -- with what is held, this input is to be judged next, and then the others
-abbrev pub judging_first : StoreNow → Held → code.Queued → List Queued → Stage
-judging_first s h first rest = to_judge s (now_of h) (queued_as first ∷ rest)
+abbrev pub judging_first : StoreNow → Held → QueuedInput → List Queued → Stage
+judging_first s h first rest = to_judge s (seen_held h) (queued_as first ∷ rest)
 
 -- with what is held, these inputs are left to judge
 abbrev pub left_to_judge : Held → List Queued → StoreNow → Stage
-left_to_judge h rest s = to_judge s (now_of h) rest
+left_to_judge h rest s = to_judge s (seen_held h) rest
 
 -- with what is held, nothing is left to judge first
 abbrev pub resting : Held → StoreNow → Stage
-resting h s = idle s (now_of h)
+resting h s = idle s (seen_held h)
 
 -- with what is held, the input that was heard is to be judged, if there is one
-abbrev pub judging_heard : StoreNow → Held → Option code.Queued → Stage
-judging_heard s h heard = to_judge s (now_of h) (queued_maybe heard)
+abbrev pub judging_heard : StoreNow → Held → Option QueuedInput → Stage
+judging_heard s h heard = to_judge s (seen_held h) (queued_maybe heard)
 
 -- a channel is to be taken from
 abbrev pub taking : StoreNow → HeldNow → Channel → Stage
@@ -109,7 +109,7 @@ arrived s h ch = record { store = s; held = h; ready = (if listens_to h ch then 
 
 -- the same on each store, with what is held
 abbrev pub arrived_on : Held → Channel → StoreNow → Stage
-arrived_on h ch = λ s. arrived s (now_of h) ch
+arrived_on h ch = λ s. arrived s (seen_held h) ch
 
 -- the session that stands, if the store stands for these records
 abbrev pub session_at : Stage → List Record → Session
@@ -153,7 +153,7 @@ abbrev pub LinksNumbered : List Link → Type 0
 LinksNumbered links = list_all (λ link. is_about_number link.subject) links ≡ true
 
 -- the call that has its answer, or the notice that is acknowledged, is numbered from 1
-abbrev pub is_heard_numbered : Heard → Bool
+abbrev pub is_heard_numbered : LinkHeard → Bool
 is_heard_numbered (outcome call said) = is_from_one call.0
 is_heard_numbered (acknowledged number) = is_from_one number
 is_heard_numbered _ = true

@@ -10,7 +10,7 @@ use Rattle.iss_edge.specs.Outer.{Outer, ToldBoth}
 use Rattle.iss_edge.specs.World.{World, Faults, Later, Rose, sent_on}
 use Rattle.iss_edge.specs.Stretches.{Step, actions_of}
 use Rattle.iss_model.specs.declared.input.Record.{Record}
-use Rattle.iss_session.specs.Items.{Item, Happening, hears, answers_of}
+use Rattle.iss_session.specs.Items.{HeardItem, Happening, hears, answers_of}
 use Rattle.iss_session.specs.Sessions.{Session, session_of}
 use Rattle.iss_session.specs.Happenings.{session_after, session_steps, last_steps, Fits, IsComplete}
 use Rattle.iss_session.specs.Accepted.{session_records}
@@ -27,12 +27,12 @@ use Rattle.iss_serve.specs.declared.fault.ServeFault.TheVariants.{Device, Wait, 
 use Rattle.iss_serve.specs.Goings.{NoWaitFailed}
 
 -- the exit status of a run that serves
-abbrev pub status_of : {A : Type 0} → Result A ServeFault → ℕ
-status_of (Ok done) = DONE
-status_of (Err Wait) = INPUT_FAULT
-status_of (Err Device) = BAD_DEVICE
-status_of (Err Disk) = DISK_FAULT
-status_of (Err OutOfMemory) = OUT_OF_MEMORY
+abbrev pub serve_status : {A : Type 0} → Result A ServeFault → ℕ
+serve_status (Ok done) = DONE
+serve_status (Err Wait) = INPUT_FAULT
+serve_status (Err Device) = BAD_DEVICE
+serve_status (Err Disk) = DISK_FAULT
+serve_status (Err OutOfMemory) = OUT_OF_MEMORY
 
 -- the session with which a run begins on a device of this instance that stands for these records, with this many waits to come
 abbrev pub session_on_device : ℕ → ℕ → List Record → List ℕ → Session
@@ -72,7 +72,7 @@ pub record SentInPart (ch : ℕ) (said : List Step) (a b : World) : Type 0 where
 -- No channel is left open that was dialled or sent on, and none that a client came on: each was closed, and after that nothing was sent on it.
 pub record AllClosed (s : Session) (happenings : List Happening) : Type 0 where
   pub dialled : (n : ℕ) → left_open n false (actions_of (all_steps_said s happenings)) ≡ false
-  pub clients : (before after : List Happening) (item : Item) (ch : Channel) → item.answer ≡ Waited (Some (Client ch)) → happenings ≡ before ++ hears item ∷ after
+  pub clients : (before after : List Happening) (item : HeardItem) (ch : Channel) → item.answer ≡ Waited (Some (Client ch)) → happenings ≡ before ++ hears item ∷ after
       → left_open ch.0 true (actions_of (all_steps_said (session_then s (before ++ hears item ∷ [])) after)) ≡ false
 
 -- What a run did that served to its end: no wait failed, and nothing was left to hear. Each channel has exactly the bytes that the session

@@ -5,7 +5,7 @@ ghost use Rattle.iss_session.specs.Hearings.{is_reading, bytes_on, readers_with,
 
 use iss_channels::{ByChannel, OnChannel, Receives};
 use iss_edge::Channel;
-use iss_http::{FeedFault, Reader};
+use iss_http::{FeedFault, RequestReader};
 use std::alloc::{AllocError, Global};
 use std::marker::Model;
 
@@ -13,13 +13,13 @@ use std::marker::Model;
 #[derive(Drop)]
 pub(crate) struct Client {
     pub(crate) ch: Channel,
-    pub(crate) reader: Reader,
+    pub(crate) reader: RequestReader,
 }
 
 impl Model for Client {
-    ghost use Rattle.iss_session.specs.Sessions as session;
+    ghost use Rattle.iss_session.specs.Sessions.{OpenRequest};
 
-    ghost Value = { session.Reader };
+    ghost Value = { OpenRequest };
 
     ghost view = { λ c. record { ch = c.ch; bytes = c.reader } };
 }
@@ -53,9 +53,9 @@ pub(crate) struct Clients {
 impl Model for Clients {
     ghost use Rattle.std.specs.Prelude.{List};
     ghost use Rattle.iss_channels.specs.Placed.{things_of};
-    ghost use Rattle.iss_session.specs.Sessions as session;
+    ghost use Rattle.iss_session.specs.Sessions.{OpenRequest};
 
-    ghost Value = { List session.Reader };
+    ghost Value = { List OpenRequest };
 
     ghost view = { λ c. things_of c.clients };
 }
@@ -74,7 +74,7 @@ impl Clients {
     pub(crate) fn add(&mut self, alloc: Global, ch: Channel) -> Result<(), AllocError>
         ensures { OnOk result (self.new ≡ self.old ++ record { ch = ch; bytes = [] } ∷ []) }
     {
-        let reader = Reader::new(alloc)?;
+        let reader = RequestReader::new(alloc)?;
         self.clients.push(Client { ch, reader })?;
         Ok(())
     }

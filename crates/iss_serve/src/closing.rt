@@ -4,7 +4,7 @@ ghost use Rattle.iss_edge.specs.declared.outside.Action.TheVariants.{Close};
 ghost use Rattle.iss_edge.specs.World.{Later};
 ghost use Rattle.iss_edge.specs.Outer.{Adds, ToldBoth};
 ghost use Rattle.iss_serve.specs.Closings.{open_channels};
-ghost use Rattle.iss_serve.specs.Held.{now_of};
+ghost use Rattle.iss_serve.specs.Held.{seen_held};
 
 use crate::held::Held;
 use iss_edge::{Channel, Edge};
@@ -12,7 +12,7 @@ use std::alloc::{AllocError, Global};
 
 /// Closes the clients whose requests aren't whole, the clients that wait, and the channels to the gateway.
 pub(crate) fn close_all<E: Edge>(alloc: Global, held: &Held, edge: &mut E) -> Result<(), AllocError>
-    ensures closed { OnOk result (ToldBoth E.told E.heard (Adds (map Close (open_channels (now_of held.now))) []) edge.old edge.new) }
+    ensures closed { OnOk result (ToldBoth E.told E.heard (Adds (map Close (open_channels (seen_held held.now))) []) edge.old edge.new) }
     ensures unchanged { OnErr result (ToldBoth E.told E.heard (Adds [] []) edge.old edge.new) }
     ensures later { Later (E.faults edge.old) (E.faults edge.new) }
 {

@@ -15,11 +15,11 @@ ghost use Rattle.iss_store.specs.Numbers.{is_from_one};
 ghost use Rattle.iss_store.specs.Serving.{SendsReply};
 ghost use Rattle.iss_store.specs.Values.{StoreNow};
 ghost use Rattle.iss_serve.specs.Causes.{IsServeCaused};
-ghost use Rattle.iss_serve.specs.Held.{now_of, queued_maybe, queued_as, IsQueuedInForm, resting, taking, arrived_on, is_heard_numbered, IsHeld, IsStillHeld, IsOf};
+ghost use Rattle.iss_serve.specs.Held.{seen_held, queued_maybe, queued_as, IsQueuedInForm, resting, taking, arrived_on, is_heard_numbered, IsHeld, IsStillHeld, IsOf};
 ghost use Rattle.iss_serve.specs.Runs.{HearsFrom, HearsOfAny, HearsShort, PassesOver, ServesInPart, ServesShort};
 
 use crate::ServeFault;
-use crate::held::{Held, Queued};
+use crate::held::{Held, QueuedInput};
 use crate::requests::Request;
 use iss_edge::{Arrival, Channel, Edge};
 use iss_link::Heard;
@@ -34,7 +34,7 @@ impl Held {
         &mut self,
         alloc: Global,
         edge: &mut E,
-    ) -> Result<Option<Queued>, ServeFault>
+    ) -> Result<Option<QueuedInput>, ServeFault>
         requires held { IsHeld self.old }
         requires settled { self.old.unreached.items ≡ [] }
         requires turns { 0 < self.old.turns }
@@ -77,7 +77,7 @@ impl Held {
         alloc: Global,
         edge: &mut E,
         ch: Channel,
-    ) -> Result<Option<Queued>, AllocError>
+    ) -> Result<Option<QueuedInput>, AllocError>
         requires held { IsHeld self.old }
         requires settled { self.old.unreached.items ≡ [] }
         requires ready { (E.channels edge.old).ready ≡ Some ch.0 }
@@ -108,7 +108,7 @@ impl Held {
         alloc: Global,
         edge: &mut E,
         ch: Channel,
-    ) -> Result<Option<Queued>, AllocError>
+    ) -> Result<Option<QueuedInput>, AllocError>
         requires reading { is_reading ch self.old.clients ≡ true }
         requires held { IsHeld self.old }
         requires settled { self.old.unreached.items ≡ [] }
@@ -117,7 +117,7 @@ impl Held {
         ensures settled { IfOk result (λ heard. self.new.unreached.items ≡ []) }
         ensures forms { IfOk result (λ heard. IfSome heard IsQueuedInForm) }
         ensures hears { HearsOfAny E.told E.heard edge.old edge.new self.old self.new ch result }
-        ensures part { (store : StoreNow) → ServesShort E.told E.heard edge.old edge.new (taking store (now_of self.old) ch) result }
+        ensures part { (store : StoreNow) → ServesShort E.told E.heard edge.old edge.new (taking store (seen_held self.old) ch) result }
         ensures later { Later (E.faults edge.old) (E.faults edge.new) }
         ensures kept { Stays E.extent edge.old edge.new }
     {
@@ -131,7 +131,7 @@ impl Held {
         }
         match self.clients.read(alloc, ch, &self.buffer[..count])? {
             Request::More => Ok(None),
-            Request::Says(input) => Ok(Some(Queued {
+            Request::Says(input) => Ok(Some(QueuedInput {
                 input,
                 client: Some(ch),
             })),
@@ -145,7 +145,7 @@ impl Held {
     /// A client whose request isn't whole is lost, and its channel is closed.
     #[tactic(auto, using(iss_edge::proofs::Outers::told_closes))]
     fn lose_client<E: Edge>(&mut self, edge: &mut E, ch: Channel)
-        ensures now { now_of self.new ≡ record (now_of self.old) { clients = readers_without ch self.old.clients } }
+        ensures now { seen_held self.new ≡ record (seen_held self.old) { clients = readers_without ch self.old.clients } }
         ensures still { IsStillHeld self.old self.new }
         ensures told { ToldBoth E.told E.heard (Adds (Close ch ∷ []) []) edge.old edge.new }
         ensures later { Later (E.faults edge.old) (E.faults edge.new) }
@@ -157,7 +157,7 @@ impl Held {
 
     /// A client gets its response, and its channel is closed.
     pub(crate) fn answer_client<E: Edge>(&mut self, edge: &mut E, ch: Channel, text: &[u8])
-        ensures now { now_of self.new ≡ record (now_of self.old) { served = waiters_without ch self.old.served } }
+        ensures now { seen_held self.new ≡ record (seen_held self.old) { served = waiters_without ch self.old.served } }
         ensures still { IsStillHeld self.old self.new }
         ensures sends { SendsReply E.told E.heard edge.old edge.new ch text.now }
         ensures later { Later (E.faults edge.old) (E.faults edge.new) }
@@ -189,7 +189,7 @@ impl Held {
     /// A client that waits is lost, and its channel is closed.
     #[tactic(auto, using(iss_edge::proofs::Outers::told_closes))]
     fn lose_waiter<E: Edge>(&mut self, edge: &mut E, ch: Channel)
-        ensures now { now_of self.new ≡ record (now_of self.old) { served = waiters_without ch self.old.served } }
+        ensures now { seen_held self.new ≡ record (seen_held self.old) { served = waiters_without ch self.old.served } }
         ensures still { IsStillHeld self.old self.new }
         ensures told { ToldBoth E.told E.heard (Adds (Close ch ∷ []) []) edge.old edge.new }
         ensures later { Later (E.faults edge.old) (E.faults edge.new) }
@@ -205,7 +205,7 @@ impl Held {
         alloc: Global,
         edge: &mut E,
         ch: Channel,
-    ) -> Result<Option<Queued>, AllocError>
+    ) -> Result<Option<QueuedInput>, AllocError>
         requires no_client { is_reading ch self.old.clients ≡ false }
         requires none_waits { is_waiting ch self.old.served ≡ false }
         requires watched { IsSome (link_at ch self.old.links.links) }
@@ -215,8 +215,8 @@ impl Held {
         ensures still { IfOk result (λ heard. IsStillHeld self.old self.new) }
         ensures settled { IfOk result (λ heard. self.new.unreached.items ≡ []) }
         ensures forms { IfOk result (λ heard. IfSome heard IsQueuedInForm) }
-        ensures hears { HearsFrom E.told E.heard edge.old edge.new self.old self.new (λ store. taking store (now_of self.old) ch) result }
-        ensures part { HearsShort E.told E.heard edge.old edge.new self.old (λ store. taking store (now_of self.old) ch) result }
+        ensures hears { HearsFrom E.told E.heard edge.old edge.new self.old self.new (λ store. taking store (seen_held self.old) ch) result }
+        ensures part { HearsShort E.told E.heard edge.old edge.new self.old (λ store. taking store (seen_held self.old) ch) result }
         ensures later { Later (E.faults edge.old) (E.faults edge.new) }
         ensures kept { Stays E.extent edge.old edge.new }
     {
@@ -243,7 +243,7 @@ fn take_piece<E: Edge>(edge: &mut E, ch: Channel, buffer: &mut [u8]) -> Option<u
 }
 
 /// What is to be judged once a link heard this.
-fn queued_of(heard: &Heard) -> Option<Queued>
+fn queued_of(heard: &Heard) -> Option<QueuedInput>
     requires numbered { is_heard_numbered (heard_of heard.now) ≡ true }
     ensures queued { queued_maybe result ≡ inputs_of (heard_of heard.now) }
     ensures forms { IfSome result IsQueuedInForm }
@@ -257,17 +257,17 @@ fn queued_of(heard: &Heard) -> Option<Queued>
 }
 
 /// An input that no client sent.
-fn unasked(input: Input) -> Queued
+fn unasked(input: Input) -> QueuedInput
     ensures { queued_as result ≡ unasked input }
 {
-    Queued {
+    QueuedInput {
         input,
         client: None,
     }
 }
 
 /// The answer of a call. Calls are numbered from 1.
-pub(crate) fn answer(call: CallId, outcome: Outcome) -> Queued
+pub(crate) fn answer(call: CallId, outcome: Outcome) -> QueuedInput
     requires { is_from_one call.0 ≡ true }
     ensures said { queued_as result ≡ unasked (input_of.Answer call outcome) }
     ensures forms { IsQueuedInForm result }
@@ -276,7 +276,7 @@ pub(crate) fn answer(call: CallId, outcome: Outcome) -> Queued
 }
 
 /// The acknowledgement of a notice. Notices are numbered from 1 too.
-fn ack(notice: u32) -> Queued
+fn ack(notice: u32) -> QueuedInput
     requires { is_from_one notice ≡ true }
     ensures said { queued_as result ≡ unasked (input_of.Ack notice) }
     ensures forms { IsQueuedInForm result }

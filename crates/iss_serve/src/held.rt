@@ -2,7 +2,7 @@
 ghost use Rattle.std.specs.Prelude.{◌≡◌, ◌<◌, ◌∷◌, [], true, length, IfOk, OnOk};
 ghost use Rattle.iss_model.specs.declared.limits.TheConstants.{INSTANCES};
 ghost use Rattle.iss_store.specs.Serving.{has_number, HaveNumbers};
-ghost use Rattle.iss_serve.specs.Held.{now_of, noted, IsHeld, IsStillHeld};
+ghost use Rattle.iss_serve.specs.Held.{seen_held, noted, IsHeld, IsStillHeld};
 
 use crate::clients::Clients;
 use iss_edge::Channel;
@@ -14,7 +14,7 @@ use std::alloc::{AllocError, Global};
 
 /// An input that is to be judged, and for a client's line the channel that it came on.
 #[derive(Drop)]
-pub(crate) struct Queued {
+pub(crate) struct QueuedInput {
     pub(crate) input: Input,
     pub(crate) client: Option<Channel>,
 }
@@ -42,7 +42,7 @@ impl Held {
     /// Nothing is held, and `turns` waits are left.
     pub(crate) fn new(alloc: Global, instance: u64, turns: u32) -> Result<Held, AllocError>
         requires { instance < INSTANCES }
-        ensures now { IfOk result (λ held. now_of held ≡ record {
+        ensures now { IfOk result (λ held. seen_held held ≡ record {
           clients = [];
           served = [];
           links = record { instance = instance; links = [] };
@@ -66,7 +66,7 @@ impl Held {
     /// Notes what became of messages to the gateway: the channels on which answers are awaited, and the calls that weren't reached.
     pub(crate) fn note_all(&mut self, gone: &[Gone]) -> Result<(), AllocError>
         requires numbered { HaveNumbers gone.now }
-        ensures now { OnOk result (now_of self.new ≡ noted gone.now (now_of self.old)) }
+        ensures now { OnOk result (seen_held self.new ≡ noted gone.now (seen_held self.old)) }
         ensures still { OnOk result (IsStillHeld self.old self.new) }
     {
         for one in gone {
@@ -78,7 +78,7 @@ impl Held {
     /// Notes what became of a message.
     fn note(&mut self, gone: &Gone) -> Result<(), AllocError>
         requires numbered { has_number gone.now ≡ true }
-        ensures now { OnOk result (now_of self.new ≡ noted (gone.now ∷ []) (now_of self.old)) }
+        ensures now { OnOk result (seen_held self.new ≡ noted (gone.now ∷ []) (seen_held self.old)) }
         ensures still { OnOk result (IsStillHeld self.old self.new) }
     {
         match gone {

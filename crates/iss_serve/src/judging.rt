@@ -4,13 +4,13 @@ ghost use Rattle.iss_edge.specs.World.{Told, Later, Stays};
 ghost use Rattle.iss_store.specs.Planning.{IsPlanOf};
 ghost use Rattle.iss_store.specs.Saying.{IsDurableOf};
 ghost use Rattle.iss_serve.specs.Causes.{IsServeCaused};
-ghost use Rattle.iss_serve.specs.Held.{now_of, queued_as, answers_unreached, IsQueuedInForm, judging_first, left_to_judge, resting, CallsNumbered, IsHeld, IsStillHeld, IsOf, records_left};
+ghost use Rattle.iss_serve.specs.Held.{seen_held, queued_as, answers_unreached, IsQueuedInForm, judging_first, left_to_judge, resting, CallsNumbered, IsHeld, IsStillHeld, IsOf, records_left};
 ghost use Rattle.iss_serve.specs.Judged.{Judges, Settles, waiting_for, IsPlannedFor};
 ghost use Rattle.iss_serve.specs.Runs.{ServesTo, ServesInPart, JudgesFirst, JudgesOnce, JudgesPart, KeepsPlan, tasks_told, tasks_said, SendsFirst, SendsFirstPart};
 
 use crate::ServeFault;
 use crate::hearing::answer;
-use crate::held::{Held, Queued};
+use crate::held::{Held, QueuedInput};
 use iss_edge::Edge;
 use iss_model::{Answer, CallId, Outcome};
 use iss_store::{Durable, PlanFault, Planned, Store};
@@ -22,7 +22,7 @@ pub(crate) fn judge_all<E: Edge>(
     alloc: Global,
     store: Store,
     held: &mut Held,
-    first: &Queued,
+    first: &QueuedInput,
     edge: &mut E,
 ) -> Result<Store, ServeFault>
     requires size { E.extent edge.old ≡ store.place.to }
@@ -96,7 +96,7 @@ fn judge<E: Edge>(
     alloc: Global,
     store: Store,
     held: &mut Held,
-    queued: &Queued,
+    queued: &QueuedInput,
     edge: &mut E,
 ) -> Result<Store, ServeFault>
     requires size { E.extent edge.old ≡ store.place.to }
@@ -124,7 +124,7 @@ fn judge_once<E: Edge>(
     alloc: Global,
     store: Store,
     held: &mut Held,
-    queued: &Queued,
+    queued: &QueuedInput,
     edge: &mut E,
 ) -> Result<(Store, bool), ServeFault>
     requires size { E.extent edge.old ≡ store.place.to }
@@ -158,7 +158,7 @@ fn keep<E: Edge>(
     store: Store,
     held: &mut Held,
     planned: Planned,
-    queued: &Queued,
+    queued: &QueuedInput,
     edge: &mut E,
 ) -> Result<Store, ServeFault>
     requires size { E.extent edge.old ≡ store.place.to }
@@ -206,7 +206,7 @@ fn tell<E: Edge>(
     alloc: Global,
     store: &Store,
     held: &mut Held,
-    queued: &Queued,
+    queued: &QueuedInput,
     answer: &Answer,
     edge: &mut E,
 ) -> Result<(), AllocError>
@@ -229,8 +229,8 @@ fn tell<E: Edge>(
 
 impl Held {
     /// The client of a new event waits until it is decided. If a time record only goes before an answer, nobody waits.
-    fn wait_for(&mut self, queued: &Queued, is_clock: bool) -> Result<(), AllocError>
-        ensures now { OnOk result (now_of self.new ≡ waiting_for (queued_as queued.now) is_clock (now_of self.old)) }
+    fn wait_for(&mut self, queued: &QueuedInput, is_clock: bool) -> Result<(), AllocError>
+        ensures now { OnOk result (seen_held self.new ≡ waiting_for (queued_as queued.now) is_clock (seen_held self.old)) }
         ensures still { OnOk result (IsStillHeld self.old self.new) }
     {
         if is_clock {
@@ -245,7 +245,7 @@ impl Held {
     /// The calls that weren't reached, of which none is left then.
     fn take_unreached(&mut self, alloc: Global) -> Vec<CallId>
         ensures calls { result.items ≡ self.old.unreached.items }
-        ensures now { now_of self.new ≡ record (now_of self.old) { unreached = [] } }
+        ensures now { seen_held self.new ≡ record (seen_held self.old) { unreached = [] } }
         ensures still { IsStillHeld self.old self.new }
     {
         mem::replace(&mut self.unreached, Vec::new(alloc))

@@ -4,11 +4,11 @@ ghost use Rattle.iss_edge.specs.World.{Stays};
 ghost use Rattle.iss_edge.specs.Outer.{ToldBoth};
 ghost use Rattle.iss_store.specs.Serving.{tasks_pending};
 ghost use Rattle.iss_serve.specs.Causes.{IsServeCaused, IsOfDisk};
-ghost use Rattle.iss_serve.specs.Held.{now_of, resting, sending, IsHeld, IsOf};
+ghost use Rattle.iss_serve.specs.Held.{seen_held, resting, sending, IsHeld, IsOf};
 ghost use Rattle.iss_serve.specs.Judged.{Settles};
 ghost use Rattle.iss_device.specs.Refusals.{RefusesExactly};
 ghost use Rattle.iss_serve.specs.Runs.{ServesTo, ServesInPart, ServesToEnd, ServesUpTo};
-ghost use Rattle.iss_serve.specs.ServeRuns.{status_of, ServeRun, OfWorlds, EndsCaused, ServeEndsWellOn};
+ghost use Rattle.iss_serve.specs.ServeRuns.{serve_status, ServeRun, OfWorlds, EndsCaused, ServeEndsWellOn};
 
 use crate::ServeFault;
 use crate::closing::close_all;
@@ -29,10 +29,10 @@ use std::alloc::Global;
 /// `OutOfMemory`.
 #[tactic(auto, using(crate::proofs::ToldServes::told_unopened_serve, crate::proofs::ToldServes::told_unopened_refuses, crate::proofs::ToldServes::told_served, crate::proofs::ToldServes::told_served_refuses, crate::proofs::ToldServes::caused_by_opening, crate::proofs::ToldServes::caused_behind, crate::proofs::ToldServes::told_ends_well))]
 pub fn serve<E: Edge>(alloc: Global, turns: u32, edge: &mut E) -> Result<(), ServeFault>
-    ensures serving { ToldBoth E.told E.heard (ServeRun turns (status_of result)) edge.old edge.new }
-    ensures refused { ToldBoth E.told E.heard (OfWorlds (RefusesExactly (status_of result))) edge.old edge.new }
+    ensures serving { ToldBoth E.told E.heard (ServeRun turns (serve_status result)) edge.old edge.new }
+    ensures refused { ToldBoth E.told E.heard (OfWorlds (RefusesExactly (serve_status result))) edge.old edge.new }
     ensures caused { EndsCaused (E.faults edge.old) (E.faults edge.new) result }
-    ensures complete { ServeEndsWellOn E.faults E.told E.heard edge.old edge.new (status_of result) }
+    ensures complete { ServeEndsWellOn E.faults E.told E.heard edge.old edge.new (serve_status result) }
 {
     let store = Store::open(alloc, edge)?;
     serve_on(alloc, store, turns, edge)
@@ -68,8 +68,8 @@ fn resume<E: Edge>(
     requires held { IsHeld held.old }
     requires instance { IsOf store held.old }
     ensures resumed { ServesTo E.told E.heard edge.old edge.new
-        (sending store (now_of held.old) [] (tasks_pending store)) result (resting held.new) }
-    ensures part { ServesInPart E.told E.heard edge.old edge.new (sending store (now_of held.old) [] (tasks_pending store)) result }
+        (sending store (seen_held held.old) [] (tasks_pending store)) result (resting held.new) }
+    ensures part { ServesInPart E.told E.heard edge.old edge.new (sending store (seen_held held.old) [] (tasks_pending store)) result }
     ensures settles { IfOk result (λ next. Settles store next held.old held.new) }
     ensures caused { IsServeCaused (E.faults edge.old) (E.faults edge.new) result }
     ensures kept { Stays E.extent edge.old edge.new }

@@ -13,9 +13,9 @@ use Rattle.iss_model.specs.declared.decision.Judged.TheVariants.{New, Clock, Tol
 use Rattle.iss_model.specs.Inputs.{event_token}
 use Rattle.iss_model.specs.run.Runs.{judgement_in}
 use Rattle.iss_http.specs.Requests.{Request, more, body, faulty}
-use Rattle.iss_session.specs.Items.{Item, Happening, hears, judges}
-use Rattle.iss_session.specs.Desks.{reached, Task, Gone, unreached, desk_change_by}
-use Rattle.iss_session.specs.Links.{Link, Heard, piece_of, unfinished, outcome, acknowledged, dropped, heard_as, link_reading}
+use Rattle.iss_session.specs.Items.{HeardItem, Happening, hears, judges}
+use Rattle.iss_session.specs.Desks.{reached, Task, TextFate, unreached, desk_change_by}
+use Rattle.iss_session.specs.Links.{Link, LinkHeard, piece_of, unfinished, outcome, acknowledged, dropped, heard_as, link_reading}
 use Rattle.iss_session.specs.Sessions.{Readers, Queued, Session, count}
 use Rattle.iss_session.specs.Judgements.{judged_so, judged_input, judged_first}
 use Rattle.iss_session.specs.Hearings.{Change, after_arrival, one_less, after_line, after_request, after_reading, after_waiting, after_answer, after_link, link_at, is_reading, is_waiting, after_take, after_hearing, queued_of, after_item}
@@ -67,7 +67,7 @@ events_waiting : (s : Session) (ch : Channel) (got : Option (List ℕ)) → AreE
 events_waiting s ch None e = e
 events_waiting s ch (Some piece) e = e
 
-events_answer : (s : Session) (ch : Channel) (piece : List ℕ) (heard : Heard) → AreEvents s.queue → AreEvents (after_answer s ch piece heard).session.queue
+events_answer : (s : Session) (ch : Channel) (piece : List ℕ) (heard : LinkHeard) → AreEvents s.queue → AreEvents (after_answer s ch piece heard).session.queue
 events_answer s ch piece unfinished e = events_append s.queue [] e tt
 events_answer s ch piece (outcome call o) e = events_append s.queue _ e (tt, tt)
 events_answer s ch piece (acknowledged n) e = events_append s.queue _ e (tt, tt)
@@ -90,19 +90,19 @@ events_take read sound s ch got early e =
     (events_either (is_waiting ch s.desk.waiting) (after_waiting s ch got) (after_link read s ch got early (link_at ch s.links))
     (events_waiting s ch got e) (events_link read s ch got early (link_at ch s.links) e))
 
-events_hearing : (read : Readers) → ReadsEvents read → (s : Session) (item : Item) (answer : Answered) → AreEvents s.queue
+events_hearing : (read : Readers) → ReadsEvents read → (s : Session) (item : HeardItem) (answer : Answered) → AreEvents s.queue
     → AreEvents (after_hearing read s item answer).session.queue
 events_hearing read sound s item (Waited arrival) e = events_arrival (record s { turns = one_less s.turns }) arrival e
 events_hearing read sound s item (Took ch got) e = events_take read sound (record s { ready = None }) ch got item.early e
 events_hearing read sound s item (Dialled ch) e = e
 events_hearing read sound s item (Emitted ch ok) e = e
 
-events_gone : (gone : List Gone) → AreEvents (flat_map queued_of gone)
+events_gone : (gone : List TextFate) → AreEvents (flat_map queued_of gone)
 events_gone [] = tt
 events_gone (reached ch subject ∷ gone) = events_gone gone
 events_gone (unreached call ∷ gone) = (tt, events_gone gone)
 
-events_item : (read : Readers) → ReadsEvents read → (s : Session) (item : Item) (tasks : List Task) → AreEvents s.queue
+events_item : (read : Readers) → ReadsEvents read → (s : Session) (item : HeardItem) (tasks : List Task) → AreEvents s.queue
     → AreEvents (after_item read s item tasks).session.queue
 events_item read sound s item [] e = events_hearing read sound s item item.answer e
 events_item read sound s item (task ∷ tasks) e =

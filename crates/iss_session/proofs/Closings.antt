@@ -10,7 +10,7 @@ use Rattle.iss_edge.specs.declared.outside.Answered.TheVariants.{Waited}
 use Rattle.iss_edge.specs.Stretches.{Step, actions_of}
 use Rattle.iss_edge.proofs.StretchLemmas.{actions_of-append}
 use Rattle.iss_model.specs.run.Runs.{Run}
-use Rattle.iss_session.specs.Items.{Item, Happening, hears, nothing, is_answer_to}
+use Rattle.iss_session.specs.Items.{HeardItem, Happening, hears, nothing, is_answer_to}
 use Rattle.iss_session.specs.Desks.{Task, to_dial, to_send, to_reply, next_for}
 use Rattle.iss_session.specs.Sessions.{Readers, Queued, Session, session_of, count, next_by, next_idle}
 use Rattle.iss_session.specs.Hearings.{Change, after_hearing, after_item}
@@ -118,7 +118,7 @@ all_closed read sound n was s (h ∷ hs) fits over events held =
     (held_so n was s c (keeps_happening read n s h events fits.0) held)
 
 -- a client's channel is held from its arrival on
-client_held : (read : Readers) (s : Session) (item : Item) (ch : Channel) (tasks : List Task) → item.answer ≡ Waited (Some (Client ch))
+client_held : (read : Readers) (s : Session) (item : HeardItem) (ch : Channel) (tasks : List Task) → item.answer ≡ Waited (Some (Client ch))
     → is_answer_to (next_by s tasks) item.answer ≡ true → IsHeld ch.0 (after_item read s item tasks).session
 client_held read s item ch [] is a =
     subst (λ (answer : Answered). IsHeld ch.0 (after_hearing read s item answer).session) (sym is)
@@ -131,7 +131,7 @@ client_held read s item ch (task ∷ tasks) is a = never task (ap (is_answer_to 
     never (to_reply to text) e = absurd (false≢true e)
 
 -- a client's channel is closed after all that goes out on it
-pub client_closed : (read : Readers) → ReadsEvents read → (s : Session) (before after : List Happening) (item : Item) (ch : Channel)
+pub client_closed : (read : Readers) → ReadsEvents read → (s : Session) (before after : List Happening) (item : HeardItem) (ch : Channel)
     → item.answer ≡ Waited (Some (Client ch)) → Fits read s (before ++ hears item ∷ after) → IsComplete (session_after read s (before ++ hears item ∷ after))
     → AreEvents s.queue
     → let t = session_after read s (before ++ hears item ∷ []) in left_open ch.0 true (actions_of (session_steps read t after ++ last_steps (session_after read t after))) ≡ false
@@ -154,7 +154,7 @@ pub run_closed : (read : Readers) (run : Run) (turns : ℕ) (hs : List Happening
 run_closed read run turns hs n sound fits over =
     all_closed read sound n false (session_of run turns) hs fits over tt (λ e. absurd (false≢true e))
 
-pub run_client_closed : (read : Readers) (run : Run) (turns : ℕ) (before after : List Happening) (item : Item) (ch : Channel) → ReadsEvents read
+pub run_client_closed : (read : Readers) (run : Run) (turns : ℕ) (before after : List Happening) (item : HeardItem) (ch : Channel) → ReadsEvents read
     → item.answer ≡ Waited (Some (Client ch)) → Fits read (session_of run turns) (before ++ hears item ∷ after)
     → IsComplete (session_after read (session_of run turns) (before ++ hears item ∷ after))
     → let t = session_after read (session_of run turns) (before ++ hears item ∷ []) in

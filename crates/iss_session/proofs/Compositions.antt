@@ -2,8 +2,8 @@
 use Rattle.std.proofs.Common.{◌≡◌, ℕ, List, [], ◌∷◌, ◌++◌, refl, sym, ap, ◌∙◌, append_assoc}
 use Rattle.iss_edge.specs.declared.outside.Answered.{Answered}
 use Rattle.iss_edge.specs.Stretches.{Step}
-use Rattle.iss_session.specs.Items.{Item, Happening, hears, judges, answers_of}
-use Rattle.iss_session.specs.Desks.{Desk, Gone, desk_change, desk_after, desk_steps, desk_gone, FitsDesk}
+use Rattle.iss_session.specs.Items.{HeardItem, Happening, hears, judges, answers_of}
+use Rattle.iss_session.specs.Desks.{Desk, TextFate, desk_change, desk_after, desk_steps, desk_gone, FitsDesk}
 use Rattle.iss_session.specs.Sessions.{Readers, Session}
 use Rattle.iss_session.specs.Happenings.{session_change, session_after, session_steps, Fits}
 
@@ -38,11 +38,11 @@ answers_append (judges ∷ a) b = answers_append a b
 
 -- the same of a desk's items
 
-pub desk_after_append : (level : ℕ) (d : Desk) (a b : List Item) → desk_after level d (a ++ b) ≡ desk_after level (desk_after level d a) b
+pub desk_after_append : (level : ℕ) (d : Desk) (a b : List HeardItem) → desk_after level d (a ++ b) ≡ desk_after level (desk_after level d a) b
 desk_after_append level d [] b = refl
 desk_after_append level d (item ∷ a) b = desk_after_append level (desk_change level d item).desk a b
 
-pub desk_steps_append : (level : ℕ) (d : Desk) (a b : List Item)
+pub desk_steps_append : (level : ℕ) (d : Desk) (a b : List HeardItem)
     → desk_steps level d (a ++ b) ≡ desk_steps level d a ++ desk_steps level (desk_after level d a) b
 desk_steps_append level d [] b = refl
 desk_steps_append level d (item ∷ a) b =
@@ -50,14 +50,14 @@ desk_steps_append level d (item ∷ a) b =
     ap (λ (steps : List Step). c.steps ++ steps) (desk_steps_append level c.desk a b)
     ∙ sym (append_assoc c.steps (desk_steps level c.desk a) (desk_steps level (desk_after level c.desk a) b))
 
-pub desk_gone_append : (level : ℕ) (d : Desk) (a b : List Item)
+pub desk_gone_append : (level : ℕ) (d : Desk) (a b : List HeardItem)
     → desk_gone level d (a ++ b) ≡ desk_gone level d a ++ desk_gone level (desk_after level d a) b
 desk_gone_append level d [] b = refl
 desk_gone_append level d (item ∷ a) b =
     let c = desk_change level d item in
-    ap (λ (gone : List Gone). c.gone ++ gone) (desk_gone_append level c.desk a b)
+    ap (λ (gone : List TextFate). c.gone ++ gone) (desk_gone_append level c.desk a b)
     ∙ sym (append_assoc c.gone (desk_gone level c.desk a) (desk_gone level (desk_after level c.desk a) b))
 
-pub fits_desk_append : (level : ℕ) (d : Desk) (a b : List Item) → FitsDesk level d a → FitsDesk level (desk_after level d a) b → FitsDesk level d (a ++ b)
+pub fits_desk_append : (level : ℕ) (d : Desk) (a b : List HeardItem) → FitsDesk level d a → FitsDesk level (desk_after level d a) b → FitsDesk level d (a ++ b)
 fits_desk_append level d [] b fa fb = fb
 fits_desk_append level d (item ∷ a) b fa fb = (fa.0, fits_desk_append level (desk_change level d item).desk a b fa.1 fb)

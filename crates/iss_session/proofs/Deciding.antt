@@ -3,16 +3,16 @@ use Rattle.std.proofs.Common.{◌≡◌, refl, sym, ap, subst, ◌∙◌, Bool, 
 use Rattle.std.proofs.lemmas.Bool.{false≢true}
 use Rattle.iss_edge.specs.declared.outside.Answered.{Answered}
 use Rattle.iss_edge.specs.declared.outside.Answered.TheVariants.{Waited, Took, Dialled, Emitted}
-use Rattle.iss_session.specs.Items.{Item, Happening, hears, judges, Next, judging, nothing, is_answer_to, items_of}
+use Rattle.iss_session.specs.Items.{HeardItem, Happening, hears, judges, Next, judging, nothing, is_answer_to, items_of}
 use Rattle.iss_session.specs.Sessions.{Readers, Session, next_of}
 use Rattle.iss_session.specs.Happenings.{session_change, session_after, Fits, IsNext, IsComplete}
 use Rattle.iss_session.proofs.DesksInSessions.{unanswerable}
 
-abbrev first_or : Item → List Item → Item
+abbrev first_or : HeardItem → List HeardItem → HeardItem
 first_or other [] = other
 first_or other (item ∷ items) = item
 
-abbrev others : List Item → List Item
+abbrev others : List HeardItem → List HeardItem
 others [] = []
 others (item ∷ items) = items
 
@@ -26,11 +26,11 @@ judging_answers (Took ch got) = refl
 judging_answers (Dialled ch) = refl
 judging_answers (Emitted ch ok) = refl
 
-not_both : {A : Type 0} → (s : Session) (item : Item) → IsNext s item → next_of s ≡ judging → A
+not_both : {A : Type 0} → (s : Session) (item : HeardItem) → IsNext s item → next_of s ≡ judging → A
 not_both s item next e =
     absurd (false≢true (sym (judging_answers item.answer) ∙ ap (λ (n : Next). is_answer_to n item.answer) (sym e) ∙ next.answers))
 
-not_over : {A : Type 0} → (s : Session) (item : Item) → IsNext s item → next_of s ≡ nothing → A
+not_over : {A : Type 0} → (s : Session) (item : HeardItem) → IsNext s item → next_of s ≡ nothing → A
 not_over s item next e = unanswerable item.answer (ap (λ (n : Next). is_answer_to n item.answer) (sym e) ∙ next.answers)
 
 not_idle : {A : Type 0} → (s : Session) → next_of s ≡ judging → next_of s ≡ nothing → A
@@ -49,7 +49,7 @@ heard_decides read s (judges ∷ a) (judges ∷ b) fa fb ca cb e =
     ap (λ (hs : List Happening). judges ∷ hs) (heard_decides read (session_change read s judges).session a b fa.1 fb.1 ca cb e)
 heard_decides read s (hears x ∷ a) (hears y ∷ b) fa fb ca cb e =
     let same : x ≡ y = ap (first_or x) e in
-    let fits = subst (λ (z : Item). Fits read (session_change read s (hears z)).session b) (sym same) fb.1 in
-    let complete = subst (λ (z : Item). IsComplete (session_after read (session_change read s (hears z)).session b)) (sym same) cb in
+    let fits = subst (λ (z : HeardItem). Fits read (session_change read s (hears z)).session b) (sym same) fb.1 in
+    let complete = subst (λ (z : HeardItem). IsComplete (session_after read (session_change read s (hears z)).session b)) (sym same) cb in
     ap (λ (hs : List Happening). hears x ∷ hs) (heard_decides read (session_change read s (hears x)).session a b fa.1 fits ca complete (ap others e))
-    ∙ ap (λ (z : Item). hears z ∷ b) same
+    ∙ ap (λ (z : HeardItem). hears z ∷ b) same

@@ -9,13 +9,13 @@ use Rattle.iss_edge.specs.declared.outside.Channel.{Channel}
 use Rattle.iss_session.specs.Items.{same_channel}
 use Rattle.iss_session.specs.Desks.{Task, to_dial, to_send, to_reply, Waiter}
 use Rattle.iss_session.specs.Links.{Link}
-use Rattle.iss_session.specs.Sessions.{Reader, Queued, Session}
+use Rattle.iss_session.specs.Sessions.{OpenRequest, Queued, Session}
 
 -- the channel of this number is one of them
 abbrev pub is_among : ℕ → List Channel → Bool
 is_among n channels = list_any (λ ch. ch.0 == n) channels
 
-abbrev pub reader_channel : Reader → Channel
+abbrev pub reader_channel : OpenRequest → Channel
 reader_channel r = r.ch
 
 abbrev pub waiter_channel : Waiter → Channel

@@ -11,10 +11,10 @@ use Rattle.iss_edge.specs.declared.outside.Answered.TheVariants.{Waited, Took, D
 use Rattle.iss_edge.specs.Stretches.{actions_of}
 use Rattle.iss_model.specs.declared.input.Input.{Input}
 use Rattle.iss_http.specs.Requests.{Request, more, body, faulty}
-use Rattle.iss_session.specs.Items.{Item, leveled, same_channel}
+use Rattle.iss_session.specs.Items.{HeardItem, leveled, same_channel}
 use Rattle.iss_session.specs.Desks.{Task}
-use Rattle.iss_session.specs.Links.{Link, Heard, unfinished, outcome, acknowledged, dropped, heard_as, link_reading, links_with, links_without}
-use Rattle.iss_session.specs.Sessions.{Readers, Reader, Queued, Session, count}
+use Rattle.iss_session.specs.Links.{Link, LinkHeard, unfinished, outcome, acknowledged, dropped, heard_as, link_reading, links_with, links_without}
+use Rattle.iss_session.specs.Sessions.{Readers, OpenRequest, Queued, Session, count}
 use Rattle.iss_session.specs.Hearings.{Change, change_to, after_arrival, one_less, readers_without, readers_with, after_line, after_request, after_reading, after_waiting, after_answer, after_link, link_at, is_reading, is_waiting, after_take, after_hearing}
 use Rattle.iss_session.specs.Openings.{left_open}
 use Rattle.iss_session.proofs.Held.{is_among, reader_channel, waiter_channel, link_channel, task_channels, IsHeld, reads, sends, awaits, watches, queues, or_left, not_true, mapped_first, among_without, queued_first, queued_second, HoldsMore, held_more}
@@ -71,7 +71,7 @@ leaves_readers : (n : ℕ) (ch : Channel) (s t : Session) → t.readers ≡ read
     → is_among n (map reader_channel s.readers) ≡ true → IsHeld n t
 leaves_readers n ch s t without placed h =
     by_number (ch.0 == n) placed
-    (λ other. reads (ap (λ (rs : List Reader). is_among n (map reader_channel rs)) without ∙ among_without reader_channel n ch s.readers other h))
+    (λ other. reads (ap (λ (rs : List OpenRequest). is_among n (map reader_channel rs)) without ∙ among_without reader_channel n ch s.readers other h))
 
 -- the channel of this number is the only one
 pub alone : (n : ℕ) (ch : Channel) → (ch.0 == n) ≡ true → is_among n (ch ∷ []) ≡ true
@@ -96,11 +96,11 @@ keeps_line n s ch (Err text) none =
       queue = λ h. queues h;
     }
 
-readers_same : (ch : Channel) (bytes : List ℕ) (readers : List Reader) → map reader_channel (readers_with ch bytes readers) ≡ map reader_channel readers
+readers_same : (ch : Channel) (bytes : List ℕ) (readers : List OpenRequest) → map reader_channel (readers_with ch bytes readers) ≡ map reader_channel readers
 readers_same ch bytes [] = refl
 readers_same ch bytes (r ∷ readers) = by (same_channel r.ch ch) (readers_with ch bytes readers) (readers_same ch bytes readers)
   where
-    by : (b : Bool) (changed : List Reader) → map reader_channel changed ≡ map reader_channel readers
+    by : (b : Bool) (changed : List OpenRequest) → map reader_channel changed ≡ map reader_channel readers
         → map reader_channel (cond b (record r { bytes = bytes } ∷ readers) (r ∷ changed)) ≡ map reader_channel (r ∷ readers)
     by true changed same = refl
     by false changed same = ap (λ (channels : List Channel). r.ch ∷ channels) same
@@ -185,7 +185,7 @@ keeps_left n s ch more_queue =
       opened = λ e. absurd (false≢true e);
     }
 
-keeps_answer : (n : ℕ) (s : Session) (ch : Channel) (piece : List ℕ) (heard : Heard) → Keeps n s (after_answer s ch piece heard)
+keeps_answer : (n : ℕ) (s : Session) (ch : Channel) (piece : List ℕ) (heard : LinkHeard) → Keeps n s (after_answer s ch piece heard)
 keeps_answer n s ch piece unfinished =
     silent n s _ (record {
       reading = λ h. reads h;
@@ -219,7 +219,7 @@ keeps_take read n s ch got early none =
 same_places : (n : ℕ) (s t : Session) (c : Change) → HoldsMore n s t → Keeps n t c → Keeps n s c
 same_places n s t c holds keeps = record { held = λ h e. keeps.held (held_more n s t holds h) e; opened = keeps.opened }
 
-pub keeps_hearing : (read : Readers) (n : ℕ) (s : Session) (item : Item) (answer : Answered) → s.desk.tasks ≡ []
+pub keeps_hearing : (read : Readers) (n : ℕ) (s : Session) (item : HeardItem) (answer : Answered) → s.desk.tasks ≡ []
     → Keeps n s (after_hearing read s item answer)
 keeps_hearing read n s item (Waited arrival) none =
     same_places n s (record s { turns = one_less s.turns }) _

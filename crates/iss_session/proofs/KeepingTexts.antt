@@ -15,8 +15,8 @@ use Rattle.iss_model.specs.declared.decision.Judged.TheVariants.{New, Clock, Tol
 use Rattle.iss_model.specs.Inputs.{event_token}
 use Rattle.iss_model.specs.run.Runs.{judgement_in}
 use Rattle.iss_http.specs.Messages.{ask}
-use Rattle.iss_session.specs.Items.{Item, Happening, hears, judges, judging, is_answer_to, leveled, emit_steps}
-use Rattle.iss_session.specs.Desks.{Subject, reached, Task, to_dial, to_send, to_reply, Gone, Waiter, Desk, desk_with, next_for, gone_unsent, task_change, desk_change_by}
+use Rattle.iss_session.specs.Items.{HeardItem, Happening, hears, judges, judging, is_answer_to, leveled, emit_steps}
+use Rattle.iss_session.specs.Desks.{Subject, reached, Task, to_dial, to_send, to_reply, TextFate, Waiter, Desk, desk_with, next_for, gone_unsent, task_change, desk_change_by}
 use Rattle.iss_session.specs.Sessions.{Readers, Queued, Session, count, next_by}
 use Rattle.iss_session.specs.Judgements.{answer_tasks, waiters_of, judged_so, judged_input, judged_first}
 use Rattle.iss_session.specs.Hearings.{links_of, queued_of, after_desk, after_item}
@@ -63,11 +63,11 @@ emit_shut n level ch text true torn e = torn_shut n level ch (Some text) e
 emit_shut n level ch text false torn e = torn_shut n level ch torn e
 
 -- the session after a desk's change
-abbrev after_gone : Session → Desk → List Gone → Session
+abbrev after_gone : Session → Desk → List TextFate → Session
 after_gone s d gone = record s { links = s.links ++ flat_map links_of gone; queue = s.queue ++ flat_map queued_of gone; desk = d }
 
 -- what a desk's change holds, if its desk holds these texts and clients
-desk_holds : (n : ℕ) (s : Session) (d : Desk) (gone : List Gone) → (is_among n (task_channels s.desk.tasks) ≡ true → IsHeld n (after_gone s d gone))
+desk_holds : (n : ℕ) (s : Session) (d : Desk) (gone : List TextFate) → (is_among n (task_channels s.desk.tasks) ≡ true → IsHeld n (after_gone s d gone))
     → (is_among n (map waiter_channel s.desk.waiting) ≡ true → IsHeld n (after_gone s d gone)) → HoldsMore n s (after_gone s d gone)
 desk_holds n s d gone tasks waiting =
     record {
@@ -79,10 +79,10 @@ desk_holds n s d gone tasks waiting =
     }
 
 -- a text went out on this channel
-abbrev sent_on : Channel → Subject → List Gone
+abbrev sent_on : Channel → Subject → List TextFate
 sent_on ch subject = reached ch subject ∷ []
 
-keeps_task : (n : ℕ) (s : Session) (task : Task) (tasks : List Task) (item : Item) (answer : Answered) → is_answer_to (next_for task) answer ≡ true
+keeps_task : (n : ℕ) (s : Session) (task : Task) (tasks : List Task) (item : HeardItem) (answer : Answered) → is_answer_to (next_for task) answer ≡ true
     → s.desk.tasks ≡ task ∷ tasks → Keeps n s (after_desk s (task_change (count s) (desk_with tasks s.desk.waiting) task item answer))
 keeps_task n s (to_dial subject text) tasks item (Dialled (Some ch)) a is =
     record {
@@ -130,7 +130,7 @@ keeps_task n s (to_reply ch text) tasks item (Dialled to) a is = absurd (false�
 
 -- one item
 
-keeps_item : (read : Readers) (n : ℕ) (s : Session) (item : Item) (tasks : List Task) → s.desk.tasks ≡ tasks → is_answer_to (next_by s tasks) item.answer ≡ true
+keeps_item : (read : Readers) (n : ℕ) (s : Session) (item : HeardItem) (tasks : List Task) → s.desk.tasks ≡ tasks → is_answer_to (next_by s tasks) item.answer ≡ true
     → Keeps n s (after_item read s item tasks)
 keeps_item read n s item [] is a = keeps_hearing read n s item item.answer is
 keeps_item read n s item (task ∷ tasks) is a =

@@ -28,7 +28,7 @@ use Rattle.iss_model.specs.rules.Histories.{History, history_facts, history_keep
 use Rattle.iss_model.specs.run.Sayings.{Said, asked, noticed, said_by}
 use Rattle.iss_model.specs.run.Runs.{Run, judgement_in, said_first}
 use Rattle.iss_http.specs.Requests.{Request, more, body, faulty}
-use Rattle.iss_session.specs.Items.{Item, Happening, hears, judges}
+use Rattle.iss_session.specs.Items.{HeardItem, Happening, hears, judges}
 use Rattle.iss_session.specs.Desks.{Task, to_dial, to_send, to_reply, Waiter, task_change, desk_change_by}
 use Rattle.iss_session.specs.Links.{Link}
 use Rattle.iss_session.specs.Sessions.{Readers, Session, Queued, count, response_to, waiter_for, tasks_of, session_of}
@@ -76,14 +76,14 @@ answer_replies None a = tt
 answer_replies (Some ch) a = tt
 
 -- a text that is a response leaves a session local
-reply_local : (s : Session) (ch : Channel) (text : List ℕ) (tasks : List Task) (waiting : List Waiter) (item : Item) (a : Answered) → AreReplies tasks → s.links ≡ []
+reply_local : (s : Session) (ch : Channel) (text : List ℕ) (tasks : List Task) (waiting : List Waiter) (item : HeardItem) (a : Answered) → AreReplies tasks → s.links ≡ []
     → IsLocal (after_desk s (task_change (count s) (record { tasks = tasks; waiting = waiting }) (to_reply ch text) item a)).session
 reply_local s ch text tasks waiting item (Emitted to ok) r links = record { links = append-nil s.links ∙ links; tasks = r }
 reply_local s ch text tasks waiting item (Waited x) r links = record { links = append-nil s.links ∙ links; tasks = r }
 reply_local s ch text tasks waiting item (Took from got) r links = record { links = append-nil s.links ∙ links; tasks = r }
 reply_local s ch text tasks waiting item (Dialled x) r links = record { links = append-nil s.links ∙ links; tasks = r }
 
-local_desk : (s : Session) (tasks : List Task) (item : Item) → AreReplies tasks → AreReplies s.desk.tasks → s.links ≡ []
+local_desk : (s : Session) (tasks : List Task) (item : HeardItem) → AreReplies tasks → AreReplies s.desk.tasks → s.links ≡ []
     → IsLocal (after_desk s (desk_change_by (count s) s.desk tasks item)).session
 local_desk s [] item r all links = record { links = append-nil s.links ∙ links; tasks = all }
 local_desk s (to_reply ch text ∷ tasks) item r all links = reply_local s ch text tasks s.desk.waiting item item.answer r links
@@ -134,13 +134,13 @@ local_take read s ch got early l =
     (local_either (is_waiting ch s.desk.waiting) (after_waiting s ch got) (after_link read s ch got early (link_at ch s.links))
     (local_waiting s ch got l) (local_link read s ch got early l))
 
-local_hearing : (read : Readers) (s : Session) (item : Item) (answer : Answered) → IsLocal s → IsLocal (after_hearing read s item answer).session
+local_hearing : (read : Readers) (s : Session) (item : HeardItem) (answer : Answered) → IsLocal s → IsLocal (after_hearing read s item answer).session
 local_hearing read s item (Waited x) l = local_arrival (record s { turns = one_less s.turns }) x (record { links = l.links; tasks = l.tasks })
 local_hearing read s item (Took ch got) l = local_take read (record s { ready = None }) ch got item.early (record { links = l.links; tasks = l.tasks })
 local_hearing read s item (Dialled x) l = l
 local_hearing read s item (Emitted ch ok) l = l
 
-local_item : (read : Readers) (s : Session) (item : Item) (tasks : List Task) → IsLocal s → IsLocal (after_item read s item tasks).session
+local_item : (read : Readers) (s : Session) (item : HeardItem) (tasks : List Task) → IsLocal s → IsLocal (after_item read s item tasks).session
 local_item read s item [] l = local_hearing read s item item.answer l
 local_item read s item (task ∷ tasks) l = local_desk s s.desk.tasks item l.tasks l.tasks l.links
 

@@ -14,7 +14,7 @@ use Rattle.iss_model.specs.declared.decision.Judged.TheVariants.{New, Clock, Tol
 use Rattle.iss_model.specs.run.Runs.{Run, judgement_in}
 use Rattle.iss_agreement.proofs.Records.{step_records}
 use Rattle.iss_http.specs.Requests.{Request, more, body, faulty}
-use Rattle.iss_session.specs.Items.{Item, Happening, hears, judges}
+use Rattle.iss_session.specs.Items.{HeardItem, Happening, hears, judges}
 use Rattle.iss_session.specs.Desks.{Task}
 use Rattle.iss_session.specs.Links.{Link}
 use Rattle.iss_session.specs.Sessions.{Readers, Session, Queued, count}
@@ -65,13 +65,13 @@ run_take read s ch got early =
     (run_either s (is_waiting ch s.desk.waiting) (after_waiting s ch got) (after_link read s ch got early (link_at ch s.links))
     (run_waiting s ch got) (run_link read s ch got early (link_at ch s.links)))
 
-run_hearing : (read : Readers) (s : Session) (item : Item) (answer : Answered) → (after_hearing read s item answer).session.run ≡ s.run
+run_hearing : (read : Readers) (s : Session) (item : HeardItem) (answer : Answered) → (after_hearing read s item answer).session.run ≡ s.run
 run_hearing read s item (Waited arrival) = run_arrival (record s { turns = one_less s.turns }) arrival
 run_hearing read s item (Took ch got) = run_take read (record s { ready = None }) ch got item.early
 run_hearing read s item (Dialled ch) = refl
 run_hearing read s item (Emitted ch ok) = refl
 
-pub run_item : (read : Readers) (s : Session) (item : Item) (tasks : List Task) → (after_item read s item tasks).session.run ≡ s.run
+pub run_item : (read : Readers) (s : Session) (item : HeardItem) (tasks : List Task) → (after_item read s item tasks).session.run ≡ s.run
 run_item read s item [] = run_hearing read s item item.answer
 run_item read s item (task ∷ tasks) = refl
 

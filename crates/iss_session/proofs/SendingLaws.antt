@@ -11,8 +11,8 @@ use Rattle.iss_edge.specs.Stretches.{actions_of, with_levels}
 use Rattle.iss_edge.proofs.Outers.{adds_then}
 use Rattle.iss_edge.proofs.StretchLemmas.{actions_of-append, actions_of-leveled}
 use Rattle.iss_http.specs.Messages.{ask}
-use Rattle.iss_session.specs.Items.{Item, leveled}
-use Rattle.iss_session.specs.Desks.{Subject, Task, to_dial, to_reply, Waiter, waiters_without, Desk, desk_with, Gone, reached, gone_unsent, desk_after, desk_steps, desk_gone, FitsDesk}
+use Rattle.iss_session.specs.Items.{HeardItem, leveled}
+use Rattle.iss_session.specs.Desks.{Subject, Task, to_dial, to_reply, Waiter, waiters_without, Desk, desk_with, TextFate, reached, gone_unsent, desk_after, desk_steps, desk_gone, FitsDesk}
 use Rattle.iss_session.specs.Sendings.{Sends}
 use Rattle.iss_session.proofs.Compositions.{desk_after_append, desk_steps_append, desk_gone_append, fits_desk_append}
 
@@ -117,12 +117,12 @@ torn_reply_sends level ch text tasks waiting a b c p z =
       trace = r.trace ∙ ap (λ (actions : List Action). a.world.trace ++ actions) (sym (torn_closed level ch p.torn));
     }
 
-pub sends_then : (level : ℕ) (d e f : Desk) (g k : List Gone) (a b c : Outer) → Sends level d e g a b → Sends level e f k b c → Sends level d f (g ++ k) a c
+pub sends_then : (level : ℕ) (d e f : Desk) (g k : List TextFate) (a b c : Outer) → Sends level d e g a b → Sends level e f k b c → Sends level d f (g ++ k) a c
 sends_then level d e f g k a b c p q =
     let first = actions_of (desk_steps level d p.items) in
     let second = actions_of (desk_steps level e q.items) in
     let items = p.items ++ q.items in
-    let answers : List Item → List Answered = λ items. map (λ item. item.answer) items in
+    let answers : List HeardItem → List Answered = λ items. map (λ item. item.answer) items in
     let acts : actions_of (desk_steps level d items) ≡ first ++ second =
     ap actions_of (desk_steps_append level d p.items q.items)
     ∙ actions_of-append (desk_steps level d p.items) (desk_steps level (desk_after level d p.items) q.items)
@@ -131,11 +131,11 @@ sends_then level d e f g k a b c p q =
       items = items;
       heard = q.heard ∙ ap (λ (t : List Answered). t ++ answers q.items) p.heard
           ∙ append_assoc a.heard (answers p.items) (answers q.items)
-          ∙ ap (λ (t : List Answered). a.heard ++ t) (sym (map-append (λ (item : Item). item.answer) p.items q.items));
+          ∙ ap (λ (t : List Answered). a.heard ++ t) (sym (map-append (λ (item : HeardItem). item.answer) p.items q.items));
       fits = fits_desk_append level d p.items q.items p.fits (subst (λ (m : Desk). FitsDesk level m q.items) (sym p.ends) q.fits);
       ends = desk_after_append level d p.items q.items ∙ ap (λ (m : Desk). desk_after level m q.items) p.ends ∙ q.ends;
-      became = desk_gone_append level d p.items q.items ∙ ap (λ (t : List Gone). t ++ desk_gone level (desk_after level d p.items) q.items) p.became
-          ∙ ap (λ (m : Desk). g ++ desk_gone level m q.items) p.ends ∙ ap (λ (t : List Gone). g ++ t) q.became;
+      became = desk_gone_append level d p.items q.items ∙ ap (λ (t : List TextFate). t ++ desk_gone level (desk_after level d p.items) q.items) p.became
+          ∙ ap (λ (m : Desk). g ++ desk_gone level m q.items) p.ends ∙ ap (λ (t : List TextFate). g ++ t) q.became;
       device = q.device ∙ p.device;
       trace = q.trace ∙ ap (λ (t : List Action). t ++ second) p.trace ∙ append_assoc a.world.trace first second
           ∙ ap (λ (t : List Action). a.world.trace ++ t) (sym acts);

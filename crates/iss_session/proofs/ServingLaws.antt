@@ -11,8 +11,8 @@ use Rattle.iss_edge.specs.Stretches.{actions_of, is_still, AreStill}
 use Rattle.iss_edge.proofs.Tolds.{sent_on-append}
 use Rattle.iss_edge.proofs.StretchLemmas.{actions_of-append}
 use Rattle.iss_model.specs.run.Runs.{Run}
-use Rattle.iss_session.specs.Items.{Item, Happening, hears, judges, judging, answers_of}
-use Rattle.iss_session.specs.Desks.{Desk, Gone, desk_steps}
+use Rattle.iss_session.specs.Items.{HeardItem, Happening, hears, judges, judging, answers_of}
+use Rattle.iss_session.specs.Desks.{Desk, TextFate, desk_steps}
 use Rattle.iss_session.specs.Sessions.{Readers, Session, count, next_of, session_of}
 use Rattle.iss_session.specs.Judgements.{judged_first}
 use Rattle.iss_session.specs.Happenings.{session_change, session_after, session_steps, last_steps, Fits, IsNext, IsComplete}
@@ -100,7 +100,7 @@ serves_whole_part read s t a b p =
     }
 
 -- an answer that was called for, with what the session does then
-pub heard_serves : (read : Readers) (s : Session) (item : Item) (a b : Outer) → IsNext s item
+pub heard_serves : (read : Readers) (s : Session) (item : HeardItem) (a b : Outer) → IsNext s item
     → Adds (actions_of (session_change read s (hears item)).steps) (item.answer ∷ []) a b → Serves read s (session_change read s (hears item)).session a b
 heard_serves read s item a b next p =
     let c = session_change read s (hears item) in
@@ -117,7 +117,7 @@ heard_serves read s item a b next p =
     }
 
 -- what a desk did for its texts is a part of the session
-pub sends_serves : (read : Readers) (s : Session) (e : Desk) (gone : List Gone) (a b : Outer) → Sends (count s) s.desk e gone a b → Serves read s (with_desk s e gone) a b
+pub sends_serves : (read : Readers) (s : Session) (e : Desk) (gone : List TextFate) (a b : Outer) → Sends (count s) s.desk e gone a b → Serves read s (with_desk s e gone) a b
 sends_serves read s e gone a b p =
     let added = actions_of (desk_steps (count s) s.desk p.items) in
     let steps = desk_steps_in_session read s p.items p.fits in

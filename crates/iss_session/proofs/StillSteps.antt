@@ -9,9 +9,9 @@ use Rattle.iss_edge.specs.Outer.{torn_actions}
 use Rattle.iss_edge.specs.Stretches.{Step, with_levels, actions_of, sent_level, SentUpTo, AreStill, GoesOn}
 use Rattle.iss_edge.proofs.StretchLemmas.{still_goes_on, still_append, sent_append, sent_weaker, actions_of-append}
 use Rattle.iss_http.specs.Messages.{ask}
-use Rattle.iss_session.specs.Items.{Item, Happening, hears, judges, leveled, emit_steps}
+use Rattle.iss_session.specs.Items.{HeardItem, Happening, hears, judges, leveled, emit_steps}
 use Rattle.iss_session.specs.Desks.{Task, to_dial, to_send, to_reply, Desk, desk_with, task_change, desk_change_by}
-use Rattle.iss_session.specs.Links.{Link, Heard, unfinished, outcome, acknowledged, dropped, heard_as, link_reading}
+use Rattle.iss_session.specs.Links.{Link, LinkHeard, unfinished, outcome, acknowledged, dropped, heard_as, link_reading}
 use Rattle.iss_session.specs.Sessions.{Readers, Session, count}
 use Rattle.iss_session.specs.Hearings.{Change, after_reading, after_waiting, link_steps, link_at, after_link, is_reading, is_waiting, after_take, after_hearing, after_item}
 use Rattle.iss_session.specs.Happenings.{session_change, session_after, session_steps, closings, last_steps}
@@ -30,7 +30,7 @@ still_emit : (n : ℕ) (ch : Channel) (text : List ℕ) (ok : Bool) (torn : Opti
 still_emit n ch text true torn = (refl, refl, tt)
 still_emit n ch text false torn = still_torn n ch torn
 
-still_task : (n : ℕ) (d : Desk) (task : Task) (item : Item) (answer : Answered) → AreStillAt n (task_change n d task item answer).steps
+still_task : (n : ℕ) (d : Desk) (task : Task) (item : HeardItem) (answer : Answered) → AreStillAt n (task_change n d task item answer).steps
 still_task n d (to_dial subject text) item (Dialled (Some ch)) = (refl, refl, tt)
 still_task n d (to_dial subject text) item (Dialled None) = tt
 still_task n d (to_send ch subject text) item (Emitted to true) = still_emit n ch (ask text) true item.torn
@@ -40,7 +40,7 @@ still_task n d (to_reply ch text) item (Emitted to ok) =
     still_at_append n (emit_steps n ch text ok item.torn) (leveled n (Close ch) ∷ []) (still_emit n ch text ok item.torn) (refl, refl, tt)
 still_task n d _ item _ = tt
 
-still_desk : (n : ℕ) (d : Desk) (tasks : List Task) (item : Item) → AreStillAt n (desk_change_by n d tasks item).steps
+still_desk : (n : ℕ) (d : Desk) (tasks : List Task) (item : HeardItem) → AreStillAt n (desk_change_by n d tasks item).steps
 still_desk n d [] item = tt
 still_desk n d (task ∷ tasks) item = still_task n (desk_with tasks d.waiting) task item item.answer
 
@@ -53,7 +53,7 @@ still_waiting : (s : Session) (ch : Channel) (got : Option (List ℕ)) → AreSt
 still_waiting s ch None = (refl, refl, tt)
 still_waiting s ch (Some piece) = tt
 
-still_heard : (s : Session) (ch : Channel) (heard : Heard) → AreStillAt (count s) (link_steps s ch heard)
+still_heard : (s : Session) (ch : Channel) (heard : LinkHeard) → AreStillAt (count s) (link_steps s ch heard)
 still_heard s ch unfinished = tt
 still_heard s ch (outcome call o) = (refl, refl, tt)
 still_heard s ch (acknowledged n) = (refl, refl, tt)
@@ -75,13 +75,13 @@ still_take read s ch got early =
     (still_either (count s) (is_waiting ch s.desk.waiting) (after_waiting s ch got) (after_link read s ch got early (link_at ch s.links))
     (still_waiting s ch got) (still_link read s ch got early (link_at ch s.links)))
 
-still_hearing : (read : Readers) (s : Session) (item : Item) (answer : Answered) → AreStillAt (count s) (after_hearing read s item answer).steps
+still_hearing : (read : Readers) (s : Session) (item : HeardItem) (answer : Answered) → AreStillAt (count s) (after_hearing read s item answer).steps
 still_hearing read s item (Waited arrival) = tt
 still_hearing read s item (Took ch got) = still_take read (record s { ready = None }) ch got item.early
 still_hearing read s item (Dialled ch) = tt
 still_hearing read s item (Emitted ch ok) = tt
 
-still_item : (read : Readers) (s : Session) (item : Item) → AreStillAt (count s) (after_item read s item s.desk.tasks).steps
+still_item : (read : Readers) (s : Session) (item : HeardItem) → AreStillAt (count s) (after_item read s item s.desk.tasks).steps
 still_item read s item = by s.desk.tasks
   where
     by : (tasks : List Task) → AreStillAt (count s) (after_item read s item tasks).steps

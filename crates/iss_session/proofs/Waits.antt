@@ -12,7 +12,7 @@ use Rattle.iss_model.specs.declared.decision.Judged.{Judged}
 use Rattle.iss_model.specs.declared.decision.Judged.TheVariants.{New, Clock, Told}
 use Rattle.iss_model.specs.run.Runs.{judgement_in}
 use Rattle.iss_http.specs.Requests.{Request, more, body, faulty}
-use Rattle.iss_session.specs.Items.{Item, Happening, hears, judges, Next, judging, is_answer_to}
+use Rattle.iss_session.specs.Items.{HeardItem, Happening, hears, judges, Next, judging, is_answer_to}
 use Rattle.iss_session.specs.Desks.{Task, to_dial, to_send, to_reply, next_for}
 use Rattle.iss_session.specs.Links.{Link}
 use Rattle.iss_session.specs.Sessions.{Readers, Session, Queued, next_heard, next_idle, next_by}
@@ -88,7 +88,7 @@ never_waits (to_dial subject text) a e = absurd (false≢true e)
 never_waits (to_send ch subject text) a e = absurd (false≢true e)
 never_waits (to_reply ch text) a e = absurd (false≢true e)
 
-heard_turns : (read : Readers) (s : Session) (item : Item) (answer : Answered) → is_answer_to (next_by s []) answer ≡ true
+heard_turns : (read : Readers) (s : Session) (item : HeardItem) (answer : Answered) → is_answer_to (next_by s []) answer ≡ true
     → wait_count answer + (after_hearing read s item answer).session.turns ≤ s.turns
 heard_turns read s item (Waited a) e =
     let t : Session = record s { turns = one_less s.turns } in
@@ -97,14 +97,14 @@ heard_turns read s item (Took ch got) e = omega (arith, turns_take read (record 
 heard_turns read s item (Dialled ch) e = omega arith
 heard_turns read s item (Emitted ch ok) e = omega arith
 
-sent_turns : (read : Readers) (s : Session) (item : Item) (task : Task) (tasks : List Task) (answer : Answered) → is_answer_to (next_for task) answer ≡ true
+sent_turns : (read : Readers) (s : Session) (item : HeardItem) (task : Task) (tasks : List Task) (answer : Answered) → is_answer_to (next_for task) answer ≡ true
     → wait_count answer + (after_item read s item (task ∷ tasks)).session.turns ≤ s.turns
 sent_turns read s item task tasks (Waited a) e = never_waits task a e
 sent_turns read s item task tasks (Took ch got) e = omega arith
 sent_turns read s item task tasks (Dialled ch) e = omega arith
 sent_turns read s item task tasks (Emitted ch ok) e = omega arith
 
-item_turns : (read : Readers) (s : Session) (item : Item) (tasks : List Task) → is_answer_to (next_by s tasks) item.answer ≡ true
+item_turns : (read : Readers) (s : Session) (item : HeardItem) (tasks : List Task) → is_answer_to (next_by s tasks) item.answer ≡ true
     → wait_count item.answer + (after_item read s item tasks).session.turns ≤ s.turns
 item_turns read s item [] e = heard_turns read s item item.answer e
 item_turns read s item (task ∷ tasks) e = sent_turns read s item task tasks item.answer e

@@ -9,7 +9,7 @@ use Rattle.iss_edge.specs.World.{sent_on}
 use Rattle.iss_model.specs.declared.input.Record.{Record}
 use Rattle.iss_model.specs.rules.Histories.{IsLegalAfter, history_of}
 use Rattle.iss_model.specs.run.Runs.{Run, run_after}
-use Rattle.iss_session.specs.Items.{Item, Happening, hears, items_of}
+use Rattle.iss_session.specs.Items.{HeardItem, Happening, hears, items_of}
 use Rattle.iss_session.specs.Sessions.{Readers, Session, count, session_of}
 use Rattle.iss_session.specs.Happenings.{session_after, session_steps, last_steps, Fits, IsComplete}
 use Rattle.iss_session.specs.Accepted.{lines_judged, session_records}
@@ -104,11 +104,11 @@ DialledIsClosed read run turns happenings n =
     → left_open n false (actions_of (steps_to_end read (session_of run turns) happenings)) ≡ false
 
 -- a client comes on this channel
-abbrev pub ComesOn : Item → Channel → Type 0
+abbrev pub ComesOn : HeardItem → Channel → Type 0
 ComesOn item ch = item.answer ≡ Waited (Some (Client ch))
 
 -- If a client comes on a channel with an item, and happenings, that item and further ones are all of a run, the channel is closed in the end.
-abbrev pub ClientIsClosed : Readers → Run → ℕ → List Happening → List Happening → Item → Channel → Type 0
+abbrev pub ClientIsClosed : Readers → Run → ℕ → List Happening → List Happening → HeardItem → Channel → Type 0
 ClientIsClosed read run turns before after item ch =
     ComesOn item ch → Fits read (session_of run turns) (before ++ hears item ∷ after)
     → IsComplete (run_session read run turns (before ++ hears item ∷ after))

@@ -6,7 +6,7 @@ use Rattle.iss_edge.specs.declared.outside.Answered.{Answered}
 use Rattle.iss_edge.specs.declared.outside.Answered.TheVariants.{Took}
 use Rattle.iss_edge.specs.Stretches.{Step}
 use Rattle.iss_http.specs.Requests.{IsHopelessRequest}
-use Rattle.iss_session.specs.Items.{Item, Happening, hears, judges, judging, nothing, is_answer_to, leveled, IsTornEmit}
+use Rattle.iss_session.specs.Items.{HeardItem, Happening, hears, judges, judging, nothing, is_answer_to, leveled, IsTornEmit}
 use Rattle.iss_session.specs.Links.{Link, MayReadEarly}
 use Rattle.iss_session.specs.Sessions.{Readers, Session, count, next_of}
 use Rattle.iss_session.specs.Judgements.{judged_first}
@@ -33,12 +33,12 @@ MayEndEarlyOn s ch got early =
     is_reading ch s.readers ≡ false → is_waiting ch s.desk.waiting ≡ false → MayEndEarly (link_at ch s.links) got early
 
 -- what an item tells of being early is allowed
-abbrev pub MayBeEarly : Session → Item → Answered → Type 0
+abbrev pub MayBeEarly : Session → HeardItem → Answered → Type 0
 MayBeEarly s item (Took ch got) = MayAnswerEarly s ch got item.early × MayEndEarlyOn s ch got item.early
 MayBeEarly s item _ = Unit {0}
 
 -- the item answers the call that comes next
-pub record IsNext (s : Session) (item : Item) : Type 0 where
+pub record IsNext (s : Session) (item : HeardItem) : Type 0 where
   pub answers : is_answer_to (next_of s) item.answer ≡ true
   pub torn : IsTornEmit (next_of s) item.answer item.torn
   pub early : MayBeEarly s item item.answer

@@ -18,10 +18,10 @@ use Rattle.iss_http.specs.declared.faults.HttpFault.TheVariants.{Head, HeadLong,
 use Rattle.iss_http.specs.declared.statuses.TheConstants.{BAD_REQUEST, NOT_FOUND}
 use Rattle.iss_http.specs.Messages.{respond}
 use Rattle.iss_http.specs.Requests.{Request, more, body, faulty, request}
-use Rattle.iss_session.specs.Items.{Item, same_channel, leveled}
-use Rattle.iss_session.specs.Desks.{Task, to_reply, Gone, reached, unreached, Waiter, desk_with, waiters_without, DeskChange, desk_change}
-use Rattle.iss_session.specs.Links.{Link, Heard, unfinished, outcome, acknowledged, dropped, link_reading, heard_as, piece_of, links_after}
-use Rattle.iss_session.specs.Sessions.{Readers, Reader, Queued, Session, count, with_tasks, with_queued, unasked}
+use Rattle.iss_session.specs.Items.{HeardItem, same_channel, leveled}
+use Rattle.iss_session.specs.Desks.{Task, to_reply, TextFate, reached, unreached, Waiter, desk_with, waiters_without, DeskChange, desk_change}
+use Rattle.iss_session.specs.Links.{Link, LinkHeard, unfinished, outcome, acknowledged, dropped, link_reading, heard_as, piece_of, links_after}
+use Rattle.iss_session.specs.Sessions.{Readers, OpenRequest, Queued, Session, count, with_tasks, with_queued, unasked}
 
 -- the session after a change, and what was done in it
 pub record Change : Type 0 where
@@ -39,7 +39,7 @@ close_steps s ch = leveled (count s) (Close ch) ∷ []
 -- Arrivals
 
 -- the channel is one of a client whose request isn't whole yet
-abbrev pub is_reading : Channel → List Reader → Bool
+abbrev pub is_reading : Channel → List OpenRequest → Bool
 is_reading ch readers = list_any (λ r. same_channel r.ch ch) readers
 
 -- the channel is one of a client that waits
@@ -90,17 +90,17 @@ abbrev pub fault_response : HttpFault → List ℕ
 fault_response fault = respond (fault_status fault) (http_fault_line (fault_text fault))
 
 -- the clients on other channels
-abbrev pub readers_without : Channel → List Reader → List Reader
+abbrev pub readers_without : Channel → List OpenRequest → List OpenRequest
 readers_without ch readers = filter (λ r. not (same_channel r.ch ch)) readers
 
 -- these are the bytes that came on a channel now
-abbrev pub readers_with : Channel → List ℕ → List Reader → List Reader
+abbrev pub readers_with : Channel → List ℕ → List OpenRequest → List OpenRequest
 readers_with ch bytes [] = []
 readers_with ch bytes (r ∷ readers) =
     if same_channel r.ch ch then record r { bytes = bytes } ∷ readers else r ∷ readers_with ch bytes readers
 
 -- the bytes that came on a channel so far
-abbrev pub bytes_on : Channel → List Reader → List ℕ
+abbrev pub bytes_on : Channel → List OpenRequest → List ℕ
 bytes_on ch [] = []
 bytes_on ch (r ∷ readers) = if same_channel r.ch ch then r.bytes else bytes_on ch readers
 
@@ -141,19 +141,19 @@ after_waiting s ch (Some piece) = change_to s []
 -- Answers of the gateway
 
 -- what is to be judged after a link heard this
-abbrev pub inputs_of : Heard → List Queued
+abbrev pub inputs_of : LinkHeard → List Queued
 inputs_of unfinished = []
 inputs_of (outcome call o) = unasked (input.Answer call o) ∷ []
 inputs_of (acknowledged n) = unasked (input.Ack n) ∷ []
 inputs_of (dropped n) = []
 
 -- a link is closed after its answer was heard
-abbrev pub link_steps : Session → Channel → Heard → List Step
+abbrev pub link_steps : Session → Channel → LinkHeard → List Step
 link_steps s ch unfinished = []
 link_steps s ch _ = close_steps s ch
 
 -- a link heard this
-abbrev pub after_answer : Session → Channel → List ℕ → Heard → Change
+abbrev pub after_answer : Session → Channel → List ℕ → LinkHeard → Change
 after_answer s ch piece heard =
     change_to (record s { links = links_after ch piece s.links heard; queue = s.queue ++ inputs_of heard }) (link_steps s ch heard)
 
@@ -175,7 +175,7 @@ after_take read s ch got early =
     else after_link read s ch got early (link_at ch s.links)
 
 -- what a wait or a take answered
-abbrev pub after_hearing : Readers → Session → Item → Answered → Change
+abbrev pub after_hearing : Readers → Session → HeardItem → Answered → Change
 after_hearing read s item (Waited arrival) = change_to (after_arrival (record s { turns = one_less s.turns }) arrival) []
 after_hearing read s item (Took ch got) = after_take read (record s { ready = None }) ch got item.early
 after_hearing read s item _ = change_to s []
@@ -183,12 +183,12 @@ after_hearing read s item _ = change_to s []
 -- What became of texts to the gateway
 
 -- a text that went out is watched for its answer
-abbrev pub links_of : Gone → List Link
+abbrev pub links_of : TextFate → List Link
 links_of (reached ch subject) = record { ch = ch; subject = subject; bytes = [] } ∷ []
 links_of (unreached call) = []
 
 -- a call that wasn't reached has its answer
-abbrev pub queued_of : Gone → List Queued
+abbrev pub queued_of : TextFate → List Queued
 queued_of (reached ch subject) = []
 queued_of (unreached call) = unasked (input.Answer call Connection) ∷ []
 
@@ -198,6 +198,6 @@ after_desk s d =
     change_to (record s { links = s.links ++ flat_map links_of d.gone; queue = s.queue ++ flat_map queued_of d.gone; desk = d.desk }) d.steps
 
 -- an answer of the outside is for the first text, if there is one, and else for a wait or a take
-abbrev pub after_item : Readers → Session → Item → List Task → Change
+abbrev pub after_item : Readers → Session → HeardItem → List Task → Change
 after_item read s item [] = after_hearing read s item item.answer
 after_item read s item (task ∷ tasks) = after_desk s (desk_change (count s) s.desk item)

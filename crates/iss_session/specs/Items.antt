@@ -11,14 +11,14 @@ use Rattle.iss_edge.specs.Stretches.{Step, with_levels}
 
 -- One answer of the outside. If bytes were taken that no head begins with, `early` tells whether they are answered at once;
 -- if an emit failed, `torn` is the prefix of its text that went out, if an action was added for it.
-pub record Item : Type 0 where
+pub record HeardItem : Type 0 where
   pub answer : Answered
   pub early : Bool
   pub torn : Option (List ℕ)
 
 -- What a session goes through: it hears an answer of the outside, or judges the first input of its queue, for which no channel is asked.
 pub data Happening : Type 0 where
-  hears : Item → Happening
+  hears : HeardItem → Happening
   judges : Happening
 
 -- the answers that are heard in these happenings
@@ -28,7 +28,7 @@ answers_of (hears item ∷ happenings) = item.answer ∷ answers_of happenings
 answers_of (judges ∷ happenings) = answers_of happenings
 
 -- the items that are heard in these happenings
-abbrev pub items_of : List Happening → List Item
+abbrev pub items_of : List Happening → List HeardItem
 items_of [] = []
 items_of (hears item ∷ happenings) = item ∷ items_of happenings
 items_of (judges ∷ happenings) = items_of happenings

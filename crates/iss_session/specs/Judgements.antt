@@ -19,16 +19,16 @@ use Rattle.iss_session.specs.Desks.{Task, to_reply, Waiter, desk_with}
 use Rattle.iss_session.specs.Sessions.{Queued, Session, tasks_of, with_tasks}
 
 -- the status of a response that tells why an event isn't new
-abbrev pub status_of : Answer → ℕ
-status_of (Conflict token number) = CONFLICT
-status_of (Full free need) = INSUFFICIENT_STORAGE
-status_of Spent = INSUFFICIENT_STORAGE
-status_of _ = OK
+abbrev pub answer_status : Answer → ℕ
+answer_status (Conflict token number) = CONFLICT
+answer_status (Full free need) = INSUFFICIENT_STORAGE
+answer_status Spent = INSUFFICIENT_STORAGE
+answer_status _ = OK
 
 -- a client is told why its event isn't new; if the gateway or the clock brought the input, nobody is told
 abbrev pub answer_tasks : Option Channel → Answer → List Task
 answer_tasks None a = []
-answer_tasks (Some ch) a = to_reply ch (respond (status_of a) (answer_text a)) ∷ []
+answer_tasks (Some ch) a = to_reply ch (respond (answer_status a) (answer_text a)) ∷ []
 
 -- a client waits for its event
 abbrev pub waiters_of : Option Channel → Option (List ℕ) → List Waiter

@@ -23,7 +23,7 @@ pub record Readers : Type 0 where
   pub outcome : ℕ → Opened → ℕ → List ℕ → Outcome
 
 -- a client's channel whose request isn't whole yet, and the bytes that came on it
-pub record Reader : Type 0 where
+pub record OpenRequest : Type 0 where
   pub ch : Channel
   pub bytes : List ℕ
 
@@ -39,7 +39,7 @@ pub record Session : Type 0 where
   pub clock : ℕ
   pub turns : ℕ
   pub ready : Option Channel
-  pub readers : List Reader
+  pub readers : List OpenRequest
   pub links : List Link
   pub queue : List Queued
   pub desk : Desk

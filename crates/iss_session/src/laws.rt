@@ -3,7 +3,7 @@ ghost use Rattle.std.specs.Prelude.{◌≡◌, ℕ, ◌+◌, List, ◌++◌};
 ghost use Rattle.iss_edge.specs.Outer.{Outer};
 ghost use Rattle.iss_model.specs.run.Runs.{Run};
 ghost use Rattle.iss_session.specs.Items.{Happening};
-ghost use Rattle.iss_session.specs.Desks.{Desk, Gone};
+ghost use Rattle.iss_session.specs.Desks.{Desk, TextFate};
 ghost use Rattle.iss_session.specs.Sessions.{Readers, Session};
 ghost use Rattle.iss_session.specs.Happenings.{session_after, session_steps, Fits};
 ghost use Rattle.iss_session.specs.Sendings.{Sends};
@@ -21,7 +21,7 @@ pub fn parts_follow()
         → session_steps read s (a ++ b) ≡ steps_then read s a b }
     ensures fits { (read : Readers) (s : Session) (a b : List Happening) → Fits read s a
         → FitThen read s a b }
-    ensures sends { (level : ℕ) (d e f : Desk) (g k : List Gone) (a b c : Outer) → Sends level d e g a b
+    ensures sends { (level : ℕ) (d e f : Desk) (g k : List TextFate) (a b c : Outer) → Sends level d e g a b
         → Sends level e f k b c → Sends level d f (g ++ k) a c }
     ensures serves { (read : Readers) (s t u : Session) (a b c : Outer) → Serves read s t a b → Serves read t u b c
         → Serves read s u a c }

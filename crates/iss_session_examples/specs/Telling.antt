@@ -31,7 +31,7 @@ abbrev pub levels_of : List Step → List ℕ
 levels_of steps = filter_map (λ step. emit_level step.action step.level) steps
 
 -- what happens fits and is complete, and just this was done
-pub record Goes (w : WorkedSession) : Type 0 where
+pub record IsPlayed (w : WorkedSession) : Type 0 where
   pub fits : Fits program_readers w.start w.happenings
   pub complete : IsComplete (session_after program_readers w.start w.happenings)
   pub done : actions_of (session_steps program_readers w.start w.happenings ++ last_steps (session_after program_readers w.start w.happenings)) ≡ w.done

@@ -28,7 +28,7 @@ use Rattle.iss_store.specs.declared.fault.StoreFault.TheVariants as store
 use Rattle.iss_store.specs.Values.{StoreNow, Plan, IsFramed, IsStore, is_told_time}
 use Rattle.iss_store.specs.Numbers.{AreNumbered, IsNumbered}
 use Rattle.iss_store.specs.Standing.{region_under, bodies_of, AreHistory, StandsFor, RestsAt, StandsAt}
-use Rattle.iss_store.specs.Goings.{channel_steps, Goes, GoesPart}
+use Rattle.iss_store.specs.Goings.{channel_steps, StepsGo, StepsGoPart}
 use Rattle.iss_store.specs.Committing.{Commits, Keeps, KeepsPart, CommitCause}
 use Rattle.iss_store.proofs.Counts.{step_count}
 use Rattle.iss_store.proofs.Histories.{next_follows, history_more}
@@ -79,7 +79,7 @@ module _ (s : StoreNow) (r : Record) (spelled : is_record r ≡ true) (next : Is
   stays_history : (rs : List Record) → StandsFor s rs → AreHistory rs → AreHistory (with_record rs r)
   stays_history rs stands history = history_more rs r history (next_follows s.core rs r stands.core next) spelled
 
-  keeps_going : (rs : List Record) → StandsFor s rs → AppendsGoing s.place (append_bytes (spelling r)) a b → Goes (region_under s) rs (with_record rs r) [] a b
+  keeps_going : (rs : List Record) → StandsFor s rs → AppendsGoing s.place (append_bytes (spelling r)) a b → StepsGo (region_under s) rs (with_record rs r) [] a b
   keeps_going rs stands appends =
       let steps = with_levels 0 (actions_of_puts puts) in
       let same : actions_of steps ≡ actions_of_puts puts = actions_of-leveled 0 (actions_of_puts puts) in
@@ -100,7 +100,7 @@ module _ (s : StoreNow) (r : Record) (spelled : is_record r ≡ true) (next : Is
         history = stays_history rs stands;
       }
 
-  keeps_partly : (rs : List Record) → StandsFor s rs → AppendsGood s.place (append_bytes (spelling r)) a b → GoesPart (region_under s) rs (with_record rs r) [] a b
+  keeps_partly : (rs : List Record) → StandsFor s rs → AppendsGood s.place (append_bytes (spelling r)) a b → StepsGoPart (region_under s) rs (with_record rs r) [] a b
   keeps_partly rs stands appends =
       let actions = appends.part.actions in
       let steps = with_levels 0 actions in

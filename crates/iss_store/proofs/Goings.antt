@@ -9,7 +9,7 @@ use Rattle.iss_edge.proofs.StretchLemmas.{join, join_on, actions_of-append, afte
 use Rattle.iss_journal.specs.Region.{Region}
 use Rattle.iss_model.specs.declared.input.Record.{Record}
 use Rattle.iss_store.specs.Standing.{RestsIn, StandsIn}
-use Rattle.iss_store.specs.Goings.{channel_steps, LeavesDevice, Goes, GoesPart}
+use Rattle.iss_store.specs.Goings.{channel_steps, LeavesDevice, StepsGo, StepsGoPart}
 use Rattle.iss_store.proofs.NextRecords.{first_self, first_then, rests_first}
 
 trace_append : (a b c : World) (x y : List Step) → b.trace ≡ a.trace ++ actions_of x → c.trace ≡ b.trace ++ actions_of y → c.trace ≡ a.trace ++ actions_of (x ++ y)
@@ -30,7 +30,7 @@ leaves_then s t a b c f g =
 module _ (region : Region) where
   -- ---- one after the other
 
-  pub goes_then : (rs rs' rs'' : List Record) (t u : List Step) (a b c : World) → Goes region rs rs' t a b → Goes region rs' rs'' u b c → Goes region rs rs'' (t ++ u) a c
+  pub goes_then : (rs rs' rs'' : List Record) (t u : List Step) (a b c : World) → StepsGo region rs rs' t a b → StepsGo region rs' rs'' u b c → StepsGo region rs rs'' (t ++ u) a c
   goes_then rs rs' rs'' t u a b c f g =
       record {
         more = first_then rs rs' rs'' f.more g.more;
@@ -45,7 +45,7 @@ module _ (region : Region) where
         history = λ h. g.history (f.history h);
       }
 
-  pub goes_then_part : (rs rs' rs'' : List Record) (t u : List Step) (a b c : World) → Goes region rs rs' t a b → GoesPart region rs' rs'' u b c → GoesPart region rs rs'' (t ++ u) a c
+  pub goes_then_part : (rs rs' rs'' : List Record) (t u : List Step) (a b c : World) → StepsGo region rs rs' t a b → StepsGoPart region rs' rs'' u b c → StepsGoPart region rs rs'' (t ++ u) a c
   goes_then_part rs rs' rs'' t u a b c f g =
       record {
         more = first_then rs rs' rs'' f.more g.more;
@@ -60,12 +60,12 @@ module _ (region : Region) where
       }
 
   -- what goes on is good
-  pub goes_part : (rs rs' : List Record) (t : List Step) (a b : World) → Goes region rs rs' t a b → GoesPart region rs rs' t a b
+  pub goes_part : (rs rs' : List Record) (t : List Step) (a b : World) → StepsGo region rs rs' t a b → StepsGoPart region rs rs' t a b
   goes_part rs rs' t a b f =
       record { more = f.more; steps = f.steps; grew = f.grew; done = f.done; good = λ all first. (f.goes_on all first).good; history = f.history }
 
   -- what neither does anything nor changes the device
-  pub goes_still : (rs rs' : List Record) (t : List Step) (a b c : World) → Goes region rs rs' t a b → c.device ≡ b.device → c.trace ≡ b.trace → Goes region rs rs' t a c
+  pub goes_still : (rs rs' : List Record) (t : List Step) (a b c : World) → StepsGo region rs rs' t a b → c.device ≡ b.device → c.trace ≡ b.trace → StepsGo region rs rs' t a c
   goes_still rs rs' t a b c f device trace =
       record {
         more = f.more;
@@ -85,7 +85,7 @@ module _ (region : Region) where
       ap (λ (b : Bool). cond b (step ∷ channel_steps steps) (channel_steps steps)) still.0
       ∙ ap (λ (l : List Step). step ∷ l) (on_channels steps still.1)
 
-  pub still_goes : (rs : List Record) (steps : List Step) (a b : World) → AreStill (actions_of steps) → SentUpTo (length rs) steps → b.device ≡ a.device → b.trace ≡ a.trace ++ actions_of steps → Goes region rs rs steps a b
+  pub still_goes : (rs : List Record) (steps : List Step) (a b : World) → AreStill (actions_of steps) → SentUpTo (length rs) steps → b.device ≡ a.device → b.trace ≡ a.trace ++ actions_of steps → StepsGo region rs rs steps a b
   still_goes rs steps a b still sent device trace =
       record {
         more = first_self rs;
@@ -97,13 +97,13 @@ module _ (region : Region) where
         history = λ h. h;
       }
 
-  pub nothing_goes : (rs : List Record) (a : World) → Goes region rs rs [] a a
+  pub nothing_goes : (rs : List Record) (a : World) → StepsGo region rs rs [] a a
   nothing_goes rs a = still_goes rs [] a a tt tt refl (sym (append-nil a.trace))
 
   -- ---- where the run ends
 
   -- a device that stood at the records of the start stands at those of the end
-  pub goes_rests : (rs rs' : List Record) (t : List Step) (a b : World) → Goes region rs rs' t a b → RestsIn region rs a.device (length rs) → RestsIn region rs' b.device (length rs')
+  pub goes_rests : (rs rs' : List Record) (t : List Step) (a b : World) → StepsGo region rs rs' t a b → RestsIn region rs a.device (length rs) → RestsIn region rs' b.device (length rs')
   goes_rests rs rs' t a b f start =
       let d = disk_at_rest a.device in
       let calm : IsAtRest d = record { settled = λ place. refl } in

@@ -4,7 +4,7 @@ use Rattle.std.specs.Prelude.{Some}
 use Rattle.std.specs.List.{list_all}
 use Rattle.std.proofs.lemmas.Bool.{and_parts}
 use Rattle.iss_journal.specs.Place.{Place}
-use Rattle.iss_journal.specs.Region.{Region, need_of}
+use Rattle.iss_journal.specs.Region.{Region, frame_size}
 use Rattle.iss_journal.specs.Header.{header}
 use Rattle.iss_journal.specs.Reading.{ReadUpTo}
 use Rattle.iss_journal.proofs.ReadLemmas.{next_shown, reads_on, bad_shows_nothing}
@@ -105,9 +105,9 @@ module _ (instance : ℕ) (rs : List Record) (device : List ℕ) (stands : Devic
   spelled_there gate found =
       let region = region_of instance (length device) in
       let place = found.place in
-      let more : ReadUpTo region (bodies_of found.rs ++ found.body ∷ []) (record { gate = place.gate + need_of found.body; to = place.to }) device =
+      let more : ReadUpTo region (bodies_of found.rs ++ found.body ∷ []) (record { gate = place.gate + frame_size found.body; to = place.to }) device =
       reads_on region (bodies_of found.rs) found.body place device (read_here found.instance found.rs place found.reads) found.there in
-      let next = next_shown region (bodies_of found.rs ++ found.body ∷ []) (bodies_of rs) (record { gate = place.gate + need_of found.body; to = place.to }) device more stands.shows in
+      let next = next_shown region (bodies_of found.rs ++ found.body ∷ []) (bodies_of rs) (record { gate = place.gate + frame_size found.body; to = place.to }) device more stands.shows in
       spelled_at rs (bodies_of found.rs) found.body next.left stands.history.spelled next.begins
 
   no_bad_spelling : (gate : ℕ) → BadSpellingAt gate device → ⊥

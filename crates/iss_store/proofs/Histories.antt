@@ -17,8 +17,7 @@ use Rattle.iss_model.specs.run.Sayings.{Said, said_by, said_of_time, timed}
 use Rattle.iss_model.specs.run.Rooms.{need_of}
 use Rattle.iss_model.specs.state.Cores.{core_keeper}
 use Rattle.iss_agreement.proofs.JudgedAgain.{new_at, not_before}
-use Rattle.iss_core.specs.Values.{CoreNow, IsNext}
-use Rattle.iss_core.specs.Values as cores
+use Rattle.iss_core.specs.Values.{CoreNow, IsNext, CoreStandsFor}
 use Rattle.iss_core.proofs.OnBook.{judged_on_book, steps_on_book, told_on_book, count_of_book}
 use Rattle.iss_store.specs.Values.{StoreNow, Plan, DurableNow, is_time_input, is_told_time, said_of}
 use Rattle.iss_store.specs.Standing.{AreHistory, StandsFor}
@@ -30,7 +29,7 @@ legal_more h [] r legal follows = (follows, tt)
 legal_more h (x ∷ xs) r legal follows = (legal.0, legal_more (step history_keeper h x).world xs r legal.1 follows)
 
 -- a record that is next on a core follows on the records that it stands for
-pub next_follows : (c : CoreNow) (rs : List Record) (r : Record) → cores.StandsFor c rs → IsNext c r → Follows (history_of rs) r
+pub next_follows : (c : CoreNow) (rs : List Record) (r : Record) → CoreStandsFor c rs → IsNext c r → Follows (history_of rs) r
 next_follows c rs r stands next =
     let new : judge history_keeper (history_of rs) r.input r.at ≡ judged.New r =
     sym (judged_on_book c rs r.input r.at (judge core_keeper c.state r.input r.at) stands refl) ∙ next in
@@ -46,7 +45,7 @@ history_more rs r history follows spelled =
       spelled = list_all-append is_record rs (r ∷ []) ∙ rw (history.spelled, spelled) refl;
     }
 
-pub count_on_book : (c : CoreNow) (rs : List Record) → cores.StandsFor c rs → c.state.count ≡ length rs
+pub count_on_book : (c : CoreNow) (rs : List Record) → CoreStandsFor c rs → c.state.count ≡ length rs
 count_on_book c rs stands = told_on_book c rs (λ (f : Facts). f.count) c.state.count stands refl ∙ count_of_book rs
 
 -- that a time was taken, by the plan and by the book

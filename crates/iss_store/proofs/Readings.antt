@@ -7,7 +7,7 @@ use Rattle.iss_edge.specs.Calls.{Same}
 use Rattle.iss_edge.proofs.Tolds.{same_self, same_then}
 use Rattle.iss_journal.specs.Place.{Place}
 use Rattle.iss_journal.specs.Header.{header, HasInstance}
-use Rattle.iss_journal.specs.Region.{need_of}
+use Rattle.iss_journal.specs.Region.{frame_size}
 use Rattle.iss_journal.specs.Opening.{RecordAt, BadAt}
 use Rattle.iss_journal.specs.Reading.{ReadUpTo}
 use Rattle.iss_journal.proofs.ReadLemmas.{begins_to_read, reads_on}
@@ -25,8 +25,7 @@ use Rattle.iss_model.specs.rules.Histories.{Follows, time_of, history_of}
 use Rattle.iss_model.specs.state.Cores.{CoreState, core_facts, core_keeper, no_core}
 use Rattle.iss_agreement.proofs.Records.{records_history}
 use Rattle.iss_codec.specs.Meanings.{IsSpellingOf}
-use Rattle.iss_core.specs.Values.{CoreNow, IsNext, Steps}
-use Rattle.iss_core.specs.Values as cores
+use Rattle.iss_core.specs.Values.{CoreNow, IsNext, Steps, CoreStandsFor}
 use Rattle.iss_core.proofs.OnBook.{judged_on_book, stands_at_first, steps_on_book}
 use Rattle.iss_store.specs.Numbers.{IsNumbered}
 use Rattle.iss_store.specs.Standing.{region_of, bodies_of, AreHistory}
@@ -69,15 +68,15 @@ below_itself : (time at now : ℕ) → time ≤ at → time ≡ now → at < now
 below_itself time at now late same early = omega arith
 
 -- a record whose stamp is below the time follows on nothing that the core stands for
-pub too_early : (c : CoreNow) (r : Record) (now : ℕ) → ((rs : List Record) → cores.StandsFor c rs → now ≡ time_of rs) → r.at < now
-    → (rs : List Record) → cores.StandsFor c rs → Follows (history_of rs) r → ⊥
+pub too_early : (c : CoreNow) (r : Record) (now : ℕ) → ((rs : List Record) → CoreStandsFor c rs → now ≡ time_of rs) → r.at < now
+    → (rs : List Record) → CoreStandsFor c rs → Follows (history_of rs) r → ⊥
 too_early c r now told early rs stands follows =
     let time : time_of (history_of rs).records ≡ now = ap time_of (records_history rs) ∙ sym (told rs stands) in
     below_itself (time_of (history_of rs).records) r.at now follows.stamp time early
 
 -- and so does a record that isn't judged new
 pub not_judged_new : (c : CoreNow) (r : Record) (j : Judged) → j ≡ judge core_keeper c.state r.input r.at → ((x : Record) → j ≡ judged.New x → ⊥)
-    → (rs : List Record) → cores.StandsFor c rs → Follows (history_of rs) r → ⊥
+    → (rs : List Record) → CoreStandsFor c rs → Follows (history_of rs) r → ⊥
 not_judged_new c r j is not_new rs stands follows = not_new r (judged_on_book c rs r.input r.at j stands is ∙ follows.is_new)
 
 pub takes_up : (before after : CoreNow) (r : Record) (body : List ℕ) (made : List Entry) → IsSpellingOf r body → IsNext before r → Steps before after r made → after.state.count ≡ before.state.count + 1 → TakesUp before body after
@@ -101,7 +100,7 @@ takes_up before after r body made spelled next steps count =
 spelled_so : (found : Option Record) (r : Record) (body : List ℕ) → found ≡ Some r → IfSome found (λ x. IsSpellingOf x body) → IsSpellingOf r body
 spelled_so found r body is spelled = subst (λ (o : Option Record). IfSome o (λ x. IsSpellingOf x body)) is spelled
 
-pub goes_back : (c : CoreNow) (found : Option Record) (r : Record) (body : List ℕ) (now : ℕ) → found ≡ Some r → IfSome found (λ x. IsSpellingOf x body) → ((rs : List Record) → cores.StandsFor c rs → now ≡ time_of rs) → r.at < now
+pub goes_back : (c : CoreNow) (found : Option Record) (r : Record) (body : List ℕ) (now : ℕ) → found ≡ Some r → IfSome found (λ x. IsSpellingOf x body) → ((rs : List Record) → CoreStandsFor c rs → now ≡ time_of rs) → r.at < now
     → FollowsNot c body
 goes_back c found r body now is spelled told early =
     record { r = r; spelled = spelled_so found r body is spelled; illegal = too_early c r now told early }
@@ -120,7 +119,7 @@ taken_up before after found r made j body now entries is spelled told late judge
 pub record ReadSoFar (place : Place) (c : CoreNow) (a b : World) : Type 0 where
   pub same : Same a b
   pub rs : List Record
-  pub stands : cores.StandsFor c rs
+  pub stands : CoreStandsFor c rs
   pub history : AreHistory rs
   pub read : (instance : ℕ) → HasInstance a.device instance → place.to ≡ length a.device → ReadUpTo (region_of instance (length a.device)) (bodies_of rs) place a.device
 
@@ -140,7 +139,7 @@ read_nothing place c a first within none =
           subst (λ (p : Place). ReadUpTo (region_of instance (length a.device)) [] p a.device) (λ i. record { gate = headed i; to = sym whole i }) read;
     }
 
-pub read_one_more : (place now : Place) (c d : CoreNow) (body : List ℕ) (a b e : World) → now ≡ record { gate = place.gate + need_of body; to = place.to } → TakesUp c body d
+pub read_one_more : (place now : Place) (c d : CoreNow) (body : List ℕ) (a b e : World) → now ≡ record { gate = place.gate + frame_size body; to = place.to } → TakesUp c body d
     → ReadSoFar place c a b → RecordAt place body b.device → Same b e → ReadSoFar now d a e
 read_one_more place now c d body a b e moved takes read found same =
     let after = takes.on_book read.rs read.stands read.history in
@@ -157,7 +156,7 @@ read_one_more place now c d body a b e moved takes read found same =
           let to : place.to ≡ length a.device = ap (λ (p : Place). p.to) (sym moved) ∙ whole in
           let on = reads_on (region_of instance (length a.device)) (bodies_of read.rs) body place a.device (read.read instance has to) there in
           subst (λ (p : Place). ReadUpTo (region_of instance (length a.device)) (bodies_of (read.rs ++ takes.r ∷ [])) p a.device) (sym moved)
-          (subst (λ (bodies : List (List ℕ)). ReadUpTo (region_of instance (length a.device)) bodies (record { gate = place.gate + need_of body; to = place.to }) a.device) longer on);
+          (subst (λ (bodies : List (List ℕ)). ReadUpTo (region_of instance (length a.device)) bodies (record { gate = place.gate + frame_size body; to = place.to }) a.device) longer on);
     }
 
 history_read : (instance : ℕ) (place : Place) (c : CoreNow) (a b : World) (read : ReadSoFar place c a b) → HasInstance a.device instance → place.to ≡ length a.device

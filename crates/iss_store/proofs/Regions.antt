@@ -3,7 +3,7 @@ use Rattle.std.proofs.Common.{◌≡◌, ℕ, ◌+◌, List, [], ◌∷◌, ◌+
 use Rattle.std.proofs.lemmas.List.{take-map, map-append}
 use Rattle.std.proofs.lemmas.List.Sums.{fold-append}
 use Rattle.iss_journal.specs.Header.{header}
-use Rattle.iss_journal.specs.Region.{with_length, frames, bytes_before_gate}
+use Rattle.iss_journal.specs.Region.{body_with_length, frames, bytes_before_gate}
 use Rattle.iss_journal.proofs.Records.{length-spelled}
 use Rattle.iss_model.specs.declared.input.Record.{Record}
 use Rattle.iss_model.specs.texts.Spelling.{spelling}
@@ -19,7 +19,7 @@ frames_end : (rs : List Record) (place : ℕ) → place + length (frames (bodies
 frames_end [] place = omega arith
 frames_end (r ∷ rs) place =
     let first : place + length (frames (bodies_of (r ∷ rs))) ≡ place + need_of r + length (frames (bodies_of rs)) =
-    omega (arith, length-append {A = ℕ} (with_length (spelling r)) (frames (bodies_of rs)), length-spelled (spelling r)) in
+    omega (arith, length-append {A = ℕ} (body_with_length (spelling r)) (frames (bodies_of rs)), length-spelled (spelling r)) in
     first ∙ frames_end rs (place + need_of r)
 
 pub bodies_end : (instance size : ℕ) (rs : List Record) → length (bytes_before_gate (region_of instance size) (bodies_of rs)) ≡ end_gate rs

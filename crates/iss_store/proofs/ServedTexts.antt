@@ -23,7 +23,7 @@ use Rattle.iss_model.specs.rules.Facts.{Facts}
 use Rattle.iss_model.specs.state.Cores.{core_facts}
 use Rattle.iss_model.specs.run.Sayings.{said_by, timed, asked, noticed}
 use Rattle.iss_model.specs.run.Runs.{said_first}
-use Rattle.iss_session.specs.Desks.{Subject, Task, to_dial, to_reply, Waiter, waiters_without, desk_with, Gone}
+use Rattle.iss_session.specs.Desks.{Subject, Task, to_dial, to_reply, Waiter, waiters_without, desk_with, TextFate}
 use Rattle.iss_session.specs.Sendings.{Sends, gone_on}
 use Rattle.iss_session.specs.Sessions.{tasks_of}
 use Rattle.iss_session.proofs.SendingLaws.{sends_nothing, sends_then}
@@ -34,7 +34,7 @@ use Rattle.iss_core.specs.Views.{asked_openings}
 use Rattle.iss_core.proofs.OnBook.{facts_on_book}
 use Rattle.iss_store.specs.Values.{StoreNow, DurableNow}
 use Rattle.iss_store.specs.Standing.{StandsFor}
-use Rattle.iss_store.specs.Serving.{tasks_by, tasks_of_record, tasks_pending, tasks_pending_on_book, waiters_after, all_gone, SendsOn, SendsPart, SendsSomeOf, is_unreached, CausesGone, NotesSent, SentUpTo}
+use Rattle.iss_store.specs.Serving.{tasks_by, tasks_of_record, tasks_pending, tasks_pending_on_book, waiters_after, all_gone, SendsOn, SendsPart, SendsSomeOf, is_unreached, CausesGone, NotesSent, SentFirst}
 
 -- ---- one after the other
 
@@ -42,7 +42,7 @@ after_both : (a b : List Channel) (waiting : List Waiter) → waiters_after (a +
 after_both [] b waiting = refl
 after_both (ch ∷ a) b waiting = after_both a b (waiters_without ch waiting)
 
-sends_on_then : (t u : List Task) (g k : List Gone) (p q : List Channel) (a b c : Outer) → SendsOn t g p a b → SendsOn u k q b c → SendsOn (t ++ u) (g ++ k) (p ++ q) a c
+sends_on_then : (t u : List Task) (g k : List TextFate) (p q : List Channel) (a b c : Outer) → SendsOn t g p a b → SendsOn u k q b c → SendsOn (t ++ u) (g ++ k) (p ++ q) a c
 sends_on_then t u g k p q a b c first second =
     record {
       sends =
@@ -57,7 +57,7 @@ none_sent : (a : Outer) → SendsOn [] [] [] a a
 none_sent a = record { sends = λ level rest waiting. sends_nothing level (desk_with rest waiting) a }
 
 -- what is told of one text at each level, whatever comes after it and whoever waits
-pub one_sent : (task : Task) (gone : List Gone) (answered : List Channel) (x y : Option Outer)
+pub one_sent : (task : Task) (gone : List TextFate) (answered : List Channel) (x y : Option Outer)
     → ((level : ℕ) (rest : List Task) (waiting : List Waiter) → Told (Sends level (desk_with (task ∷ rest) waiting) (desk_with rest (waiters_after answered waiting)) gone) x y)
     → Told (SendsOn (task ∷ []) gone answered) x y
 one_sent task gone answered None None f = tt
@@ -91,14 +91,14 @@ told_unchanged x = told_self (Adds [] []) x unchanged
 pub told_none_of : (tasks : List Task) (x : Option Outer) → Told (SendsSomeOf tasks) x x
 told_none_of tasks x = told_nothing_sent tasks x x (told_unchanged x)
 
-all_of_some : (tasks : List Task) (gone : List Gone) (answered : List Channel) (a b : Outer) → SendsOn tasks gone answered a b → SendsSomeOf tasks a b
+all_of_some : (tasks : List Task) (gone : List TextFate) (answered : List Channel) (a b : Outer) → SendsOn tasks gone answered a b → SendsSomeOf tasks a b
 all_of_some tasks gone answered a b sent =
     record { part = λ level rest waiting. record { left = desk_with rest (waiters_after answered waiting); gone = gone; sends = sent.sends level rest waiting } }
 
-pub told_all_of_some : (tasks : List Task) (gone : List Gone) (answered : List Channel) (x y : Option Outer) → Told (SendsOn tasks gone answered) x y → Told (SendsSomeOf tasks) x y
+pub told_all_of_some : (tasks : List Task) (gone : List TextFate) (answered : List Channel) (x y : Option Outer) → Told (SendsOn tasks gone answered) x y → Told (SendsSomeOf tasks) x y
 told_all_of_some tasks gone answered x y sent = told_map (SendsOn tasks gone answered) (SendsSomeOf tasks) x y (all_of_some tasks gone answered) sent
 
-then_some : (front tasks rest : List Task) (gone : List Gone) (answered : List Channel) (a b c : Outer) → SendsOn front gone answered a b → SendsSomeOf tasks b c → SendsSomeOf (front ++ (tasks ++ rest)) a c
+then_some : (front tasks rest : List Task) (gone : List TextFate) (answered : List Channel) (a b c : Outer) → SendsOn front gone answered a b → SendsSomeOf tasks b c → SendsSomeOf (front ++ (tasks ++ rest)) a c
 then_some front tasks rest gone answered a b c first second =
     record {
       part =
@@ -171,27 +171,27 @@ torn_link before after ch f g h k e unused is first cause last =
 
 -- ---- a row of texts
 
-pub sent_to_begin : (all : List Task) (f : Faults) (x : Option Outer) → SentUpTo all all [] [] f f x x
+pub sent_to_begin : (all : List Task) (f : Faults) (x : Option Outer) → SentFirst all all [] [] f f x x
 sent_to_begin all f x = record { front = []; cut = refl; told = told_self (SendsOn [] [] []) x none_sent; caused = nothing_gone f }
 
-pub sent_to_next : (all tasks rest : List Task) (gone noted : List link.Gone) (ended answered : List Channel) (f g h : Faults) (x y z : Option Outer) → SentUpTo all (tasks ++ rest) gone ended f g x y
-    → NotesSent tasks gone noted ended answered g h y z → SentUpTo all rest noted answered f h x z
+pub sent_to_next : (all tasks rest : List Task) (gone noted : List link.Gone) (ended answered : List Channel) (f g h : Faults) (x y z : Option Outer) → SentFirst all (tasks ++ rest) gone ended f g x y
+    → NotesSent tasks gone noted ended answered g h y z → SentFirst all rest noted answered f h x z
 sent_to_next all tasks rest gone noted ended answered f g h x y z p q =
     record {
       front = p.front ++ tasks;
       cut = p.cut ∙ sym (append_assoc p.front tasks rest);
-      told = subst (λ (gs : List Gone). Told (SendsOn (p.front ++ tasks) gs answered) x z) (sym (ap all_gone q.gone ∙ map-append gone_as gone q.more))
+      told = subst (λ (gs : List TextFate). Told (SendsOn (p.front ++ tasks) gs answered) x z) (sym (ap all_gone q.gone ∙ map-append gone_as gone q.more))
           (subst (λ (cs : List Channel). Told (SendsOn (p.front ++ tasks) (all_gone gone ++ all_gone q.more) cs) x z) (sym q.answers)
           (told_then (SendsOn p.front (all_gone gone) ended) (SendsOn tasks (all_gone q.more) q.closed) (SendsOn (p.front ++ tasks) (all_gone gone ++ all_gone q.more) (ended ++ q.closed)) x y z
           (sends_on_then p.front tasks (all_gone gone) (all_gone q.more) ended q.closed) p.told q.told));
       caused = subst (λ (gs : List link.Gone). CausesGone f h gs) (sym q.gone) (causes_then f g h gone q.more p.caused q.caused);
     }
 
-pub sent_to_end : (all : List Task) (gone : List link.Gone) (answered : List Channel) (f g : Faults) (x y : Option Outer) → SentUpTo all [] gone answered f g x y → Told (SendsOn all (all_gone gone) answered) x y
+pub sent_to_end : (all : List Task) (gone : List link.Gone) (answered : List Channel) (f g : Faults) (x y : Option Outer) → SentFirst all [] gone answered f g x y → Told (SendsOn all (all_gone gone) answered) x y
 sent_to_end all gone answered f g x y p =
     subst (λ (ts : List Task). Told (SendsOn ts (all_gone gone) answered) x y) (sym (p.cut ∙ append-nil p.front)) p.told
 
-pub sent_to_part : (all tasks rest : List Task) (gone : List link.Gone) (ended : List Channel) (f g : Faults) (x y z : Option Outer) → SentUpTo all (tasks ++ rest) gone ended f g x y
+pub sent_to_part : (all tasks rest : List Task) (gone : List link.Gone) (ended : List Channel) (f g : Faults) (x y z : Option Outer) → SentFirst all (tasks ++ rest) gone ended f g x y
     → Told (SendsSomeOf tasks) y z → Told (SendsSomeOf all) x z
 sent_to_part all tasks rest gone ended f g x y z p q =
     subst (λ (ts : List Task). Told (SendsSomeOf ts) x z) (sym p.cut)
@@ -246,13 +246,13 @@ tasks_on_book s rs stands = ap (λ (f : Facts). flat_map (tasks_of s.core.instan
 
 -- ---- a whole desk
 
-pub whole_desk : (level : ℕ) (tasks : List Task) (gone : List Gone) (answered : List Channel) (before after : List Waiter) (a b : Outer) → after ≡ waiters_after answered before → SendsOn tasks gone answered a b
+pub whole_desk : (level : ℕ) (tasks : List Task) (gone : List TextFate) (answered : List Channel) (before after : List Waiter) (a b : Outer) → after ≡ waiters_after answered before → SendsOn tasks gone answered a b
     → Sends level (desk_with tasks before) (desk_with [] after) gone a b
 whole_desk level tasks gone answered before after a b left sent =
     subst (λ (ts : List Task). Sends level (desk_with ts before) (desk_with [] after) gone a b) (append-nil tasks)
     (subst (λ (ws : List Waiter). Sends level (desk_with (tasks ++ []) before) (desk_with [] ws) gone a b) (sym left) (sent.sends level [] before))
 
-pub told_whole_desk : (level : ℕ) (tasks all : List Task) (gone : List Gone) (answered : List Channel) (before after : List Waiter) (x y : Option Outer) → tasks ≡ all → after ≡ waiters_after answered before
+pub told_whole_desk : (level : ℕ) (tasks all : List Task) (gone : List TextFate) (answered : List Channel) (before after : List Waiter) (x y : Option Outer) → tasks ≡ all → after ≡ waiters_after answered before
     → Told (SendsOn tasks gone answered) x y → Told (Sends level (desk_with all before) (desk_with [] after) gone) x y
 told_whole_desk level tasks all gone answered before after x y is left sent =
     subst (λ (ts : List Task). Told (Sends level (desk_with ts before) (desk_with [] after) gone) x y) is
@@ -291,7 +291,7 @@ notes_text subject text sent more before after ended f g x y noted became caused
       gone = noted;
       closed = [];
       answers = sym (append-nil ended);
-      told = subst (λ (gs : List Gone). Told (SendsOn (to_dial subject text ∷ []) gs []) x y) became (one_sent (to_dial subject text) (gone_on subject sent) [] x y sends);
+      told = subst (λ (gs : List TextFate). Told (SendsOn (to_dial subject text ∷ []) gs []) x y) became (one_sent (to_dial subject text) (gone_on subject sent) [] x y sends);
       caused = caused;
     }
 

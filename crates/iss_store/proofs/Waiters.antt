@@ -15,7 +15,7 @@ use Rattle.iss_session.specs.Desks.{Waiter, waiters_without}
 use Rattle.iss_session.specs.Hearings.{is_waiting}
 use Rattle.iss_session.specs.Sessions.{waiter_for}
 use Rattle.iss_store.specs.declared.served.Waiting.{Waiting}
-use Rattle.iss_store.specs.Waiting.{waiter_of, AreKept}
+use Rattle.iss_store.specs.Waiting.{waiter_of, AreWaitersKept}
 
 -- ---- as contracts see them
 
@@ -68,7 +68,7 @@ channel_as event (w ∷ ws) =
 
 -- ---- by their events
 
-module _ (events : List (List ℕ × ℕ)) (p : Placed Waiting) (kept : AreKept events p) where
+module _ (events : List (List ℕ × ℕ)) (p : Placed Waiting) (kept : AreWaitersKept events p) where
   module _ (event : List ℕ) where
     first_at : (place : ℕ) → IsFirst (slice_cmp nat_cmp) events event place → thing_at p place ≡ find (waits_for event) (things_of p)
     first_at place first =
@@ -98,7 +98,7 @@ module _ (events : List (List ℕ × ℕ)) (p : Placed Waiting) (kept : AreKept 
 
   -- one more waits
   pub more_kept : (new : List (List ℕ × ℕ)) (place : ℕ) (w : Waiting) (after : Placed Waiting) → place ≡ p.next → Puts (slice_cmp nat_cmp) w.event place true events new → after ≡ one_more p w → ArePlaced after
-      → AreKept new after
+      → AreWaitersKept new after
   more_kept new place w after at puts is placed =
       record {
         placed = placed;
@@ -109,9 +109,9 @@ module _ (events : List (List ℕ × ℕ)) (p : Placed Waiting) (kept : AreKept 
 
   -- a place that was added and taken away again
   pub back_kept : (new last : List (List ℕ × ℕ)) (event : List ℕ) (place : ℕ) (after : Placed Waiting) → place ≡ p.next → Puts (slice_cmp nat_cmp) event place true events new
-      → Puts (slice_cmp nat_cmp) event place false new last → after ≡ p → AreKept last after
+      → Puts (slice_cmp nat_cmp) event place false new last → after ≡ p → AreWaitersKept last after
   back_kept new last event place after at puts gone same =
-      subst (AreKept last) (sym same)
+      subst (AreWaitersKept last) (sym same)
       (record {
         placed = kept.placed;
         found = back_found (slice_cmp nat_cmp) (λ x. x.event) events new last p.entries event place kept.found puts gone
@@ -120,7 +120,7 @@ module _ (events : List (List ℕ × ℕ)) (p : Placed Waiting) (kept : AreKept 
 
   -- a client that waited was taken out
   pub less_kept : (test : Waiting → Bool) (new : List (List ℕ × ℕ)) (place : ℕ) (w : Waiting) (after : Placed Waiting) → Takes test place w p after → Puts (slice_cmp nat_cmp) w.event place false events new
-      → ArePlaced after → AreKept new after
+      → ArePlaced after → AreWaitersKept new after
   less_kept test new place w after takes puts placed =
       record {
         placed = placed;

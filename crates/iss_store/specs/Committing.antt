@@ -12,7 +12,7 @@ use Rattle.iss_store.specs.declared.fault.StoreFault.{StoreFault}
 use Rattle.iss_store.specs.declared.fault.StoreFault.TheVariants.{Disk, Output, OutOfMemory}
 use Rattle.iss_store.specs.Values.{StoreNow, Plan, DurableNow, is_told_time, said_of}
 use Rattle.iss_store.specs.Standing.{StandsFor, region_under}
-use Rattle.iss_store.specs.Goings.{Goes, GoesPart}
+use Rattle.iss_store.specs.Goings.{StepsGo, StepsGoPart}
 
 -- A record was committed: the core took it up, the end gate stands right after it, and this is what it has to say. At most `MOST_RECORDS`
 -- records stand.
@@ -39,12 +39,12 @@ pub record CommitsOnBook (after : StoreNow) (rs : List Record) (p : Plan) (d : D
 -- A record was made to last: whatever records the store stood for, the run goes on from those to one more. Nothing was done on channels.
 pub record Keeps (s : StoreNow) (r : Record) (a b : World) : Type 0 where
   pub left : b.left ≡ a.left
-  pub goes : (rs : List Record) → StandsFor s rs → Goes (region_under s) rs (rs ++ r ∷ []) [] a b
+  pub goes : (rs : List Record) → StandsFor s rs → StepsGo (region_under s) rs (rs ++ r ∷ []) [] a b
 
 -- a part of that was done: the device stands for the old records, or also for the new one
 pub record KeepsPart (s : StoreNow) (r : Record) (a b : World) : Type 0 where
   pub left : b.left ≡ a.left
-  pub goes : (rs : List Record) → StandsFor s rs → GoesPart (region_under s) rs (rs ++ r ∷ []) [] a b
+  pub goes : (rs : List Record) → StandsFor s rs → StepsGoPart (region_under s) rs (rs ++ r ∷ []) [] a b
 
 -- the gate was opened: after that nothing failed, or only an allocation did
 abbrev pub WhereItLasts : {T : Type 0} → Result T StoreFault → Type 0 → Type 0

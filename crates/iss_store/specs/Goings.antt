@@ -23,7 +23,7 @@ pub record LeavesDevice (steps : List Step) (a b : World) : Type 0 where
 -- From these records up to those, just these steps were done on channels. All that was done is a stretch that is good from the one number
 -- of records to the other, whatever records come after them, and after which the run goes on. The device reads as it was left. If the
 -- records were a history before, they are one after it.
-pub record Goes (region : Region) (rs rs' : List Record) (said : List Step) (a b : World) : Type 0 where
+pub record StepsGo (region : Region) (rs rs' : List Record) (said : List Step) (a b : World) : Type 0 where
   pub more : AreFirstOf rs rs'
   pub steps : List Step
   pub grew : b.trace ≡ a.trace ++ actions_of steps
@@ -34,7 +34,7 @@ pub record Goes (region : Region) (rs rs' : List Record) (said : List Step) (a b
   pub history : AreHistory rs → AreHistory rs'
 
 -- The same of a run that ended in it: the stretch is good.
-pub record GoesPart (region : Region) (rs rs' : List Record) (said : List Step) (a b : World) : Type 0 where
+pub record StepsGoPart (region : Region) (rs rs' : List Record) (said : List Step) (a b : World) : Type 0 where
   pub more : AreFirstOf rs rs'
   pub steps : List Step
   pub grew : b.trace ≡ a.trace ++ actions_of steps

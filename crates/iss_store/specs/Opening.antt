@@ -14,8 +14,7 @@ use Rattle.iss_journal.specs.Reading.{ReadUpTo}
 use Rattle.iss_model.specs.declared.input.Record.{Record}
 use Rattle.iss_model.specs.rules.Histories.{Follows, history_of}
 use Rattle.iss_codec.specs.Meanings.{IsSpellingOf}
-use Rattle.iss_core.specs.Values.{CoreNow, IsNext}
-use Rattle.iss_core.specs.Values as cores
+use Rattle.iss_core.specs.Values.{CoreNow, IsNext, CoreStandsFor}
 use Rattle.iss_store.specs.declared.fault.OpenFault.{OpenFault}
 use Rattle.iss_store.specs.declared.fault.OpenFault.TheVariants.{Disk, NotFormatted, BadRecord, BadSpelling, BadHistory, OutOfMemory}
 use Rattle.iss_store.specs.Numbers.{IsNumbered}
@@ -179,14 +178,14 @@ pub record TakesUp (before : CoreNow) (body : List ℕ) (after : CoreNow) : Type
   pub kept : after.instance ≡ before.instance
   pub count : after.state.count ≡ before.state.count + 1
   pub numbered : IsNumbered before.state → IsNumbered after.state
-  pub on_book : (rs : List Record) → cores.StandsFor before rs → AreHistory rs
-      → cores.StandsFor after (rs ++ r ∷ []) × AreHistory (rs ++ r ∷ [])
+  pub on_book : (rs : List Record) → CoreStandsFor before rs → AreHistory rs
+      → CoreStandsFor after (rs ++ r ∷ []) × AreHistory (rs ++ r ∷ [])
 
 -- the body spells a record that doesn't follow on what the core stands for
 pub record FollowsNot (before : CoreNow) (body : List ℕ) : Type 0 where
   pub r : Record
   pub spelled : IsSpellingOf r body
-  pub illegal : (rs : List Record) → cores.StandsFor before rs → Follows (history_of rs) r → ⊥
+  pub illegal : (rs : List Record) → CoreStandsFor before rs → Follows (history_of rs) r → ⊥
 
 -- the body was taken up, or has a fault, which is named by the gate before it
 abbrev pub TakesIn : CoreNow → ℕ → List ℕ → Result CoreNow OpenFault → Type 0
@@ -202,7 +201,7 @@ TakesIn before gate body (Err (BadRecord at)) = ⊥
 pub record ReadsCore (place : Place) (c : CoreNow) (device : List ℕ) : Type 0 where
   pub rs : List Record
   pub reads : (instance : ℕ) → HasInstance device instance → place.to ≡ length device → ReadsHistory instance rs place device
-  pub stands : cores.StandsFor c rs
+  pub stands : CoreStandsFor c rs
   pub shut : slice_index device place.gate ≡ 1 → ⊥
 
 -- what reading all records of a device of this instance comes to

@@ -21,8 +21,8 @@ use Rattle.iss_model.specs.run.Sayings.{said_by}
 use Rattle.iss_model.specs.run.Runs.{said_first}
 use Rattle.iss_model.specs.rules.Histories.{history_facts, history_of}
 use Rattle.iss_model.specs.state.Cores.{core_facts}
-use Rattle.iss_session.specs.Desks.{Subject, of_call, of_notice, Task, Waiter, to_dial, to_reply, waiters_without, Desk, desk_with, Gone}
-use Rattle.iss_session.specs.Judgements.{status_of}
+use Rattle.iss_session.specs.Desks.{Subject, of_call, of_notice, Task, Waiter, to_dial, to_reply, waiters_without, Desk, desk_with, TextFate}
+use Rattle.iss_session.specs.Judgements.{answer_status}
 use Rattle.iss_session.specs.Sendings.{Sends, gone_on}
 use Rattle.iss_session.specs.Sessions.{tasks_of}
 use Rattle.iss_link.specs.declared.gone.Gone as link
@@ -54,7 +54,7 @@ notice_tasks instance notice = to_dial (of_notice notice.number) (notice_text in
 
 -- the response on this channel that tells why an input makes no record
 abbrev pub telling_tasks : Channel → Answer → List Task
-telling_tasks ch answer = to_reply ch (respond (status_of answer) (answer_text answer)) ∷ []
+telling_tasks ch answer = to_reply ch (respond (answer_status answer) (answer_text answer)) ∷ []
 
 -- the texts that go out for a record that lasts
 abbrev pub tasks_of_record : StoreNow → DurableNow → List Waiter → List Task
@@ -78,19 +78,19 @@ waiters_after [] waiting = waiting
 waiters_after (ch ∷ channels) waiting = waiters_after channels (waiters_without ch waiting)
 
 -- what became of texts to the gateway, as the definitions have it
-abbrev pub all_gone : List link.Gone → List Gone
+abbrev pub all_gone : List link.Gone → List TextFate
 all_gone gone = map gone_as gone
 
 -- These texts went out, at any level, whatever comes after them and whoever waits. This became of those to the gateway, and these
 -- channels were answered.
-pub record SendsOn (tasks : List Task) (gone : List Gone) (answered : List Channel) (a b : Outer) : Type 0 where
+pub record SendsOn (tasks : List Task) (gone : List TextFate) (answered : List Channel) (a b : Outer) : Type 0 where
   pub sends : (level : ℕ) (rest : List Task) (waiting : List Waiter)
       → Sends level (desk_with (tasks ++ rest) waiting) (desk_with rest (waiters_after answered waiting)) gone a b
 
 -- a desk went on to this one
 pub record SendsPart (level : ℕ) (d : Desk) (a b : Outer) : Type 0 where
   pub left : Desk
-  pub gone : List Gone
+  pub gone : List TextFate
   pub sends : Sends level d left gone a b
 
 -- of these texts some went out, at any level, whatever comes after them and whoever waits
@@ -188,7 +188,7 @@ NotesAnswered faults told heard a b tasks ended answered result =
     (gone : List link.Gone) → OnOk result (NotesOn faults told heard a b tasks gone gone ended answered)
 
 -- The first of all texts went out and were noted, and these are left.
-pub record SentUpTo (all rest : List Task) (gone : List link.Gone) (answered : List Channel) (f g : Faults) (x y : Option Outer) : Type 0 where
+pub record SentFirst (all rest : List Task) (gone : List link.Gone) (answered : List Channel) (f g : Faults) (x y : Option Outer) : Type 0 where
   pub front : List Task
   pub cut : all ≡ front ++ rest
   pub told : Told (SendsOn front (all_gone gone) answered) x y

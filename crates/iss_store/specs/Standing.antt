@@ -7,7 +7,7 @@ use Rattle.iss_model.specs.declared.input.Record.{Record}
 use Rattle.iss_model.specs.texts.Spelling.{spelling, is_record}
 use Rattle.iss_model.specs.rules.Histories.{IsLegal}
 use Rattle.iss_model.specs.run.Rooms.{end_gate}
-use Rattle.iss_core.specs.Values as cores
+use Rattle.iss_core.specs.Values.{CoreStandsFor}
 use Rattle.iss_store.specs.Values.{StoreNow}
 
 -- the journal of a device of this instance and size: all that comes after the header
@@ -30,7 +30,7 @@ pub record AreHistory (rs : List Record) : Type 0 where
 -- A store stands for these records: they are a history, its core's state is like the one that they make, and they end at its gate.
 pub record StandsFor (s : StoreNow) (rs : List Record) : Type 0 where
   pub history : AreHistory rs
-  pub core : cores.StandsFor s.core rs
+  pub core : CoreStandsFor s.core rs
   pub gate : s.place.gate ≡ end_gate rs
 
 -- A device stands for these records at this instance: its header has it, they are a history, and the journal shows their spellings.

@@ -12,6 +12,6 @@ abbrev pub waiter_of : Waiting → Waiter
 waiter_of w = record { event = w.event; ch = w.ch }
 
 -- clients that wait, each of whose places is found by its event
-pub record AreKept (events : List (List ℕ × ℕ)) (waiting : Placed Waiting) : Type 0 where
+pub record AreWaitersKept (events : List (List ℕ × ℕ)) (waiting : Placed Waiting) : Type 0 where
   pub placed : ArePlaced waiting
   pub found : AreFound (slice_cmp nat_cmp) (λ w. w.event) events waiting.entries

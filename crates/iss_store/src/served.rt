@@ -38,13 +38,13 @@ impl Model for Served {
     ghost use Rattle.std.specs.Prelude.{List, map};
     ghost use Rattle.iss_channels.specs.Placed.{things_of};
     ghost use Rattle.iss_session.specs.Desks.{Waiter};
-    ghost use Rattle.iss_store.specs.Waiting.{waiter_of, AreKept};
+    ghost use Rattle.iss_store.specs.Waiting.{waiter_of, AreWaitersKept};
 
     ghost Value = { List Waiter };
 
     ghost view = { λ s. map waiter_of (things_of s.waiting) };
 
-    ghost invariant = { λ s. AreKept s.events s.waiting };
+    ghost invariant = { λ s. AreWaitersKept s.events s.waiting };
 }
 
 impl Served {

@@ -5,7 +5,7 @@ ghost use Rattle.iss_edge.specs.Outer.{Adds, ToldBoth};
 ghost use Rattle.iss_http.specs.Messages.{IsStatus};
 ghost use Rattle.iss_model.specs.declared.entry.Entry.TheVariants as entry_of;
 ghost use Rattle.iss_session.specs.Desks.{Waiter};
-ghost use Rattle.iss_session.specs.Judgements.{status_of};
+ghost use Rattle.iss_session.specs.Judgements.{answer_status};
 ghost use Rattle.iss_store.specs.Saying.{StaysGood, IsDurableOf};
 ghost use Rattle.iss_store.specs.Numbers.{AreNumbered};
 ghost use Rattle.iss_store.specs.Serving.{SendsAnswer, SendsPending, ResumesPart, SendsRecord, SendsRecordPart, TasksOnBook, CausesGone, HaveNumbers, tasks_by_each, tasks_pending};
@@ -104,15 +104,15 @@ impl Store {
         ensures kept { Stays E.extent edge.old edge.new }
     {
         let line = told_line(alloc, answer)?;
-        let text = respond(alloc, status_of(answer), &line)?;
+        let text = respond(alloc, answer_status(answer), &line)?;
         reply(edge, ch, &text);
         Ok(())
     }
 }
 
 /// The status of a response that tells why an event isn't new: Conflict, Insufficient Storage or OK of RFC 9110.
-fn status_of(answer: &Answer) -> u16
-    ensures value { result ≡ status_of answer.now }
+fn answer_status(answer: &Answer) -> u16
+    ensures value { result ≡ answer_status answer.now }
     ensures known { IsStatus result }
 {
     match answer {

@@ -1,6 +1,6 @@
 //! What strangers send as a request, and the limits of one.
 use crate::filled::filled;
-use iss_http::{FeedFault, HttpFault, Reader};
+use iss_http::{FeedFault, HttpFault, RequestReader};
 use std::alloc::{AllocError, Global};
 use std::test::Fail;
 
@@ -9,7 +9,7 @@ type Told = Option<Result<usize, HttpFault>>;
 
 /// What bytes come to that arrive in two pieces.
 fn read(alloc: Global, bytes: &[u8]) -> Result<Told, AllocError> {
-    let mut reader = Reader::new(alloc)?;
+    let mut reader = RequestReader::new(alloc)?;
     let (front, back) = bytes.split_at(bytes.len() / 2);
     for piece in [front, back] {
         match reader.feed(alloc, piece) {

@@ -14,14 +14,13 @@ use Rattle.iss_model.specs.declared.input.Record.{Record}
 use Rattle.iss_model.specs.run.Transcripts.{Text, at_level}
 use Rattle.iss_store.specs.Values.{StoreNow}
 use Rattle.iss_store.specs.Standing.{region_under}
-use Rattle.iss_store.specs.Goings.{channel_steps}
-use Rattle.iss_store.specs.Goings as device
+use Rattle.iss_store.specs.Goings.{channel_steps, StepsGo}
 use Rattle.iss_store.proofs.Goings as joins
 use Rattle.iss_texts.specs.Sending.{emits, FailsAt, GoOut, Says, SaysSome}
 use Rattle.iss_texts.proofs.Saying.{all_out}
 use Rattle.iss_top.specs.Dry.{each_bytes}
 use Rattle.iss_top.specs.Progress.{is_output}
-use Rattle.iss_top.specs.Replaying.{outputs_of, is_of_run, output_levels, levels_of, text_step, text_steps, step_levels, Goes, GoesPart}
+use Rattle.iss_top.specs.Replaying.{outputs_of, is_of_run, output_levels, levels_of, text_step, text_steps, step_levels, TextsGo, TextsGoPart}
 
 -- ---- texts as steps
 
@@ -46,9 +45,9 @@ bytes_at n (text ∷ texts) = ap (λ (l : List (List ℕ)). text ∷ l) (bytes_a
 
 -- ---- one after the other
 
-pub goes_then : (s : StoreNow) (rs rs' rs'' : List Record) (t u : List Text) (a b c : World) → Goes s rs rs' t a b → Goes s rs' rs'' u b c → Goes s rs rs'' (t ++ u) a c
+pub goes_then : (s : StoreNow) (rs rs' rs'' : List Record) (t u : List Text) (a b c : World) → TextsGo s rs rs' t a b → TextsGo s rs' rs'' u b c → TextsGo s rs rs'' (t ++ u) a c
 goes_then s rs rs' rs'' t u a b c f g =
-    subst (λ (l : List Step). device.Goes (region_under s) rs rs'' l a c) (sym (map-append text_step t u))
+    subst (λ (l : List Step). StepsGo (region_under s) rs rs'' l a c) (sym (map-append text_step t u))
     (joins.goes_then (region_under s) rs rs' rs'' (text_steps t) (text_steps u) a b c f g)
 
 -- some of the texts that come after others went out, and those others did
@@ -66,7 +65,7 @@ out_then xs ys actions out =
       ended = out.ended;
     }
 
-pub goes_then_part : (failed : Type 0) (s : StoreNow) (rs rs' rs'' : List Record) (t u : List Text) (a b c : World) → Goes s rs rs' t a b → GoesPart failed s rs' rs'' u b c → GoesPart failed s rs rs'' (t ++ u) a c
+pub goes_then_part : (failed : Type 0) (s : StoreNow) (rs rs' rs'' : List Record) (t u : List Text) (a b c : World) → TextsGo s rs rs' t a b → TextsGoPart failed s rs' rs'' u b c → TextsGoPart failed s rs rs'' (t ++ u) a c
 goes_then_part failed s rs rs' rs'' t u a b c f g =
     let said = text_steps t ++ g.said in
     let bytes : each_bytes (t ++ u) ≡ each_bytes t ++ each_bytes u = map-append (λ (text : Text). text.bytes) t u in
@@ -92,7 +91,7 @@ goes_then_part failed s rs rs' rs'' t u a b c f g =
     }
 
 -- what goes on is good
-pub goes_part : (failed : Type 0) (s : StoreNow) (rs rs' : List Record) (t : List Text) (a b : World) → Goes s rs rs' t a b → GoesPart failed s rs rs' t a b
+pub goes_part : (failed : Type 0) (s : StoreNow) (rs rs' : List Record) (t : List Text) (a b : World) → TextsGo s rs rs' t a b → TextsGoPart failed s rs rs' t a b
 goes_part failed s rs rs' t a b f =
     record {
       said = text_steps t;
@@ -108,12 +107,12 @@ emits_still : (texts : List (List ℕ)) → AreStill (emits texts)
 emits_still [] = tt
 emits_still (text ∷ texts) = (refl, emits_still texts)
 
-pub says_goes : (s : StoreNow) (rs : List Record) (texts : List (List ℕ)) (a b : World) → Says texts a b → Goes s rs rs (at_level (length rs) texts) a b
+pub says_goes : (s : StoreNow) (rs : List Record) (texts : List (List ℕ)) (a b : World) → Says texts a b → TextsGo s rs rs (at_level (length rs) texts) a b
 says_goes s rs texts a b says =
     let n = length rs in
     let steps = with_levels n (emits texts) in
     let same : actions_of steps ≡ emits texts = actions_of-leveled n (emits texts) in
-    subst (λ (l : List Step). device.Goes (region_under s) rs rs l a b) (sym (steps_at n texts))
+    subst (λ (l : List Step). StepsGo (region_under s) rs rs l a b) (sym (steps_at n texts))
     (joins.still_goes (region_under s) rs steps a b (subst AreStill (sym same) (emits_still texts)) (sent_leveled n (emits texts)) says.sends.device
     (says.sends.grew ∙ ap (λ (l : List Action). a.trace ++ l) (sym same)))
 
@@ -131,7 +130,7 @@ still_out texts actions out =
     subst AreStill (sym out.done) (still_append (emits out.whole) out.last (emits_still out.whole) (still_last out.rest out.last out.ended))
 
 -- what was said leaves the device as it was
-pub some_goes : (region : Region) (rs : List Record) (texts : List (List ℕ)) (a b : World) (says : SaysSome texts a b) → device.Goes region rs rs (with_levels (length rs) says.sends.actions) a b
+pub some_goes : (region : Region) (rs : List Record) (texts : List (List ℕ)) (a b : World) (says : SaysSome texts a b) → StepsGo region rs rs (with_levels (length rs) says.sends.actions) a b
 some_goes region rs texts a b says =
     let n = length rs in
     let actions = says.sends.actions in
@@ -169,7 +168,7 @@ levels_out n texts actions out =
           ∙ ap (λ (l : List Action). step_levels (with_levels n l) ++ h.0) (sym out.done),
     )
 
-pub says_goes_part : (failed : Type 0) (s : StoreNow) (rs : List Record) (texts : List (List ℕ)) (a b : World) → SaysSome texts a b → GoesPart failed s rs rs (at_level (length rs) texts) a b
+pub says_goes_part : (failed : Type 0) (s : StoreNow) (rs : List Record) (texts : List (List ℕ)) (a b : World) → SaysSome texts a b → TextsGoPart failed s rs rs (at_level (length rs) texts) a b
 says_goes_part failed s rs texts a b says =
     let n = length rs in
     let actions = says.sends.actions in
@@ -209,7 +208,7 @@ out_more xs ys actions out =
       ended = elim out.ended [ inl none ↦ inl none | inr fails ↦ inr (fails_more out.rest ys out.last fails) ];
     }
 
-pub part_more : (failed : Type 0) (s : StoreNow) (rs rs' : List Record) (t u : List Text) (a b : World) → GoesPart failed s rs rs' t a b → GoesPart failed s rs rs' (t ++ u) a b
+pub part_more : (failed : Type 0) (s : StoreNow) (rs rs' : List Record) (t u : List Text) (a b : World) → TextsGoPart failed s rs rs' t a b → TextsGoPart failed s rs rs' (t ++ u) a b
 part_more failed s rs rs' t u a b f =
     record {
       said = f.said;
@@ -227,17 +226,17 @@ part_more failed s rs rs' t u a b f =
     }
 
 -- what failed may be told as something else
-pub part_fails : (failed other : Type 0) (s : StoreNow) (rs rs' : List Record) (t : List Text) (a b : World) → (failed → other) → GoesPart failed s rs rs' t a b → GoesPart other s rs rs' t a b
+pub part_fails : (failed other : Type 0) (s : StoreNow) (rs rs' : List Record) (t : List Text) (a b : World) → (failed → other) → TextsGoPart failed s rs rs' t a b → TextsGoPart other s rs rs' t a b
 part_fails failed other s rs rs' t a b so f =
     record { said = f.said; out = f.out; levels = f.levels; part = f.part; whole = elim f.whole [ inl goes ↦ inl goes | inr fails ↦ inr (so fails) ] }
 
 -- ---- nothing at all
 
-pub goes_nothing : (s : StoreNow) (rs : List Record) (a : World) → Goes s rs rs [] a a
+pub goes_nothing : (s : StoreNow) (rs : List Record) (a : World) → TextsGo s rs rs [] a a
 goes_nothing s rs a = joins.nothing_goes (region_under s) rs a
 
 -- whatever was to be said
-pub part_nothing : (failed : Type 0) (s : StoreNow) (rs : List Record) (t : List Text) (a : World) → GoesPart failed s rs rs t a a
+pub part_nothing : (failed : Type 0) (s : StoreNow) (rs : List Record) (t : List Text) (a : World) → TextsGoPart failed s rs rs t a a
 part_nothing failed s rs t a =
     record {
       said = [];
@@ -352,7 +351,7 @@ kinds_alone (action ∷ actions) sent =
     both_true (is_of_run action) (list_all is_of_run actions) (output_of_run action p.0) (kinds_alone actions p.1)
 
 module _ (s : StoreNow) (rs rs' : List Record) (texts : List Text) (a b : World) where
-  module _ (failed : Type 0) (p : GoesPart failed s rs rs' texts a b) where
+  module _ (failed : Type 0) (p : TextsGoPart failed s rs rs' texts a b) where
     sends_said : AreOutputs (actions_of p.said)
     sends_said = out_sent (each_bytes texts) (actions_of p.said) p.out
 
@@ -372,7 +371,7 @@ module _ (s : StoreNow) (rs rs' : List Record) (texts : List Text) (a b : World)
     part_kinds =
         kinds_channels p.part.steps ∙ ap (λ (l : List Step). list_all is_of_run (actions_of l)) p.part.done ∙ kinds_alone (actions_of p.said) sends_said
 
-  pub goes_outputs : (f : Goes s rs rs' texts a b) → outputs_of (actions_of f.steps) ≡ emits (each_bytes texts)
+  pub goes_outputs : (f : TextsGo s rs rs' texts a b) → outputs_of (actions_of f.steps) ≡ emits (each_bytes texts)
   goes_outputs f =
       outputs_channels f.steps
       ∙ ap (λ (l : List Step). outputs_of (actions_of l)) f.done

@@ -8,7 +8,7 @@ use Rattle.iss_top.specs.declared.reader.AtHand.{AtHand}
 use Rattle.iss_top.specs.Lines.{kept_with}
 use Rattle.iss_top.specs.Reader.{ReaderNow, Advances, slice_of, line_at_hand, may_come, fresh_reader}
 use Rattle.iss_top.specs.Pieces.{AreFresh, unread_of}
-use Rattle.iss_top.specs.AtHand.{EndsLine, line_of, now_of}
+use Rattle.iss_top.specs.AtHand.{EndsLine, line_of, seen_reader}
 use Rattle.iss_top.proofs.ToldAs.{length-line, length-kept_run}
 
 -- ---- slices
@@ -52,7 +52,7 @@ reader_at taken unread line ended = record { taken = taken; unread = unread; lin
 same_reader : (t t' : ℕ) (u u' l l' : List ℕ) (e e' : Bool) → t ≡ t' → u ≡ u' → l ≡ l' → e ≡ e' → reader_at t u l e ≡ reader_at t' u' l' e'
 same_reader t t' u u' l l' e e' p q r s = rw (p, q, r, s) refl
 
-pub fresh_hand : (h : AtHand) → AreFresh h.pieces → h.start ≡ 0 → h.end ≡ 0 → h.kept ≡ [] → h.ended ≡ false → now_of h ≡ fresh_reader
+pub fresh_hand : (h : AtHand) → AreFresh h.pieces → h.start ≡ 0 → h.end ≡ 0 → h.kept ≡ [] → h.ended ≡ false → seen_reader h ≡ fresh_reader
 fresh_hand h f start end kept ended =
     same_reader h.pieces.taken 0 (unread_of h.pieces) [] (line_of h) [] h.ended false f.taken
     (none_between h.pieces.bytes.items h.pieces.next h.pieces.filled f.next f.filled)
@@ -112,7 +112,7 @@ comes_not now ended = rw ended refl
 
 -- a line feed was found
 pub line_advances : (before : ReaderNow) (h n : AtHand) (at : ℕ) → before.ended ≡ false → h.ended ≡ false → IsFirstByte (is_byte 10) (unread_of h.pieces) (Some at) → h.pieces.taken ≤ MOST_INPUT → EndsLine at h n
-    → length h.kept + length (unread_of h.pieces) + before.taken ≤ length before.unread + h.pieces.taken → Advances before (now_of n)
+    → length h.kept + length (unread_of h.pieces) + before.taken ≤ length before.unread + h.pieces.taken → Advances before (seen_reader n)
 line_advances before h n at going more found limit ends room =
     let u = unread_of h.pieces in
     let within : at < length u = found.0.high in
@@ -123,15 +123,15 @@ line_advances before h n at going more found limit ends room =
     record {
       going = going;
       limit = omega (arith, ends.taken, limit);
-      room = omega (arith, room, size, first, left, within, ends.taken, comes (now_of n) (ends.ended ∙ more));
+      room = omega (arith, room, size, first, left, within, ends.taken, comes (seen_reader n) (ends.ended ∙ more));
     }
 
 -- the input ended
 pub last_advances : (before : ReaderNow) (n : AtHand) → before.ended ≡ false → n.pieces.taken ≤ MOST_INPUT → n.start ≡ 0 → n.end ≡ 0 → n.ended ≡ true
-    → length n.kept + length (unread_of n.pieces) + before.taken ≤ length before.unread + n.pieces.taken → Advances before (now_of n)
+    → length n.kept + length (unread_of n.pieces) + before.taken ≤ length before.unread + n.pieces.taken → Advances before (seen_reader n)
 last_advances before n going limit start end ended room =
     let size : length (line_of n) ≡ length n.kept = ap (λ (l : List ℕ). length l) (line_is_kept n.kept n.pieces.bytes.items n.start n.end start end) in
-    record { going = going; limit = limit; room = omega (arith, room, size, comes_not (now_of n) ended) }
+    record { going = going; limit = limit; room = omega (arith, room, size, comes_not (seen_reader n) ended) }
 
 -- what was kept of the line and what isn't read yet is among what wasn't read before and what was taken
 pub room_so_far : (kept kept' u u' : List ℕ) (n before taken taken' : ℕ) → kept' ≡ fold kept_with kept u → taken' ≡ taken + length u' → length kept + length u + before ≤ n + taken → length kept' + length u' + before ≤ n + taken'

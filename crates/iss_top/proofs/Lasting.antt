@@ -22,7 +22,7 @@ use Rattle.iss_device.specs.Runs.{run_at}
 use Rattle.iss_top.specs.Dry.{each_bytes}
 use Rattle.iss_top.specs.declared.stop.Stop.{Stop}
 use Rattle.iss_top.specs.Statuses.{stop_of_store}
-use Rattle.iss_top.specs.Replaying.{levels_of, IsOfDisk, Goes, GoesPart, GoesSome, TakesAs, TakesPartAs, response_to_plan}
+use Rattle.iss_top.specs.Replaying.{levels_of, IsOfDisk, TextsGo, TextsGoPart, GoesSome, TakesAs, TakesPartAs, response_to_plan}
 use Rattle.iss_top.proofs.Goings.{goes_then, goes_then_part, goes_part, part_more, says_goes, says_goes_part}
 
 -- ---- what is told of a planned record
@@ -66,14 +66,14 @@ kept s s' p d a b c done keeps says =
           let book = done.on_book rs stands in
           let after = with_record rs p.accepted in (
             subst (λ (l : List Record). StandsFor s' l) (sym (planned_records s p rs)) book.stands,
-            as_planned s s' p d rs (λ (l : List Record) (t : List Text). Goes s rs l t a c) done.commits.stepped.kept book.said
+            as_planned s s' p d rs (λ (l : List Record) (t : List Text). TextsGo s rs l t a c) done.commits.stepped.kept book.said
                 (goes_then s rs after after [] (at_level (length after) (texts_of_record s' d)) a b c
                 (keeps.goes rs stands) (says_goes s after (texts_of_record s' d) b c says)),
           );
     }
 
 -- a part of what is told of a plan, up to its record
-some_planned : (failed : Type 0) (s : StoreNow) (p : Plan) (rs : List Record) (a b : World) → GoesPart failed s rs (with_record rs p.accepted) (response_to_plan p (run_at s rs)).texts a b → GoesSome failed s rs (response_to_plan p (run_at s rs)) a b
+some_planned : (failed : Type 0) (s : StoreNow) (p : Plan) (rs : List Record) (a b : World) → TextsGoPart failed s rs (with_record rs p.accepted) (response_to_plan p (run_at s rs)).texts a b → GoesSome failed s rs (response_to_plan p (run_at s rs)) a b
 some_planned failed s p rs a b part =
     record {
       rs' = with_record rs p.accepted;
@@ -89,7 +89,7 @@ kept_part failed s s' p d a b c done keeps says =
           let book = done.on_book rs stands in
           let after = with_record rs p.accepted in
           some_planned failed s p rs a c
-          (subst (λ (t : List Text). GoesPart failed s rs after t a c) (sym (planned_texts s s' p d rs done.commits.stepped.kept book.said))
+          (subst (λ (t : List Text). TextsGoPart failed s rs after t a c) (sym (planned_texts s s' p d rs done.commits.stepped.kept book.said))
           (goes_then_part failed s rs after after [] (at_level (length after) (texts_of_record s' d)) a b c
           (keeps.goes rs stands) (says_goes_part failed s after (texts_of_record s' d) b c says)));
     }

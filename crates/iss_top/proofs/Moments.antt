@@ -12,7 +12,7 @@ use Rattle.iss_store.specs.Opening.{OpensGood, OpenedAs}
 use Rattle.iss_store.proofs.NextRecords.{first_self}
 use Rattle.iss_device.proofs.Firmly.{stops_stand}
 use Rattle.iss_device.proofs.Moments.{opening_on_device, trace_opened, not_opened_moments, not_opened_unsynced, trace_behind, opened_moments, opened_unsynced}
-use Rattle.iss_top.specs.Replaying.{levels_of, GoesPart}
+use Rattle.iss_top.specs.Replaying.{levels_of, TextsGoPart}
 use Rattle.iss_top.specs.Replays.{MomentsOf}
 use Rattle.iss_top.proofs.Beginnings.{levels_behind}
 use Rattle.iss_top.proofs.Goings.{part_levels}
@@ -37,7 +37,7 @@ moments_unopened instance rs more texts a b good stands legal =
     }
 
 -- a run on the store that was opened
-pub moments_opened : (failed : Type 0) (instance : ℕ) (rs all rs' : List Record) (texts : List Text) (s : StoreNow) (a b d : World) → OpenedAs s a b → DeviceStandsFor instance rs a.device → IsLegal all → AreFirstOf rs' all → GoesPart failed s rs rs' texts b d
+pub moments_opened : (failed : Type 0) (instance : ℕ) (rs all rs' : List Record) (texts : List Text) (s : StoreNow) (a b d : World) → OpenedAs s a b → DeviceStandsFor instance rs a.device → IsLegal all → AreFirstOf rs' all → TextsGoPart failed s rs rs' texts b d
     → MomentsOf instance rs all texts a d
 moments_opened failed instance rs all rs' texts s a b d opening stands legal first goes =
     record {

@@ -10,18 +10,17 @@ use Rattle.iss_model.specs.run.Runs.{Run, Response}
 use Rattle.iss_agreement.proofs.Records.{records_history}
 use Rattle.iss_store.specs.Values.{StoreNow}
 use Rattle.iss_store.specs.Standing.{region_of, region_under, StandsFor}
-use Rattle.iss_store.specs.Goings.{AreFirstOf}
-use Rattle.iss_store.specs.Goings as device
+use Rattle.iss_store.specs.Goings.{AreFirstOf, StepsGo, StepsGoPart}
 use Rattle.iss_store.proofs.Goings as joins
 use Rattle.iss_store.proofs.NextRecords.{first_then}
 use Rattle.iss_device.specs.Runs.{run_at}
 use Rattle.iss_top.specs.declared.stop.Stop.{Stop}
 use Rattle.iss_top.specs.declared.stop.Stop.TheVariants as stop
-use Rattle.iss_top.specs.Statuses.{status_of}
-use Rattle.iss_top.specs.Lines.{parts_of, all_but_last}
+use Rattle.iss_top.specs.Statuses.{stop_status}
+use Rattle.iss_top.specs.Lines.{line_parts, all_but_last}
 use Rattle.iss_top.specs.Progress.{HasRead}
 use Rattle.iss_top.specs.Reader.{ReaderNow, fresh_reader, IsToldAs, ReadsPart, ReadsNoPart, ReadsOn}
-use Rattle.iss_top.specs.Replaying.{told_line, told_lines, then_told, text_steps, Goes, GoesPart, GoesFor, GoesWhole, IsSameDevice, TakesAs, TakesPartAs, IsReplaying, RunsOnBook, RunsFrom}
+use Rattle.iss_top.specs.Replaying.{told_line, told_lines, then_told, text_steps, TextsGo, TextsGoPart, GoesFor, GoesWhole, IsSameDevice, TakesAs, TakesPartAs, IsReplaying, RunsOnBook, RunsFrom}
 use Rattle.iss_top.proofs.Goings.{goes_nothing, goes_then, goes_then_part, goes_part, part_more, part_fails}
 use Rattle.iss_top.proofs.Parts.{has_read_begins, has_read_next, has_read_on, parts_first, parts_over, parts_stopped}
 use Rattle.iss_top.proofs.ToldAs.{same_told}
@@ -31,43 +30,43 @@ use Rattle.iss_top.proofs.ToldLines.{ComesFirst, first_parts, told_one_more, run
 
 -- the status of a run that ended so
 abbrev pub ends_with : Stop → ℕ
-ends_with why = status_of {A = Unit {0}} (Err why)
+ends_with why = stop_status {A = Unit {0}} (Err why)
 
 abbrev GoesTo : StoreNow → List Record → Response → World → World → Type 0
-GoesTo s rs r a b = Goes s rs r.run.history.records r.texts a b
+GoesTo s rs r a b = TextsGo s rs r.run.history.records r.texts a b
 
 -- some of what the first parts are told is some of what all are told
-goes_first : (failed : Type 0) (s : StoreNow) (rs rs' : List Record) (first all : Response) (a b : World) → ComesFirst first all → GoesPart failed s rs rs' first.texts a b → GoesPart failed s rs rs' all.texts a b
+goes_first : (failed : Type 0) (s : StoreNow) (rs rs' : List Record) (first all : Response) (a b : World) → ComesFirst first all → TextsGoPart failed s rs rs' first.texts a b → TextsGoPart failed s rs rs' all.texts a b
 goes_first failed s rs rs' first all a b more f =
-    subst (λ (t : List Text). GoesPart failed s rs rs' t a b) more.cut (part_more failed s rs rs' first.texts more.later a b f)
+    subst (λ (t : List Text). TextsGoPart failed s rs rs' t a b) more.cut (part_more failed s rs rs' first.texts more.later a b f)
 
 -- the parts that were read come first among those of the input
-first_of_input : (s : Run) (parts : List (List ℕ)) (now : ReaderNow) (a b : World) → HasRead parts now a b → ComesFirst (told_lines s parts) (told_lines s (parts_of (a.left 0)))
+first_of_input : (s : Run) (parts : List (List ℕ)) (now : ReaderNow) (a b : World) → HasRead parts now a b → ComesFirst (told_lines s parts) (told_lines s (line_parts (a.left 0)))
 first_of_input s parts now a b read =
     let first = parts_first parts now a b read in
     subst (λ (l : List (List ℕ)). ComesFirst (told_lines s parts) (told_lines s l)) (sym first.cut) (first_parts s parts first.later)
 
 -- what neither does anything nor changes the device
-goes_still : (s : StoreNow) (rs rs' : List Record) (t : List Text) (a b c : World) → Goes s rs rs' t a b → c.device ≡ b.device → c.trace ≡ b.trace → Goes s rs rs' t a c
+goes_still : (s : StoreNow) (rs rs' : List Record) (t : List Text) (a b c : World) → TextsGo s rs rs' t a b → c.device ≡ b.device → c.trace ≡ b.trace → TextsGo s rs rs' t a c
 goes_still s rs rs' t a b c f same trace = joins.goes_still (region_under s) rs rs' (text_steps t) a b c f same trace
 
 same_region : (s s' : StoreNow) → IsSameDevice s s' → region_under s' ≡ region_under s
 same_region s s' same = λ i. region_of (same.instance i) (same.to i)
 
 -- what was done on a store is said of the one that was opened, which has the same device
-goes_same : (s s' : StoreNow) (rs rs' : List Record) (t : List Text) (a b : World) → IsSameDevice s s' → Goes s' rs rs' t a b → Goes s rs rs' t a b
+goes_same : (s s' : StoreNow) (rs rs' : List Record) (t : List Text) (a b : World) → IsSameDevice s s' → TextsGo s' rs rs' t a b → TextsGo s rs rs' t a b
 goes_same s s' rs rs' t a b same f =
-    subst (λ (r : Region). device.Goes r rs rs' (text_steps t) a b) (same_region s s' same) f
+    subst (λ (r : Region). StepsGo r rs rs' (text_steps t) a b) (same_region s s' same) f
 
-part_same : (failed : Type 0) (s s' : StoreNow) (rs rs' : List Record) (t : List Text) (a b : World) → IsSameDevice s s' → GoesPart failed s' rs rs' t a b → GoesPart failed s rs rs' t a b
+part_same : (failed : Type 0) (s s' : StoreNow) (rs rs' : List Record) (t : List Text) (a b : World) → IsSameDevice s s' → TextsGoPart failed s' rs rs' t a b → TextsGoPart failed s rs rs' t a b
 part_same failed s s' rs rs' t a b same f =
     record {
       said = f.said;
       out = f.out;
       levels = f.levels;
-      part = subst (λ (r : Region). device.GoesPart r rs rs' f.said a b) (same_region s s' same) f.part;
+      part = subst (λ (r : Region). StepsGoPart r rs rs' f.said a b) (same_region s s' same) f.part;
       whole =
-          elim f.whole [ inl goes ↦ inl (subst (λ (r : Region). device.Goes r rs rs' f.said a b) (same_region s s' same) goes) | inr fails ↦ inr fails ];
+          elim f.whole [ inl goes ↦ inl (subst (λ (r : Region). StepsGo r rs rs' f.said a b) (same_region s s' same) goes) | inr fails ↦ inr fails ];
     }
 
 same_then : (s s' s'' : StoreNow) → IsSameDevice s s' → IsSameDevice s' s'' → IsSameDevice s s''
@@ -91,7 +90,7 @@ way_begins s now a fresh =
       on_book =
           λ rs stands. (
             subst (λ (l : List Record). StandsFor s l) (sym (records_history rs)) stands,
-            subst (λ (l : List Record). Goes s rs l [] a a) (sym (records_history rs)) (goes_nothing s rs a),
+            subst (λ (l : List Record). TextsGo s rs l [] a a) (sym (records_history rs)) (goes_nothing s rs a),
           );
     }
 
@@ -139,20 +138,20 @@ module _ (opened s : StoreNow) (before now : ReaderNow) (a b c : World) (way : I
       let told = told_lines (run_at opened rs) way.parts in
       let line = told_line (run_at s told.run.history.records) now.line in
       let more = told_lines (run_at opened rs) (way.parts ++ reads.part ∷ []) in
-      let first : ComesFirst more (told_lines (run_at opened rs) (parts_of (a.left 0))) =
+      let first : ComesFirst more (told_lines (run_at opened rs) (line_parts (a.left 0))) =
       first_of_input (run_at opened rs) (way.parts ++ reads.part ∷ []) now a d (read_then d taken.left) in
       let some = taken.on_book told.run.history.records (way.on_book rs stands).0 in
-      let part : GoesPart failed opened rs some.rs' (told.texts ++ line.texts) a d =
+      let part : TextsGoPart failed opened rs some.rs' (told.texts ++ line.texts) a d =
       goes_then_part failed opened rs told.run.history.records some.rs' told.texts line.texts a c d (goes_until rs stands)
       (part_same failed opened s told.run.history.records some.rs' line.texts c d way.same some.goes) in
       let made : AreFirstOf some.rs' more.run.history.records =
       subst (λ (r : Response). AreFirstOf some.rs' r.run.history.records) (told_more rs) some.records in
       record {
         rs' = some.rs';
-        records = first_then some.rs' more.run.history.records (told_lines (run_at opened rs) (parts_of (a.left 0))).run.history.records made first.records;
+        records = first_then some.rs' more.run.history.records (told_lines (run_at opened rs) (line_parts (a.left 0))).run.history.records made first.records;
         goes =
-            goes_first (status ≡ 6) opened rs some.rs' more (told_lines (run_at opened rs) (parts_of (a.left 0))) a d first
-            (subst (λ (r : Response). GoesPart (status ≡ 6) opened rs some.rs' r.texts a d) (told_more rs)
+            goes_first (status ≡ 6) opened rs some.rs' more (told_lines (run_at opened rs) (line_parts (a.left 0))) a d first
+            (subst (λ (r : Response). TextsGoPart (status ≡ 6) opened rs some.rs' r.texts a d) (told_more rs)
             (part_fails failed (status ≡ 6) opened rs some.rs' (told.texts ++ line.texts) a d fails part));
         whole = λ e. absurd (not_done e);
         stopped = λ e. elim e [ inl at ↦ absurd (not_input at) | inr at ↦ absurd (not_long at) ];
@@ -173,7 +172,7 @@ module _ (opened s : StoreNow) (before now : ReaderNow) (a b c : World) (way : I
 
 -- no line was read
 ends_before : (opened s : StoreNow) (now : ReaderNow) (took : List ℕ) (a b c : World) (status : ℕ) (way : IsReplaying opened s now a b) → c.device ≡ b.device → c.trace ≡ b.trace
-    → (status ≡ 0 → ⊥) → ((status ≡ 3) ⊎ (status ≡ 8) → all_but_last (parts_of (take MOST_INPUT took)) ≡ way.parts) → (rs : List Record) → StandsFor opened rs → RunsOnBook status opened rs took a c
+    → (status ≡ 0 → ⊥) → ((status ≡ 3) ⊎ (status ≡ 8) → all_but_last (line_parts (take MOST_INPUT took)) ≡ way.parts) → (rs : List Record) → StandsFor opened rs → RunsOnBook status opened rs took a c
 ends_before opened s now took a b c status way device trace not_done stopped rs stands =
     let told = told_lines (run_at opened rs) way.parts in
     let done = way.on_book rs stands in
@@ -183,7 +182,7 @@ ends_before opened s now took a b c status way device trace not_done stopped rs 
       rs' = told.run.history.records;
       records = first.records;
       goes =
-          goes_first (status ≡ 6) opened rs told.run.history.records told (told_lines (run_at opened rs) (parts_of (a.left 0))) a c first
+          goes_first (status ≡ 6) opened rs told.run.history.records told (told_lines (run_at opened rs) (line_parts (a.left 0))) a c first
           (goes_part (status ≡ 6) opened rs told.run.history.records told.texts a c goes);
       whole = λ e. absurd (not_done e);
       stopped =
@@ -250,7 +249,7 @@ ends_well opened s before now a b c le way over =
             rs' = told.run.history.records;
             records = first.records;
             goes =
-                goes_first (0 ≡ 6) opened rs told.run.history.records told (told_lines (run_at opened rs) (parts_of (a.left 0))) a c first
+                goes_first (0 ≡ 6) opened rs told.run.history.records told (told_lines (run_at opened rs) (line_parts (a.left 0))) a c first
                 (goes_part (0 ≡ 6) opened rs told.run.history.records told.texts a c goes);
             whole =
                 λ e. (

@@ -5,7 +5,7 @@ use Rattle.iss_edge.specs.World.{World}
 use Rattle.iss_model.specs.declared.limits.TheConstants.{MOST_INPUT}
 use Rattle.iss_top.specs.declared.stop.Stop.{Stop}
 use Rattle.iss_top.specs.declared.stop.Stop.TheVariants as stop
-use Rattle.iss_top.specs.Lines.{has_line_feed, onto_first, parts_of, all_but_last}
+use Rattle.iss_top.specs.Lines.{has_line_feed, onto_first, line_parts, all_but_last}
 use Rattle.iss_top.specs.Reader.{ReaderNow, TakesIn, ReadsPart, ReadsNoPart, ReadsOn, Ends, fresh_reader}
 use Rattle.iss_top.specs.Progress.{HasRead}
 use Rattle.iss_top.proofs.Takes.{neither_first, neither_second, takes_then, takes_none, takes_on}
@@ -13,18 +13,18 @@ use Rattle.iss_top.proofs.Takes.{neither_first, neither_second, takes_then, take
 -- ---- the parts of bytes
 
 -- bytes without a line feed are one part
-pub part_alone : (part : List ℕ) → has_line_feed part ≡ false → parts_of part ≡ part ∷ []
+pub part_alone : (part : List ℕ) → has_line_feed part ≡ false → line_parts part ≡ part ∷ []
 part_alone [] e = refl
 part_alone (b ∷ bs) e =
-    ap (λ (t : Bool). cond t ([] ∷ parts_of bs) (onto_first (b ∷ []) (parts_of bs))) (neither_first (nat_eq b 10) (has_line_feed bs) e)
+    ap (λ (t : Bool). cond t ([] ∷ line_parts bs) (onto_first (b ∷ []) (line_parts bs))) (neither_first (nat_eq b 10) (has_line_feed bs) e)
     ∙ ap (onto_first (b ∷ [])) (part_alone bs (neither_second (nat_eq b 10) (has_line_feed bs) e))
 
 -- with a line feed after them they are the first part
-pub part_first : (part rest : List ℕ) → has_line_feed part ≡ false → parts_of (part ++ 10 ∷ rest) ≡ part ∷ parts_of rest
+pub part_first : (part rest : List ℕ) → has_line_feed part ≡ false → line_parts (part ++ 10 ∷ rest) ≡ part ∷ line_parts rest
 part_first [] rest e = refl
 part_first (b ∷ bs) rest e =
     let more = bs ++ 10 ∷ rest in
-    ap (λ (t : Bool). cond t ([] ∷ parts_of more) (onto_first (b ∷ []) (parts_of more))) (neither_first (nat_eq b 10) (has_line_feed bs) e)
+    ap (λ (t : Bool). cond t ([] ∷ line_parts more) (onto_first (b ∷ []) (line_parts more))) (neither_first (nat_eq b 10) (has_line_feed bs) e)
     ∙ ap (onto_first (b ∷ [])) (part_first bs rest (neither_second (nat_eq b 10) (has_line_feed bs) e))
 
 pub all_but_one : (parts : List (List ℕ)) (last : List ℕ) → all_but_last (parts ++ last ∷ []) ≡ parts
@@ -64,13 +64,13 @@ all_of bytes part now b (inr e) ended = (e.1, e.2)
 
 -- if the next part ended, the rest begins after its line feed
 next_cut : (unread took part unread' rest : List ℕ) (parts : List (List ℕ)) → has_line_feed part ≡ false → unread ++ took ≡ part ++ 10 ∷ unread'
-    → parts ++ parts_of (unread ++ (took ++ rest)) ≡ (parts ++ part ∷ []) ++ parts_of (unread' ++ rest)
+    → parts ++ line_parts (unread ++ (took ++ rest)) ≡ (parts ++ part ∷ []) ++ line_parts (unread' ++ rest)
 next_cut unread took part unread' rest parts one_line cut =
     let all : unread ++ (took ++ rest) ≡ part ++ 10 ∷ (unread' ++ rest) =
     sym (append_assoc unread took rest) ∙ ap (λ (l : List ℕ). l ++ rest) cut ∙ append_assoc part (10 ∷ unread') rest in
-    ap (λ (l : List ℕ). parts ++ parts_of l) all
+    ap (λ (l : List ℕ). parts ++ line_parts l) all
     ∙ ap (λ (l : List (List ℕ)). parts ++ l) (part_first part (unread' ++ rest) one_line)
-    ∙ sym (append_assoc parts (part ∷ []) (parts_of (unread' ++ rest)))
+    ∙ sym (append_assoc parts (part ∷ []) (line_parts (unread' ++ rest)))
 
 -- the next part was read
 pub has_read_next : (parts : List (List ℕ)) (before now : ReaderNow) (a b c : World) → before.ended ≡ false → HasRead parts before a b → (r : ReadsPart before now b c) → HasRead (parts ++ r.part ∷ []) now a c
@@ -81,14 +81,14 @@ has_read_next parts before now a b c going h r =
       count = omega (arith, length-append {A = ℕ} h.took r.took, h.count, r.count);
       cut =
           λ more rest.
-          ap parts_of (append_assoc h.took r.took rest)
+          ap line_parts (append_assoc h.took r.took rest)
           ∙ h.cut going (r.took ++ rest)
           ∙ next_cut before.unread r.took r.part now.unread rest parts r.one_line (cut_of (before.unread ++ r.took) r.part now c r.ends more);
       all =
           λ ended.
           let last = all_of (before.unread ++ r.took) r.part now c r.ends ended in (
             h.cut going r.took
-                ∙ ap (λ (l : List ℕ). parts ++ parts_of l) last.0
+                ∙ ap (λ (l : List ℕ). parts ++ line_parts l) last.0
                 ∙ ap (λ (l : List (List ℕ)). parts ++ l) (part_alone r.part r.one_line),
             last.1,
           );
@@ -101,30 +101,30 @@ pub record AreFirstParts (parts all : List (List ℕ)) : Type 0 where
   pub later : List (List ℕ)
   pub cut : all ≡ parts ++ later
 
-first_where : (parts : List (List ℕ)) (now : ReaderNow) (a b : World) (ended : Bool) → now.ended ≡ ended → HasRead parts now a b → AreFirstParts parts (parts_of (a.left 0))
+first_where : (parts : List (List ℕ)) (now : ReaderNow) (a b : World) (ended : Bool) → now.ended ≡ ended → HasRead parts now a b → AreFirstParts parts (line_parts (a.left 0))
 first_where parts now a b false e h =
-    record { later = parts_of (now.unread ++ b.left 0); cut = ap parts_of h.takes.bytes ∙ h.cut e (b.left 0) }
+    record { later = line_parts (now.unread ++ b.left 0); cut = ap line_parts h.takes.bytes ∙ h.cut e (b.left 0) }
 first_where parts now a b true e h =
     record {
       later = [];
       cut =
-          ap parts_of (h.takes.bytes ∙ ap (λ (l : List ℕ). h.took ++ l) (h.all e).1 ∙ append-nil h.took)
+          ap line_parts (h.takes.bytes ∙ ap (λ (l : List ℕ). h.took ++ l) (h.all e).1 ∙ append-nil h.took)
           ∙ (h.all e).0 ∙ sym (append-nil parts);
     }
 
 -- what was read comes first among the parts of the input
-pub parts_first : (parts : List (List ℕ)) (now : ReaderNow) (a b : World) → HasRead parts now a b → AreFirstParts parts (parts_of (a.left 0))
+pub parts_first : (parts : List (List ℕ)) (now : ReaderNow) (a b : World) → HasRead parts now a b → AreFirstParts parts (line_parts (a.left 0))
 parts_first parts now a b h = first_where parts now a b now.ended refl h
 
 -- all of the input was read
-pub parts_all : (parts : List (List ℕ)) (now : ReaderNow) (a b : World) → now.ended ≡ true → HasRead parts now a b → (parts_of (a.left 0) ≡ parts) × (b.left 0 ≡ [])
+pub parts_all : (parts : List (List ℕ)) (now : ReaderNow) (a b : World) → now.ended ≡ true → HasRead parts now a b → (line_parts (a.left 0) ≡ parts) × (b.left 0 ≡ [])
 parts_all parts now a b ended h = (
-  ap parts_of (h.takes.bytes ∙ ap (λ (l : List ℕ). h.took ++ l) (h.all ended).1 ∙ append-nil h.took) ∙ (h.all ended).0,
+  ap line_parts (h.takes.bytes ∙ ap (λ (l : List ℕ). h.took ++ l) (h.all ended).1 ∙ append-nil h.took) ∙ (h.all ended).0,
   (h.all ended).1,
 )
 
 -- reading on gave nothing, so all of the input was read
-pub parts_over : (parts : List (List ℕ)) (before now : ReaderNow) (a b c : World) → HasRead parts before a b → ReadsOn false before now b c → (parts_of (a.left 0) ≡ parts) × (c.left 0 ≡ [])
+pub parts_over : (parts : List (List ℕ)) (before now : ReaderNow) (a b c : World) → HasRead parts before a b → ReadsOn false before now b c → (line_parts (a.left 0) ≡ parts) × (c.left 0 ≡ [])
 parts_over parts before now a b c h over =
     let all = parts_all parts before a b over.0 h in
     (all.0, ap (λ (l : ℕ → List ℕ). l 0) over.2.left ∙ all.1)
@@ -132,7 +132,7 @@ parts_over parts before now a b c h over =
 -- Reading on failed: the bytes that were taken in all, and of which the parts that were read are those that ended within the limit.
 pub record Stopped (parts : List (List ℕ)) (why : Stop) (took : List ℕ) (a c : World) : Type 0 where
   pub takes : TakesIn took a c
-  pub ended : (why ≡ stop.Memory → ⊥) → all_but_last (parts_of (take MOST_INPUT took)) ≡ parts
+  pub ended : (why ≡ stop.Memory → ⊥) → all_but_last (line_parts (take MOST_INPUT took)) ≡ parts
   pub long : (why ≡ stop.InputLong → length took ≡ MOST_INPUT + 1) × (length took ≡ MOST_INPUT + 1 → why ≡ stop.InputLong)
   pub bound : length took ≤ MOST_INPUT + 1
 
@@ -149,7 +149,7 @@ parts_stopped parts before why a b c h r =
       takes = takes_then h.took r.took a b c h.takes r.takes.takes;
       ended =
           λ other.
-          ap (λ (l : List ℕ). all_but_last (parts_of l)) (take_within MOST_INPUT h.took r.took before.taken h.count r.limit)
+          ap (λ (l : List ℕ). all_but_last (line_parts l)) (take_within MOST_INPUT h.took r.took before.taken h.count r.limit)
           ∙ ap all_but_last (h.cut r.going last)
           ∙ ap (λ (l : List (List ℕ)). all_but_last (parts ++ l)) (part_alone (before.unread ++ last) (r.no_line other))
           ∙ all_but_one parts (before.unread ++ last);

@@ -28,7 +28,7 @@ use Rattle.iss_texts.specs.declared.row.Texts.{Texts}
 use Rattle.iss_top.specs.Dry.{as_reading, reading_of, each_bytes, reply_of_line}
 use Rattle.iss_top.specs.Lines.{is_blank}
 use Rattle.iss_texts.specs.TextRows.{Gains, HasNone, HasAll}
-use Rattle.iss_top.specs.Progress.{line_texts}
+use Rattle.iss_top.specs.Progress.{texts_of_line}
 use Rattle.iss_top.specs.Tells.{Replies, Records}
 use Rattle.iss_texts.proofs.Rows.{gains_then, gained_all}
 
@@ -127,6 +127,6 @@ stamp_or_start (Some at) h = h
 stamp_or_start None h = refl
 
 -- a line that isn't blank is told what its input is told
-pub line_told : (s : CoreState) (line : List ℕ) → is_blank line ≡ false → each_bytes (reply_of_line s line).texts ≡ line_texts s line
-unfolding line_texts
+pub line_told : (s : CoreState) (line : List ℕ) → is_blank line ≡ false → each_bytes (reply_of_line s line).texts ≡ texts_of_line s line
+unfolding texts_of_line
 line_told s line written = ap (λ (b : Bool). cond b [] (each_bytes (reply_of_line s line).texts)) (sym written)

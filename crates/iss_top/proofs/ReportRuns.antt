@@ -9,7 +9,7 @@ use Rattle.iss_model.specs.rules.Histories.{IsLegal}
 use Rattle.iss_store.specs.Values.{StoreNow}
 use Rattle.iss_store.specs.Standing.{DeviceStandsFor, region_under}
 use Rattle.iss_store.specs.Opening.{OpensGood, OpenedAs, ReadsAlone}
-use Rattle.iss_store.specs.Goings.{Goes}
+use Rattle.iss_store.specs.Goings.{StepsGo}
 use Rattle.iss_texts.specs.Sending.{emits, Says, SaysSome}
 use Rattle.iss_texts.proofs.Saying.{all_out, says_all}
 use Rattle.iss_store.proofs.NextRecords.{first_self}
@@ -65,7 +65,7 @@ module _ (instance : ℕ) (rs : List Record) (s : StoreNow) (a b d : World) (ope
   -- where it ends, whatever went out
   still_ends : (says : SaysSome (report_lines rs) b d) → EndsAtRest instance rs rs (opening.good.added ++ says.sends.actions) a d
   still_ends says =
-      let going : Goes (region_under s) rs rs (with_levels (length rs) says.sends.actions) b d = some_goes (region_under s) rs (report_lines rs) b d says in
+      let going : StepsGo (region_under s) rs rs (with_levels (length rs) says.sends.actions) b d = some_goes (region_under s) rs (report_lines rs) b d says in
       let same : actions_of going.steps ≡ says.sends.actions = append_cancel_left b.trace (actions_of going.steps) says.sends.actions (sym going.grew ∙ says.sends.grew) in
       subst (λ (l : List Action). EndsAtRest instance rs rs (opening.good.added ++ l) a d) same
       (ends_at_rest instance rs s a b opening stands rs (with_levels (length rs) says.sends.actions) d going)

@@ -10,9 +10,9 @@ use Rattle.iss_texts.specs.Sending.{emits, GoOut, SendsEach, SendsSome, Says, Sa
 use Rattle.iss_texts.proofs.Saying.{sends_nothing, sends_then, sends_on, all_out, all_sent, then_some, some_first}
 use Rattle.iss_top.specs.declared.stop.Stop.{Stop}
 use Rattle.iss_top.specs.declared.stop.Stop.TheVariants as stop
-use Rattle.iss_top.specs.Lines.{is_blank, parts_of, all_but_last}
+use Rattle.iss_top.specs.Lines.{is_blank, line_parts, all_but_last}
 use Rattle.iss_top.specs.Dry.{reading_of, each_bytes, reply_of_line, texts_of_lines, dry_texts}
-use Rattle.iss_top.specs.Progress.{line_texts, line_next, lines_texts, lines_next, HasRead, IsOnItsWay}
+use Rattle.iss_top.specs.Progress.{texts_of_line, line_next, lines_texts, lines_next, HasRead, IsOnItsWay}
 use Rattle.iss_top.specs.Reader.{ReaderNow, TakesIn, IsToldAs, ReadsNoPart, ReadsOn, fresh_reader}
 use Rattle.iss_top.specs.Runs.{EmitsTexts, Ran}
 use Rattle.iss_top.proofs.Parts.{AreFirstParts, has_read_begins, has_read_next, has_read_on, parts_first, parts_over, parts_stopped}
@@ -36,7 +36,7 @@ either_rest true h n ps = refl
 either_rest false h n ps = refl
 
 transcript-parts : (h : CoreState) (parts : List (List ℕ)) → each_bytes (transcript core_keeper h (map reading_of (filter (λ (p : List ℕ). not (is_blank p)) parts))) ≡ lines_texts h parts
-unfolding line_texts line_next
+unfolding texts_of_line line_next
 transcript-parts h [] = refl
 transcript-parts h (p ∷ ps) =
     let more = filter (λ (q : List ℕ). not (is_blank q)) ps in
@@ -52,16 +52,16 @@ texts_of_parts parts =
 texts-append : (s : CoreState) (xs ys : List (List ℕ)) → lines_texts s (xs ++ ys) ≡ lines_texts s xs ++ lines_texts (lines_next s xs) ys
 texts-append s [] ys = refl
 texts-append s (x ∷ xs) ys =
-    ap (λ (t : List (List ℕ)). line_texts s x ++ t) (texts-append (line_next s x) xs ys)
-    ∙ sym (append_assoc (line_texts s x) (lines_texts (line_next s x) xs) (lines_texts (lines_next (line_next s x) xs) ys))
+    ap (λ (t : List (List ℕ)). texts_of_line s x ++ t) (texts-append (line_next s x) xs ys)
+    ∙ sym (append_assoc (texts_of_line s x) (lines_texts (line_next s x) xs) (lines_texts (lines_next (line_next s x) xs) ys))
 
 next-append : (s : CoreState) (xs ys : List (List ℕ)) → lines_next s (xs ++ ys) ≡ lines_next (lines_next s xs) ys
 next-append s [] ys = refl
 next-append s (x ∷ xs) ys = next-append (line_next s x) xs ys
 
-one_more : (s : CoreState) (parts : List (List ℕ)) (part : List ℕ) → lines_texts s (parts ++ part ∷ []) ≡ lines_texts s parts ++ line_texts (lines_next s parts) part
+one_more : (s : CoreState) (parts : List (List ℕ)) (part : List ℕ) → lines_texts s (parts ++ part ∷ []) ≡ lines_texts s parts ++ texts_of_line (lines_next s parts) part
 one_more s parts part =
-    texts-append s parts (part ∷ []) ∙ ap (λ (t : List (List ℕ)). lines_texts s parts ++ t) (append-nil (line_texts (lines_next s parts) part))
+    texts-append s parts (part ∷ []) ∙ ap (λ (t : List (List ℕ)). lines_texts s parts ++ t) (append-nil (texts_of_line (lines_next s parts) part))
 
 -- what the first parts are told comes first
 texts_first : (parts all : List (List ℕ)) → AreFirstParts parts all → AreFirst (lines_texts no_core parts) (lines_texts no_core all)
@@ -99,13 +99,13 @@ way_reads s before now a b c w r =
       state = w.state;
     }
 
-told_part : (s : CoreState) (parts : List (List ℕ)) (part line : List ℕ) → IsToldAs line part → s ≡ lines_next no_core parts → lines_texts no_core parts ++ line_texts s line ≡ lines_texts no_core (parts ++ part ∷ [])
+told_part : (s : CoreState) (parts : List (List ℕ)) (part line : List ℕ) → IsToldAs line part → s ≡ lines_next no_core parts → lines_texts no_core parts ++ texts_of_line s line ≡ lines_texts no_core (parts ++ part ∷ [])
 told_part s parts part line like state =
-    ap (λ (t : List (List ℕ)). lines_texts no_core parts ++ t) (same_texts s line part like ∙ ap (λ (n : CoreState). line_texts n part) state)
+    ap (λ (t : List (List ℕ)). lines_texts no_core parts ++ t) (same_texts s line part like ∙ ap (λ (n : CoreState). texts_of_line n part) state)
     ∙ sym (one_more no_core parts part)
 
 -- its line was told
-pub way_tells : (s s' : CoreState) (now : ReaderNow) (line : List ℕ) (a b c : World) → line ≡ now.line → s' ≡ line_next s line → AtLine s now a b → Says (line_texts s line) b c → IsOnItsWay s' now a c
+pub way_tells : (s s' : CoreState) (now : ReaderNow) (line : List ℕ) (a b c : World) → line ≡ now.line → s' ≡ line_next s line → AtLine s now a b → Says (texts_of_line s line) b c → IsOnItsWay s' now a c
 way_tells s s' now line a b c is next w said =
     let like : IsToldAs line w.part = subst (λ (l : List ℕ). IsToldAs l w.part) (sym is) w.line in
     record {
@@ -113,7 +113,7 @@ way_tells s s' now line a b c is next w said =
       read = has_read_on (w.parts ++ w.part ∷ []) now a b c w.read said.left;
       sends =
           subst (λ (t : List (List ℕ)). SendsEach t a c) (told_part s w.parts w.part line like w.state)
-          (sends_then (lines_texts no_core w.parts) (line_texts s line) a b c w.sends said.sends);
+          (sends_then (lines_texts no_core w.parts) (texts_of_line s line) a b c w.sends said.sends);
       state =
           next
           ∙ same_next s line w.part like
@@ -124,10 +124,10 @@ way_tells s s' now line a b c is next w said =
 -- ---- the ends
 
 -- some of the first texts of the input went out
-emitted_some : (status : ℕ) (texts : List (List ℕ)) (a b : World) → (status ≡ 0 → ⊥) → SendsSome texts a b → AreFirst texts (lines_texts no_core (parts_of (a.left 0)))
+emitted_some : (status : ℕ) (texts : List (List ℕ)) (a b : World) → (status ≡ 0 → ⊥) → SendsSome texts a b → AreFirst texts (lines_texts no_core (line_parts (a.left 0)))
     → EmitsTexts status a b
 emitted_some status texts a b not_done sends first =
-    let all : each_bytes (dry_texts (a.left 0)) ≡ lines_texts no_core (parts_of (a.left 0)) = texts_of_parts (parts_of (a.left 0)) in
+    let all : each_bytes (dry_texts (a.left 0)) ≡ lines_texts no_core (line_parts (a.left 0)) = texts_of_parts (line_parts (a.left 0)) in
     let some = some_first texts (each_bytes (dry_texts (a.left 0))) a b (record { back = first.back; cut = all ∙ first.cut }) sends in
     record { actions = some.actions; grew = some.grew; out = some.out; whole = λ e. absurd (not_done e) }
 
@@ -142,7 +142,7 @@ neither status other (inl e) = other.not_input e
 neither status other (inr e) = other.not_long e
 
 ends_early : (status : ℕ) (took : List ℕ) (texts : List (List ℕ)) (a b : World) → IsOther status → TakesIn took a b → SendsSome texts a b → length took ≤ MOST_INPUT
-    → AreFirst texts (lines_texts no_core (parts_of (a.left 0))) → Ran status a b
+    → AreFirst texts (lines_texts no_core (line_parts (a.left 0))) → Ran status a b
 ends_early status took texts a b other takes sends le first =
     record {
       took = took;
@@ -160,19 +160,19 @@ pub ends_at_start : (a : World) → Ran 7 a a
 ends_at_start a =
     ends_early 7 [] [] a a (record { not_done = λ e. cc; not_input = λ e. cc; not_long = λ e. cc })
     (record { bytes = refl; others = λ ch other. refl }) (all_sent [] a a (sends_nothing a)) (omega arith)
-    (record { back = lines_texts no_core (parts_of (a.left 0)); cut = refl })
+    (record { back = lines_texts no_core (line_parts (a.left 0)); cut = refl })
 
 -- a line was told in part
-pub ends_in_line : (status : ℕ) (s : CoreState) (now : ReaderNow) (line : List ℕ) (a b c : World) → IsOther status → line ≡ now.line → AtLine s now a b → SaysSome (line_texts s line) b c → Ran status a c
+pub ends_in_line : (status : ℕ) (s : CoreState) (now : ReaderNow) (line : List ℕ) (a b c : World) → IsOther status → line ≡ now.line → AtLine s now a b → SaysSome (texts_of_line s line) b c → Ran status a c
 ends_in_line status s now line a b c other is w said =
     let like : IsToldAs line w.part = subst (λ (l : List ℕ). IsToldAs l w.part) (sym is) w.line in
     let parts = w.parts ++ w.part ∷ [] in
     let read = has_read_on parts now a b c w.read said.left in
     ends_early status read.took (lines_texts no_core parts) a c other read.takes
     (subst (λ (t : List (List ℕ)). SendsSome t a c) (told_part s w.parts w.part line like w.state)
-    (then_some (lines_texts no_core w.parts) (line_texts s line) a b c w.sends said.sends))
+    (then_some (lines_texts no_core w.parts) (texts_of_line s line) a b c w.sends said.sends))
     (omega (arith, read.count, w.bound))
-    (texts_first parts (parts_of (a.left 0)) (parts_first parts now a c read))
+    (texts_first parts (line_parts (a.left 0)) (parts_first parts now a c read))
 
 -- what was told if reading on failed
 pub ends_at_input : (status : ℕ) (why : Stop) (s : CoreState) (before : ReaderNow) (a b c : World) → (status ≡ 0 → ⊥) → ((status ≡ 3) ⊎ (status ≡ 8) → why ≡ stop.Memory → ⊥)
@@ -187,12 +187,12 @@ ends_at_input status why s before a b c not_done not_memory long is_long w r =
       device = sends.device;
       emits =
           emitted_some status texts a c not_done (all_sent texts a c sends)
-          (texts_first w.parts (parts_of (a.left 0)) (parts_first w.parts before a b w.read));
+          (texts_first w.parts (line_parts (a.left 0)) (parts_first w.parts before a b w.read));
       stopped =
           λ e.
           sends.grew
           ∙ ap (λ (t : List (List ℕ)). a.trace ++ emits t)
-          (ap (lines_texts no_core) (sym (all.ended (not_memory e))) ∙ sym (texts_of_parts (all_but_last (parts_of (take MOST_INPUT (w.read.took ++ r.took))))));
+          (ap (lines_texts no_core) (sym (all.ended (not_memory e))) ∙ sym (texts_of_parts (all_but_last (line_parts (take MOST_INPUT (w.read.took ++ r.took))))));
       over = λ e. absurd (not_done e);
       long = (λ e. all.long.0 (long e), λ e. is_long (all.long.1 e));
       bound = all.bound;
@@ -209,7 +209,7 @@ ends_well s before now a b c limit w over =
     let sends = sends_on texts a b c w.sends over.2.device over.2.trace in
     let read = has_read_on w.parts before a b c w.read over.2.left in
     let last = parts_over w.parts before now a b c w.read over in
-    let all : each_bytes (dry_texts (a.left 0)) ≡ texts = texts_of_parts (parts_of (a.left 0)) ∙ ap (lines_texts no_core) last.0 in
+    let all : each_bytes (dry_texts (a.left 0)) ≡ texts = texts_of_parts (line_parts (a.left 0)) ∙ ap (lines_texts no_core) last.0 in
     record {
       took = read.took;
       takes = read.takes;

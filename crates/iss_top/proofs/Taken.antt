@@ -34,7 +34,7 @@ use Rattle.iss_store.specs.Planning.{judged_as, Plans}
 use Rattle.iss_texts.specs.Sending.{Says, SaysSome}
 use Rattle.iss_device.specs.Runs.{run_at}
 use Rattle.iss_store.specs.Goings.{AreFirstOf}
-use Rattle.iss_top.specs.Replaying.{Goes, GoesPart, GoesSome, IsSameDevice, TakesAs, TakesPartAs, response_to_plan, texts_left}
+use Rattle.iss_top.specs.Replaying.{TextsGo, TextsGoPart, GoesSome, IsSameDevice, TakesAs, TakesPartAs, response_to_plan, texts_left}
 use Rattle.iss_store.proofs.NextRecords.{first_self}
 use Rattle.iss_top.proofs.Goings.{goes_then, goes_then_part, says_goes, says_goes_part, part_more, part_nothing}
 use Rattle.iss_top.proofs.Lasting.{planned_records}
@@ -153,9 +153,9 @@ same_device s = record { instance = refl; to = refl }
 
 -- if a run stands at these records, and something was said
 pub stays_and_says : (s : StoreNow) (rs : List Record) (texts : List (List ℕ)) (a b : World) → StandsFor s rs → Says texts a b
-    → StandsFor s (history_of rs).records × Goes s rs (history_of rs).records (at_level (length (history_of rs).records) texts) a b
+    → StandsFor s (history_of rs).records × TextsGo s rs (history_of rs).records (at_level (length (history_of rs).records) texts) a b
 stays_and_says s rs texts a b stands says =
-    subst (λ (l : List Record). StandsFor s l × Goes s rs l (at_level (length l) texts) a b) (sym (records_history rs)) (stands, says_goes s rs texts a b says)
+    subst (λ (l : List Record). StandsFor s l × TextsGo s rs l (at_level (length l) texts) a b) (sym (records_history rs)) (stands, says_goes s rs texts a b says)
 
 -- some of what is said if no record is made
 pub says_in_part : (failed : Type 0) (s : StoreNow) (rs : List Record) (told : Response) (texts : List (List ℕ)) (a b : World) → AreFirstOf (history_of rs).records told.run.history.records
@@ -165,7 +165,7 @@ says_in_part failed s rs told texts a b first is says =
       rs' = rs;
       records = subst (λ (l : List Record). AreFirstOf l told.run.history.records) (records_history rs) first;
       goes =
-          subst (λ (t : List Text). GoesPart failed s rs rs t a b) (ap (λ (l : List Record). at_level (length l) texts) (sym (records_history rs)) ∙ sym is)
+          subst (λ (t : List Text). TextsGoPart failed s rs rs t a b) (ap (λ (l : List Record). at_level (length l) texts) (sym (records_history rs)) ∙ sym is)
           (says_goes_part failed s rs texts a b says);
     }
 
@@ -176,7 +176,7 @@ answer_takes s i at stamp answer a b is plans says =
       left = says.left;
       same = same_device s;
       on_book = λ rs stands.
-          subst (λ (r : Response). StandsFor s r.run.history.records × Goes s rs r.run.history.records r.texts a b)
+          subst (λ (r : Response). StandsFor s r.run.history.records × TextsGo s rs r.run.history.records r.texts a b)
           (sym (response_is s i at stamp rs (judged.Told answer) is (plans_told (judged_on s i stamp rs) answer (plans rs stands))))
           (stays_and_says s rs (answer_text answer ∷ []) a b stands says);
     }
@@ -210,7 +210,7 @@ new_takes s s' i at stamp p a b is new plans takes =
       left = takes.left;
       same = takes.same;
       on_book = λ rs stands.
-          subst (λ (r : Response). StandsFor s' r.run.history.records × Goes s rs r.run.history.records r.texts a b)
+          subst (λ (r : Response). StandsFor s' r.run.history.records × TextsGo s rs r.run.history.records r.texts a b)
           (sym (planned_new s i at stamp p rs is new (plans rs stands))) (takes.on_book rs stands);
     }
 
@@ -254,10 +254,10 @@ clock_takes s s' i at stamp p a b c is clock plans takes says =
           let told = response_to_plan p (run_at s rs) in
           let after = told.run.history.records in
           let left = at_level (length after) (texts_left s' i stamp) in
-          subst (λ (r : Response). StandsFor s' r.run.history.records × Goes s rs r.run.history.records r.texts a c)
+          subst (λ (r : Response). StandsFor s' r.run.history.records × TextsGo s rs r.run.history.records r.texts a c)
           (sym (planned_clock s i at stamp p rs is clock (plans rs stands))) (
             first.0,
-            subst (λ (t : List Text). Goes s rs after t a c) (sym (clock_texts s s' p i stamp rs clock takes.same first.0))
+            subst (λ (t : List Text). TextsGo s rs after t a c) (sym (clock_texts s s' p i stamp rs clock takes.same first.0))
                 (goes_then s rs after after told.texts left a b c first.1 (says_goes s after (texts_left s' i stamp) b c says)),
           );
     }
@@ -278,7 +278,7 @@ clock_takes_part failed s s' i at stamp p a b c is clock plans takes says =
             rs' = after;
             records = first_self after;
             goes =
-                subst (λ (t : List Text). GoesPart failed s rs after t a c) (sym (clock_texts s s' p i stamp rs clock takes.same first.0))
+                subst (λ (t : List Text). TextsGoPart failed s rs after t a c) (sym (clock_texts s s' p i stamp rs clock takes.same first.0))
                 (goes_then_part failed s rs after after told.texts left a b c first.1 (says_goes_part failed s after (texts_left s' i stamp) b c says));
           });
     }
@@ -298,7 +298,7 @@ failed_on_book failed true s i at stamp p rs a b clock is plans part =
       rs' = part.rs';
       records = part.records;
       goes =
-          subst (λ (t : List Text). GoesPart failed s rs part.rs' t a b) (sym (told_clock (run_at s rs) i stamp p clock))
+          subst (λ (t : List Text). TextsGoPart failed s rs part.rs' t a b) (sym (told_clock (run_at s rs) i stamp p clock))
           (part_more failed s rs part.rs' told.texts (at_level (length after) left) a b part.goes);
     })
 

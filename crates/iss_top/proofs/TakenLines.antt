@@ -19,7 +19,7 @@ use Rattle.iss_device.specs.Runs.{run_at}
 use Rattle.iss_top.specs.Dry.{as_reading, reading_of}
 use Rattle.iss_top.specs.Lines.{is_blank}
 use Rattle.iss_store.specs.Goings.{AreFirstOf}
-use Rattle.iss_top.specs.Replaying.{told_line, Goes, GoesSome, TakesAs, TakesPartAs}
+use Rattle.iss_top.specs.Replaying.{told_line, TextsGo, GoesSome, TakesAs, TakesPartAs}
 use Rattle.iss_store.proofs.NextRecords.{first_self}
 use Rattle.iss_top.proofs.Goings.{goes_nothing}
 use Rattle.iss_top.proofs.Taken.{told_input, same_device, stays_and_says, says_in_part, response_first, KeepsRecords, nothing_taken}
@@ -39,7 +39,7 @@ takes_same f g s s' a b same takes =
       left = takes.left;
       same = takes.same;
       on_book = λ rs stands.
-          subst (λ (r : Response). StandsFor s' r.run.history.records × Goes s rs r.run.history.records r.texts a b)
+          subst (λ (r : Response). StandsFor s' r.run.history.records × TextsGo s rs r.run.history.records r.texts a b)
           (sym (same (run_at s rs))) (takes.on_book rs stands);
     }
 
@@ -79,7 +79,7 @@ blank_takes line s a blank =
       left = refl;
       same = same_device s;
       on_book = λ rs stands.
-          subst (λ (l : List Record). StandsFor s l × Goes s rs l [] a a) (sym (records_history rs)) (stands, goes_nothing s rs a);
+          subst (λ (l : List Record). StandsFor s l × TextsGo s rs l [] a a) (sym (records_history rs)) (stands, goes_nothing s rs a);
     })
 
 fault_takes : (line : List ℕ) (fault : FormFault) (s : StoreNow) (a b : World) → is_blank line ≡ false → line_read Lines line ≡ Err fault → Says (form_text fault ∷ []) a b → TakesAs (line_told line) s s a b

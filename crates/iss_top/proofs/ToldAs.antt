@@ -13,15 +13,15 @@ use Rattle.iss_event.specs.declared.line.FormFault.TheVariants.{Long}
 use Rattle.iss_event.specs.Readings.{opened_line, line_read}
 use Rattle.iss_top.specs.Lines.{is_blank_byte, is_blank, kept_with}
 use Rattle.iss_top.specs.Dry.{reading_of, as_reading, each_bytes, reply_of_line}
-use Rattle.iss_top.specs.Progress.{line_texts, line_next}
+use Rattle.iss_top.specs.Progress.{texts_of_line, line_next}
 use Rattle.iss_top.specs.Reader.{IsToldAs}
 use Rattle.iss_top.specs.Replaying.{told_line}
 use Rattle.iss_top.specs.AtHand.{line_with}
 
 -- ---- what is told of a line that is told as another
 
-pub same_texts : (s : CoreState) (line part : List ℕ) → IsToldAs line part → line_texts s line ≡ line_texts s part
-unfolding line_texts
+pub same_texts : (s : CoreState) (line part : List ℕ) → IsToldAs line part → texts_of_line s line ≡ texts_of_line s part
+unfolding texts_of_line
 same_texts s line part like =
     ap (λ (t : Bool). cond t [] (each_bytes (reply_of_line s line).texts)) like.blank
     ∙ ap (λ r. cond (is_blank part) [] (each_bytes (after_line core_keeper s r).texts)) like.reading

@@ -12,7 +12,7 @@ use Rattle.iss_top.specs.declared.reader.AtHand.{AtHand}
 use Rattle.iss_top.specs.Lines.{has_line_feed, kept_with}
 use Rattle.iss_top.specs.Reader.{ReaderNow, ReadsNoPart, ReadsOn}
 use Rattle.iss_top.specs.Pieces.{TakesMore, TakesNoMore, unread_of}
-use Rattle.iss_top.specs.AtHand.{EndsLine, now_of}
+use Rattle.iss_top.specs.AtHand.{EndsLine, seen_reader}
 use Rattle.iss_top.proofs.Takes.{takes_more, no_more, too_long}
 use Rattle.iss_top.proofs.Reading.{ReadSoFar, so_far_begins, so_far_more, part_ends, part_is_last, part_stops, part_unkept}
 
@@ -50,10 +50,10 @@ pub told_over : (before : ReaderNow) (x : Option World) → before.ended ≡ tru
 told_over before x over = told_self (ReadsOn false before before) x (λ a. (over, refl, same_self a))
 
 pub told_part_ends : (before : ReaderNow) (h n : AtHand) (at : ℕ) (x y : Option World) → before.ended ≡ false → h.ended ≡ false → IsFirstByte (is_byte 10) (unread_of h.pieces) (Some at) → h.pieces.taken ≤ MOST_INPUT → EndsLine at h n
-    → Told (ReadSoFar before.unread before.taken (unread_of h.pieces) h.kept h.pieces.taken) x y → Told (ReadsOn true before (now_of n)) x y
+    → Told (ReadSoFar before.unread before.taken (unread_of h.pieces) h.kept h.pieces.taken) x y → Told (ReadsOn true before (seen_reader n)) x y
 told_part_ends before h n at x y going more found limit ends r =
-    told_map (ReadSoFar before.unread before.taken (unread_of h.pieces) h.kept h.pieces.taken) (ReadsOn true before (now_of n)) x y
-    (λ a b u. (going, part_ends before (now_of n) (unread_of h.pieces) h.kept h.pieces.taken at a b found ends.taken limit ends.unread ends.line (ends.ended ∙ more) u)) r
+    told_map (ReadSoFar before.unread before.taken (unread_of h.pieces) h.kept h.pieces.taken) (ReadsOn true before (seen_reader n)) x y
+    (λ a b u. (going, part_ends before (seen_reader n) (unread_of h.pieces) h.kept h.pieces.taken at a b found ends.taken limit ends.unread ends.line (ends.ended ∙ more) u)) r
 
 pub told_part_is_last : (before now : ReaderNow) (p q : Pieces) (k k' : List ℕ) (x y z : Option World) → before.ended ≡ false → has_line_feed (unread_of p) ≡ false → k' ≡ fold kept_with k (unread_of p)
     → q.taken ≤ MOST_INPUT → now.taken ≡ q.taken → now.line ≡ k' → now.ended ≡ true

@@ -21,7 +21,7 @@ use Rattle.iss_device.proofs.Devices.{Behind, stands_opened, told_behind}
 use Rattle.iss_device.proofs.Refusals.{opened_refuses, told_refuses}
 use Rattle.iss_top.specs.declared.stop.Stop.{Stop}
 use Rattle.iss_top.specs.declared.stop.Stop.TheVariants as stop
-use Rattle.iss_top.specs.Statuses.{status_of, stop_of_opening, stop_of_store}
+use Rattle.iss_top.specs.Statuses.{stop_status, stop_of_opening, stop_of_store}
 use Rattle.iss_top.specs.Reader.{ReadingCause}
 use Rattle.iss_top.specs.Replaying.{RunsAs, RunsFrom, TakingCause, IsReplayCaused, ReplayCause}
 use Rattle.iss_top.specs.Replays.{ReplayRun, ReplayOn, EveryMoment, EveryMomentStands, ReplayEndsWell}
@@ -241,7 +241,7 @@ caused_by_reading stop.InputLong before now later cause = record { later = later
 
 -- ---- the end
 
-replay_ends_well : (result : Result (Unit {0}) Stop) (before now : Faults) (a b : World) → IsReplayCaused before now result → ReplayRun (status_of result) a b → ReplayEndsWell before now (status_of result) a b
+replay_ends_well : (result : Result (Unit {0}) Stop) (before now : Faults) (a b : World) → IsReplayCaused before now result → ReplayRun (stop_status result) a b → ReplayEndsWell before now (stop_status result) a b
 replay_ends_well (Ok done) before now a b caused run instance rs stands disk input output short = inl refl
 replay_ends_well (Err stop.Input) before now a b caused run instance rs stands disk input output short = absurd (input caused.cause)
 replay_ends_well (Err stop.Device) before now a b caused run instance rs stands disk input output short = absurd ((run instance rs stands).other_device refl)
@@ -252,6 +252,6 @@ replay_ends_well (Err stop.InputLong) before now a b caused run instance rs stan
     let on = run instance rs stands in
     absurd (omega (arith, short, on.long.0 refl, ap (λ (l : List ℕ). length l) on.takes.bytes, length-append {A = ℕ} on.took (b.left 0)))
 
-pub told_replay_ends_well : (result : Result (Unit {0}) Stop) (before now : Faults) (x y : Option World) → IsReplayCaused before now result → Told (ReplayRun (status_of result)) x y → Told (ReplayEndsWell before now (status_of result)) x y
+pub told_replay_ends_well : (result : Result (Unit {0}) Stop) (before now : Faults) (x y : Option World) → IsReplayCaused before now result → Told (ReplayRun (stop_status result)) x y → Told (ReplayEndsWell before now (stop_status result)) x y
 told_replay_ends_well result before now x y caused run =
-    told_map (ReplayRun (status_of result)) (ReplayEndsWell before now (status_of result)) x y (λ a b. replay_ends_well result before now a b caused) run
+    told_map (ReplayRun (stop_status result)) (ReplayEndsWell before now (stop_status result)) x y (λ a b. replay_ends_well result before now a b caused) run

@@ -4,7 +4,7 @@ use Rattle.std.specs.Prelude.{◌⊎◌, Result}
 use Rattle.iss_edge.specs.World.{World, Told, Faults, Later}
 use Rattle.iss_edge.proofs.Tolds.{told_map, later_then, rose_later}
 use Rattle.iss_model.specs.declared.input.Record.{Record}
-use Rattle.iss_core.specs.Values as cores
+use Rattle.iss_core.specs.Values.{CoreStandsFor}
 use Rattle.iss_store.specs.declared.fault.OpenFault.{OpenFault}
 use Rattle.iss_store.specs.declared.fault.OpenFault.TheVariants.{Disk, NotFormatted, BadRecord, BadSpelling, BadHistory, OutOfMemory}
 use Rattle.iss_store.specs.Values.{StoreNow}
@@ -20,7 +20,7 @@ use Rattle.iss_device.proofs.Devices.{Behind, stands_opened, told_behind}
 use Rattle.iss_device.proofs.Refusals.{opened_refuses}
 use Rattle.iss_top.specs.declared.stop.Stop.{Stop}
 use Rattle.iss_top.specs.declared.stop.Stop.TheVariants as stop
-use Rattle.iss_top.specs.Statuses.{status_of, stop_of_opening}
+use Rattle.iss_top.specs.Statuses.{stop_status, stop_of_opening}
 use Rattle.iss_top.specs.Reports.{report_lines, ReportRun, ReportMomentStands, IsReportCaused, ReportEndsWell}
 use Rattle.iss_top.proofs.OnTheWay.{ends_with}
 use Rattle.iss_top.proofs.ToldReplays.{opening_ends, not_this, ReadsUnless, told_unless}
@@ -55,16 +55,16 @@ told_each P S R (Some a) (Some b) told f = f
 
 -- the texts are the report of what the store stands for
 abbrev pub IsReportOf : StoreNow → Texts → Type 0
-IsReportOf s t = (rs : List Record) → cores.StandsFor s.core rs → HasAll (report_lines rs) t
+IsReportOf s t = (rs : List Record) → CoreStandsFor s.core rs → HasAll (report_lines rs) t
 
 -- of the report of what the store stands for, all went out, or some
 abbrev SaysReport : (List (List ℕ) → World → World → Type 0) → StoreNow → World → World → Type 0
-SaysReport R s b d = (rs : List Record) → cores.StandsFor s.core rs → R (report_lines rs) b d
+SaysReport R s b d = (rs : List Record) → CoreStandsFor s.core rs → R (report_lines rs) b d
 
 says_report : (R : List (List ℕ) → World → World → Type 0) (s : StoreNow) (t : Texts) (lines : List (List ℕ)) (y z : Option World) → HasAll lines t → IsReportOf s t → ((texts : List (List ℕ)) → HasAll texts t → Told (R texts) y z)
     → Told (SaysReport R s) y z
 says_report R s t lines y z all is told =
-    told_each (λ rs. cores.StandsFor s.core rs) (R lines) (λ rs. R (report_lines rs)) y z (told lines all) (λ rs here. told (report_lines rs) (is rs here))
+    told_each (λ rs. CoreStandsFor s.core rs) (R lines) (λ rs. R (report_lines rs)) y z (told lines all) (λ rs here. told (report_lines rs) (is rs here))
 
 -- ---- the device opened
 
@@ -123,7 +123,7 @@ module _ (s : StoreNow) (x y z : Option World) (opened : Told (OpenedAs s) x y) 
 module _ (s : StoreNow) (x y : Option World) (opened : Told (OpenedAs s) x y) where
   nothing_said : Told (SaysReport SaysSome s) y y
   nothing_said =
-      told_each (λ rs. cores.StandsFor s.core rs) (SaysSome []) (λ rs. SaysSome (report_lines rs)) y y (told_none [] y) (λ rs here. told_none (report_lines rs) y)
+      told_each (λ rs. CoreStandsFor s.core rs) (SaysSome []) (λ rs. SaysSome (report_lines rs)) y y (told_none [] y) (λ rs here. told_none (report_lines rs) y)
 
   pub told_unmade_report : Told (ReportRun 7) x y
   told_unmade_report = some_report s x y y opened 7 (λ e. cc) (λ e. cc) nothing_said
@@ -159,7 +159,7 @@ report_done before middle now v first sending = record { later = later_then befo
 
 -- ---- the end
 
-report_ends_well : (result : Result (Unit {0}) Stop) (before now : Faults) (a b : World) → IsReportCaused before now result → ReportRun (status_of result) a b → ReportEndsWell before now (status_of result) a b
+report_ends_well : (result : Result (Unit {0}) Stop) (before now : Faults) (a b : World) → IsReportCaused before now result → ReportRun (stop_status result) a b → ReportEndsWell before now (stop_status result) a b
 report_ends_well (Ok done) before now a b caused run instance rs stands disk output = inl refl
 report_ends_well (Err stop.Input) before now a b caused run instance rs stands disk output = absurd caused.cause
 report_ends_well (Err stop.Device) before now a b caused run instance rs stands disk output = absurd ((run instance rs stands).other_device refl)
@@ -168,6 +168,6 @@ report_ends_well (Err stop.Disk) before now a b caused run instance rs stands di
 report_ends_well (Err stop.Memory) before now a b caused run instance rs stands disk output = inr refl
 report_ends_well (Err stop.InputLong) before now a b caused run instance rs stands disk output = absurd caused.cause
 
-pub told_report_ends_well : (result : Result (Unit {0}) Stop) (before now : Faults) (x y : Option World) → IsReportCaused before now result → Told (ReportRun (status_of result)) x y → Told (ReportEndsWell before now (status_of result)) x y
+pub told_report_ends_well : (result : Result (Unit {0}) Stop) (before now : Faults) (x y : Option World) → IsReportCaused before now result → Told (ReportRun (stop_status result)) x y → Told (ReportEndsWell before now (stop_status result)) x y
 told_report_ends_well result before now x y caused run =
-    told_map (ReportRun (status_of result)) (ReportEndsWell before now (status_of result)) x y (λ a b. report_ends_well result before now a b caused) run
+    told_map (ReportRun (stop_status result)) (ReportEndsWell before now (stop_status result)) x y (λ a b. report_ends_well result before now a b caused) run

@@ -7,8 +7,8 @@ use Rattle.iss_model.specs.state.Cores.{CoreState, no_core}
 use Rattle.iss_texts.specs.Sending.{Says, SaysSome}
 use Rattle.iss_top.specs.declared.stop.Stop.{Stop}
 use Rattle.iss_top.specs.declared.stop.Stop.TheVariants as stop
-use Rattle.iss_top.specs.Statuses.{status_of}
-use Rattle.iss_top.specs.Progress.{line_texts, line_next, ReplyCause, IsOnItsWay}
+use Rattle.iss_top.specs.Statuses.{stop_status}
+use Rattle.iss_top.specs.Progress.{texts_of_line, line_next, ReplyCause, IsOnItsWay}
 use Rattle.iss_top.specs.Reader.{ReaderNow, ReadsNoPart, ReadsOn, ReadingCause, Advances, fresh_reader, may_come}
 use Rattle.iss_top.specs.Runs.{Ran}
 use Rattle.iss_top.proofs.Running.{AtLine, IsOther, way_begins, way_reads, way_tells, ends_at_start, ends_in_line, ends_at_input, ends_well}
@@ -27,12 +27,12 @@ at_line s before now x y z w r =
 
 -- a line was read and told
 pub told_way_goes_on : (s s' : CoreState) (before now : ReaderNow) (line : List ℕ) (x y z w : Option World) → line ≡ now.line → s' ≡ line_next s line
-    → Told (IsOnItsWay s before) x y → Told (ReadsOn true before now) y z → Told (Says (line_texts s line)) z w → Told (IsOnItsWay s' now) x w
+    → Told (IsOnItsWay s before) x y → Told (ReadsOn true before now) y z → Told (Says (texts_of_line s line)) z w → Told (IsOnItsWay s' now) x w
 told_way_goes_on s s' before now line x y z w is next p q r =
-    told_then (AtLine s now) (Says (line_texts s line)) (IsOnItsWay s' now) x z w (λ a b c u v. way_tells s s' now line a b c is next u v) (at_line s before now x y z p q) r
+    told_then (AtLine s now) (Says (texts_of_line s line)) (IsOnItsWay s' now) x z w (λ a b c u v. way_tells s s' now line a b c is next u v) (at_line s before now x y z p q) r
 
 -- replying ends with status 5 or 7
-replying_is_other : (before now : Faults) (why : Stop) → ReplyCause before now why → IsOther (status_of {A = Unit {0}} (Err why))
+replying_is_other : (before now : Faults) (why : Stop) → ReplyCause before now why → IsOther (stop_status {A = Unit {0}} (Err why))
 replying_is_other before now stop.Input cause = absurd cause
 replying_is_other before now stop.Device cause = absurd cause
 replying_is_other before now stop.Disk cause = absurd cause
@@ -42,16 +42,16 @@ replying_is_other before now stop.InputLong cause = absurd cause
 
 -- a line was told in part
 pub told_line_fails : (why : Stop) (f g : Faults) (s : CoreState) (before now : ReaderNow) (line : List ℕ) (x y z w : Option World) → ReplyCause f g why → line ≡ now.line
-    → Told (IsOnItsWay s before) x y → Told (ReadsOn true before now) y z → Told (SaysSome (line_texts s line)) z w → Told (Ran (status_of {A = Unit {0}} (Err why))) x w
+    → Told (IsOnItsWay s before) x y → Told (ReadsOn true before now) y z → Told (SaysSome (texts_of_line s line)) z w → Told (Ran (stop_status {A = Unit {0}} (Err why))) x w
 told_line_fails why f g s before now line x y z w cause is p q r =
-    told_then (AtLine s now) (SaysSome (line_texts s line)) (Ran (status_of {A = Unit {0}} (Err why))) x z w
-    (λ a b c u v. ends_in_line (status_of {A = Unit {0}} (Err why)) s now line a b c (replying_is_other f g why cause) is u v) (at_line s before now x y z p q) r
+    told_then (AtLine s now) (SaysSome (texts_of_line s line)) (Ran (stop_status {A = Unit {0}} (Err why))) x z w
+    (λ a b c u v. ends_in_line (stop_status {A = Unit {0}} (Err why)) s now line a b c (replying_is_other f g why cause) is u v) (at_line s before now x y z p q) r
 
 neither_of_memory : (◌≡◌ {A = ℕ} 7 3) ⊎ (◌≡◌ {A = ℕ} 7 8) → ⊥
 neither_of_memory (inl e) = cc
 neither_of_memory (inr e) = cc
 
-reading_fails : (why : Stop) (f g : Faults) (s : CoreState) (before : ReaderNow) (a b c : World) → ReadingCause f g why → IsOnItsWay s before a b → ReadsNoPart before why b c → Ran (status_of {A = Unit {0}} (Err why)) a c
+reading_fails : (why : Stop) (f g : Faults) (s : CoreState) (before : ReaderNow) (a b c : World) → ReadingCause f g why → IsOnItsWay s before a b → ReadsNoPart before why b c → Ran (stop_status {A = Unit {0}} (Err why)) a c
 reading_fails stop.Input f g s before a b c cause w r =
     ends_at_input 3 stop.Input s before a b c (λ e. cc) (λ e m. cc) (λ e. cc) (λ e. cc) w r
 reading_fails stop.Device f g s before a b c cause w r = absurd cause
@@ -64,9 +64,9 @@ reading_fails stop.InputLong f g s before a b c cause w r =
 
 -- reading on failed
 pub told_reading_fails : (why : Stop) (f g : Faults) (s : CoreState) (before : ReaderNow) (x y z : Option World) → ReadingCause f g why → Told (IsOnItsWay s before) x y → Told (ReadsNoPart before why) y z
-    → Told (Ran (status_of {A = Unit {0}} (Err why))) x z
+    → Told (Ran (stop_status {A = Unit {0}} (Err why))) x z
 told_reading_fails why f g s before x y z cause p q =
-    told_then (IsOnItsWay s before) (ReadsNoPart before why) (Ran (status_of {A = Unit {0}} (Err why))) x y z (λ a b c u v. reading_fails why f g s before a b c cause u v) p q
+    told_then (IsOnItsWay s before) (ReadsNoPart before why) (Ran (stop_status {A = Unit {0}} (Err why))) x y z (λ a b c u v. reading_fails why f g s before a b c cause u v) p q
 
 -- the input ended
 pub told_run_ends : (s : CoreState) (before now : ReaderNow) (x y z : Option World) → before.taken ≤ MOST_INPUT → Told (IsOnItsWay s before) x y → Told (ReadsOn false before now) y z → Told (Ran 0) x z

@@ -23,11 +23,11 @@ use Rattle.iss_store.proofs.NextRecords.{legal_append}
 use Rattle.iss_device.specs.Moments.{EndsAtRest}
 use Rattle.iss_device.proofs.Moments.{rests_now, ends_at_rest}
 use Rattle.iss_device.proofs.Devices.{stands_opened, run_opened, rests_stands}
-use Rattle.iss_top.specs.Lines.{is_blank, parts_of, lines_of, all_but_last}
+use Rattle.iss_top.specs.Lines.{is_blank, line_parts, lines_of, all_but_last}
 use Rattle.iss_top.specs.Dry.{each_bytes}
 use Rattle.iss_top.specs.Reader.{TakesIn}
 use Rattle.iss_store.specs.Goings.{AreFirstOf}
-use Rattle.iss_top.specs.Replaying.{is_of_run, outputs_of, text_steps, GoesPart, GoesWhole, RunsAs}
+use Rattle.iss_top.specs.Replaying.{is_of_run, outputs_of, text_steps, TextsGoPart, GoesWhole, RunsAs}
 use Rattle.iss_top.specs.Replays.{texts_for, records_for, Replayed, EndsSomewhere, ReplayOn, EveryMoment}
 use Rattle.iss_top.proofs.ToldLines.{readings_of, told_from_start, transcript_told, told_records}
 use Rattle.iss_top.proofs.Beginnings.{outputs_behind, kinds_behind}
@@ -43,12 +43,12 @@ made_by instance rs a = records_for (run_on_device instance rs a.device) rs (lin
 made_legal : (instance : ℕ) (rs : List Record) (a : World) → DeviceStandsFor instance rs a.device → IsLegal (made_by instance rs a)
 made_legal instance rs a stands =
     let run = run_on_device instance rs a.device in
-    let lines = readings_of (parts_of (a.left 0)) in
+    let lines = readings_of (line_parts (a.left 0)) in
     legal_append nothing_yet rs (accepted_records run lines) stands.history.legal (accepted_legal run lines)
 
 -- what the lines make after those
 abbrev made_later : ℕ → List Record → World → List Record
-made_later instance rs a = accepted_records (run_on_device instance rs a.device) (readings_of (parts_of (a.left 0)))
+made_later instance rs a = accepted_records (run_on_device instance rs a.device) (readings_of (line_parts (a.left 0)))
 
 -- ---- a run that ended with its opening
 
@@ -88,8 +88,8 @@ module _ (instance : ℕ) (rs : List Record) (s : StoreNow) (status : ℕ) (took
   same_run : run_at s rs ≡ run_on_device instance rs a.device
   same_run = run_opened instance rs s a.device opened
 
-  input : parts_of (b.left 0) ≡ parts_of (a.left 0)
-  input = ap (λ (l : ℕ → List ℕ). parts_of (l 0)) opening.good.left
+  input : line_parts (b.left 0) ≡ line_parts (a.left 0)
+  input = ap (λ (l : ℕ → List ℕ). line_parts (l 0)) opening.good.left
 
   texts_are : (parts : List (List ℕ)) → (told_from_start (run_at s rs) parts).texts ≡ transcript_of (run_on_device instance rs a.device) (readings_of parts)
   texts_are parts = transcript_told (run_at s rs) parts ∙ ap (λ (k : Run). transcript_of k (readings_of parts)) same_run
@@ -113,15 +113,15 @@ module _ (instance : ℕ) (rs : List Record) (s : StoreNow) (status : ℕ) (took
   sent = outputs_behind opening.good.added (actions_of runs.goes.part.steps) opening.good.on_device
 
   -- what the input is to be told is the transcript
-  all_texts : (told_from_start (run_at s rs) (parts_of (b.left 0))).texts ≡ texts_for (run_on_device instance rs a.device) (lines_of (a.left 0))
+  all_texts : (told_from_start (run_at s rs) (line_parts (b.left 0))).texts ≡ texts_for (run_on_device instance rs a.device) (lines_of (a.left 0))
   all_texts =
-      ap (λ (l : List (List ℕ)). (told_from_start (run_at s rs) l).texts) input ∙ texts_are (parts_of (a.left 0))
+      ap (λ (l : List (List ℕ)). (told_from_start (run_at s rs) l).texts) input ∙ texts_are (line_parts (a.left 0))
 
   went_out : GoOut (each_bytes (texts_for (run_on_device instance rs a.device) (lines_of (a.left 0)))) (outputs_of done)
   went_out =
       subst (λ (l : List Action). GoOut (each_bytes (texts_for (run_on_device instance rs a.device) (lines_of (a.left 0)))) l) (sym sent)
       (subst (λ (t : List Text). GoOut (each_bytes t) (outputs_of (actions_of runs.goes.part.steps))) all_texts
-      (part_out s rs runs.rs' (told_from_start (run_at s rs) (parts_of (b.left 0))).texts b d (status ≡ 6) runs.goes))
+      (part_out s rs runs.rs' (told_from_start (run_at s rs) (line_parts (b.left 0))).texts b d (status ≡ 6) runs.goes))
 
   -- what was done for exactly these parts
   replayed : (parts : List (List ℕ)) → GoesWhole s rs (told_from_start (run_at s rs) parts) b d → Replayed instance rs (filter (λ (part : List ℕ). not (is_blank part)) parts) done a d
@@ -145,8 +145,8 @@ module _ (instance : ℕ) (rs : List Record) (s : StoreNow) (status : ℕ) (took
 
   made_first : AreFirstOf runs.rs' (made_by instance rs a)
   made_first =
-      let told : (told_from_start (run_at s rs) (parts_of (b.left 0))).run.history.records ≡ made_by instance rs a =
-      ap (λ (l : List (List ℕ)). (told_from_start (run_at s rs) l).run.history.records) input ∙ records_are (parts_of (a.left 0)) in
+      let told : (told_from_start (run_at s rs) (line_parts (b.left 0))).run.history.records ≡ made_by instance rs a =
+      ap (λ (l : List (List ℕ)). (told_from_start (run_at s rs) l).run.history.records) input ∙ records_are (line_parts (a.left 0)) in
       subst (λ (l : List Record). AreFirstOf runs.rs' l) told runs.records
 
   ended_somewhere : (status ≡ 6 → ⊥) → EndsSomewhere instance rs done a d
@@ -177,15 +177,15 @@ module _ (instance : ℕ) (rs : List Record) (s : StoreNow) (status : ℕ) (took
             };
         actions = done;
         grew = trace_grew;
-        kinds = kinds_behind opening.good.added (actions_of runs.goes.part.steps) opening.good.on_device (part_kinds s rs runs.rs' (told_from_start (run_at s rs) (parts_of (b.left 0))).texts b d (status ≡ 6) runs.goes);
+        kinds = kinds_behind opening.good.added (actions_of runs.goes.part.steps) opening.good.on_device (part_kinds s rs runs.rs' (told_from_start (run_at s rs) (line_parts (b.left 0))).texts b d (status ≡ 6) runs.goes);
         out = went_out;
         whole =
             λ e.
             let all = runs.whole e in (
               all.0,
-              subst (λ (l : List (List ℕ)). Replayed instance rs (filter (λ (part : List ℕ). not (is_blank part)) l) done a d) input (replayed (parts_of (b.left 0)) all.1),
+              subst (λ (l : List (List ℕ)). Replayed instance rs (filter (λ (part : List ℕ). not (is_blank part)) l) done a d) input (replayed (line_parts (b.left 0)) all.1),
             );
-        stopped = λ e. replayed (all_but_last (parts_of (take MOST_INPUT took))) (runs.stopped e);
+        stopped = λ e. replayed (all_but_last (line_parts (take MOST_INPUT took))) (runs.stopped e);
         long = long;
         bound = bound;
         ended = ended_somewhere;
@@ -197,4 +197,4 @@ module _ (instance : ℕ) (rs : List Record) (s : StoreNow) (status : ℕ) (took
   pub every_moment : EveryMoment instance rs a d
   every_moment =
       moments_opened (status ≡ 6) instance rs (made_by instance rs a) runs.rs' (texts_for (run_on_device instance rs a.device) (lines_of (a.left 0))) s a b d opening stands
-      (made_legal instance rs a stands) made_first (subst (λ (t : List Text). GoesPart (status ≡ 6) s rs runs.rs' t b d) all_texts runs.goes)
+      (made_legal instance rs a stands) made_first (subst (λ (t : List Text). TextsGoPart (status ≡ 6) s rs runs.rs' t b d) all_texts runs.goes)

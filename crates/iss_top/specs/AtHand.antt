@@ -17,8 +17,8 @@ abbrev pub line_of : AtHand → List ℕ
 line_of h = line_at_hand h.kept (slice_of h.pieces.bytes.items h.start h.end)
 
 -- what contracts see of it
-abbrev pub now_of : AtHand → ReaderNow
-now_of h = record { taken = h.pieces.taken; unread = unread_of h.pieces; line = line_of h; ended = h.ended }
+abbrev pub seen_reader : AtHand → ReaderNow
+seen_reader h = record { taken = h.pieces.taken; unread = unread_of h.pieces; line = line_of h; ended = h.ended }
 
 -- the line once its last bytes came: they are all of it if none of it was kept
 abbrev pub line_with : List ℕ → List ℕ → List ℕ

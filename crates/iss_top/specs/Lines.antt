@@ -20,13 +20,13 @@ onto_first prefix [] = prefix ∷ []
 onto_first prefix (part ∷ parts) = (prefix ++ part) ∷ parts
 
 -- the bytes up to each line feed, and those after the last one
-abbrev pub parts_of : List ℕ → List (List ℕ)
-parts_of [] = [] ∷ []
-parts_of (b ∷ bs) = if b == 10 then [] ∷ parts_of bs else onto_first (b ∷ []) (parts_of bs)
+abbrev pub line_parts : List ℕ → List (List ℕ)
+line_parts [] = [] ∷ []
+line_parts (b ∷ bs) = if b == 10 then [] ∷ line_parts bs else onto_first (b ∷ []) (line_parts bs)
 
 -- the parts that are not blank
 abbrev pub lines_of : List ℕ → List (List ℕ)
-lines_of bytes = filter (λ part. not (is_blank part)) (parts_of bytes)
+lines_of bytes = filter (λ part. not (is_blank part)) (line_parts bytes)
 
 -- all but the last of these
 abbrev pub all_but_last : List (List ℕ) → List (List ℕ)
@@ -36,7 +36,7 @@ all_but_last (part ∷ next ∷ parts) = part ∷ all_but_last (next ∷ parts)
 
 -- the lines that ended within these bytes, by their line feeds
 abbrev pub ended_lines : List ℕ → List (List ℕ)
-ended_lines bytes = filter (λ part. not (is_blank part)) (all_but_last (parts_of bytes))
+ended_lines bytes = filter (λ part. not (is_blank part)) (all_but_last (line_parts bytes))
 
 -- What a buffer keeps of a line with one more byte. A line of more than 16384 bytes is told the same whatever it holds, so once it has more,
 -- a blank is left out and any other byte takes the place of the last.

@@ -8,13 +8,13 @@ use Rattle.iss_model.specs.state.Cores.{CoreState, no_core}
 use Rattle.iss_texts.specs.Sending.{SendsEach}
 use Rattle.iss_top.specs.declared.stop.Stop.{Stop}
 use Rattle.iss_top.specs.declared.stop.Stop.TheVariants as stop
-use Rattle.iss_top.specs.Lines.{is_blank, parts_of}
+use Rattle.iss_top.specs.Lines.{is_blank, line_parts}
 use Rattle.iss_top.specs.Dry.{reply_of_line, each_bytes}
 use Rattle.iss_top.specs.Reader.{ReaderNow, TakesIn}
 
 -- what a line is told: nothing if it is blank
-unfoldable pub line_texts : CoreState → List ℕ → List (List ℕ)
-line_texts s line = if is_blank line then [] else each_bytes (reply_of_line s line).texts
+unfoldable pub texts_of_line : CoreState → List ℕ → List (List ℕ)
+texts_of_line s line = if is_blank line then [] else each_bytes (reply_of_line s line).texts
 
 -- what stands after a line
 unfoldable pub line_next : CoreState → List ℕ → CoreState
@@ -23,7 +23,7 @@ line_next s line = if is_blank line then s else (reply_of_line s line).world
 -- what lines in a row are told
 abbrev pub lines_texts : CoreState → List (List ℕ) → List (List ℕ)
 lines_texts s [] = []
-lines_texts s (line ∷ lines) = line_texts s line ++ lines_texts (line_next s line) lines
+lines_texts s (line ∷ lines) = texts_of_line s line ++ lines_texts (line_next s line) lines
 
 -- what stands after lines in a row
 abbrev pub lines_next : CoreState → List (List ℕ) → CoreState
@@ -52,8 +52,8 @@ pub record HasRead (parts : List (List ℕ)) (now : ReaderNow) (a b : World) : T
   pub took : List ℕ
   pub takes : TakesIn took a b
   pub count : length took ≡ now.taken
-  pub cut : now.ended ≡ false → (rest : List ℕ) → parts_of (took ++ rest) ≡ parts ++ parts_of (now.unread ++ rest)
-  pub all : now.ended ≡ true → (parts_of took ≡ parts) × (b.left 0 ≡ [])
+  pub cut : now.ended ≡ false → (rest : List ℕ) → line_parts (took ++ rest) ≡ parts ++ line_parts (now.unread ++ rest)
+  pub all : now.ended ≡ true → (line_parts took ≡ parts) × (b.left 0 ≡ [])
 
 -- a dry run is on its way: what was told so far, and what stands, is that of the parts that were read
 pub record IsOnItsWay (s : CoreState) (now : ReaderNow) (a b : World) : Type 0 where

@@ -17,13 +17,12 @@ use Rattle.iss_model.specs.run.Sayings.{reaction_to_record, said_of_time, answer
 use Rattle.iss_model.specs.run.Transcripts.{Text, at_level, said_text_at, sound}
 use Rattle.iss_store.specs.Values.{StoreNow, Plan}
 use Rattle.iss_store.specs.Standing.{StandsFor, AreHistory, region_under}
-use Rattle.iss_store.specs.Goings.{AreFirstOf}
-use Rattle.iss_store.specs.Goings as device
+use Rattle.iss_store.specs.Goings.{AreFirstOf, StepsGo, StepsGoPart}
 use Rattle.iss_texts.specs.Sending.{GoOut}
 use Rattle.iss_device.specs.Runs.{run_at}
 use Rattle.iss_top.specs.declared.stop.Stop.{Stop}
 use Rattle.iss_top.specs.declared.stop.Stop.TheVariants as stop
-use Rattle.iss_top.specs.Lines.{is_blank, parts_of, all_but_last}
+use Rattle.iss_top.specs.Lines.{is_blank, line_parts, all_but_last}
 use Rattle.iss_top.specs.Dry.{reading_of, each_bytes}
 use Rattle.iss_top.specs.Progress.{is_output, HasRead}
 use Rattle.iss_top.specs.Reader.{ReaderNow, TakesIn}
@@ -75,27 +74,27 @@ step_levels steps = map (λ step. step.level) steps
 
 -- From these records of a store up to those, each of these texts went out by an emit of its own at its level, and nothing else was done but
 -- on the device.
-abbrev pub Goes : StoreNow → List Record → List Record → List Text → World → World → Type 0
-Goes s rs rs' texts a b = device.Goes (region_under s) rs rs' (text_steps texts) a b
+abbrev pub TextsGo : StoreNow → List Record → List Record → List Text → World → World → Type 0
+TextsGo s rs rs' texts a b = StepsGo (region_under s) rs rs' (text_steps texts) a b
 
 -- The same in part: some of these texts went out, of the last one maybe a prefix, and the run ended. It might have gone on from there,
 -- unless this failed.
-pub record GoesPart (failed : Type 0) (s : StoreNow) (rs rs' : List Record) (texts : List Text) (a b : World) : Type 0 where
+pub record TextsGoPart (failed : Type 0) (s : StoreNow) (rs rs' : List Record) (texts : List Text) (a b : World) : Type 0 where
   pub said : List Step
   pub out : GoOut (each_bytes texts) (actions_of said)
   pub levels : (later : List ℕ) × (levels_of texts ≡ step_levels said ++ later)
-  pub part : device.GoesPart (region_under s) rs rs' said a b
-  pub whole : device.Goes (region_under s) rs rs' said a b ⊎ failed
+  pub part : StepsGoPart (region_under s) rs rs' said a b
+  pub whole : StepsGo (region_under s) rs rs' said a b ⊎ failed
 
 -- some of what is told was done, up to some first ones of the records that it makes
 pub record GoesSome (failed : Type 0) (s : StoreNow) (rs : List Record) (told : Response) (a b : World) : Type 0 where
   pub rs' : List Record
   pub records : AreFirstOf rs' told.run.history.records
-  pub goes : GoesPart failed s rs rs' told.texts a b
+  pub goes : TextsGoPart failed s rs rs' told.texts a b
 
 -- the same for what lines in a row are told
 abbrev pub GoesFor : StoreNow → List Record → List (List ℕ) → World → World → Type 0
-GoesFor s rs lines a b = Goes s rs (told_lines (run_at s rs) lines).run.history.records (told_lines (run_at s rs) lines).texts a b
+GoesFor s rs lines a b = TextsGo s rs (told_lines (run_at s rs) lines).run.history.records (told_lines (run_at s rs) lines).texts a b
 
 -- the device, its instance and its size are the same
 pub record IsSameDevice (s s' : StoreNow) : Type 0 where
@@ -109,7 +108,7 @@ pub record TakesAs (told : Run → Response) (s s' : StoreNow) (a b : World) : T
   pub same : IsSameDevice s s'
   pub on_book : (rs : List Record) → StandsFor s rs
       → StandsFor s' (told (run_at s rs)).run.history.records
-      × Goes s rs (told (run_at s rs)).run.history.records (told (run_at s rs)).texts a b
+      × TextsGo s rs (told (run_at s rs)).run.history.records (told (run_at s rs)).texts a b
 
 -- a call on the device ended it
 abbrev pub IsOfDisk : Stop → Type 0
@@ -163,7 +162,7 @@ pub record IsReplaying (opened s : StoreNow) (now : ReaderNow) (a b : World) : T
 
 -- All that this says was done, from these records of a store on, and the records that then stand are a history.
 pub record GoesWhole (s : StoreNow) (rs : List Record) (told : Response) (a b : World) : Type 0 where
-  pub goes : Goes s rs told.run.history.records told.texts a b
+  pub goes : TextsGo s rs told.run.history.records told.texts a b
   pub history : AreHistory told.run.history.records
 
 -- What a run with this status did on a store that stood for these records, if this is what the parts of the input are told. What went out is a
@@ -172,10 +171,10 @@ pub record GoesWhole (s : StoreNow) (rs : List Record) (told : Response) (a b : 
 -- failed.
 pub record RunsAs (tell : List (List ℕ) → Response) (status : ℕ) (opened : StoreNow) (rs : List Record) (took : List ℕ) (a b : World) : Type 0 where
   pub rs' : List Record
-  pub records : AreFirstOf rs' (tell (parts_of (a.left 0))).run.history.records
-  pub goes : GoesPart (status ≡ DISK_FAULT) opened rs rs' (tell (parts_of (a.left 0))).texts a b
-  pub whole : status ≡ DONE → (b.left 0 ≡ []) × GoesWhole opened rs (tell (parts_of (a.left 0))) a b
-  pub stopped : (status ≡ INPUT_FAULT) ⊎ (status ≡ INPUT_TOO_LONG) → GoesWhole opened rs (tell (all_but_last (parts_of (take MOST_INPUT took)))) a b
+  pub records : AreFirstOf rs' (tell (line_parts (a.left 0))).run.history.records
+  pub goes : TextsGoPart (status ≡ DISK_FAULT) opened rs rs' (tell (line_parts (a.left 0))).texts a b
+  pub whole : status ≡ DONE → (b.left 0 ≡ []) × GoesWhole opened rs (tell (line_parts (a.left 0))) a b
+  pub stopped : (status ≡ INPUT_FAULT) ⊎ (status ≡ INPUT_TOO_LONG) → GoesWhole opened rs (tell (all_but_last (line_parts (take MOST_INPUT took)))) a b
 
 -- the same, since its store was opened on these records
 abbrev pub RunsOnBook : ℕ → StoreNow → List Record → List ℕ → World → World → Type 0

@@ -8,14 +8,14 @@ use Rattle.iss_store.specs.declared.fault.StoreFault.TheVariants as store_fault
 use Rattle.iss_top.specs.declared.stop.Stop.{Stop}
 use Rattle.iss_top.specs.declared.stop.Stop.TheVariants.{Input, Device, Output, Disk, Memory, InputLong}
 
-abbrev pub status_of : {A : Type 0} → Result A Stop → ℕ
-status_of (Ok done) = DONE
-status_of (Err Input) = INPUT_FAULT
-status_of (Err Device) = BAD_DEVICE
-status_of (Err Output) = OUTPUT_FAULT
-status_of (Err Disk) = DISK_FAULT
-status_of (Err Memory) = OUT_OF_MEMORY
-status_of (Err InputLong) = INPUT_TOO_LONG
+abbrev pub stop_status : {A : Type 0} → Result A Stop → ℕ
+stop_status (Ok done) = DONE
+stop_status (Err Input) = INPUT_FAULT
+stop_status (Err Device) = BAD_DEVICE
+stop_status (Err Output) = OUTPUT_FAULT
+stop_status (Err Disk) = DISK_FAULT
+stop_status (Err Memory) = OUT_OF_MEMORY
+stop_status (Err InputLong) = INPUT_TOO_LONG
 
 -- the statuses of a run that serves
 abbrev pub serve_statuses : List ℕ

@@ -1,7 +1,7 @@
 //! A run that reports what stands on a device: the balance of each account, and counts.
 ghost use Rattle.iss_edge.specs.World.{Told};
 ghost use Rattle.iss_device.specs.Refusals.{RefusesExactly};
-ghost use Rattle.iss_top.specs.Statuses.{status_of};
+ghost use Rattle.iss_top.specs.Statuses.{stop_status};
 ghost use Rattle.iss_top.specs.Reports.{ReportRun, ReportMomentStands, IsReportCaused};
 
 use crate::stop::Stop;
@@ -13,9 +13,9 @@ use std::alloc::Global;
 /// Opens the device and writes the report of what stands on it, each line by one emit. All lines are made before the first
 /// goes out.
 pub(crate) fn balances<E: Edge>(alloc: Global, edge: &mut E) -> Result<(), Stop>
-    ensures ran { Told (ReportRun (status_of result)) (E.told edge.old) (E.told edge.new) }
+    ensures ran { Told (ReportRun (stop_status result)) (E.told edge.old) (E.told edge.new) }
     ensures moments { Told ReportMomentStands (E.told edge.old) (E.told edge.new) }
-    ensures refused { Told (RefusesExactly (status_of result)) (E.told edge.old) (E.told edge.new) }
+    ensures refused { Told (RefusesExactly (stop_status result)) (E.told edge.old) (E.told edge.new) }
     ensures caused { IsReportCaused (E.faults edge.old) (E.faults edge.new) result }
 {
     let store = Store::open(alloc, edge)?;

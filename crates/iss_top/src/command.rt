@@ -19,7 +19,7 @@ use crate::dry::dry;
 use crate::format::format;
 use crate::replay::replay;
 use crate::serving::serve_on_device;
-use crate::stop::status_of;
+use crate::stop::stop_status;
 use crate::words::{Command, Usage, command_of};
 use iss_edge::Edge;
 use iss_edge::status::USAGE;
@@ -127,10 +127,10 @@ pub fn run<E: Edge>(alloc: Global, words: &[String], edge: &mut E) -> u8
         FormatRunOn E.extent E.faults E.told edge.old edge.new size instance result) }
 {
     match command_of(words) {
-        Ok(Command::Dry) => status_of(dry(alloc, edge)),
+        Ok(Command::Dry) => stop_status(dry(alloc, edge)),
         Ok(Command::Format { size, instance }) => format(edge, size, instance),
-        Ok(Command::Replay) => status_of(replay(alloc, edge)),
-        Ok(Command::Balances) => status_of(balances(alloc, edge)),
+        Ok(Command::Replay) => stop_status(replay(alloc, edge)),
+        Ok(Command::Balances) => stop_status(balances(alloc, edge)),
         Ok(Command::Serve { turns, .. }) => serve_on_device(alloc, turns, edge),
         Ok(Command::Drill { n }) => drilled(alloc, n, edge),
         Err(Usage) => USAGE,

@@ -2,7 +2,7 @@
 ghost use Rattle.std.specs.Prelude.{◌≡◌, ◌+◌, ◌<◌, true, IfOk, IfErr, OnOk};
 ghost use Rattle.iss_edge.specs.World.{Told, Stays};
 ghost use Rattle.iss_top.specs.Reader.{ReadsOn, ReadsNoPart, IsReading, Advances, fresh_reader};
-ghost use Rattle.iss_top.specs.AtHand.{IsAtHand, EndsLine, now_of, line_of};
+ghost use Rattle.iss_top.specs.AtHand.{IsAtHand, EndsLine, seen_reader, line_of};
 
 use crate::buffer::LineBuffer;
 use crate::piece::Pieces;
@@ -21,11 +21,11 @@ pub(crate) struct LineReader {
 
 impl Model for LineReader {
     ghost use Rattle.iss_top.specs.Reader.{ReaderNow};
-    ghost use Rattle.iss_top.specs.AtHand.{IsAtHand, now_of};
+    ghost use Rattle.iss_top.specs.AtHand.{IsAtHand, seen_reader};
 
     ghost Value = { ReaderNow };
 
-    ghost view = { λ r. now_of r.hand };
+    ghost view = { λ r. seen_reader r.hand };
 
     ghost invariant = { λ r. IsAtHand r.hand };
 }
@@ -95,10 +95,10 @@ impl AtHand {
         requires fit { IsAtHand self.old }
         ensures fit { IsAtHand self.new }
         ensures reads { IfOk result (λ more.
-            Told (ReadsOn more (now_of self.old) (now_of self.new)) (E.told edge.old) (E.told edge.new)) }
+            Told (ReadsOn more (seen_reader self.old) (seen_reader self.new)) (E.told edge.old) (E.told edge.new)) }
         ensures stops { IfErr result (λ stop.
-            Told (ReadsNoPart (now_of self.old) stop) (E.told edge.old) (E.told edge.new)) }
-        ensures advances { IfOk result (λ more. more ≡ true → Advances (now_of self.old) (now_of self.new)) }
+            Told (ReadsNoPart (seen_reader self.old) stop) (E.told edge.old) (E.told edge.new)) }
+        ensures advances { IfOk result (λ more. more ≡ true → Advances (seen_reader self.old) (seen_reader self.new)) }
         ensures reading { IsReading (E.faults edge.old) (E.faults edge.new) result }
         ensures kept { Stays E.extent edge.old edge.new }
     {

@@ -2,7 +2,7 @@
 ghost use Rattle.std.specs.Prelude.{◌≡◌};
 ghost use Rattle.iss_edge.specs.declared.status.TheConstants.{BAD_DEVICE};
 ghost use Rattle.iss_edge.specs.World.{Told};
-ghost use Rattle.iss_top.specs.Statuses.{status_of};
+ghost use Rattle.iss_top.specs.Statuses.{stop_status};
 ghost use Rattle.iss_top.specs.Replaying.{RunsFrom, IsReplayCaused};
 ghost use Rattle.iss_device.specs.Refusals.{RefusesExactly};
 ghost use Rattle.iss_top.specs.Replays.{ReplayRun, EveryMomentStands};
@@ -17,9 +17,9 @@ use std::alloc::Global;
 
 /// Opens the device, sends what waits for the gateway, and takes the lines of the input to its end.
 pub(crate) fn replay<E: Edge>(alloc: Global, edge: &mut E) -> Result<(), Stop>
-    ensures ran { Told (ReplayRun (status_of result)) (E.told edge.old) (E.told edge.new) }
+    ensures ran { Told (ReplayRun (stop_status result)) (E.told edge.old) (E.told edge.new) }
     ensures moments { Told EveryMomentStands (E.told edge.old) (E.told edge.new) }
-    ensures refused { Told (RefusesExactly (status_of result)) (E.told edge.old) (E.told edge.new) }
+    ensures refused { Told (RefusesExactly (stop_status result)) (E.told edge.old) (E.told edge.new) }
     ensures caused { IsReplayCaused (E.faults edge.old) (E.faults edge.new) result }
 {
     let store = Store::open(alloc, edge)?;
@@ -30,9 +30,9 @@ pub(crate) fn replay<E: Edge>(alloc: Global, edge: &mut E) -> Result<(), Stop>
 /// Takes the lines of the input to its end.
 fn take_lines<E: Edge>(alloc: Global, opened: Store, edge: &mut E) -> Result<(), Stop>
     requires size { E.extent edge.old ≡ opened.place.to }
-    ensures ran { Told (RunsFrom (status_of result) opened) (E.told edge.old) (E.told edge.new) }
+    ensures ran { Told (RunsFrom (stop_status result) opened) (E.told edge.old) (E.told edge.new) }
     ensures caused { IsReplayCaused (E.faults edge.old) (E.faults edge.new) result }
-    ensures no_device { status_of result ≡ BAD_DEVICE → ⊥ }
+    ensures no_device { stop_status result ≡ BAD_DEVICE → ⊥ }
 {
     let mut reader = LineReader::new(alloc)?;
     let mut store = opened;

@@ -5,7 +5,7 @@ ghost use Rattle.iss_edge.specs.World.{Rose};
 ghost use Rattle.iss_edge.specs.Outer.{ToldBoth};
 ghost use Rattle.iss_device.specs.Refusals.{RefusesExactly};
 ghost use Rattle.iss_top.specs.Statuses.{serve_statuses};
-ghost use Rattle.iss_serve.specs.ServeRuns.{status_of, ServeRun, OfWorlds, ServeEndsWellOn};
+ghost use Rattle.iss_serve.specs.ServeRuns.{serve_status, ServeRun, OfWorlds, ServeEndsWellOn};
 
 use iss_edge::Edge;
 use iss_edge::status::{BAD_DEVICE, DISK_FAULT, DONE, INPUT_FAULT, OUT_OF_MEMORY};
@@ -27,7 +27,7 @@ pub(crate) fn serve_on_device<E: Edge>(alloc: Global, turns: u32, edge: &mut E) 
 
 /// The exit status of a run that served so.
 fn served_status(served: Result<(), ServeFault>) -> u8
-    ensures status { result ≡ status_of served }
+    ensures status { result ≡ serve_status served }
     ensures known { IsTrue (list_any (λ status. result == status) serve_statuses) }
 {
     match served {

@@ -1,7 +1,7 @@
 //! What ends a run early.
 ghost use Rattle.std.specs.Prelude.{◌≡◌};
 ghost use Rattle.iss_top.specs.declared.stop.Stop.TheVariants.{Memory};
-ghost use Rattle.iss_top.specs.Statuses.{status_of, stop_of_opening, stop_of_store};
+ghost use Rattle.iss_top.specs.Statuses.{stop_status, stop_of_opening, stop_of_store};
 
 use iss_edge::status::{
     BAD_DEVICE, DISK_FAULT, DONE, INPUT_FAULT, INPUT_TOO_LONG, OUT_OF_MEMORY, OUTPUT_FAULT,
@@ -61,8 +61,8 @@ impl From<StoreFault> for Stop {
 }
 
 /// The exit status of a run that ended so.
-pub(crate) fn status_of(ended: Result<(), Stop>) -> u8
-    ensures { result ≡ status_of ended }
+pub(crate) fn stop_status(ended: Result<(), Stop>) -> u8
+    ensures { result ≡ stop_status ended }
 {
     match ended {
         Ok(()) => DONE,

@@ -10,7 +10,7 @@ use Rattle.iss_model.specs.rules.Controls.{Group, counts}
 use Rattle.iss_velocity.specs.declared.counters.Counter.{Counter}
 use Rattle.iss_velocity.specs.declared.standing.Standing.{Standing}
 use Rattle.iss_velocity.specs.Spanning.{span_number}
-use Rattle.iss_velocity.specs.Counting.{Past, put_of, at_place, in_span, or_else, past_at, used_in, used_more, counts_in, counter_by, counter_then}
+use Rattle.iss_velocity.specs.Counting.{Past, put_of, at_place, in_span, or_else, past_at, used_at_place, used_more, counts_in, counter_by, counter_then}
 use Rattle.iss_velocity.specs.Lists.{rising_from, AreReady}
 use Rattle.iss_velocity.specs.Keeping.{IsSmallUse, StaySmall, FitMore, StaysSame, IsCounted}
 use Rattle.iss_velocity.proofs.Walks.{there_is, stands_at}
@@ -98,7 +98,7 @@ module _ (controls : List Standing) (groups : List Group) (row : UsageRow) (old 
       there (x ∷ xs) (suc i) e = (let rest = there xs i e in omega (arith, rest))
 
   ready_at : (p : ℕ) (s : Standing) → slice_get controls p ≡ Some s → counts groups (put_of s) row ≡ true
-      → at_place p cs ≡ Some (record { place = p; number = span_number s row; used = used_in old past row.user p (span_number s row) })
+      → at_place p cs ≡ Some (record { place = p; number = span_number s row; used = used_at_place old past row.user p (span_number s row) })
   ready_at p s e k = ready.ready p s (inside p s e) e k
 
   -- what is added fits
@@ -107,9 +107,9 @@ module _ (controls : List Standing) (groups : List Group) (row : UsageRow) (old 
       record {
         fits = λ i c e. record {
           fits = λ s f k.
-              let here : Some c ≡ Some (record { place = c.place; number = span_number s row; used = used_in old past row.user c.place (span_number s row) })
+              let here : Some c ≡ Some (record { place = c.place; number = span_number s row; used = used_at_place old past row.user c.place (span_number s row) })
               = sym (stands_at 0 cs rising i c e) ∙ ready_at c.place s f k in
-              let own : c ≡ record { place = c.place; number = span_number s row; used = used_in old past row.user c.place (span_number s row) } = cc in
+              let own : c ≡ record { place = c.place; number = span_number s row; used = used_at_place old past row.user c.place (span_number s row) } = cc in
               subst (λ (u : Option Used). IsSmallUse (used_more u row)) (ap (λ (x : Counter). x.used) (sym own)) (small.small c.place s f k);
         };
       }
@@ -132,7 +132,7 @@ module _ (controls : List Standing) (groups : List Group) (row : UsageRow) (old 
   changed_at p None e = refl
   changed_at p (Some c) e = ap (λ (q : ℕ). Some (counter_by (slice_get controls q) groups row c)) (placed p c cs e)
 
-  looked_up : (p : ℕ) (n : ℤ) → used_in (map (counter_then controls groups row) cs) after row.user p n
+  looked_up : (p : ℕ) (n : ℤ) → used_at_place (map (counter_then controls groups row) cs) after row.user p n
       ≡ or_else (in_span n (option_map (counter_by (slice_get controls p) groups row) (at_place p cs))) (past_at after row.user p n)
   looked_up p n =
       ap (λ (o : Option Counter). or_else (in_span n o) (past_at after row.user p n))
@@ -146,27 +146,27 @@ module _ (controls : List Standing) (groups : List Group) (row : UsageRow) (old 
   pub added : IsCounted controls groups row old past (map (counter_then controls groups row) cs) after
   added = record { counted = λ p n. looked_up p n ∙ at p n (slice_get controls p) refl; others = same.others; plain = same.plain }
     where
-      kept : (p : ℕ) (n : ℤ) → or_else (in_span n (option_map (λ (c : Counter). c) (at_place p cs))) (past_at after row.user p n) ≡ used_in old past row.user p n
+      kept : (p : ℕ) (n : ℤ) → or_else (in_span n (option_map (λ (c : Counter). c) (at_place p cs))) (past_at after row.user p n) ≡ used_at_place old past row.user p n
       kept p n = ap (λ (o : Option Counter). or_else (in_span n o) (past_at after row.user p n)) (unmapped (at_place p cs)) ∙ same.same p n
 
       counted_so : (p : ℕ) (n m : ℤ) (b : Bool) → int_eq m n ≡ b
-          → at_place p cs ≡ Some (record { place = p; number = m; used = used_in old past row.user p m })
-          → or_else (cond (int_eq m n) (Some (used_more (used_in old past row.user p m) row)) None) (past_at after row.user p n)
-          ≡ cond (int_eq m n) (Some (used_more (used_in old past row.user p n) row)) (used_in old past row.user p n)
+          → at_place p cs ≡ Some (record { place = p; number = m; used = used_at_place old past row.user p m })
+          → or_else (cond (int_eq m n) (Some (used_more (used_at_place old past row.user p m) row)) None) (past_at after row.user p n)
+          ≡ cond (int_eq m n) (Some (used_more (used_at_place old past row.user p n) row)) (used_at_place old past row.user p n)
       counted_so p n m true e f =
-          ap (λ (b : Bool). or_else (cond b (Some (used_more (used_in old past row.user p m) row)) None) (past_at after row.user p n)) e
-          ∙ ap (λ (k : ℤ). Some (used_more (used_in old past row.user p k) row)) ((signed_Decides m n).0 e)
-          ∙ ap (λ (b : Bool). cond b (Some (used_more (used_in old past row.user p n) row)) (used_in old past row.user p n)) (sym e)
+          ap (λ (b : Bool). or_else (cond b (Some (used_more (used_at_place old past row.user p m) row)) None) (past_at after row.user p n)) e
+          ∙ ap (λ (k : ℤ). Some (used_more (used_at_place old past row.user p k) row)) ((signed_Decides m n).0 e)
+          ∙ ap (λ (b : Bool). cond b (Some (used_more (used_at_place old past row.user p n) row)) (used_at_place old past row.user p n)) (sym e)
       counted_so p n m false e f =
-          ap (λ (b : Bool). or_else (cond b (Some (used_more (used_in old past row.user p m) row)) None) (past_at after row.user p n)) e
-          ∙ ap (λ (b : Bool). or_else (cond b (used_in old past row.user p m) None) (past_at after row.user p n)) (sym e)
+          ap (λ (b : Bool). or_else (cond b (Some (used_more (used_at_place old past row.user p m) row)) None) (past_at after row.user p n)) e
+          ∙ ap (λ (b : Bool). or_else (cond b (used_at_place old past row.user p m) None) (past_at after row.user p n)) (sym e)
           ∙ ap (λ (o : Option Counter). or_else (in_span n o) (past_at after row.user p n)) (sym f)
           ∙ same.same p n
-          ∙ ap (λ (b : Bool). cond b (Some (used_more (used_in old past row.user p n) row)) (used_in old past row.user p n)) (sym e)
+          ∙ ap (λ (b : Bool). cond b (Some (used_more (used_at_place old past row.user p n) row)) (used_at_place old past row.user p n)) (sym e)
 
       by : (p : ℕ) (n : ℤ) (s : Standing) (b : Bool) → slice_get controls p ≡ Some s → counts groups (put_of s) row ≡ b
           → or_else (in_span n (option_map (λ (c : Counter). cond b (record c { used = Some (used_more c.used row) }) c) (at_place p cs))) (past_at after row.user p n)
-          ≡ cond (b && int_eq (span_number s row) n) (Some (used_more (used_in old past row.user p n) row)) (used_in old past row.user p n)
+          ≡ cond (b && int_eq (span_number s row) n) (Some (used_more (used_at_place old past row.user p n) row)) (used_at_place old past row.user p n)
       by p n s true e k =
           ap (λ (o : Option Counter). or_else (in_span n (option_map (λ (c : Counter). record c { used = Some (used_more c.used row) }) o)) (past_at after row.user p n)) (ready_at p s e k)
           ∙ counted_so p n (span_number s row) (int_eq (span_number s row) n) refl (ready_at p s e k)
@@ -174,7 +174,7 @@ module _ (controls : List Standing) (groups : List Group) (row : UsageRow) (old 
 
       at : (p : ℕ) (n : ℤ) (o : Option Standing) → slice_get controls p ≡ o
           → or_else (in_span n (option_map (counter_by o groups row) (at_place p cs))) (past_at after row.user p n)
-          ≡ cond (counts_in groups o row n) (Some (used_more (used_in old past row.user p n) row)) (used_in old past row.user p n)
+          ≡ cond (counts_in groups o row n) (Some (used_more (used_at_place old past row.user p n) row)) (used_at_place old past row.user p n)
       at p n None e = kept p n
       at p n (Some s) e =
           by p n s (counts groups (put_of s) row) e refl

@@ -22,7 +22,7 @@ use Rattle.iss_model.proofs.Names.{one_name, its_name}
 use Rattle.iss_velocity.specs.declared.standing.Standing.{Standing}
 use Rattle.iss_velocity.specs.Spanning.{spans_at, utc_number, number_by, number_in, is_single, span_number}
 use Rattle.iss_velocity.specs.Words.{declines_use}
-use Rattle.iss_velocity.specs.Counting.{Users, Past, put_of, counters_at, used_in, used_at, unused, used_more, used_then, counts_in, passes_with}
+use Rattle.iss_velocity.specs.Counting.{Users, Past, put_of, counters_at, used_at_place, used_at, unused, used_more, used_then, counts_in, passes_with}
 use Rattle.iss_velocity.specs.Keeping.{has_no_zero, sums_in, control_at, controls_from, AreKeyed, HaveSmallSums, StaySmall}
 use Rattle.iss_velocity.proofs.Lookups.{get_sums}
 use Rattle.iss_velocity.proofs.SumsKept.{unchanged_sums, changed_sums}
@@ -114,9 +114,9 @@ controls_stay users after past past' ss k l same =
 -- a user's counters before and after, with those of the others, give what all give
 module _ (users after : Users) (past past' : Past) (user : List ℕ)
     (others : (u : List ℕ) → bytes_eq u user ≡ false → counters_at after u ≡ counters_at users u)
-    (passed : (u : List ℕ) (place : ℕ) (n : ℤ) → bytes_eq u user ≡ false → used_in (counters_at users u) past' u place n ≡ used_in (counters_at users u) past u place n) where
+    (passed : (u : List ℕ) (place : ℕ) (n : ℤ) → bytes_eq u user ≡ false → used_at_place (counters_at users u) past' u place n ≡ used_at_place (counters_at users u) past u place n) where
   pub other_same : (u : List ℕ) (place : ℕ) (n : ℤ) → bytes_eq u user ≡ false → used_at after past' u place n ≡ used_at users past u place n
-  other_same u place n h = ap (λ (cs : List _). used_in cs past' u place n) (others u h) ∙ passed u place n h
+  other_same u place n h = ap (λ (cs : List _). used_at_place cs past' u place n) (others u h) ∙ passed u place n h
 
 -- what each control has counted after a row
 module _ (controls : List Standing) (groups : List Group) (row : UsageRow) (users after : Users) (past past' : Past) (k : AreKeyed users past) (l : AreKeyed after past')

@@ -15,7 +15,7 @@ use Rattle.iss_model.specs.rules.Controls.{Group}
 use Rattle.iss_model.proofs.Names.{one_name, name-sym}
 use Rattle.iss_velocity.specs.declared.counters.Counter.{Counter}
 use Rattle.iss_velocity.specs.declared.standing.Standing.{Standing}
-use Rattle.iss_velocity.specs.Counting.{Users, Past, by_name, at_place, in_span, or_else, counters_at, used_in, used_at, used_more, used_then, counts_in}
+use Rattle.iss_velocity.specs.Counting.{Users, Past, by_name, at_place, in_span, or_else, counters_at, used_at_place, used_at, used_more, used_then, counts_in}
 use Rattle.iss_velocity.specs.Keeping.{has_no_zero, is_users_plain, is_past_plain, AreKeyed, StaysSame, IsCounted}
 use Rattle.iss_velocity.proofs.Turning.{keys_more}
 
@@ -58,34 +58,34 @@ module _ (users begun after : Users) (past past' : Past) (user : List ℕ) (old 
       at true = refl
       at false = same u
 
-  looked_up : (u : List ℕ) (place : ℕ) (n : ℤ) → used_at after past' u place n ≡ used_in (cond (bytes_eq u user) new (counters_at users u)) past' u place n
-  looked_up u place n = ap (λ (cs : List Counter). used_in cs past' u place n) (written_at u)
+  looked_up : (u : List ℕ) (place : ℕ) (n : ℤ) → used_at after past' u place n ≡ used_at_place (cond (bytes_eq u user) new (counters_at users u)) past' u place n
+  looked_up u place n = ap (λ (cs : List Counter). used_at_place cs past' u place n) (written_at u)
 
   pub all_counted : (controls : List Standing) (groups : List Group) (row : UsageRow) → row.user ≡ user → IsCounted controls groups row old past new past'
       → (u : List ℕ) (place : ℕ) (n : ℤ) → used_at after past' u place n
       ≡ cond (bytes_eq u row.user) (used_then controls groups row place n (used_at users past u place n)) (used_at users past u place n)
   all_counted controls groups row own c u place n = looked_up u place n ∙ at (bytes_eq u user) refl ∙ ap (λ (x : List ℕ). cond (bytes_eq u x) (used_then controls groups row place n (used_at users past u place n)) (used_at users past u place n)) (sym own)
     where
-      at : (b : Bool) → bytes_eq u user ≡ b → used_in (cond b new (counters_at users u)) past' u place n
+      at : (b : Bool) → bytes_eq u user ≡ b → used_at_place (cond b new (counters_at users u)) past' u place n
           ≡ cond b (used_then controls groups row place n (used_at users past u place n)) (used_at users past u place n)
       at true e =
           let one : u ≡ row.user = one_name u user e ∙ sym own in
           let two : old ≡ counters_at users u = own_old ∙ ap (counters_at users) (sym (one_name u user e)) in
-          ap (λ (x : List ℕ). used_in new past' x place n) one
+          ap (λ (x : List ℕ). used_at_place new past' x place n) one
           ∙ c.counted place n
-          ∙ ap₂ (λ (cs : List Counter) (x : List ℕ). used_then controls groups row place n (used_in cs past x place n)) two (sym one)
+          ∙ ap₂ (λ (cs : List Counter) (x : List ℕ). used_then controls groups row place n (used_at_place cs past x place n)) two (sym one)
       at false e =
           ap (λ (o : Option Used). or_else (in_span n (at_place place (counters_at users u))) o) (c.others u place n (ap (bytes_eq u) own ∙ e))
 
   pub all_same : StaysSame user old past new past' → (u : List ℕ) (place : ℕ) (n : ℤ) → used_at after past' u place n ≡ used_at users past u place n
   all_same c u place n = looked_up u place n ∙ at (bytes_eq u user) refl
     where
-      at : (b : Bool) → bytes_eq u user ≡ b → used_in (cond b new (counters_at users u)) past' u place n ≡ used_at users past u place n
+      at : (b : Bool) → bytes_eq u user ≡ b → used_at_place (cond b new (counters_at users u)) past' u place n ≡ used_at users past u place n
       at true e =
           let two : old ≡ counters_at users u = own_old ∙ ap (counters_at users) (sym (one_name u user e)) in
-          ap (λ (x : List ℕ). used_in new past' x place n) (one_name u user e)
+          ap (λ (x : List ℕ). used_at_place new past' x place n) (one_name u user e)
           ∙ c.same place n
-          ∙ ap₂ (λ (cs : List Counter) (x : List ℕ). used_in cs past x place n) two (sym (one_name u user e))
+          ∙ ap₂ (λ (cs : List Counter) (x : List ℕ). used_at_place cs past x place n) two (sym (one_name u user e))
       at false e = ap (λ (o : Option Used). or_else (in_span n (at_place place (counters_at users u))) o) (c.others u place n e)
 
 -- a table after a user's counters were written
@@ -116,7 +116,7 @@ beyond_same controls users after past past' same beyond u place n e = same u pla
 
 pub begun_used : (users begun : Users) (past : Past) → ((u : List ℕ) → counters_at begun u ≡ counters_at users u)
     → (u : List ℕ) (place : ℕ) (n : ℤ) → used_at begun past u place n ≡ used_at users past u place n
-begun_used users begun past same u place n = ap (λ (cs : List Counter). used_in cs past u place n) (same u)
+begun_used users begun past same u place n = ap (λ (cs : List Counter). used_at_place cs past u place n) (same u)
 
 -- a fact of a refused call
 pub on_any_err : {A E : Type 0} (r : Result A E) {P : Type 0} → P → OnErr r P

@@ -19,7 +19,7 @@ use Rattle.iss_model.proofs.Names.{name-sym, its_name}
 use Rattle.iss_velocity.specs.declared.counters.Counter.{Counter}
 use Rattle.iss_velocity.specs.declared.standing.Standing.{Standing}
 use Rattle.iss_velocity.specs.Spanning.{span_number}
-use Rattle.iss_velocity.specs.Counting.{Past, by_span, put_of, at_place, in_span, or_else, past_at, used_in}
+use Rattle.iss_velocity.specs.Counting.{Past, by_span, put_of, at_place, in_span, or_else, past_at, used_at_place}
 use Rattle.iss_velocity.specs.Lists.{IsSplit, AreReady}
 use Rattle.iss_velocity.specs.Keeping.{has_no_zero, IsKeptPast, IsTurned, IsReady, StaysSame}
 use Rattle.iss_velocity.proofs.Lookups.{span_test}
@@ -235,7 +235,7 @@ module _ (user : List ℕ) (number : ℤ) (cs : List Counter) (next place : ℕ)
         plain = t.plain;
       }
     where
-      at : (p : ℕ) (n : ℤ) (b : Bool) → (p == place) ≡ b → used_in (set cs next turned) after user p n ≡ used_in cs past user p n
+      at : (p : ℕ) (n : ℤ) (b : Bool) → (p == place) ≡ b → used_at_place (set cs next turned) after user p n ≡ used_at_place cs past user p n
       at p n true h =
           let one : p ≡ c.place = (let e = same_place in grind (arith, nat_tests)) in
           let two : p ≡ place = grind (arith, nat_tests) in
@@ -279,7 +279,7 @@ module _ (user : List ℕ) (number : ℤ) (cs : List Counter) (next place : ℕ)
       once n false h = refl
 
       at : (p : ℕ) (n : ℤ) (b : Bool) → (p == place) ≡ b
-          → used_in (insert cs next (record { place = place; number = number; used = past_at past user place number })) past user p n ≡ used_in cs past user p n
+          → used_at_place (insert cs next (record { place = place; number = number; used = past_at past user place number })) past user p n ≡ used_at_place cs past user p n
       at p n true h =
           let one : p ≡ place = grind (arith, nat_tests) in
           ap (λ (o : Option Counter). or_else (in_span n o) (past_at past user p n))
@@ -311,15 +311,15 @@ module _ (controls : List Standing) (groups : List Group) (row : UsageRow) (old 
       record { ready = λ p t h e k. at p t (p == end) refl h e k }
     where
       at : (p : ℕ) (t : Standing) (b : Bool) → (p == end) ≡ b → nat_le (p + 1) (end + 1) ≡ true → slice_get controls p ≡ Some t → counts groups (put_of t) row ≡ true
-          → at_place p cs ≡ Some (record { place = p; number = span_number t row; used = used_in old past row.user p (span_number t row) })
+          → at_place p cs ≡ Some (record { place = p; number = span_number t row; used = used_at_place old past row.user p (span_number t row) })
       at p t true g h e k =
           let one : p ≡ end = grind (arith, nat_tests) in
           let same_standing : Some s ≡ Some t = sym found ∙ ap (λ (q : ℕ). slice_get controls q) (sym one) ∙ e in
           let own : s ≡ t = cc in
           ap (λ (q : ℕ). at_place q cs) one ∙ ready.is
-          ∙ ap (λ (x : Standing). Some (record { place = end; number = span_number x row; used = used_in before now row.user end (span_number x row) })) own
+          ∙ ap (λ (x : Standing). Some (record { place = end; number = span_number x row; used = used_at_place before now row.user end (span_number x row) })) own
           ∙ ap (λ (u : Option Used). Some (record { place = end; number = span_number t row; used = u })) (same.same end (span_number t row))
-          ∙ ap (λ (q : ℕ). Some (record { place = q; number = span_number t row; used = used_in old past row.user q (span_number t row) })) (sym one)
+          ∙ ap (λ (q : ℕ). Some (record { place = q; number = span_number t row; used = used_at_place old past row.user q (span_number t row) })) (sym one)
       at p t false g h e k =
           let below : nat_le (p + 1) end ≡ true = grind (arith, nat_tests) in
           kept p g ∙ r.ready p t below e k
@@ -330,7 +330,7 @@ module _ (controls : List Standing) (groups : List Group) (row : UsageRow) (old 
       record { ready = λ p t h e k. at p t (p == end) refl h e k }
     where
       at : (p : ℕ) (t : Standing) (b : Bool) → (p == end) ≡ b → nat_le (p + 1) (end + 1) ≡ true → slice_get controls p ≡ Some t → counts groups (put_of t) row ≡ true
-          → at_place p cs ≡ Some (record { place = p; number = span_number t row; used = used_in old past row.user p (span_number t row) })
+          → at_place p cs ≡ Some (record { place = p; number = span_number t row; used = used_at_place old past row.user p (span_number t row) })
       at p t true g h e k =
           let one : p ≡ end = grind (arith, nat_tests) in
           let same_standing : Some s ≡ Some t = sym found ∙ ap (λ (q : ℕ). slice_get controls q) (sym one) ∙ e in

@@ -56,12 +56,12 @@ abbrev pub past_at : Past → List ℕ → ℕ → ℤ → Option Used
 past_at past user place number = tree.get by_span past (user, (place, number))
 
 -- what the control at a place has counted of a user in a span, if it counted a row
-abbrev pub used_in : List Counter → Past → List ℕ → ℕ → ℤ → Option Used
-used_in counters past user place number = or_else (in_span number (at_place place counters)) (past_at past user place number)
+abbrev pub used_at_place : List Counter → Past → List ℕ → ℕ → ℤ → Option Used
+used_at_place counters past user place number = or_else (in_span number (at_place place counters)) (past_at past user place number)
 
 -- the same, over the counters of all users
 abbrev pub used_at : Users → Past → List ℕ → ℕ → ℤ → Option Used
-used_at users past user place number = used_in (counters_at users user) past user place number
+used_at users past user place number = used_at_place (counters_at users user) past user place number
 
 -- nothing counted
 abbrev pub unused : Used

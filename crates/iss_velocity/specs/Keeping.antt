@@ -15,7 +15,7 @@ use Rattle.iss_velocity.specs.declared.counters.Counter.{Counter}
 use Rattle.iss_velocity.specs.declared.standing.Standing.{Standing}
 use Rattle.iss_velocity.specs.declared.table.Table.{Table}
 use Rattle.iss_velocity.specs.Spanning.{span_number}
-use Rattle.iss_velocity.specs.Counting.{Users, Past, by_name, past_at, put_of, at_place, in_span, or_else, used_in, used_at, used_more, used_then}
+use Rattle.iss_velocity.specs.Counting.{Users, Past, by_name, past_at, put_of, at_place, in_span, or_else, used_at_place, used_at, used_more, used_then}
 
 -- no byte is 0, as in each token
 abbrev pub has_no_zero : List ℕ → Bool
@@ -72,13 +72,13 @@ pub record AreKeyed (users : Users) (past : Past) : Type 0 where
   pub past_plain : is_past_plain past ≡ true
 
 -- all of a control's sums lie strictly between -2^62 and 2^62
-pub record KeepsSmall (c : ControlKept) : Type 0 where
+pub record IsControlSmall (c : ControlKept) : Type 0 where
   pub amounts : AreSmall c.amounts
   pub times : AreSmall c.times
 
 -- all sums of all controls do
 pub record HaveSmallSums (controls : List ControlKept) : Type 0 where
-  pub small : (i : ℕ) (c : ControlKept) → slice_get controls i ≡ Some c → KeepsSmall c
+  pub small : (i : ℕ) (c : ControlKept) → slice_get controls i ≡ Some c → IsControlSmall c
 
 -- what is counted with one more row lies in that range
 pub record IsSmallUse (used : Used) : Type 0 where
@@ -88,7 +88,7 @@ pub record IsSmallUse (used : Used) : Type 0 where
 -- what each control that counts a row has counted of its user in the row's span lies in that range, with the row
 pub record StaySmall (controls : List Standing) (groups : List Group) (row : UsageRow) (counters : List Counter) (past : Past) : Type 0 where
   pub small : (place : ℕ) (s : Standing) → slice_get controls place ≡ Some s → counts groups (put_of s) row ≡ true
-      → IsSmallUse (used_more (used_in counters past row.user place (span_number s row)) row)
+      → IsSmallUse (used_more (used_at_place counters past row.user place (span_number s row)) row)
 
 -- what a counter has counted lies in that range, with a row that its control counts
 pub record FitsMore (controls : List Standing) (groups : List Group) (row : UsageRow) (c : Counter) : Type 0 where
@@ -112,18 +112,18 @@ pub record IsTurned (user : List ℕ) (number : ℤ) (c : Counter) (past after :
 
 -- the counter of a control is of a span, with what is counted there
 pub record IsReady (user : List ℕ) (place : ℕ) (number : ℤ) (old : List Counter) (past : Past) (new : List Counter) : Type 0 where
-  pub is : at_place place new ≡ Some (record { place = place; number = number; used = used_in old past user place number })
+  pub is : at_place place new ≡ Some (record { place = place; number = number; used = used_at_place old past user place number })
 
 -- nothing is counted in another way of a user, and nothing moves of another one
 pub record StaysSame (user : List ℕ) (old : List Counter) (past : Past) (new : List Counter) (after : Past) : Type 0 where
-  pub same : (place : ℕ) (number : ℤ) → used_in new after user place number ≡ used_in old past user place number
+  pub same : (place : ℕ) (number : ℤ) → used_at_place new after user place number ≡ used_at_place old past user place number
   pub others : (other : List ℕ) (place : ℕ) (number : ℤ) → bytes_eq other user ≡ false
       → past_at after other place number ≡ past_at past other place number
   pub plain : is_past_plain past ≡ true → is_past_plain after ≡ true
 
 -- each control that counts a row has counted it of the row's user, and nothing else moves
 pub record IsCounted (controls : List Standing) (groups : List Group) (row : UsageRow) (old : List Counter) (past : Past) (new : List Counter) (after : Past) : Type 0 where
-  pub counted : (place : ℕ) (number : ℤ) → used_in new after row.user place number ≡ used_then controls groups row place number (used_in old past row.user place number)
+  pub counted : (place : ℕ) (number : ℤ) → used_at_place new after row.user place number ≡ used_then controls groups row place number (used_at_place old past row.user place number)
   pub others : (other : List ℕ) (place : ℕ) (number : ℤ) → bytes_eq other row.user ≡ false
       → past_at after other place number ≡ past_at past other place number
   pub plain : is_past_plain past ≡ true → is_past_plain after ≡ true

@@ -5,7 +5,7 @@ use Rattle.iss_model.specs.rules.Controls.{Group, counts}
 use Rattle.iss_velocity.specs.declared.counters.Counter.{Counter}
 use Rattle.iss_velocity.specs.declared.standing.Standing.{Standing}
 use Rattle.iss_velocity.specs.Spanning.{span_number}
-use Rattle.iss_velocity.specs.Counting.{Past, put_of, at_place, used_in}
+use Rattle.iss_velocity.specs.Counting.{Past, put_of, at_place, used_at_place}
 
 -- places rise, from a place on
 abbrev pub rising_from : ℕ → List Counter → Bool
@@ -29,4 +29,4 @@ pub record IsSplit (counters : List Counter) (next place : ℕ) : Type 0 where
 -- each control before a place that counts a row has a counter of the row's span, with what it counted there
 pub record AreReady (controls : List Standing) (groups : List Group) (row : UsageRow) (old : List Counter) (past : Past) (counters : List Counter) (end : ℕ) : Type 0 where
   pub ready : (place : ℕ) (s : Standing) → nat_le (place + 1) end ≡ true → slice_get controls place ≡ Some s → counts groups (put_of s) row ≡ true
-      → at_place place counters ≡ Some (record { place = place; number = span_number s row; used = used_in old past row.user place (span_number s row) })
+      → at_place place counters ≡ Some (record { place = place; number = span_number s row; used = used_at_place old past row.user place (span_number s row) })

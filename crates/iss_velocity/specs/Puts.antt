@@ -57,15 +57,15 @@ control_after_activity name active c =
     if bytes_eq name c.control.name then record c { control = record (c.control) { active = active } } else c
 
 -- the reason of a fault; a failed allocation has none
-abbrev pub fault_reason : ControlFault → Option Reason
-fault_reason fault.Fixed = Some reason.ControlFixed
-fault_reason fault.Limit = Some reason.Limit
-fault_reason fault.OutOfMemory = None
+abbrev pub control_fault_reason : ControlFault → Option Reason
+control_fault_reason fault.Fixed = Some reason.ControlFixed
+control_fault_reason fault.Limit = Some reason.Limit
+control_fault_reason fault.OutOfMemory = None
 
 -- the reason of a result
-abbrev pub reason_of_result : {A : Type 0} → Result A ControlFault → Option Reason
-reason_of_result (Ok x) = None
-reason_of_result (Err f) = fault_reason f
+abbrev pub control_result_reason : {A : Type 0} → Result A ControlFault → Option Reason
+control_result_reason (Ok x) = None
+control_result_reason (Err f) = control_fault_reason f
 
 -- a control that is put for the first time, by the record of this number
 abbrev pub first_put : ℕ → Control → ControlPut

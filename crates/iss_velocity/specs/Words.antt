@@ -4,10 +4,10 @@ use Rattle.iss_model.specs.declared.txn.UsageRow.{UsageRow}
 use Rattle.iss_model.specs.declared.txn.Used.{Used}
 use Rattle.iss_model.specs.rules.Controls.{Group, ControlNow, counts, span_key, control_named}
 use Rattle.iss_model.specs.rules.Asks.{passes, used_by}
-use Rattle.iss_velocity.specs.declared.ask.Ask.{Ask}
+use Rattle.iss_velocity.specs.declared.ask.Spending.{Spending}
 
 -- the use that an ask adds at a stamp: an authorisation counts once, an increment doesn't count
-abbrev pub asked_use : Ask → ℕ → UsageRow
+abbrev pub asked_use : Spending → ℕ → UsageRow
 asked_use ask at =
     record {
       txn = ask.txn;

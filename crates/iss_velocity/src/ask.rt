@@ -7,7 +7,7 @@ use iss_model::{Currency, Token, UsageRow};
 
 /// An authorisation, or an increment of one, as it asks for money.
 #[derive(Clone, Copy)]
-pub struct Ask {
+pub struct Spending {
     /// The transaction, named by its authorisation's event token.
     pub txn: Token,
     /// The number of the authorisation's record.
@@ -25,7 +25,7 @@ pub struct Ask {
     pub first: bool,
 }
 
-impl Ask {
+impl Spending {
     /// The use that it adds at a stamp.
     pub(crate) fn usage(&self, at: u64) -> UsageRow
         requires { IsTrue (is_amount self.now.amount) }

@@ -6,10 +6,10 @@ ghost use Rattle.iss_model.specs.declared.entry.Entry.TheVariants as entry;
 ghost use Rattle.iss_model.specs.rules.Reasons.{is_full};
 ghost use Rattle.iss_model.specs.state.Cores.{with_control, control_after_use, control_facts};
 ghost use Rattle.iss_velocity.specs.Words.{asked_use, breach_of, used_of};
-ghost use Rattle.iss_velocity.specs.Puts.{kept_named, put_reason, control_after_limits, control_after_activity, reason_of_result};
+ghost use Rattle.iss_velocity.specs.Puts.{kept_named, put_reason, control_after_limits, control_after_activity, control_result_reason};
 ghost use Rattle.iss_velocity.specs.Keeping.{HaveSmallSums};
 
-use crate::ask::Ask;
+use crate::ask::Spending;
 use crate::standing::{Change, Limits};
 use crate::table::Table;
 use iss_model::{Control, Token, UsageRow, Used};
@@ -68,7 +68,7 @@ impl Controls {
     pub fn put(&mut self, number: u32, control: &Control) -> Result<(), ControlFault>
         ensures put { OnOk result (self.new ≡ with_control self.old (record { number = number; control = control.now })) }
         ensures refused { OnErr result (self.new ≡ self.old) }
-        ensures reason { reason_of_result result ≡ put_reason (kept_named control.now.name self.old) self.old control.now }
+        ensures reason { control_result_reason result ≡ put_reason (kept_named control.now.name self.old) self.old control.now }
     {
         self.table.put(number, control)
     }
@@ -131,7 +131,7 @@ impl Controls {
     }
 
     /// The name of the first active control that would count an ask's use at a stamp and have counted more than a limit with it.
-    pub fn breach(&self, groups: &Groups, ask: &Ask, at: u64) -> Option<Token>
+    pub fn breach(&self, groups: &Groups, ask: &Spending, at: u64) -> Option<Token>
         requires stamp { IsTrue (is_stamp at) }
         requires amount { IsTrue (is_amount ask.now.amount) }
         ensures { result ≡ breach_of groups.now (map control_facts self.now) (asked_use ask.now at) ask.now.first }

@@ -13,7 +13,7 @@ mod spans;
 mod standing;
 mod table;
 
-pub use ask::Ask;
+pub use ask::Spending;
 pub use controls::{ControlFault, Controls};
 pub use laws::{
     breach_looks_at_use, control_that_is_put_counts_no_earlier_use,

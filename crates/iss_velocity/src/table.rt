@@ -8,7 +8,7 @@ ghost use Rattle.iss_model.specs.state.Cores.{control_facts, control_after_use, 
 ghost use Rattle.iss_model.specs.rules.Asks.{used_by};
 ghost use Rattle.iss_model.specs.rules.Reasons.{is_full};
 ghost use Rattle.iss_velocity.specs.Words.{breach_of, used_of};
-ghost use Rattle.iss_velocity.specs.Puts.{first_put, kept_named, put_reason, reason_of_result, kept_after_change, standing_named, standing_after_change};
+ghost use Rattle.iss_velocity.specs.Puts.{first_put, kept_named, put_reason, control_result_reason, kept_after_change, standing_named, standing_after_change};
 ghost use Rattle.iss_velocity.specs.Lists.{rising_from};
 ghost use Rattle.iss_velocity.specs.Counting.{counters_at, by_name};
 ghost use Rattle.iss_velocity.specs.Keeping.{has_no_zero, used_on, controls_in, IsTable, HaveSmallSums, is_users_plain};
@@ -126,7 +126,7 @@ impl Table {
         ensures keyed { IsTable self.new }
         ensures put { OnOk result (controls_in self.new ≡ with_control (controls_in self.old) (first_put number control.now)) }
         ensures refused { OnErr result (controls_in self.new ≡ controls_in self.old) }
-        ensures reason { reason_of_result result ≡ put_reason (kept_named control.now.name (controls_in self.old)) (controls_in self.old) control.now }
+        ensures reason { control_result_reason result ≡ put_reason (kept_named control.now.name (controls_in self.old)) (controls_in self.old) control.now }
     {
         let Some(standing) = self.standing(&control.name) else {
             return self.add(number, control);
@@ -163,7 +163,7 @@ impl Table {
         ensures keyed { IsTable self.new }
         ensures put { OnOk result (controls_in self.new ≡ with_control (controls_in self.old) (first_put number control.now)) }
         ensures refused { OnErr result (controls_in self.new ≡ controls_in self.old) }
-        ensures reason { reason_of_result result ≡ put_reason None (controls_in self.old) control.now }
+        ensures reason { control_result_reason result ≡ put_reason None (controls_in self.old) control.now }
     {
         if self.controls.len() >= MOST_OF_A_KIND {
             return Err(ControlFault::Limit);

@@ -2,7 +2,7 @@ use Rattle.std.proofs.Common.{rules, ◌≡◌, Option, Err, subst}
 use Rattle.iss_channels.specs.Placed.{things_of}
 use Rattle.iss_http.specs.declared.answers.Answer.{Answer}
 use Rattle.iss_link.specs.Values.{subject_of}
-use Rattle.iss_link.specs.Hearing.{Reads, got_in}
+use Rattle.iss_link.specs.Hearing.{ReadsLink, got_in}
 use Rattle.iss_link.proofs.Listening.{listens_err, listens_ok}
 use Rattle.iss_link.proofs.answers.listen.Goals as goal
 
@@ -20,7 +20,7 @@ returns-in_err-said-clause-listens g c =
 
 pub returns-clause-listens : goal.returns-clause-listens
 returns-clause-listens g c =
-    let reads = subst (λ (said : Option Answer). Reads c.args.ch (got_in c.take-got.new.buffer c.take-got.result) (things_of c.args.links.now) (things_of c.read.new.links) said) c.in-Some.is c.in_ok-answer.ensures.reads in
+    let reads = subst (λ (said : Option Answer). ReadsLink c.args.ch (got_in c.take-got.new.buffer c.take-got.result) (things_of c.args.links.now) (things_of c.read.new.links) said) c.in-Some.is c.in_ok-answer.ensures.reads in
     listens_ok c.args.instance (things_of c.args.links.now) (things_of c.read.new.links) (things_of c.remove.new.self) c.args.ch c.in_ok-said.said c.in-Some.answer (subject_of c.about-about.result)
     (g.E.Edge.channels c.args.edge.now) (g.E.Edge.faults c.args.edge.now) (g.E.Edge.faults c.take-got.new.edge) (g.E.Edge.faults c.close.new.self)
     (g.E.Edge.told c.args.edge.now) (g.E.Edge.told c.take-got.new.edge) (g.E.Edge.told c.close.new.self)

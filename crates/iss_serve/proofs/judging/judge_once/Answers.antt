@@ -3,7 +3,7 @@ use Rattle.iss_edge.specs.Outer.{outer_of}
 use Rattle.iss_edge.specs.World.{Told}
 use Rattle.iss_session.specs.Judgements.{answer_tasks}
 use Rattle.iss_serve.specs.Causes.{IsOfDisk}
-use Rattle.iss_serve.specs.Held.{now_of, queued_as, sending, to_judge}
+use Rattle.iss_serve.specs.Held.{seen_held, queued_as, sending, to_judge}
 use Rattle.iss_serve.specs.Runs.{ServesSome}
 use Rattle.iss_serve.proofs.Causings.{anyhow}
 use Rattle.iss_serve.proofs.Keeps.{told_answer}
@@ -12,7 +12,7 @@ use Rattle.iss_serve.proofs.judging.judge_once.Goals as goal
 
 pub returns-in_err-tell-in-Err-Told-clause-part : goal.returns-in_err-tell-in-Err-Told-clause-part
 returns-in_err-tell-in-Err-Told-clause-part g c = λ rest.
-    let h = now_of c.args.held.now in
+    let h = seen_held c.args.held.now in
     let q = queued_as c.args.queued.now in
     let a = c.in-Err-Told.answer in
     let x = (outer_of (g.E.Edge.told c.args.edge.now) (g.E.Edge.heard c.args.edge.now)) in
@@ -23,13 +23,13 @@ returns-in_err-tell-in-Err-Told-clause-part g c = λ rest.
 
 pub returns-in_ok-tell-in-Err-Told-clause-judged : goal.returns-in_ok-tell-in-Err-Told-clause-judged
 returns-in_ok-tell-in-Err-Told-clause-judged g c = λ rest.
-    let h = now_of c.args.held.now in
+    let h = seen_held c.args.held.now in
     let q = queued_as c.args.queued.now in
     let a = c.in-Err-Told.answer in
     let x = (outer_of (g.E.Edge.told c.args.edge.now) (g.E.Edge.heard c.args.edge.now)) in
     let z = (outer_of (g.E.Edge.told c.tell.new.edge) (g.E.Edge.heard c.tell.new.edge)) in
-    told_on_then (to_judge c.args.store h (q ∷ rest)) (sending c.args.store h rest (answer_tasks q.client a)) (to_judge c.args.store (now_of c.tell.new.held) rest) x x z
+    told_on_then (to_judge c.args.store h (q ∷ rest)) (sending c.args.store h rest (answer_tasks q.client a)) (to_judge c.args.store (seen_held c.tell.new.held) rest) x x z
     (told_answer c.args.store h q rest a (rw c.in-Err-Told.field-0-is at c.in-Err-Told.ensures.on_book) x) (c.in_ok-tell-in-Err-Told.ensures.told rest)
 
 pub returns-in-Err-OutOfMemory-clause-part : goal.returns-in-Err-OutOfMemory-clause-part
-returns-in-Err-OutOfMemory-clause-part g c = λ rest. told_none_on ⊥ (to_judge c.args.store (now_of c.args.held.now) (queued_as c.args.queued.now ∷ rest)) (outer_of (g.E.Edge.told c.args.edge.now) (g.E.Edge.heard c.args.edge.now))
+returns-in-Err-OutOfMemory-clause-part g c = λ rest. told_none_on ⊥ (to_judge c.args.store (seen_held c.args.held.now) (queued_as c.args.queued.now ∷ rest)) (outer_of (g.E.Edge.told c.args.edge.now) (g.E.Edge.heard c.args.edge.now))

@@ -3,7 +3,7 @@ use Rattle.iss_edge.specs.Outer.{outer_of}
 use Rattle.iss_edge.specs.World.{Told}
 use Rattle.iss_store.specs.Serving.{tasks_of_record}
 use Rattle.iss_serve.specs.Causes.{fault_of_store, IsOfDisk}
-use Rattle.iss_serve.specs.Held.{now_of, queued_as, sending, to_judge}
+use Rattle.iss_serve.specs.Held.{seen_held, queued_as, sending, to_judge}
 use Rattle.iss_serve.specs.Judged.{judged_again, waiting_for}
 use Rattle.iss_serve.specs.Runs.{ServesSome}
 use Rattle.iss_serve.proofs.Causings.{anyhow, caused_commit}
@@ -14,7 +14,7 @@ use Rattle.iss_serve.proofs.judging.keep.Goals as goal
 
 pub returns-in_err-next-clause-part : goal.returns-in_err-next-clause-part
 returns-in_err-next-clause-part g c = λ rest.
-    let h = now_of c.args.held.now in
+    let h = seen_held c.args.held.now in
     let q = queued_as c.args.queued.now in
     let x = outer_of (g.E.Edge.told c.args.edge.now) (g.E.Edge.heard c.args.edge.now) in
     let y = outer_of (g.E.Edge.told c.commit.new.edge) (g.E.Edge.heard c.commit.new.edge) in
@@ -30,7 +30,7 @@ returns-in_err-next-clause-caused g c =
 
 pub returns-in_err-wait_for-clause-part : goal.returns-in_err-wait_for-clause-part
 returns-in_err-wait_for-clause-part g c = λ rest.
-    let h = now_of c.args.held.now in
+    let h = seen_held c.args.held.now in
     let q = queued_as c.args.queued.now in
     let x = outer_of (g.E.Edge.told c.args.edge.now) (g.E.Edge.heard c.args.edge.now) in
     let y = outer_of (g.E.Edge.told c.commit.new.edge) (g.E.Edge.heard c.commit.new.edge) in
@@ -40,9 +40,9 @@ returns-in_err-wait_for-clause-part g c = λ rest.
 
 pub returns-in_err-release-clause-part : goal.returns-in_err-release-clause-part
 returns-in_err-release-clause-part g c = λ rest.
-    let h = now_of c.args.held.now in
+    let h = seen_held c.args.held.now in
     let q = queued_as c.args.queued.now in
-    let waits = now_of c.wait_for.new.self in
+    let waits = seen_held c.wait_for.new.self in
     let is = subst (λ (b : Bool). waits ≡ waiting_for q b h) c.more-more.ensures c.in_ok-wait_for.ensures.now in
     let x = outer_of (g.E.Edge.told c.args.edge.now) (g.E.Edge.heard c.args.edge.now) in
     let z = outer_of (g.E.Edge.told c.release.new.edge) (g.E.Edge.heard c.release.new.edge) in
@@ -54,14 +54,14 @@ returns-in_err-release-clause-part g c = λ rest.
 
 pub returns-clause-judged : goal.returns-clause-judged
 returns-clause-judged g c = λ rest.
-    let h = now_of c.args.held.now in
+    let h = seen_held c.args.held.now in
     let q = queued_as c.args.queued.now in
-    let waits = now_of c.wait_for.new.self in
+    let waits = seen_held c.wait_for.new.self in
     let is = subst (λ (b : Bool). waits ≡ waiting_for q b h) c.more-more.ensures c.in_ok-wait_for.ensures.now in
     let z = outer_of (g.E.Edge.told c.release.new.edge) (g.E.Edge.heard c.release.new.edge) in
     told_kept c.args.store h q rest c.args.planned c.requires.planned_for (g.E.Edge.told c.args.edge.now) (g.E.Edge.told c.commit.new.edge) (g.E.Edge.heard c.args.edge.now) (g.E.Edge.heard c.commit.new.edge)
     c.commit.ensures.heard c.in_ok-next.next c.in_ok-next.durable c.in_ok-next.ensures.committed c.in_ok-next.ensures.on_book c.in_ok-next.ensures.lasts waits is z
-    (now_of c.release.new.held) (c.in_ok-release.ensures.released (judged_again c.args.planned.is_clock q rest))
+    (seen_held c.release.new.held) (c.in_ok-release.ensures.released (judged_again c.args.planned.is_clock q rest))
 
 pub returns-clause-judges : goal.returns-clause-judges
 returns-clause-judges g c =

@@ -1,7 +1,7 @@
 use Rattle.iss_edge.specs.Outer.{outer_of}
 use Rattle.iss_edge.specs.World.{Told}
 use Rattle.iss_session.specs.Judgements.{answer_tasks}
-use Rattle.iss_serve.specs.Held.{now_of, sending}
+use Rattle.iss_serve.specs.Held.{seen_held, sending}
 use Rattle.iss_serve.specs.Runs.{ServesSome}
 use Rattle.iss_serve.proofs.Causings.{anyway}
 use Rattle.iss_serve.proofs.Keeps.{told_nobody, told_nothing_some, told_client_answer}
@@ -10,18 +10,18 @@ use Rattle.iss_serve.proofs.judging.tell.Goals as goal
 pub returns-in_default-clause-told : goal.returns-in_default-clause-told
 returns-in_default-clause-told g c = λ first.
     let x = outer_of (g.E.Edge.told c.args.edge.now) (g.E.Edge.heard c.args.edge.now) in
-    told_nobody c.args.store.now (now_of c.args.held.now) first c.args.queued.now.client c.args.answer.now x c.in_default.is
+    told_nobody c.args.store.now (seen_held c.args.held.now) first c.args.queued.now.client c.args.answer.now x c.in_default.is
 
 pub returns-in_err-tell_served-clause-part : goal.returns-in_err-tell_served-clause-part
 returns-in_err-tell_served-clause-part g c = λ first.
     let x = outer_of (g.E.Edge.told c.args.edge.now) (g.E.Edge.heard c.args.edge.now) in
     let y = outer_of (g.E.Edge.told c.tell_served.new.edge) (g.E.Edge.heard c.tell_served.new.edge) in
-    let stage = sending c.args.store.now (now_of c.args.held.now) first (answer_tasks c.args.queued.now.client c.args.answer.now) in
+    let stage = sending c.args.store.now (seen_held c.args.held.now) first (answer_tasks c.args.queued.now.client c.args.answer.now) in
     anyway c.from_residual.result (Told (ServesSome ⊥ stage) x y) (told_nothing_some ⊥ stage x y c.in_err-tell_served.ensures.unsent)
 
 pub returns-clause-told : goal.returns-clause-told
 returns-clause-told g c = λ first.
     let x = outer_of (g.E.Edge.told c.args.edge.now) (g.E.Edge.heard c.args.edge.now) in
     let y = outer_of (g.E.Edge.told c.tell_served.new.edge) (g.E.Edge.heard c.tell_served.new.edge) in
-    told_client_answer c.args.store.now (now_of c.args.held.now) (record (now_of c.args.held.now) { served = c.forget.new.self }) first c.args.queued.now.client c.in-Some.ch c.args.answer.now x y c.in-Some.is
-    (λ i. record (now_of c.args.held.now) { served = c.forget.ensures i }) (c.in_ok-tell_served.ensures.sends c.args.held.now.served)
+    told_client_answer c.args.store.now (seen_held c.args.held.now) (record (seen_held c.args.held.now) { served = c.forget.new.self }) first c.args.queued.now.client c.in-Some.ch c.args.answer.now x y c.in-Some.is
+    (λ i. record (seen_held c.args.held.now) { served = c.forget.ensures i }) (c.in_ok-tell_served.ensures.sends c.args.held.now.served)

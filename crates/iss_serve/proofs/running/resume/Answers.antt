@@ -5,7 +5,7 @@ use Rattle.iss_edge.specs.Outer.{outer_of}
 use Rattle.iss_edge.specs.World.{Told}
 use Rattle.iss_store.specs.Serving.{tasks_pending}
 use Rattle.iss_serve.specs.Causes.{IsOfDisk}
-use Rattle.iss_serve.specs.Held.{now_of, noted, idle, sending}
+use Rattle.iss_serve.specs.Held.{seen_held, noted, idle, sending}
 use Rattle.iss_serve.specs.Runs.{ServesSome}
 use Rattle.iss_serve.proofs.Causings.{anyhow, if_err_weaker}
 use Rattle.iss_serve.proofs.Keeps.{told_sent, told_sent_part, told_sent_some}
@@ -14,7 +14,7 @@ use Rattle.iss_serve.proofs.running.resume.Goals as goal
 
 pub returns-in_err-gone-clause-part : goal.returns-in_err-gone-clause-part
 returns-in_err-gone-clause-part g c =
-    let h = now_of c.args.held.now in
+    let h = seen_held c.args.held.now in
     let tasks = tasks_pending c.args.store in
     let x = (outer_of (g.E.Edge.told c.args.edge.now) (g.E.Edge.heard c.args.edge.now)) in
     let y = (outer_of (g.E.Edge.told c.resume_served.new.edge) (g.E.Edge.heard c.resume_served.new.edge)) in
@@ -23,7 +23,7 @@ returns-in_err-gone-clause-part g c =
 
 pub returns-in_err-note_all-clause-part : goal.returns-in_err-note_all-clause-part
 returns-in_err-note_all-clause-part g c =
-    let h = now_of c.args.held.now in
+    let h = seen_held c.args.held.now in
     let tasks = tasks_pending c.args.store in
     let x = (outer_of (g.E.Edge.told c.args.edge.now) (g.E.Edge.heard c.args.edge.now)) in
     let y = (outer_of (g.E.Edge.told c.resume_served.new.edge) (g.E.Edge.heard c.resume_served.new.edge)) in
@@ -32,22 +32,22 @@ returns-in_err-note_all-clause-part g c =
 
 pub returns-clause-resumed : goal.returns-clause-resumed
 returns-clause-resumed g c =
-    let h = now_of c.args.held.now in
-    let now = now_of c.note_all.new.self in
+    let h = seen_held c.args.held.now in
+    let now = seen_held c.note_all.new.self in
     let tasks = tasks_pending c.args.store in
     let x = (outer_of (g.E.Edge.told c.args.edge.now) (g.E.Edge.heard c.args.edge.now)) in
     let y = (outer_of (g.E.Edge.told c.resume_served.new.edge) (g.E.Edge.heard c.resume_served.new.edge)) in
     let z = (outer_of (g.E.Edge.told c.judge_unreached.new.edge) (g.E.Edge.heard c.judge_unreached.new.edge)) in
     IfOk-weaker c.judge_unreached.result _ _
     (λ next p.
-    told_on_then (sending c.args.store h [] tasks) (idle c.args.store now) (idle next (now_of c.judge_unreached.new.held)) x y z
+    told_on_then (sending c.args.store h [] tasks) (idle c.args.store now) (idle next (seen_held c.judge_unreached.new.held)) x y z
     (told_sent c.args.store h now [] tasks h.served c.in_ok-gone.gone.items x y (subst (λ (l : List link.Gone). now ≡ noted l h) c.deref.ensures.value c.in_ok-note_all.ensures.now) (c.in_ok-gone.ensures.sends h.served)) p)
     c.judge_unreached.ensures.judged
 
 pub returns-clause-part : goal.returns-clause-part
 returns-clause-part g c =
-    let h = now_of c.args.held.now in
-    let now = now_of c.note_all.new.self in
+    let h = seen_held c.args.held.now in
+    let now = seen_held c.note_all.new.self in
     let tasks = tasks_pending c.args.store in
     let x = (outer_of (g.E.Edge.told c.args.edge.now) (g.E.Edge.heard c.args.edge.now)) in
     let y = (outer_of (g.E.Edge.told c.resume_served.new.edge) (g.E.Edge.heard c.resume_served.new.edge)) in

@@ -1,13 +1,13 @@
 use Rattle.std.proofs.Common.{◌≡◌, []}
 use Rattle.iss_edge.specs.World.{Told, Later}
 use Rattle.iss_edge.specs.Outer.{outer_of}
-use Rattle.iss_serve.specs.Held.{now_of, idle, IsHeld, IsOf}
+use Rattle.iss_serve.specs.Held.{seen_held, idle, IsHeld, IsOf}
 use Rattle.iss_serve.specs.Runs.{ServesOn}
 use Rattle.iss_serve.proofs.running.wait_on.Given as goal
 
 abbrev pub invariant-turns : goal.invariant-turns
 invariant-turns g l = record {
-  waited : Told (ServesOn (idle l.initial.next (now_of l.initial.held)) (idle l.next (now_of l.held)))
+  waited : Told (ServesOn (idle l.initial.next (seen_held l.initial.held)) (idle l.next (seen_held l.held)))
       (outer_of (g.E.Edge.told l.initial.edge) (g.E.Edge.heard l.initial.edge)) (outer_of (g.E.Edge.told l.edge) (g.E.Edge.heard l.edge));
   held : IsHeld l.held;
   instance : IsOf l.next l.held;

@@ -3,7 +3,7 @@ use Rattle.std.specs.List.{flat_map}
 use Rattle.iss_edge.specs.Outer.{outer_of}
 use Rattle.iss_edge.proofs.Tolds.{later_then}
 use Rattle.iss_session.specs.Desks.{Task}
-use Rattle.iss_store.specs.Serving.{SentUpTo, tasks_by}
+use Rattle.iss_store.specs.Serving.{SentFirst, tasks_by}
 use Rattle.iss_store.proofs.StaysServed.{told_stays_then}
 use Rattle.iss_store.proofs.ServedTexts.{next_tasks, sent_to_next, sent_to_part}
 use Rattle.iss_store.proofs.entries.send_entries.Goals as goal
@@ -20,7 +20,7 @@ returns-in_err-send_entry-clause-part g c =
     let f = g.E.Edge.faults c.args.edge.now in
     let h = g.E.Edge.faults c.loop-entry.edge in
     let sent =
-    subst (λ (ts : List Task). SentUpTo (flat_map tasks entries) ts c.loop-entry.gone.items c.loop-entry.answered.items f h x y) (next_tasks tasks entries i c.entry-item.result within c.entry-item.is)
+    subst (λ (ts : List Task). SentFirst (flat_map tasks entries) ts c.loop-entry.gone.items c.loop-entry.answered.items f h x y) (next_tasks tasks entries i c.entry-item.result within c.entry-item.is)
     c.loop-entry.invariant.sent in
     let part =
     sent_to_part (flat_map tasks entries) (tasks c.entry-item.result) (flat_map tasks (drop (i + 1) entries)) c.loop-entry.gone.items c.loop-entry.answered.items f h x y z sent c.in_err-send_entry.ensures.part in
@@ -42,7 +42,7 @@ loop-entry-preserved g c =
     let f = g.E.Edge.faults c.args.edge.now in
     let h = g.E.Edge.faults c.loop-entry.edge in
     let sent =
-    subst (λ (ts : List Task). SentUpTo (flat_map tasks entries) ts c.loop-entry.gone.items c.loop-entry.answered.items f h x y) (next_tasks tasks entries i c.entry-item.result within c.entry-item.is)
+    subst (λ (ts : List Task). SentFirst (flat_map tasks entries) ts c.loop-entry.gone.items c.loop-entry.answered.items f h x y) (next_tasks tasks entries i c.entry-item.result within c.entry-item.is)
     c.loop-entry.invariant.sent in
     record {
       sent =

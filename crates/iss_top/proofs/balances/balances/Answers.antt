@@ -1,5 +1,5 @@
 use Rattle.std.proofs.Common.{◌≡◌, Err, subst, sym, rules}
-use Rattle.iss_core.specs.Values.{CoreNow, StandsFor}
+use Rattle.iss_core.specs.Values.{CoreNow, CoreStandsFor}
 use Rattle.iss_texts.proofs.Rows.{all_end}
 use Rattle.iss_top.specs.declared.stop.Stop.TheVariants as stop
 use Rattle.iss_top.specs.Statuses.{stop_of_opening}
@@ -34,7 +34,7 @@ pub returns-in-Ok-clause-ran : goal.returns-in-Ok-clause-ran
 returns-in-Ok-clause-ran g c =
     let whole = c.in_ok-lines.ensures.whole in
     let is : IsReportOf c.in_ok-store.store c.in_ok-lines.lines =
-    λ rs here. c.in_ok-lines.ensures.on_book rs (subst (λ (k : CoreNow). StandsFor k rs) (sym c.core.ensures) here) in
+    λ rs here. c.in_ok-lines.ensures.on_book rs (subst (λ (k : CoreNow). CoreStandsFor k rs) (sym c.core.ensures) here) in
     told_report c.in_ok-store.store (g.E.Edge.told c.args.edge.now) (g.E.Edge.told c.open.new.edge) (g.E.Edge.told c.send.new.edge) c.in_ok-store.ensures.opened c.in_ok-lines.lines whole.lines whole.all is
     (λ texts all. rw c.in-Ok.is at (c.send.ensures.told texts all))
 
@@ -42,7 +42,7 @@ pub returns-in-Ok-clause-moments : goal.returns-in-Ok-clause-moments
 returns-in-Ok-clause-moments g c =
     let whole = c.in_ok-lines.ensures.whole in
     let is : IsReportOf c.in_ok-store.store c.in_ok-lines.lines =
-    λ rs here. c.in_ok-lines.ensures.on_book rs (subst (λ (k : CoreNow). StandsFor k rs) (sym c.core.ensures) here) in
+    λ rs here. c.in_ok-lines.ensures.on_book rs (subst (λ (k : CoreNow). CoreStandsFor k rs) (sym c.core.ensures) here) in
     told_report_moments c.in_ok-store.store (g.E.Edge.told c.args.edge.now) (g.E.Edge.told c.open.new.edge) (g.E.Edge.told c.send.new.edge) c.in_ok-store.ensures.opened c.in_ok-lines.lines whole.lines whole.all is
     (λ texts all. rw c.in-Ok.is at (c.send.ensures.told texts all))
 
@@ -50,7 +50,7 @@ pub returns-in-Ok-clause-refused : goal.returns-in-Ok-clause-refused
 returns-in-Ok-clause-refused g c =
     let whole = c.in_ok-lines.ensures.whole in
     let is : IsReportOf c.in_ok-store.store c.in_ok-lines.lines =
-    λ rs here. c.in_ok-lines.ensures.on_book rs (subst (λ (k : CoreNow). StandsFor k rs) (sym c.core.ensures) here) in
+    λ rs here. c.in_ok-lines.ensures.on_book rs (subst (λ (k : CoreNow). CoreStandsFor k rs) (sym c.core.ensures) here) in
     told_report_refuses c.in_ok-store.store (g.E.Edge.told c.args.edge.now) (g.E.Edge.told c.open.new.edge) (g.E.Edge.told c.send.new.edge) c.in_ok-store.ensures.opened c.in_ok-lines.lines whole.lines whole.all is
     (λ texts all. rw c.in-Ok.is at (c.send.ensures.told texts all))
 
@@ -58,7 +58,7 @@ pub returns-clause-ran : goal.returns-clause-ran
 returns-clause-ran g c =
     let whole = c.in_ok-lines.ensures.whole in
     let is : IsReportOf c.in_ok-store.store c.in_ok-lines.lines =
-    λ rs here. c.in_ok-lines.ensures.on_book rs (subst (λ (k : CoreNow). StandsFor k rs) (sym c.core.ensures) here) in
+    λ rs here. c.in_ok-lines.ensures.on_book rs (subst (λ (k : CoreNow). CoreStandsFor k rs) (sym c.core.ensures) here) in
     told_stopped_report c.in_ok-store.store (g.E.Edge.told c.args.edge.now) (g.E.Edge.told c.open.new.edge) (g.E.Edge.told c.send.new.edge) c.in_ok-store.ensures.opened c.in_ok-lines.lines whole.lines whole.all is
     (λ texts all. rw c.in-Err.is at (c.send.ensures.part texts all))
 
@@ -66,7 +66,7 @@ pub returns-clause-moments : goal.returns-clause-moments
 returns-clause-moments g c =
     let whole = c.in_ok-lines.ensures.whole in
     let is : IsReportOf c.in_ok-store.store c.in_ok-lines.lines =
-    λ rs here. c.in_ok-lines.ensures.on_book rs (subst (λ (k : CoreNow). StandsFor k rs) (sym c.core.ensures) here) in
+    λ rs here. c.in_ok-lines.ensures.on_book rs (subst (λ (k : CoreNow). CoreStandsFor k rs) (sym c.core.ensures) here) in
     told_stopped_moments c.in_ok-store.store (g.E.Edge.told c.args.edge.now) (g.E.Edge.told c.open.new.edge) (g.E.Edge.told c.send.new.edge) c.in_ok-store.ensures.opened c.in_ok-lines.lines whole.lines whole.all is
     (λ texts all. rw c.in-Err.is at (c.send.ensures.part texts all))
 
@@ -74,6 +74,6 @@ pub returns-clause-refused : goal.returns-clause-refused
 returns-clause-refused g c =
     let whole = c.in_ok-lines.ensures.whole in
     let is : IsReportOf c.in_ok-store.store c.in_ok-lines.lines =
-    λ rs here. c.in_ok-lines.ensures.on_book rs (subst (λ (k : CoreNow). StandsFor k rs) (sym c.core.ensures) here) in
+    λ rs here. c.in_ok-lines.ensures.on_book rs (subst (λ (k : CoreNow). CoreStandsFor k rs) (sym c.core.ensures) here) in
     told_stopped_refuses c.in_ok-store.store (g.E.Edge.told c.args.edge.now) (g.E.Edge.told c.open.new.edge) (g.E.Edge.told c.send.new.edge) c.in_ok-store.ensures.opened c.in_ok-lines.lines whole.lines whole.all is
     (λ texts all. rw c.in-Err.is at (c.send.ensures.part texts all))

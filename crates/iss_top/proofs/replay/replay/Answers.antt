@@ -1,5 +1,5 @@
 use Rattle.std.proofs.Common.{◌≡◌, Err, rules}
-use Rattle.iss_top.specs.Statuses.{status_of, stop_of_opening, stop_of_store}
+use Rattle.iss_top.specs.Statuses.{stop_status, stop_of_opening, stop_of_store}
 use Rattle.iss_top.proofs.ToldReplays.{told_unopened_run, told_unopened_moments, told_waited_run, told_waited_moments, told_waited_refuses, told_run, told_moments, told_run_refuses}
 use Rattle.iss_top.proofs.replay.replay.Goals as goal
 
@@ -38,14 +38,14 @@ returns-in_err-resume-clause-refused g c =
 pub returns-clause-ran : goal.returns-clause-ran
 returns-clause-ran g c =
     told_run c.in_ok-store.store c.in_ok-resume.ensures.on_book (g.E.Edge.told c.args.edge.now) (g.E.Edge.told c.open.new.edge) (g.E.Edge.told c.resume.new.edge) c.in_ok-store.ensures.opened
-    (status_of c.take_lines.result) c.take_lines.ensures.no_device (g.E.Edge.told c.take_lines.new.edge) c.in_ok-resume.ensures.says c.take_lines.ensures.ran
+    (stop_status c.take_lines.result) c.take_lines.ensures.no_device (g.E.Edge.told c.take_lines.new.edge) c.in_ok-resume.ensures.says c.take_lines.ensures.ran
 
 pub returns-clause-moments : goal.returns-clause-moments
 returns-clause-moments g c =
     told_moments c.in_ok-store.store c.in_ok-resume.ensures.on_book (g.E.Edge.told c.args.edge.now) (g.E.Edge.told c.open.new.edge) (g.E.Edge.told c.resume.new.edge) c.in_ok-store.ensures.opened
-    (status_of c.take_lines.result) c.take_lines.ensures.no_device (g.E.Edge.told c.take_lines.new.edge) c.in_ok-resume.ensures.says c.take_lines.ensures.ran
+    (stop_status c.take_lines.result) c.take_lines.ensures.no_device (g.E.Edge.told c.take_lines.new.edge) c.in_ok-resume.ensures.says c.take_lines.ensures.ran
 
 pub returns-clause-refused : goal.returns-clause-refused
 returns-clause-refused g c =
     told_run_refuses c.in_ok-store.store c.in_ok-resume.ensures.on_book (g.E.Edge.told c.args.edge.now) (g.E.Edge.told c.open.new.edge) (g.E.Edge.told c.resume.new.edge) c.in_ok-store.ensures.opened
-    (status_of c.take_lines.result) c.take_lines.ensures.no_device (g.E.Edge.told c.take_lines.new.edge) c.in_ok-resume.ensures.says c.take_lines.ensures.ran
+    (stop_status c.take_lines.result) c.take_lines.ensures.no_device (g.E.Edge.told c.take_lines.new.edge) c.in_ok-resume.ensures.says c.take_lines.ensures.ran

@@ -1,7 +1,7 @@
 use Rattle.std.proofs.Common.{List, ℕ, [], ◌∷◌, ◌++◌, ◌∙◌, None, ap, sym, refl, arith}
 use Rattle.std.specs.Prelude.{Result, Ok, Err, OnErr}
 use Rattle.iss_model.specs.texts.Spelling.{spelling}
-use Rattle.iss_accepted.specs.declared.row.Row.{Row}
+use Rattle.iss_accepted.specs.declared.row.EventRow.{EventRow}
 use Rattle.iss_accepted.proofs.Steps.{in_form, new_unplaced}
 use Rattle.iss_accepted.proofs.Added.{Shows, with_input, grown_shows, added_shows}
 use Rattle.iss_accepted.proofs.events.Events.add.Goals as goal
@@ -30,7 +30,7 @@ pub returns-in_err-add-clause-refused : goal.returns-in_err-add-clause-refused
 returns-in_err-add-clause-refused c = stays c.from_residual-in_err-add.result (only_bytes c).view
 
 -- the row that is added
-abbrev newest : goal.In_ok-push → Row
+abbrev newest : goal.In_ok-push → EventRow
 newest c = record { number = c.args.number; at = c.args.at; start = c.len-start.result; end = c.len.result; verdict = None }
 
 one_more : (c : goal.In_ok-push)
@@ -47,7 +47,7 @@ one_more c =
     (in_form c.args.at c.args.input.now c.requires.stamp c.requires.form c.in_ok-put_record.ensures.tokens)
     refl (sym c.in-Some.ensures) (c.requires.new c.in-Some.token (sym c.in-Some.ensures))
     c.in_ok-add.ensures.added
-    (c.in_ok-push.ensures.pushed ∙ ap (λ (xs : List Row). xs ++ newest c ∷ []) c.in_ok-reserve.ensures.items)
+    (c.in_ok-push.ensures.pushed ∙ ap (λ (xs : List EventRow). xs ++ newest c ∷ []) c.in_ok-reserve.ensures.items)
 
 pub invariant_of-self-2 : goal.invariant_of-self-2
 invariant_of-self-2 c = (one_more c).kept

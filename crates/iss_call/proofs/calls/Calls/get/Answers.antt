@@ -1,15 +1,15 @@
 use Rattle.std.proofs.Common.{List, ◌+◌, ◌≡◌, map, slice_get, option_map, sym, ap, ◌∙◌, arith}
 use Rattle.iss_model.specs.rules.Activity.{CallNow, call_numbered}
 use Rattle.iss_call.specs.declared.call.Call.{Call}
-use Rattle.iss_call.specs.States.{now_of}
+use Rattle.iss_call.specs.States.{seen_call}
 use Rattle.iss_call.proofs.Numbered.{found_at}
 use Rattle.iss_call.proofs.Closing.{got, none_at}
 use Rattle.iss_call.proofs.calls.Calls.get.Goals as goal
 
 pub returns-in_err-checked_sub : goal.returns-in_err-checked_sub
 returns-in_err-checked_sub c =
-    ap (option_map (λ call. now_of call.now)) c.from_residual.ensures
-    ∙ sym (none_at (map now_of c.self.inside.calls.items) c.args.id.0 c.in_err-checked_sub.ensures c.self.invariant.numbered)
+    ap (option_map (λ call. seen_call call.now)) c.from_residual.ensures
+    ∙ sym (none_at (map seen_call c.self.inside.calls.items) c.args.id.0 c.in_err-checked_sub.ensures c.self.invariant.numbered)
     ∙ ap (λ (cs : List CallNow). call_numbered c.args.id.0 cs) c.self.view_is
 
 pub returns : goal.returns
@@ -18,6 +18,6 @@ returns c =
     let first = c.in_ok-checked_sub.ensures in
     let number : c.args.id.0 ≡ place + 1 = omega (arith, first.0, first.1) in
     got c.as_slice-calls.result.now place c.get.result c.get.ensures.lookup.0 c.get.ensures.lookup.1
-    ∙ ap (λ (xs : List Call). slice_get (map now_of xs) place) c.as_slice-calls.ensures.value
-    ∙ sym (found_at (map now_of c.self.inside.calls.items) place c.args.id.0 number c.self.invariant.numbered)
+    ∙ ap (λ (xs : List Call). slice_get (map seen_call xs) place) c.as_slice-calls.ensures.value
+    ∙ sym (found_at (map seen_call c.self.inside.calls.items) place c.args.id.0 number c.self.invariant.numbered)
     ∙ ap (λ (cs : List CallNow). call_numbered c.args.id.0 cs) c.self.view_is

@@ -1,8 +1,8 @@
 use Rattle.std.proofs.Common.{length, sym, ap, subst, ◌∙◌}
 use Rattle.iss_model.specs.state.Kept.{Kept}
 use Rattle.iss_chain.specs.Values.{ChainNow}
-use Rattle.iss_chain.specs.Entering.{KeepsSmall}
-use Rattle.iss_chain.specs.Rows.{row_in, row_sums, rows_in, AreKept}
+use Rattle.iss_chain.specs.Entering.{IsChainSmall}
+use Rattle.iss_chain.specs.Rows.{row_in, row_sums, rows_in, AreBooksKept}
 use Rattle.iss_chain.proofs.Standing.{found, unknown, never}
 use Rattle.iss_chain.proofs.RowSums.{row_small, row_small_after}
 use Rattle.iss_chain.proofs.RowPlaces.{sums_there}
@@ -24,7 +24,7 @@ returns-in_err-post-in-Some-clause-kept c =
     let b = c.args.self.now in
     let there = found c.args.txn.now b.holds.txns c.in-Some.place (sym c.in-Some.ensures.place) in
     let kept = roomy_kept b c.make_room.new.sums c.in-Some.place c.requires.kept there.within c.make_room.ensures.same c.make_room.ensures.later in
-    subst (λ (x : Kept). AreKept (record b { ledger = x; sums = c.make_room.new.sums })) (sym c.in_err-post-in-Some.ensures.unchanged) kept
+    subst (λ (x : Kept). AreBooksKept (record b { ledger = x; sums = c.make_room.new.sums })) (sym c.in_err-post-in-Some.ensures.unchanged) kept
 
 pub after-sums-requires-clause-before : goal.after-sums-requires-clause-before
 after-sums-requires-clause-before c =
@@ -58,5 +58,5 @@ returns-clause-kept c =
     c.make_room.ensures.same c.set_sums.ensures c.after-sums.ensures there.within there.name_there row c.in_ok-post-in-Some.ensures.posted in
     record {
       none_after = put_after b c.make_room.new.sums c.set_sums.new.sums c.in-Some.place c.after-sums.result c.requires.kept there.within c.make_room.ensures.later c.set_sums.ensures;
-      small = subst (λ (x : ChainNow). KeepsSmall x) (sym entered) c.requires.small;
+      small = subst (λ (x : ChainNow). IsChainSmall x) (sym entered) c.requires.small;
     }

@@ -1,18 +1,18 @@
 use Rattle.std.proofs.Common.{sym, subst, ◌∙◌, arith}
 use Rattle.iss_model.specs.rules.Stepping.{entries_of}
 use Rattle.iss_model.specs.state.Cores.{core_facts}
-use Rattle.iss_core.specs.States.{state_of}
+use Rattle.iss_core.specs.States.{kept_state}
 use Rattle.iss_core.specs.Entering.{MayAllEnter}
 use Rattle.iss_core.proofs.Bounds.{sliced}
 use Rattle.iss_core.proofs.Upheld.{in_order, own_may}
 use Rattle.iss_core.proofs.state.State.make.Goals as goal
 
 pub put_own-requires-clause-order : goal.put_own-requires-clause-order
-put_own-requires-clause-order c = in_order c.args.accepted.now.input (state_of c.args.self.now) c.requires.taken_up
+put_own-requires-clause-order c = in_order c.args.accepted.now.input (kept_state c.args.self.now) c.requires.taken_up
 
 pub enter_all-requires : goal.enter_all-requires
 enter_all-requires c =
-    let s = state_of c.args.self.now in
+    let s = kept_state c.args.self.now in
     let r = c.args.accepted.now in
     let len = c.args.out.now.ok.0 in
     let at = c.len-start.ensures in

@@ -4,7 +4,7 @@ use Rattle.std.specs.Option.{option_map}
 use Rattle.std.proofs.lemmas.Option.{slice_get-map}
 use Rattle.iss_model.specs.state.Cores.{Holdings}
 use Rattle.iss_hold.specs.declared.hold.Hold.{Hold}
-use Rattle.iss_hold.specs.Holdings.{now_of}
+use Rattle.iss_hold.specs.Holdings.{txn_of_hold}
 use Rattle.iss_hold.proofs.HoldCalls.{within_holds, parts_at, small_at}
 use Rattle.iss_hold.proofs.holds.Holds.at.Goals as goal
 
@@ -14,8 +14,8 @@ at-requires c = within_holds c.self.inside.table.holds c.args.place c.self.view_
 pub returns-clause-txn : goal.returns-clause-txn
 returns-clause-txn c =
     ap (λ (h : Holdings). slice_get h.txns c.args.place) (sym c.self.view_is)
-    ∙ slice_get-map now_of c.self.inside.table.holds c.args.place
-    ∙ ap (λ (o : Option Hold). option_map now_of o) c.at.ensures
+    ∙ slice_get-map txn_of_hold c.self.inside.table.holds c.args.place
+    ∙ ap (λ (o : Option Hold). option_map txn_of_hold o) c.at.ensures
 
 pub returns-clause-parts : goal.returns-clause-parts
 returns-clause-parts c = parts_at c.self.inside.table.holds c.args.place c.at.result c.self.view_is c.self.invariant.distinct c.at.ensures

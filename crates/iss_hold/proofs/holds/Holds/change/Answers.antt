@@ -2,14 +2,14 @@ use Rattle.std.proofs.Common.{◌≡◌, ◌+ℤ◌, ◌<ℤ◌, ◌^◌, ℤ, p
 use mir.Val.{to_z, of_z}
 use Rattle.iss_model.specs.rules.Facts.{not_below}
 use Rattle.iss_hold.specs.Holdings.{part_of, with_part}
-use Rattle.iss_hold.specs.Entries.{IsCovered}
+use Rattle.iss_hold.specs.Entries.{IsHoldCovered}
 use Rattle.iss_hold.proofs.HoldCalls.{its_change, changed_low, changed_fits, changed}
 use Rattle.iss_hold.proofs.holds.Holds.change.Goals as goal
 
 pub with_change-changed-requires-clause-covered : goal.with_change-changed-requires-clause-covered
 with_change-changed-requires-clause-covered c =
     let bits : to_z w64 (of_z w64 c.args.amount) ≡ c.args.amount = grind (arith, to_z-of_z) in
-    subst (λ (z : ℤ). IsCovered z (part_of c.args.part c.hold_of-place.result.1)) (sym bits)
+    subst (λ (z : ℤ). IsHoldCovered z (part_of c.args.part c.hold_of-place.result.1)) (sym bits)
     (its_change c.hold_of-place.ensures c.self.view_is c.args.part c.args.amount c.self.invariant.distinct c.requires.covered)
 
 pub with_change-changed-requires-clause-fits : goal.with_change-changed-requires-clause-fits

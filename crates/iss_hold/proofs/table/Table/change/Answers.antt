@@ -3,7 +3,7 @@ use Rattle.std.specs.Prelude.{Option, Some}
 use Rattle.std.specs.Option.{option_map}
 use Rattle.iss_model.specs.rules.Activity.{TxnNow}
 use Rattle.iss_hold.specs.declared.hold.Hold.{Hold}
-use Rattle.iss_hold.specs.Holdings.{now_of}
+use Rattle.iss_hold.specs.Holdings.{txn_of_hold}
 use Rattle.iss_hold.specs.Indexes.{AreIndexed}
 use Rattle.iss_hold.proofs.Places.{replaced, stood_inside}
 use Rattle.iss_hold.proofs.Changes.{whole_before, before_small, whole_after, sum_before, sum_after, summed_after}
@@ -42,7 +42,7 @@ overflow_add-sum c =
     omega arith
 
 pub at-requires : goal.at-requires
-at-requires c = stood_inside c.args.self.now.holds c.args.place (now_of c.args.hold) c.requires.same
+at-requires c = stood_inside c.args.self.now.holds c.args.place (txn_of_hold c.args.hold) c.requires.same
 
 pub put-requires : goal.put-requires
 put-requires c =

@@ -1,13 +1,13 @@
 use Rattle.std.proofs.Common.{◌≡◌, true, List, subst, sym}
 use Rattle.iss_channels.specs.Placed.{things_of}
-use Rattle.iss_session.specs.Sessions.{Reader}
+use Rattle.iss_session.specs.Sessions.{OpenRequest}
 use Rattle.iss_session.specs.Hearings.{is_reading}
 use Rattle.iss_serve.proofs.Feeding.{none_reads, fed_body, fed_fault, fed_kept, fed_others}
 use Rattle.iss_serve.proofs.clients.Clients.feed.Goals as goal
 
 pub unreachable-requires : goal.unreachable-requires
 unreachable-requires c =
-    none_reads c.args.ch (things_of c.self.inside.clients) c.in_default.ensures.none (subst (λ (clients : List Reader). is_reading c.args.ch clients ≡ true) (sym c.self.view_is) c.requires.reading)
+    none_reads c.args.ch (things_of c.self.inside.clients) c.in_default.ensures.none (subst (λ (clients : List OpenRequest). is_reading c.args.ch clients ≡ true) (sym c.self.view_is) c.requires.reading)
 
 pub returns-clause-body : goal.returns-clause-body
 returns-clause-body c =

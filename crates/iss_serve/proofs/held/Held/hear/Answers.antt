@@ -6,7 +6,7 @@ use Rattle.iss_edge.specs.Outer.{outer_of}
 use Rattle.iss_edge.specs.World.{Told}
 use Rattle.iss_session.specs.Sessions.{Queued}
 use Rattle.iss_serve.specs.Causes.{IsOfDisk}
-use Rattle.iss_serve.specs.Held.{HeldNow, now_of, queued_maybe, idle, to_judge, arrived}
+use Rattle.iss_serve.specs.Held.{HeldNow, seen_held, queued_maybe, idle, to_judge, arrived}
 use Rattle.iss_serve.specs.Runs.{ServesOn, ServesSome}
 use Rattle.iss_serve.proofs.Causings.{anyhow}
 use Rattle.iss_serve.proofs.Stages.{told_some_never, told_on_then, told_on_then_some}
@@ -15,7 +15,7 @@ use Rattle.iss_serve.proofs.held.Held.hear.Goals as goal
 
 pub returns-in_default-clause-part : goal.returns-in_default-clause-part
 returns-in_default-clause-part g c = λ store own.
-    let h = now_of c.args.self.now in
+    let h = seen_held c.args.self.now in
     let x = g.E.Edge.told c.args.edge.now in
     let z = g.E.Edge.told c.wait.new.self in
     let k = g.E.Edge.heard c.args.edge.now in
@@ -26,7 +26,7 @@ returns-in_default-clause-part g c = λ store own.
 
 pub returns-in_err-add-in-Client-clause-part : goal.returns-in_err-add-in-Client-clause-part
 returns-in_err-add-in-Client-clause-part g c = λ store own.
-    let h = now_of c.args.self.now in
+    let h = seen_held c.args.self.now in
     let x = g.E.Edge.told c.args.edge.now in
     let z = g.E.Edge.told c.wait.new.self in
     let k = g.E.Edge.heard c.args.edge.now in
@@ -38,7 +38,7 @@ returns-in_err-add-in-Client-clause-part g c = λ store own.
 
 pub returns-in_err-take-in-Ready-clause-part : goal.returns-in_err-take-in-Ready-clause-part
 returns-in_err-take-in-Ready-clause-part g c = λ store own.
-    let h = now_of c.args.self.now in
+    let h = seen_held c.args.self.now in
     let x = g.E.Edge.told c.args.edge.now in
     let z = g.E.Edge.told c.wait.new.self in
     let k = g.E.Edge.heard c.args.edge.now in
@@ -53,7 +53,7 @@ returns-in_err-take-in-Ready-clause-part g c = λ store own.
 
 pub returns-in_ok-add-in-Client-clause-hears : goal.returns-in_ok-add-in-Client-clause-hears
 returns-in_ok-add-in-Client-clause-hears g c = λ store own.
-    let h = now_of c.args.self.now in
+    let h = seen_held c.args.self.now in
     let x = g.E.Edge.told c.args.edge.now in
     let z = g.E.Edge.told c.wait.new.self in
     let k = g.E.Edge.heard c.args.edge.now in
@@ -66,7 +66,7 @@ returns-in_ok-add-in-Client-clause-hears g c = λ store own.
 
 pub returns-in_ok-take-in-Ready-clause-hears : goal.returns-in_ok-take-in-Ready-clause-hears
 returns-in_ok-take-in-Ready-clause-hears g c = λ store own.
-    let h = now_of c.args.self.now in
+    let h = seen_held c.args.self.now in
     let x = g.E.Edge.told c.args.edge.now in
     let z = g.E.Edge.told c.wait.new.self in
     let k = g.E.Edge.heard c.args.edge.now in
@@ -75,12 +75,12 @@ returns-in_ok-take-in-Ready-clause-hears g c = λ store own.
     let heard : Told (Hears (Waited (Some (Ready c.in-Ready.ch)))) k l = search rules in
     let now : HeldNow = record h { turns = h.turns - 1 } in
     let w = (outer_of (g.E.Edge.told c.take.new.edge) (g.E.Edge.heard c.take.new.edge)) in
-    told_on_then (idle store h) (arrived store now c.in-Ready.ch) (to_judge store (now_of c.take.new.self) (queued_maybe c.in_ok-take-in-Ready.field-0)) (outer_of x k) (outer_of z l) w
+    told_on_then (idle store h) (arrived store now c.in-Ready.ch) (to_judge store (seen_held c.take.new.self) (queued_maybe c.in_ok-take-in-Ready.field-0)) (outer_of x k) (outer_of z l) w
     (told_ready store h c.requires.settled c.requires.turns c.in-Ready.ch now x z k l refl brought heard) (c.in_ok-take-in-Ready.ensures.hears store own)
 
 pub returns-in-Time-clause-hears : goal.returns-in-Time-clause-hears
 returns-in-Time-clause-hears g c = λ store own.
-    let h = now_of c.args.self.now in
+    let h = seen_held c.args.self.now in
     let x = g.E.Edge.told c.args.edge.now in
     let z = g.E.Edge.told c.wait.new.self in
     let k = g.E.Edge.heard c.args.edge.now in
@@ -93,7 +93,7 @@ returns-in-Time-clause-hears g c = λ store own.
 
 pub returns-in-Idle-clause-hears : goal.returns-in-Idle-clause-hears
 returns-in-Idle-clause-hears g c = λ store own.
-    let h = now_of c.args.self.now in
+    let h = seen_held c.args.self.now in
     let x = g.E.Edge.told c.args.edge.now in
     let z = g.E.Edge.told c.wait.new.self in
     let k = g.E.Edge.heard c.args.edge.now in
@@ -104,7 +104,7 @@ returns-in-Idle-clause-hears g c = λ store own.
 
 pub returns-in-End-clause-hears : goal.returns-in-End-clause-hears
 returns-in-End-clause-hears g c = λ store own.
-    let h = now_of c.args.self.now in
+    let h = seen_held c.args.self.now in
     let x = g.E.Edge.told c.args.edge.now in
     let z = g.E.Edge.told c.wait.new.self in
     let k = g.E.Edge.heard c.args.edge.now in

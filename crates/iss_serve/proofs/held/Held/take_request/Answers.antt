@@ -7,7 +7,7 @@ use Rattle.iss_edge.specs.World.{Told}
 use Rattle.iss_session.specs.Desks.{to_reply}
 use Rattle.iss_serve.specs.declared.requests.Request.TheVariants.{More, Says, Bad}
 use Rattle.iss_serve.specs.Requests.{ReadsOn}
-use Rattle.iss_serve.specs.Held.{HeldNow, now_of, idle, taking, sending}
+use Rattle.iss_serve.specs.Held.{HeldNow, seen_held, idle, taking, sending}
 use Rattle.iss_serve.specs.Runs.{ServesSome}
 use Rattle.iss_serve.proofs.Causings.{anyway}
 use Rattle.iss_serve.proofs.Hears.{told_client_failed, told_client_ended, told_took_some, told_request, told_replied}
@@ -17,23 +17,23 @@ use Rattle.iss_serve.proofs.held.Held.take_request.Goals as goal
 pub returns-in_default-clause-hears : goal.returns-in_default-clause-hears
 returns-in_default-clause-hears g c = λ store.
     let told : Told (Adds [] (Took c.args.ch None ∷ [])) (outer_of (g.E.Edge.told c.args.edge.now) (g.E.Edge.heard c.args.edge.now)) (outer_of (g.E.Edge.told c.take_piece.new.edge) (g.E.Edge.heard c.take_piece.new.edge)) = search rules in
-    told_client_failed store (now_of c.args.self.now) c.args.ch c.requires.settled (outer_of (g.E.Edge.told c.args.edge.now) (g.E.Edge.heard c.args.edge.now)) (outer_of (g.E.Edge.told c.take_piece.new.edge) (g.E.Edge.heard c.take_piece.new.edge)) (now_of c.lose_client.new.self) (outer_of (g.E.Edge.told c.lose_client.new.edge) (g.E.Edge.heard c.lose_client.new.edge)) c.requires.reading c.lose_client.ensures.now told
+    told_client_failed store (seen_held c.args.self.now) c.args.ch c.requires.settled (outer_of (g.E.Edge.told c.args.edge.now) (g.E.Edge.heard c.args.edge.now)) (outer_of (g.E.Edge.told c.take_piece.new.edge) (g.E.Edge.heard c.take_piece.new.edge)) (seen_held c.lose_client.new.self) (outer_of (g.E.Edge.told c.lose_client.new.edge) (g.E.Edge.heard c.lose_client.new.edge)) c.requires.reading c.lose_client.ensures.now told
     c.lose_client.ensures.told
 
 pub returns-then-count-eq0-clause-hears : goal.returns-then-count-eq0-clause-hears
 returns-then-count-eq0-clause-hears g c = λ store.
     let none : c.in-Some.count ≡ 0 = search rules in
-    told_client_ended store (now_of c.args.self.now) c.args.ch c.requires.settled (outer_of (g.E.Edge.told c.args.edge.now) (g.E.Edge.heard c.args.edge.now)) (outer_of (g.E.Edge.told c.take_piece.new.edge) (g.E.Edge.heard c.take_piece.new.edge)) (now_of c.lose_client-then-count-eq0.new.self) (outer_of (g.E.Edge.told c.lose_client-then-count-eq0.new.edge) (g.E.Edge.heard c.lose_client-then-count-eq0.new.edge)) c.take_piece.new.buffer c.in-Some.count
+    told_client_ended store (seen_held c.args.self.now) c.args.ch c.requires.settled (outer_of (g.E.Edge.told c.args.edge.now) (g.E.Edge.heard c.args.edge.now)) (outer_of (g.E.Edge.told c.take_piece.new.edge) (g.E.Edge.heard c.take_piece.new.edge)) (seen_held c.lose_client-then-count-eq0.new.self) (outer_of (g.E.Edge.told c.lose_client-then-count-eq0.new.edge) (g.E.Edge.heard c.lose_client-then-count-eq0.new.edge)) c.take_piece.new.buffer c.in-Some.count
     c.requires.reading none c.lose_client-then-count-eq0.ensures.now c.in-Some.ensures.told c.lose_client-then-count-eq0.ensures.told
 
 pub returns-in_err-read-clause-part : goal.returns-in_err-read-clause-part
 returns-in_err-read-clause-part g c = λ store.
-    anyway c.from_residual.result (Told (ServesSome ⊥ (taking store (now_of c.args.self.now) c.args.ch)) (outer_of (g.E.Edge.told c.args.edge.now) (g.E.Edge.heard c.args.edge.now)) (outer_of (g.E.Edge.told c.take_piece.new.edge) (g.E.Edge.heard c.take_piece.new.edge)))
-    (told_took_some store (now_of c.args.self.now) c.args.ch c.requires.settled (outer_of (g.E.Edge.told c.args.edge.now) (g.E.Edge.heard c.args.edge.now)) (outer_of (g.E.Edge.told c.take_piece.new.edge) (g.E.Edge.heard c.take_piece.new.edge)) c.take_piece.new.buffer c.in-Some.count c.take_piece.ensures.room c.in-Some.ensures.bound c.in-Some.ensures.told)
+    anyway c.from_residual.result (Told (ServesSome ⊥ (taking store (seen_held c.args.self.now) c.args.ch)) (outer_of (g.E.Edge.told c.args.edge.now) (g.E.Edge.heard c.args.edge.now)) (outer_of (g.E.Edge.told c.take_piece.new.edge) (g.E.Edge.heard c.take_piece.new.edge)))
+    (told_took_some store (seen_held c.args.self.now) c.args.ch c.requires.settled (outer_of (g.E.Edge.told c.args.edge.now) (g.E.Edge.heard c.args.edge.now)) (outer_of (g.E.Edge.told c.take_piece.new.edge) (g.E.Edge.heard c.take_piece.new.edge)) c.take_piece.new.buffer c.in-Some.count c.take_piece.ensures.room c.in-Some.ensures.bound c.in-Some.ensures.told)
 
 pub returns-in-More-clause-hears : goal.returns-in-More-clause-hears
 returns-in-More-clause-hears g c = λ store.
-    let h = now_of c.args.self.now in
+    let h = seen_held c.args.self.now in
     let ch = c.args.ch in
     let x = (outer_of (g.E.Edge.told c.args.edge.now) (g.E.Edge.heard c.args.edge.now)) in
     let y = (outer_of (g.E.Edge.told c.take_piece.new.edge) (g.E.Edge.heard c.take_piece.new.edge)) in
@@ -50,7 +50,7 @@ returns-in-More-clause-hears g c = λ store.
 
 pub returns-in-Says-clause-hears : goal.returns-in-Says-clause-hears
 returns-in-Says-clause-hears g c = λ store.
-    let h = now_of c.args.self.now in
+    let h = seen_held c.args.self.now in
     let ch = c.args.ch in
     let x = (outer_of (g.E.Edge.told c.args.edge.now) (g.E.Edge.heard c.args.edge.now)) in
     let y = (outer_of (g.E.Edge.told c.take_piece.new.edge) (g.E.Edge.heard c.take_piece.new.edge)) in
@@ -67,7 +67,7 @@ returns-in-Says-clause-hears g c = λ store.
 
 pub returns-in-Bad-clause-hears : goal.returns-in-Bad-clause-hears
 returns-in-Bad-clause-hears g c = λ store.
-    let h = now_of c.args.self.now in
+    let h = seen_held c.args.self.now in
     let ch = c.args.ch in
     let x = (outer_of (g.E.Edge.told c.args.edge.now) (g.E.Edge.heard c.args.edge.now)) in
     let y = (outer_of (g.E.Edge.told c.take_piece.new.edge) (g.E.Edge.heard c.take_piece.new.edge)) in
@@ -80,7 +80,7 @@ returns-in-Bad-clause-hears g c = λ store.
     let read = subst (λ (r : Request). ReadsOn ch piece h.clients c.read.new.self r) c.in-Bad.is c.in_ok-read.ensures.reads in
     let led =
     told_request store h ch c.requires.settled x y now c.take_piece.new.buffer c.in-Some.count piece (Bad c.in-Bad.text) c.requires.reading c.take_piece.ensures.room c.in-Some.ensures.bound some (ap (λ (l : List ℕ). take c.in-Some.count l) there) read refl c.in-Some.ensures.told in
-    let last = now_of c.answer_client.new.self in
+    let last = seen_held c.answer_client.new.self in
     let z = (outer_of (g.E.Edge.told c.answer_client.new.edge) (g.E.Edge.heard c.answer_client.new.edge)) in
     told_on_then (taking store h ch) (sending store now [] (to_reply ch c.in-Bad.text.items ∷ [])) (idle store last) x y z led
     (told_replied store now last ch c.in-Bad.text.items c.deref-in-Bad.result.now [] y z c.deref-in-Bad.ensures.value c.answer_client.ensures.now (c.answer_client.ensures.sends store.core.state.count [] now.served))

@@ -4,7 +4,7 @@ use Rattle.iss_edge.proofs.Tolds.{later_self, later_then}
 use Rattle.iss_top.specs.declared.reader.AtHand.{AtHand}
 use Rattle.iss_top.specs.Lines.{has_line_feed, kept_with}
 use Rattle.iss_top.specs.Pieces.{unread_of}
-use Rattle.iss_top.specs.AtHand.{now_of}
+use Rattle.iss_top.specs.AtHand.{seen_reader}
 use Rattle.iss_top.proofs.Finding.{found_none}
 use Rattle.iss_top.proofs.Hands.{line_advances, last_advances, line_is_kept, room_so_far}
 use Rattle.iss_top.proofs.ToldReading.{told_so_far_begins, told_so_far_more, told_part_ends, told_part_is_last, told_part_stops}
@@ -27,14 +27,14 @@ pieces-init g c =
 pub returns-in-Some-clause-reads : goal.returns-in-Some-clause-reads
 returns-in-Some-clause-reads g c =
     let found = subst (λ (l : List ℕ). IsFirstByte (is_byte 10) l (Some c.in-Some.at)) c.unread.ensures c.in-Some.ensures in
-    told_part_ends (now_of c.args.self.now) c.pieces.self c.end_line.new.self c.in-Some.at (g.E.Edge.told c.args.edge.now) (g.E.Edge.told c.pieces.edge)
+    told_part_ends (seen_reader c.args.self.now) c.pieces.self c.end_line.new.self c.in-Some.at (g.E.Edge.told c.args.edge.now) (g.E.Edge.told c.pieces.edge)
     c.if-self.false c.pieces.invariant.going found c.pieces.invariant.fit.pieces.limit c.in_ok-end_line.ensures.ends c.pieces.invariant.read
 
 pub returns-in-Some-clause-advances : goal.returns-in-Some-clause-advances
 returns-in-Some-clause-advances g c =
     let found = subst (λ (l : List ℕ). IsFirstByte (is_byte 10) l (Some c.in-Some.at)) c.unread.ensures c.in-Some.ensures in
     λ more.
-    line_advances (now_of c.args.self.now) c.pieces.self c.end_line.new.self c.in-Some.at
+    line_advances (seen_reader c.args.self.now) c.pieces.self c.end_line.new.self c.in-Some.at
     c.if-self.false c.pieces.invariant.going found c.pieces.invariant.fit.pieces.limit c.in_ok-end_line.ensures.ends c.pieces.invariant.room
 
 pub returns-in_err-take_more-clause-stops : goal.returns-in_err-take_more-clause-stops
@@ -42,7 +42,7 @@ returns-in_err-take_more-clause-stops g c =
     let failed : c.from_residual-in_err-take_more.result ≡ Err c.in_err-take_more.field-0.0 = search rules in
     let none = subst (λ (l : List ℕ). has_line_feed l ≡ false) c.unread.ensures (found_none c.unread.result.now c.in_default.ensures) in
     rw failed (
-    told_part_stops (now_of c.args.self.now) (unread_of c.pieces.self.pieces) c.pieces.self.kept c.pieces.self.pieces.taken c.in_err-take_more.field-0.0
+    told_part_stops (seen_reader c.args.self.now) (unread_of c.pieces.self.pieces) c.pieces.self.kept c.pieces.self.pieces.taken c.in_err-take_more.field-0.0
     (g.E.Edge.told c.args.edge.now) (g.E.Edge.told c.pieces.edge) (g.E.Edge.told c.take_more.new.edge)
     c.if-self.false c.requires.fit.pieces.limit c.pieces.invariant.fit.pieces.limit none c.pieces.invariant.read c.in_err-take_more.ensures.stops
     )
@@ -53,7 +53,7 @@ returns-then-not-branch-clause-reads g c =
     let q = c.take_more.new.self in
     let over : c.in_ok-take_more.field-0 ≡ false = search rules in
     let none = subst (λ (l : List ℕ). has_line_feed l ≡ false) c.unread.ensures (found_none c.unread.result.now c.in_default.ensures) in
-    told_part_is_last (now_of c.args.self.now) _ p q c.pieces.self.kept c.extend.new.self
+    told_part_is_last (seen_reader c.args.self.now) _ p q c.pieces.self.kept c.extend.new.self
     (g.E.Edge.told c.args.edge.now) (g.E.Edge.told c.pieces.edge) (g.E.Edge.told c.take_more.new.edge)
     c.if-self.false none (c.in_ok-extend.ensures ∙ ap (fold kept_with c.pieces.self.kept) c.unread-in-pieces.ensures)
     c.in_ok-take_more.ensures.fit.limit refl (line_is_kept c.extend.new.self q.bytes.items c.pieces.self.start c.pieces.self.end c.pieces.invariant.start c.pieces.invariant.end) refl
@@ -65,7 +65,7 @@ returns-then-not-branch-clause-advances g c =
     let q = c.take_more.new.self in
     let n : AtHand = record { pieces = q; start = c.pieces.self.start; end = c.pieces.self.end; kept = c.extend.new.self; ended = true } in
     λ more.
-    last_advances (now_of c.args.self.now) n c.if-self.false c.in_ok-take_more.ensures.fit.limit c.pieces.invariant.start c.pieces.invariant.end refl
+    last_advances (seen_reader c.args.self.now) n c.if-self.false c.in_ok-take_more.ensures.fit.limit c.pieces.invariant.start c.pieces.invariant.end refl
     (room_so_far c.pieces.self.kept c.extend.new.self (unread_of p) (unread_of q) (length (unread_of c.args.self.now.pieces)) c.args.self.now.pieces.taken p.taken q.taken
     (c.in_ok-extend.ensures ∙ ap (fold kept_with c.pieces.self.kept) c.unread-in-pieces.ensures) c.in_ok-take_more.ensures.count c.pieces.invariant.room)
 

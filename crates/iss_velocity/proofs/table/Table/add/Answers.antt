@@ -1,7 +1,7 @@
 use Rattle.std.proofs.Common.{◌≡◌, ◌<◌, ◌≤◌, length, Bool, cond, Some, None, sym, ap, ◌∙◌, arith, rules, Err}
 use Rattle.iss_model.specs.declared.decision.Reason.TheVariants as reason
 use Rattle.iss_velocity.specs.declared.controls.ControlFault.TheVariants.{OutOfMemory}
-use Rattle.iss_velocity.specs.Puts.{reason_of_result}
+use Rattle.iss_velocity.specs.Puts.{control_result_reason}
 use Rattle.iss_velocity.proofs.Putting.{full_so, not_full_so, put_last, table_more}
 use Rattle.iss_velocity.proofs.table.Table.add.Goals as goal
 
@@ -16,7 +16,7 @@ returns-in_err-push-clause-reason c =
     let len = c.args.self.now.controls.ok.0 in
     let few : length c.args.self.now.controls.items < 256 = omega (arith, len) in
     let failed : c.from_residual.result ≡ Err OutOfMemory = search rules in
-    ap reason_of_result failed
+    ap control_result_reason failed
     ∙ ap (λ (b : Bool). cond b (Some reason.Limit) None) (sym (not_full_so c.args.self.now.users c.args.self.now.past c.args.self.now.controls.items few))
 
 pub returns-clause-keyed : goal.returns-clause-keyed

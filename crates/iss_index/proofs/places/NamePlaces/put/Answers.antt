@@ -1,7 +1,7 @@
 use Rattle.std.proofs.Common.{◌++◌, ◌∷◌, [], sym, subst}
 use Rattle.iss_index.specs.Hashing.{AreFound}
 use Rattle.iss_index.proofs.Hashed.{put_filled, put_other}
-use Rattle.iss_index.proofs.places.Places.put.Goals as goal
+use Rattle.iss_index.proofs.places.NamePlaces.put.Goals as goal
 
 pub returns-then-put_in_group-clause-put : goal.returns-then-put_in_group-clause-put
 returns-then-put_in_group-clause-put c = λ names found is none.

@@ -1,6 +1,6 @@
 use Rattle.std.proofs.Common.{◌<◌, length, take, rules}
 use Rattle.iss_index.proofs.Hashed.{next_at, next_new, next_found}
-use Rattle.iss_index.proofs.places.Places.widened.Goals as goal
+use Rattle.iss_index.proofs.places.NamePlaces.widened.Goals as goal
 
 pub loop-place-preserved : goal.loop-place-preserved
 loop-place-preserved c =
