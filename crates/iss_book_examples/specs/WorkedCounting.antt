@@ -1,5 +1,5 @@
 -- What a control counts, what it may not change, and what is replaced when it is put again.
-use Rattle.std.specs.Prelude.{false, pos, true, [], ◌∷◌, codes, Some, None}
+use Rattle.std.specs.Prelude.{pos, true, false, [], ◌∷◌, codes, Some, None}
 use Rattle.iss_model.specs.declared.currency.Currency.TheVariants.{Usd, Eur}
 use Rattle.iss_model.specs.declared.setting.Window.TheVariants as window
 use Rattle.iss_model.specs.declared.setting.Association.TheVariants as association

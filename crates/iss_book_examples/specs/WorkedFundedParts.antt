@@ -1,5 +1,5 @@
 -- Purchases of which the customer's gateway funds a part. Each control is of at most 100.00 a day.
-use Rattle.std.specs.Prelude.{pos, [], ◌∷◌, ◌++◌, codes, Some, None}
+use Rattle.std.specs.Prelude.{pos, [], ◌∷◌, ◌++◌, Some, None}
 use Rattle.iss_model.specs.declared.currency.Currency.TheVariants.{Usd, Eur}
 use Rattle.iss_model.specs.declared.setting.Window.TheVariants as window
 use Rattle.iss_model.specs.declared.call.Method.TheVariants as method

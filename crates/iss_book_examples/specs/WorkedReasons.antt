@@ -1,5 +1,5 @@
 -- Which reason comes first if several hold, and each test by itself.
-use Rattle.std.specs.Prelude.{false, ℕ, pos, true, [], ◌∷◌, codes, replicate, Some, None}
+use Rattle.std.specs.Prelude.{ℕ, pos, true, false, [], ◌∷◌, codes, replicate, Some, None}
 use Prim.Native.String.{String}
 use Rattle.iss_model.specs.declared.currency.Currency.TheVariants.{Usd, Eur}
 use Rattle.iss_model.specs.declared.setting.Window.TheVariants as window
