@@ -119,12 +119,11 @@ fn is_in_time(at: u64, deadline: u64, expires: u64) -> bool
     at < deadline && at < expires
 }
 
-#[tactic(auto, using(iss_model::proofs::Copies::copy_is))]
 fn new(input: &Input, at: u64) -> Result<Judged, AllocError>
     ensures { IfOk result (λ j. j ≡ judged.New (record { at = at; input = input.now })) }
 {
     Ok(Judged::New(Record {
         at,
-        input: input.clone()?,
+        input: input.copied()?,
     }))
 }

@@ -1,9 +1,10 @@
 //! What comes in: an input, and the record of one that was accepted.
-ghost use Rattle.std.specs.Prelude.{◌≡◌};
+ghost use Rattle.std.specs.Prelude.{◌≡◌, IfOk};
 ghost use Rattle.iss_model.specs.Inputs.{event_token};
 ghost use Rattle.iss_model.specs.rules.Controls.{control_of};
 
 use crate::{Association, CallId, Control, Currency, Funding, Mccs, Moved, Scope, Token, Window};
+use std::alloc::AllocError;
 
 /// An accepted input with its stamp, in milliseconds since 1970.
 #[derive(Drop)]
@@ -157,6 +158,32 @@ impl Input {
             Input::Answer { .. } | Input::Ack { .. } | Input::Time => None,
         }
     }
+
+    /// A copy. A purchase, the most common input, is copied apart: the derived copy clears room for the fields of every kind.
+    #[tactic(auto, using(crate::proofs::Copies::copy_is))]
+    pub fn copied(&self) -> Result<Input, AllocError>
+        ensures { IfOk result (λ copy. copy ≡ self.now) }
+    {
+        match self {
+            Input::Authorization {
+                token,
+                card,
+                currency,
+                amount,
+                mcc,
+                mid,
+            } => Ok(Input::Authorization {
+                token: *token,
+                card: *card,
+                currency: *currency,
+                amount: *amount,
+                mcc: *mcc,
+                mid: *mid,
+            }),
+            _ => self.clone(),
+        }
+    }
+
     /// The control that it sets, if it sets one.
     pub fn control(&self) -> Option<Control>
         ensures { result ≡ control_of self.now }
