@@ -28,7 +28,7 @@ use Rattle.iss_model.specs.rules.Settings.{is_named_in, product_named}
 use Rattle.iss_model.specs.rules.StandIns.{Stand, allowed, over_limit, stand, uncovered}
 use Rattle.iss_model.specs.rules.Stepping.{authorization_ask, acts_of}
 use Rattle.iss_model.specs.rules.Acts.{Abandons, Act, Ends, LetsGo}
-use Rattle.iss_model.specs.rules.CardActs.{acts_for_gateway, acts_of_asked, acts_of_txn, acts_where, authorization_acts, clearing_acts, end_acts, failed_acts, funding_acts, gateway_acts, increment_acts, outcome_acts, refund_acts, reversal_acts, stand_acts}
+use Rattle.iss_model.specs.rules.CardActs.{acts_for_gateway, acts_of_asked, acts_of_txn, acts_where, authorization_acts, clearing_acts, end_acts, failed_acts, funding_acts, gateway_acts, outcome_acts, reversal_acts, stand_acts}
 use Rattle.iss_acts.specs.Causes.{Cause, ComesOf, FallsDue, fails_call, lets_go, may_act, seeks_funding, settles_ask}
 use Rattle.iss_acts.specs.Sources.{AllMade, AreWithin, IsAskedCall, IsFirstAsk, IsFrom, IsFurtherAsk, IsNewNotice, IsOwnAsk, IsRow, IsSettledAsk, IsTxnOf}
 use Rattle.iss_acts.specs.Stages.{Fresh, Keeps, Leaves, Seeks, Stage, stage_after}

@@ -42,7 +42,7 @@ use Rattle.iss_agreement.proofs.Records.{records_history}
 use Rattle.iss_state.specs.Sound.{IsNewEvent, is_accepted}
 use Rattle.iss_state.proofs.invariants.Kept.{due_accepted, entries_accepted}
 use Rattle.iss_state.proofs.invariants.NewEvents.{accepted_with_record, judged_new, still_accepted}
-use Rattle.iss_state.specs.Well.{asked_times, decided_times, is_decided}
+use Rattle.iss_state.specs.Well.{decided_times, is_decided}
 use Rattle.iss_state.proofs.docket.Lists.{not_both, or_true}
 use Rattle.iss_state.proofs.calls.Legal.{core_well}
 use Rattle.iss_state.proofs.calls.Steps.{decided_once}

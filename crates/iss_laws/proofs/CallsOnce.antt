@@ -28,7 +28,7 @@ use Rattle.iss_state.proofs.docket.Lists.{Each, both_so, each_weaker, found_any,
 use Rattle.iss_state.specs.Pending.{IsWell}
 use Rattle.iss_state.proofs.calls.Legal.{nothing_well}
 use Rattle.iss_state.proofs.calls.Steps.{step_well}
-use Rattle.iss_laws.specs.CallEntries.{closes, closes_void, is_call, is_void, is_void_method, names_call, names_what_it_voids, opens, times_among, voids}
+use Rattle.iss_laws.specs.CallEntries.{closes, closes_void, is_call, is_void, is_void_method, names_call, names_what_it_voids, opens, voids}
 use Rattle.iss_laws.specs.Payable.{asked_at}
 use Rattle.iss_laws.proofs.CallSteps.{Counts, step_counts, step_voids}
 use Rattle.iss_laws.specs.Calls.{each_stands_once, is_of_calls, is_opened, stands_once}

@@ -2,7 +2,7 @@
 use Rattle.iss_model.specs.rules.Pieces.{call_for, Parts, abandoned_calls_entries, hold_entries, notice_entry, parts_held, post_entries, release_entries, taken_to_clear, user_account, void_entry}
 use Rattle.std.proofs.Common.{◌≡◌, ℕ, pos, neg_ℤ, ◌+ℤ◌, ◌-◌, ◌≤◌, Bool, true, cond, List, [], ◌∷◌, ◌++◌, fold, refl, sym, ap, subst, ◌∙◌, arith}
 use Rattle.std.proofs.lemmas.Int.{ints}
-use Rattle.std.specs.Prelude.{◌≤ℤ◌, Option, Some, None, is_some, option_map}
+use Rattle.std.specs.Prelude.{Option, Some, None, is_some, option_map}
 use Rattle.std.specs.Option.{option_or}
 use Rattle.std.specs.Str.{bytes_eq}
 use Rattle.iss_model.specs.declared.account.Account.TheVariants as account

@@ -6,7 +6,6 @@ use Rattle.std.specs.Str.{bytes_eq}
 use Rattle.iss_model.specs.declared.call.Failure.{Failure}
 use Rattle.iss_model.specs.declared.call.Failure.TheVariants as failure
 use Rattle.iss_model.specs.declared.decision.Reason.TheVariants as reason
-use Rattle.iss_model.specs.declared.entry.Entry.{Entry}
 use Rattle.iss_model.specs.declared.entry.Entry.TheVariants as entry
 use Rattle.iss_model.specs.declared.input.Input.TheVariants as input
 use Rattle.iss_model.specs.declared.setting.Product.{Product}
@@ -14,7 +13,7 @@ use Rattle.iss_model.specs.declared.txn.Txn.{Txn}
 use Rattle.iss_model.specs.rules.Activity.{TxnNow, txn_named}
 use Rattle.iss_model.specs.rules.Acts.{Act, Asks, Does, GivesBack, HoldsOwn, StandsIn, Tells, TurnsDown, act_entries, entries_of_acts, refunded}
 use Rattle.iss_model.specs.rules.Asks.{Ask, ask_count, ask_usage}
-use Rattle.iss_model.specs.rules.CardActs.{acts_for_gateway, clearing_acts, funding_acts, gateway_acts, refund_acts, reversal_acts, stand_acts}
+use Rattle.iss_model.specs.rules.CardActs.{clearing_acts, funding_acts, gateway_acts, refund_acts, reversal_acts, stand_acts}
 use Rattle.iss_model.specs.rules.CardReasons.{is_account_funded}
 use Rattle.iss_model.specs.rules.Facts.{Facts, next_notice}
 use Rattle.iss_model.specs.rules.Pieces.{failure_reason, owed_to_programme}

@@ -1,6 +1,6 @@
 -- A step keeps what transactions hold well, and ends no transaction that had ended.
 use Rattle.std.proofs.Common.{subst, sym, ◌≡◌, ℕ, ◌+◌, ◌≤◌, List, [], ◌++◌, fold, ap, arith}
-use Rattle.std.specs.Prelude.{ℤ, pos, ◌≤ℤ◌, Option, Some, unwrap_or}
+use Rattle.std.specs.Prelude.{ℤ, pos, Option, Some, unwrap_or}
 use Rattle.std.specs.Cmp.Lexicographic.{slice_cmp}
 use Rattle.std.specs.FinMap as finite
 use Rattle.std.specs.Ordering.{nat_cmp}
