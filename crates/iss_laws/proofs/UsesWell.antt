@@ -296,7 +296,8 @@ nothing_used = two _ _ (is_not_negative (pos 0) zero_low) (is_not_negative (pos 
     zero_low : pos 0 ≤ℤ pos 0
     zero_low = omega (arith, ints)
 
-use_now : (rs : List Record) (put : ControlPut) (w : Window) (user : List ℕ) → IsLegal rs → put.control.window ≡ w → is_use (used_by (counted_control (history_of rs).rows put) w user (core_of rs).now) ≡ true
+use_now : (rs : List Record) (put : ControlPut) (w : Window) (user : List ℕ) → IsLegal rs → put.control.window ≡ w
+    → is_use (used_by (counted_control (history_of rs).rows put) w user (core_of rs).now) ≡ true
 use_now rs put window.Transaction user legal e = nothing_used
 use_now rs put window.Day user legal e = timed_use rs put window.Day user refl legal e
 use_now rs put window.Week user legal e = timed_use rs put window.Week user refl legal e
