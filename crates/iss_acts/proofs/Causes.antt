@@ -8,6 +8,7 @@ use Rattle.iss_model.specs.declared.call.CallId.{CallId}
 use Rattle.iss_model.specs.declared.call.Failure.{Failure}
 use Rattle.iss_model.specs.declared.call.Failure.TheVariants as failure
 use Rattle.iss_model.specs.declared.call.Opened.{Opened}
+use Rattle.iss_model.specs.declared.currency.Currency.{Currency}
 use Rattle.iss_model.specs.declared.decision.Reason.{Reason}
 use Rattle.iss_model.specs.declared.decision.Reason.TheVariants as reason
 use Rattle.iss_model.specs.declared.input.Input.{Input}
@@ -16,21 +17,22 @@ use Rattle.iss_model.specs.declared.input.Outcome.{Outcome}
 use Rattle.iss_model.specs.declared.input.Outcome.TheVariants as outcome
 use Rattle.iss_model.specs.declared.setting.Product.{Product}
 use Rattle.iss_model.specs.declared.txn.Txn.{Txn}
+use Rattle.iss_model.specs.Inputs.{event_token, is_text}
 use Rattle.iss_model.specs.rules.Activity.{CallNow, TxnNow, is_asked, txn_named}
 use Rattle.iss_model.specs.rules.Asks.{Ask, call_ask}
-use Rattle.iss_model.specs.rules.CardReasons.{authorization_reason, clearing_reason, first_ask, further_ask, increment_reason, is_account_funded, refund_reason, reversal_reason, txn_asked}
+use Rattle.iss_model.specs.rules.CardReasons.{authorization_reason, first_ask, further_ask, is_account_funded, txn_asked}
 use Rattle.iss_model.specs.rules.Due.{DueThing, call_due, txn_due, expiry_acts, live_expiry_acts, thing_acts}
 use Rattle.iss_model.specs.rules.Facts.{Facts, asked_calls_of, call_in, is_notice, next_notice, txn_in}
 use Rattle.iss_model.specs.rules.Pieces.{Parts, in_all, left_of, notice_after_abandonment, parts_held, taken_to_clear, taken_to_release}
-use Rattle.iss_model.specs.rules.Reasons.{card_reason, control_reason, group_reason, load_reason, move_reason, product_reason, set_reason, switch_reason, user_reason}
 use Rattle.iss_model.specs.rules.Settings.{is_named_in, product_named}
 use Rattle.iss_model.specs.rules.StandIns.{Stand, allowed, over_limit, stand, uncovered}
-use Rattle.iss_model.specs.rules.Stepping.{authorization_ask, acts_of, acts_unless}
-use Rattle.iss_model.specs.rules.Acts.{Abandons, Act, Ends, LetsGo, Sets}
-use Rattle.iss_model.specs.rules.CardActs.{acts_for_gateway, acts_of_asked, acts_of_txn, acts_where, authorization_acts, clearing_acts, counts_as_part, end_acts, failed_acts, funding_acts, gateway_acts, increment_acts, outcome_acts, refund_acts, reversal_acts, stand_acts}
-use Rattle.iss_acts.specs.Causes.{Cause, ComesOf, FallsDue, fails_call, is_of_event, lets_go, may_act, seeks_funding, settles_ask}
-use Rattle.iss_acts.specs.Sources.{AllMade, AreWithin, IsAskedCall, IsFirstAsk, IsFrom, IsFurtherAsk, IsNewNotice, IsOwnAsk, IsRow, IsSettledAsk, IsTxnOf, setting_reason}
+use Rattle.iss_model.specs.rules.Stepping.{authorization_ask, acts_of}
+use Rattle.iss_model.specs.rules.Acts.{Abandons, Act, Ends, LetsGo}
+use Rattle.iss_model.specs.rules.CardActs.{acts_for_gateway, acts_of_asked, acts_of_txn, acts_where, authorization_acts, clearing_acts, counts_as_part, end_acts, failed_acts, funding_acts, gateway_acts, outcome_acts, reversal_acts, stand_acts}
+use Rattle.iss_acts.specs.Causes.{Cause, ComesOf, FallsDue, fails_call, lets_go, may_act, seeks_funding, settles_ask}
+use Rattle.iss_acts.specs.Sources.{AllMade, AreWithin, IsAskedCall, IsFirstAsk, IsFrom, IsFurtherAsk, IsNewNotice, IsOwnAsk, IsRow, IsSettledAsk, IsTxnOf}
 use Rattle.iss_acts.specs.Stages.{Fresh, Keeps, Leaves, Seeks, Stage, stage_after}
+use Rattle.iss_acts.proofs.ByKind.{EachKind, walk}
 
 -- numbers and parts ----
 
@@ -104,13 +106,6 @@ module _ {f : Facts} {by : Cause} {at : ℕ} where
 
   where_some : {g : Stage} (n : ℕ) {acts : List Act} → AreMade f by at g acts → AreMade f by at g (acts_where n acts)
   where_some n h = either_acts (nat_eq n 0) (λ none. no_act) (λ some. h)
-
-  unless_row : (why : Option Reason) (token : List ℕ) {acts : List Act} → is_of_event by token ≡ true → (why ≡ None → IsRow f by at acts) → IsRow f by at (acts_unless why token acts)
-  unless_row None token its h = h refl
-  unless_row (Some why) token its h = fresh (one_act its tt)
-
-  set_row : (i : Input) (why : Option Reason) (token : List ℕ) → by ≡ ComesOf i → why ≡ setting_reason f i → is_of_event by token ≡ true → IsRow f by at (acts_unless why token (Sets i token ∷ []))
-  set_row i why token comes same its = unless_row why token its (λ none. fresh (one_act its (comes, sym same ∙ none, refl)))
 
   -- calls ----
 
@@ -202,8 +197,8 @@ its_token txn (t ∷ ts) now e = by (bytes_eq t.txn.token txn) refl (its_token t
     by false h rest e = rest e
 
 -- and the amount is the input's own
-its_amount : (f : Facts) (txn : List ℕ) (now : TxnNow) (amount : ℕ) → txn_in f txn ≡ Some now → (bytes_eq now.txn.token txn && nat_eq amount amount) ≡ true
-its_amount f txn now amount e = ap₂ (λ (a b : Bool). a && b) (its_token txn f.txns now e) (same_number amount)
+its_amount : {b : Bool} (amount : ℕ) → b ≡ true → (b && nat_eq amount amount) ≡ true
+its_amount amount named = ap₂ (λ (a b : Bool). a && b) named (same_number amount)
 
 -- an authorisation asks at its own moment
 asked_at : (token : List ℕ) (amount : ℕ) (partial : Bool) (at : ℕ) (t : Option Txn) (ask : Ask) → option_map (first_ask token amount partial at) t ≡ Some ask → ask.at ≡ at
@@ -221,79 +216,70 @@ outcome_made f call (outcome.Partial currency amount) at o t asked =
     either_acts (counts_as_part o currency amount) (λ counts. one_act (same_number amount) (refl, asked, record { call = call; currency = currency; its_input = refl; counts = counts }))
     (λ none. failed o t failure.Application refl refl asked)
 
+pub reversal_row : (f : Facts) (token txn : List ℕ) (currency : Currency) (amount at : ℕ) (now : TxnNow) → IsTxnOf f now.txn
+    → IsRow f (ComesOf (input.Reversal token txn currency amount)) at (reversal_acts f token amount (Some now))
+reversal_row f token txn currency amount at now its =
+    let t : Txn = now.txn in
+    let held : Parts = parts_held f t in
+    let amount_freed : ℕ = min amount (in_all held) in
+    keeping t its
+    (both_acts
+    (both_acts
+    (freed (next_notice f) t held reason.Reversed amount_freed refl its (as_they_are held) (low amount (in_all held)) (next_is_new f)
+    (either_acts (nat_eq amount_freed (in_all held)) (λ all. ends t held amount_freed refl its (no_less amount_freed (in_all held) all)) (λ some. no_act)))
+    (λ g. for_gateway t (λ gateway. where_some amount_freed (one_act refl (its, gateway, after_abandonment f t)))))
+    (λ g. one_act (its_name token) tt))
+
+pub clearing_row : (f : Facts) (token txn : List ℕ) (currency : Currency) (amount : ℕ) (last : Bool) (at : ℕ) (now : TxnNow) → IsTxnOf f now.txn → bytes_eq now.txn.token txn ≡ true
+    → IsRow f (ComesOf (input.Clearing token txn currency amount last)) at (clearing_acts f token amount last at (Some now))
+clearing_row f token txn currency amount last at now its named =
+    let t : Txn = now.txn in
+    let taken : Parts = taken_to_clear (parts_held f t) amount in
+    let rest : Parts = left_of (parts_held f t) taken in
+    fresh
+    (first_act (its_amount amount named) (refl, its, refl, refl)
+    (both_acts
+    (either_acts (now.live && (last || nat_eq (in_all rest) 0))
+    (λ over. both_acts (ended (next_notice f) t rest reason.Cleared refl its (as_left (parts_held f t) taken) (next_is_new f))
+    (λ g. for_gateway t (λ gateway. one_act refl (its, gateway, after_abandonment f t))))
+    (λ goes_on. for_gateway t (λ gateway. one_act refl (its, gateway, next_is_new f))))
+    (λ g. one_act (its_name token) tt)))
+
+-- each kind of input: those that name a transaction are of one that is found
 pub input_row : (f : Facts) (i : Input) (at : ℕ) → IsRow f (ComesOf i) at (acts_of i at f)
-input_row f (input.User token user) at = set_row _ (user_reason f user) token refl refl (its_name token)
-input_row f (input.Card token card user product active) at = set_row _ (card_reason f card user product) token refl refl (its_name token)
-input_row f (input.Move token who) at = set_row _ (move_reason f who) token refl refl (its_name token)
-input_row f (input.Product token product currency funding timeout_ms hold_ms) at = set_row _ (product_reason f product) token refl refl (its_name token)
-input_row f (input.Group token group mccs) at = set_row _ (group_reason f group) token refl refl (its_name token)
-input_row f (input.Control token control currency window amount_limit usage_limit association scope offset active) at =
-    set_row _ (control_reason f control currency window association scope offset) token refl refl (its_name token)
-input_row f (input.Set token set product currency connection timeout application max day_limit active) at = set_row _ (set_reason f set product currency) token refl refl (its_name token)
-input_row f (input.Switch token product on) at = set_row _ (switch_reason f product) token refl refl (its_name token)
-input_row f (input.Load token user currency amount) at = unless_row (load_reason f user) token (its_name token) (λ none. fresh (one_act (its_name token) (refl, refl)))
-input_row f (input.Authorization token card currency amount mcc mid partial) at = of_ask (authorization_ask f token card currency amount mcc mid partial at) refl
+input_row f i at = walk kinds i
   where
-    of_ask : (ask : Option Ask) → authorization_ask f token card currency amount mcc mid partial at ≡ ask
-        → IsRow f (ComesOf (input.Authorization token card currency amount mcc mid partial)) at (acts_unless (authorization_reason f card currency ask) token (authorization_acts f ask))
-    of_ask None e = unless_row (authorization_reason f card currency None) token (its_name token) (λ none. fresh no_act)
-    of_ask (Some ask) e =
-        unless_row (authorization_reason f card currency (Some ask)) token (its_name token) (λ none. fresh (first_act refl (refl, first none) (funding_made ask refl refl (inl (first none)) (asked_at token amount partial at (txn_asked f token card currency mcc mid at) ask e))))
-      where
-        first : authorization_reason f card currency (Some ask) ≡ None → IsFirstAsk f (ComesOf (input.Authorization token card currency amount mcc mid partial)) at ask
-        first none = record { token = token; card = card; currency = currency; amount = amount; mcc = mcc; mid = mid; partial = partial; its_input = refl; made = e; none = none }
-input_row f (input.Increment token txn currency amount) at = of_now (txn_in f txn) refl
-  where
-    of_now : (now : Option TxnNow) → txn_in f txn ≡ now
-        → IsRow f (ComesOf (input.Increment token txn currency amount)) at
-        (acts_unless (increment_reason f now currency (option_map (λ now. further_ask token amount at now.txn) now)) token (increment_acts f (option_map (λ now. further_ask token amount at now.txn) now)))
-    of_now None e = unless_row (increment_reason f None currency None) token (its_name token) (λ none. fresh no_act)
-    of_now (Some now) e =
-        let ask : Ask = further_ask token amount at now.txn in
-        unless_row (increment_reason f (Some now) currency (Some ask)) token (its_name token) (λ none. fresh (first_act refl (refl, further none) (funding_made ask refl refl (inr (further none)) refl)))
-      where
-        further : increment_reason f (Some now) currency (Some (further_ask token amount at now.txn)) ≡ None
-            → IsFurtherAsk f (ComesOf (input.Increment token txn currency amount)) at (further_ask token amount at now.txn)
-        further none = record { token = token; txn = txn; currency = currency; amount = amount; its_input = refl; now = now; stands = e; made = refl; none = none }
-input_row f (input.Reversal token txn currency amount) at = unless_row (reversal_reason (txn_in f txn) currency) token (its_name token) (λ none. of_now (txn_in f txn) refl)
-  where
-    of_now : (now : Option TxnNow) → txn_in f txn ≡ now → IsRow f (ComesOf (input.Reversal token txn currency amount)) at (reversal_acts f token amount now)
-    of_now None e = fresh no_act
-    of_now (Some now) e =
-        let t : Txn = now.txn in
-        let its : IsTxnOf f t = record { token = txn; now = now; stands = e; same = refl } in
-        let held : Parts = parts_held f t in
-        let amount_freed : ℕ = min amount (in_all held) in
-        keeping t its
-        (both_acts
-        (both_acts
-        (freed (next_notice f) t held reason.Reversed amount_freed refl its (as_they_are held) (low amount (in_all held)) (next_is_new f)
-        (either_acts (nat_eq amount_freed (in_all held)) (λ all. ends t held amount_freed refl its (no_less amount_freed (in_all held) all)) (λ some. no_act)))
-        (λ g. for_gateway t (λ gateway. where_some amount_freed (one_act refl (its, gateway, after_abandonment f t)))))
-        (λ g. one_act (its_name token) tt))
-input_row f (input.Clearing token txn currency amount last) at = unless_row (clearing_reason (txn_in f txn) currency) token (its_name token) (λ none. of_now (txn_in f txn) refl)
-  where
-    of_now : (now : Option TxnNow) → txn_in f txn ≡ now → IsRow f (ComesOf (input.Clearing token txn currency amount last)) at (clearing_acts f token amount last at now)
-    of_now None e = fresh no_act
-    of_now (Some now) e =
-        let t : Txn = now.txn in
-        let its : IsTxnOf f t = record { token = txn; now = now; stands = e; same = refl } in
-        let taken : Parts = taken_to_clear (parts_held f t) amount in
-        let rest : Parts = left_of (parts_held f t) taken in
-        fresh
-        (first_act (its_amount f txn now amount e) (refl, its, refl, refl)
-        (both_acts
-        (either_acts (now.live && (last || nat_eq (in_all rest) 0))
-        (λ over. both_acts (ended (next_notice f) t rest reason.Cleared refl its (as_left (parts_held f t) taken) (next_is_new f)) (λ g. for_gateway t (λ gateway. one_act refl (its, gateway, after_abandonment f t))))
-        (λ goes_on. for_gateway t (λ gateway. one_act refl (its, gateway, next_is_new f))))
-        (λ g. one_act (its_name token) tt)))
-input_row f (input.Refund token txn currency amount) at = unless_row (refund_reason f (txn_in f txn) currency amount) token (its_name token) (λ none. of_now (txn_in f txn) refl)
-  where
-    of_now : (now : Option TxnNow) → txn_in f txn ≡ now → IsRow f (ComesOf (input.Refund token txn currency amount)) at (refund_acts f token amount now)
-    of_now None e = fresh no_act
-    of_now (Some now) e =
-        let its : IsTxnOf f now.txn = record { token = txn; now = now; stands = e; same = refl } in
-        fresh (first_act (its_amount f txn now amount e) (its, refl, refl) (both_acts (for_gateway now.txn (λ gateway. one_act refl (its, gateway, next_is_new f))) (λ g. one_act (its_name token) tt)))
-input_row f (input.Answer call what) at = asked_row (λ (o : Opened) (t : Txn). outcome_acts what f o t at) (outcome_made f call what at) call.0
-input_row f (input.Ack notice) at = fresh (either_acts (is_notice f notice) (λ known. one_act (same_number notice) known) (λ unknown. no_act))
-input_row f input.Time at = fresh no_act
+    its_event : (i : Input) (token : List ℕ) → event_token i ≡ Some token → is_text token (event_token i) ≡ true
+    its_event i token e = ap (is_text token) e ∙ its_name token
+
+    found : (txn : List ℕ) (now : TxnNow) → txn_in f txn ≡ Some now → IsTxnOf f now.txn
+    found txn now e = record { token = txn; now = now; stands = e; same = refl }
+
+    authorized : (token card : List ℕ) (currency : Currency) (amount mcc : ℕ) (mid : List ℕ) (partial : Bool) (ask : Option Ask) → authorization_ask f token card currency amount mcc mid partial at ≡ ask
+        → authorization_reason f card currency ask ≡ None → IsRow f (ComesOf (input.Authorization token card currency amount mcc mid partial)) at (authorization_acts f ask)
+    authorized token card currency amount mcc mid partial None e none = fresh no_act
+    authorized token card currency amount mcc mid partial (Some ask) e none =
+        let first : IsFirstAsk f (ComesOf (input.Authorization token card currency amount mcc mid partial)) at ask =
+        record { token = token; card = card; currency = currency; amount = amount; mcc = mcc; mid = mid; partial = partial; its_input = refl; made = e; none = none } in
+        fresh (first_act refl (refl, first) (funding_made ask refl refl (inl first) (asked_at token amount partial at (txn_asked f token card currency mcc mid at) ask e)))
+
+    kinds : EachKind (λ i acts. IsRow f (ComesOf i) at acts) f at
+    kinds =
+        record {
+          declined = λ i token why its. fresh (one_act (its_event i token its) tt);
+          setting = λ i token its none. fresh (one_act (its_event i token its) (refl, none, refl));
+          load = λ token user currency amount. fresh (one_act (its_name token) (refl, refl));
+          authorization = authorized;
+          increment = λ token txn currency amount now e none.
+              let further : IsFurtherAsk f (ComesOf (input.Increment token txn currency amount)) at (further_ask token amount at now.txn) =
+              record { token = token; txn = txn; currency = currency; amount = amount; its_input = refl; now = now; stands = e; made = refl; none = none } in
+              fresh (first_act refl (refl, further) (funding_made (further_ask token amount at now.txn) refl refl (inr further) refl));
+          reversal = λ token txn currency amount now e none. reversal_row f token txn currency amount at now (found txn now e);
+          clearing = λ token txn currency amount last now e none. clearing_row f token txn currency amount last at now (found txn now e) (its_token txn f.txns now e);
+          refund = λ token txn currency amount now e none.
+              fresh (first_act (its_amount amount (its_token txn f.txns now e)) (found txn now e, refl, refl)
+              (both_acts (for_gateway now.txn (λ gateway. one_act refl (found txn now e, gateway, next_is_new f))) (λ g. one_act (its_name token) tt)));
+          answer = λ call what. asked_row (λ (o : Opened) (t : Txn). outcome_acts what f o t at) (outcome_made f call what at) call.0;
+          acknowledgement = λ notice. fresh (either_acts (is_notice f notice) (λ known. one_act (same_number notice) known) (λ unknown. no_act));
+          time = fresh no_act;
+        }

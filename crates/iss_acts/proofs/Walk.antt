@@ -69,17 +69,17 @@ pub record FromStart {W : Type 0} (f : Facts) (P : Stage → W → List Entry �
   pub starts : IsStart f first
   pub holds : P first w es
 
+pub row_goes : {W : Type 0} {after : W → List Entry → W} {f : Facts} {by : Cause} {at : ℕ} {Known : Stage → W → Type 0} {P : Stage → W → List Entry → Type 0} (w : W) (acts : List Act)
+    → IsRow f by at acts → Goes after f by at Known P → ((g : Stage) → IsStart f g → Known g w) → FromStart f P w (entries_of_acts acts)
+row_goes w acts row goes known = record { first = row.first; starts = row.starts; holds = acts_go goes row.first w acts row.made (known row.first row.starts) }
+
 pub due_goes : {W : Type 0} {after : W → List Entry → W} {Known : Stage → W → Type 0} {P : Stage → W → List Entry → Type 0} (f : Facts) (thing : DueThing) (at : ℕ) (w : W)
     → Goes after f FallsDue at Known P → ((g : Stage) → IsStart f g → Known g w) → FromStart f P w (thing_entries thing at f)
-due_goes f thing at w goes known =
-    let row : IsRow f FallsDue at (thing_acts thing at f) = thing_row f thing at in
-    record { first = row.first; starts = row.starts; holds = acts_go goes row.first w (thing_acts thing at f) row.made (known row.first row.starts) }
+due_goes f thing at w goes known = row_goes w (thing_acts thing at f) (thing_row f thing at) goes known
 
 pub own_goes : {W : Type 0} {after : W → List Entry → W} {Known : Stage → W → Type 0} {P : Stage → W → List Entry → Type 0} (f : Facts) (i : Input) (at : ℕ) (w : W)
     → Goes after f (ComesOf i) at Known P → ((g : Stage) → IsStart f g → Known g w) → FromStart f P w (entries_of i at f)
-own_goes f i at w goes known =
-    let row : IsRow f (ComesOf i) at (acts_of i at f) = input_row f i at in
-    record { first = row.first; starts = row.starts; holds = acts_go goes row.first w (acts_of i at f) row.made (known row.first row.starts) }
+own_goes f i at w goes known = row_goes w (acts_of i at f) (input_row f i at) goes known
 
 -- what holds of an asked call and its transaction as they stand holds of them as they are called
 pub of_asked : {f : Facts} {o : Opened} {t : Txn} (P : Opened → Txn → Type 0) (asked : IsAskedCall f o t) → P asked.its.opened asked.now.txn → P o t

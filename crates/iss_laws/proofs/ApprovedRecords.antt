@@ -1,5 +1,5 @@
 -- Each authorisation and increment of a legal list of records is approved to each extent exactly if it is to be: its rulings are those that the rules want, and it is decided once.
-use Rattle.std.proofs.Common.{◌≡◌, ℕ, suc, ◌+◌, ◌≤◌, Bool, true, false, not, cond, ◌&&◌, ◌||◌, List, [], ◌∷◌, ◌++◌, length, filter, refl, sym, ap, ap₂, ◌∙◌, arith}
+use Rattle.std.proofs.Common.{◌≡◌, ℕ, ◌+◌, ◌≤◌, Bool, true, false, not, cond, ◌&&◌, ◌||◌, List, [], ◌∷◌, ◌++◌, length, filter, refl, sym, ap, ap₂, ◌∙◌, arith}
 use Rattle.std.specs.Prelude.{Option, Some, None, find, option_map, option_and_then}
 use Rattle.std.specs.List.{list_any, filter_map, cons_option}
 use Rattle.std.specs.Str.{bytes_eq}
@@ -43,7 +43,7 @@ use Rattle.iss_agreement.proofs.Records.{records_history}
 use Rattle.iss_state.specs.Sound.{IsNewEvent, is_accepted}
 use Rattle.iss_state.proofs.invariants.Kept.{due_accepted, entries_accepted}
 use Rattle.iss_state.proofs.invariants.NewEvents.{accepted_with_record, judged_new, still_accepted}
-use Rattle.iss_state.specs.Well.{asked_times, decided_times, is_decided}
+use Rattle.iss_state.specs.Well.{decided_times, is_decided}
 use Rattle.iss_state.proofs.docket.Lists.{not_both, or_true}
 use Rattle.iss_state.proofs.calls.Legal.{core_well}
 use Rattle.iss_state.proofs.calls.Steps.{decided_once}
@@ -278,40 +278,42 @@ none_decided test event (d ∷ ds) h = by (bytes_eq d.event event) (none_decided
     by true rest h = absurd (omega (arith, h))
     by false rest h = rest h
 
-reply_approves : (extent : Extent) (event : List ℕ) (ds : List Decision) → decided_times ds event ≤ 1
-    → is_approved extent (reply_of_verdict (verdict_in ds event)) ≡ list_any (decision_approves extent event) ds
-reply_approves extent event [] h = refl
-reply_approves extent event (d ∷ ds) h = by (bytes_eq d.event event) (reply_approves extent event ds) h
+-- an event that is decided once at most has the verdict that a test finds
+its_verdict : (test : Verdict → Bool) (event : List ℕ) (ds : List Decision) → decided_times ds event ≤ 1
+    → list_any (λ d. bytes_eq d.event event && test d.verdict) ds ≡ is_some_with test (verdict_in ds event)
+its_verdict test event [] h = refl
+its_verdict test event (d ∷ ds) h = by (bytes_eq d.event event) (its_verdict test event ds) h
   where
-    none : (n : ℕ) → suc n ≤ 1 → n ≡ 0
-    none n h = omega (arith, h)
-
-    by : (b : Bool) → (decided_times ds event ≤ 1 → is_approved extent (reply_of_verdict (verdict_in ds event)) ≡ list_any (decision_approves extent event) ds)
+    by : (b : Bool) → (decided_times ds event ≤ 1 → list_any (λ d. bytes_eq d.event event && test d.verdict) ds ≡ is_some_with test (verdict_in ds event))
         → length (cond b (d ∷ filter (λ (d : Decision). bytes_eq d.event event) ds) (filter (λ (d : Decision). bytes_eq d.event event) ds)) ≤ 1
-        → is_approved extent (reply_of_verdict (option_map (λ (d : Decision). d.verdict) (cond b (Some d) (find (λ d. bytes_eq d.event event) ds)))) ≡ ((b && is_approval extent d.verdict) || list_any (decision_approves extent event) ds)
+        → ((b && test d.verdict) || list_any (λ d. bytes_eq d.event event && test d.verdict) ds)
+        ≡ is_some_with test (option_map (λ (d : Decision). d.verdict) (cond b (Some d) (find (λ d. bytes_eq d.event event) ds)))
     by true rest h =
-        sym (or_false (is_approval extent d.verdict))
-        ∙ ap (λ (b : Bool). is_approval extent d.verdict || b) (sym (none_decided (is_approval extent) event ds (none (decided_times ds event) h)))
+        let none : decided_times ds event ≡ 0 = omega (arith, h) in
+        ap (λ (b : Bool). test d.verdict || b) (none_decided test event ds none) ∙ or_false (test d.verdict)
     by false rest h = rest h
 
--- an event that is declined isn't approved
-declined_once : (extent : Extent) (event : List ℕ) (why : Reason) (ds : List Decision) → decided_times ds event ≤ 1 → list_any (λ d. bytes_eq d.event event && not (is_approval extent d.verdict)) ds ≡ true
-    → list_any (decision_approves extent event) ds ≡ false
-declined_once extent event why [] h k = refl
-declined_once extent event why (d ∷ ds) h k = by (bytes_eq d.event event) (is_approval extent d.verdict) (declined_once extent event why ds) h k
+reply_approves : (extent : Extent) (event : List ℕ) (ds : List Decision) → decided_times ds event ≤ 1
+    → is_approved extent (reply_of_verdict (verdict_in ds event)) ≡ list_any (decision_approves extent event) ds
+reply_approves extent event ds h = by (verdict_in ds event) ∙ sym (its_verdict (is_approval extent) event ds h)
   where
-    none : (n : ℕ) → suc n ≤ 1 → n ≡ 0
-    none n h = omega (arith, h)
+    by : (v : Option Verdict) → is_approved extent (reply_of_verdict v) ≡ is_some_with (is_approval extent) v
+    by None = refl
+    by (Some v) = refl
 
-    by : (a b : Bool)
-        → (decided_times ds event ≤ 1 → list_any (λ d. bytes_eq d.event event && not (is_approval extent d.verdict)) ds ≡ true → list_any (decision_approves extent event) ds ≡ false)
-        → length (cond a (d ∷ filter (λ (d : Decision). bytes_eq d.event event) ds) (filter (λ (d : Decision). bytes_eq d.event event) ds)) ≤ 1
-        → ((a && not b) || list_any (λ d. bytes_eq d.event event && not (is_approval extent d.verdict)) ds) ≡ true
-        → ((a && b) || list_any (decision_approves extent event) ds) ≡ false
-    by true true rest h k =
-        not_both (list_any (λ (d : Decision). bytes_eq d.event event && not (is_approval extent d.verdict)) ds) k (none_decided (λ v. not (is_approval extent v)) event ds (none (decided_times ds event) h))
-    by true false rest h k = none_decided (is_approval extent) event ds (none (decided_times ds event) h)
-    by false b rest h k = rest h k
+-- an event that is declined isn't approved
+declined_once : (extent : Extent) (event : List ℕ) (ds : List Decision) → decided_times ds event ≤ 1 → list_any (λ d. bytes_eq d.event event && not (is_approval extent d.verdict)) ds ≡ true
+    → list_any (decision_approves extent event) ds ≡ false
+declined_once extent event ds h k =
+    its_verdict (is_approval extent) event ds h ∙ by (verdict_in ds event) (sym (its_verdict (λ v. not (is_approval extent v)) event ds h) ∙ k)
+  where
+    by : (v : Option Verdict) → is_some_with (λ v. not (is_approval extent v)) v ≡ true → is_some_with (is_approval extent) v ≡ false
+    by None e = cc
+    by (Some v) e = not_so (is_approval extent v) e
+      where
+        not_so : (b : Bool) → not b ≡ true → b ≡ false
+        not_so true e = cc
+        not_so false e = refl
 
 -- what was accepted ----
 
@@ -412,11 +414,7 @@ module _ (extent : Extent) (all before : List Record) (r : Record) (rs : List Re
   decided_at_most_once =
       let known : is_accepted (core_of all).accepted token ≡ true =
       ap (λ (rs : List Record). is_accepted (core_of rs).accepted token) (is ∙ sym (append_assoc before (r ∷ []) rs)) ∙ accepted_rest (before ++ r ∷ []) rs token known_now in
-      less (decided_times (core_of all).decisions token) (asked_times (core_of all).calls token) (decided_times decisions_of_all token)
-      (decided_once (core_of all) token (core_well all legal_all) known) (ap (λ (s : CoreState). decided_times s.decisions token) (sym (core_history all)))
-    where
-      less : (n m k : ℕ) → n + m ≡ 1 → k ≡ n → k ≤ 1
-      less n m k e h = omega (arith, e, h)
+      omega (arith, decided_once (core_of all) token (core_well all legal_all) known, ap (λ (s : CoreState). decided_times s.decisions token) (sym (core_history all)))
 
   any_row : (test : Verdict → Bool) → list_any (λ row. decides_so test token row.entry) rows_of_all
       ≡ (list_any (λ row. decides_so test token row.entry) (history_of before).rows || list_any (λ row. decides_so test token row.entry) (later_rows (history_of before) (r ∷ rs)))
@@ -468,7 +466,7 @@ module _ (extent : Extent) (all before : List Record) (r : Record) (rs : List Re
       (list_any-append test (numbered_rows (length h.records + 1) es) (later_rows (step history_keeper h r).world rs)
       ∙ ap (λ (b : Bool). b || list_any test (later_rows (step history_keeper h r).world rs)) made) in
       reply_approves extent token decisions_of_all decided_at_most_once
-      ∙ declined_once extent token why decisions_of_all decided_at_most_once there
+      ∙ declined_once extent token decisions_of_all decided_at_most_once there
 
   ask_right : (why : Option Reason) (ask : Option Ask) → own_rulings r.input r.at turn ≡ ask_rulings turn token why ask → IsOf token ask
       → is_approved extent (reply_in (history_facts (history_of all)) token) ≡ is_to_be_approved extent turn why ask (records_pay_for extent token before (r ∷ rs) rows_of_all)

@@ -223,11 +223,8 @@ over_once x v c (a ∷ accounts) h =
     (sum_over (at_key (account_key x) v) c accounts) (times (account_key x) accounts) h
     (same_key_currency x a c) (over_none (account_key x) v c accounts) (over_once x v c accounts)
 
-cancels : (n : ℕ) → pos n +ℤ (neg_ℤ (pos n)) ≡ pos 0
-cancels n = omega (arith, ints)
-
 taken_and_given : (p q : Bool) (n : ℕ) → p ≡ q → cond p (pos n) (pos 0) +ℤ cond q (neg_ℤ (pos n)) (pos 0) ≡ pos 0
-taken_and_given true true n e = cancels n
+taken_and_given true true n e = omega (arith, ints)
 taken_and_given false false n e = refl
 taken_and_given _ _ n e = absurd cc
 

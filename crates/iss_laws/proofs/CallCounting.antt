@@ -25,10 +25,7 @@ use Rattle.iss_laws.specs.CallEntries.{closes, opens, times_among}
 use Rattle.iss_laws.specs.Payable.{asked_at}
 
 pub among_append : (test : Entry → Bool) (xs ys : List Entry) → times_among test (xs ++ ys) ≡ times_among test xs + times_among test ys
-among_append test [] ys = none (times_among test ys)
-  where
-    none : (n : ℕ) → n ≡ 0 + n
-    none n = omega arith
+among_append test [] ys = omega arith
 among_append test (x ∷ xs) ys = ap (λ (n : ℕ). cond (test x) 1 0 + n) (among_append test xs ys) ∙ add (cond (test x) 1 0) (times_among test xs) (times_among test ys)
   where
     add : (a b c : ℕ) → a + (b + c) ≡ a + b + c
@@ -39,24 +36,15 @@ among_append test (x ∷ xs) ys = ap (λ (n : ℕ). cond (test x) 1 0 + n) (amon
 still : (a : ℕ) → 0 + a ≡ a + 0
 still a = omega arith
 
-none_first : (a b : ℕ) → a ≡ b → 0 + a ≡ b
-none_first a b e = omega (arith, e)
-
-none_last : (a b : ℕ) → a ≡ b → a ≡ b + 0
-none_last a b e = omega (arith, e)
-
 -- no call has a later number than the last
 unnumbered : (m n : ℕ) (calls : List CallNow) → CallsNumberedFrom m calls → m + length calls ≤ n → call_numbered n calls ≡ None
 unnumbered m n [] numbers late = refl
 unnumbered m n (c ∷ cs) numbers late =
     ap (λ (b : Bool). cond b (Some c) (call_numbered n cs)) (differ c.opened.call.0 m n (length cs) numbers.0 late)
-    ∙ unnumbered (m + 1) n cs numbers.1 (less m (length cs) n late)
+    ∙ unnumbered (m + 1) n cs numbers.1 (omega (arith, late))
   where
     differ : (a m n l : ℕ) → a ≡ m → m + suc l ≤ n → nat_eq a n ≡ false
     differ a m n l e h = grind (arith, nat_tests)
-
-    less : (m l n : ℕ) → m + suc l ≤ n → (m + 1) + l ≤ n
-    less m l n h = omega (arith, h)
 
 abbrev asked_by : Option CallNow → ℕ
 asked_by o = cond (is_some_with is_asked o) 1 0
@@ -69,15 +57,12 @@ opened_counts calls o n numbers last = ap asked_by (call_more n calls x) ∙ by 
     x : CallNow
     x = record { opened = o; how = None }
 
-    late : (a l n : ℕ) → a ≡ l + 1 → a ≡ n → 1 + l ≤ n
-    late a l n e h = omega (arith, e, h)
-
     by : (b : Bool) → nat_eq o.call.0 n ≡ b
         → asked_by (option_or (call_numbered n calls) (cond b (Some (record { opened = o; how = None })) None)) ≡ asked_at calls n + cond b 1 0
     by true e =
-        let none : call_numbered n calls ≡ None = unnumbered 1 n calls numbers (late o.call.0 (length calls) n last (number_is o.call.0 n e)) in
+        let none : call_numbered n calls ≡ None = unnumbered 1 n calls numbers (omega (arith, last, number_is o.call.0 n e)) in
         rw none refl
-    by false e = none_last _ _ (same (call_numbered n calls))
+    by false e = omega (arith, same (call_numbered n calls))
       where
         same : (o : Option CallNow) → asked_by (option_or o None) ≡ asked_by o
         same None = refl
@@ -89,17 +74,16 @@ closed_counts : (calls : List CallNow) (call : CallId) (how : How) (n : ℕ) (c 
 closed_counts calls call how n c stands asked =
     ap (λ (o : Option CallNow). cond (nat_eq call.0 n) 1 0 + asked_by o) (call_closed n call.0 how calls) ∙ by (nat_eq call.0 n) refl
   where
-    one : (a b : ℕ) → a ≡ 0 → b ≡ 1 → 1 + a ≡ b
-    one a b e h = omega (arith, e, h)
-
     by : (b : Bool) → nat_eq call.0 n ≡ b → cond b 1 0 + asked_by (option_map (call_after_close call.0 how) (call_numbered n calls)) ≡ asked_at calls n
     by true e =
         let its : call_numbered n calls ≡ Some c = ap (λ (k : ℕ). call_numbered k calls) (sym (number_is call.0 n e)) ∙ stands in
-        one (asked_by (option_map (call_after_close call.0 how) (call_numbered n calls))) (asked_at calls n)
-        (ap (λ (o : Option CallNow). asked_by (option_map (call_after_close call.0 how) o)) its
-        ∙ ap (λ (b : Bool). cond b 1 0) (own_closed call.0 how c (ap (nat_eq call.0) (its_number calls n c its) ∙ e)))
-        (ap asked_by its ∙ ap (λ (b : Bool). cond b 1 0) asked)
-    by false e = none_first _ _ (other (call_numbered n calls) refl)
+        omega (
+          arith,
+          ap (λ (o : Option CallNow). asked_by (option_map (call_after_close call.0 how) o)) its
+              ∙ ap (λ (b : Bool). cond b 1 0) (own_closed call.0 how c (ap (nat_eq call.0) (its_number calls n c its) ∙ e)),
+          ap asked_by its ∙ ap (λ (b : Bool). cond b 1 0) asked,
+        )
+    by false e = omega (arith, other (call_numbered n calls) refl)
       where
         other : (o : Option CallNow) → call_numbered n calls ≡ o → asked_by (option_map (call_after_close call.0 how) o) ≡ asked_by o
         other None h = refl
@@ -114,8 +98,8 @@ setting_counts s i n = ap (λ (calls : List CallNow). 0 + asked_at calls n) (set
 entry_counts : (s : CoreState) (e : Entry) (n : ℕ) → CallsNumberedFrom 1 s.calls → IsAllowed (docket_of s) e
     → cond (closes n e) 1 0 + asked_at (after_entry s e).calls n ≡ asked_at s.calls n + cond (opens n e) 1 0
 entry_counts s (entry.Conf i) n numbers allowed = setting_counts s i n
-entry_counts s (entry.Opened o) n numbers allowed = none_first (asked_at (after_entry s (entry.Opened o)).calls n) _ (opened_counts s.calls o n numbers allowed.number)
-entry_counts s (entry.Closed call how) n numbers allowed = none_last _ (asked_at s.calls n) (closed_counts s.calls call how n allowed.its allowed.asked.stands allowed.asked.asked)
+entry_counts s (entry.Opened o) n numbers allowed = omega (arith, opened_counts s.calls o n numbers allowed.number)
+entry_counts s (entry.Closed call how) n numbers allowed = omega (arith, closed_counts s.calls call how n allowed.its allowed.asked.stands allowed.asked.asked)
 entry_counts s _ n numbers allowed = still (asked_at s.calls n)
 
 next_numbered : (s : CoreState) (e : Entry) → IsAllowed (docket_of s) e → CallsNumberedFrom 1 s.calls → CallsNumberedFrom 1 (after_entry s e).calls

@@ -55,15 +55,12 @@ allowed_counts s i es ready allowed = record { counted = λ n. entries_count s e
 counts_through : (i : Input) (at : ℕ) → GoesOn Counts i at
 counts_through i at =
     record {
-      none = λ s. record { counted = λ n. still (asked_at s.calls n) };
+      none = λ s. record { counted = λ n. omega arith };
       then = counts_then;
       due = λ s thing ready. allowed_counts s i (thing_entries thing at (core_facts s)) ready (due_allowed s i thing at ready);
       own = λ s ready. allowed_counts s i (entries_of i at (core_facts s)) ready (own_allowed s i at ready);
       stays = λ s thing ready. ready_settled s i thing at ready;
     }
-  where
-    still : (a : ℕ) → 0 + a ≡ a + 0
-    still a = omega arith
 
 pub step_counts : (s : CoreState) (r : Record) → IsNewEvent s r.input → IsWell s → Counts (with_record s r) (step core_keeper s r).entries (step core_keeper s r).world
 step_counts s r new well = step_leads s r (counts_through r.input r.at) (ready_taken s r well new)

@@ -28,7 +28,7 @@ use Rattle.iss_state.proofs.docket.Lists.{Each, both_so, each_weaker, found_any,
 use Rattle.iss_state.specs.Pending.{IsWell}
 use Rattle.iss_state.proofs.calls.Legal.{nothing_well}
 use Rattle.iss_state.proofs.calls.Steps.{step_well}
-use Rattle.iss_laws.specs.CallEntries.{closes, closes_void, is_call, is_void, is_void_method, names_call, names_what_it_voids, opens, times_among, voids}
+use Rattle.iss_laws.specs.CallEntries.{closes, closes_void, is_call, is_void, is_void_method, names_call, names_what_it_voids, opens, voids}
 use Rattle.iss_laws.specs.Payable.{asked_at}
 use Rattle.iss_laws.proofs.CallSteps.{Counts, step_counts, step_voids}
 use Rattle.iss_laws.specs.Calls.{each_stands_once, is_of_calls, is_opened, stands_once}
@@ -65,9 +65,7 @@ counted_more rs r new h =
       well = step_well s r new h.well;
       all = record {
         counted = λ n.
-            add (times (closes n) (history_of (rs ++ r ∷ [])).rows) (times (opens n) (history_of (rs ++ r ∷ [])).rows) (times (closes n) rows) (times (opens n) rows)
-            (times_among (closes n) es) (times_among (opens n) es) (asked_at s.calls n) (asked_at (step core_keeper s r).world.calls n)
-            (next_times (closes n) rs r) (next_times (opens n) rs r) (h.all.counted n) (counts.counted n);
+            omega (arith, next_times (closes n) rs r, next_times (opens n) rs r, h.all.counted n, counts.counted n);
         voided = λ n.
             next_times (voids n) rs r ∙ ap₂ (λ (a b : ℕ). a + b) (h.all.voided n) (step_voids n s r).voided ∙ sym (next_times (closes_void n) rs r);
         told = ap are_told (next_rows rs r)
@@ -75,9 +73,6 @@ counted_more rs r new h =
             ∙ ap₂ (λ (a b : Bool). a && b) h.all.told (numbered_pass names_what_it_voids (next_number rs r) es ∙ (step_voids 0 s r).told);
       };
     }
-  where
-    add : (closed opened c o cs os asked last : ℕ) → closed ≡ c + cs → opened ≡ o + os → c + asked ≡ o → cs + last ≡ asked + os → closed + last ≡ opened
-    add closed opened c o cs os asked last a b h k = omega (arith, a, b, h, k)
 
 all_counted : (rs : List Record) → IsLegal rs → IsCounted rs (core_of rs)
 all_counted rs legal = legal_induction IsCounted nothing_counted counted_more rs legal
@@ -134,27 +129,18 @@ how_closed n rows = slice_get (filter_map (λ row. call_closed n row.entry) rows
 abbrev one_of : Bool → ℕ
 one_of b = cond b 1 0
 
-none_more : (a b : ℕ) → a ≡ b → 0 + a ≡ b
-none_more a b e = omega (arith, e)
-
-few_more : (m : ℕ) → 0 + m ≤ 1 → m ≤ 1
-few_more m h = omega (arith, h)
-
 -- a row first: what it closes is all that is closed, or it closes nothing
 void_alike : (n : ℕ) (e : Entry) (hows : List How) (closed voided : ℕ) → length (cond (closes n e) (e ∷ []) []) + closed ≤ 1 → voided ≤ closed
     → (closed ≤ 1 → voided ≡ one_of (is_void (slice_get hows 0)))
     → length (cond (closes_void n e) (e ∷ []) []) + voided ≡ one_of (is_void (slice_get (cons_option (call_closed n e) hows) 0))
 void_alike n (entry.Closed call how) hows closed voided few less rest = by (nat_eq call.0 n) (is_void (Some how)) refl few
   where
-    gone : (closed voided : ℕ) → 1 + closed ≤ 1 → voided ≤ closed → voided ≡ 0
-    gone closed voided h k = omega (arith, h, k)
-
     by : (a b : Bool) → is_void (Some how) ≡ b → length (cond a (entry.Closed call how ∷ []) []) + closed ≤ 1
         → length (cond (a && b) (entry.Closed call how ∷ []) []) + voided ≡ one_of (is_void (slice_get (cons_option (cond a (Some how) None) hows) 0))
-    by true true e few = ap (λ (m : ℕ). 1 + m) (gone closed voided few less) ∙ sym (ap one_of e)
-    by true false e few = ap (λ (m : ℕ). 0 + m) (gone closed voided few less) ∙ sym (ap one_of e)
-    by false b e few = none_more voided _ (rest (few_more closed few))
-void_alike n _ hows closed voided few less rest = none_more voided _ (rest (few_more closed few))
+    by true true e few = let gone : voided ≡ 0 = omega (arith, few, less) in ap (λ (m : ℕ). 1 + m) gone ∙ sym (ap one_of e)
+    by true false e few = let gone : voided ≡ 0 = omega (arith, few, less) in ap (λ (m : ℕ). 0 + m) gone ∙ sym (ap one_of e)
+    by false b e few = omega (arith, rest (omega (arith, few)))
+void_alike n _ hows closed voided few less rest = omega (arith, rest (omega (arith, few)))
 
 -- if a number is closed once at most, it is closed as void as its first closing says
 void_times : (n : ℕ) (rows : List Row) → times (closes n) rows ≤ 1 → times (closes_void n) rows ≡ one_of (is_void (how_closed n rows))
@@ -241,18 +227,12 @@ module _ (rows : List Row) (numbers : CallsNumberedFrom 1 (calls_of rows)) (all 
     where
       by : (b : Bool) → times (opens n) rows ≡ one_of b → b ≡ true
       by true e = refl
-      by false e = absurd (clash (times (closes n) rows) (asked_at (calls_of rows) n) (times (opens n) rows) h (all.counted n) e)
-        where
-          clash : (closed asked opened : ℕ) → 1 ≤ closed → closed + asked ≡ opened → opened ≡ 0 → ⊥
-          clash closed asked opened h k e = omega (arith, h, k, e)
+      by false e = absurd (omega (arith, h, all.counted n, e))
 
   -- and so does a call that is voided
   voided_stands : (n : ℕ) → 1 ≤ times (voids n) rows → is_some (call_numbered n (calls_of rows)) ≡ true
   voided_stands n h =
-      closed_stands n (more (times (voids n) rows) (times (closes_void n) rows) (times (closes n) rows) h (all.voided n) (times_weaker (closes_void n) (closes n) (closed_first n) rows))
-    where
-      more : (voided void closed : ℕ) → 1 ≤ voided → voided ≡ void → void ≤ closed → 1 ≤ closed
-      more voided void closed h e k = omega (arith, h, e, k)
+      closed_stands n (omega (arith, h, all.voided n, times_weaker (closes_void n) (closes n) (closed_first n) rows))
 
   once : (c : CallNow) → IsNow rows (calls_of rows) c → stands_once rows c ≡ true
   once c now =
@@ -266,10 +246,7 @@ module _ (rows : List Row) (numbers : CallsNumberedFrom 1 (calls_of rows)) (all 
           ∙ ap one_of (found_any (λ (x : CallNow). nat_eq x.opened.call.0 c.opened.call.0) (λ (x : CallNow). nat_eq x.opened.call.0 c.opened.call.0) (calls_of rows) c now.stands (same_number c.opened.call.0))
 
       few : times (closes c.opened.call.0) rows ≤ 1
-      few = at_most (times (closes c.opened.call.0) rows) (asked_at (calls_of rows) c.opened.call.0) (times (opens c.opened.call.0) rows) (all.counted c.opened.call.0) one
-        where
-          at_most : (closed asked opened : ℕ) → closed + asked ≡ opened → opened ≡ 1 → closed ≤ 1
-          at_most closed asked opened h e = omega (arith, h, e)
+      few = omega (arith, all.counted c.opened.call.0, one)
 
       as_told : times (closes_void c.opened.call.0) rows ≡ one_of (is_void c.how)
       as_told = void_times c.opened.call.0 rows few ∙ ap (λ (how : Option How). one_of (is_void how)) now.closed

@@ -46,25 +46,20 @@ record IsEndedOnce (rs : List Record) (s : CoreState) : Type 0 where
 once_more : (rs : List Record) (r : Record) (token : List ℕ) → IsNewEvent (core_of rs) r.input → IsEndedOnce rs (core_of rs)
     → ends_left (step core_keeper (core_of rs) r).world.holdings.txns token + times (ends_txn token) (history_of (rs ++ r ∷ [])).rows ≤ 1
 once_more rs r token new h =
-    sum (ends_left (step core_keeper (core_of rs) r).world.holdings.txns token) (times (ends_txn token) (history_of (rs ++ r ∷ [])).rows)
-    (ends_left (core_of rs).holdings.txns token) (times (ends_txn token) (history_of rs).rows) (ended_times token (step core_keeper (core_of rs) r).entries)
-    (next_times (ends_txn token) rs r ∙ ap (λ (n : ℕ). times (ends_txn token) (history_of rs).rows + n) (same_ends token (step core_keeper (core_of rs) r).entries))
-    (step_left (core_of rs) r token new h.holds.well h.holds.held)
-    (h.once token)
-  where
-    sum : (after all left rows more : ℕ) → all ≡ rows + more → after + more ≤ left → left + rows ≤ 1 → after + all ≤ 1
-    sum after all left rows more e h k = omega (arith, e, h, k)
+    omega (
+      arith,
+      next_times (ends_txn token) rs r ∙ ap (λ (n : ℕ). times (ends_txn token) (history_of rs).rows + n) (same_ends token (step core_keeper (core_of rs) r).entries),
+      step_left (core_of rs) r token new h.holds.well h.holds.held,
+      h.once token,
+    )
 
 ended_once : (rs : List Record) → IsLegal rs → IsEndedOnce rs (core_of rs)
 ended_once rs legal =
-    legal_induction IsEndedOnce (record { holds = record { well = nothing_well; held = nothing_held }; once = λ token. none })
+    legal_induction IsEndedOnce (record { holds = record { well = nothing_well; held = nothing_held }; once = λ token. omega arith })
     (λ rs r new h. record {
       holds = record { well = step_well (core_of rs) r new h.holds.well; held = step_held (core_of rs) r new h.holds.well h.holds.held };
       once = λ token. once_more rs r token new h;
     }) rs legal
-  where
-    none : 1 + 0 ≤ 1
-    none = omega arith
 
 -- each transaction stands under its own token ----
 

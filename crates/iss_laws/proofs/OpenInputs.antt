@@ -4,7 +4,7 @@ use Rattle.std.proofs.Common.{◌≡◌, ℕ, pos, neg_ℤ, ◌+ℤ◌, ◌-◌,
 use Rattle.std.proofs.lemmas.Bool.{and_parts}
 use Rattle.std.proofs.lemmas.Bool.Decides.{nat_tests}
 use Rattle.std.proofs.lemmas.Int.{ints}
-use Rattle.std.specs.Prelude.{◌≤ℤ◌, nat_lt, Option, Some, None, is_some, option_map}
+use Rattle.std.specs.Prelude.{nat_lt, Option, Some, None, is_some, option_map}
 use Rattle.std.specs.Option.{option_or}
 use Rattle.std.specs.Str.{bytes_eq}
 use Rattle.iss_model.specs.declared.account.Account.TheVariants as account
@@ -38,8 +38,6 @@ use Rattle.iss_state.proofs.docket.Lists.{Each, each_weaker, inside}
 use Rattle.iss_state.specs.Pending.{HasTakenUp}
 use Rattle.iss_state.proofs.calls.Due.{its_token}
 use Rattle.iss_state.specs.Holdings.{BegunBy, IsHeldWell}
-use Rattle.iss_model.specs.declared.account.Account.TheVariants as account
-use Rattle.iss_model.specs.declared.account.Part.TheVariants as part
 use Rattle.iss_model.specs.rules.Acts.{Abandons, Act, Asks, Begins, Clears, Fails, Funds, FundsPart, GivesBack, HoldsOwn, LetsGo, Refuses, StandsIn, TurnsDown, Uses, act_entries}
 use Rattle.iss_acts.specs.Causes.{Cause, ComesOf, FallsDue}
 use Rattle.iss_acts.specs.Sources.{IsAskedCall, IsFirstAsk, IsFundedPart, IsFurtherAsk, IsMade, IsStart, IsTxnOf}
@@ -158,27 +156,18 @@ module _ (k : Counting) (counting : IsCounting k) (last : ℕ) (by : Cause) (at 
   abbrev Spends : Stage → CoreState → Act → Type 0
   Spends g q a = Within k q (act_entries a) (pos (budget k g) +ℤ neg_ℤ (pos (budget k (stage_after g a))))
 
-  spare : (n : ℕ) → pos 0 ≤ℤ (pos n +ℤ neg_ℤ (pos 0))
-  spare n = omega (arith, ints)
-
   -- entries that open no more than they count
   paid : (g : Stage) (q : CoreState) (es : List Entry) → Pays k q es → Within k q es (pos (budget k g) +ℤ neg_ℤ (pos 0))
-  paid g q es pays = weaker k q es (pos 0) (pos (budget k g) +ℤ neg_ℤ (pos 0)) (spare (budget k g)) pays
+  paid g q es pays = weaker k q es (pos 0) (pos (budget k g) +ℤ neg_ℤ (pos 0)) (omega (arith, ints)) pays
 
   -- entries that count what the next stage may open
   counted : (g : Stage) (q : CoreState) (es : List Entry) (n : ℕ) → Within k q es (neg_ℤ (pos n)) → Within k q es (pos (budget k g) +ℤ neg_ℤ (pos n))
-  counted g q es n h = weaker k q es (neg_ℤ (pos n)) (pos (budget k g) +ℤ neg_ℤ (pos n)) (more (budget k g) n) h
-    where
-      more : (m n : ℕ) → neg_ℤ (pos n) ≤ℤ (pos m +ℤ neg_ℤ (pos n))
-      more m n = omega (arith, ints)
+  counted g q es n h = weaker k q es (neg_ℤ (pos n)) (pos (budget k g) +ℤ neg_ℤ (pos n)) (omega (arith, ints)) h
 
   -- entries that open what an ask may
   settled : (g : Stage) (q : CoreState) (es : List Entry) (ask : Ask) → g ≡ Seeks ask → Within k q es (pos (opens k ask)) → Within k q es (pos (budget k g) +ℤ neg_ℤ (pos 0))
   settled g q es ask e h =
-      subst (λ (g : Stage). Within k q es (pos (budget k g) +ℤ neg_ℤ (pos 0))) (sym e) (weaker k q es (pos (opens k ask)) (pos (opens k ask) +ℤ neg_ℤ (pos 0)) (same (opens k ask)) h)
-    where
-      same : (n : ℕ) → pos n ≤ℤ (pos n +ℤ neg_ℤ (pos 0))
-      same n = omega (arith, ints)
+      subst (λ (g : Stage). Within k q es (pos (budget k g) +ℤ neg_ℤ (pos 0))) (sym e) (weaker k q es (pos (opens k ask)) (pos (opens k ask) +ℤ neg_ℤ (pos 0)) (omega (arith, ints)) h)
 
   -- what a call may open is freed if it is closed, and opened by what settles its ask
   closed : (o : Opened) (t : Txn) (w : How) → IsAskedCall (core_facts s) o t → Within k s (entry.Closed o.call w ∷ []) (neg_ℤ (pos (opens k (call_ask o t))))
@@ -189,11 +178,8 @@ module _ (k : Counting) (counting : IsCounting k) (last : ℕ) (by : Cause) (at 
 
   answered : (o : Opened) (t : Txn) (w : How) (es : List Entry) → IsAskedCall (core_facts s) o t → Within k (after_entry s (entry.Closed o.call w)) es (pos (opens k (call_ask o t))) → Pays k s (entry.Closed o.call w ∷ es)
   answered o t w es asked h =
-      weaker k s (entry.Closed o.call w ∷ es) (neg_ℤ (pos (opens k (call_ask o t))) +ℤ pos (opens k (call_ask o t))) (pos 0) (even (opens k (call_ask o t)))
+      weaker k s (entry.Closed o.call w ∷ es) (neg_ℤ (pos (opens k (call_ask o t))) +ℤ pos (opens k (call_ask o t))) (pos 0) (omega (arith, ints))
       (both_within k s (entry.Closed o.call w ∷ []) es (neg_ℤ (pos (opens k (call_ask o t)))) (pos (opens k (call_ask o t))) (closed o t w asked) h)
-    where
-      even : (n : ℕ) → (neg_ℤ (pos n) +ℤ pos n) ≤ℤ pos 0
-      even n = omega (arith, ints)
 
   -- the stamp of an ask counts if its transaction's does
   first_counts : (ask : Ask) → IsFirstAsk (core_facts s) by at ask → k.counts_at ask.txn ask.txn.at ≡ true → k.counts_at ask.txn ask.at ≡ true
@@ -201,29 +187,21 @@ module _ (k : Counting) (counting : IsCounting k) (last : ℕ) (by : Cause) (at 
       let f : Facts = core_facts s in
       let begun : ask.txn.at ≡ at = authorization_stamp f first.token first.card first.currency first.amount first.mcc first.mid first.partial at ask first.made in
       let stamp : ask.at ≡ at = ask_stamp first.token first.amount first.partial at (txn_asked f first.token first.card first.currency first.mcc first.mid at) ask first.made in
-      timely.on _ first.its_input ask.txn ask.txn.at ask.at counts (same ask.txn.at ask.at (begun ∙ sym stamp)) (subst (λ (n : ℕ). n ≤ last) (sym stamp) (timely.by_last _ first.its_input))
-    where
-      same : (a b : ℕ) → a ≡ b → a ≤ b
-      same a b e = omega (arith, e)
+      timely.on _ first.its_input ask.txn ask.txn.at ask.at counts (omega (arith, begun ∙ sym stamp)) (subst (λ (n : ℕ). n ≤ last) (sym stamp) (timely.by_last _ first.its_input))
 
   further_counts : (ask : Ask) → IsFurtherAsk (core_facts s) by at ask → k.counts_at ask.txn ask.txn.at ≡ true → k.counts_at ask.txn ask.at ≡ true
   further_counts ask more =
       subst (λ (ask : Ask). k.counts_at ask.txn ask.txn.at ≡ true → k.counts_at ask.txn ask.at ≡ true) (sym more.made)
-      (λ counts. timely.on _ more.its_input more.now.txn more.now.txn.at at counts (chain more.now.txn.at s.now at (timely.begun _ more.its_input more.txn more.now more.stands) (timely.early _ more.its_input)) (timely.by_last _ more.its_input))
-    where
-      chain : (a b c : ℕ) → a ≤ b → b ≤ c → a ≤ c
-      chain a b c h k = omega (arith, h, k)
+      (λ counts. timely.on _ more.its_input more.now.txn more.now.txn.at at counts (omega (arith, timely.begun _ more.its_input more.txn more.now more.stands, timely.early _ more.its_input))
+      (timely.by_last _ more.its_input))
 
   act_within : (g : Stage) (q : CoreState) (a : Act) → IsMade (core_facts s) by at g a → IsKnown s g q → Spends g q a
   act_within g q (Begins ask) made known =
       subst (λ (q : CoreState). Spends g q (Begins ask)) (sym (known_at q made.from.0 known)) (counted g s (act_entries (Begins ask)) (opens k ask) begun)
     where
-      none_before : (n : ℕ) → (pos 0 +ℤ neg_ℤ (pos n)) ≤ℤ neg_ℤ (pos n)
-      none_before n = omega (arith, ints)
-
       begun : Within k s (act_entries (Begins ask)) (neg_ℤ (pos (opens k ask)))
       begun =
-          weaker k s (act_entries (Begins ask)) (pos 0 +ℤ neg_ℤ (pos (opens k ask))) (neg_ℤ (pos (opens k ask))) (none_before (opens k ask))
+          weaker k s (act_entries (Begins ask)) (pos 0 +ℤ neg_ℤ (pos (opens k ask))) (neg_ℤ (pos (opens k ask))) (omega (arith, ints))
           (both_within k s (entry.Began ask.txn ∷ []) (entry.Usage (ask_usage ask) ∷ []) (pos 0) (neg_ℤ (pos (opens k ask)))
           (begin_pays k counting s ask.txn (timely.ready.held.ended ask.txn.token (not_live (txn_named ask.txn.token s.holdings.txns) (first_unnamed s ask timely.ready.taken made.from.1)))
           (calls_of_these timely.ready.known s timely.ready.well))
@@ -246,12 +224,9 @@ module _ (k : Counting) (counting : IsCounting k) (last : ℕ) (by : Cause) (at 
   act_within g q (Fails number o t why) made known =
       subst (λ (q : CoreState). Spends g q (Fails number o t why)) (sym (known_at q made.from.0 known)) (counted g s (act_entries (Fails number o t why)) (opens k (call_ask o t)) failed)
     where
-      none_behind : (n : ℕ) → (neg_ℤ (pos n) +ℤ pos 0) ≤ℤ neg_ℤ (pos n)
-      none_behind n = omega (arith, ints)
-
       failed : Within k s (act_entries (Fails number o t why)) (neg_ℤ (pos (opens k (call_ask o t))))
       failed =
-          weaker k s (act_entries (Fails number o t why)) (neg_ℤ (pos (opens k (call_ask o t))) +ℤ pos 0) (neg_ℤ (pos (opens k (call_ask o t)))) (none_behind (opens k (call_ask o t)))
+          weaker k s (act_entries (Fails number o t why)) (neg_ℤ (pos (opens k (call_ask o t))) +ℤ pos 0) (neg_ℤ (pos (opens k (call_ask o t)))) (omega (arith, ints))
           (both_within k s (entry.Closed o.call (how.Failed why) ∷ []) (void_entry number t o ∷ []) (neg_ℤ (pos (opens k (call_ask o t)))) (pos 0) (closed o t (how.Failed why) made.from.1)
           (free_pays k counting _ (void_entry number t o ∷ []) (one_passes refl)))
   act_within g q (StandsIn number ask when set) made known =
@@ -269,11 +244,12 @@ module _ (k : Counting) (counting : IsCounting k) (last : ℕ) (by : Cause) (at 
       (subst (λ (calls : List CallNow). Pays k q (abandoned_calls_entries number t why calls)) (sym made.from.2)
       (abandonment_pays k counting q number t why s.calls there.2 timely.ready.well.calls.numbers there.0))
   act_within g q (LetsGo t parts amount) made known =
-      let there = known_at q made.from.0 known in paid g q (release_entries t parts amount) (release_pays k counting q t parts amount there.0 made.from.3 there.1)
+      let there = known_at q made.from.0 known in paid g q (release_entries t parts amount) (release_pays k counting q t there.0 parts amount made.from.3 there.1)
   act_within g q (Clears t parts amount when) made known =
       let same : q ≡ s = known_at q made.from.0 known in
       paid g q (act_entries (Clears t parts amount when))
-      (clearing_pays k counting q t parts amount when (subst (λ (q : CoreState). Knows q.holdings.txns t) (sym same) (knows_of_facts s t own_tokens made.from.1)) (cleared_parts q t parts same made.from.2))
+      (clearing_pays k counting q t (subst (λ (q : CoreState). Knows q.holdings.txns t) (sym same) (knows_of_facts s t own_tokens made.from.1)) parts amount when
+      (cleared_parts q t parts same made.from.2))
   act_within g q (GivesBack t amount programme) made known =
       paid g q (act_entries (GivesBack t amount programme))
       (free_pays k counting q (act_entries (GivesBack t amount programme))
@@ -284,19 +260,13 @@ module _ (k : Counting) (counting : IsCounting k) (last : ℕ) (by : Cause) (at 
   all_within : Goes (fold after_entry) (core_facts s) by at (IsKnown s) (λ g q es. Within k q es (pos (budget k g)))
   all_within =
       record {
-        none = λ g q known. weaker k q [] (pos 0) (pos (budget k g)) (low (budget k g)) (free_pays k counting q [] (passing refl));
+        none = λ g q known. weaker k q [] (pos 0) (pos (budget k g)) (omega (arith, ints)) (free_pays k counting q [] (passing refl));
         next = known_next;
         then = λ g q a es made known rest.
             let n : ℕ = budget k (stage_after g a) in
-            weaker k q (act_entries a ++ es) ((pos (budget k g) +ℤ neg_ℤ (pos n)) +ℤ pos n) (pos (budget k g)) (even (budget k g) n)
+            weaker k q (act_entries a ++ es) ((pos (budget k g) +ℤ neg_ℤ (pos n)) +ℤ pos n) (pos (budget k g)) (omega (arith, ints))
             (both_within k q (act_entries a) es (pos (budget k g) +ℤ neg_ℤ (pos n)) (pos n) (act_within g q a made known) rest);
       }
-    where
-      low : (n : ℕ) → pos 0 ≤ℤ pos n
-      low n = omega (arith, ints)
-
-      even : (m n : ℕ) → ((pos m +ℤ neg_ℤ (pos n)) +ℤ pos n) ≤ℤ pos m
-      even m n = omega (arith, ints)
 
   start_known : (g : Stage) → IsStart (core_facts s) g → IsKnown s g s
   start_known = from_start (λ g. IsKnown s g s) refl (λ t its. (knows_of_facts s t own_tokens its, its_parts s t timely.ready.held, refl))

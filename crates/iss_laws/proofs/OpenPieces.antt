@@ -54,144 +54,104 @@ silent_calls s es h = ap (λ (d : Docket). d.calls) (comes_to s es [] h.none)
 
 -- letting go ----
 
--- entries that leave a transaction these parts, within a budget, and put nothing on the docket
-record Frees (k : Counting) (s : CoreState) (t : Txn) (es : List Entry) (x : Parts) (more : ℤ) : Type 0 where
-  leaves : Leaves s es t.token x
-  within : Within k s es more
-  quiet : AreSilent es
-
-frees_then : (k : Counting) (s : CoreState) (t : Txn) (xs ys : List Entry) (x y : Parts) (a b : ℤ) → Frees k s t xs x a → Frees k (fold after_entry s xs) t ys y b → Frees k s t (xs ++ ys) y (a +ℤ b)
-frees_then k s t xs ys x y a b h l =
-    record { leaves = then_leaves s xs ys t.token x y h.leaves l.leaves; within = both_within k s xs ys a b h.within l.within; quiet = both_silent h.quiet l.quiet }
-
-frees_post : (k : Counting) → IsCounting k → (s : CoreState) (t : Txn) (from to : Account) (n : ℕ) (x : Parts) → HoldsJust s.holdings.parts t.token x
-    → Frees k s t (post_entries t from to n) x (pos 0)
-frees_post k counting s t from to n x just =
-    record {
-      leaves = calm_leaves s (post_entries t from to n) t.token x (post_calm t from to n) just;
-      within = free_pays k counting s (post_entries t from to n) (post_free t from to n);
-      quiet = post_silent t from to n;
-    }
-
-held_amount : (s : CoreState) (t : Txn) (p : Part) (x : Parts) → HoldsJust s.holdings.parts t.token x → part_held s.holdings.parts t.token p ≡ amount_of p x
-held_amount s t p x just = ap not_below (its_amount s.holdings.parts t.token p x just)
-
-frees_part : (k : Counting) → IsCounting k → (s : CoreState) (t : Txn) (p : Part) (n : ℕ) (x : Parts) → Knows s.holdings.txns t → n ≤ amount_of p x → HoldsJust s.holdings.parts t.token x
-    → Frees k s t (unhold_entries t p n) (without p n x) (neg_ℤ (pos (cond (holds_there k t) n 0)))
-frees_part k counting s t p n x knows le just =
-    record {
-      leaves = let_go s t p n x le just;
-      within = unhold_within k counting s t p n knows (subst (λ (m : ℕ). n ≤ m) (sym (held_amount s t p x just)) le);
-      quiet = where_silent n (silent refl);
-    }
-
 min_low : (a b : ℕ) → min a b ≤ b
 min_low a b = omega arith
 
--- what a sum of three parts frees
-freed_in_all : (b : Bool) (x y z n : ℕ) → x + y + z ≡ n
-    → ((((neg_ℤ (pos (cond b x 0)) +ℤ pos 0) +ℤ neg_ℤ (pos (cond b y 0))) +ℤ pos 0) +ℤ neg_ℤ (pos (cond b z 0))) ≤ℤ neg_ℤ (pos (cond b n 0))
-freed_in_all true x y z n e = omega (arith, ints, e)
-freed_in_all false x y z n e = omega (arith, ints)
+module _ (k : Counting) (counting : IsCounting k) (s : CoreState) (t : Txn) (knows : Knows s.holdings.txns t) where
+  -- entries that leave a transaction these parts, within a budget, and put nothing on the docket
+  record Frees (es : List Entry) (x : Parts) (more : ℤ) : Type 0 where
+    leaves : Leaves s es t.token x
+    within : Within k s es more
+    quiet : AreSilent es
 
--- the use that is returned
-returned_within : (k : Counting) → IsCounting k → (s : CoreState) (t : Txn) (n : ℕ) → Within k s (use_return_entries t n) (pos (cond (holds_there k t) n 0))
-returned_within k counting s t n = by (nat_eq n 0)
-  where
-    given : (m c : Bool) (n : ℕ) → neg_ℤ (cond c (cond m (neg_ℤ (pos n)) (pos 0)) (pos 0)) ≤ℤ pos (cond (m && c) n 0)
-    given true true n = omega (arith, ints)
-    given true false n = omega (arith, ints)
-    given false true n = omega (arith, ints)
-    given false false n = omega (arith, ints)
+  nothing_freed : (x : Parts) → HoldsJust s.holdings.parts t.token x → Frees [] x (pos 0)
+  nothing_freed x just = record { leaves = record { keeps = tt; just = just }; within = free_pays k counting s [] (passing refl); quiet = silent refl }
 
-    by : (b : Bool) → Within k s (cond b [] (entry.Usage (usage_of t (neg_ℤ (pos n)) (pos 0) t.at) ∷ [])) (pos (cond (holds_there k t) n 0))
-    by true = weaker k s [] (pos 0) (pos (cond (holds_there k t) n 0)) (low (cond (holds_there k t) n 0)) (free_pays k counting s [] (passing refl))
-      where
-        low : (n : ℕ) → pos 0 ≤ℤ pos n
-        low n = omega (arith, ints)
-    by false =
-        weaker k s (entry.Usage (usage_of t (neg_ℤ (pos n)) (pos 0) t.at) ∷ []) (neg_ℤ (cond (k.counts_at t t.at) (cond k.by_amount (neg_ℤ (pos n)) (pos 0)) (pos 0))) (pos (cond (holds_there k t) n 0))
-        (given k.by_amount (k.counts_at t t.at) n) (usage_within k counting s t (neg_ℤ (pos n)) (pos 0) t.at)
+  -- a part is let go after others
+  frees_part : (xs : List Entry) (p : Part) (n : ℕ) (x : Parts) (a : ℤ) → Frees xs x a → n ≤ amount_of p x
+      → Frees (xs ++ unhold_entries t p n) (without p n x) (a +ℤ neg_ℤ (pos (cond (holds_there k t) n 0)))
+  frees_part xs p n x a first le =
+      let q : CoreState = fold after_entry s xs in
+      let there : n ≤ part_held q.holdings.parts t.token p = subst (λ (m : ℕ). n ≤ m) (sym (ap not_below (its_amount q.holdings.parts t.token p x first.leaves.just))) le in
+      record {
+        leaves = then_leaves s xs (unhold_entries t p n) t.token x (without p n x) first.leaves (let_go q t p n x le first.leaves.just);
+        within = both_within k s xs (unhold_entries t p n) a (neg_ℤ (pos (cond (holds_there k t) n 0))) first.within
+            (unhold_within k counting q t p n (knows_after s xs t (silent_txns s xs first.quiet) knows) there);
+        quiet = both_silent first.quiet (where_silent n (silent refl));
+      }
 
-pub release_pays : (k : Counting) → IsCounting k → (s : CoreState) (t : Txn) (x : Parts) (amount : ℕ) → Knows s.holdings.txns t → amount ≤ in_all x → HoldsJust s.holdings.parts t.token x
-    → Pays k s (release_entries t x amount)
-release_pays k counting s t x amount knows le just =
-    let taken : Parts = taken_to_release x amount in
-    let h : Bool = holds_there k t in
-    let one : Parts = without part.P taken.p x in
-    let two : Parts = without part.G taken.g one in
-    let three : Parts = without part.S taken.s two in
-    let a : List Entry = unhold_entries t part.P taken.p in
-    let b : List Entry = post_entries t (user_account t) (account.Programme t.currency) taken.p in
-    let c : List Entry = unhold_entries t part.G taken.g in
-    let d : List Entry = post_entries t (user_account t) (account.Gateway t.currency) taken.g in
-    let e : List Entry = unhold_entries t part.S taken.s in
-    let first = frees_part k counting s t part.P taken.p x knows (min_low amount x.p) just in
-    let second = frees_then k s t a b one one _ _ first (frees_post k counting (fold after_entry s a) t (user_account t) (account.Programme t.currency) taken.p one first.leaves.just) in
-    let third = frees_then k s t (a ++ b) c one two _ _ second
-    (frees_part k counting (fold after_entry s (a ++ b)) t part.G taken.g one (knows_after s (a ++ b) t (silent_txns s (a ++ b) second.quiet) knows) (min_low (amount - taken.p) x.g) second.leaves.just)
-    in
-    let fourth = frees_then k s t (a ++ b ++ c) d two two _ _ third (frees_post k counting (fold after_entry s (a ++ b ++ c)) t (user_account t) (account.Gateway t.currency) taken.g two third.leaves.just) in
-    let fifth = frees_then k s t (a ++ b ++ c ++ d) e two three _ _ fourth
-    (frees_part k counting (fold after_entry s (a ++ b ++ c ++ d)) t part.S taken.s two (knows_after s (a ++ b ++ c ++ d) t (silent_txns s (a ++ b ++ c ++ d) fourth.quiet) knows)
-    (min_low (amount - taken.p - taken.g) x.s) fourth.leaves.just)
-    in
-    weaker k s (a ++ b ++ c ++ d ++ e ++ use_return_entries t amount) (neg_ℤ (pos (cond h amount 0)) +ℤ pos (cond h amount 0)) (pos 0) (nothing (cond h amount 0))
-    (both_within k s (a ++ b ++ c ++ d ++ e) (use_return_entries t amount) (neg_ℤ (pos (cond h amount 0))) (pos (cond h amount 0))
-    (weaker k s (a ++ b ++ c ++ d ++ e) _ (neg_ℤ (pos (cond h amount 0))) (freed_in_all h taken.p taken.g taken.s amount (all_taken x.g x.p x.s amount le)) fifth.within)
-    (returned_within k counting (fold after_entry s (a ++ b ++ c ++ d ++ e)) t amount))
-  where
-    nothing : (n : ℕ) → (neg_ℤ (pos n) +ℤ pos n) ≤ℤ pos 0
-    nothing n = omega (arith, ints)
+  -- and a post follows
+  frees_post : (xs : List Entry) (from to : Account) (n : ℕ) (x : Parts) (a : ℤ) → Frees xs x a → Frees (xs ++ post_entries t from to n) x (a +ℤ pos 0)
+  frees_post xs from to n x a first =
+      let post : List Entry = post_entries t from to n in
+      record {
+        leaves = then_leaves s xs post t.token x x first.leaves (calm_leaves (fold after_entry s xs) post t.token x (post_calm t from to n) first.leaves.just);
+        within = both_within k s xs post a (pos 0) first.within (free_pays k counting (fold after_entry s xs) post (post_free t from to n));
+        quiet = both_silent first.quiet (post_silent t from to n);
+      }
 
-    all_taken : (g p s n : ℕ) → n ≤ g + p + s → min n p + min (n - min n p) g + min (n - min n p - min (n - min n p) g) s ≡ n
-    all_taken g p s n le = omega (arith, le)
+  -- use of an amount, if there is any
+  some_use : (q : CoreState) (n at : ℕ) (z more : ℤ) → pos 0 ≤ℤ more → neg_ℤ (cond (k.counts_at t at) (cond k.by_amount z (pos 0)) (pos 0)) ≤ℤ more
+      → Within k q (only_where n (entry.Usage (usage_of t z (pos 0) at) ∷ [])) more
+  some_use q n at z more low counted = by (nat_eq n 0)
+    where
+      by : (b : Bool) → Within k q (cond b [] (entry.Usage (usage_of t z (pos 0) at) ∷ [])) more
+      by true = weaker k q [] (pos 0) more low (free_pays k counting q [] (passing refl))
+      by false =
+          weaker k q (entry.Usage (usage_of t z (pos 0) at) ∷ []) (neg_ℤ (cond (k.counts_at t at) (cond k.by_amount z (pos 0)) (pos 0))) more counted (usage_within k counting q t z (pos 0) at)
 
-pub clearing_pays : (k : Counting) → IsCounting k → (s : CoreState) (t : Txn) (x : Parts) (amount at : ℕ) → Knows s.holdings.txns t → HoldsJust s.holdings.parts t.token x
-    → Pays k s (clearing_money_entries t (taken_to_clear x amount) amount at)
-clearing_pays k counting s t x amount at knows just =
-    let taken : Parts = taken_to_clear x amount in
-    let excess : ℕ = amount - in_all taken in
-    let h : Bool = holds_there k t in
-    let one : Parts = without part.G taken.g x in
-    let two : Parts = without part.P taken.p one in
-    let a : List Entry = unhold_entries t part.G taken.g in
-    let b : List Entry = unhold_entries t part.P taken.p in
-    let c : List Entry = unhold_entries t part.S taken.s in
-    let d : List Entry = only_gateway t (post_entries t (account.Programme t.currency) (user_account t) excess) in
-    let e : List Entry = post_entries t (user_account t) (account.Network t.currency) amount in
-    let u : List Entry = only_where excess (entry.Usage (usage_of t (pos excess) (pos 0) at) ∷ []) in
-    let first = frees_part k counting s t part.G taken.g x knows (min_low amount x.g) just in
-    let second = frees_then k s t a b one two _ _ first
-    (frees_part k counting (fold after_entry s a) t part.P taken.p one (knows_after s a t (silent_txns s a first.quiet) knows) (min_low (amount - taken.g) x.p) first.leaves.just)
-    in
-    let third = frees_then k s t (a ++ b) c two (without part.S taken.s two) _ _ second
-    (frees_part k counting (fold after_entry s (a ++ b)) t part.S taken.s two (knows_after s (a ++ b) t (silent_txns s (a ++ b) second.quiet) knows) (min_low (amount - taken.g - taken.p) x.s) second.leaves.just)
-    in
-    both_pay k s (a ++ b ++ c ++ d ++ e) u
-    (both_pay k s (a ++ b ++ c ++ d) e
-    (both_pay k s (a ++ b ++ c) d
-    (weaker k s (a ++ b ++ c) _ (pos 0) (less (cond h taken.g 0) (cond h taken.p 0) (cond h taken.s 0)) third.within)
-    (free_pays k counting (fold after_entry s (a ++ b ++ c)) d (gateway_passes t (post_free t (account.Programme t.currency) (user_account t) excess))))
-    (free_pays k counting (fold after_entry s (a ++ b ++ c ++ d)) e (post_free t (user_account t) (account.Network t.currency) amount)))
-    (more_used (fold after_entry s (a ++ b ++ c ++ d ++ e)) excess)
-  where
-    less : (x y z : ℕ) → ((neg_ℤ (pos x) +ℤ neg_ℤ (pos y)) +ℤ neg_ℤ (pos z)) ≤ℤ pos 0
-    less x y z = omega (arith, ints)
+  pub release_pays : (x : Parts) (amount : ℕ) → amount ≤ in_all x → HoldsJust s.holdings.parts t.token x → Pays k s (release_entries t x amount)
+  release_pays x amount le just =
+      let taken : Parts = taken_to_release x amount in
+      let one : Parts = without part.P taken.p x in
+      let two : Parts = without part.G taken.g one in
+      let n : ℕ = cond (holds_there k t) amount 0 in
+      let first = frees_post _ (user_account t) (account.Programme t.currency) taken.p one _ (frees_part [] part.P taken.p x (pos 0) (nothing_freed x just) (min_low amount x.p)) in
+      let second = frees_post _ (user_account t) (account.Gateway t.currency) taken.g two _ (frees_part _ part.G taken.g one _ first (min_low (amount - taken.p) x.g)) in
+      let third = frees_part _ part.S taken.s two _ second (min_low (amount - taken.p - taken.g) x.s) in
+      weaker k s (release_entries t x amount) (neg_ℤ (pos n) +ℤ pos n) (pos 0) (omega (arith, ints))
+      (both_within k s _ (use_return_entries t amount) (neg_ℤ (pos n)) (pos n)
+      (weaker k s _ _ (neg_ℤ (pos n)) (freed_in_all (holds_there k t) taken.p taken.g taken.s amount (omega (arith, le))) third.within)
+      (some_use _ amount t.at (neg_ℤ (pos amount)) (pos n) (omega (arith, ints)) (given k.by_amount (k.counts_at t t.at) amount)))
+    where
+      freed_in_all : (b : Bool) (x y z n : ℕ) → x + y + z ≡ n
+          → (((((pos 0 +ℤ neg_ℤ (pos (cond b x 0))) +ℤ pos 0) +ℤ neg_ℤ (pos (cond b y 0))) +ℤ pos 0) +ℤ neg_ℤ (pos (cond b z 0))) ≤ℤ neg_ℤ (pos (cond b n 0))
+      freed_in_all true x y z n e = omega (arith, ints, e)
+      freed_in_all false x y z n e = omega (arith, ints)
 
-    counted : (c m : Bool) (n : ℕ) → neg_ℤ (cond c (cond m (pos n) (pos 0)) (pos 0)) ≤ℤ pos 0
-    counted true true n = omega (arith, ints)
-    counted true false n = omega (arith, ints)
-    counted false m n = omega (arith, ints)
+      given : (m c : Bool) (n : ℕ) → neg_ℤ (cond c (cond m (neg_ℤ (pos n)) (pos 0)) (pos 0)) ≤ℤ pos (cond (m && c) n 0)
+      given true true n = omega (arith, ints)
+      given true false n = omega (arith, ints)
+      given false true n = omega (arith, ints)
+      given false false n = omega (arith, ints)
 
-    more_used : (q : CoreState) (n : ℕ) → Pays k q (only_where n (entry.Usage (usage_of t (pos n) (pos 0) at) ∷ []))
-    more_used q n = by (nat_eq n 0)
-      where
-        by : (b : Bool) → Pays k q (cond b [] (entry.Usage (usage_of t (pos n) (pos 0) at) ∷ []))
-        by true = free_pays k counting q [] (passing refl)
-        by false =
-            weaker k q (entry.Usage (usage_of t (pos n) (pos 0) at) ∷ []) (neg_ℤ (cond (k.counts_at t at) (cond k.by_amount (pos n) (pos 0)) (pos 0))) (pos 0)
-            (counted (k.counts_at t at) k.by_amount n) (usage_within k counting q t (pos n) (pos 0) at)
+  pub clearing_pays : (x : Parts) (amount at : ℕ) → HoldsJust s.holdings.parts t.token x → Pays k s (clearing_money_entries t (taken_to_clear x amount) amount at)
+  clearing_pays x amount at just =
+      let taken : Parts = taken_to_clear x amount in
+      let excess : ℕ = amount - in_all taken in
+      let one : Parts = without part.G taken.g x in
+      let two : Parts = without part.P taken.p one in
+      let abc : List Entry = unhold_entries t part.G taken.g ++ unhold_entries t part.P taken.p ++ unhold_entries t part.S taken.s in
+      let paid : List Entry = only_gateway t (post_entries t (account.Programme t.currency) (user_account t) excess) in
+      let network : List Entry = post_entries t (user_account t) (account.Network t.currency) amount in
+      let first = frees_part [] part.G taken.g x (pos 0) (nothing_freed x just) (min_low amount x.g) in
+      let second = frees_part _ part.P taken.p one _ first (min_low (amount - taken.g) x.p) in
+      let third = frees_part _ part.S taken.s two _ second (min_low (amount - taken.g - taken.p) x.s) in
+      both_pay k s (abc ++ paid ++ network) (only_where excess (entry.Usage (usage_of t (pos excess) (pos 0) at) ∷ []))
+      (both_pay k s (abc ++ paid) network
+      (both_pay k s abc paid
+      (weaker k s abc _ (pos 0) (omega (arith, ints)) third.within)
+      (free_pays k counting _ paid (gateway_passes t (post_free t (account.Programme t.currency) (user_account t) excess))))
+      (free_pays k counting _ network (post_free t (user_account t) (account.Network t.currency) amount)))
+      (some_use _ excess at (pos excess) (pos 0) none (counted (k.counts_at t at) k.by_amount excess))
+    where
+      none : pos 0 ≤ℤ pos 0
+      none = omega (arith, ints)
+
+      counted : (c m : Bool) (n : ℕ) → neg_ℤ (cond c (cond m (pos n) (pos 0)) (pos 0)) ≤ℤ pos 0
+      counted true true n = omega (arith, ints)
+      counted true false n = omega (arith, ints)
+      counted false m n = omega (arith, ints)
 
 -- calls are abandoned ----
 
@@ -204,33 +164,24 @@ later_asked : (n : ℕ) (how : How) (calls : List CallNow) (m : ℕ) (cs : List 
 later_asked n how calls m [] less grow asked = tt
 later_asked n how calls m (c ∷ cs) less grow asked = (
   asked_after calls n how c.opened.call.0 c asked.0 (differ n c.opened.call.0 m less grow.0),
-  later_asked n how calls (c.opened.call.0 + 1) cs (further n m c.opened.call.0 less grow.0) grow.1 asked.1,
+  later_asked n how calls (c.opened.call.0 + 1) cs (omega (arith, less, grow.0)) grow.1 asked.1,
 )
   where
     differ : (a b n : ℕ) → a + 1 ≤ n → n ≤ b → nat_eq a b ≡ false
     differ a b n h k = grind (arith, nat_tests)
-
-    further : (a n b : ℕ) → a + 1 ≤ n → n ≤ b → a + 1 ≤ b + 1
-    further a n b h k = omega (arith, h, k)
 
 -- what is returned with a call or an ask is what it may open
 given_back : (c y m f : Bool) (n : ℕ) → neg_ℤ (cond c (cond m (neg_ℤ (pos n)) (neg_ℤ (cond f (pos 1) (pos 0)))) (pos 0)) ≤ℤ pos (cond (c || y) (cond m n (cond f 1 0)) 0)
 given_back true y true f n = omega (arith, ints)
 given_back true y false true n = omega (arith, ints)
 given_back true y false false n = omega (arith, ints)
-given_back false y m f n = low (cond y (cond m n (cond f 1 0)) 0)
-  where
-    low : (n : ℕ) → neg_ℤ (pos 0) ≤ℤ pos n
-    low n = omega (arith, ints)
+given_back false y m f n = omega (arith, ints)
 
 pub given_back_within : (k : Counting) → IsCounting k → (s : CoreState) (ask : Ask) → Within k s (entry.Usage (ask_given_back ask) ∷ []) (pos (opens k ask))
 given_back_within k counting s ask =
     weaker k s (entry.Usage (ask_given_back ask) ∷ []) (neg_ℤ (cond (k.counts_at ask.txn ask.at) (cond k.by_amount (neg_ℤ (pos ask.amount)) (neg_ℤ (cond ask.is_first (pos 1) (pos 0)))) (pos 0))) (pos (opens k ask))
     (given_back (k.counts_at ask.txn ask.at) (k.counts_at ask.txn ask.txn.at) k.by_amount ask.is_first ask.amount)
     (usage_within k counting s ask.txn (neg_ℤ (pos ask.amount)) (neg_ℤ (cond ask.is_first (pos 1) (pos 0))) ask.at)
-
-even_out : (n : ℕ) → (((neg_ℤ (pos n) +ℤ pos 0) +ℤ pos n) +ℤ pos 0) ≤ℤ pos 0
-even_out n = omega (arith, ints)
 
 pub abandoned_pays : (k : Counting) → IsCounting k → (s : CoreState) (number : ℕ) (t : Txn) (why : Reason) (cs : List CallNow) (n : ℕ) → NumbersGrowFrom n cs → Each (AsksItself s.calls) cs
     → Each (λ c. c.opened.txn ≡ t.token) cs → Knows s.holdings.txns t → Pays k s (abandoned_calls_entries number t why cs)
@@ -246,12 +197,9 @@ abandoned_pays k counting s number t why (c ∷ cs) n grow asked its knows =
     let third = both_within k s (closed ++ told) back (neg_ℤ (pos amount) +ℤ pos 0) (pos amount) second (given_back_within k counting (fold after_entry s (closed ++ told)) (call_ask c.opened t)) in
     let fourth = both_within k s (closed ++ told ++ back) decided ((neg_ℤ (pos amount) +ℤ pos 0) +ℤ pos amount) (pos 0) third (free_pays k counting (fold after_entry s (closed ++ told ++ back)) decided (one_passes refl)) in
     both_pay k s (abandoned_call_entries number t why c.opened) (abandoned_calls_entries (number + 1) t why cs)
-    (weaker k s (abandoned_call_entries number t why c.opened) _ (pos 0) (even_out amount) fourth)
+    (weaker k s (abandoned_call_entries number t why c.opened) _ (pos 0) (omega (arith, ints)) fourth)
     (abandoned_pays k counting (fold after_entry s (abandoned_call_entries number t why c.opened)) (number + 1) t why cs (c.opened.call.0 + 1) grow.1
-    (later_asked c.opened.call.0 how.Abandoned s.calls (c.opened.call.0 + 1) cs (itself (c.opened.call.0 + 1)) grow.1 asked.1) its.1 knows)
-  where
-    itself : (n : ℕ) → n ≤ n
-    itself n = omega arith
+    (later_asked c.opened.call.0 how.Abandoned s.calls (c.opened.call.0 + 1) cs (omega arith) grow.1 asked.1) its.1 knows)
 
 pub abandoned_txns : (s : CoreState) (number : ℕ) (t : Txn) (why : Reason) (cs : List CallNow) → (fold after_entry s (abandoned_calls_entries number t why cs)).holdings.txns ≡ s.holdings.txns
 abandoned_txns s number t why cs = ap (λ (d : Docket). d.txns) (comes_to s (abandoned_calls_entries number t why cs) _ (abandoned_docketed number t why cs)) ∙ closings_txns why cs (docket_of s)
@@ -292,31 +240,20 @@ held_for k ask = by k.by_amount (k.counts_at ask.txn ask.txn.at) (k.counts_at as
     by : (m y x : Bool) (n z : ℕ) → pos (cond (m && y) n 0) ≤ℤ pos (cond (x || y) (cond m n z) 0)
     by true true true n z = omega (arith, ints)
     by true true false n z = omega (arith, ints)
-    by true false x n z = low (cond (x || false) n 0)
-      where
-        low : (n : ℕ) → pos 0 ≤ℤ pos n
-        low n = omega (arith, ints)
-    by false y x n z = low (cond (x || y) z 0)
-      where
-        low : (n : ℕ) → pos 0 ≤ℤ pos n
-        low n = omega (arith, ints)
+    by true false x n z = omega (arith, ints)
+    by false y x n z = omega (arith, ints)
 
 pub hold_for : (k : Counting) → IsCounting k → (s : CoreState) (ask : Ask) (p : Part) → Knows s.holdings.txns ask.txn → Within k s (hold_entries ask.txn p ask.amount) (pos (opens k ask))
 hold_for k counting s ask p knows =
     weaker k s (hold_entries ask.txn p ask.amount) (pos (cond (holds_there k ask.txn) ask.amount 0)) (pos (opens k ask)) (held_for k ask) (hold_within k counting s ask.txn p ask.amount knows)
 
-none_first : (n : ℕ) → (pos 0 +ℤ pos n) ≤ℤ pos n
-none_first n = omega (arith, ints)
-
-none_last : (n : ℕ) → (pos n +ℤ pos 0) ≤ℤ pos n
-none_last n = omega (arith, ints)
-
 -- free entries before, and after
 pub free_first : (k : Counting) → IsCounting k → (s : CoreState) (xs ys : List Entry) (n : ℕ) → EachPasses is_free xs → Within k (fold after_entry s xs) ys (pos n) → Within k s (xs ++ ys) (pos n)
-free_first k counting s xs ys n free h = weaker k s (xs ++ ys) (pos 0 +ℤ pos n) (pos n) (none_first n) (both_within k s xs ys (pos 0) (pos n) (free_pays k counting s xs free) h)
+free_first k counting s xs ys n free h = weaker k s (xs ++ ys) (pos 0 +ℤ pos n) (pos n) (omega (arith, ints)) (both_within k s xs ys (pos 0) (pos n) (free_pays k counting s xs free) h)
 
 pub free_last : (k : Counting) → IsCounting k → (s : CoreState) (xs ys : List Entry) (n : ℕ) → Within k s xs (pos n) → EachPasses is_free ys → Within k s (xs ++ ys) (pos n)
-free_last k counting s xs ys n h free = weaker k s (xs ++ ys) (pos n +ℤ pos 0) (pos n) (none_last n) (both_within k s xs ys (pos n) (pos 0) h (free_pays k counting (fold after_entry s xs) ys free))
+free_last k counting s xs ys n h free =
+    weaker k s (xs ++ ys) (pos n +ℤ pos 0) (pos n) (omega (arith, ints)) (both_within k s xs ys (pos n) (pos 0) h (free_pays k counting (fold after_entry s xs) ys free))
 
 pub paid_within : (k : Counting) → IsCounting k → (s : CoreState) (ask : Ask) (from : Account) (p : Part) → Knows s.holdings.txns ask.txn
     → Within k s (post_entries ask.txn from (user_account ask.txn) ask.amount ++ hold_entries ask.txn p ask.amount) (pos (opens k ask))
@@ -390,8 +327,5 @@ pub ask_within : (k : Counting) → IsCounting k → (s : CoreState) (ask : Ask)
 ask_within k counting s ask later =
     let counted : ℤ = cond (k.counts_at ask.txn ask.at) (cond k.by_amount (pos ask.amount) (cond ask.is_first (pos 1) (pos 0))) (pos 0) in
     weaker k s (entry.Usage (ask_usage ask) ∷ []) (neg_ℤ counted) (neg_ℤ (pos (opens k ask)))
-    (moved (neg_ℤ counted) (opens k ask) (asked_enough (k.counts_at ask.txn ask.at) (k.counts_at ask.txn ask.txn.at) k.by_amount ask.is_first ask.amount later))
+    (omega (arith, ints, asked_enough (k.counts_at ask.txn ask.at) (k.counts_at ask.txn ask.txn.at) k.by_amount ask.is_first ask.amount later))
     (usage_within k counting s ask.txn (pos ask.amount) (cond ask.is_first (pos 1) (pos 0)) ask.at)
-  where
-    moved : (z : ℤ) (n : ℕ) → (z +ℤ pos n) ≤ℤ pos 0 → z ≤ℤ neg_ℤ (pos n)
-    moved z n h = omega (arith, ints, h)

@@ -25,7 +25,7 @@ use Rattle.iss_model.specs.rules.Pieces.{hold_entries, unhold_entries}
 use Rattle.iss_model.specs.rules.Reasons.{is_some_with}
 use Rattle.iss_model.specs.state.Cores.{CoreState, after_entry, after_setting, begun_part_changes, call_after_close, is_live, txn_after_end}
 use Rattle.iss_model.specs.state.Kept.{Kept, after_changes}
-use Rattle.iss_model.proofs.Names.{name-sym, one_name}
+use Rattle.iss_model.proofs.Names.{name-sym}
 use Rattle.iss_state.specs.Stakes.{part_held, whole_held}
 use Rattle.iss_state.proofs.effects.Finds.{number-sym, number_is}
 use Rattle.iss_state.proofs.effects.Parts.{change_of, whole_less, whole_more, whole_same}
@@ -33,7 +33,7 @@ use Rattle.iss_acts.proofs.Passing.{EachPasses}
 use Rattle.iss_state.specs.Well.{HaveOwnTokens, IsAsked}
 use Rattle.iss_state.proofs.docket.Closing.{by_itself}
 use Rattle.iss_state.proofs.docket.Entering.{same_txn, txn_more}
-use Rattle.iss_state.proofs.docket.Lists.{Each}
+use Rattle.iss_state.proofs.docket.Lists.{Each, inside}
 use Rattle.iss_state.specs.Holdings.{HoldsNothing}
 use Rattle.iss_state.proofs.held.Changes.{begun_sum, txn_ended}
 use Rattle.iss_agreement.specs.Laws.{sum_among}
@@ -128,83 +128,40 @@ held_other k parts token p x (t ∷ ts) e =
     (whole_same parts token p x t.txn.token (name-sym token t.txn.token ∙ both.0)))
     (held_other k parts token p x ts both.1)
 
--- what a hold changes of a sum if the one of its token is first, by what it changes there
-more_there : (b : Bool) (a c n x : ℕ) → a ≤ c + n → cond b a 0 + x ≤ (cond b c 0 + x) + cond b n 0
-more_there true a c n x h = omega (arith, h)
-more_there false a c n x h = omega arith
+-- what a transaction holds, as far as it counts
+abbrev its_open : Counting → Kept → Txn → ℕ
+its_open k parts t = cond (holds_there k t) (whole_held parts t.token) 0
 
-less_there : (b : Bool) (a c n x : ℕ) → a + n ≡ c → (cond b a 0 + x) + cond b n 0 ≤ cond b c 0 + x
-less_there true a c n x h = omega (arith, h)
-less_there false a c n x h = omega arith
-
-held_more : (k : Counting) (parts : Kept) (token : List ℕ) (p : Part) (n : ℕ) (txns : List TxnNow) (now : TxnNow) → HaveOwnTokens txns → txn_named token txns ≡ Some now
-    → held_open k (after_changes parts (change_of (part_key token p) (pos n))) txns ≤ held_open k parts txns + cond (holds_there k now.txn) n 0
-held_more k parts token p n [] now own e = cc
-held_more k parts token p n (t ∷ ts) now own e = by (bytes_eq t.txn.token token) refl e (λ later. held_more k parts token p n ts now own.1 later)
+-- a hold of a transaction moves what is open by what it moves of its own
+held_moves : (k : Counting) (parts : Kept) (t : Txn) (p : Part) (x : ℤ) (now : TxnNow) → now.txn ≡ t → (txns : List TxnNow) → HaveOwnTokens txns → txn_named t.token txns ≡ Some now
+    → held_open k (after_changes parts (change_of (part_key t.token p) x)) txns + its_open k parts t ≡ held_open k parts txns + its_open k (after_changes parts (change_of (part_key t.token p) x)) t
+held_moves k parts t p x now its [] own e = cc
+held_moves k parts t p x now its (y ∷ ys) own e = by (bytes_eq y.txn.token t.token) refl e (λ later. held_moves k parts t p x now its ys own.1 later)
   where
     after : Kept
-    after = after_changes parts (change_of (part_key token p) (pos n))
+    after = after_changes parts (change_of (part_key t.token p) x)
 
-    further : (x y z a b : ℕ) → x ≤ y + z → a ≡ b → a + x ≤ (b + y) + z
-    further x y z a b h e = omega (arith, h, e)
+    further : (a b m n u v : ℕ) → a ≡ b → m + v ≡ n + u → (a + m) + v ≡ (b + n) + u
+    further a b m n u v e h = omega (arith, e, h)
 
-    by : (b : Bool) → bytes_eq t.txn.token token ≡ b → cond b (Some t) (txn_named token ts) ≡ Some now
-        → (txn_named token ts ≡ Some now → held_open k after ts ≤ held_open k parts ts + cond (holds_there k now.txn) n 0)
-        → held_open k after (t ∷ ts) ≤ held_open k parts (t ∷ ts) + cond (holds_there k now.txn) n 0
+    by : (b : Bool) → bytes_eq y.txn.token t.token ≡ b → cond b (Some y) (txn_named t.token ys) ≡ Some now
+        → (txn_named t.token ys ≡ Some now → held_open k after ys + its_open k parts t ≡ held_open k parts ys + its_open k after t)
+        → held_open k after (y ∷ ys) + its_open k parts t ≡ held_open k parts (y ∷ ys) + its_open k after t
     by true e found later =
-        let one : t ≡ now = cc in
-        let same : t.txn.token ≡ token = one_name t.txn.token token e in
-        subst (λ (x : TxnNow). held_open k after (t ∷ ts) ≤ held_open k parts (t ∷ ts) + cond (holds_there k x.txn) n 0) one
-        (subst (λ (rest : ℕ). cond (holds_there k t.txn) (whole_held after t.txn.token) 0 + rest ≤ (cond (holds_there k t.txn) (whole_held parts t.txn.token) 0 + held_open k parts ts) + cond (holds_there k t.txn) n 0)
-        (sym (held_other k parts token p (pos n) ts (ap (λ (x : List ℕ). txn_named x ts) (sym same) ∙ own.0)))
-        (more_there (holds_there k t.txn) (whole_held after t.txn.token) (whole_held parts t.txn.token) n (held_open k parts ts)
-        (subst (λ (x : List ℕ). whole_held after x ≤ whole_held parts x + n) (sym same) (whole_more parts token p n))))
+        let same : y.txn ≡ t = ap (λ (n : TxnNow). n.txn) (inside found) ∙ its in
+        omega (arith, ap (its_open k after) same, ap (its_open k parts) same, held_other k parts t.token p x ys (ap (λ (x : Txn). txn_named x.token ys) (sym same) ∙ own.0))
     by false e found later =
-        further (held_open k after ts) (held_open k parts ts) (cond (holds_there k now.txn) n 0) (cond (holds_there k t.txn) (whole_held after t.txn.token) 0) (cond (holds_there k t.txn) (whole_held parts t.txn.token) 0)
-        (later found)
-        (same_or_zero (holds_there k t.txn) (whole_held after t.txn.token) (whole_held parts t.txn.token) (whole_same parts token p (pos n) t.txn.token (name-sym token t.txn.token ∙ e)))
-
-held_less : (k : Counting) (parts : Kept) (token : List ℕ) (p : Part) (n : ℕ) (txns : List TxnNow) (now : TxnNow) → HaveOwnTokens txns → txn_named token txns ≡ Some now → n ≤ part_held parts token p
-    → held_open k (after_changes parts (change_of (part_key token p) (neg_ℤ (pos n)))) txns + cond (holds_there k now.txn) n 0 ≤ held_open k parts txns
-held_less k parts token p n [] now own e le = cc
-held_less k parts token p n (t ∷ ts) now own e le = by (bytes_eq t.txn.token token) refl e (λ later. held_less k parts token p n ts now own.1 later le)
-  where
-    after : Kept
-    after = after_changes parts (change_of (part_key token p) (neg_ℤ (pos n)))
-
-    further : (x y z a b : ℕ) → x + z ≤ y → a ≡ b → (a + x) + z ≤ b + y
-    further x y z a b h e = omega (arith, h, e)
-
-    by : (b : Bool) → bytes_eq t.txn.token token ≡ b → cond b (Some t) (txn_named token ts) ≡ Some now
-        → (txn_named token ts ≡ Some now → held_open k after ts + cond (holds_there k now.txn) n 0 ≤ held_open k parts ts)
-        → held_open k after (t ∷ ts) + cond (holds_there k now.txn) n 0 ≤ held_open k parts (t ∷ ts)
-    by true e found later =
-        let one : t ≡ now = cc in
-        let same : t.txn.token ≡ token = one_name t.txn.token token e in
-        subst (λ (x : TxnNow). held_open k after (t ∷ ts) + cond (holds_there k x.txn) n 0 ≤ held_open k parts (t ∷ ts)) one
-        (subst (λ (rest : ℕ). (cond (holds_there k t.txn) (whole_held after t.txn.token) 0 + rest) + cond (holds_there k t.txn) n 0 ≤ cond (holds_there k t.txn) (whole_held parts t.txn.token) 0 + held_open k parts ts)
-        (sym (held_other k parts token p (neg_ℤ (pos n)) ts (ap (λ (x : List ℕ). txn_named x ts) (sym same) ∙ own.0)))
-        (less_there (holds_there k t.txn) (whole_held after t.txn.token) (whole_held parts t.txn.token) n (held_open k parts ts)
-        (subst (λ (x : List ℕ). whole_held after x + n ≡ whole_held parts x) (sym same) (whole_less parts token p n le))))
-    by false e found later =
-        further (held_open k after ts) (held_open k parts ts) (cond (holds_there k now.txn) n 0) (cond (holds_there k t.txn) (whole_held after t.txn.token) 0) (cond (holds_there k t.txn) (whole_held parts t.txn.token) 0)
-        (later found)
-        (same_or_zero (holds_there k t.txn) (whole_held after t.txn.token) (whole_held parts t.txn.token) (whole_same parts token p (neg_ℤ (pos n)) t.txn.token (name-sym token t.txn.token ∙ e)))
+        further (its_open k after y.txn) (its_open k parts y.txn) (held_open k after ys) (held_open k parts ys) (its_open k after t) (its_open k parts t)
+        (same_or_zero (holds_there k y.txn) (whole_held after y.txn.token) (whole_held parts y.txn.token) (whole_same parts t.token p x y.txn.token (name-sym t.token y.txn.token ∙ e))) (later found)
 
 -- a call is closed ----
 
 call_lower : (k : Counting) (txns : List TxnNow) (n : ℕ) (how : How) (c : CallNow) → call_open k txns (call_after_close n how c) ≤ call_open k txns c
 call_lower k txns n how c = by (nat_eq n c.opened.call.0 && is_asked c)
   where
-    low : (x : ℕ) → 0 ≤ x
-    low x = omega arith
-
-    same : (x : ℕ) → x ≤ x
-    same x = omega arith
-
     by : (b : Bool) → call_open k txns (cond b (record c { how = Some how }) c) ≤ call_open k txns c
-    by true = low (call_open k txns c)
-    by false = same (call_open k txns c)
+    by true = omega arith
+    by false = omega arith
 
 calls_lower : (k : Counting) (txns : List TxnNow) (n : ℕ) (how : How) (calls : List CallNow) → calls_open k txns (map (call_after_close n how) calls) ≤ calls_open k txns calls
 calls_lower k txns n how [] = omega arith
@@ -218,9 +175,6 @@ calls_less : (k : Counting) (txns : List TxnNow) (n : ℕ) (how : How) (calls : 
 calls_less k txns n how [] c e a = cc
 calls_less k txns n how (d ∷ ds) c e a = by (nat_eq d.opened.call.0 n) refl e (λ later. calls_less k txns n how ds c later a)
   where
-    first : (x y z w : ℕ) → x ≡ 0 → y ≤ z → (x + y) + w ≤ w + z
-    first x y z w e h = omega (arith, e, h)
-
     further : (x y z w u : ℕ) → x + w ≤ y → z ≤ u → (z + x) + w ≤ u + y
     further x y z w u h l = omega (arith, h, l)
 
@@ -230,18 +184,14 @@ calls_less k txns n how (d ∷ ds) c e a = by (nat_eq d.opened.call.0 n) refl e 
     by true e found later =
         let one : d ≡ c = cc in
         subst (λ (x : CallNow). calls_open k txns (map (call_after_close n how) (d ∷ ds)) + call_open k txns x ≤ calls_open k txns (d ∷ ds)) one
-        (first (call_open k txns (call_after_close n how d)) (calls_open k txns (map (call_after_close n how) ds)) (calls_open k txns ds) (call_open k txns d)
-        (call_gone k txns n how d e (ap is_asked one ∙ a)) (calls_lower k txns n how ds))
+        (omega (arith, call_gone k txns n how d e (ap is_asked one ∙ a), calls_lower k txns n how ds))
     by false e found later =
         further (calls_open k txns (map (call_after_close n how) ds)) (calls_open k txns ds) (call_open k txns (call_after_close n how d)) (call_open k txns c) (call_open k txns d) (later found) (call_lower k txns n how d)
 
 -- a call is opened ----
 
 calls_more : (k : Counting) (txns : List TxnNow) (calls : List CallNow) (c : CallNow) → calls_open k txns (calls ++ c ∷ []) ≡ calls_open k txns calls + call_open k txns c
-calls_more k txns [] c = none (call_open k txns c)
-  where
-    none : (n : ℕ) → n + 0 ≡ 0 + n
-    none n = omega arith
+calls_more k txns [] c = omega arith
 calls_more k txns (d ∷ ds) c = ap (λ (n : ℕ). call_open k txns d + n) (calls_more k txns ds c) ∙ add (call_open k txns d) (calls_open k txns ds) (call_open k txns c)
   where
     add : (a b c : ℕ) → a + (b + c) ≡ a + b + c
@@ -318,18 +268,11 @@ pub both_within : (k : Counting) (s : CoreState) (xs ys : List Entry) (a b : ℤ
 both_within k s xs ys a b h l =
     record {
       le = subst (λ (q : CoreState). pos (open_use k q) ≤ℤ ((pos (open_use k s) +ℤ (a +ℤ b)) +ℤ used k (xs ++ ys))) (sym (fold-append after_entry s xs ys))
-          (chain (pos (open_use k (fold after_entry (fold after_entry s xs) ys))) (pos (open_use k (fold after_entry s xs))) (pos (open_use k s)) a b (used k xs) (used k ys) (used k (xs ++ ys))
-          (among_summed k.changes k.key xs ys) h.le l.le);
+          (omega (arith, ints, among_summed k.changes k.key xs ys, h.le, l.le));
     }
-  where
-    chain : (z y x a b u v w : ℤ) → w ≡ u +ℤ v → y ≤ℤ ((x +ℤ a) +ℤ u) → z ≤ℤ ((y +ℤ b) +ℤ v) → z ≤ℤ ((x +ℤ (a +ℤ b)) +ℤ w)
-    chain z y x a b u v w e h l = omega (arith, ints, e, h, l)
 
 pub weaker : (k : Counting) (s : CoreState) (es : List Entry) (a b : ℤ) → a ≤ℤ b → Within k s es a → Within k s es b
-weaker k s es a b le h = record { le = more (pos (open_use k (fold after_entry s es))) (pos (open_use k s)) a b (used k es) le h.le }
-  where
-    more : (z x a b u : ℤ) → a ≤ℤ b → z ≤ℤ ((x +ℤ a) +ℤ u) → z ≤ℤ ((x +ℤ b) +ℤ u)
-    more z x a b u h l = omega (arith, ints, h, l)
+weaker k s es a b le h = record { le = omega (arith, ints, le, h.le) }
 
 pub both_pay : (k : Counting) (s : CoreState) (xs ys : List Entry) → Pays k s xs → Pays k (fold after_entry s xs) ys → Pays k s (xs ++ ys)
 both_pay k s xs ys h l = both_within k s xs ys (pos 0) (pos 0) h l
@@ -351,12 +294,6 @@ setting_open k s (input.Move token (moved.Card card to)) = at_most_itself (open_
 setting_open k s (input.Move token (moved.User user to)) = at_most_itself (open_use k s)
 setting_open k s _ = at_most_itself (open_use k s)
 
-less_behind : (a b c : ℕ) → b ≤ c → a + b ≤ a + c
-less_behind a b c h = omega (arith, h)
-
-equal_most : (a b : ℕ) → a ≡ b → a ≤ b
-equal_most a b e = omega (arith, e)
-
 free_open : (k : Counting) (s : CoreState) (e : Entry) → is_free e ≡ true → open_use k (after_entry s e) ≤ open_use k s
 free_open k s (entry.Conf i) h = setting_open k s i
 free_open k s (entry.Began t) h = cc
@@ -364,10 +301,9 @@ free_open k s (entry.Opened o) h = cc
 free_open k s (entry.Hold txn user currency p amount) h = cc
 free_open k s (entry.Usage row) h = cc
 free_open k s (entry.Closed call how) h =
-    less_behind (held_open k s.holdings.parts s.holdings.txns) (calls_open k s.holdings.txns (map (call_after_close call.0 how) s.calls)) (calls_open k s.holdings.txns s.calls) (calls_lower k s.holdings.txns call.0 how s.calls)
+    omega (arith, calls_lower k s.holdings.txns call.0 how s.calls)
 free_open k s (entry.Ended txn) h =
-    equal_most (open_use k (after_entry s (entry.Ended txn))) (open_use k s)
-    (ap₂ (λ (m n : ℕ). m + n) (held_ended k s.holdings.parts txn s.holdings.txns) (calls_ended k txn s.holdings.txns s.calls))
+    omega (arith, ap₂ (λ (m n : ℕ). m + n) (held_ended k s.holdings.parts txn s.holdings.txns) (calls_ended k txn s.holdings.txns s.calls))
 free_open k s _ h = at_most_itself (open_use k s)
 
 free_is_no_usage : (e : Entry) → is_free e ≡ true → is_usage e ≡ false
@@ -377,20 +313,13 @@ free_is_no_usage _ h = refl
 pub free_pays : (k : Counting) → IsCounting k → (s : CoreState) (es : List Entry) → EachPasses is_free es → Pays k s es
 free_pays k counting s es h = by s es h.all
   where
-    none : (x : ℕ) → pos x ≤ℤ ((pos x +ℤ pos 0) +ℤ pos 0)
-    none x = omega (arith, ints)
-
-    first : (z y x : ℕ) (c u : ℤ) → c ≡ pos 0 → y ≤ x → pos z ≤ℤ ((pos y +ℤ pos 0) +ℤ u) → pos z ≤ℤ ((pos x +ℤ pos 0) +ℤ (c +ℤ u))
-    first z y x c u e h l = omega (arith, ints, e, h, l)
-
     by : (s : CoreState) (es : List Entry) → list_all is_free es ≡ true → Pays k s es
-    by s [] h = record { le = none (open_use k s) }
+    by s [] h = record { le = omega (arith, ints) }
     by s (e ∷ es) h =
         let parts = and_parts (is_free e) (list_all is_free es) h in
         let rest : Pays k (after_entry s e) es = by (after_entry s e) es parts.1 in
         record {
-          le = first (open_use k (fold after_entry (after_entry s e) es)) (open_use k (after_entry s e)) (open_use k s) (changed_at k.key (k.changes e)) (used k es)
-              (counting.others e (free_is_no_usage e parts.0)) (free_open k s e parts.0) rest.le;
+          le = omega (arith, ints, counting.others e (free_is_no_usage e parts.0), free_open k s e parts.0, rest.le);
         }
 
 -- single entries ----
@@ -400,54 +329,50 @@ pub usage_within : (k : Counting) → IsCounting k → (s : CoreState) (t : Txn)
     → Within k s (entry.Usage (usage_of t amount count at) ∷ []) (neg_ℤ (cond (k.counts_at t at) (cond k.by_amount amount count) (pos 0)))
 usage_within k counting s t amount count at =
     record {
-      le = even (pos (open_use k s)) (cond (k.counts_at t at) (cond k.by_amount amount count) (pos 0)) (changed_at k.key (k.changes (entry.Usage (usage_of t amount count at)))) (counting.use_ t amount count at);
+      le = omega (arith, ints, counting.use_ t amount count at);
     }
-  where
-    even : (x u c : ℤ) → c ≡ u → x ≤ℤ ((x +ℤ neg_ℤ u) +ℤ (c +ℤ pos 0))
-    even x u c e = omega (arith, ints, e)
 
 -- one entry that counts nothing
 alone_within : (k : Counting) → IsCounting k → (s : CoreState) (e : Entry) (more : ℤ) → is_usage e ≡ false → pos (open_use k (after_entry s e)) ≤ℤ (pos (open_use k s) +ℤ more) → Within k s (e ∷ []) more
 alone_within k counting s e more none le =
-    record { le = also (pos (open_use k (after_entry s e))) (pos (open_use k s)) more (changed_at k.key (k.changes e)) (counting.others e none) le }
-  where
-    also : (z x a c : ℤ) → c ≡ pos 0 → z ≤ℤ (x +ℤ a) → z ≤ℤ ((x +ℤ a) +ℤ (c +ℤ pos 0))
-    also z x a c e h = omega (arith, ints, e, h)
+    record { le = omega (arith, ints, counting.others e none, le) }
+
+-- what a hold moves of a transaction that is known
+hold_moves : (k : Counting) (s : CoreState) (t : Txn) (p : Part) (x : ℤ) → Knows s.holdings.txns t
+    → held_open k (after_changes s.holdings.parts (change_of (part_key t.token p) x)) s.holdings.txns + its_open k s.holdings.parts t
+    ≡ held_open k s.holdings.parts s.holdings.txns + its_open k (after_changes s.holdings.parts (change_of (part_key t.token p) x)) t
+hold_moves k s t p x knows = held_moves k s.holdings.parts t p x knows.now knows.its s.holdings.txns knows.own knows.stands
 
 pub hold_within : (k : Counting) → IsCounting k → (s : CoreState) (t : Txn) (p : Part) (n : ℕ) → Knows s.holdings.txns t → Within k s (hold_entries t p n) (pos (cond (holds_there k t) n 0))
 hold_within k counting s t p n knows = by (nat_eq n 0)
   where
-    none : (x y : ℕ) → pos x ≤ℤ ((pos x +ℤ pos y) +ℤ pos 0)
-    none x y = omega (arith, ints)
-
-    more : (a b c n : ℕ) → a ≤ b + n → pos (a + c) ≤ℤ (pos (b + c) +ℤ pos n)
-    more a b c n h = omega (arith, ints, h)
+    more : (b : Bool) (a c d v w n : ℕ) → a + cond b v 0 ≡ c + cond b w 0 → w ≤ v + n → pos (a + d) ≤ℤ (pos (c + d) +ℤ pos (cond b n 0))
+    more true a c d v w n e h = omega (arith, ints, e, h)
+    more false a c d v w n e h = omega (arith, ints, e)
 
     by : (b : Bool) → Within k s (cond b [] (entry.Hold t.token t.user t.currency p (pos n) ∷ [])) (pos (cond (holds_there k t) n 0))
-    by true = record { le = none (open_use k s) (cond (holds_there k t) n 0) }
+    by true = record { le = omega (arith, ints) }
     by false =
         alone_within k counting s (entry.Hold t.token t.user t.currency p (pos n)) (pos (cond (holds_there k t) n 0)) refl
-        (more (held_open k (after_changes s.holdings.parts (change_of (part_key t.token p) (pos n))) s.holdings.txns) (held_open k s.holdings.parts s.holdings.txns) (calls_open k s.holdings.txns s.calls) (cond (holds_there k t) n 0)
-        (subst (λ (x : Txn). held_open k (after_changes s.holdings.parts (change_of (part_key t.token p) (pos n))) s.holdings.txns ≤ held_open k s.holdings.parts s.holdings.txns + cond (holds_there k x) n 0) knows.its
-        (held_more k s.holdings.parts t.token p n s.holdings.txns knows.now knows.own knows.stands)))
+        (more (holds_there k t) _ _ (calls_open k s.holdings.txns s.calls) (whole_held s.holdings.parts t.token)
+        (whole_held (after_changes s.holdings.parts (change_of (part_key t.token p) (pos n))) t.token) n
+        (hold_moves k s t p (pos n) knows) (whole_more s.holdings.parts t.token p n))
 
 pub unhold_within : (k : Counting) → IsCounting k → (s : CoreState) (t : Txn) (p : Part) (n : ℕ) → Knows s.holdings.txns t → n ≤ part_held s.holdings.parts t.token p
     → Within k s (unhold_entries t p n) (neg_ℤ (pos (cond (holds_there k t) n 0)))
 unhold_within k counting s t p n knows le = by (nat_eq n 0) refl
   where
-    none : (x y : ℕ) → y ≡ 0 → pos x ≤ℤ ((pos x +ℤ neg_ℤ (pos y)) +ℤ pos 0)
-    none x y e = omega (arith, ints, e)
-
-    less : (a b c n : ℕ) → a + n ≤ b → pos (a + c) ≤ℤ (pos (b + c) +ℤ neg_ℤ (pos n))
-    less a b c n h = omega (arith, ints, h)
+    less : (b : Bool) (a c d v w n : ℕ) → a + cond b v 0 ≡ c + cond b w 0 → w + n ≡ v → pos (a + d) ≤ℤ (pos (c + d) +ℤ neg_ℤ (pos (cond b n 0)))
+    less true a c d v w n e h = omega (arith, ints, e, h)
+    less false a c d v w n e h = omega (arith, ints, e)
 
     by : (b : Bool) → nat_eq n 0 ≡ b → Within k s (cond b [] (entry.Hold t.token t.user t.currency p (neg_ℤ (pos n)) ∷ [])) (neg_ℤ (pos (cond (holds_there k t) n 0)))
-    by true e = record { le = none (open_use k s) (cond (holds_there k t) n 0) (zero_either (holds_there k t) n (number_is n 0 e)) }
+    by true e = record { le = omega (arith, ints, zero_either (holds_there k t) n (number_is n 0 e)) }
     by false e =
         alone_within k counting s (entry.Hold t.token t.user t.currency p (neg_ℤ (pos n))) (neg_ℤ (pos (cond (holds_there k t) n 0))) refl
-        (less (held_open k (after_changes s.holdings.parts (change_of (part_key t.token p) (neg_ℤ (pos n)))) s.holdings.txns) (held_open k s.holdings.parts s.holdings.txns) (calls_open k s.holdings.txns s.calls) (cond (holds_there k t) n 0)
-        (subst (λ (x : Txn). held_open k (after_changes s.holdings.parts (change_of (part_key t.token p) (neg_ℤ (pos n)))) s.holdings.txns + cond (holds_there k x) n 0 ≤ held_open k s.holdings.parts s.holdings.txns) knows.its
-        (held_less k s.holdings.parts t.token p n s.holdings.txns knows.now knows.own knows.stands le)))
+        (less (holds_there k t) _ _ (calls_open k s.holdings.txns s.calls) (whole_held s.holdings.parts t.token)
+        (whole_held (after_changes s.holdings.parts (change_of (part_key t.token p) (neg_ℤ (pos n)))) t.token) n
+        (hold_moves k s t p (neg_ℤ (pos n)) knows) (whole_less s.holdings.parts t.token p n le))
 
 -- an asked call opens what its ask may open
 call_is_ask : (k : Counting) (txns : List TxnNow) (c : CallNow) (t : Txn) → Knows txns t → c.opened.txn ≡ t.token → is_asked c ≡ true → call_open k txns c ≡ opens k (call_ask c.opened t)
@@ -460,30 +385,21 @@ pub close_within : (k : Counting) → IsCounting k → (s : CoreState) (n : ℕ)
     → Within k s (entry.Closed c.opened.call how ∷ []) (neg_ℤ (pos (opens k (call_ask c.opened t))))
 close_within k counting s n c t how knows same now =
     alone_within k counting s (entry.Closed c.opened.call how) (neg_ℤ (pos (opens k (call_ask c.opened t)))) refl
-    (less (held_open k s.holdings.parts s.holdings.txns) (calls_open k s.holdings.txns (map (call_after_close c.opened.call.0 how) s.calls)) (calls_open k s.holdings.txns s.calls) (call_open k s.holdings.txns c) (opens k (call_ask c.opened t))
-    (call_is_ask k s.holdings.txns c t knows same now.asked)
-    (calls_less k s.holdings.txns c.opened.call.0 how s.calls c (by_itself s.calls n c now).stands now.asked))
-  where
-    less : (a b c w v : ℕ) → w ≡ v → b + w ≤ c → pos (a + b) ≤ℤ (pos (a + c) +ℤ neg_ℤ (pos v))
-    less a b c w v e h = omega (arith, ints, e, h)
+    (omega (arith, ints, call_is_ask k s.holdings.txns c t knows same now.asked, calls_less k s.holdings.txns c.opened.call.0 how s.calls c (by_itself s.calls n c now).stands now.asked))
 
 pub open_within : (k : Counting) → IsCounting k → (s : CoreState) (o : Opened) (t : Txn) (ask : Ask) → Knows s.holdings.txns t → o.txn ≡ t.token → call_ask o t ≡ ask
     → Within k s (entry.Opened o ∷ []) (pos (opens k ask))
 open_within k counting s o t ask knows same its =
     let c : CallNow = record { opened = o; how = None } in
     alone_within k counting s (entry.Opened o) (pos (opens k ask)) refl
-    (more (held_open k s.holdings.parts s.holdings.txns) (calls_open k s.holdings.txns (s.calls ++ c ∷ [])) (calls_open k s.holdings.txns s.calls) (call_open k s.holdings.txns c) (opens k ask)
-    (calls_more k s.holdings.txns s.calls c) (call_is_ask k s.holdings.txns c t knows same refl ∙ ap (opens k) its))
-  where
-    more : (a b c w v : ℕ) → b ≡ c + w → w ≡ v → pos (a + b) ≤ℤ (pos (a + c) +ℤ pos v)
-    more a b c w v e h = omega (arith, ints, e, h)
+    (omega (arith, ints, calls_more k s.holdings.txns s.calls c, call_is_ask k s.holdings.txns c t knows same refl ∙ ap (opens k) its))
 
 pub begin_pays : (k : Counting) → IsCounting k → (s : CoreState) (t : Txn) → HoldsNothing s.holdings.parts t.token → Each (IsOfThese s.holdings.txns) s.calls → Pays k s (entry.Began t ∷ [])
 begin_pays k counting s t nothing its =
     alone_within k counting s (entry.Began t) (pos 0) refl
-    (even (open_use k (after_entry s (entry.Began t))) (open_use k s)
-    (ap₂ (λ (m n : ℕ). m + n) (held_begun k s.holdings.parts s.holdings.txns t (is_live s.holdings.txns t.token) nothing)
-    (calls_begun k s.holdings.txns (record { txn = t; live = is_live s.holdings.txns t.token }) s.calls its)))
-  where
-    even : (a b : ℕ) → a ≡ b → pos a ≤ℤ (pos b +ℤ pos 0)
-    even a b e = omega (arith, ints, e)
+    (omega (
+      arith,
+      ints,
+      ap₂ (λ (m n : ℕ). m + n) (held_begun k s.holdings.parts s.holdings.txns t (is_live s.holdings.txns t.token) nothing)
+          (calls_begun k s.holdings.txns (record { txn = t; live = is_live s.holdings.txns t.token }) s.calls its),
+    ))

@@ -101,13 +101,10 @@ module _ (own : List ℕ → Bool) (key : List ℕ) where
   parts_of_funding : (s : CoreState) (t : Txn) → IsHeldWell s → IsTxnOf (core_facts s) t → own t.token ≡ is_account_funded t.funding → AreOfFunding own key t (parts_held (core_facts s) t)
   parts_of_funding s t held of_facts its =
       record {
-        own_alone = λ e. sum (parts_held (core_facts s) t).g (parts_held (core_facts s) t).p (none part.G (ap not (sym its ∙ e))) (none part.P (ap not (sym its ∙ e)));
+        own_alone = λ e. omega (arith, none part.G (ap not (sym its ∙ e)), none part.P (ap not (sym its ∙ e)));
         others = λ e. none part.S (sym its ∙ e);
       }
     where
-      sum : (g p : ℕ) → g ≡ 0 → p ≡ 0 → g + p ≡ 0
-      sum g p e h = omega (arith, e, h)
-
       found : (p : Part) (now : Option TxnNow) → option_map (λ t. t.txn.funding) now ≡ Some t.funding → is_some_with (λ (t : TxnNow). is_part_of p t.txn.funding) now ≡ is_part_of p t.funding
       found p None e = cc
       found p (Some now) e = ap (is_part_of p) (inside e)
@@ -141,13 +138,9 @@ module _ (own : List ℕ → Bool) (key : List ℕ) where
       → (amount_where b (pos amount) +ℤ amount_where (not c) (amount_where b (neg_ℤ (pos (min amount owed))) +ℤ amount_where b (neg_ℤ (pos (amount - min amount owed)))))
       ≡ (amount_where a (amount_where b (pos amount)) +ℤ pos 0)
   refund_sum true true b owed amount e = refl
-  refund_sum false false true owed amount e = whole amount (min amount owed) (low amount owed)
-    where
-      low : (a b : ℕ) → min a b + (a - min a b) ≡ a
-      low a b = omega arith
-
-      whole : (n m : ℕ) → m + (n - m) ≡ n → pos n +ℤ (neg_ℤ (pos m) +ℤ neg_ℤ (pos (n - m))) ≡ pos 0 +ℤ pos 0
-      whole n m e = omega (arith, ints, e)
+  refund_sum false false true owed amount e =
+      let whole : min amount owed + (amount - min amount owed) ≡ amount = omega arith in
+      omega (arith, ints, whole)
   refund_sum false false false owed amount e = refl
   refund_sum true false b owed amount e = cc
   refund_sum false true b owed amount e = cc
@@ -166,11 +159,8 @@ module _ (own : List ℕ → Bool) (key : List ℕ) where
   loaded_same : (token user : List ℕ) (c : Currency) (n : ℕ) → AddsSame own key (load_entries token user c n)
   loaded_same token user c n = by (bytes_eq (user_key user c) key) refl
     where
-      alike : (z : ℤ) → ((z +ℤ (pos 0 +ℤ pos 0)) +ℤ (pos 0 +ℤ pos 0)) ≡ ((z +ℤ pos 0) +ℤ (pos 0 +ℤ pos 0))
-      alike z = omega (arith, ints)
-
       by : (b : Bool) → bytes_eq (user_key user c) key ≡ b → AddsSame own key (load_entries token user c n)
-      by b e = record { same = alike (cond (bytes_eq (user_key user c) key) (pos n) (pos 0)) }
+      by b e = record { same = omega (arith, ints) }
 
   abandoned_same : (number : ℕ) (t : Txn) (why : Reason) (calls : List CallNow) → AddsSame own key (abandoned_calls_entries number t why calls)
   abandoned_same number t why calls = calm_same (nothing number calls)

@@ -1,5 +1,5 @@
 -- What each piece of a step adds to a user's balance is what it adds to what the user owns.
-use Rattle.std.proofs.Common.{◌≤◌, ◌≡◌, ℕ, ℤ, pos, neg_ℤ, ◌+ℤ◌, ◌+◌, ◌-◌, min, Bool, true, false, not, cond, ◌&&◌, nat_eq, List, [], ◌∷◌, ◌++◌, refl, sym, ap, ap₂, ◌∙◌, arith}
+use Rattle.std.proofs.Common.{◌≡◌, ℕ, ℤ, pos, neg_ℤ, ◌+ℤ◌, ◌+◌, ◌-◌, min, Bool, true, false, not, cond, ◌&&◌, nat_eq, List, [], ◌∷◌, ◌++◌, refl, sym, ap, ap₂, ◌∙◌, arith}
 use Rattle.std.proofs.lemmas.Int.{ints}
 use Rattle.std.specs.Prelude.{Some}
 use Rattle.std.specs.List.{list_all}
@@ -206,12 +206,6 @@ module _ (own : List ℕ → Bool) (key : List ℕ) (t : Txn) where
       from : (a x : ℕ) → x ≡ 0 → min a x ≡ 0
       from a x e = omega (arith, e)
 
-      left : (g p : ℕ) → g + p ≡ 0 → g ≡ 0
-      left g p e = omega (arith, e)
-
-      right : (g p : ℕ) → g + p ≡ 0 → p ≡ 0
-      right g p e = omega (arith, e)
-
       own_sum : (b : Bool) (p g : ℕ) → p ≡ 0 → g ≡ 0
           → ((((pos 0 +ℤ amount_where b (neg_ℤ (pos p))) +ℤ pos 0) +ℤ amount_where b (neg_ℤ (pos g))) +ℤ pos 0) +ℤ pos 0 ≡ ((((pos 0 +ℤ pos 0) +ℤ pos 0) +ℤ pos 0) +ℤ pos 0) +ℤ pos 0
       own_sum true p g e h = omega (arith, ints, e, h)
@@ -228,8 +222,8 @@ module _ (own : List ℕ → Bool) (key : List ℕ) (t : Txn) where
           ≡ ((((amount_where (not a) (amount_where b (neg_ℤ (pos (taken_to_release x amount).p))) +ℤ pos 0) +ℤ amount_where (not a) (amount_where b (neg_ℤ (pos (taken_to_release x amount).g)))) +ℤ pos 0)
           +ℤ amount_where (not a) (amount_where b (neg_ℤ (pos (taken_to_release x amount).s)))) +ℤ pos 0
       by true b e =
-          own_sum b (taken_to_release x amount).p (taken_to_release x amount).g (from amount x.p (right x.g x.p (of_funding.own_alone e)))
-          (from (amount - (taken_to_release x amount).p) x.g (left x.g x.p (of_funding.own_alone e)))
+          own_sum b (taken_to_release x amount).p (taken_to_release x amount).g (from amount x.p (omega (arith, of_funding.own_alone e)))
+          (from (amount - (taken_to_release x amount).p) x.g (omega (arith, of_funding.own_alone e)))
       by false b e =
           gateway_sum b (taken_to_release x amount).p (taken_to_release x amount).g (taken_to_release x amount).s
           (from (amount - (taken_to_release x amount).p - (taken_to_release x amount).g) x.s (of_funding.others e))
@@ -260,9 +254,6 @@ module _ (own : List ℕ → Bool) (key : List ℕ) (t : Txn) where
       gateway_sum true g p s n e = omega (arith, ints, e)
       gateway_sum false g p s n e = refl
 
-      all_there : (g p s n : ℕ) → min n g + min (n - min n g) p + min (n - min n g - min (n - min n g) p) s + (n - (min n g + min (n - min n g) p + min (n - min n g - min (n - min n g) p) s)) ≡ n
-      all_there g p s n = omega arith
-
       by : (a c b : Bool) → own t.token ≡ a → a ≡ c
           → ((((pos 0 +ℤ pos 0) +ℤ pos 0) +ℤ amount_where (not c) (amount_where b (pos (amount - in_all (taken_to_clear x amount))))) +ℤ amount_where b (neg_ℤ (pos amount))) +ℤ pos 0
           ≡ ((((amount_where (not a) (amount_where b (neg_ℤ (pos (taken_to_clear x amount).g))) +ℤ amount_where (not a) (amount_where b (neg_ℤ (pos (taken_to_clear x amount).p)))) +ℤ amount_where (not a) (amount_where b (neg_ℤ (pos (taken_to_clear x amount).s)))) +ℤ pos 0)
@@ -271,15 +262,9 @@ module _ (own : List ℕ → Bool) (key : List ℕ) (t : Txn) where
       by true false b e h = cc
       by false true b e h = cc
       by false false b e h =
-          gateway_sum b (taken_to_clear x amount).g (taken_to_clear x amount).p (taken_to_clear x amount).s amount (all_there x.g x.p x.s amount)
+          gateway_sum b (taken_to_clear x amount).g (taken_to_clear x amount).p (taken_to_clear x amount).s amount (omega arith)
 
   -- parts within such parts are such too
   pub within_funding : (small large : Parts) → AreWithin small large → AreOfFunding large → AreOfFunding small
   within_funding small large within h =
-      record { own_alone = λ e. none small.g small.p large.g large.p within.of_gateway within.of_programme (h.own_alone e); others = λ e. less small.s large.s within.of_user (h.others e) }
-    where
-      none : (g p a b : ℕ) → g ≤ a → p ≤ b → a + b ≡ 0 → g + p ≡ 0
-      none g p a b h k e = omega (arith, h, k, e)
-
-      less : (s a : ℕ) → s ≤ a → a ≡ 0 → s ≡ 0
-      less s a h e = omega (arith, h, e)
+      record { own_alone = λ e. omega (arith, within.of_gateway, within.of_programme, h.own_alone e); others = λ e. omega (arith, within.of_user, h.others e) }

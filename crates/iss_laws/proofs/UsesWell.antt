@@ -48,10 +48,7 @@ use Rattle.iss_laws.proofs.Windows.{window_grows}
 -- a step ----
 
 later_begun : (now last : ℕ) (s : CoreState) → now ≤ last → BegunBy now s.holdings.txns → BegunBy last s.holdings.txns
-later_begun now last s le begun token t e = chain t.txn.at now last (begun token t e) le
-  where
-    chain : (a b c : ℕ) → a ≤ b → b ≤ c → a ≤ c
-    chain a b c h k = omega (arith, h, k)
+later_begun now last s le begun token t e = omega (arith, begun token t e, le)
 
 -- it is the time of a record that was taken up, all is held well, and transactions began by then
 record IsUseReady (i : Input) (at : ℕ) (s : CoreState) : Type 0 where
@@ -70,18 +67,15 @@ record Uses (at : ℕ) (s : CoreState) (es : List Entry) (later : CoreState) : T
 entries_use : (at : ℕ) (s : CoreState) (es : List Entry) → ((k : Counting) (last : ℕ) → IsCounting k → CountsOn k last → at ≤ last → Pays k s es) → AllKeepHeld s es → Uses at s es (fold after_entry s es)
 entries_use at s es pays keeps =
     record {
-      opened = λ k last counting on by_last. plain (open_use k (fold after_entry s es)) (open_use k s) (used k es) (pays k last counting on by_last).le;
+      opened = λ k last counting on by_last. omega (arith, ints, (pays k last counting on by_last).le);
       begun = entries_begun s es keeps;
       now_stays = entries_now s es;
     }
-  where
-    plain : (z x : ℕ) (u : ℤ) → pos z ≤ℤ ((pos x +ℤ pos 0) +ℤ u) → pos z ≤ℤ (pos x +ℤ u)
-    plain z x u h = omega (arith, ints, h)
 
 uses_through : (i : Input) (at : ℕ) → GoesThrough (IsUseReady i at) (Uses at) i at
 uses_through i at =
     record {
-      none = λ s. record { opened = λ k last counting on by_last. itself (open_use k s); begun = λ begun. begun; now_stays = refl };
+      none = λ s. record { opened = λ k last counting on by_last. omega (arith, ints); begun = λ begun. begun; now_stays = refl };
       then = λ s t u xs ys h l. record {
         opened = λ k last counting on by_last.
             chain (open_use k u) (open_use k t) (open_use k s) (used k xs) (used k ys) (used k (xs ++ ys)) (among_summed k.changes k.key xs ys) (h.opened k last counting on by_last)
@@ -94,8 +88,8 @@ uses_through i at =
           (thing_keeps ready.taken.before s thing at ready.taken.well ready.held);
       own = λ s ready.
           entries_use at s (entries_of i at (core_facts s))
-          (λ k last counting on by_last. input_uses k counting last on s i at (at_most s.now at ready.now_is) by_last ready.taken ready.held ready.begun)
-          (own_keeps s i at (at_most at s.now (sym ready.now_is)) ready.taken ready.held);
+          (λ k last counting on by_last. input_uses k counting last on s i at (omega (arith, ready.now_is)) by_last ready.taken ready.held ready.begun)
+          (own_keeps s i at (omega (arith, sym ready.now_is)) ready.taken ready.held);
       stays = λ s thing ready.
           let es : List Entry = thing_entries thing at (core_facts s) in
           record {
@@ -106,22 +100,13 @@ uses_through i at =
           };
     }
   where
-    itself : (n : ℕ) → pos n ≤ℤ (pos n +ℤ pos 0)
-    itself n = omega (arith, ints)
-
-    at_most : (a b : ℕ) → a ≡ b → a ≤ b
-    at_most a b e = omega (arith, e)
-
     chain : (z y x : ℕ) (u v w : ℤ) → w ≡ u +ℤ v → pos y ≤ℤ (pos x +ℤ u) → pos z ≤ℤ (pos y +ℤ v) → pos z ≤ℤ (pos x +ℤ w)
     chain z y x u v w e h k = omega (arith, ints, e, h, k)
 
 step_uses : (s : CoreState) (r : Record) → s.now ≤ r.at → IsNewEvent s r.input → IsWell s → IsHeldWell s → BegunBy (max s.now r.at) s.holdings.txns
     → Uses r.at (with_record s r) (step core_keeper s r).entries (step core_keeper s r).world
 step_uses s r early new well held begun =
-    step_leads s r (uses_through r.input r.at) (record { now_is = latest s.now r.at early; taken = ready_taken s r well new; held = held; begun = begun })
-  where
-    latest : (a b : ℕ) → a ≤ b → max a b ≡ b
-    latest a b h = omega (arith, h)
+    step_leads s r (uses_through r.input r.at) (record { now_is = omega (arith, early); taken = ready_taken s r well new; held = held; begun = begun })
 
 -- over all records, by their stamps ----
 
@@ -134,7 +119,7 @@ record IsCounted (rs : List Record) (s : CoreState) : Type 0 where
 counted_step : (rs : List Record) (r : Record) → (core_of rs).now ≤ r.at → IsNewEvent (core_of rs) r.input → IsCounted rs (core_of rs) → IsCounted (rs ++ r ∷ []) (step core_keeper (core_of rs) r).world
 counted_step rs r early new h =
     let s : CoreState = core_of rs in
-    let begun : BegunBy (max s.now r.at) s.holdings.txns = later_begun s.now (max s.now r.at) s (higher s.now r.at) h.begun in
+    let begun : BegunBy (max s.now r.at) s.holdings.txns = later_begun s.now (max s.now r.at) s (omega arith) h.begun in
     let uses = step_uses s r early new h.holds.well h.holds.held begun in
     record {
       holds = record { well = step_well s r new h.holds.well; held = step_held s r new h.holds.well h.holds.held };
@@ -142,21 +127,8 @@ counted_step rs r early new h =
       counted = λ k last counting on by_last.
           let now : max s.now r.at ≤ last = subst (λ (n : ℕ). n ≤ last) uses.now_stays by_last in
           subst (λ (z : ℤ). pos (open_use k (step core_keeper s r).world) ≤ℤ z) (sym (next_summed k.changes k.key rs r))
-          (chain (open_use k (step core_keeper s r).world) (open_use k s) (used k (step core_keeper s r).entries) (sum_at k.changes k.key (history_of rs).rows)
-          (uses.opened k last counting on (right s.now r.at last now)) (h.counted k last counting on (left s.now r.at last now)));
+          (omega (arith, ints, uses.opened k last counting on (omega (arith, now)), h.counted k last counting on (omega (arith, now))));
     }
-  where
-    higher : (a b : ℕ) → a ≤ max a b
-    higher a b = omega arith
-
-    left : (a b c : ℕ) → max a b ≤ c → a ≤ c
-    left a b c h = omega (arith, h)
-
-    right : (a b c : ℕ) → max a b ≤ c → b ≤ c
-    right a b c h = omega (arith, h)
-
-    chain : (z x : ℕ) (u y : ℤ) → pos z ≤ℤ (pos x +ℤ u) → pos x ≤ℤ y → pos z ≤ℤ (y +ℤ u)
-    chain z x u y h k = omega (arith, ints, h, k)
 
 counted_from : (before rs : List Record) → IsLegalAfter (history_of before) rs → IsCounted before (core_of before) → IsCounted (before ++ rs) (core_of (before ++ rs))
 counted_from before [] legal h = subst (λ (xs : List Record). IsCounted xs (core_of xs)) (sym (append-nil before)) h
@@ -169,10 +141,7 @@ counted_from before (r ∷ rs) legal h =
     (counted_from more rs (subst (λ (h : History). IsLegalAfter h rs) (sym (history_more before r)) legal.1) next)
 
 no_transactions : (k : Counting) → pos (open_use k no_core) ≤ℤ pos 0
-no_transactions k = none
-  where
-    none : pos (0 + 0) ≤ℤ pos 0
-    none = omega (arith, ints)
+no_transactions k = omega (arith, ints)
 
 none_named : {Q : Type 0} (t : TxnNow) → None ≡ Some t → Q
 none_named t e = cc
@@ -202,10 +171,7 @@ same_span put window.Month t amount count at = refl
 same_span put window.Lifetime t amount count at = refl
 
 counted_where : (x : Bool) (span key : List ℕ) (z : ℤ) → changed_at key (cond x (record { key = span; by = z } ∷ []) []) ≡ cond (x && bytes_eq span key) z (pos 0)
-counted_where true span key z = alone (cond (bytes_eq span key) z (pos 0))
-  where
-    alone : (z : ℤ) → z +ℤ pos 0 ≡ z
-    alone z = omega (arith, ints)
+counted_where true span key z = omega (arith, ints)
 counted_where false span key z = refl
 
 no_use : (worth : UsageRow → ℤ) (groups : List Group) (put : ControlPut) (key : List ℕ) (e : Entry) → is_usage e ≡ false → changed_at key (counted_changes worth groups put e) ≡ pos 0
@@ -255,9 +221,6 @@ key_end user (negsuc n) =
     ∙ ap end_number (sym (append_assoc user (0 ∷ (replicate (suc n) 0 ++ 1 ∷ [])) (0 ∷ n ∷ [])))
     ∙ end_behind (user ++ 0 ∷ (replicate (suc n) 0 ++ 1 ∷ [])) 0 n
 
-squeezed : (x y z : ℤ) → x ≤ℤ y → y ≤ℤ z → x ≡ z → y ≡ x
-squeezed x y z h k e = omega (arith, ints, h, k, e)
-
 -- if a stamp lies in the window of the last moment, those between do too
 window_stays : (w : Window) (offset : ℤ) (one other : List ℕ) (a b last : ℕ) → a ≤ b → b ≤ last → bytes_eq (window_key w offset one a) (window_key w offset other last) ≡ true
     → bytes_eq (window_key w offset one b) (window_key w offset other last) ≡ true
@@ -267,7 +230,7 @@ window_stays w offset one other a b last h k e =
     sym (key_end one (window_at w a offset)) ∙ ap end_number keys ∙ key_end other (window_at w last offset)
     in
     let same : window_at w b offset ≡ window_at w a offset =
-    squeezed (window_at w a offset) (window_at w b offset) (window_at w last offset) (window_grows w offset a b h) (window_grows w offset b last k) first
+    omega (arith, ints, window_grows w offset a b h, window_grows w offset b last k, first)
     in
     ap (λ (z : ℤ). bytes_eq (one ++ 0 ∷ int_key z) (window_key w offset other last)) same ∙ e
 
@@ -275,17 +238,22 @@ both_hold : (x y z : Bool) → (x && y) ≡ true → (y ≡ true → z ≡ true)
 both_hold true y z h k = k h
 both_hold false y z h k = cc
 
+-- a window of the calendar, or of all time
+abbrev is_of_time : Window → Bool
+is_of_time window.Transaction = false
+is_of_time _ = true
+
 -- in the window of the time
-counts_on : (groups : List Group) (put : ControlPut) (w : Window) (user : List ℕ) (last : ℕ) (by_amount : Bool) (worth : UsageRow → ℤ) → (w ≡ window.Transaction → ⊥)
+counts_on : (groups : List Group) (put : ControlPut) (w : Window) (user : List ℕ) (last : ℕ) (by_amount : Bool) (worth : UsageRow → ℤ) → is_of_time w ≡ true
     → CountsOn (counting_of groups put w (window_key w put.control.offset user last) by_amount worth) last
-counts_on groups put window.Transaction user last by_amount worth other t a b h k l = absurd (other refl)
-counts_on groups put window.Day user last by_amount worth other t a b h k l =
+counts_on groups put window.Transaction user last by_amount worth timed t a b h k l = cc
+counts_on groups put window.Day user last by_amount worth timed t a b h k l =
     both_hold (counts groups put (usage_of t (pos 0) (pos 0) a)) (bytes_eq (window_key window.Day put.control.offset t.user a) (window_key window.Day put.control.offset user last)) _ h (window_stays window.Day put.control.offset t.user user a b last k l)
-counts_on groups put window.Week user last by_amount worth other t a b h k l =
+counts_on groups put window.Week user last by_amount worth timed t a b h k l =
     both_hold (counts groups put (usage_of t (pos 0) (pos 0) a)) (bytes_eq (window_key window.Week put.control.offset t.user a) (window_key window.Week put.control.offset user last)) _ h (window_stays window.Week put.control.offset t.user user a b last k l)
-counts_on groups put window.Month user last by_amount worth other t a b h k l =
+counts_on groups put window.Month user last by_amount worth timed t a b h k l =
     both_hold (counts groups put (usage_of t (pos 0) (pos 0) a)) (bytes_eq (window_key window.Month put.control.offset t.user a) (window_key window.Month put.control.offset user last)) _ h (window_stays window.Month put.control.offset t.user user a b last k l)
-counts_on groups put window.Lifetime user last by_amount worth other t a b h k l =
+counts_on groups put window.Lifetime user last by_amount worth timed t a b h k l =
     both_hold (counts groups put (usage_of t (pos 0) (pos 0) a)) (bytes_eq (window_key window.Lifetime put.control.offset t.user a) (window_key window.Lifetime put.control.offset user last)) _ h (window_stays window.Lifetime put.control.offset t.user user a b last k l)
 
 -- of a transaction at any time
@@ -293,9 +261,6 @@ counts_on_txn : (groups : List Group) (put : ControlPut) (key : List ℕ) (last 
 counts_on_txn groups put key last by_amount worth t a b h k l = h
 
 -- the law ----
-
-at_least_open : (n : ℕ) (z : ℤ) → pos n ≤ℤ z → pos 0 ≤ℤ z
-at_least_open n z h = omega (arith, ints, h)
 
 two : (a b : Bool) → a ≡ true → b ≡ true → (a && b) ≡ true
 two a b h k = rw (h, k) refl
@@ -309,47 +274,35 @@ use_at rs put w key legal e on =
     let h = all_counted rs legal in
     let amounts : Counting = counting_of groups put w key true (λ row. row.amount) in
     let times : Counting = counting_of groups put w key false (λ row. row.count) in
-    let now : (core_of rs).now ≤ (core_of rs).now = itself (core_of rs).now in
+    let now : (core_of rs).now ≤ (core_of rs).now = omega arith in
     two _ _
-    (is_not_negative (sum_at amounts.changes key (history_of rs).rows) (at_least_open (open_use amounts (core_of rs)) (sum_at amounts.changes key (history_of rs).rows)
-    (h.counted amounts (core_of rs).now (amounts_count groups put w key e) (on true (λ row. row.amount)) now)))
-    (is_not_negative (sum_at times.changes key (history_of rs).rows) (at_least_open (open_use times (core_of rs)) (sum_at times.changes key (history_of rs).rows)
-    (h.counted times (core_of rs).now (times_count groups put w key e) (on false (λ row. row.count)) now)))
-  where
-    itself : (n : ℕ) → n ≤ n
-    itself n = omega arith
+    (is_not_negative (sum_at amounts.changes key (history_of rs).rows) (omega (arith, ints, h.counted amounts (core_of rs).now (amounts_count groups put w key e) (on true (λ row. row.amount)) now)))
+    (is_not_negative (sum_at times.changes key (history_of rs).rows) (omega (arith, ints, h.counted times (core_of rs).now (times_count groups put w key e) (on false (λ row. row.count)) now)))
 
-use_now : (rs : List Record) (put : ControlPut) (w : Window) (user : List ℕ) → IsLegal rs → put.control.window ≡ w → is_use (used_by (counted_control (history_of rs).rows put) w user (core_of rs).now) ≡ true
-use_now rs put window.Transaction user legal e = two _ _ (is_not_negative (pos 0) zero_low) (is_not_negative (pos 0) zero_low)
-  where
-    zero_low : pos 0 ≤ℤ pos 0
-    zero_low = omega (arith, ints)
-use_now rs put window.Day user legal e =
-    use_at rs put window.Day (window_key window.Day put.control.offset user (core_of rs).now) legal e (λ by_amount worth. counts_on (groups_of (history_of rs).rows) put window.Day user (core_of rs).now by_amount worth (λ e. never_day e))
-  where
-    never_day : window.Day ≡ window.Transaction → ⊥
-    never_day e = cc
-use_now rs put window.Week user legal e =
-    use_at rs put window.Week (window_key window.Week put.control.offset user (core_of rs).now) legal e (λ by_amount worth. counts_on (groups_of (history_of rs).rows) put window.Week user (core_of rs).now by_amount worth (λ e. never_week e))
-  where
-    never_week : window.Week ≡ window.Transaction → ⊥
-    never_week e = cc
-use_now rs put window.Month user legal e =
-    use_at rs put window.Month (window_key window.Month put.control.offset user (core_of rs).now) legal e (λ by_amount worth. counts_on (groups_of (history_of rs).rows) put window.Month user (core_of rs).now by_amount worth (λ e. never_month e))
-  where
-    never_month : window.Month ≡ window.Transaction → ⊥
-    never_month e = cc
-use_now rs put window.Lifetime user legal e =
-    use_at rs put window.Lifetime (window_key window.Lifetime put.control.offset user (core_of rs).now) legal e (λ by_amount worth. counts_on (groups_of (history_of rs).rows) put window.Lifetime user (core_of rs).now by_amount worth (λ e. never_lifetime e))
-  where
-    never_lifetime : window.Lifetime ≡ window.Transaction → ⊥
-    never_lifetime e = cc
+-- nor in the window of the time
+timed_use : (rs : List Record) (put : ControlPut) (w : Window) (user : List ℕ) → is_of_time w ≡ true → IsLegal rs → put.control.window ≡ w
+    → is_use (record {
+      amount = (counted_control (history_of rs).rows put).amounts (window_key w put.control.offset user (core_of rs).now);
+      count = (counted_control (history_of rs).rows put).times (window_key w put.control.offset user (core_of rs).now);
+    })
+    ≡ true
+timed_use rs put w user timed legal e =
+    let now : ℕ = (core_of rs).now in
+    use_at rs put w (window_key w put.control.offset user now) legal e (λ by_amount worth. counts_on (groups_of (history_of rs).rows) put w user now by_amount worth timed)
 
 nothing_used : is_use (record { amount = pos 0; count = pos 0 }) ≡ true
 nothing_used = two _ _ (is_not_negative (pos 0) zero_low) (is_not_negative (pos 0) zero_low)
   where
     zero_low : pos 0 ≤ℤ pos 0
     zero_low = omega (arith, ints)
+
+use_now : (rs : List Record) (put : ControlPut) (w : Window) (user : List ℕ) → IsLegal rs → put.control.window ≡ w
+    → is_use (used_by (counted_control (history_of rs).rows put) w user (core_of rs).now) ≡ true
+use_now rs put window.Transaction user legal e = nothing_used
+use_now rs put window.Day user legal e = timed_use rs put window.Day user refl legal e
+use_now rs put window.Week user legal e = timed_use rs put window.Week user refl legal e
+use_now rs put window.Month user legal e = timed_use rs put window.Month user refl legal e
+use_now rs put window.Lifetime user legal e = timed_use rs put window.Lifetime user refl legal e
 
 use_of : (rs : List Record) (put : ControlPut) (w : Window) (t : Txn) → IsLegal rs → put.control.window ≡ w → is_use (used_of (counted_control (history_of rs).rows put) w t) ≡ true
 use_of rs put window.Transaction t legal e =

@@ -36,9 +36,6 @@ week_grows x y h = weeks_grow (x +ℤ pos 4) (y +ℤ pos 4) (plus_grows (pos 4) 
 
 -- years ----
 
-before_grows : (a b : ℕ) → a ≤ b → days_before_year a ≤ days_before_year b
-before_grows a b h = omega (arith, h)
-
 -- a day lies in its year
 record IsInYear (day year : ℕ) : Type 0 where
   from : days_before_year year ≤ day
@@ -76,45 +73,27 @@ in_year day = by (nat_lt day (days_before_year near)) refl (nat_le (days_before_
 -- months ----
 
 counted_more : (a b : ℕ) → a ≤ b → (starts : List ℕ) → length (filter (λ start. nat_le start a) starts) ≤ length (filter (λ start. nat_le start b) starts)
-counted_more a b h [] = none
-  where
-    none : 0 ≤ 0
-    none = omega arith
+counted_more a b h [] = omega arith
 counted_more a b h (x ∷ xs) = by (nat_le x a) refl (nat_le x b) refl (counted_more a b h xs)
   where
-    one_more : (m n : ℕ) → m ≤ n → suc m ≤ suc n
-    one_more m n h = omega (arith, h)
-
-    and_more : (m n : ℕ) → m ≤ n → m ≤ suc n
-    and_more m n h = omega (arith, h)
-
     never : (x a b : ℕ) → a ≤ b → nat_le x a ≡ true → nat_le x b ≡ false → ⊥
     never x a b h e f = grind (arith, nat_tests)
 
     by : (p : Bool) → nat_le x a ≡ p → (q : Bool) → nat_le x b ≡ q
         → length (filter (λ start. nat_le start a) xs) ≤ length (filter (λ start. nat_le start b) xs)
         → length (cond p (x ∷ filter (λ start. nat_le start a) xs) (filter (λ start. nat_le start a) xs)) ≤ length (cond q (x ∷ filter (λ start. nat_le start b) xs) (filter (λ start. nat_le start b) xs))
-    by true e true f rest = one_more (length (filter (λ start. nat_le start a) xs)) (length (filter (λ start. nat_le start b) xs)) rest
+    by true e true f rest = omega (arith, rest)
     by true e false f rest = absurd (never x a b h e f)
-    by false e true f rest = and_more (length (filter (λ start. nat_le start a) xs)) (length (filter (λ start. nat_le start b) xs)) rest
+    by false e true f rest = omega (arith, rest)
     by false e false f rest = rest
 
 all_counted : (p : ℕ → Bool) (xs : List ℕ) → length (filter p xs) ≤ length xs
-all_counted p [] = none
-  where
-    none : 0 ≤ 0
-    none = omega arith
+all_counted p [] = omega arith
 all_counted p (x ∷ xs) = by (p x) (all_counted p xs)
   where
-    one_more : (m n : ℕ) → m ≤ n → suc m ≤ suc n
-    one_more m n h = omega (arith, h)
-
-    and_more : (m n : ℕ) → m ≤ n → m ≤ suc n
-    and_more m n h = omega (arith, h)
-
     by : (b : Bool) → length (filter p xs) ≤ length xs → length (cond b (x ∷ filter p xs) (filter p xs)) ≤ suc (length xs)
-    by true h = one_more (length (filter p xs)) (length xs) h
-    by false h = and_more (length (filter p xs)) (length xs) h
+    by true h = omega (arith, h)
+    by false h = omega (arith, h)
 
 at_most_twelve : (year place : ℕ) → month_in_year year place ≤ 12
 at_most_twelve year place = all_counted (λ start. nat_le start place) (month_starts (cond (is_leap_year year) 1 0))
@@ -130,11 +109,8 @@ first_month year place = by (nat_le 0 place) (low place)
     low : (n : ℕ) → nat_le 0 n ≡ true
     low n = grind (arith, nat_tests)
 
-    one : (n : ℕ) → 1 ≤ suc n
-    one n = omega arith
-
     by : (b : Bool) → b ≡ true → 1 ≤ length (cond b (0 ∷ filter (λ start. nat_le start place) (drop_first (month_starts (cond (is_leap_year year) 1 0)))) (filter (λ start. nat_le start place) (drop_first (month_starts (cond (is_leap_year year) 1 0)))))
-    by true e = one (length (filter (λ start. nat_le start place) (drop_first (month_starts (cond (is_leap_year year) 1 0)))))
+    by true e = omega arith
     by false e = cc
 
 -- the number of the month of a day
@@ -158,31 +134,16 @@ month_grows a b h = by (order (year_of_day a) (year_of_day b))
         tell false e true f = inr (inr (yes y x f))
         tell false e false f = inr (inl (neither x y e f))
 
-    later : (x y m n : ℕ) → x + 1 ≤ y → m ≤ 12 → 1 ≤ n → 12 * x + m ≤ 12 * y + n
-    later x y m n h k l = omega (arith, h, k, l)
-
-    alike : (x m n : ℕ) → m ≤ n → 12 * x + m ≤ 12 * x + n
-    alike x m n h = omega (arith, h)
-
-    placed : (a b c : ℕ) → a ≤ b → a - c ≤ b - c
-    placed a b c h = omega (arith, h)
-
-    before : (x y : ℕ) → y + 1 ≤ x → days_before_year (y + 1) ≤ days_before_year x
-    before x y h = before_grows (y + 1) x h
-
     by : (year_of_day a + 1 ≤ year_of_day b) ⊎ ((year_of_day a ≡ year_of_day b) ⊎ (year_of_day b + 1 ≤ year_of_day a)) → month_nat a ≤ month_nat b
-    by (inl less) = later (year_of_day a) (year_of_day b) _ _ less (at_most_twelve (year_of_day a) (a - days_before_year (year_of_day a))) (first_month (year_of_day b) (b - days_before_year (year_of_day b)))
+    by (inl less) = omega (arith, less, at_most_twelve (year_of_day a) (a - days_before_year (year_of_day a)), first_month (year_of_day b) (b - days_before_year (year_of_day b)))
     by (inr (inl same)) =
         subst (λ (y : ℕ). month_nat a ≤ month_number y (month_in_year y (b - days_before_year y))) same
-        (alike (year_of_day a) _ _ (counted_more (a - days_before_year (year_of_day a)) (b - days_before_year (year_of_day a)) (placed a b (days_before_year (year_of_day a)) h) (month_starts (cond (is_leap_year (year_of_day a)) 1 0))))
+        (omega (arith, counted_more (a - days_before_year (year_of_day a)) (b - days_before_year (year_of_day a)) (omega (arith, h)) (month_starts (cond (is_leap_year (year_of_day a)) 1 0))))
     by (inr (inr more)) =
         let there : days_before_year (year_of_day a) ≤ a = (in_year a).from in
         let past : b + 1 ≤ days_before_year (year_of_day b + 1) = (in_year b).until in
-        let far : days_before_year (year_of_day b + 1) ≤ days_before_year (year_of_day a) = before (year_of_day a) (year_of_day b) more in
-        absurd (turn a b (days_before_year (year_of_day a)) (days_before_year (year_of_day b + 1)) h there past far)
-      where
-        turn : (a b x y : ℕ) → a ≤ b → x ≤ a → b + 1 ≤ y → y ≤ x → ⊥
-        turn a b x y h k l m = omega (arith, h, k, l, m)
+        let far : days_before_year (year_of_day b + 1) ≤ days_before_year (year_of_day a) = omega (arith, more) in
+        absurd (omega (arith, h, there, past, far))
 
 -- windows ----
 

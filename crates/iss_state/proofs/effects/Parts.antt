@@ -33,12 +33,10 @@ less_below (pos a) (negsuc b) m e le = omega (arith, ints, e, le)
 less_below (negsuc a) (pos b) m e le = omega (arith, ints, e, le)
 less_below (negsuc a) (negsuc b) m e le = omega (arith, ints, e, le)
 
-same_sum : (y z : ℤ) → y ≡ z +ℤ (pos 0 +ℤ pos 0) → y ≡ z
-same_sum y z e = omega (arith, ints, e)
-
 pub part_same : (parts : Kept) (key : List ℕ) (x : ℤ) (t : List ℕ) (q : Part) → bytes_eq key (part_key t q) ≡ false → part_held (after_changes parts (change_of key x)) t q ≡ part_held parts t q
 part_same parts key x t q e =
-    ap not_below (same_sum (kept_at (after_changes parts (change_of key x)) (part_key t q)) (kept_at parts (part_key t q)) (part_after parts key (part_key t q) x false e))
+    let same : kept_at (after_changes parts (change_of key x)) (part_key t q) ≡ kept_at parts (part_key t q) = omega (arith, ints, part_after parts key (part_key t q) x false e) in
+    ap not_below same
 
 part_more : (parts : Kept) (key : List ℕ) (m : ℕ) (t : List ℕ) (q : Part) → bytes_eq key (part_key t q) ≡ true → part_held (after_changes parts (change_of key (pos m))) t q ≤ part_held parts t q + m
 part_more parts key m t q e = more_below (kept_at (after_changes parts (change_of key (pos m))) (part_key t q)) (kept_at parts (part_key t q)) m (part_after parts key (part_key t q) (pos m) true e)

@@ -90,12 +90,6 @@ same_part part.S part.P e = absurd (omega (arith, e))
 its_part : (txn token : List ℕ) (p q : Part) → bytes_eq (part_key txn p) (part_key token q) ≡ true → p ≡ q
 its_part txn token p q e = same_part p q (heads (part_number p) (part_number q) txn token (one_name (part_key txn p) (part_key token q) e))
 
-at_least : (z : ℤ) (n : ℕ) → pos 0 ≤ℤ z → pos 0 ≤ℤ (z +ℤ pos n)
-at_least z n h = omega (arith, ints, h)
-
-covered : (z : ℤ) (n : ℕ) → pos (suc n) ≤ℤ z → pos 0 ≤ℤ (z +ℤ negsuc n)
-covered z n h = omega (arith, ints, h)
-
 not_there : {P : Type 0} (z : ℤ) (n : ℕ) → pos (suc n) ≤ℤ z → z ≡ pos 0 → P
 not_there z n h e = absurd (omega (arith, ints, h, e))
 
@@ -108,10 +102,10 @@ hold_positive s txn p amount may held token q = by (bytes_eq (part_key txn p) (p
     by false e amount may = subst (λ (z : ℤ). pos 0 ≤ℤ z) (sym (changed_other s.holdings.parts (part_key txn p) (part_key token q) amount e)) (held.not_negative token q)
     by true e (pos n) may =
         subst (λ (z : ℤ). pos 0 ≤ℤ z) (sym (changed_here s.holdings.parts (part_key txn p) (part_key token q) (pos n) e))
-        (at_least (part_sum s.holdings.parts token q) n (held.not_negative token q))
+        (omega (arith, ints, held.not_negative token q))
     by true e (negsuc n) may =
         subst (λ (z : ℤ). pos 0 ≤ℤ z) (sym (changed_here s.holdings.parts (part_key txn p) (part_key token q) (negsuc n) e))
-        (covered (part_sum s.holdings.parts token q) n (subst (λ (key : List ℕ). pos (suc n) ≤ℤ kept_at s.holdings.parts key) (one_name (part_key txn p) (part_key token q) e) may))
+        (omega (arith, ints, subst (λ (key : List ℕ). pos (suc n) ≤ℤ kept_at s.holdings.parts key) (one_name (part_key txn p) (part_key token q) e) may))
 
 -- who holds nothing, and may hold nothing, still does
 hold_nothing : (s : CoreState) (txn : List ℕ) (p : Part) (amount : ℤ) (token : List ℕ) → MayChange s txn p amount → (MayHold (docket_of s) token → ⊥)

@@ -32,10 +32,7 @@ none_more None more = one_at_most (is_some_with (λ (t : TxnNow). not t.live) mo
     one_at_most : (b : Bool) → cond b 0 1 + 0 ≤ 1
     one_at_most true = omega arith
     one_at_most false = omega arith
-none_more (Some t) more = same (left_by (Some t))
-  where
-    same : (n : ℕ) → n + 0 ≤ n
-    same n = omega arith
+none_more (Some t) more = omega arith
 
 -- a transaction ends ----
 
@@ -52,20 +49,14 @@ ends_once : (txns : List TxnNow) (txn token : List ℕ) → has_live txns txn �
     → ends_left (map (txn_after_end txn) txns) token + cond (bytes_eq txn token) 1 0 ≤ ends_left txns token
 ends_once txns txn token live = by (bytes_eq txn token) refl
   where
-    once : (a b : ℕ) → a ≡ 0 → b ≡ 1 → a + 1 ≤ b
-    once a b e h = omega (arith, e, h)
-
-    same : (a b : ℕ) → a ≡ b → a + 0 ≤ b
-    same a b e = omega (arith, e)
-
     its : (t : TxnNow) → txn_named txn txns ≡ Some t → bytes_eq txn t.txn.token ≡ true
     its t e = ap (bytes_eq txn) (one_name t.txn.token txn (found_passes (λ (t : TxnNow). bytes_eq t.txn.token txn) txns t e)) ∙ its_name txn
 
     by : (b : Bool) → bytes_eq txn token ≡ b → ends_left (map (txn_after_end txn) txns) token + cond b 1 0 ≤ ends_left txns token
     by true e =
         subst (λ (k : List ℕ). ends_left (map (txn_after_end txn) txns) k + 1 ≤ ends_left txns k) (one_name txn token e)
-        (once (ends_left (map (txn_after_end txn) txns) txn) (ends_left txns txn) (ap left_by (txn_ended txn txn txns) ∙ ended_is_none txn (txn_named txn txns) live its) (live_is_left (txn_named txn txns) live))
-    by false e = same (ends_left (map (txn_after_end txn) txns) token) (ends_left txns token) (ap left_by (other_ended txn token txns e))
+        (omega (arith, ap left_by (txn_ended txn txn txns) ∙ ended_is_none txn (txn_named txn txns) live its, live_is_left (txn_named txn txns) live))
+    by false e = omega (arith, ap left_by (other_ended txn token txns e))
 
 -- each entry ----
 
@@ -98,10 +89,7 @@ entries_left s (e ∷ es) token allowed =
     add a b c d f h k = omega (arith, h, k)
 
 pub ended_append : (token : List ℕ) (xs ys : List Entry) → ended_times token (xs ++ ys) ≡ ended_times token xs + ended_times token ys
-ended_append token [] ys = none (ended_times token ys)
-  where
-    none : (n : ℕ) → n ≡ 0 + n
-    none n = omega arith
+ended_append token [] ys = omega arith
 ended_append token (x ∷ xs) ys = ap (λ (n : ℕ). cond (ends_txn token x) 1 0 + n) (ended_append token xs ys) ∙ add (cond (ends_txn token x) 1 0) (ended_times token xs) (ended_times token ys)
   where
     add : (a b c : ℕ) → a + (b + c) ≡ a + b + c

@@ -143,10 +143,7 @@ none_less a n e = omega (arith, e)
 
 may_let_go : (s : CoreState) (token : List ℕ) (p : Part) (n a : ℕ) → nat_eq n 0 ≡ false → n ≤ a → part_sum s.holdings.parts token p ≡ pos a → MayChange s token p (neg_ℤ (pos n))
 may_let_go s token p zero a e le just = cc
-may_let_go s token p (suc n) a e le just = enough (part_sum s.holdings.parts token p) a n le just
-  where
-    enough : (z : ℤ) (a n : ℕ) → suc n ≤ a → z ≡ pos a → pos (suc n) ≤ℤ z
-    enough z a n le e = omega (arith, ints, le, e)
+may_let_go s token p (suc n) a e le just = omega (arith, ints, le, just)
 
 -- the parts of a transaction after a change of one of them
 let_go_just : (parts : Kept) (token : List ℕ) (p : Part) (n : ℕ) (x : Parts) → n ≤ amount_of p x → HoldsJust parts token x
@@ -240,15 +237,6 @@ clearing_leaves s t x amount at just =
 
 -- if these parts are nothing in all, nothing is held
 pub nothing_left : (parts : Kept) (token : List ℕ) (x : Parts) → in_all x ≡ 0 → HoldsJust parts token x → HoldsNothing parts token
-nothing_left parts token x e just part.G = just.of_gateway ∙ ap pos (first x.g x.p x.s e)
-  where
-    first : (g p s : ℕ) → g + p + s ≡ 0 → g ≡ 0
-    first g p s e = omega (arith, e)
-nothing_left parts token x e just part.P = just.of_programme ∙ ap pos (second x.g x.p x.s e)
-  where
-    second : (g p s : ℕ) → g + p + s ≡ 0 → p ≡ 0
-    second g p s e = omega (arith, e)
-nothing_left parts token x e just part.S = just.of_user ∙ ap pos (third x.g x.p x.s e)
-  where
-    third : (g p s : ℕ) → g + p + s ≡ 0 → s ≡ 0
-    third g p s e = omega (arith, e)
+nothing_left parts token x e just part.G = let none : x.g ≡ 0 = omega (arith, e) in just.of_gateway ∙ ap pos none
+nothing_left parts token x e just part.P = let none : x.p ≡ 0 = omega (arith, e) in just.of_programme ∙ ap pos none
+nothing_left parts token x e just part.S = let none : x.s ≡ 0 = omega (arith, e) in just.of_user ∙ ap pos none

@@ -1,6 +1,6 @@
 -- A step keeps what transactions hold well, and ends no transaction that had ended.
 use Rattle.std.proofs.Common.{subst, sym, ◌≡◌, ℕ, ◌+◌, ◌≤◌, List, [], ◌++◌, fold, ap, arith}
-use Rattle.std.specs.Prelude.{ℤ, pos, ◌≤ℤ◌, Option, Some, unwrap_or}
+use Rattle.std.specs.Prelude.{ℤ, pos, Option, Some, unwrap_or}
 use Rattle.std.specs.Cmp.Lexicographic.{slice_cmp}
 use Rattle.std.specs.FinMap as finite
 use Rattle.std.specs.Ordering.{nat_cmp}
@@ -53,17 +53,13 @@ ends_then s t u xs ys h k =
     record {
       held = λ held. k.held (h.held held);
       left = λ token.
-          total (ends_left u.holdings.txns token) (ended_times token (xs ++ ys)) (ended_times token xs) (ended_times token ys) (ends_left t.holdings.txns token) (ends_left s.holdings.txns token)
-          (ended_append token xs ys) (k.left token) (h.left token);
+          omega (arith, ended_append token xs ys, k.left token, h.left token);
     }
-  where
-    total : (after all first second middle left : ℕ) → all ≡ first + second → after + second ≤ middle → middle + first ≤ left → after + all ≤ left
-    total after all first second middle left e h k = omega (arith, e, h, k)
 
 ends_through : (i : Input) (at : ℕ) → GoesThrough (IsHeldReady i at) Ends i at
 ends_through i at =
     record {
-      none = λ s. record { held = λ held. held; left = λ token. itself (ends_left s.holdings.txns token) };
+      none = λ s. record { held = λ held. held; left = λ token. omega arith };
       then = ends_then;
       due = λ s thing ready. record { held = thing_held s i thing at ready.taken; left = λ token. entries_left s (thing_entries thing at (core_facts s)) token (due_allowed s i thing at ready.taken) };
       own = λ s ready. record { held = own_held s i at ready.early ready.taken; left = λ token. entries_left s (entries_of i at (core_facts s)) token (own_allowed s i at ready.taken) };
@@ -73,9 +69,6 @@ ends_through i at =
         held = thing_held s i thing at ready.taken ready.held;
       };
     }
-  where
-    itself : (n : ℕ) → n + 0 ≤ n
-    itself n = omega arith
 
 step_ends : (s : CoreState) (r : Record) → IsNewEvent s r.input → IsWell s → IsHeldWell s → Ends (with_record s r) (step core_keeper s r).entries (step core_keeper s r).world
 step_ends s r new well held = step_leads s r (ends_through r.input r.at) (record { early = stamp_by_now s r; taken = ready_taken s r well new; held = held })
@@ -99,15 +92,12 @@ nothing_there key = ap (λ (o : Option ℤ). unwrap_or o (pos 0)) (finite.get-em
 pub nothing_held : IsHeldWell no_core
 nothing_held =
     record {
-      not_negative = λ token p. none (kept_at nothing_kept (part_key token p)) (nothing_there (part_key token p));
+      not_negative = λ token p. omega (arith, ints, nothing_there (part_key token p));
       ended = λ token dead p. nothing_there (part_key token p);
       pending = λ n c now first. none_stands n c now.stands;
       funded = λ token p out. nothing_there (part_key token p);
       asked = λ n c now. none_stands n c now.stands;
     }
-  where
-    none : (z : ℤ) → z ≡ pos 0 → pos 0 ≤ℤ z
-    none z e = omega (arith, ints, e)
 
 -- a state of legal records is well, and all is held well in it
 pub record HoldsWell (s : CoreState) : Type 0 where

@@ -1,5 +1,5 @@
 -- Entries leave the time as it is, a record's stamp isn't later than it, and transactions began by then.
-use Rattle.std.proofs.Common.{◌≡◌, ℕ, ◌≤◌, max, List, [], ◌∷◌, fold, refl, sym, ap, subst, ◌∙◌, arith}
+use Rattle.std.proofs.Common.{◌≡◌, ◌≤◌, List, [], ◌∷◌, fold, refl, sym, ap, subst, ◌∙◌, arith}
 use Rattle.std.specs.Str.{bytes_eq}
 use Rattle.iss_model.specs.declared.entry.Entry.{Entry}
 use Rattle.iss_model.specs.declared.entry.Entry.TheVariants as entry
@@ -31,10 +31,7 @@ entries_now s [] = refl
 entries_now s (e ∷ es) = entries_now (after_entry s e) es ∙ entry_now s e
 
 pub stamp_by_now : (s : CoreState) (r : Record) → r.at ≤ (with_record s r).now
-stamp_by_now s r = high s.now r.at
-  where
-    high : (a b : ℕ) → b ≤ max a b
-    high a b = omega arith
+stamp_by_now s r = omega arith
 
 -- transactions began by then ----
 

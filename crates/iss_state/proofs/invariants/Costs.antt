@@ -23,19 +23,20 @@ use Rattle.iss_model.specs.declared.setting.Set.{Set}
 use Rattle.iss_model.specs.declared.txn.Txn.{Txn}
 use Rattle.iss_model.specs.Currencies.{same_currency}
 use Rattle.iss_model.specs.rules.Activity.{CallNow, TxnNow, call_numbered, txn_named}
-use Rattle.iss_model.specs.rules.Acts.{Abandons, Act, Asks, Begins, Clears, Ends, Fails, Funds, FundsPart, GivesBack, HoldsOwn, LetsGo, Loads, Refuses, Sets, StandsIn, TurnsDown, Uses, act_entries}
+use Rattle.iss_model.specs.rules.Acts.{Abandons, Act, Asks, Begins, Clears, Ends, Fails, Funds, FundsPart, GivesBack, HoldsOwn, LetsGo, Loads, Refuses, Sets, StandsIn, TurnsDown, Uses, act_entries, entries_of_acts}
 use Rattle.iss_model.specs.rules.Asks.{Ask, ask_count, call_ask}
-use Rattle.iss_model.specs.rules.Due.{DueThing, thing_entries}
+use Rattle.iss_model.specs.rules.Due.{DueThing, thing_acts, thing_entries}
 use Rattle.iss_model.specs.rules.Facts.{Facts, asked_calls_of}
 use Rattle.iss_model.specs.rules.Pieces.{Parts, call_for, hold_entries, in_all, left_of, parts_held, post_entries, taken_to_clear, user_account, void_entry}
-use Rattle.iss_model.specs.rules.Stepping.{entries_of}
+use Rattle.iss_model.specs.rules.Stepping.{acts_of, entries_of}
 use Rattle.iss_model.specs.state.Cores.{CoreState, after_entry, call_after_close, core_facts}
 use Rattle.iss_model.proofs.Names.{one_name}
 use Rattle.iss_acts.specs.Causes.{Cause, ComesOf, FallsDue, clears, refunds}
 use Rattle.iss_acts.specs.Items.{may_begin}
-use Rattle.iss_acts.specs.Sources.{IsAskedCall, IsFirstAsk, IsFundedPart, IsFurtherAsk, IsMade, IsStart, IsTxnOf, setting_reason}
+use Rattle.iss_acts.specs.Sources.{IsAskedCall, IsFirstAsk, IsFundedPart, IsFurtherAsk, IsMade, IsRow, IsStart, IsTxnOf, setting_reason}
 use Rattle.iss_acts.specs.Stages.{Frees, Fresh, Keeps, Leaves, Over, Seeks, Stage, stage_after}
-use Rattle.iss_acts.proofs.Walk.{FromStart, Goes, due_goes, from_start, of_asked, own_goes, txn_of_ask, txn_of_call}
+use Rattle.iss_acts.proofs.Causes.{input_row, thing_row}
+use Rattle.iss_acts.proofs.Walk.{Goes, from_start, of_asked, row_goes, txn_of_ask, txn_of_call}
 use Rattle.iss_state.specs.Costs.{IsPayable, Spends, begins_none, cause_money, cause_use, input_money, input_use, money_left, use_left}
 use Rattle.iss_state.specs.Effects.{Effect, HoldsParts, Paid}
 use Rattle.iss_state.specs.Needs.{Stands, begun_txns}
@@ -160,7 +161,7 @@ module _ (by : Cause) (at : ℕ) (s : CoreState) (h : IsOrderlyState s) where
       spends (usage_effect s ask.txn (pos ask.amount) (ask_count ask) ask.at h (txn_stands s ask.txn (txn_of_ask more)))
       (omega (arith, four, ap cause_money more.its_input)) (omega (arith, four, ap cause_use more.its_input, at_most_one ask.is_first, one_more ask.amount))
 
-  gives_back_spends : (t : Txn) (amount programme : ℕ) → IsTxnOf (core_facts s) t → programme ≤ amount → cause_money by ≡ 2 * amount → Spends by Fresh s (GivesBack t amount programme)
+  pub gives_back_spends : (t : Txn) (amount programme : ℕ) → IsTxnOf (core_facts s) t → programme ≤ amount → cause_money by ≡ 2 * amount → Spends by Fresh s (GivesBack t amount programme)
   gives_back_spends t amount programme its le brought =
       let stands = txn_stands s t its in
       let xs = post_entries t (account.Network t.currency) (user_account t) amount in
@@ -179,22 +180,21 @@ module _ (by : Cause) (at : ℕ) (s : CoreState) (h : IsOrderlyState s) where
 
   -- asks that are settled ----
 
-  holds_own_spends : (q : CoreState) (ask : Ask) → IsPayable s (Seeks ask) q → Spends by (Seeks ask) q (HoldsOwn ask)
+  pub holds_own_spends : (q : CoreState) (ask : Ask) → IsPayable s (Seeks ask) q → Spends by (Seeks ask) q (HoldsOwn ask)
   holds_own_spends q ask known =
       let e1 = hold_effect q ask.txn part.S ask.amount known.0 known.1 in
       let e2 = still_effect (fold after_entry q (hold_entries ask.txn part.S ask.amount)) (entry.Decided ask.event verdict.Approved ∷ []) e1.orderly refl in
       spends (and_then e1 e2) (omega (arith, least_one ask.amount)) (omega (arith, least_one ask.amount))
 
-  asks_spend : (q : CoreState) (f : Facts) (product : Product) (ask : Ask) → f ≡ core_facts s → IsPayable s (Seeks ask) q → Spends by (Seeks ask) q (Asks f product ask)
-  asks_spend q f product ask same known =
-      spends (open_effect q (call_for f product ask) known.0 (ap (λ (f : Facts). length f.calls + 1) same ∙ ap (λ (n : ℕ). n + 1) (sym known.2))) (omega arith) (omega arith)
+  pub asks_spend : (q : CoreState) (f : Facts) (product : Product) (ask : Ask) → length f.calls ≡ length s.calls → IsPayable s (Seeks ask) q → Spends by (Seeks ask) q (Asks f product ask)
+  asks_spend q f product ask same known = spends (open_effect q (call_for f product ask) known.0 (ap (λ (n : ℕ). n + 1) (same ∙ sym known.2))) (omega arith) (omega arith)
 
-  turns_down_spends : (q : CoreState) (ask : Ask) (why : Reason) → IsPayable s (Seeks ask) q → Spends by (Seeks ask) q (TurnsDown ask why)
+  pub turns_down_spends : (q : CoreState) (ask : Ask) (why : Reason) → IsPayable s (Seeks ask) q → Spends by (Seeks ask) q (TurnsDown ask why)
   turns_down_spends q ask why known =
       let p = declined_ask_paid q ask why known.0 known.1 in
       spends p.effect (omega (arith, p.money)) (omega (arith, p.usage))
 
-  stands_in_spends : (q : CoreState) (number : ℕ) (ask : Ask) (when : ℕ) (set : Set) → IsPayable s (Seeks ask) q → Spends by (Seeks ask) q (StandsIn number ask when set)
+  pub stands_in_spends : (q : CoreState) (number : ℕ) (ask : Ask) (when : ℕ) (set : Set) → IsPayable s (Seeks ask) q → Spends by (Seeks ask) q (StandsIn number ask when set)
   stands_in_spends q number ask when set known =
       let p = set_stand_in_paid q number ask when set known.0 known.1 in
       spends p.effect (omega (arith, p.money, least_one ask.amount)) (omega (arith, p.usage, least_one ask.amount))
@@ -221,7 +221,7 @@ module _ (by : Cause) (at : ℕ) (s : CoreState) (h : IsOrderlyState s) where
       at_first q _ made.from.0 known (spends (calm_effect s (act_entries (Loads event user currency amount)) h (tt, (tt, tt)) refl) (omega (arith, ap cause_money made.from.1)) (omega arith))
   act_spends g q (Uses ask) made none known = at_first q _ made.from.0 known (uses_spend ask made.from.1)
   act_spends g q (HoldsOwn ask) made none known = spends_at q _ made.from.0 (holds_own_spends q ask (known_at q made.from.0 known))
-  act_spends g q (Asks f product ask) made none known = spends_at q _ made.from.0 (asks_spend q f product ask made.from.1 (known_at q made.from.0 known))
+  act_spends g q (Asks f product ask) made none known = spends_at q _ made.from.0 (asks_spend q f product ask (ap (λ (f : Facts). length f.calls) made.from.1) (known_at q made.from.0 known))
   act_spends g q (Funds o t) made none known = at_first q _ made.from.0 known (funds_spend o t made.from.1)
   act_spends g q (FundsPart o t amount) made none known = at_first q _ made.from.0 known (funds_part_spend o t amount made.from.1 (part_within made.from.2))
   act_spends g q (Refuses o t) made none known = at_first q _ made.from.0 known (refuses_spend o t made.from.1)
@@ -288,21 +288,21 @@ module _ (by : Cause) (at : ℕ) (s : CoreState) (h : IsOrderlyState s) where
   start_known = from_start (λ g. IsPayable s g s) refl (λ t its. (h, txn_stands s t its, parts_are_held s t, refl))
 
   -- what a whole row costs, whichever stage it starts at
-  row_paid : {es : List Entry} → FromStart (core_facts s) (λ g q es. Paid (money_left by g) (use_left by g) q es) s es → Paid (cause_money by) (cause_use by) s es
-  row_paid {es} row = paid row.first row.starts row.holds
+  pub row_paid : (acts : List Act) → IsRow (core_facts s) by at acts → ((ask : Ask) → IsFirstAsk (core_facts s) by at ask → ⊥) → Paid (cause_money by) (cause_use by) s (entries_of_acts acts)
+  row_paid acts row none = let goes = row_goes s acts row (all_paid none) start_known in paid goes.first goes.starts goes.holds
     where
-      paid : (g : Stage) → IsStart (core_facts s) g → Paid (money_left by g) (use_left by g) s es → Paid (cause_money by) (cause_use by) s es
+      paid : (g : Stage) → IsStart (core_facts s) g → Paid (money_left by g) (use_left by g) s (entries_of_acts acts) → Paid (cause_money by) (cause_use by) s (entries_of_acts acts)
       paid Fresh starts p = p
       paid (Keeps t parts) starts p = paid_more (cause_money by) (cause_use by) p (omega arith) (omega arith)
       paid _ starts p = elim starts [ ]
 
 -- what is due is paid from what was at stake
 pub thing_paid : (s : CoreState) (thing : DueThing) (at : ℕ) → IsOrderlyState s → Paid 0 0 s (thing_entries thing at (core_facts s))
-thing_paid s thing at h = row_paid FallsDue at s h (due_goes (core_facts s) thing at s (all_paid FallsDue at s h (λ ask first. let bad = first.its_input in cc)) (start_known FallsDue at s h))
+thing_paid s thing at h = row_paid FallsDue at s h (thing_acts thing at (core_facts s)) (thing_row (core_facts s) thing at) (λ ask first. let bad = first.its_input in cc)
 
 -- and an input that begins no transaction by what it brings
 pub input_paid : (s : CoreState) (i : Input) (at : ℕ) → IsOrderlyState s → begins_none i ≡ true → Paid (input_money i) (input_use i) s (entries_of i at (core_facts s))
-input_paid s i at h none = row_paid (ComesOf i) at s h (own_goes (core_facts s) i at s (all_paid (ComesOf i) at s h other) (start_known (ComesOf i) at s h))
+input_paid s i at h none = row_paid (ComesOf i) at s h (acts_of i at (core_facts s)) (input_row (core_facts s) i at) other
   where
     other : (ask : Ask) → IsFirstAsk (core_facts s) (ComesOf i) at ask → ⊥
     other ask first = by (input.Authorization first.token first.card first.currency first.amount first.mcc first.mid first.partial) first.its_input refl

@@ -32,13 +32,10 @@ use Rattle.iss_state.proofs.invariants.Sound.{AllAreWithin}
 
 -- ---- sums within the reach of records are small
 
-reach_is_small : (n m : ℕ) → n ≤ MOST_RECORDS → m ≤ reach_of n → m < 2 ^ 62
-reach_is_small n m room le = omega (arith, room, le)
-
 within_small : (n m : ℕ) (sums : Kept) → n ≤ MOST_RECORDS → m ≤ reach_of n → AreWithin m sums → AreSmall sums
 within_small n m sums room le within key =
     let w : IsWithin m (kept_at sums key) = within key in
-    let below : m < 2 ^ 62 = reach_is_small n m room le in
+    let below : m < 2 ^ 62 = omega (arith, room, le) in
     record { low = omega (arith, ints, w.low, below); high = omega (arith, ints, w.high, below) }
 
 counted_small : (n m : ℕ) (cs : List ControlKept) → n ≤ MOST_RECORDS → m ≤ reach_of n → HaveCounted m cs → HaveCountedSmall cs
@@ -67,7 +64,7 @@ records_small rs room legal form = sound_small (length rs) (core_of rs) room (re
 -- what a call asks is at stake, so it is small
 pub asked_small : (n : ℕ) (s : CoreState) (number : ℕ) (c : CallNow) → n ≤ MOST_RECORDS → IsSoundAt n s → call_numbered number s.calls ≡ Some c → is_asked c ≡ true → c.opened.amount < 2 ^ 62
 asked_small n s number c room h found asked =
-    reach_is_small n c.opened.amount room (omega (arith, h.money_within, asked_after_close number how.Abandoned s.calls c found asked, least_one c.opened.amount))
+    omega (arith, room, h.money_within, asked_after_close number how.Abandoned s.calls c found asked, least_one c.opened.amount)
 
 -- ---- entries one by one
 
