@@ -65,10 +65,10 @@ AsksSmall s n c = call_at s n ≡ Some c → is_asked c ≡ true → c.opened.am
 abbrev pub IsFundedSmall : CoreState → ℕ → CallNow → ℕ → Type 0
 IsFundedSmall s n c amount = call_at s n ≡ Some c → c.how ≡ Some (how.Partial amount) → amount < 2 ^ 62
 
--- if an event was approved for this part, the part is less than 2^62
-abbrev pub IsApprovedSmall : CoreState → List ℕ → Currency → ℕ → Type 0
-IsApprovedSmall s event currency amount =
-    (core_facts s).decisions event ≡ Some (verdict.Partial currency amount) → amount < 2 ^ 62
+-- if an event is approved for this part, the part is less than 2^62
+abbrev pub IsApprovedSmall : CoreState → List ℕ → ℕ → Type 0
+IsApprovedSmall s event amount =
+    (currency : Currency) → (core_facts s).decisions event ≡ Some (verdict.Partial currency amount) → amount < 2 ^ 62
 
 -- how an answer to a call is judged at a moment
 abbrev pub answer_judged : CoreState → CallId → Outcome → ℕ → Judged

@@ -1,8 +1,9 @@
 -- States and entries whose fields are of their forms.
-use Rattle.std.specs.Prelude.{Bool, List, None, Option, Some, ℕ, true, ◌&&◌, ◌≡◌}
+use Rattle.std.specs.Prelude.{Bool, List, None, Option, Some, ℕ, true, ◌&&◌, ◌<◌, ◌^◌, ◌≡◌}
 use Rattle.std.specs.List.{list_all}
 use Rattle.iss_model.specs.declared.call.How.{How}
 use Rattle.iss_model.specs.declared.call.How.TheVariants as how
+use Rattle.iss_model.specs.declared.currency.Currency.{Currency}
 use Rattle.iss_model.specs.declared.decision.Verdict.{Verdict}
 use Rattle.iss_model.specs.declared.decision.Verdict.TheVariants as verdict
 use Rattle.iss_model.specs.declared.entry.Entry.{Entry}
@@ -73,6 +74,11 @@ is_entry_in_form (entry.Decided event verdict) = is_verdict_in_form verdict
 is_entry_in_form (entry.Usage row) = is_stamp row.at
 is_entry_in_form (entry.Stood set product user amount at) = is_stamp at
 is_entry_in_form _ = true
+
+-- a part that an entry in form approves an event for is less than 2^62
+abbrev pub ApprovesSmall : List ℕ → Currency → ℕ → Type 0
+ApprovesSmall event currency amount =
+    is_entry_in_form (entry.Decided event (verdict.Partial currency amount)) ≡ true → amount < 2 ^ 62
 
 -- each of these entries is in form
 abbrev pub AreEntriesInForm : List Entry → Type 0

@@ -1,16 +1,14 @@
 //! What is of its form stays so.
-ghost use Rattle.std.specs.Prelude.{◌≡◌, ◌<◌, ◌^◌, ℕ, true, List};
+ghost use Rattle.std.specs.Prelude.{◌≡◌, ℕ, true, List};
 ghost use Rattle.iss_model.specs.declared.currency.Currency.{Currency};
-ghost use Rattle.iss_model.specs.declared.decision.Verdict.TheVariants as verdict;
 ghost use Rattle.iss_model.specs.declared.entry.Entry.{Entry};
-ghost use Rattle.iss_model.specs.declared.entry.Entry.TheVariants as entry;
 ghost use Rattle.iss_model.specs.declared.input.Input.{Input};
 ghost use Rattle.iss_model.specs.declared.input.Record.{Record};
 ghost use Rattle.iss_model.specs.Forms.{is_stamp};
 ghost use Rattle.iss_model.specs.rules.Activity.{CallNow};
 ghost use Rattle.iss_model.specs.rules.Due.{DueThing};
 ghost use Rattle.iss_model.specs.state.Cores.{CoreState, no_core, with_record, after_entry};
-ghost use Rattle.iss_state.specs.InForm.{AreEntriesInForm, IfInFormAt, IfInFormWith, IsInForm, is_entry_in_form};
+ghost use Rattle.iss_state.specs.InForm.{ApprovesSmall, AreEntriesInForm, IfInFormAt, IfInFormWith, IsInForm, is_entry_in_form};
 ghost use Rattle.iss_state.specs.Asked.{IsApprovedSmall, IsFundedSmall};
 ghost use Rattle.iss_state.specs.After.{after_entries, due_entries, input_entries};
 
@@ -23,12 +21,12 @@ pub fn states_stay_in_form()
 {}
 
 /// In a state in form, the part that a call was funded with is less than 2^62, and so is the part that an event is approved for.
+/// So is a part that an entry in form approves an event for.
 pub fn parts_are_small()
     ensures funded { (s : CoreState) (n : ℕ) (c : CallNow) (amount : ℕ) → IsInForm s → IsFundedSmall s n c amount }
-    ensures approved { (s : CoreState) (event : List ℕ) (currency : Currency) (amount : ℕ)
-        → IsInForm s → IsApprovedSmall s event currency amount }
+    ensures approved { (s : CoreState) (event : List ℕ) (amount : ℕ) → IsInForm s → IsApprovedSmall s event amount }
     ensures entered { (event : List ℕ) (currency : Currency) (amount : ℕ)
-        → is_entry_in_form (entry.Decided event (verdict.Partial currency amount)) ≡ true → amount < 2 ^ 62 }
+        → ApprovesSmall event currency amount }
 {}
 
 /// On a state in form, each entry of a due item that is settled at a stamp is in form, and so is each that an input in form makes at one.

@@ -1,5 +1,5 @@
 //! What acts cost, and the pieces that they are made of.
-ghost use Rattle.std.specs.Prelude.{ℕ, ◌≤◌};
+ghost use Rattle.std.specs.Prelude.{ℕ};
 ghost use Rattle.iss_model.specs.declared.account.Account.{Account};
 ghost use Rattle.iss_model.specs.declared.account.Part.{Part};
 ghost use Rattle.iss_model.specs.declared.call.Opened.{Opened};
@@ -14,7 +14,8 @@ ghost use Rattle.iss_state.specs.Effects.{IfHolds, IfStands};
 ghost use Rattle.iss_state.specs.Payments.{AbandonmentIsPaid, DeclineIsPaid, EndIsPaid, FundingIsPaid, PartIsPaid, ReleaseIsPaid, StandInIsPaid};
 
 /// A release is paid by what it lets go, and an abandonment by what its calls ask, so an end costs nothing.
-/// An ask that is decided costs at most four times what was asked in money and twice in use, whoever decides it.
+/// An ask that is decided costs at most four times what was asked in money and twice in use, whoever decides it; a part that is funded,
+/// four times the part in money.
 #[tactic(auto, using(crate::proofs::effects::Asks::end_paid, crate::proofs::effects::Asks::declined_ask_paid, crate::proofs::effects::Asks::funded_ask_paid, crate::proofs::effects::Asks::part_funded_paid, crate::proofs::effects::Asks::set_stand_in_paid))]
 pub fn pieces_are_paid()
     ensures release { (s : CoreState) (t : Txn) (parts : Parts) (amount : ℕ)
@@ -28,7 +29,7 @@ pub fn pieces_are_paid()
     ensures funded { (s : CoreState) (ask : Ask) (from : Account) (p : Part)
         → IfStands s ask.txn (FundingIsPaid s ask from p) }
     ensures part_funded { (s : CoreState) (o : Opened) (t : Txn) (amount : ℕ)
-        → amount ≤ o.amount → IfStands s t (PartIsPaid s o t amount) }
+        → IfStands s t (PartIsPaid s o t amount) }
     ensures stood_in { (s : CoreState) (number : ℕ) (ask : Ask) (at : ℕ) (set : Set)
         → IfStands s ask.txn (StandInIsPaid s number ask at set) }
 {}

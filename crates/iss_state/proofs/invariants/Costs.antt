@@ -142,7 +142,7 @@ module _ (by : Cause) (at : ℕ) (s : CoreState) (h : IsOrderlyState s) where
   funds_part_spend : (o : Opened) (t : Txn) (amount : ℕ) → IsAskedCall (core_facts s) o t → amount ≤ o.amount → Spends by Fresh s (FundsPart o t amount)
   funds_part_spend o t amount asked le =
       let e1 = closed o t (how.Partial amount) asked in
-      let p = part_funded_paid (fold after_entry s (entry.Closed o.call (how.Partial amount) ∷ [])) o t amount le e1.orderly (stands_then t e1 (txn_stands s t (txn_of_call asked))) in
+      let p = part_funded_paid (fold after_entry s (entry.Closed o.call (how.Partial amount) ∷ [])) o t amount e1.orderly (stands_then t e1 (txn_stands s t (txn_of_call asked))) le in
       spends (and_then e1 p.effect) (omega (arith, p.money, le, least_one o.amount)) (omega (arith, p.usage, least_one o.amount))
 
   refuses_spend : (o : Opened) (t : Txn) → IsAskedCall (core_facts s) o t → Spends by Fresh s (Refuses o t)

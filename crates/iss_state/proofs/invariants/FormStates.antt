@@ -20,7 +20,7 @@ use Rattle.iss_model.specs.Forms.{is_amount, is_in_form, is_stamp}
 use Rattle.iss_model.specs.rules.Activity.{CallNow, TxnNow, is_asked}
 use Rattle.iss_model.specs.rules.Facts.{Decision}
 use Rattle.iss_model.specs.state.Cores.{CoreState, ProductNow, after_entry, after_setting, call_after_close, is_live, no_core, product_after_switch, txn_after_end, with_record}
-use Rattle.iss_state.specs.InForm.{IsInForm, are_times, is_begun_at_stamp, is_closed_in_form, is_decided_in_form, is_end_in_form, is_entry_in_form, is_how_in_form, is_opened_at_stamp, is_verdict_in_form}
+use Rattle.iss_state.specs.InForm.{ApprovesSmall, IsInForm, are_times, is_begun_at_stamp, is_closed_in_form, is_decided_in_form, is_end_in_form, is_entry_in_form, is_how_in_form, is_opened_at_stamp, is_verdict_in_form}
 use Rattle.iss_model.proofs.Lists.{find_passes}
 use Rattle.iss_state.specs.Asked.{IsApprovedSmall, IsFundedSmall}
 use Rattle.iss_state.proofs.invariants.OwnEntries.{most_amount}
@@ -167,8 +167,8 @@ pub funded_small : (s : CoreState) (n : ℕ) (c : CallNow) (amount : ℕ) → Is
 funded_small s n c amount form found funded =
     small_amount amount (sym (ap is_end_in_form funded) ∙ find_passes (λ (c : CallNow). nat_eq c.opened.call.0 n) is_closed_in_form s.calls c form.closed found)
 
-pub approved_small : (s : CoreState) (event : List ℕ) (currency : Currency) (amount : ℕ) → IsInForm s → IsApprovedSmall s event currency amount
-approved_small s event currency amount form approved = by (find (λ (d : Decision). bytes_eq d.event event) s.decisions) refl approved
+pub approved_small : (s : CoreState) (event : List ℕ) (amount : ℕ) → IsInForm s → IsApprovedSmall s event amount
+approved_small s event amount form currency approved = by (find (λ (d : Decision). bytes_eq d.event event) s.decisions) refl approved
   where
     by : (o : Option Decision) → find (λ (d : Decision). bytes_eq d.event event) s.decisions ≡ o → option_map (λ (d : Decision). d.verdict) o ≡ Some (verdict.Partial currency amount) → amount < 2 ^ 62
     by None found e = cc
@@ -176,7 +176,7 @@ approved_small s event currency amount form approved = by (find (λ (d : Decisio
         let same : d.verdict ≡ verdict.Partial currency amount = cc in
         small_amount amount (sym (ap is_verdict_in_form same) ∙ find_passes (λ (d : Decision). bytes_eq d.event event) is_decided_in_form s.decisions d form.decided found)
 
-pub decided_small : (event : List ℕ) (currency : Currency) (amount : ℕ) → is_entry_in_form (entry.Decided event (verdict.Partial currency amount)) ≡ true → amount < 2 ^ 62
+pub decided_small : (event : List ℕ) (currency : Currency) (amount : ℕ) → ApprovesSmall event currency amount
 decided_small event currency amount form = small_amount amount form
 
 -- ---- a record is taken up
