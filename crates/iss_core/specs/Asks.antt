@@ -15,7 +15,7 @@ use Rattle.iss_core.specs.declared.asks.Ask.{Ask}
 
 -- an ask as the rules speak of it
 abbrev pub ask_of : Ask → rule.Ask
-ask_of ask = record { event = ask.event; txn = ask.txn; amount = ask.amount; is_first = ask.first; at = ask.at }
+ask_of ask = record { event = ask.event; txn = ask.txn; amount = ask.amount; is_first = ask.first; partial = ask.partial; at = ask.at }
 
 -- an ask is declined by the control that it breaches, and else if the user's own balance lacks the funds
 abbrev pub ask_reason : Facts → rule.Ask → Option Reason

@@ -31,7 +31,7 @@ use Rattle.iss_core.specs.declared.operations.Operation.{Operation}
 -- a purchase on a card of a product, as an ask
 abbrev pub purchase_ask : Facts → Purchase → Card → Product → Ask
 purchase_ask f p card product =
-    first_ask p.token p.amount p.at (txn_begun f card product p.token p.currency p.mcc p.mid p.at)
+    first_ask p.token p.amount p.partial p.at (txn_begun f card product p.token p.currency p.mcc p.mid p.at)
 
 -- a purchase as an ask, if its card and product are known
 abbrev pub card_ask : Facts → Purchase → Option Card → Option Ask

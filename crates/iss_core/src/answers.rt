@@ -4,7 +4,7 @@ ghost use Rattle.std.specs.List.{list_all};
 ghost use Rattle.iss_model.specs.Forms.{is_stamp};
 ghost use Rattle.iss_model.specs.rules.Facts.{asked_calls_of, call_in, next_notice};
 ghost use Rattle.iss_model.specs.rules.Acts.{entries_of_acts};
-ghost use Rattle.iss_model.specs.rules.CardActs.{answer_acts, failed_acts, outcome_acts};
+ghost use Rattle.iss_model.specs.rules.CardActs.{answer_acts, counts_as_part, failed_acts, outcome_acts};
 ghost use Rattle.iss_model.specs.rules.Due.{expiry_acts};
 ghost use Rattle.iss_model.specs.rules.Pieces.{abandoned_calls_entries, notice_after_abandonment};
 ghost use Rattle.iss_core.specs.States.{facts_of, kept_state};
@@ -14,12 +14,12 @@ ghost use Rattle.iss_core.specs.Answers.{asked_with, abandoned_entries};
 
 use crate::asks::Ask;
 use crate::pieces::{
-    put_abandoned, put_declined_ask, put_funded_ask, put_notice_of_some, put_void,
+    put_abandoned, put_declined_ask, put_funded_ask, put_notice_of_some, put_part_funded, put_void,
 };
 use crate::state::State;
 use iss_chain::pieces;
 use iss_hold::Hold;
-use iss_model::{CallId, Entry, Failure, How, Method, Opened, Outcome, Reason, Txn};
+use iss_model::{CallId, Currency, Entry, Failure, How, Method, Opened, Outcome, Reason, Txn};
 use std::alloc::{AllocError, Global};
 
 impl State {
@@ -78,7 +78,13 @@ impl State {
                 put_declined_ask(out, &Ask::of_call(opened, txn), Reason::GatewayDeclined)
             }
             Outcome::Connection => self.put_failed(out, opened, txn, Failure::Connection, at),
-            Outcome::Application => self.put_failed(out, opened, txn, Failure::Application, at),
+            Outcome::Partial(currency, amount) if counts_as_part(opened, currency, amount) => {
+                out.push(Entry::Closed(opened.call, How::Partial(amount)))?;
+                put_part_funded(out, opened, txn, amount)
+            }
+            Outcome::Application | Outcome::Partial(..) => {
+                self.put_failed(out, opened, txn, Failure::Application, at)
+            }
         }
     }
 
@@ -136,6 +142,14 @@ impl State {
         let asked = self.calls.asked_of(alloc, &txn.token)?;
         abandon(out, number, txn, why, &asked)
     }
+}
+
+/// Whether a part of a call's amount counts: if the call permits one, and it is in its currency and less than all. Any
+/// other part is no answer.
+fn counts_as_part(opened: &Opened, currency: Currency, amount: u64) -> bool
+    ensures { result ≡ counts_as_part opened.now currency amount }
+{
+    opened.partial && currency == opened.currency && amount < opened.amount
 }
 
 /// Calls are abandoned one by one, with notices from this number on. Returns the number of the next notice.

@@ -1,8 +1,8 @@
 //! Asks: what an authorisation or an increment wants, why it is declined by that, and how it is paid.
-ghost use Rattle.std.specs.Prelude.{◌≡◌, ◌+◌, ◌<◌, ◌^◌, ◌∷◌, [], ◌++◌, OnOk, IsTrue};
+ghost use Rattle.std.specs.Prelude.{◌≡◌, ◌+◌, ◌<◌, ◌≤◌, ◌^◌, ◌∷◌, [], ◌++◌, OnOk, IsTrue};
 ghost use Rattle.iss_model.specs.declared.entry.Entry.TheVariants as entry;
 ghost use Rattle.iss_model.specs.Forms.{is_amount, is_stamp, is_timeout};
-ghost use Rattle.iss_model.specs.rules.Asks.{ask_usage, ask_given_back, call_ask, usage_of, breach};
+ghost use Rattle.iss_model.specs.rules.Asks.{ask_usage, ask_given_back, call_ask, rest_given_back, usage_of, breach};
 ghost use Rattle.iss_model.specs.rules.CardReasons.{lacks_funds};
 ghost use Rattle.iss_model.specs.rules.Acts.{entries_of_acts};
 ghost use Rattle.iss_model.specs.rules.CardActs.{funding_acts, stand_acts};
@@ -31,6 +31,8 @@ pub(crate) struct Ask {
     pub amount: u64,
     /// Whether it is the transaction's authorisation.
     pub first: bool,
+    /// Whether the gateway may fund a part of the amount.
+    pub partial: bool,
     /// In milliseconds since 1970.
     pub at: u64,
 }
@@ -45,6 +47,7 @@ impl Ask {
             txn: *txn,
             amount: opened.amount,
             first: matches!(opened.method, Method::Authorization),
+            partial: opened.partial,
             at: opened.at,
         }
     }
@@ -93,6 +96,16 @@ impl Ask {
             first: self.first,
         }
     }
+}
+
+/// The use that comes back if a call is funded for this amount: that of the rest, at the stamp of its event.
+pub(crate) fn rest_given_back(opened: &Opened, txn: &Txn, amount: u64) -> UsageRow
+    requires part { amount ≤ opened.now.amount }
+    requires small { opened.now.amount < 2 ^ 63 }
+    ensures { result ≡ rest_given_back opened.now txn.now amount }
+{
+    let rest = opened.amount - amount;
+    usage(txn, -(rest as i64), 0, opened.at)
 }
 
 /// An amount and a count as use of a transaction.
@@ -202,6 +215,7 @@ impl State {
             mcc: txn.mcc,
             mid: txn.mid,
             amount: ask.amount,
+            partial: ask.partial,
             at: ask.at,
             deadline: ask.at + product.timeout_ms,
         }

@@ -41,6 +41,7 @@ impl State {
                 amount,
                 mcc,
                 mid,
+                partial,
             } => {
                 let purchase = Purchase {
                     token: *token,
@@ -49,6 +50,7 @@ impl State {
                     amount: *amount,
                     mcc: *mcc,
                     mid: *mid,
+                    partial: *partial,
                     at: accepted.at,
                 };
                 self.put_authorization(out, &purchase)

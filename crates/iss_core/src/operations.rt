@@ -48,6 +48,7 @@ impl Operation {
             txn: *txn,
             amount: self.amount,
             first: false,
+            partial: false,
             at: self.at,
         }
     }

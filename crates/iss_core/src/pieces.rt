@@ -1,14 +1,14 @@
 //! The pieces of entries that the core adds to those of transactions, each after those that are made already.
-ghost use Rattle.std.specs.Prelude.{◌≡◌, ◌<◌, ◌^◌, ◌∷◌, [], ◌++◌, Some, None, OnOk};
+ghost use Rattle.std.specs.Prelude.{◌≡◌, ◌<◌, ◌≤◌, ◌^◌, ◌∷◌, [], ◌++◌, Some, None, OnOk};
 ghost use Rattle.iss_model.specs.declared.account.Account.TheVariants as account;
 ghost use Rattle.iss_model.specs.declared.account.Part.TheVariants as part;
 ghost use Rattle.iss_model.specs.declared.entry.Entry.TheVariants as entry;
-ghost use Rattle.iss_model.specs.rules.Pieces.{only_gateway, only_where, notice_entry, void_entry, abandoned_call_entries, declined_ask_entries, funded_ask_entries, failure_reason};
+ghost use Rattle.iss_model.specs.rules.Pieces.{only_gateway, only_where, notice_entry, void_entry, abandoned_call_entries, declined_ask_entries, funded_ask_entries, part_funded_entries, failure_reason};
 ghost use Rattle.iss_model.specs.rules.Acts.{Declines, act_entries};
 ghost use Rattle.iss_core.specs.Asks.{ask_of};
 ghost use Rattle.iss_core.specs.Standing.{stood_entries};
 
-use crate::asks::Ask;
+use crate::asks::{Ask, rest_given_back};
 use iss_chain::pieces;
 use iss_model::{
     CallId, Entry, Failure, Funding, How, Method, Notice, Opened, Part, Reason, Token, Txn, Verdict,
@@ -157,6 +157,22 @@ pub(crate) fn put_funded_ask(out: &mut Vec<Entry>, ask: &Ask) -> Result<(), Allo
 {
     pieces::fund(out, &ask.txn, Part::G, ask.amount)?;
     put_decided(out, &ask.event, Verdict::Approved)
+}
+
+/// A part of a call's amount is there and held, the use of the rest returned, and the call's event approved for the part.
+pub(crate) fn put_part_funded(
+    out: &mut Vec<Entry>,
+    opened: &Opened,
+    txn: &Txn,
+    amount: u64,
+) -> Result<(), AllocError>
+    requires part { amount ≤ opened.now.amount }
+    requires small { opened.now.amount < 2 ^ 63 }
+    ensures { OnOk result (out.new.items ≡ out.old.items ++ part_funded_entries opened.now txn.now amount) }
+{
+    out.push(Entry::Usage(rest_given_back(opened, txn, amount)))?;
+    pieces::fund(out, txn, Part::G, amount)?;
+    put_decided(out, &opened.event, Verdict::Partial(txn.currency, amount))
 }
 
 /// The programme pays in the gateway's place, by the set of a name.

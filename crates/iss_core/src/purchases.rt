@@ -26,6 +26,8 @@ pub(crate) struct Purchase {
     /// The merchant category code of ISO 18245.
     pub mcc: u16,
     pub mid: Token,
+    /// Whether the gateway may fund a part of the amount.
+    pub partial: bool,
     /// In milliseconds since 1970.
     pub at: u64,
 }
@@ -101,6 +103,7 @@ impl State {
             },
             amount: purchase.amount,
             first: true,
+            partial: purchase.partial,
             at: purchase.at,
         }
     }
