@@ -15,6 +15,7 @@ use Rattle.iss_model.specs.Inputs.{is_event}
 use Rattle.iss_model.specs.rules.Facts.{Accepted, Decision}
 use Rattle.iss_model.specs.state.Kept.{AreSmall}
 use Rattle.iss_model.specs.state.Cores.{CoreState, ControlKept, control_after_use, core_facts}
+use Rattle.iss_acts.specs.Sources.{setting_reason}
 use Rattle.iss_state.specs.Needs.{IsCovered}
 use Rattle.iss_state.proofs.effects.FoundByName.{named_found, standing_found, later_unlike}
 use Rattle.iss_state.specs.Entering.{HaveCountedSmall}
@@ -71,7 +72,7 @@ chain_may s e may =
 
 -- ---- the other parts
 
-pub setting_may : (s : CoreState) (e : Entry) (i : Input) → e ≡ entry.Conf i → MayEnter s e → needs.setting_reason (core_facts s) i ≡ None
+pub setting_may : (s : CoreState) (e : Entry) (i : Input) → e ≡ entry.Conf i → MayEnter s e → setting_reason (core_facts s) i ≡ None
 setting_may s e i is may = (subst (MayEnter s) is may).enterable.fit
 
 pub call_may : (s : CoreState) (e : Entry) (o : Opened) → e ≡ entry.Opened o → MayEnter s e → o.call.0 ≡ length s.calls + 1
