@@ -22,7 +22,7 @@ pub record Shows (bytes : List ℕ) (rows : List EventRow) (names : List (List �
   pub kept : IsKept bytes rows names decided
   pub view : events_now (standings_of bytes rows) decided ≡ value
 
--- the same with an input of this stamp and number, if it is an event
+-- the events with an input of this stamp and number after them, if it is an event
 abbrev pub with_input : EventsNow → EventRow → Input → EventsNow
 with_input value row i = record value { accepted = value.accepted ++ (cond (is_some (event_token i)) (record { number = row.number; at = row.at; input = i } ∷ []) []) }
 

@@ -45,7 +45,7 @@ decisions_at ss places = filter_map (decision_at ss) places
 abbrev pub decision_named : List ℕ → List Decision → Option Decision
 decision_named name ds = find (λ d. bytes_eq d.event name) ds
 
--- The places of the events that are decided, in the order of their decisions: each has a verdict, and each verdict is found by its event's name.
+-- The places of the events that are decided, in the order of their decisions. Each has a verdict, which is found by its event's name.
 pub record AreDecided (ss : List Standing) (places : List ℕ) : Type 0 where
   pub made : AllByRecursion (λ place. IsSome (decision_at ss place)) places
   pub found : (name : List ℕ) → decision_named name (decisions_at ss places) ≡ option_and_then decision_made (standing_named name ss)

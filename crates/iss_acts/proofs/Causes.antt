@@ -1,4 +1,4 @@
--- The acts of a due thing and of an input are a row: each has a cause that may act so, and comes of the facts.
+-- The acts of a due thing and of an input are a row. Each has a cause that may act so, and comes from the facts.
 use Rattle.std.proofs.Common.{arith, Bool, List, [], ap, ap₂, cond, false, length, nat_eq, refl, subst, sym, true, ℕ, ◌&&◌, ◌+◌, ◌-◌, ◌++◌, ◌||◌, ◌∷◌, ◌∙◌, ◌≡◌, ◌≤◌, min, inl, inr}
 use Rattle.std.specs.Prelude.{Option, Some, None, option_map}
 use Rattle.std.specs.Str.{bytes_eq}
@@ -201,7 +201,7 @@ its_token txn (t ∷ ts) now e = by (bytes_eq t.txn.token txn) refl (its_token t
     by true h rest e = subst (λ (x : TxnNow). bytes_eq x.txn.token txn ≡ true) (found t now e) h
     by false h rest e = rest e
 
--- and the amount is the input's own
+-- a transaction that is found has the token looked for, and an amount equals itself
 its_amount : (f : Facts) (txn : List ℕ) (now : TxnNow) (amount : ℕ) → txn_in f txn ≡ Some now → (bytes_eq now.txn.token txn && nat_eq amount amount) ≡ true
 its_amount f txn now amount e = ap₂ (λ (a b : Bool). a && b) (its_token txn f.txns now e) (same_number amount)
 

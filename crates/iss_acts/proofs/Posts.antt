@@ -42,6 +42,6 @@ item_within _ = refl
 pub posts_within : {f : Facts} {by : Cause} {at : ℕ} → Holds f by at (EachPasses posts_within_one_currency)
 posts_within = each_item (λ g a made x may. item_within x)
 
--- and so does each entry of a step
+-- each entry of a step passes
 pub step_posts_within : {W : Type 0} (k : Keeper W) (w : W) (r : Record) → EachPasses posts_within_one_currency (step k w r).entries
 step_posts_within k w r = step_holds k w r (λ f. posts_within) (λ f. posts_within)

@@ -1,4 +1,4 @@
--- What holds of each due thing and of a record's own entries holds of a whole step: for any keeper, and from state to state for a core.
+-- What holds of each due thing and of a record's own entries holds of a whole step. That is so for any keeper, and from state to state for a core.
 use Rattle.std.proofs.Common.{List, [], fold, ℕ, ◌++◌, ◌∷◌}
 use Rattle.iss_model.specs.declared.entry.Entry.{Entry}
 use Rattle.iss_model.specs.declared.input.Input.{Input}

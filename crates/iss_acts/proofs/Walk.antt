@@ -85,7 +85,7 @@ own_goes f i at w goes known =
 pub of_asked : {f : Facts} {o : Opened} {t : Txn} (P : Opened → Txn → Type 0) (asked : IsAskedCall f o t) → P asked.its.opened asked.now.txn → P o t
 of_asked {o = o} P asked h = subst (λ (x : Txn). P o x) asked.same (subst (λ (x : Opened). P x asked.now.txn) asked.opened h)
 
--- what is known if nothing is made, and if a transaction of the facts holds what they say, is known at the start of a row
+-- what is known if nothing is made, or of a transaction that holds what the facts say, is known at a row's start
 pub from_start : {f : Facts} (Known : Stage → Type 0) → Known Fresh → ((t : Txn) → IsTxnOf f t → Known (Keeps t (parts_held f t))) → (g : Stage) → IsStart f g → Known g
 from_start Known fresh keeps Fresh starts = fresh
 from_start Known fresh keeps (Keeps t parts) starts = subst (λ (parts : Parts). Known (Keeps t parts)) (sym starts.1) (keeps t starts.0)

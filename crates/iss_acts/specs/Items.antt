@@ -1,4 +1,4 @@
--- The entries of acts, each by what it is made for, and which act makes which.
+-- Items: the entries of acts, each by what it is made for, and which act may make which.
 use Rattle.std.specs.Prelude.{ℕ, ℤ, pos, neg_ℤ, Bool, true, false, List, Some, None}
 use Rattle.iss_model.specs.declared.account.Account.{Account}
 use Rattle.iss_model.specs.declared.account.Account.TheVariants as account
@@ -19,7 +19,7 @@ use Rattle.iss_model.specs.rules.Asks.{usage_of}
 use Rattle.iss_model.specs.rules.Pieces.{notice_entry, user_account, void_entry}
 use Rattle.iss_model.specs.rules.Acts.{Abandons, Act, Asks, Begins, Clears, Declines, Does, Ends, Fails, Funds, FundsPart, GivesBack, HoldsOwn, LetsGo, Loads, News, Refuses, Sets, StandsIn, Tells, TurnsDown, news_method}
 
--- who pays whom for a transaction, other than its user
+-- who pays a transaction's user, or is paid by that user
 pub data Payment : Type 0 where
   FromProgramme : Payment
   FromGateway : Payment
@@ -84,7 +84,7 @@ item_entry (StandTelling number t amount) = notice_entry number method.StandIn t
 item_entry (Telling number news t amount gateway) = notice_entry number (news_method news) t None amount gateway
 item_entry (Acking notice) = entry.Acked notice
 
--- Which act may make which item. The tables may be too generous, and never too narrow: that is proved.
+-- Which act may make which item. The tables may allow too much, but never too little: that is proved.
 
 -- whom an act pays
 abbrev pub may_pay : Act → Payment → Bool

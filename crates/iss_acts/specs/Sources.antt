@@ -1,4 +1,4 @@
--- Where each act comes from in the facts that it is made on, and how far its row has come there.
+-- Where each act comes from in the facts that it is made on, and at which stage of its row.
 use Rattle.std.specs.Prelude.{◌≡◌, ℕ, Bool, min, ◌≤◌, ◌<◌, true, false, List, [], ◌∷◌, Option, Some, None, ◌⊎◌}
 use Rattle.iss_model.specs.declared.call.CallId.{CallId}
 use Rattle.iss_model.specs.declared.call.Opened.{Opened}
@@ -45,14 +45,14 @@ pub record IsFundedPart (by : Cause) (o : Opened) (amount : ℕ) : Type 0 where
   pub its_input : by ≡ ComesOf (input.Answer call (outcome.Partial currency amount))
   pub counts : counts_as_part o currency amount ≡ true
 
--- an ask is that of a call that is asked
+-- an ask is the one that an asked call was opened for
 pub record IsCallAsk (f : Facts) (ask : Ask) : Type 0 where
   pub o : Opened
   pub t : Txn
   pub asked : IsAskedCall f o t
   pub is : ask ≡ call_ask o t
 
--- an ask is that of a cause's authorisation, which has no reason to be declined
+-- an ask is that of a cause's authorisation, and there is no reason to decline it
 pub record IsFirstAsk (f : Facts) (by : Cause) (at : ℕ) (ask : Ask) : Type 0 where
   pub token : List ℕ
   pub card : List ℕ
@@ -65,7 +65,7 @@ pub record IsFirstAsk (f : Facts) (by : Cause) (at : ℕ) (ask : Ask) : Type 0 w
   pub made : authorization_ask f token card currency amount mcc mid partial at ≡ Some ask
   pub none : authorization_reason f card currency (Some ask) ≡ None
 
--- an ask is that of a cause's increment, which has no reason to be declined
+-- an ask is that of a cause's increment, and there is no reason to decline it
 pub record IsFurtherAsk (f : Facts) (by : Cause) (at : ℕ) (ask : Ask) : Type 0 where
   pub token : List ℕ
   pub txn : List ℕ
@@ -85,7 +85,7 @@ IsOwnAsk f by at ask = IsFirstAsk f by at ask ⊎ IsFurtherAsk f by at ask
 abbrev pub IsSettledAsk : Facts → Cause → ℕ → Ask → Type 0
 IsSettledAsk f by at ask = IsCallAsk f ask ⊎ (IsOwnAsk f by at ask × (is_account_funded ask.txn.funding ≡ false))
 
--- parts are within others, one by one
+-- each of the small parts is at most the large one of its kind
 pub record AreWithin (small large : Parts) : Type 0 where
   pub of_gateway : small.g ≤ large.g
   pub of_programme : small.p ≤ large.p
@@ -97,7 +97,7 @@ pub record HasNoneLeft (g : Stage) (t : Txn) : Type 0 where
   pub here : g ≡ Leaves t parts
   pub none : in_all parts ≡ 0
 
--- why a setting is declined; an input that is no setting has no such reason
+-- why a setting is declined; an input that isn't a setting has no such reason
 abbrev pub setting_reason : Facts → Input → Option Reason
 setting_reason f (input.User token user) = user_reason f user
 setting_reason f (input.Card token card user product active) = card_reason f card user product
@@ -110,7 +110,7 @@ setting_reason f (input.Set token set product currency connection timeout applic
 setting_reason f (input.Switch token product on) = switch_reason f product
 setting_reason f _ = None
 
--- a notice of this number is beyond those that are made
+-- this number is above those of all notices that were made
 abbrev pub IsNewNotice : Facts → ℕ → Type 0
 IsNewNotice f number = f.notices_made < number
 
@@ -137,7 +137,7 @@ IsFrom f by at g (Tells number news t amount gateway) = IsTxnOf f t × (is_accou
 IsFrom f by at g (Acknowledges notice) = is_notice f notice ≡ true
 IsFrom f by at g _ = Unit {0}
 
--- An act has a cause that may act so, and comes of the facts.
+-- An act has a cause that may act so, and comes from the facts.
 pub record IsMade (f : Facts) (by : Cause) (at : ℕ) (g : Stage) (a : Act) : Type 0 where
   pub cause : may_act by a ≡ true
   pub from : IsFrom f by at g a

@@ -143,7 +143,7 @@ module _ {f : Facts} (all : AreKnown (bounds_of f) f) where
       fit-all f (xs ++ ys) (fit-append b xs ys first.0 (later b all first.1))
   then_fit _ h xs ys own later = λ b known sought. let first = own b known sought in fit-append b xs ys first.0 (later b known first.1)
 
-  -- and so with an act after which nothing is sought
+  -- entries that fit, and then what fits after an act that leaves nothing sought
   over : (g : Stage) (xs ys : List Entry) → ((b : Bounds) → AreKnown b f → IsSought b g → AreFit b xs) → ((b : Bounds) → AreKnown b f → Unit {0} → AreFit b ys) → FitAt f g (xs ++ ys)
   over g xs ys own later = then_fit g Over xs ys (λ b known sought. (own b known sought, tt)) later
 

@@ -156,7 +156,7 @@ record AreKeptFor (sums : Kept) (accounts : List Account) : Type 0 where
   rising : IsRising (account_marks accounts)
   same : kept_marks (finite.entries sums) ≡ account_marks accounts
 
--- this stays so after a post, although the sums take in the account that it goes to first, and the accounts the one that it comes from
+-- This stays so after a post. The sums first take in the account that it goes to, and the accounts first the one that it comes from.
 posted : (sums : Kept) (accounts : List Account) (from to : Account) (amount : ℕ) (txn : Option (List ℕ)) → AreKeptFor sums accounts
     → AreKeptFor (after_changes sums (balance_changes (entry.Post from to amount txn))) (accounts_with_once (accounts_with_once accounts from) to)
 posted sums accounts from to amount txn kept =

@@ -40,7 +40,7 @@ fitting h i stamp true true spent full r j rest made next follows legal =
 fitting h i stamp true false spent full r j rest made next follows legal = legal
 fitting h i stamp false fit spent full r j rest made next follows legal = legal
 
--- the same in any room
+-- in any room too, what may follow a record that is made only if one more may come
 fitting_in : (room : Option Room) (h : History) (i : Input) (stamp : ℕ) (r : Record) (j : Judged) (rest : List Record) → record_made j ≡ Some r
     → (reaction_as history_keeper h i stamp j).world ≡ (step history_keeper h r).world → Follows h r
     → IsLegalAfter (reaction_as history_keeper h i stamp (where_it_fits room h.records r j)).world rest

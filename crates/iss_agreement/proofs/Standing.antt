@@ -1,4 +1,4 @@
--- Every row names only what stands: what is moved, switched, closed, acknowledged or ended was made by a row, and no row is of a later record.
+-- Every row names only what stands. What is moved, switched, closed, acknowledged or ended was made by a row, and no row is of a later record.
 use Rattle.std.proofs.Common.{◌≡◌, ℕ, ◌+◌, ◌<◌, ◌≤◌, Bool, true, false, ◌&&◌, ◌||◌, nat_le, List, [], ◌∷◌, length, map, ◌⊎◌}
 use Rattle.std.specs.Prelude.{option_map, is_some}
 use Rattle.std.specs.List.{list_any, list_all}

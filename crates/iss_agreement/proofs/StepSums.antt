@@ -48,7 +48,7 @@ pub step_summed : (changes : Entry → List Change) (key : List ℕ) (h : Histor
 step_summed changes key h r =
     ap (λ (rows : List Row). sum_at changes key rows) (step_rows h r) ∙ sum_with changes key h.rows (length (h.records ++ r ∷ [])) (step history_keeper h r).entries
 
--- the same from records to one more
+-- one more record adds what its entries change
 pub summed_more : (changes : Entry → List Change) (key : List ℕ) (rs : List Record) (r : Record)
     → sum_at changes key (history_of (rs ++ r ∷ [])).rows ≡ sum_at changes key (history_of rs).rows +ℤ sum_among changes key (step history_keeper (history_of rs) r).entries
 summed_more changes key rs r = ap (λ (h : History). sum_at changes key h.rows) (history_more rs r) ∙ step_summed changes key (history_of rs) r

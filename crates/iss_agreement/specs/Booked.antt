@@ -38,7 +38,7 @@ book_part rs txn p = (book_facts rs).parts (part_key txn p)
 abbrev pub amounts_counted : List Record → ControlPut → Entry → List Change
 amounts_counted rs put = counted_changes (λ row. row.amount) (groups_of (book_rows rs)) put
 
--- and those of the times
+-- the changes of the times that a control counts, by the groups of a book
 abbrev pub times_counted : List Record → ControlPut → Entry → List Change
 times_counted rs put = counted_changes (λ row. row.count) (groups_of (book_rows rs)) put
 

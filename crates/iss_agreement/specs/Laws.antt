@@ -9,7 +9,8 @@ use Rattle.iss_model.specs.rules.Due.{DueThing, thing_entries}
 use Rattle.iss_model.specs.rules.Keeper.{Keeper}
 use Rattle.iss_model.specs.rules.Stepping.{own_entries}
 
--- Steps keep what is good: taking up a record keeps it, so does adding entries that fit the facts, and what is due and a record's own entries fit.
+-- Steps keep what is good. Taking up a record keeps it, and so does adding entries that fit the facts. What is due fits them, and so do a
+-- record's own entries.
 pub record KeptBySteps {W : Type 0} (k : Keeper W) (IsGood : W → Type 0) (Fit : Facts → List Entry → Type 0) : Type 0 where
   pub up : (w : W) (r : Record) → IsGood w → IsGood (k.take_up w r)
   pub adds : (w : W) (entries : List Entry) → IsGood w → Fit (k.facts w) entries → IsGood (k.add w entries)

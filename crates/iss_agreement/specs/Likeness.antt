@@ -1,4 +1,4 @@
--- Cores that no rule tells apart: in which order events were decided shows in nothing, and so does a sum of a transaction that is 0.
+-- Cores that no rule tells apart. The order in which events were decided shows in nothing. A transaction's sum of 0 doesn't either.
 use Rattle.std.specs.Prelude.{◌≡◌, ℕ, List, []}
 use Rattle.iss_model.specs.rules.Facts.{verdict_in}
 use Rattle.iss_model.specs.state.Cores.{CoreState, no_core}

@@ -105,8 +105,8 @@ pub fn core_answers_as_its_book()
     ensures pending { (rs : List Record) → (core_of rs).outbox.pending ≡ pending_of (history_of rs).rows }
 {}
 
-/// A record that judging returns, of the input itself or of the time before its answer, is new if it is judged again,
-/// by the book as by the state.
+/// Judging returns a record of the input itself, or of the time before its answer. That record is new if it is judged
+/// again, by the book as by the state.
 pub fn judging_is_stable()
     ensures book { (rs : List Record) (i : Input) (stamp : ℕ) (r : Record) → book_gives rs i stamp ≡ New r → BookTakes rs r }
     ensures book_clock { (rs : List Record) (i : Input) (stamp : ℕ) (r : Record)

@@ -172,7 +172,7 @@ ordered_less cs old new i c how a at h d t =
           ∙ ap (λ (ks : List (List ℕ × ℕ)). in_order by_txn ks) (keys_less (slice_cmp nat_cmp) (λ (p : Opened). p.txn) by_txn_total 1 cs i c how a.numbered at h);
     }
 
--- the same calls, and the same keys
+-- calls that are ordered by some keys are ordered by the same keys
 pub ordered_same : (cs : List CallNow) (old new : Orders) → AreOrdered cs old → new.deadlines.keys ≡ old.deadlines.keys → new.txns.keys ≡ old.txns.keys → AreOrdered cs new
 ordered_same cs old new a d t = record { numbered = a.numbered; few = a.few; deadlines = d ∙ a.deadlines; txns = t ∙ a.txns }
 

@@ -37,7 +37,7 @@ looked_so all (c ∷ cs) h =
     ap (λ (o : Option CallNow). option_to_list (option_map (λ (d : CallNow). d.opened) o) ++ looked_up all (map (λ (d : CallNow). d.opened.call) cs)) h.0
     ∙ ap (λ (os : List Opened). c.opened ∷ os) (looked_so all cs h.1)
 
--- those of the calls that pass a test are those of their numbers
+-- the calls that pass a test are found by their numbers
 pub found_by : (all : List CallNow) (p : CallNow → Bool) (ids : List CallId) → AreNumbered 1 all → ids ≡ map (λ (c : CallNow). c.opened.call) (filter p all)
     → looked_up all ids ≡ map (λ (c : CallNow). c.opened) (filter p all)
 found_by all p ids a e =

@@ -123,7 +123,7 @@ module _ {K : Type 0} {cmp : K → K → Ordering} (o : IsTotalOrder cmp) where
         | false ↦ refl
       ]
 
-  -- those that pass a test, in their order
+  -- the keys that pass a test, put in order, are those that pass among the ordered ones
   pub filter_order : (p : K → Bool) → ((k x : K) → cmp k x ≡ Equal → p x ≡ p k) → (ks : List K) → filter p (in_order cmp ks) ≡ in_order cmp (filter p ks)
   filter_order p same ks = filter_fold p same [] ks tt
 

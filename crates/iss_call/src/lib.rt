@@ -1,5 +1,5 @@
-//! The calls to the customer's gateway: each with its number, and those that are still asked in the orders in which
-//! they fall due and by transaction.
+//! The calls to the customer's gateway, each with its number. Those that are still asked are also kept in the order in
+//! which they fall due, and by transaction.
 //!
 //! It may cite `iss_model`.
 //! It must not cite the other parts of the core.

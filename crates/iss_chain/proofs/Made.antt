@@ -28,14 +28,14 @@ use Rattle.iss_chain.proofs.Entered.{chain_with}
 pub alone : {made before es : List Entry} → made ≡ before ++ es → before ≡ [] → made ≡ es
 alone {made} {before} {es} e f = e ∙ ap (λ (xs : List Entry). xs ++ es) f
 
--- of a known transaction
+-- the entries of a known transaction are those made of its hold
 pub made_for : (c : ChainNow) (name : List ℕ) (hold : Hold) (make : TxnNow → Parts → List Entry) → Some (txn_of_hold hold) ≡ txn_named name c.holdings.txns → parts_of_hold hold ≡ parts_in c.holdings name
     → make (txn_of_hold hold) (parts_of_hold hold) ≡ entries_for c (txn_named name c.holdings.txns) make
 made_for c name hold make e parts =
     ap (λ (p : Parts). make (txn_of_hold hold) p) (parts ∙ ap (λ (k : List ℕ). parts_in c.holdings k) (sym (found_token name c.holdings.txns (txn_of_hold hold) (sym e))))
     ∙ ap (λ (o : Option TxnNow). entries_for c o make) e
 
--- of an unknown one there are none
+-- an unknown transaction has no entries
 pub made_none : (c : ChainNow) (name : List ℕ) (make : TxnNow → Parts → List Entry) → txn_named name c.holdings.txns ≡ None → [] ≡ entries_for c (txn_named name c.holdings.txns) make
 made_none c name make e = ap (λ (o : Option TxnNow). entries_for c o make) (sym e)
 
@@ -62,7 +62,7 @@ owed_at ledger h rows i name hold s owed place once at parts row is =
     let owes : owed ≡ owed_to_programme (chain_facts (chain_with ledger h rows)) hold.txn = is ∙ ap₂ (λ (z : ℤ) (p : ℕ). not_below (z -ℤ pos p)) (sym paid) (ap (λ (q : Parts). q.p) parts) in
     subst (λ (o : Option TxnNow). IfSome o (λ t. owed ≡ owed_to_programme (chain_facts (chain_with ledger h rows)) t.txn)) (sym (there.named ∙ ap (λ (x : TxnNow). Some x) same)) owes
 
--- of an unknown transaction nothing is said
+-- nothing is said of what an unknown transaction is owed
 pub owed_none : (c : ChainNow) (name : List ℕ) (owed : ℕ) → txn_named name c.holdings.txns ≡ None → IfSome (txn_named name c.holdings.txns) (λ t. owed ≡ owed_to_programme (chain_facts c) t.txn)
 owed_none c name owed e = subst (λ (o : Option TxnNow). IfSome o (λ t. owed ≡ owed_to_programme (chain_facts c) t.txn)) (sym e) tt
 

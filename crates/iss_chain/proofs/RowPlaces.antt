@@ -104,6 +104,6 @@ put_rows m n count place s h u =
 pub sums_there : (f : ℕ → Option PostSums) (count place : ℕ) (s : PostSums) → place < count → s ≡ row_sums (f place) → Some s ≡ option_map row_sums (slice_get (rows_from f 0 count) place)
 sums_there f count place s h e = ap (λ (x : PostSums). Some x) e ∙ ap (λ (o : Option (Option PostSums)). option_map row_sums o) (sym (row_there f count place h))
 
--- as many transactions, and one more
+-- after one more transaction begins, there is one more
 pub one_more : (h g : Holdings) (t : Txn) → g ≡ with_txn h t → length g.txns ≡ length h.txns + 1
 one_more h g t e = ap (λ (x : Holdings). length x.txns) e ∙ length-append h.txns (record { txn = t; live = is_live h.txns t.token } ∷ [])

@@ -133,7 +133,7 @@ its_change : (m : Kept) (n : List ℕ) (a w : ℤ) → kept_at m n ≡ a → kep
 its_change m n a w e =
     kept_at-after_change m (record { key = n; by = w }) n ∙ ap₂ (λ (z : ℤ) (b : Bool). z +ℤ cond b w (pos 0)) e (its_name n)
 
--- and after a post if all are then
+-- the sums of a row are small after a post if all are then
 pub row_small_after : (txns : List TxnNow) (rows : List (Option PostSums)) (i : ℕ) (n : List ℕ) (s : PostSums) (from to : Account) (amount : ℕ) → IsDistinct bytes_eq (tokens txns)
     → slice_get (tokens txns) i ≡ Some n → option_map row_sums (slice_get rows i) ≡ Some s → AreSumsSmall (with_post (txn_sums_of txns rows) (entry.Post from to amount (Some n)))
     → IsSmallRow (sums_after from to amount s)

@@ -1,5 +1,5 @@
--- What is kept of each transaction's posts: a row for each transaction, in the order in which they began, and the tree with the rows of those
--- for which a post was made.
+-- What is kept of each transaction's posts. There is a row for each transaction, in the order in which they began. A tree has the rows of
+-- those for which a post was made.
 use Rattle.std.specs.Prelude.{◌≡◌, ℕ, zero, suc, ◌≤◌, ℤ, pos, ◌+ℤ◌, List, [], ◌∷◌, length, Option, Some, None, unwrap_or}
 use Rattle.std.specs.BTreeMap as tree
 use Rattle.std.specs.BTreeMap.{BTreeMap}

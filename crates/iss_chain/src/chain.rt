@@ -104,8 +104,8 @@ impl Chain {
         Ok((self, entries))
     }
 
-    /// Up to an amount of what a transaction holds is let go: of the programme's part first, then of the gateway's, then
-    /// of the user's own. A transaction that then holds nothing ends.
+    /// Lets go of what a transaction holds, up to an amount. The programme's part goes first, then the gateway's, then
+    /// the user's own. A transaction that then holds nothing ends.
     pub fn reverse(
         mut self,
         alloc: Global,
@@ -121,9 +121,9 @@ impl Chain {
         Ok((self, entries))
     }
 
-    /// The network receives an amount: from the gateway's part first, then from the programme's, then from the user's own, and
-    /// the rest from the programme for a gateway product, else from the user's balance. A live transaction ends if the
-    /// clearing is the last one or nothing is held after it.
+    /// The network receives an amount. It comes from the gateway's part first, then from the programme's, then from the
+    /// user's own. For a gateway product the rest comes from the programme, else from the user's balance. A live
+    /// transaction ends if the clearing is the last one or nothing is held after it.
     ///
     /// Also returned is the place in the entries where those of ending begin; their count if it doesn't end.
     pub fn clear(
@@ -144,8 +144,8 @@ impl Chain {
         Ok((self, entries, place))
     }
 
-    /// An amount comes back from the network to the user; for a gateway product the programme then receives what it is owed,
-    /// and the gateway the rest.
+    /// An amount comes back from the network to the user. For a gateway product the programme then receives what it is
+    /// owed, and the gateway the rest.
     pub fn refund(
         mut self,
         alloc: Global,
@@ -247,9 +247,9 @@ impl Chain {
         self.books.ledger.balance(account)
     }
 
-    /// The accounts that a post was made from or to: each gateway's by the number of its currency, and so each
-    /// network's and programme's, and then those of users, by the bytes of the user's token and the number of the
-    /// currency.
+    /// The accounts that a post was made from or to. Each gateway's come first, by the number of its currency, then each
+    /// network's and each programme's in the same order. Then come those of users, by the bytes of the user's token and
+    /// the number of the currency.
     pub fn accounts(&self, alloc: Global) -> Result<Vec<Account>, AllocError>
         ensures { IfOk result (λ v. map account_key v.items ≡ finite.keys self.now.balances) }
     {

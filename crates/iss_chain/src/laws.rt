@@ -1,5 +1,5 @@
-//! Where a chain stands in the core, and its entries among those of the rules, as laws of the definitions: each is the
-//! contract of a function with an empty body.
+//! Where a chain stands in the core, and its entries among those of the rules, as laws of the definitions. Each law is
+//! the contract of a function with an empty body.
 ghost use Rattle.std.specs.Prelude.{◌≡◌, ℕ, Bool, List, []};
 ghost use Rattle.iss_model.specs.declared.account.Part.TheVariants as part;
 ghost use Rattle.iss_model.specs.declared.call.Opened.{Opened};
@@ -18,8 +18,8 @@ ghost use Rattle.iss_chain.specs.Among.{AreMadeOf};
 ghost use Rattle.iss_chain.specs.OfTheRules.{FollowsTheCore, IsCleared, IsEnded, IsPartlyFunded, IsRefunded, IsReversed, IsStoodIn};
 ghost use Rattle.iss_chain.specs.Values.{chain_part, chain_facts};
 
-/// What entries do to a core's state, they do to the part of it that a chain keeps; and what a transaction holds, and
-/// what the programme is owed for it, is the same by that part as by the whole.
+/// What entries do to a core's state, they do to the part of it that a chain keeps. What a transaction holds, and what
+/// the programme is owed for it, is the same by that part as by the whole.
 pub fn a_chain_is_part_of_the_core()
     ensures entered { (s : CoreState) (entries : List Entry)
         → FollowsTheCore s entries }
@@ -27,7 +27,7 @@ pub fn a_chain_is_part_of_the_core()
     ensures owed { (s : CoreState) (t : Txn) → owed_to_programme (chain_facts (chain_part s)) t ≡ owed_to_programme (core_facts s) t }
 {}
 
-/// The entries of the rules are those that a chain makes, with others between and after them: calls to the
+/// The entries of the rules are those that a chain makes, with others between and after them. The others are calls to the
 /// gateway, notices, use that is returned, and decisions.
 pub fn the_rules_make_its_entries()
     ensures funded { (o : Opened) (t : Txn) → AreMadeOf [] (fund_money_entries t part.G o.amount) (act_entries (Funds o t)) }

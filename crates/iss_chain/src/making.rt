@@ -55,8 +55,8 @@ impl Books {
         Ok(entries)
     }
 
-    /// What a clearing takes, pays and counts as use, and the end if it ends its transaction; with the place where
-    /// the entries of ending begin.
+    /// What a clearing takes, pays and counts as use, and the end if it ends its transaction. With it comes the place
+    /// where the entries of ending begin.
     pub(crate) fn clear(
         &self,
         alloc: Global,

@@ -24,7 +24,7 @@ use Rattle.iss_codec.proofs.Cuts.{IsCut, pair_cut, number_cut, text_cut, flag_cu
 alone : {A : Type 0} {f : A → List ℕ} → IsCut f → (a b : A) → f a ≡ f b → a ≡ b
 alone {f = f} c a b e = (c.cut a b [] [] (append-nil (f a) ∙ e ∙ sym (append-nil (f b)))).0
 
--- after the kind
+-- equal contents are equal after the kind
 rest : (k : ℕ) (x y : List ℕ) → k ∷ x ≡ k ∷ y → x ≡ y
 rest k x y e = ap (λ (l : List ℕ). drop 1 l) e
 
@@ -145,7 +145,7 @@ alike_equal a b h k e =
     let all : spelling s ≡ spelling r ++ [] = (λ i. e.0 i ∷ (number_bytes 8 0 ++ e.1 i)) ∙ sym (append-nil (spelling r)) in
     ap (λ (r : Record). r.input) (begins_none r s [] k h all).0
 
--- and so inputs in form have the same contents exactly if they are spelled alike
+-- inputs in form have the same contents exactly if they are spelled alike
 pub same_alike : (a b : Input) → HaveSpellings a b → IsTrue (same_contents a b) ↔ AreSpelledAlike a b
 same_alike a b both =
     let same = same_exactly a b in (

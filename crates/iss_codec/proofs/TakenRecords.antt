@@ -13,7 +13,7 @@ use Rattle.iss_codec.proofs.TakenParts.{stamp_field}
 use Rattle.iss_codec.proofs.TakenInputs.{fields_take}
 use Rattle.iss_codec.proofs.TakenAgain.{fields_again}
 
--- The record at the start was spelled so, and what is spelled so is read: `name` is the field of a token, however it is spelled.
+-- The record at the start was spelled so, and what is spelled so is read. `name` is the field of a token, however it is spelled.
 module _ {take_name : List ℕ → Option (List ℕ × List ℕ)} {name_bytes : List ℕ → List ℕ} {is_name : List ℕ → Bool} (name : IsField take_name name_bytes is_name) where
   pub input_takes : (bytes : List ℕ) (x : Record × List ℕ) → AreBytes bytes → take_input take_name bytes ≡ Some x
       → IsSplit bytes (spelled_input name_bytes x.0.at x.0.input) x.1 × ((is_stamp x.0.at && has_fields is_name x.0.input) ≡ true)

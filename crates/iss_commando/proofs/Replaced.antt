@@ -25,7 +25,7 @@ with_known sets put s e =
     ap (λ (b : Bool). if b then map (set_after_put put) sets else sets ++ put ∷ [])
     (ap is_some e ∙ found (λ t. bytes_eq t.name put.name) sets)
 
--- or stands as the last one
+-- a set of a new name that is put stands as the last one
 pub with_new : (sets : List Set) (put : Set) → set_named put.name sets ≡ None → sets ++ put ∷ [] ≡ with_set sets put
 with_new sets put e =
     ap (λ (b : Bool). if b then map (set_after_put put) sets else sets ++ put ∷ [])

@@ -18,7 +18,7 @@ IfAsks ask product user amount Holds = ask.txn.product ≡ product → ask.txn.u
 abbrev pub is_for : List ℕ → Failure → Set → Bool
 is_for product why s = s.active && bytes_eq s.product product && covers_failure s why
 
--- an amount is at most a set's most for one purchase, and with what stood in on that day at most its most for a day
+-- an amount is at most a set's most for one purchase, and with what stood in that day at most its most for a day
 abbrev pub is_allowed : Set → ℤ → ℕ → Bool
 is_allowed s stood amount = nat_le amount s.max && int_le (stood +ℤ pos amount) (pos s.day_limit)
 
@@ -32,7 +32,7 @@ abbrev pub stand_on : List Set → (List ℕ → ℤ) → List ℕ → List ℕ 
 stand_on sets stood product user amount why at =
     stand_by (stood (stood_key product user at)) amount (find (is_for product why) sets)
 
--- the same by the set's name
+-- a decision of the sets, with the set's name
 abbrev pub stand_named : rule.Stand → SetStand
 stand_named (rule.allowed s) = Yes s.name
 stand_named (rule.over_limit s) = Limit s.name

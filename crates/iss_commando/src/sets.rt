@@ -36,7 +36,7 @@ pub enum SetFault {
 
 /// The sets that stand, in the order in which they were made, and what stood in for a product's user on each day.
 ///
-/// A question goes through the sets in their order, so a name is found in the same way: there are 256 at most.
+/// A question goes through the sets in their order, so a name is found in the same way: there are at most 256.
 #[derive(Drop)]
 pub struct Sets {
     sets: Vec<Set>,
@@ -69,8 +69,8 @@ impl Sets {
         })
     }
 
-    /// Puts a set: a new one after the others, or in the place of the one of its name, which keeps its product and
-    /// its currency. Only a new one takes memory.
+    /// Puts a set. A new one stands after the others. Otherwise it takes the place of the one of its name, which keeps
+    /// its product and currency. Only a new one takes memory.
     pub fn put(&mut self, set: &Set) -> Result<(), SetFault>
         ensures put { OnOk result (self.new ≡ record self.old { sets = with_set self.old.sets set.now }) }
         ensures refused { OnErr result (self.new ≡ self.old) }
@@ -120,7 +120,7 @@ impl Sets {
         self.sets.len() >= MOST_OF_A_KIND
     }
 
-    /// What the sets decide of an amount that the gateway didn't decide, for a product's user on a stamp's day: the first
+    /// What the sets decide of an amount that the gateway didn't decide, for a product's user on a stamp's day. The first
     /// active set of the product that covers the failure decides.
     pub fn stands(
         &self,

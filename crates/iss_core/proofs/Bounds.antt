@@ -43,7 +43,7 @@ asked_little (x ∷ xs) number c all found asked =
     by true found little rest = let same : x ≡ c = cc in asks_so c true asked refl (subst (λ (y : CallNow). asks_little y ≡ true) same little)
     by false found little rest = rest found
 
--- and so do those of a transaction
+-- the asked calls of a transaction ask for small amounts
 pub all_little : (calls : List CallNow) (txn : List ℕ) → list_all asks_little calls ≡ true
     → list_all (λ (o : Opened). nat_lt o.amount (2 ^ 62)) (map (λ (c : CallNow). c.opened) (filter (λ (c : CallNow). is_asked c && bytes_eq c.opened.txn txn) calls)) ≡ true
 all_little [] txn all = refl
@@ -58,7 +58,7 @@ all_little (c ∷ cs) txn all =
     by true false little rest = rest
     by false b little rest = rest
 
--- those of a transaction are no more than all that are asked
+-- the asked calls of a transaction are no more than all asked calls
 pub no_more : (calls : List CallNow) (txn : List ℕ) → length (filter (λ (c : CallNow). is_asked c && bytes_eq c.opened.txn txn) calls) ≤ length (filter is_asked calls)
 no_more [] txn = omega arith
 no_more (c ∷ cs) txn = by (is_asked c) (bytes_eq c.opened.txn txn) (no_more cs txn)

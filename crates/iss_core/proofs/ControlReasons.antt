@@ -60,7 +60,7 @@ only_last true b c d x y z w h = cc
 only_last false true c d x y z w h = cc
 only_last false false true d x y z w h = cc
 
--- so if there is no reason, it can be put
+-- so if there is no reason to decline a control, it can be put
 pub put_fits : (s : CoreState) (put : Control) → control_reason (core_facts s) put.name put.currency put.window put.association put.scope put.offset ≡ None
     → put_reason (kept_named put.name s.controls) s.controls put ≡ None
 put_fits s put none = by (kept_named put.name s.controls) refl

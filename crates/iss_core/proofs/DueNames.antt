@@ -113,7 +113,7 @@ pub calls_found : (s : CoreState) (at : ℕ) (ids : List CallId) → HasOwnNames
     → call_items s.calls ids ≡ calls_due s.calls at
 calls_found s at ids own e = sym (called_items s ids) ∙ ap (map (item_of s)) e ∙ found_again s (calls_due s.calls at) (calls_again s at own)
 
--- and so are the transactions
+-- the transactions that are due are found as their items
 pub txns_found : (s : CoreState) (at : ℕ) (tokens : List (List ℕ)) → HasOwnNames s
     → map (λ token. txn_due token) tokens ≡ map (λ item. item.thing) (txns_due s.holdings at)
     → txn_items s.holdings.txns tokens ≡ txns_due s.holdings at
@@ -126,7 +126,7 @@ txns_ordered s at tokens own e =
     subst AreOrdered (sym (txns_found s at tokens own e))
     (ordered_all [] (filter (λ item. nat_le item.since at) (map due_txn (filter (λ t. t.live) s.holdings.txns))) tt)
 
--- what is due is what the names found come to together
+-- what is due is the items of the calls and transactions that were found, in one order
 pub all_found : (s : CoreState) (at : ℕ) (ids : List CallId) (tokens : List (List ℕ)) → HasOwnNames s
     → map (λ id. call_due id.0) ids ≡ map (λ item. item.thing) (calls_due s.calls at)
     → map (λ token. txn_due token) tokens ≡ map (λ item. item.thing) (txns_due s.holdings at)
@@ -150,7 +150,7 @@ next_by calls until t id ids ts true h o rest =
     first_stays (call_item calls id.0) t (call_items calls ids) ts h o ∙ ap (λ (items : List DueItem). call_item calls id.0 ∷ items) rest
 next_by calls until t id ids ts false h o rest = first_goes (call_item calls id.0) t (call_items calls ids) ts h o
 
--- the first calls go before a transaction, the others are placed with those after it
+-- the first calls go before a transaction, and the others are placed among those after it
 pub next_txn : (calls : List CallNow) (txns : List TxnNow) (ids : List CallId) (token : List ℕ) (ts : List DueItem) → AreOrdered (txn_item txns token ∷ ts)
     → fold items_with (call_items calls ids) (txn_item txns token ∷ ts)
     ≡ call_items calls (calls_until calls (expiry_of (txn_named token txns)) ids)
@@ -167,7 +167,7 @@ things_until : (calls : List CallNow) (ids : List CallId) → map (λ item. item
 things_until calls [] = refl
 things_until calls (id ∷ ids) = ap (λ (rest : List DueThing). call_due id.0 ∷ rest) (things_until calls ids)
 
--- What went out, and then what is to come, if the calls before a transaction and the transaction went out.
+-- If a transaction and the calls before it go out, what went out and what is to come are together as before.
 pub next_out : (calls : List CallNow) (txns : List TxnNow) (made : List Due) (ids : List CallId) (token : List ℕ) (tokens : List (List ℕ))
     → AreOrdered (txn_items txns (token ∷ tokens))
     → map thing_of ((made ++ map Call (calls_until calls (expiry_of (txn_named token txns)) ids)) ++ Txn token ∷ [])
@@ -186,7 +186,7 @@ next_out calls txns made ids token tokens o =
     regrouped : {A : Type 0} (a b c d : List A) → ((a ++ b) ++ c) ++ d ≡ a ++ (b ++ (c ++ d))
     regrouped a b c d = simp append_assoc
 
--- what went out if the other calls go out after all transactions
+-- after all transactions the other calls go out, each as the thing of its item
 pub last_out : (calls : List CallNow) (made : List Due) (ids : List CallId)
     → map thing_of (made ++ map Call ids) ≡ map thing_of made ++ map (λ item. item.thing) (call_items calls ids)
 last_out calls made ids = map-append thing_of made (map Call ids) ∙ ap (λ (out : List DueThing). map thing_of made ++ out) (sym (things_until calls ids))

@@ -55,7 +55,7 @@ expired_from f t parts start number whole old first second starts next all is en
     ap₂ (λ (n w : ℕ). second ++ only_gateway t (only_where w (notice_entry n method.Expiry t None w parts.g ∷ []))) (next ∙ ap (λ (s : ℕ). notice_after_abandonment s f t) starts) all
     ∙ expired_so f t parts old first second (is ∙ ap (λ (s : ℕ). old ++ abandoned_calls_entries s t reason.Expired (asked_calls_of f t.token)) starts) ends
 
--- the asked calls are abandoned, up to the amount is let go, a transaction that holds nothing ends, the gateway is told, and the event is done
+-- the asked calls are abandoned, up to the amount is let go, an empty transaction ends, the gateway is told, and the event is done
 pub reversed_so : (f : Facts) (token : List ℕ) (amount : ℕ) (t : Txn) (parts : Parts) (old first second third : List Entry)
     → first ≡ old ++ abandoned_calls_entries (next_notice f) t reason.Reversed (asked_calls_of f t.token) → second ≡ first ++ reversal_money_entries t parts amount
     → third ≡ second ++ only_gateway t (only_where (min amount (in_all parts))

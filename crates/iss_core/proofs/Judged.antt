@@ -80,7 +80,7 @@ event_judged s i token at named =
         ap (λ (o : Option Accepted). judgement_as (repeat_or_conflict (core_facts (after_due core_keeper s at).world) i token o) false i at) same
         ∙ either_answer (core_facts (after_due core_keeper s at).world) (core_facts s) i token (event_in (core_facts s) token) at (event_no_ack i token named)
 
--- ---- what is no event
+-- ---- what isn't an event
 
 -- an acknowledgement has its answer, or is new
 pub ack_told : (s : CoreState) (notice : ℕ) (a : Answer) (at : ℕ) → Some a ≡ notice_answer (core_facts s) notice → judged.Told a ≡ judgement_at core_keeper s (input.Ack notice) at

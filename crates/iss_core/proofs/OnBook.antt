@@ -30,7 +30,7 @@ stands_at_first s is = subst (λ (x : CoreState). AreAlike x no_core) (sym is) (
 pub facts_on_book : (c : CoreNow) (rs : List Record) → CoreStandsFor c rs → core_facts c.state ≡ history_facts (history_of rs)
 facts_on_book c rs stands = facts_alike c.state (core_of rs) stands ∙ facts_history rs
 
--- and so is each answer by the facts
+-- each answer by the facts that a core tells is that of the book
 pub told_on_book : {A : Type 0} (c : CoreNow) (rs : List Record) (ask : Facts → A) (answer : A) → CoreStandsFor c rs → answer ≡ ask (core_facts c.state) → answer ≡ ask (history_facts (history_of rs))
 told_on_book c rs ask answer stands e = e ∙ ap ask (facts_on_book c rs stands)
 
@@ -66,7 +66,7 @@ accounts_told items c rs balances (Err e) stands same told = tt
 pub told_by_state : {A : Type 0} (c : CoreNow) (s : CoreState) (rs : List Record) (ask : Facts → A) (answer : A) → s ≡ c.state → answer ≡ ask (core_facts s) → CoreStandsFor c rs → answer ≡ ask (history_facts (history_of rs))
 told_by_state c s rs ask answer is e stands = told_on_book c rs ask answer stands (e ∙ ap (λ (x : CoreState). ask (core_facts x)) is)
 
--- and so is a list that is answered
+-- a list that is answered by the facts of the state is that of the book
 pub listed_by_state : {A B E : Type 0} (items : A → B) (c : CoreNow) (s : CoreState) (rs : List Record) (ask : Facts → B) (result : Result A E) → s ≡ c.state
     → IfOk result (λ v. items v ≡ ask (core_facts s)) → CoreStandsFor c rs → IfOk result (λ v. items v ≡ ask (history_facts (history_of rs)))
 listed_by_state items c s rs ask (Ok v) is e stands = told_by_state c s rs ask (items v) is e stands

@@ -59,7 +59,7 @@ due_may i s thing at up stamp =
     below : (a b : ℕ) → a < b → a ≤ b
     below a b h = omega arith
 
--- and so may the record's own
+-- the record's own entries may be entered
 pub own_may : (i : Input) (s : CoreState) (at : ℕ) → IsTakenUp i s → is_in_form i ≡ true → is_stamp at ≡ true → MayAllEnter s (entries_of i at (core_facts s))
 own_may i s at up form stamp =
     gathered s (entries_of i at (core_facts s)) (own_enterable up.before s i at up.room form up.ready) (own_allowed s i at up.taken)
@@ -91,7 +91,7 @@ stays_taken_up i s thing at up stamp =
       few = few_due up.before s i thing at up.taken up.few;
     }
 
--- and so it is when its entries were entered
+-- once the entries of a due thing are entered, the record is still taken up
 pub settled_up : {A E : Type 0} (result : Result A E) (i : Input) (s after : CoreState) (es : List Entry) (thing : DueThing) (at : ℕ) → OnOk result (after ≡ fold after_entry s es) → es ≡ thing_entries thing at (core_facts s)
     → IsTakenUp i s → is_stamp at ≡ true → OnOk result (IsTakenUp i after)
 settled_up (Ok x) i s after es thing at entered same up stamp =
@@ -157,7 +157,7 @@ sound_at_first = record { within = sound_begins; well = nothing_well; forms = no
 pub next_is_new : (s : CoreState) (r : Record) → judge core_keeper s r.input r.at ≡ judged.New r → IsNewEvent s r.input
 next_is_new s r next = judged_new s r next
 
--- so no event of its token was accepted
+-- no event of the token of a record that is next was accepted
 pub next_is_unknown : (s : CoreState) (r : Record) (token : List ℕ) → judge core_keeper s r.input r.at ≡ judged.New r → event_token r.input ≡ Some token
     → find (λ (a : Accepted). is_event token a.input) s.accepted ≡ None
 next_is_unknown s r token next named = absent (find (λ (a : Accepted). is_event token a.input) s.accepted) (next_is_new s r next token named)

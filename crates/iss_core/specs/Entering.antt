@@ -8,7 +8,7 @@ use Rattle.iss_state.specs.Dockets.{docket_of}
 use Rattle.iss_state.specs.Allowed.{IsAllowed}
 use Rattle.iss_state.specs.Pending.{decides_accepted}
 
--- An entry may be entered: it fits and leaves small sums, it may come next on the docket, it is in form, and what it decides was accepted.
+-- An entry may be entered. It fits and leaves small sums, and it may come next on the docket. It is in form, and what it decides was accepted.
 pub record MayEnter (s : CoreState) (e : Entry) : Type 0 where
   pub enterable : IsEnterable s e
   pub allowed : IsAllowed (docket_of s) e

@@ -9,8 +9,8 @@ use Rattle.iss_state.specs.InForm.{IsInForm}
 abbrev pub asks_little : CallNow → Bool
 asks_little c = not (is_asked c) || nat_lt c.opened.amount (2 ^ 62)
 
--- A state is in order: stamps and times are in form, asked calls ask for small amounts, and notices and calls have numbers left:
--- one for each asked call and two more.
+-- A state is in order. Stamps and times are in form, and asked calls ask for small amounts. Notices and calls have numbers left: one for
+-- each asked call, and two more.
 pub record IsInOrder (s : CoreState) : Type 0 where
   pub forms : IsInForm s
   pub amounts : list_all asks_little s.calls ≡ true

@@ -8,8 +8,8 @@ use Rattle.iss_state.specs.InForm.{IsInForm}
 use Rattle.iss_state.specs.Few.{HasFewNumbers}
 use Rattle.iss_state.specs.Pending.{IsWell, HasTakenUp}
 
--- What holds of every core: its sums are within the reach of its records, its calls and decisions are well, its stamps are in form,
--- and no more calls and notices were made than its records can make.
+-- What holds of every core. Its sums are within the reach of its records, its calls and decisions are well, and its stamps are in form.
+-- No more calls and notices were made than its records can make.
 pub record IsSound (s : CoreState) : Type 0 where
   pub within : IsSoundAt s.count s
   pub well : IsWell s

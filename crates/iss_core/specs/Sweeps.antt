@@ -81,7 +81,7 @@ merged_things f calls txns = map (λ item. item.thing) (fold items_with (call_it
 abbrev pub NoneBefore : DueItem → List DueItem → Type 0
 NoneBefore a items = AllByRecursion (λ b. is_before b a ≡ false) items
 
--- none comes before an earlier one
+-- no item of the list comes before an earlier one
 abbrev pub AreOrdered : List DueItem → Type 0
 AreOrdered [] = Unit {0}
 AreOrdered (a ∷ items) = NoneBefore a items × AreOrdered items

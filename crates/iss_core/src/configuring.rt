@@ -20,7 +20,7 @@ use iss_velocity::ControlFault;
 use std::alloc::{AllocError, Global};
 
 impl State {
-    /// A setting that has no reason to be declined takes effect.
+    /// A setting takes effect if there is no reason to decline it.
     pub(crate) fn configure(&mut self, alloc: Global, input: &Input) -> Result<(), AllocError>
         requires { setting_reason (facts_of self.old) input.now ≡ None }
         ensures { OnOk result (kept_state self.new ≡ after_setting (kept_state self.old) input.now) }

@@ -13,9 +13,9 @@ use iss_model::{Entry, Input, Judged, Record};
 use std::alloc::{AllocError, Global};
 use std::marker::Model;
 
-/// The decision engine of one instance. Contracts see its instance and the state that the model keeps in place of the
-/// book; a core *stands for* records if its state is like the one that they make, and each call then also answers as the
-/// book of these records does.
+/// The decision engine of one instance. Contracts see its instance, and the state that the model keeps in place of the
+/// book. A core *stands for* records if its state is like the one that they make. Each call then also answers as the book
+/// of these records does.
 #[derive(Drop)]
 pub struct Core {
     pub(crate) instance: u64,
@@ -56,7 +56,7 @@ impl Core {
     /// it is earlier.
     ///
     /// A new input is returned as its record. If an input other than an acknowledgement isn't new and something is due,
-    /// the record of a time is returned, which goes before the input's answer.
+    /// the record of a time is returned. It goes before the input's answer.
     pub fn judge(&self, alloc: Global, input: &Input, at: u64) -> Result<Judged, AllocError>
         requires input_form { IsTrue (is_in_form input.now) }
         requires stamp { IsTrue (is_stamp at) }
@@ -69,8 +69,8 @@ impl Core {
         self.state.judge(alloc, input, at.max(self.state.time))
     }
 
-    /// Takes up a record that is next, and returns the core after it with the entries that it makes: first those of all
-    /// that is due at its stamp, and then its own. If an allocation fails, the core is gone.
+    /// Takes up a record that is next, and returns the core after it with the entries that it makes. First come those of
+    /// all that is due at its stamp, and then its own. If an allocation fails, the core is gone.
     pub fn step(
         mut self,
         alloc: Global,

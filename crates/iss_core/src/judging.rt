@@ -30,7 +30,7 @@ impl State {
         }
     }
 
-    /// An input that is no event: an answer, an acknowledgement or a time.
+    /// An input that isn't an event: an answer, an acknowledgement or a time.
     fn judge_other(&self, input: &Input, at: u64) -> Result<Judged, AllocError>
         requires well { IsWell (kept_state self.now) }
         requires other { event_token input.now ≡ None }

@@ -2,8 +2,8 @@
 //!
 //! An amount is a whole number of minor units, a stamp a number of milliseconds since 1970.
 //!
-//! A record's entries are made once, as one list, by what mirrors the rules, and each entry is entered once (`entering`):
-//! first those of each due thing (`due`), and then the record's own (`entries`).
+//! A record's entries are made once, as one list, by what mirrors the rules, and each entry is entered once (`entering`).
+//! First come those of each due thing (`due`), and then the record's own (`entries`).
 //!
 //! It may cite `iss_model`, the laws of `iss_agreement` and `iss_state`, and its parts.
 //! It must not cite bytes: lines, texts, the outside.

@@ -142,8 +142,8 @@ impl State {
         }
     }
 
-    /// A reversal is declined, or abandons the calls, lets go up to its amount, ends a transaction that then holds nothing,
-    /// and tells the gateway what was let go.
+    /// A reversal is declined, or it abandons the calls and lets go up to its amount. It then ends a transaction that
+    /// holds nothing, and tells the gateway what was let go.
     pub(crate) fn put_reversal(
         &self,
         alloc: Global,

@@ -77,8 +77,8 @@ impl State {
         }
     }
 
-    /// A purchase on a card of a product, as an ask: it begins a transaction, named by its event and let go when the
-    /// product's holds are.
+    /// A purchase on a card of a product, as an ask. It begins a transaction, which is named by its event and expires
+    /// when the product's holds do.
     fn first_ask(&self, purchase: &Purchase, card: &Card, product: &Product) -> Ask
         requires time { IsTrue (is_hold_time product.now.hold_ms) }
         requires stamp { IsTrue (is_stamp purchase.now.at) }

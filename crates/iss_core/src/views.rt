@@ -143,9 +143,9 @@ impl Core {
         self.state.notices.pending_notices(alloc)
     }
 
-    /// The accounts that money was moved to or from: each gateway's by the number of its currency, and so each
-    /// network's and programme's, and then those of users, by the bytes of the user's token and the number of the
-    /// currency.
+    /// The accounts that money was moved to or from. Each gateway's come first, by the number of its currency, then each
+    /// network's and each programme's in the same order. Then come those of users, by the bytes of the user's token and
+    /// the number of the currency.
     pub fn accounts(&self, alloc: Global) -> Result<Vec<Account>, AllocError>
         ensures value { IfOk result (λ v. map account_key v.items ≡ finite.keys self.now.state.balances) }
         ensures on_book { (rs : List Record) → CoreStandsFor self.now rs

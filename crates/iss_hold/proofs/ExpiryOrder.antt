@@ -21,7 +21,7 @@ through x a b h k = grind (arith, nat_tests)
 abbrev pub NoneBefore : Expiry → List Expiry → Type 0
 NoneBefore a es = AllByRecursion (λ b. before b a ≡ false) es
 
--- none comes before an earlier one
+-- no expiry of the list comes before an earlier one
 abbrev pub AreOrdered : List Expiry → Type 0
 AreOrdered [] = Unit {0}
 AreOrdered (a ∷ es) = NoneBefore a es × AreOrdered es
@@ -103,7 +103,7 @@ come_by : (now : ℕ) (a : Expiry) (es : List Expiry) (t : Bool) → has_come no
 come_by now a es true e n rest = ap (λ (xs : List Expiry). a ∷ xs) rest
 come_by now a es false e n rest = sym (none_come now a es e n)
 
--- those that have come stand first
+-- in order, the expiries that have come stand first
 come_first : (now : ℕ) (es : List Expiry) → AreOrdered es → come_of now es ≡ filter (has_come now) es
 come_first now [] o = refl
 come_first now (a ∷ es) o = come_by now a es (has_come now a) refl o.0 (come_first now es o.1)

@@ -185,6 +185,6 @@ end_by : (ns : List (List ℕ)) (now : ℕ) (listed : List (List ℕ)) (all : Li
 end_by ns now listed all [] h whole = ap (λ (ts : List (List ℕ)). map (λ t. txn_due t) ts) (sym (append-nil listed)) ∙ whole
 end_by ns now listed all (x ∷ xs) h whole = cc
 
--- and if none is left
+-- if no expiry is left, all is listed too
 pub listed_all : {ns : List (List ℕ)} {now : ℕ} {listed : List (List ℕ)} {all : List DueThing} → AreListed ns now [] listed all → map (λ t. txn_due t) listed ≡ all
 listed_all {ns} {now} {listed} {all} a = end_by ns now listed all a.rest a.named a.whole

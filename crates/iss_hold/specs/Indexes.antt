@@ -78,8 +78,7 @@ with_name names e = (e.0, slice_get names e.1)
 abbrev pub with_token : Expiry → (ℕ × ℕ) × Option (List ℕ)
 with_token e = (e.0, Some e.1)
 
--- the indexes agree with the holds: each name has its place, each user its sum, and the expiries are in their order, each with the
--- place of its transaction
+-- The indexes agree with the holds. Each name has its place, and each user its sum. The expiries are in order, each with its transaction's place.
 pub record AreIndexed (holds : List Hold) (places : List (List ℕ)) (sums : BTreeMap (List ℕ × ℕ) ℕ) (order : BTreeMap (Reverse (ℕ × ℕ)) ℕ) : Type 0 where
   pub distinct : IsDistinct bytes_eq (names holds)
   pub placed : ArePlaced holds places

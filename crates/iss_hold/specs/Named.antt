@@ -41,7 +41,7 @@ pub record IsNamed (names : List (List ℕ)) (row : HoldRow) : Type 0 where
   pub product : IsSome (slice_get names row.product)
   pub mid : IsSome (slice_get names row.mid)
 
--- and so of each row
+-- each place of each row has its name
 abbrev pub AreNamed : List (List ℕ) → List HoldRow → Type 0
 AreNamed names [] = Unit {0}
 AreNamed names (row ∷ rows) = IsNamed names row × AreNamed names rows

@@ -17,8 +17,8 @@ use std::alloc::{AllocError, Global};
 use std::cmp::Reverse;
 use std::collections::BTreeMap;
 
-/// What the transactions hold, in the order in which they began, with their places, the sums of their users and the
-/// places of the live ones by expiry.
+/// What the transactions hold, in the order in which they began. Their places are kept too, with the sums of their users
+/// and the places of the live ones by expiry.
 #[derive(Drop)]
 pub(crate) struct Table {
     pub(crate) holds: HoldList,

@@ -454,7 +454,7 @@ kept_more before after others others_after names now k place kept puts is none m
       apart = apart-last k names kept.apart none;
     })
 
--- the same names, found as they were
+-- names are kept if they are the same and are found as they were
 pub kept_still : (before after : List Group) (others others_after : BTreeMap (List ℕ) ℕ) (names now : List (List ℕ)) → AreNamesKept before others names
     → ((ns : List (List ℕ)) → AreFound before others ns → AreFound after others_after ns) → now ≡ names → AreNamesKept after others_after now
 kept_still before after others others_after names now kept stays same =

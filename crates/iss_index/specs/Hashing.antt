@@ -69,7 +69,7 @@ found_in groups others names name =
 abbrev pub AreWithin : ℕ → List Slot → Type 0
 AreWithin count slots = AllByRecursion (λ s. s.rank ≤ count) slots
 
--- groups and a tree find each of these names at its place, and no other, and a name whose group has room isn't in the tree
+-- groups and a tree find exactly these names, each at its place, and a name whose group has room isn't in the tree
 pub record AreFound (groups : List Group) (others : BTreeMap (List ℕ) ℕ) (names : List (List ℕ)) : Type 0 where
   pub found : (name : List ℕ) → found_in groups others names name ≡ place_of name names
   pub clear : (name : List ℕ) → has_room (slots_at groups (group_of (length groups) (hash_of name))) ≡ true → get (slice_cmp nat_cmp) others name ≡ None

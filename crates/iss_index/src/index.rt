@@ -59,8 +59,8 @@ impl<T: Named + Drop> Index<T> {
 
     /// Puts a thing in the place of the one of its name. Does nothing if there is none.
     ///
-    /// Names are distinct, so any change that makes `thing` of what is found leads to the same list if it is made to
-    /// each thing of that name.
+    /// Names are distinct. So any change that makes `thing` of what is found leads to the same list if it is made to each
+    /// thing of that name.
     pub fn set(&mut self, thing: T)
         ensures placed { self.new ≡ changed_at T.name_of (T.name_of thing) (λ t. thing) self.old }
         ensures changed { (change : T → T) → MakesThis T.name_of change thing self.old

@@ -65,7 +65,7 @@ second_small m from to amount k =
     ∙ at_its_key (after_change m (by (account_key to) (pos (moved_amount from to amount)))) (account_key from) (neg_ℤ (pos (moved_amount from to amount))))
     (k (account_key from))
 
--- and so is the one after the first
+-- the sum after the first step is small too
 first_by : (m : Kept) (from to : List ℕ) (amount : ℕ) (same : Bool) → bytes_eq from to ≡ same
     → IsSmall (kept_at m to) → IsSmall (kept_at (after_change (after_change m (by to (pos (cond same 0 amount)))) (by from (neg_ℤ (pos (cond same 0 amount))))) to)
     → IsSmall (kept_at m to +ℤ pos (cond same 0 amount))

@@ -59,9 +59,9 @@ impl Ledger {
         sum_at(&self.balances, &AccountKey::new(account))
     }
 
-    /// The accounts that a post was made from or to: each gateway's by the number of its currency, and so each
-    /// network's and programme's, and then those of users, by the bytes of the user's token and the number of the
-    /// currency.
+    /// The accounts that a post was made from or to. Each gateway's come first, by the number of its currency, then each
+    /// network's and each programme's in the same order. Then come those of users, by the bytes of the user's token and
+    /// the number of the currency.
     pub fn accounts(&self, alloc: Global) -> Result<Vec<Account>, AllocError>
         ensures { IfOk result (λ v. map account_key v.items ≡ finite.keys self.now) }
     {

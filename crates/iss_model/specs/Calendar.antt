@@ -16,12 +16,12 @@ week_of day = int_div_euclid (day +ℤ pos 4) (pos 7)
 abbrev pub is_leap_year : ℕ → Bool
 is_leap_year year = year % 4 == 0 && (not (year % 100 == 0) || year % 400 == 0)
 
--- how many days lie before 1 January of a year, counted from 1 January of the year 0: 365 a year, and one more for each leap year
+-- How many days lie before 1 January of a year, counted from 1 January of the year 0. A year has 365 days, and a leap year one more.
 abbrev pub days_before_year : ℕ → ℕ
 days_before_year year = 365 * year + (year + 3) / 4 - (year + 99) / 100 + (year + 399) / 400
 
--- The year of the day of this number, counted from 1 January of the year 0: its first day isn't later, and that of the next year is.
--- 400 years have 146097 days, so the quotient is the year, or misses it by one.
+-- The year of the day of this number, counted from 1 January of the year 0. Its first day isn't later, and that of the next year is. 400
+-- years have 146097 days, so the quotient is the year, or misses it by one.
 abbrev pub year_of_day : ℕ → ℕ
 year_of_day day =
     let near = 400 * day / 146097 in
@@ -48,7 +48,7 @@ abbrev pub at_least_0 : ℤ → ℕ
 at_least_0 (pos n) = n
 at_least_0 (negsuc n) = 0
 
--- the month of a day, from the year 0 on: 1 January 1970 is 719528 days after 1 January of the year 0, and a day before that one counts as it
+-- The month of a day, from the year 0 on. 1 January 1970 is 719528 days after 1 January of the year 0, and a day before that one counts as it.
 abbrev pub month_of : ℤ → ℤ
 month_of day =
     let place = at_least_0 (day +ℤ pos 719528) in

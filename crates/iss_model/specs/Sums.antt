@@ -92,8 +92,8 @@ paid_by (account.Programme c) (account.User user d) amount = pos amount
 paid_by (account.User user c) (account.Programme d) amount = neg_ℤ (pos amount)
 paid_by _ _ amount = pos 0
 
--- A whole number at the end of a key, so that keys sort as their numbers do: one below 0 begins with as many zeros as it lies below.
--- The last two places tell the number too, whatever is before them.
+-- A whole number at the end of a key, so that keys sort as their numbers do. One below 0 begins with as many zeros as it lies below. The
+-- last two places tell the number too, whatever is before them.
 abbrev pub int_key : ℤ → List ℕ
 int_key (pos n) = 1 ∷ n ∷ []
 int_key (negsuc n) = replicate (suc n) 0 ++ 1 ∷ 0 ∷ n ∷ []

@@ -1,5 +1,6 @@
-//! What a record takes on a device beside its spelling, and where the first one begins, in bytes. These are the sizes of the
-//! journal, which is no library of this crate, nor this crate one of the journal's: the store asks that they are equal.
+//! What a record takes on a device beside its spelling, and where the first one begins, in bytes. These are the sizes of
+//! the journal. The journal isn't a library of this crate, nor this crate one of the journal's, so the store asks that
+//! they are equal.
 
 /// How long a gate is.
 pub const GATE_SIZE: u64 = 1;

@@ -90,7 +90,7 @@ pub struct Product {
     pub hold_ms: u64,
 }
 
-/// A velocity control: the most amount or the most uses in each window.
+/// A velocity control: the greatest amount or number of uses in each window.
 #[derive(Clone, Copy)]
 pub struct Control {
     pub name: Token,

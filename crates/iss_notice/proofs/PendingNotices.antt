@@ -161,7 +161,7 @@ pub none_pending : (made n : ℕ) (pending : BTreeMap ℕ Notice) → AreNotices
     → is_pending n (record { made = made; pending = values pending }) ≡ false
 none_pending made n pending a h = not_pending made n pending.entries h a.each
 
--- the same of the outbox that contracts see
+-- in the outbox that contracts see, a notice is pending exactly if it is kept
 pub pending_is : (made n : ℕ) (pending : BTreeMap ℕ Notice) (o : Outbox) → AreNoticesKept made pending → record { made = made; pending = values pending } ≡ o
     → is_some (lookup (is_at (nat_cmp n)) pending.entries) ≡ is_pending n o
 pending_is made n pending o a e = found_any made n pending a ∙ ap (λ (x : Outbox). is_pending n x) e

@@ -134,7 +134,7 @@ listed_last : (es : List (List ℕ × Listed)) (e : List ℕ × Listed) → list
 listed_last [] e = refl
 listed_last (x ∷ xs) e = ap (λ (ps : List ProductNow). product_now x.1 ∷ ps) (listed_last xs e)
 
--- and under its own name
+-- a product put last stands under its own name
 last_by_name : (es : List (List ℕ × Listed)) (e : List ℕ × Listed) → IsByName es → e.0 ≡ e.1.product.name → IsByName (es ++ e ∷ [])
 last_by_name [] e by own = (own, tt)
 last_by_name (x ∷ xs) e by own = (by.0, last_by_name xs e by.1 own)

@@ -45,7 +45,7 @@ is_open_at at c t = nat_lt at c.opened.deadline && nat_lt at t.txn.expires
 abbrev pub stays_asked : CoreState → ℕ → ℕ → Bool
 stays_asked s at n = is_some_with is_asked (call_at (after_all_due s at) n)
 
--- after all that is due at a moment is settled, a call is asked exactly if its deadline and its transaction's expiry are still to come
+-- once all that is due is settled, a call is asked exactly if its deadline and its transaction's expiry are still to come
 abbrev pub EndsOnTime : CoreState → ℕ → ℕ → CallNow → TxnNow → Type 0
 EndsOnTime s at n c t = stays_asked s at n ≡ is_open_at at c t
 

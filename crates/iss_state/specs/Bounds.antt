@@ -51,7 +51,7 @@ total_of f (e ∷ es) = f e + total_of f es
 abbrev pub IsWithinAfter : ℕ → ℕ → CoreState → Entry → Type 0
 IsWithinAfter money used s e = SumsAreWithin (money + moved_money e) (used + moved_use e) (after_entry s e)
 
--- and so after entries, each moved as far as they move it together
+-- sums after entries lie within these bounds, each moved as far as the entries move it together
 abbrev pub AreWithinAfter : ℕ → ℕ → CoreState → List Entry → Type 0
 AreWithinAfter money used s es =
     SumsAreWithin (money + total_of moved_money es) (used + total_of moved_use es) (fold after_entry s es)

@@ -13,7 +13,8 @@ use Rattle.iss_state.specs.Effects.{Effect, HoldsParts, Paid}
 use Rattle.iss_state.specs.Needs.{Stands}
 use Rattle.iss_state.specs.Stakes.{IsOrderlyState, at_least_one}
 
--- How much money an input costs beyond what was at stake: a load its amount, a clearing and a refund twice theirs, and an ask four times.
+-- How much money an input costs beyond what was at stake. A load costs its amount, a clearing and a refund twice theirs, and an ask four
+-- times its own.
 abbrev pub input_money : Input → ℕ
 input_money (input.Load token user currency amount) = amount
 input_money (input.Authorization token card currency amount mcc mid partial) = 4 * at_least_one amount
@@ -43,7 +44,7 @@ abbrev pub cause_money : Cause → ℕ
 cause_money FallsDue = 0
 cause_money (ComesOf i) = input_money i
 
--- and use
+-- the use that a cause brings, beyond what is at stake
 abbrev pub cause_use : Cause → ℕ
 cause_use FallsDue = 0
 cause_use (ComesOf i) = input_use i
@@ -54,7 +55,7 @@ money_left by Fresh = cause_money by
 money_left by (Seeks ask) = 4 * at_least_one ask.amount
 money_left by _ = 0
 
--- and the use
+-- the use that acts may cost from a stage on
 abbrev pub use_left : Cause → Stage → ℕ
 use_left by Fresh = cause_use by
 use_left by (Seeks ask) = 2 * at_least_one ask.amount
@@ -79,7 +80,8 @@ pub record Spends (by : Cause) (g : Stage) (q : CoreState) (a : Act) : Type 0 wh
   pub money : moved + 2 * up + money_left by (stage_after g a) ≤ 2 * down + money_left by g
   pub usage : used + up + use_left by (stage_after g a) ≤ down + use_left by g
 
--- Each act that comes of a cause at a moment, at any stage, and begins no transaction costs no more than its stage leaves to the next one.
+-- Each act that comes of a cause at a moment, and begins no transaction, costs no more than its stage leaves to the next one. That is so
+-- at any stage.
 abbrev pub ActsArePaid : Cause → ℕ → CoreState → Type 0
 ActsArePaid by at s =
     (stage : Stage) → (before : CoreState) → (act : Act) → IsMade (core_facts s) by at stage act → may_begin act ≡ false

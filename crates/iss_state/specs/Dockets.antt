@@ -12,7 +12,7 @@ pub record Docket : Type 0 where
   pub calls : List CallNow
   pub decisions : List Decision
 
--- those of a core
+-- the docket of a core's state
 abbrev pub docket_of : CoreState → Docket
 docket_of s = record { txns = s.holdings.txns; calls = s.calls; decisions = s.decisions }
 

@@ -9,7 +9,7 @@ use Rattle.iss_state.specs.Bounds.{moved_money, moved_use, total_of}
 use Rattle.iss_state.specs.Needs.{AllFit, Stands, begun_txns}
 use Rattle.iss_state.specs.Stakes.{IsOrderlyState, at_least_one, at_stake, part_held}
 
--- What entries do that begin no transaction: how far they take the sums of money and of use, and what they put at stake and take from it. Each fits.
+-- What entries that begin no transaction do: how far they move sums of money and use, and what they put at stake or take. Each fits.
 pub record Effect (s : CoreState) (es : List Entry) (moved used up down : ℕ) : Type 0 where
   pub money : total_of moved_money es ≤ moved
   pub usage : total_of moved_use es ≤ used
@@ -28,7 +28,7 @@ pub record Paid (more_money more_use : ℕ) (s : CoreState) (es : List Entry) : 
   pub money : moved + 2 * up ≤ 2 * down + more_money
   pub usage : used + up ≤ down + more_use
 
--- Entries are paid by what a closed call of an amount took from what was at stake: four times the amount in money, and twice in use.
+-- Entries are paid by what a closed call of an amount took from what was at stake. That is four times the amount in money, and twice in use.
 abbrev pub PaidByAsk : ℕ → CoreState → List Entry → Type 0
 PaidByAsk amount s es = Paid (4 * at_least_one amount) (2 * at_least_one amount) s es
 

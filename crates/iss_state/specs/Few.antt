@@ -3,11 +3,12 @@ use Rattle.std.specs.Prelude.{ℕ, ◌+◌, ◌*◌, ◌≤◌, length, filter}
 use Rattle.iss_model.specs.rules.Activity.{is_asked}
 use Rattle.iss_model.specs.state.Cores.{CoreState}
 
--- the notices that were made, and those that may still be without a further record: two for each asked call and one for each live transaction
+-- The notices that were made, and those that may still be without a further record. These are two for each asked call and one for each
+-- live transaction.
 abbrev pub notices_in_sight : CoreState → ℕ
 notices_in_sight s = s.outbox.made + 2 * length (filter is_asked s.calls) + length (filter (λ t. t.live) s.holdings.txns)
 
--- Records have made few calls and notices: each record opens one call at most, and brings four notices in sight at most.
+-- Records have made few calls and notices: each record opens at most one call, and brings at most four notices in sight.
 pub record HasFewNumbers (records : ℕ) (s : CoreState) : Type 0 where
   pub calls : length s.calls ≤ records
   pub notices : notices_in_sight s ≤ 4 * records

@@ -44,7 +44,7 @@ pub record AreHeld (parts : Kept) (txns : List TxnNow) (calls : List CallNow) : 
   pub funded : (token : List ℕ) (p : Part) → may_have txns token p ≡ false → part_sum parts token p ≡ pos 0
   pub asked : (n : ℕ) (c : CallNow) → IsAsked calls n c → may_have txns c.opened.txn part.G ≡ true
 
--- so it is in a state
+-- in a state, the transactions hold well
 abbrev pub IsHeldWell : CoreState → Type 0
 IsHeldWell s = AreHeld s.holdings.parts s.holdings.txns s.calls
 
@@ -58,8 +58,8 @@ abbrev pub MayChange : CoreState → List ℕ → Part → ℤ → Type 0
 MayChange s txn p (pos n) = MayHold (docket_of s) txn × (may_have s.holdings.txns txn p ≡ true)
 MayChange s txn p (negsuc n) = pos (suc n) ≤ℤ part_sum s.holdings.parts txn p
 
--- What an entry needs so that transactions go on holding well: who ends holds nothing, and neither does a transaction whose authorisation is
--- asked for; a call is for a transaction that the gateway pays, and a transaction begins by now.
+-- What an entry needs so that transactions go on holding well. A transaction that ends holds nothing, and neither does one whose
+-- authorisation is asked for. A call is for a transaction that the gateway pays, and a transaction begins by now.
 abbrev pub KeepsHeld : CoreState → Entry → Type 0
 KeepsHeld s (entry.Hold txn user currency p amount) = MayChange s txn p amount
 KeepsHeld s (entry.Ended txn) = HoldsNothing s.holdings.parts txn

@@ -34,7 +34,7 @@ is_how_in_form (how.Failed why) = true
 is_how_in_form how.Abandoned = true
 is_how_in_form (how.Partial amount) = is_amount amount
 
--- so it is if the call is closed
+-- if a call is closed, how it was closed is in form
 abbrev pub is_end_in_form : Option How → Bool
 is_end_in_form None = true
 is_end_in_form (Some how) = is_how_in_form how
@@ -54,8 +54,8 @@ is_verdict_in_form (verdict.Partial currency amount) = is_amount amount
 abbrev pub is_decided_in_form : Decision → Bool
 is_decided_in_form d = is_verdict_in_form d.verdict
 
--- What a state keeps is of its form: its time, the times of its products, when its transactions began and its calls were opened,
--- and the parts that calls were funded with and events are approved for.
+-- What a state keeps is of its form: its time, the times of its products, and when its transactions began and its calls were opened. So
+-- are the parts that calls were funded with and events are approved for.
 pub record IsInForm (s : CoreState) : Type 0 where
   pub now : is_stamp s.now ≡ true
   pub products : list_all are_times s.products ≡ true

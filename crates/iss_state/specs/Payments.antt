@@ -65,7 +65,7 @@ DeclineIsPaid s ask why = Paid 0 (2 * at_least_one ask.amount) s (declined_ask_e
 abbrev pub FundingIsPaid : CoreState → Ask → Account → Part → Type 0
 FundingIsPaid s ask from p = Paid (4 * ask.amount) ask.amount s (funded_ask_entries ask from p)
 
--- a part of no more than a call's amount that is funded costs four times the part in money, and once in use what the call asks
+-- A part of at most a call's amount that is funded costs four times the part in money. In use it costs once what the call asks.
 abbrev pub PartIsPaid : CoreState → Opened → Txn → ℕ → Type 0
 PartIsPaid s o t amount = amount ≤ o.amount → Paid (4 * amount) o.amount s (part_funded_entries o t amount)
 

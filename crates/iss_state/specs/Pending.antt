@@ -41,7 +41,7 @@ decides_accepted accepted _ = true
 abbrev pub DecideKnown : CoreState → List Entry → Type 0
 DecideKnown s es = list_all (decides_accepted s.accepted) es ≡ true
 
--- what holds if a record's input is no event that was accepted before, and the state is well
+-- what holds if a record's input isn't an event that was accepted before, and the state is well
 abbrev pub IfNewAndWell : CoreState → Record → Type 0 → Type 0
 IfNewAndWell s r Holds = IsNewEvent s r.input → IsWell s → Holds
 
@@ -54,6 +54,6 @@ pub record HasTakenUp (s : CoreState) (i : Input) : Type 0 where
   pub events_stay : (event : List ℕ) → before.events event ≡ true → is_accepted s.accepted event ≡ true
   pub products_stay : (name : List ℕ) → before.products name ≡ true → is_product s.products name ≡ true
 
--- so it is in another state
+-- if a record was taken up on one state, it is taken up on another
 abbrev pub StaysTakenUp : Input → CoreState → CoreState → Type 0
 StaysTakenUp i s t = HasTakenUp s i → HasTakenUp t i

@@ -25,8 +25,8 @@ reach_of records = records * record_reach
 abbrev pub is_accepted : List Accepted → List ℕ → Bool
 is_accepted accepted token = is_some (find (λ a. is_event token a.input) accepted)
 
--- What holds of a state when this many records have made their entries: each sum, with what is still at stake, stays within their reach;
--- transactions have names of their own, of accepted events, and each began with one of the records so far.
+-- What holds of a state when this many records have made their entries. Each sum, with what is still at stake, stays within their reach.
+-- Transactions have names of their own, of accepted events, and each began with one of the records so far.
 pub record IsSoundAt (records : ℕ) (s : CoreState) : Type 0 where
   pub money : ℕ
   pub used : ℕ
@@ -37,7 +37,7 @@ pub record IsSoundAt (records : ℕ) (s : CoreState) : Type 0 where
   pub accepted : list_all (is_accepted s.accepted) (txn_tokens s.holdings.txns) ≡ true
   pub origins : list_all (λ t. nat_le t.origin s.count) (begun_txns s) ≡ true
 
--- the input is no event that was accepted before
+-- the input isn't an event that was accepted before
 abbrev pub IsNewEvent : CoreState → Input → Type 0
 IsNewEvent s i = (token : List ℕ) → event_token i ≡ Some token → is_accepted s.accepted token ≡ false
 
@@ -49,7 +49,8 @@ IfNewInForm s r Holds = is_in_form r.input ≡ true → IsNewEvent s r.input →
 abbrev pub AreInForm : List Record → Type 0
 AreInForm rs = list_all (λ r. is_in_form r.input) rs ≡ true
 
--- A record was taken up on a sound state, and hasn't made its own entries yet: its event is accepted and names no transaction, and all transactions are of earlier records.
+-- A record was taken up on a sound state, and hasn't made its own entries yet. Its event is accepted and names no transaction, and all
+-- transactions are of earlier records.
 pub record IsReady (records : ℕ) (s : CoreState) (i : Input) : Type 0 where
   pub sound : IsSoundAt records s
   pub accepted : (token : List ℕ) → event_token i ≡ Some token → is_accepted s.accepted token ≡ true

@@ -54,6 +54,6 @@ pub record IsOrderly (names : List (List ℕ)) (parts : Kept) : Type 0 where
   pub distinct : are_distinct names ≡ true
   pub unbegun : (token : List ℕ) → is_named_in names token ≡ false → whole_held parts token ≡ 0
 
--- so it is with the transactions of a state
+-- the transactions and holdings of a state are orderly
 abbrev pub IsOrderlyState : CoreState → Type 0
 IsOrderlyState s = IsOrderly (txn_tokens s.holdings.txns) s.holdings.parts

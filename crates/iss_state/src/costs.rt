@@ -9,8 +9,8 @@ ghost use Rattle.iss_state.specs.Costs.{ActsArePaid, InputIsPaid, begins_none};
 ghost use Rattle.iss_state.specs.Effects.{Paid};
 ghost use Rattle.iss_state.specs.After.{due_entries};
 
-/// What is due costs nothing beyond what was at stake, and an input that begins no transaction what it brings.
-/// An act costs no more than what its stage leaves to the next one: an ask has four times its amount in money, and twice in use.
+/// What is due costs nothing beyond what was at stake, and an input that begins no transaction what it brings. An act
+/// costs no more than what its stage leaves to the next one. An ask has four times its amount in money, and twice in use.
 pub fn inputs_are_paid()
     ensures due { (s : CoreState) (thing : DueThing) (at : ℕ) → IsOrderlyState s → Paid 0 0 s (due_entries s thing at) }
     ensures own { (s : CoreState) (i : Input) (at : ℕ) → IsOrderlyState s → begins_none i ≡ true

@@ -10,7 +10,8 @@ pub fn allowed_entries_keep_dockets_well()
     ensures { (known : Known) (d : Docket) (e : Entry) → IsAllowed d e → is_of_known known e ≡ true → KeepsWell known d e }
 {}
 
-/// An event that is decided, or that a call is asked for, is decided once and no call is asked for it, or isn't decided and one call is.
+/// An event that is decided, or that a call is asked for, is accounted for once. It is decided once with no call asked
+/// for it, or it isn't decided and one call is asked.
 pub fn events_of_a_docket_are_decided_once()
     ensures { (known : Known) (d : Docket) (event : List ℕ) → IsWellAmong known d → IsAccounted d event
         → IsRuledOnce d event }

@@ -8,8 +8,8 @@ ghost use Rattle.iss_state.specs.Sound.{IfReadyInForm, IfSoundWithin};
 ghost use Rattle.iss_state.specs.Entering.{AreEnterable};
 ghost use Rattle.iss_state.specs.After.{due_entries, input_entries};
 
-/// Each entry of a due item, and each of a record's own, fits the state that it is entered into: what it names stands, what it lets go is there,
-/// a new number is the next one, and it leaves small sums.
+/// Each entry of a due item, and each of a record's own, fits the state that it is entered into. What it names stands,
+/// and what it lets go is there. A new number is the next one, and it leaves small sums.
 pub fn entries_can_be_entered()
     ensures due { (n : ℕ) (s : CoreState) (thing : DueThing) (at : ℕ) → IfSoundWithin n s (AreEnterable s (due_entries s thing at)) }
     ensures own { (n : ℕ) (s : CoreState) (i : Input) (at : ℕ) → n < MOST_RECORDS

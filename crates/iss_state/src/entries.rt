@@ -14,8 +14,8 @@ ghost use Rattle.iss_state.specs.Stakes.{IsOrderlyState};
 ghost use Rattle.iss_state.specs.Effects.{Effect, IfStands};
 ghost use Rattle.iss_state.specs.Payments.{ClosingIsPaid, LessIsPaid, MoreIsPaid, OpeningIsPaid};
 
-/// An entry takes each sum of money at most as far as it moves money, and each sum of use as far as it moves use.
-/// Entries one after the other take them as far as they move together.
+/// An entry takes each sum of money at most as far as it moves money. It takes each sum of use at most as far as it moves
+/// use. Entries one after the other take them as far as they move together.
 pub fn entries_move_sums()
     ensures one { (money used : ℕ) (s : CoreState) (e : Entry) → SumsAreWithin money used s
         → IsWithinAfter money used s e }
@@ -23,7 +23,8 @@ pub fn entries_move_sums()
         → AreWithinAfter money used s es }
 {}
 
-/// A hold of more and an opening put what they hold or ask at stake; a hold of less and a closing take it from there; an end leaves it as it is.
+/// A hold of more and an opening put what they hold or ask at stake. A hold of less and a closing take it from there. An
+/// end leaves it as it is.
 #[tactic(auto, using(crate::proofs::effects::Effects::open_effect, crate::proofs::effects::Effects::close_effect))]
 pub fn entries_move_what_is_at_stake()
     ensures more_held { (s : CoreState) (t : Txn) (p : Part) (amount : ℕ) → IfStands s t (MoreIsPaid s t p amount) }

@@ -13,7 +13,7 @@ ghost use Rattle.iss_agreement.specs.Stepped.{core_after};
 ghost use Rattle.iss_state.specs.After.{after_entries, after_input, after_thing};
 ghost use Rattle.iss_state.specs.Few.{HasFewNumbers, HasNoFewer, IsFewForOneMore, StaysFew};
 
-/// Records open one call each at most, and bring four notices each in sight at most: what is due opens no call and makes no
+/// Records each open at most one call, and bring at most four notices in sight. What is due opens no call, and makes no
 /// notice that wasn't in sight. Entries lose no call, and no notice that was made.
 pub fn few_numbers_are_given()
     ensures begins { HasFewNumbers 0 no_core }

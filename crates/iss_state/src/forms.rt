@@ -20,8 +20,8 @@ pub fn states_stay_in_form()
     ensures entered { (s : CoreState) (es : List Entry) → AreEntriesInForm es → IsInForm s → IsInForm (after_entries s es) }
 {}
 
-/// In a state in form, the part that a call was funded with is less than 2^62, and so is the part that an event is approved for.
-/// So is a part that an entry in form approves an event for.
+/// In a state in form, the part that a call was funded with is less than 2^62. The part that an event is approved for is
+/// too. So is a part that an entry in form approves an event for.
 pub fn parts_are_small()
     ensures funded { (s : CoreState) (n : ℕ) (c : CallNow) (amount : ℕ) → IsInForm s → IsFundedSmall s n c amount }
     ensures approved { (s : CoreState) (event : List ℕ) (amount : ℕ) → IsInForm s → IsApprovedSmall s event amount }
@@ -29,7 +29,8 @@ pub fn parts_are_small()
         → ApprovesSmall event currency amount }
 {}
 
-/// On a state in form, each entry of a due item that is settled at a stamp is in form, and so is each that an input in form makes at one.
+/// On a state in form, each entry of a due item that is settled at a stamp is in form. Each entry that an input in form
+/// makes at a stamp is too.
 pub fn entries_are_in_form()
     ensures due { (s : CoreState) (thing : DueThing) (at : ℕ) → IfInFormAt s at (AreEntriesInForm (due_entries s thing at)) }
     ensures own { (s : CoreState) (i : Input) (at : ℕ) → IfInFormWith s i at (AreEntriesInForm (input_entries s i at)) }

@@ -18,8 +18,8 @@ pub fn holdings_are_well()
     ensures steps { (s : CoreState) (r : Record) → IfNewAndWell s r (IsHeldWell s → IsHeldWell (core_after s r)) }
 {}
 
-/// What an entry needs so that all stays held well is there, entry by entry: what is let go is held, what is held more is of a live
-/// transaction whose authorisation's call isn't asked, and who ends holds nothing.
+/// What an entry needs so that all stays held well is there, entry by entry. What is let go is held. What is held more is
+/// of a live transaction whose authorisation's call isn't asked, and a transaction that ends holds nothing.
 pub fn entries_keep_holdings()
     ensures due { (s : CoreState) (i : Input) (thing : DueThing) (at : ℕ) → HasTakenUp s i → KeepHeldWell s (due_entries s thing at) }
     ensures own { (s : CoreState) (i : Input) (at : ℕ) → at ≤ s.now → HasTakenUp s i → KeepHeldWell s (input_entries s i at) }

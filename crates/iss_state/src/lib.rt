@@ -1,20 +1,22 @@
-//! What holds of every state that records make: what each entry does to its sums, their bounds, the numbers that it gives, its docket of
-//! transactions, calls and decisions, and what transactions hold.
+//! What holds of every state that records make: what each entry does to its sums, their bounds, and the numbers that it
+//! gives. Also its docket of transactions, calls and decisions, and what transactions hold.
 //!
 //! It may cite `iss_model`, `iss_acts`, and `iss_agreement` for what legal records are on a core.
 //! It must not cite any body: its laws are of definitions.
 //!
-//! `IsWell s` holds of each state that legal records leave, and a step keeps it. Of `well : IsWell s`, what it says is cited by its fields:
-//! `well.accounted event accepted`, and of its docket `well.docket.live n c asked`, `well.docket.waits n c asked`,
-//! `well.docket.calls.{numbers, once, alone, events}`, `well.docket.txns.{tokens, events, products}` and
-//! `well.docket.decisions.{once, events}`; `specs/Well.antt` has a sentence on each. There `asked` is
+//! `IsWell s` holds of each state that legal records leave, and a step keeps it. What `well : IsWell s` says is cited by its
+//! fields: `well.accounted event accepted`, and those of its docket. These are `well.docket.live n c asked`,
+//! `well.docket.waits n c asked`, `well.docket.calls.{numbers, once, alone, events}`,
+//! `well.docket.txns.{tokens, events, products}` and `well.docket.decisions.{once, events}`.
+//! `specs/Well.antt` has a sentence on each. There `asked` is
 //! `record { stands = ..; asked = .. }`, of the call of a number.
 //!
-//! `IsHeldWell s` is kept likewise. Of `held : IsHeldWell s`, what it says is `held.not_negative token part`, `held.ended token dead` and
-//! `held.pending number call asked first`; `specs/Holdings.antt` has a sentence on each.
+//! `IsHeldWell s` is kept likewise. What `held : IsHeldWell s` says is `held.not_negative token part`,
+//! `held.ended token dead` and `held.pending number call asked first`. `specs/Holdings.antt` has a sentence on each.
 //!
-//! Whoever enters entries one by one carries `HasTakenUp` from the record that is taken up through what is due (`entries_are_allowed`), and
-//! reads off `AreAllowed` and `AllKeepHeld` what each entry needs: a new token, or a field of `MayOpen`, `MayClose`, `MayDecide` or `MayEnd`.
+//! Whoever enters entries one by one carries `HasTakenUp` from the record that is taken up through what is due
+//! (`entries_are_allowed`). What each entry needs is read off `AreAllowed` and `AllKeepHeld`: a new token, or a field of
+//! `MayOpen`, `MayClose`, `MayDecide` or `MayEnd`.
 #![tactic(auto)]
 
 mod costs;

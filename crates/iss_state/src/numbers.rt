@@ -12,7 +12,8 @@ ghost use Rattle.iss_state.specs.Sound.{IsSoundAt, IfNewInForm, AreInForm};
 ghost use Rattle.iss_state.specs.Numbers.{AreCallsNumbered, CallsStayNumbered, AreNumberedFrom};
 ghost use Rattle.iss_state.specs.Begun.{HoldsOnceBegun, are_of_accepted, are_of_records};
 
-/// The notices of a due item, and of a record's own entries, have the numbers from the next one on, one by one, whatever the facts.
+/// Whatever the facts, the notices of a due item, and of a record's own entries, are numbered one by one from the next
+/// number on.
 pub fn notices_are_numbered()
     ensures due { (f : Facts) (thing : DueThing) (at : ℕ) → AreNumberedFrom (next_notice f) (thing_entries thing at f) }
     ensures own { (f : Facts) (i : Input) (at : ℕ) → AreNumberedFrom (next_notice f) (entries_of i at f) }
@@ -24,7 +25,8 @@ pub fn calls_are_numbered()
     ensures step { (n : ℕ) (s : CoreState) (r : Record) → IsSoundAt n s → IfNewInForm s r (CallsStayNumbered s r) }
 {}
 
-/// The transactions of legal records have tokens of their own, each that of an accepted event; each began with one of the records, and no other token holds anything.
+/// The transactions of legal records have tokens of their own, each that of an accepted event. Each began with one of the
+/// records, and no other token holds anything.
 pub fn transactions_have_names()
     ensures distinct { (rs : List Record) → IsLegal rs → AreInForm rs → are_distinct (txn_tokens (core_of rs).holdings.txns) ≡ true }
     ensures accepted { (rs : List Record) → IsLegal rs → AreInForm rs

@@ -24,8 +24,8 @@ pub fn calls_are_well()
     ensures live { (s : CoreState) (n : ℕ) (c : CallNow) → IfAsked s n c (has_live s.holdings.txns c.opened.txn ≡ true) }
 {}
 
-/// What entries need of the state that they are entered into is there, entry by entry: for each due thing, and then for a record's own.
-/// So it is once a record of a new event was taken up, and still while what is due is settled.
+/// What entries need of the state that they are entered into is there, entry by entry. That is so for each due thing, and
+/// then for a record's own. So it is once a record of a new event was taken up, and still while what is due is settled.
 pub fn entries_are_allowed()
     ensures taken { (s : CoreState) (r : Record) → IsWell s → IsNewEvent s r.input → HasTakenUp (with_record s r) r.input }
     ensures settled { (s : CoreState) (i : Input) (thing : DueThing) (at : ℕ) → StaysTakenUp i s (after_thing s thing at) }

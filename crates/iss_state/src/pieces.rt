@@ -13,9 +13,9 @@ ghost use Rattle.iss_model.specs.state.Cores.{CoreState};
 ghost use Rattle.iss_state.specs.Effects.{IfHolds, IfStands};
 ghost use Rattle.iss_state.specs.Payments.{AbandonmentIsPaid, DeclineIsPaid, EndIsPaid, FundingIsPaid, PartIsPaid, ReleaseIsPaid, StandInIsPaid};
 
-/// A release is paid by what it lets go, and an abandonment by what its calls ask, so an end costs nothing.
-/// An ask that is decided costs at most four times what was asked in money and twice in use, whoever decides it; a part that is funded,
-/// four times the part in money.
+/// A release is paid by what it lets go, and an abandonment by what its calls ask, so an end costs nothing. An ask that
+/// is decided costs at most four times what was asked in money and twice in use, whoever decides it. A part that is
+/// funded costs four times the part in money.
 #[tactic(auto, using(crate::proofs::effects::Asks::end_paid, crate::proofs::effects::Asks::declined_ask_paid, crate::proofs::effects::Asks::funded_ask_paid, crate::proofs::effects::Asks::part_funded_paid, crate::proofs::effects::Asks::set_stand_in_paid))]
 pub fn pieces_are_paid()
     ensures release { (s : CoreState) (t : Txn) (parts : Parts) (amount : ℕ)

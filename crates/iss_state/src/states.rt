@@ -42,7 +42,8 @@ pub fn due_items_keep_what_is_sound()
     ensures ready_after_all { (n : ℕ) (s : CoreState) (i : Input) (at : ℕ) → StaysReady n i s (after_all_due s at) }
 {}
 
-/// In a state that is sound for as many records as there may be, each sum lies strictly between -2^62 and 2^62, and a call asks less than 2^62.
+/// In a state that is sound for as many records as there may be, each sum lies strictly between -2^62 and 2^62. A call
+/// asks less than 2^62.
 pub fn sums_are_small()
     ensures sound { (n : ℕ) (s : CoreState) → n ≤ MOST_RECORDS → IsSoundAt n s → SumsAreSmall s }
     ensures records { (rs : List Record) → length rs ≤ MOST_RECORDS → IsLegal rs → AreInForm rs → SumsAreSmall (core_of rs) }

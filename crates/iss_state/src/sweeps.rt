@@ -19,8 +19,9 @@ pub fn due_items_close_calls()
         → IfAskedOf s n c t (StaysInTime s at n c t) }
 {}
 
-/// An answer is judged by its call and that call's transaction as they stand before anything due: to a call that was never opened,
-/// or is closed, it is told so; to an asked call it is new until the call's deadline and its transaction's expiry.
+/// An answer is judged by its call and that call's transaction as they stand before anything due. If the call was never
+/// opened, or is closed, the answer is told so. To an asked call it is new until the call's deadline and its
+/// transaction's expiry.
 pub fn answers_are_judged()
     ensures unknown { (s : CoreState) (call : CallId) (what : Outcome) (at : ℕ) → UnknownIsTold s call what at }
     ensures late { (s : CoreState) (call : CallId) (what : Outcome) (at : ℕ) (c : CallNow) (how : How)

@@ -19,7 +19,9 @@ const FIRST_DAY: i64 = -30;
 
 /// The number of the window of this kind that the stamp falls in, at an offset from UTC in minutes. A window of one transaction, and a lifetime, have the number 0.
 ///
-/// `at` is in milliseconds since 1 January 1970. Days are numbered from that one; weeks begin on Sundays and are numbered from the one that it lies in; months are numbered as 12 times the year, plus the month. Before 1970 the numbers go on downwards.
+/// `at` is in milliseconds since 1 January 1970. Days are numbered from that one. Weeks begin on Sundays, and are
+/// numbered from the one that it lies in. Months are numbered as 12 times the year, plus the month. Before 1970 the
+/// numbers go on downwards.
 #[tactic(auto, using(crate::proofs::Months::month_of_stamp))]
 pub fn window(kind: Window, at: u64, offset: i16) -> i64
     requires { IsTrue (is_stamp at) }

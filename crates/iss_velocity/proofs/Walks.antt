@@ -56,7 +56,7 @@ none_above low high place (x ∷ xs) h p =
     let other : (x.place == place) ≡ false = grind (arith, nat_tests) in
     ap (λ (b : Bool). cond b (Some x) (at_place place xs)) other ∙ none_above (x.place + 1) high place xs parts.1 p
 
--- nor that of a place below all
+-- no counter is that of a place below all
 none_below : (low place : ℕ) (xs : List Counter) → rising_from low xs ≡ true → nat_lt place low ≡ true → at_place place xs ≡ None
 none_below low place [] h p = refl
 none_below low place (x ∷ xs) h p =
@@ -170,7 +170,7 @@ module _ (cs : List Counter) (next place : ℕ) (s : IsSplit cs next place) wher
             high = lower (place + 1) (y.place + 1) ys low parts.1;
           }
 
-  -- or before a counter that comes later
+  -- the walk goes on before a counter that comes later
   pub waits : (c : Counter) → slice_get cs next ≡ Some c → (c.place == place) ≡ false → IsSplit cs next (place + 1)
   waits c e d =
       record {
@@ -191,7 +191,7 @@ module _ (cs : List Counter) (next place : ℕ) (s : IsSplit cs next place) wher
           let first : nat_le place y.place ≡ true = parts.0 in
           both (nat_le (place + 1) y.place) (rising_from (y.place + 1) ys) (grind (arith, nat_tests)) parts.1
 
-  -- or at the end
+  -- the walk ends at the end of the counters
   pub ends : slice_get cs next ≡ None → IsSplit cs next (place + 1)
   ends e =
       record {

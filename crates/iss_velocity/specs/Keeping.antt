@@ -26,7 +26,7 @@ abbrev pub counter_sum : (Used → ℤ) → List ℕ → Option Counter → Opti
 counter_sum worth user None = None
 counter_sum worth user (Some c) = option_map (λ used. (counter_key user c.number, worth used)) c.used
 
--- the same of a user's counter of the control at a place
+-- a number of what a user's counter of the control at a place has counted
 abbrev pub user_sum : (Used → ℤ) → ℕ → (List ℕ × List Counter) → Option (List ℕ × ℤ)
 user_sum worth place e = counter_sum worth e.0 (at_place place e.1)
 
@@ -94,7 +94,7 @@ pub record StaySmall (controls : List Standing) (groups : List Group) (row : Usa
 pub record FitsMore (controls : List Standing) (groups : List Group) (row : UsageRow) (c : Counter) : Type 0 where
   pub fits : (s : Standing) → slice_get controls c.place ≡ Some s → counts groups (put_of s) row ≡ true → IsSmallUse (used_more c.used row)
 
--- so it does of each counter
+-- for each counter, what it has counted lies in the range with one more row
 pub record FitMore (controls : List Standing) (groups : List Group) (row : UsageRow) (counters : List Counter) : Type 0 where
   pub fits : (i : ℕ) (c : Counter) → slice_get counters i ≡ Some c → FitsMore controls groups row c
 

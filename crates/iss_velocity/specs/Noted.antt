@@ -15,7 +15,8 @@ pub record Noted : Type 0 where
   pub groups : List Group
   pub row : UsageRow
 
--- what the rows that a control counts come to at a key: it counts those of later transactions, in its currency, association and scope, at their user and span
+-- What the rows that a control counts come to at a key. It counts those of later transactions, in its currency, association and scope, at
+-- their user and span.
 abbrev pub noted_sum : (UsageRow → ℤ) → ControlPut → List ℕ → List Noted → ℤ
 noted_sum worth put key noted =
     fold (λ sum n. sum +ℤ changed_at key (counted_changes worth n.groups put (entry.Usage n.row))) (pos 0) noted

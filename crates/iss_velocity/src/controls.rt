@@ -63,8 +63,9 @@ impl Controls {
         }
     }
 
-    /// Puts a control, with the number of its record. One that stands takes the limits and the activity, and is `Fixed` in all else;
-    /// a new one stands after the others and counts use of later transactions, and `Limit` is returned if there are 256.
+    /// Puts a control, with the number of its record. One that stands takes the limits and the activity, and is `Fixed`
+    /// in all else. A new one stands after the others, and counts use of later transactions. `Limit` is returned if there
+    /// are 256.
     pub fn put(&mut self, number: u32, control: &Control) -> Result<(), ControlFault>
         ensures put { OnOk result (self.new ≡ with_control self.old (record { number = number; control = control.now })) }
         ensures refused { OnErr result (self.new ≡ self.old) }

@@ -11,7 +11,8 @@ ghost use Rattle.iss_velocity.specs.Words.{breach_of, used_of};
 ghost use Rattle.iss_velocity.specs.Puts.{control_after_limits, control_after_activity};
 ghost use Rattle.iss_velocity.specs.Noted.{AreSumsOf, Noted, SortsByUser, StaySums, SumsNote, are_not_later};
 
-/// The breach that the rules name rests on the groups, the controls and the use of the ask alone, and what was used on the controls alone.
+/// The breach that the rules name rests on the groups, the controls and the use of the ask alone. What was used rests on
+/// the controls alone.
 pub fn breach_looks_at_use()
     ensures breach { (f : Facts) (ask : asks.Ask) → breach f ask ≡ breach_of f.groups f.controls (ask_usage ask) ask.is_first }
     ensures used { (f : Facts) (name user : List ℕ) (at : ℕ) → used_in f name user at ≡ used_of f.controls name user at }
@@ -22,7 +23,8 @@ pub fn nothing_is_noted_at_first()
     ensures { AreSumsOf [] [] }
 {}
 
-/// If a row is noted, each control's sums stay sums over the rows that were noted: by user and span, of the rows that it counts.
+/// If a row is noted, each control's sums stay sums over the rows that were noted: by user and span, and only those it
+/// counts.
 pub fn counters_are_sums_of_noted_use()
     ensures { (noted : List Noted) (controls : List ControlKept) (groups : List Group) (row : UsageRow) → SumsNote noted controls groups row }
 {}

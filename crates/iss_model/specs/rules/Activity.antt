@@ -10,7 +10,7 @@ use Rattle.iss_model.specs.declared.entry.Row.{Row}
 use Rattle.iss_model.specs.declared.entry.Entry.{Entry}
 use Rattle.iss_model.specs.declared.entry.Entry.TheVariants as entry
 
--- a transaction, and whether it hasn't ended
+-- a transaction, and whether it is still live
 pub record TxnNow : Type 0 where
   pub txn : Txn
   pub live : Bool

@@ -29,7 +29,7 @@ pub data News : Type 0 where
   refunded : News
   expired : News
 
--- as a notice's method
+-- news, as a notice's method
 abbrev pub news_method : News → Method
 news_method reversed = method.Reversal
 news_method captured = method.Capture

@@ -14,7 +14,7 @@ use Rattle.iss_model.specs.declared.txn.Used.{Used}
 use Rattle.iss_model.specs.rules.Controls.{ControlNow, counts, window_key, span_key, control_named}
 use Rattle.iss_model.specs.rules.Facts.{Facts}
 
--- An event that asks for an amount for a transaction at a stamp. A transaction's first ask is its authorisation, each later one an increment.
+-- An event that asks for an amount for a transaction at a stamp. A transaction's first ask is its authorisation, and each later one is an increment.
 -- Only an authorisation may permit that the gateway funds a part.
 pub record Ask : Type 0 where
   pub event : List ℕ
@@ -24,7 +24,7 @@ pub record Ask : Type 0 where
   pub partial : Bool
   pub at : ℕ
 
--- the transaction that an authorisation begins: named by the event, and let go when the product's holds are
+-- the transaction that an authorisation begins: it is named by the event, and expires when the product's holds do
 abbrev pub txn_begun : Facts → Card → Product → List ℕ → Currency → ℕ → List ℕ → ℕ → Txn
 txn_begun f card product token currency mcc mid at =
     record {
@@ -57,7 +57,7 @@ usage_of t amount count at =
       at = at;
     }
 
--- an authorisation counts once, an increment doesn't count
+-- an authorisation counts once, and an increment doesn't count
 abbrev pub ask_count : Ask → ℤ
 ask_count ask = if ask.is_first then pos 1 else pos 0
 

@@ -110,7 +110,7 @@ after_clearing_acts f t rest amount ends =
     if ends then end_acts (next_notice f) f t rest reason.Cleared ++ acts_for_gateway t (Tells (notice_after_abandonment (next_notice f) f t) captured t amount rest.g ∷ [])
     else acts_for_gateway t (Tells (next_notice f) captured t amount 0 ∷ [])
 
--- a transaction that holds these parts is cleared by an amount: it ends if it is live, and this is its last clearing or leaves nothing held
+-- A transaction that holds these parts is cleared by an amount. It ends if it is live, and this is its last clearing or leaves nothing held.
 abbrev pub cleared_acts : Facts → List ℕ → ℕ → Bool → ℕ → TxnNow → Parts → List Act
 cleared_acts f token amount last at now parts =
     let rest = left_of parts (taken_to_clear parts amount) in

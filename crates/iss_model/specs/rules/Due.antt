@@ -15,7 +15,8 @@ pub data DueThing : Type 0 where
   call_due : ℕ → DueThing
   txn_due : List ℕ → DueThing
 
--- a thing that is due since a moment; of one moment calls come before transactions, and each by the number of a call or of an authorisation's record
+-- A thing that has been due since a moment. Of one moment calls come before transactions, each by the number of a call or of an
+-- authorisation's record.
 pub record DueItem : Type 0 where
   pub since : ℕ
   pub rank : ℕ

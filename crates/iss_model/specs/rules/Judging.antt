@@ -27,7 +27,7 @@ repeat_or_conflict f i token (Some first) =
 abbrev pub event_answer : Facts → Input → List ℕ → Option Answer
 event_answer f i token = repeat_or_conflict f i token (event_in f token)
 
--- the answer to an input with this token; an input without one is no event, and has no answer by it
+-- the answer to an input with this token; an input without one isn't an event, and has no answer by it
 abbrev pub token_answer : Facts → Input → Option (List ℕ) → Option Answer
 token_answer f i None = None
 token_answer f i (Some token) = event_answer f i token

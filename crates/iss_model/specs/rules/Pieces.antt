@@ -1,4 +1,5 @@
--- The pieces of entries that acts are made of: posts, holds and what is taken of them, notices, declined and funded asks. What comes to nothing is left out.
+-- The pieces of entries that acts are made of: posts, holds and what is taken of them, notices, declined and funded asks. An entry of
+-- amount 0 is left out.
 use Rattle.std.specs.Prelude.{ℕ, ◌+◌, ◌-◌, min, ◌==◌, pos, neg_ℤ, List, [], ◌∷◌, ◌++◌, length, Option, Some, None, if◌then◌else◌, ◌-ℤ◌}
 use Rattle.iss_model.specs.declared.account.Account.TheVariants as account
 use Rattle.iss_model.specs.declared.account.Account.{Account}
@@ -194,8 +195,8 @@ set_stand_in_entries number ask at s =
     ∷ entry.Decided ask.event verdict.Approved
     ∷ []
 
--- a clearing takes from the hold, the rest comes from the programme for a gateway product, and the network receives all of it;
--- the rest counts as use at this stamp
+-- A clearing takes from the hold, the rest comes from the programme for a gateway product, and the network receives all of it. The rest
+-- counts as use at this stamp.
 abbrev pub clearing_money_entries : Txn → Parts → ℕ → ℕ → List Entry
 clearing_money_entries t taken amount at =
     let excess = amount - in_all taken in

@@ -20,7 +20,7 @@ covers_failure s failure.Timeout = s.timeout
 covers_failure s failure.Application = s.application
 covers_failure s failure.Switch = true
 
--- the set isn't asked for more than its most for one purchase, nor for more than its most for the user, product and day of UTC
+-- the set isn't asked for more than its most for a purchase, nor its most for the user, product and day of UTC
 abbrev pub allows : Facts → Set → Ask → ℕ → Bool
 allows f s ask at =
     nat_le ask.amount s.max

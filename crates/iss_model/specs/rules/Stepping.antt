@@ -29,7 +29,7 @@ abbrev pub acts_unless : Option Reason → List ℕ → List Act → List Act
 acts_unless (Some why) token acts = Declines token why ∷ []
 acts_unless None token acts = acts
 
--- a notice is acknowledged; one that was never made isn't
+-- a notice is acknowledged; a notice that was never made isn't
 abbrev pub acknowledgement_acts : Facts → ℕ → List Act
 acknowledgement_acts f notice = if is_notice f notice then Acknowledges notice ∷ [] else []
 

@@ -8,8 +8,8 @@ use Rattle.iss_model.specs.declared.layout.TheConstants.{GATE_SIZE, LENGTH_SIZE,
 use Rattle.iss_model.specs.declared.limits.TheConstants.{MOST_RECORDS}
 use Rattle.iss_model.specs.texts.Spelling.{spelling}
 
--- The room of a device: whether it is in two halves, its size in bytes, whether the second half is the current one, the point, which is the
--- number of records in the current half's image, and the image that records make.
+-- The room of a device: whether it is in two halves, its size in bytes, and whether the second half is the current one. Then come the
+-- point and the image that records make. The point is the number of records in the current half's image.
 pub record Room : Type 0 where
   pub halved : Bool
   pub size : ℕ
@@ -37,8 +37,8 @@ needs_of rs = fold (λ needs r. needs + need_of r) 0 rs
 abbrev pub half_size : ℕ → ℕ
 half_size size = (size - HALVES_START) / 2
 
--- The bytes that a turn leaves free in the half that it makes the current one: these records are in its image, which has its length before it,
--- and the last byte is kept for the gate at the end.
+-- The bytes that a turn leaves free in the half that it makes the current one. These records are in its image, which has its length
+-- before it. The last byte is kept for the gate at the end.
 abbrev pub free_turned : Room → List Record → ℕ
 free_turned room rs = half_size room.size - (LENGTH_SIZE + GATE_SIZE) - length (room.image rs)
 
@@ -49,7 +49,7 @@ free_in room rs =
     if room.halved then free_turned room (take room.point rs) - needs_of (drop room.point rs)
     else room.size - GATE_SIZE - end_gate rs
 
--- the most bytes that one more record may need: those that are free, or in halves those that a turn leaves free if they are more
+-- the most bytes that one more record may need: those that are free, or in halves those that a turn leaves if more
 abbrev pub most_free : Room → List Record → ℕ
 most_free room rs = if room.halved then max (free_in room rs) (free_turned room rs) else free_in room rs
 
@@ -61,7 +61,7 @@ fits room rs r = nat_le (need_of r) (most_free room rs)
 abbrev pub needs_turn : Room → List Record → Record → Bool
 needs_turn room rs r = room.halved && not (nat_le (need_of r) (free_in room rs))
 
--- the room when this record was put after these: if it needs a turn, the other half is the current one, and all of these are in its image
+-- The room after this record is put after these. If it needs a turn, the other half is the current one, and all of these are in its image.
 abbrev pub room_after : Room → List Record → Record → Room
 room_after room rs r = if needs_turn room rs r then record room { second = not room.second; point = length rs } else room
 

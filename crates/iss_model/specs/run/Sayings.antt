@@ -17,7 +17,7 @@ use Rattle.iss_model.specs.rules.Judging.{judge}
 use Rattle.iss_model.specs.rules.Keeper.{Keeper}
 use Rattle.iss_model.specs.run.Rooms.{judgement_after}
 
--- a decision, a request or a notice to the gateway, that an acknowledgement was taken, that a time was taken, or an answer to an input that isn't new
+-- a decision, a request or notice to the gateway, an acknowledgement or time that was taken, or an answer to an input that isn't new
 pub data Said : Type 0 where
   decided : List ℕ → Verdict → Said
   asked : Opened → Said

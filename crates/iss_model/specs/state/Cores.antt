@@ -70,7 +70,7 @@ pub record Outbox : Type 0 where
   pub made : ℕ
   pub pending : List Notice
 
--- What a core keeps: the time and the number of records, the events and how they were decided, what was set, and the sums, calls and notices.
+-- What a core keeps: the time and the number of records, and the events with their decisions. Then what was set, and the sums, calls and notices.
 pub record CoreState : Type 0 where
   pub now : ℕ
   pub count : ℕ

@@ -23,7 +23,8 @@ abbrev pub posted_accounts : Entry → List Account
 posted_accounts (entry.Post from to amount txn) = from ∷ to ∷ []
 posted_accounts _ = []
 
--- The order of the report: the gateway, the network, the programme, and then users by the bytes of their names; in each by the currency's number.
+-- The order of the report: the gateway, the network, the programme, and then users by the bytes of their names. In each the currency's
+-- number decides.
 abbrev pub is_reported_before : Account → Account → Bool
 is_reported_before a b = is_lt (slice_cmp nat_cmp (account_key a) (account_key b))
 

@@ -2,7 +2,8 @@
 use Rattle.std.specs.Prelude.{ℕ, ◌+◌, ◌/◌, ◌%◌, ◌^◌, nat_lt, List, [], ◌∷◌, ◌++◌, slice_range, flat_map, if◌then◌else◌}
 use Rattle.std.specs.Int.{bytes_high_first}
 
--- the UUID of a call: version 8, with the instance in its first 48 bits, zeros in the 12 bits after the version, and the call's number in the last 62
+-- The UUID of a call, of version 8. The instance is in its first 48 bits, the 12 bits after the version are zeros, and the last 62 are
+-- the call's number.
 abbrev pub call_uuid : ℕ → ℕ → List ℕ
 call_uuid instance number = bytes_high_first 6 instance ++ 128 ∷ 0 ∷ bytes_high_first 8 (2 ^ 63 + number)
 

@@ -1,4 +1,5 @@
--- Texts that are sent, as lines: one JSON object of RFC 8259 a line, its members in rising order of their names, with no blank and no escape.
+-- Texts that are sent, as lines. Each line is one JSON object of RFC 8259, with its members in rising order of their names, and no blank
+-- and no escape.
 use Rattle.std.specs.Prelude.{ℕ, pos, List, [], ◌∷◌, ◌++◌, map, codes, decimal}
 use Rattle.std.specs.List.{join_with_byte}
 use Rattle.iss_model.specs.declared.setting.CardState.{CardState}

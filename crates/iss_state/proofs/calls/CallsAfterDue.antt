@@ -1,4 +1,5 @@
--- What is told of calls after all that is due: unknown ones stay unknown, closed ones closed, and asked ones are asked until a deadline or an expiry.
+-- What is told of calls after all that is due. Unknown ones stay unknown, and closed ones closed. Asked ones are asked until a deadline
+-- or an expiry.
 use Rattle.std.proofs.Common.{◌≡◌, ℕ, ◌<◌, Bool, true, false, not, ◌&&◌, ◌||◌, nat_eq, nat_le, nat_lt, List, [], ◌∷◌, map, fold, refl, sym, ap, ◌∙◌, arith}
 use Rattle.std.specs.Prelude.{Some, None, option_map, find}
 use Rattle.std.specs.List.{list_all}

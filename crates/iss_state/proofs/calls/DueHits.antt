@@ -96,7 +96,8 @@ due_hits known s at n c t well asked stands =
     ∙ ap (λ (b : Bool). b || list_any (λ (i : DueItem). nat_le i.since at && hits n k i.thing) txns) (due_calls s.calls at n k c well.calls.numbers asked)
     ∙ ap (λ (b : Bool). nat_le c.opened.deadline at || b) (due_txns s.holdings.txns at n k t well.txns.tokens stands (ap (is_some_with (λ (t : TxnNow). t.live)) (sym stands) ∙ well.live n c asked))
 
--- What becomes of an asked call by what is due at a moment: it is closed if its deadline or its transaction's expiry has come, and else stays as it is.
+-- What becomes of an asked call by what is due at a moment. If its deadline or its transaction's expiry has come, it is closed. Otherwise
+-- it stays as it is.
 pub after_due_fate : (known : Known) (s : CoreState) (at n : ℕ) (c : CallNow) (t : TxnNow) → IsWellAmong known (docket_of s) → IsAsked s.calls n c
     → txn_named c.opened.txn s.holdings.txns ≡ Some t
     → Fate (after_due core_keeper s at).world.calls n c (nat_le c.opened.deadline at || nat_le t.txn.expires at)

@@ -95,7 +95,7 @@ pub record Fate (calls : List CallNow) (n : ℕ) (c : CallNow) (hit : Bool) : Ty
   pub closed : hit ≡ true → is_asked now ≡ false
   pub left : hit ≡ false → now ≡ c
 
--- as acts leave it on the docket
+-- the fate of a call, as acts leave it on the docket
 abbrev FateBy : CoreState → ℕ → CallNow → Bool → List Act → Type 0
 FateBy s n c hit acts = Fate (fold docket_after (docket_of s) (docketed_by acts)).calls n c hit
 

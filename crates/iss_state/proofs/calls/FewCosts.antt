@@ -34,7 +34,7 @@ module _ {A : Type 0} {opened brought taken : A → ℕ} where
         notices = omega (arith, sum_by-cons brought x xs, sum_by-cons taken x xs, h.notices);
       }
 
-  -- the same with other numbers
+  -- costs within these numbers are within wider ones
   pub comes_to : {xs : List A} {a b c : ℕ} (d e f : ℕ) → CostsBy opened brought taken xs a b c → a ≤ d → b + f ≤ e + c → CostsBy opened brought taken xs d e f
   comes_to d e f h calls notices = record { calls = omega (arith, h.calls, calls); notices = omega (arith, h.notices, notices) }
 

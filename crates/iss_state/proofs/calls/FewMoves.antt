@@ -30,7 +30,7 @@ use Rattle.iss_state.proofs.calls.Due.{its_token}
 with_first : {A : Type 0} (p : A → Bool) (x : A) (xs : List A) → length (filter p (x ∷ xs)) ≡ cond (p x) 1 0 + length (filter p xs)
 with_first {A} p x xs = omega (arith, length-filter p (x ∷ xs), length-filter p xs, sum_by-cons (λ (y : A). cond (p y) 1 0) x xs)
 
--- one more element counts once at most
+-- one more element counts at most once
 count_more : {A : Type 0} (p : A → Bool) (xs : List A) (x : A) → length (filter p (xs ++ x ∷ [])) ≤ length (filter p xs) + 1
 count_more p [] x = omega (arith, with_first p x [], at_most_one (p x))
   where
@@ -167,7 +167,7 @@ all_move s (e ∷ es) allowed =
       notices = omega (arith, sum_by-cons brought_by e es, sum_by-cons taken_by e es, first.notices, rest.notices);
     }
 
--- What a list costs: it opens this many calls at most, brings this many notices in sight, and takes that many more from it than it brings.
+-- What a list costs. It opens at most this many calls, brings this many notices in sight, and takes that many more from it than it brings.
 pub record CostsBy {A : Type 0} (opened brought taken : A → ℕ) (xs : List A) (most up down : ℕ) : Type 0 where
   pub calls : sum_by opened xs ≤ most
   pub notices : sum_by brought xs + down ≤ sum_by taken xs + up

@@ -1,4 +1,4 @@
--- What is due makes no more notices than were in sight, and a record's own entries bring three at most.
+-- What is due makes no more notices than were in sight, and a record's own entries bring at most three.
 use Rattle.std.proofs.Common.{ℕ, ◌+◌, ◌≤◌, min, Bool, ◌&&◌, ◌||◌, nat_eq, List, [], ◌∷◌, fold, arith, length, subst, sym}
 use Rattle.std.specs.Prelude.{Option, Some, None}
 use Rattle.std.proofs.lemmas.List.{length-append}
@@ -52,7 +52,7 @@ stand_costs (allowed set) number ask why at = more (none_costs 0)
 stand_costs (over_limit set) number ask why at = record { calls = omega arith; notices = omega arith }
 stand_costs uncovered number ask why at = record { calls = omega arith; notices = omega arith }
 
--- a call that fails has two notices at most
+-- a call that fails has at most two notices
 failed_costs : (f : Facts) (o : Opened) (t : Txn) (why : Failure) (at : ℕ) → ActsCost (failed_acts f o t why at) 0 0 0
 failed_costs f o t why at = comes_to 0 0 0 (more (stand_costs (stand f (call_ask o t) why at) (next_notice f + 1) (call_ask o t) why at)) (omega arith) (omega arith)
 

@@ -1,4 +1,4 @@
--- A record's own entries may be entered if its event is new, and account for it.
+-- A record's own entries may be entered if its event is new, and they account for it.
 use Rattle.std.proofs.Common.{◌≡◌, ℕ, ◌+◌, min, Bool, true, false, not, cond, ◌&&◌, ◌||◌, nat_eq, List, [], ◌∷◌, ◌++◌, length, refl, sym, ap, subst, ◌∙◌}
 use Rattle.std.specs.Prelude.{Option, Some, None, is_some, is_none, option_map, option_and_then}
 use Rattle.std.specs.List.{list_any}
@@ -48,7 +48,7 @@ use Rattle.iss_state.proofs.held.Begun.{begun_live, not_live}
 
 -- an ask seeks funding ----
 
--- an ask's event is new, and its transaction may hold more; when it is the first one, no call of it is asked
+-- an ask's event is new, and its transaction may hold more; if it is the first one, no call of that transaction is asked
 record MaySeek (known : Known) (d : Docket) (ask : Ask) : Type 0 where
   new : IsNewTo known d ask.event
   numbers : CallsNumberedFrom 1 d.calls
@@ -116,7 +116,7 @@ pub record IsNewOn (s : CoreState) (event : List ℕ) : Type 0 where
 decides : (s : CoreState) (event : List ℕ) (v : Verdict) → IsNewOn s event → Enters (known_of s) (docket_of s) (Some event) (entry.Decided event v ∷ [])
 decides s event v its = enters_decided (known_of s) (docket_of s) event v its.new.its_event (new_decides (known_of s) (docket_of s) event its.new)
 
--- reasons taken apart
+-- if no reason stands, the first test fails and no later reason stands
 pub first_fails : (b : Bool) (why : Reason) (rest : Option Reason) → cond b (Some why) rest ≡ None → (b ≡ false) × (rest ≡ None)
 first_fails true why rest h = cc
 first_fails false why rest h = (refl, h)
@@ -262,7 +262,7 @@ refund_enters s event amount now its = told_done s now.txn event _ refl its
 
 -- all inputs ----
 
--- the acts of an input may be entered, and account for its event, if that is new
+-- if an input's event is new, its acts may be entered, and they account for the event
 abbrev EnterIfNew : CoreState → Input → List Act → Type 0
 EnterIfNew s i acts = ((event : List ℕ) → event_token i ≡ Some event → IsNewOn s event) → Enters (known_of s) (docket_of s) (event_token i) (docketed_by acts)
 

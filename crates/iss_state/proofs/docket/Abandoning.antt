@@ -40,7 +40,7 @@ new_decides known d event new = record { undecided = new.undecided; none_asked =
 abbrev AsksItself : List CallNow → CallNow → Type 0
 AsksItself calls c = IsAsked calls c.opened.call.0 c
 
--- those that come later still are
+-- calls that come later are still asked after this one is closed
 later_asked : (k : ℕ) (how : How) (calls : List CallNow) (n : ℕ) (cs : List CallNow) → k + 1 ≤ n → NumbersGrowFrom n cs → Each (AsksItself calls) cs
     → Each (AsksItself (map (call_after_close k how) calls)) cs
 later_asked k how calls n [] less grow asked = tt

@@ -76,7 +76,7 @@ stood_before : (calls : List CallNow) (k : ℕ) (how : How) (n : ℕ) (c : CallN
     → (e : CallNow) × (call_numbered n calls ≡ Some e) × (call_after_close k how e ≡ c)
 stood_before calls k how n c e = mapped_is (call_after_close k how) (call_numbered n calls) c (sym (call_closed n k how calls) ∙ e)
 
--- as it was opened
+-- a call of the closed list stood before, and was opened as it is now
 pub opened_before : (calls : List CallNow) (k : ℕ) (how : How) (n : ℕ) (c : CallNow) → call_numbered n (map (call_after_close k how) calls) ≡ Some c
     → (e : CallNow) × (call_numbered n calls ≡ Some e) × (e.opened ≡ c.opened)
 opened_before calls k how n c e =

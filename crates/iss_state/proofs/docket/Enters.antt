@@ -34,7 +34,7 @@ abbrev pub AreAllowedOn : Docket → List Entry → Type 0
 AreAllowedOn d [] = Unit {0}
 AreAllowedOn d (e ∷ es) = IsAllowed d e × AreAllowedOn (docket_after d e) es
 
--- these entries may come in their turn, are of what is known, lose no event that is accounted for, and account for one of their own
+-- These entries may come in their turn, and are of what is known. They lose no event that is accounted for, and account for one of their own.
 pub record Enters (known : Known) (d : Docket) (own : Option (List ℕ)) (es : List Entry) : Type 0 where
   pub allowed : AreAllowedOn d es
   pub of_known : list_all (is_of_known known) es ≡ true

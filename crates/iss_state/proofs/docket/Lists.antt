@@ -49,7 +49,7 @@ found_any {A} p q (y ∷ ys) x e h = by (p y) (λ e. found_any p q ys x e h) e
     by true rest e = let one : y ≡ x = cc in ap (λ (b : Bool). b || list_any q ys) (ap q one ∙ h)
     by false rest e = or_true (q y) (list_any q ys) (rest e)
 
--- what isn't found doesn't stand there
+-- what isn't found doesn't stand in the list
 pub none_found : {A : Type 0} (p : A → Bool) (xs : List A) → find p xs ≡ None → list_any p xs ≡ false
 none_found p [] e = refl
 none_found {A} p (x ∷ xs) e = by (p x) (none_found p xs) e
@@ -58,7 +58,7 @@ none_found {A} p (x ∷ xs) e = by (p x) (none_found p xs) e
     by true rest e = cc
     by false rest e = rest e
 
--- what a map of an option gives was there
+-- what the map of an option gives is made of what the option holds
 pub mapped_is : {A B : Type 0} (f : A → B) (o : Option A) (y : B) → option_map f o ≡ Some y → (x : A) × (o ≡ Some x) × (f x ≡ y)
 mapped_is f None y e = cc
 mapped_is f (Some x) y e = (x, refl, cc)
@@ -71,7 +71,7 @@ pub some_mapped : {A B : Type 0} (f : A → B) (o : Option A) → is_some (optio
 some_mapped f None = refl
 some_mapped f (Some x) = refl
 
--- what one of two options gives
+-- what two options give comes from the first, or from the second if its test passes
 pub either_found : {A : Type 0} (o : Option A) (x y : A) (b : Bool) → option_or o (cond b (Some x) None) ≡ Some y → (o ≡ Some y) ⊎ ((b ≡ true) × (x ≡ y))
 either_found (Some z) x y b e = inl e
 either_found None x y true e = inr (refl, cc)
@@ -91,7 +91,7 @@ pub any_mapped : {A B : Type 0} (p : B → Bool) (f : A → B) (xs : List A) →
 any_mapped p f [] = refl
 any_mapped p f (x ∷ xs) = ap (λ (b : Bool). p (f x) || b) (any_mapped p f xs)
 
--- what is found and passes a filter is found after it
+-- if what is found passes a filter and a test, the test passes in what the filter leaves
 pub found_filtered : {A : Type 0} (p q r : A → Bool) (xs : List A) (x : A) → find p xs ≡ Some x → q x ≡ true → r x ≡ true → list_any r (filter q xs) ≡ true
 found_filtered {A} p q r xs x e h k = any_filtered r q xs ∙ found_any p (λ (x : A). q x && r x) xs x e (both_so (q x) (r x) h k)
 
@@ -124,7 +124,7 @@ none_passes {A} p q weaker (x ∷ xs) h = by (p x) (q x) (weaker x) (none_passes
     by true b here rest h = cc
     by false b here rest h = ap (λ (x : Bool). x || list_any q xs) (here refl) ∙ rest h
 
--- a test that passes only if the lone one does passes in the list as at what is found
+-- a test that is narrower than a lone one passes in a list exactly if it passes at what is found
 pub lone_any : {A : Type 0} (p q : A → Bool) → ((x : A) → p x ≡ false → q x ≡ false) → (xs : List A) (c : A) → Lone p xs → find p xs ≡ Some c → list_any q xs ≡ q c
 lone_any p q weaker [] c lone e = cc
 lone_any {A} p q weaker (x ∷ xs) c lone e = by (p x) refl (λ e. lone_any p q weaker xs c lone.1 e) e
@@ -139,7 +139,7 @@ lone_any {A} p q weaker (x ∷ xs) c lone e = by (p x) refl (λ e. lone_any p q 
         or_none (q x) (list_any q xs) (none_passes p q weaker xs (lone.0 h)) ∙ ap q one
     by false h rest e = ap (λ (b : Bool). b || list_any q xs) (weaker x h) ∙ rest e
 
--- once or not at all
+-- a lone test passes once or not at all
 pub lone_times : {A : Type 0} (p : A → Bool) (xs : List A) → Lone p xs → length (filter p xs) ≡ cond (list_any p xs) 1 0
 lone_times p [] lone = refl
 lone_times {A} p (x ∷ xs) lone = by (p x) lone.0 (lone_times p xs lone.1)

@@ -23,7 +23,7 @@ returned_count : (b : Bool) → nat_abs (neg_ℤ (cond b (pos 1) (pos 0))) ≤ 1
 returned_count true = omega arith
 returned_count false = omega arith
 
--- an amount and a count of one are twice that at most
+-- an amount and a count of one are at most twice that amount
 pub one_more : (n : ℕ) → n + 1 ≤ 2 * at_least_one n
 one_more zero = omega arith
 one_more (suc n) = omega arith
@@ -32,7 +32,7 @@ pub least_one : (n : ℕ) → n ≤ at_least_one n
 least_one zero = omega arith
 least_one (suc n) = omega arith
 
--- what an ask gives back is twice what its call asked at most
+-- what an ask gives back is at most twice what its call asked
 pub given_back_size : (ask : Ask) → moved_use (entry.Usage (ask_given_back ask)) ≤ 2 * at_least_one ask.amount
 given_back_size ask = omega (arith, down_size ask.amount, returned_count ask.is_first, one_more ask.amount)
 

@@ -67,7 +67,7 @@ funded_ask_paid s ask from p h stands =
     let e2 = and_then e1 (hold_effect (fold after_entry s xs) ask.txn p ask.amount e1.orderly (stands_then ask.txn e1 stands)) in
     costs (4 * ask.amount) ask.amount (and_then e2 (still_effect (fold after_entry s (xs ++ ys)) (entry.Decided ask.event verdict.Approved ∷ []) e2.orderly refl)) (omega arith) (omega arith)
 
--- a part of a call's amount is paid by four times the part in money, and in use by the part and the rest, which comes back
+-- A part of a call's amount is paid by four times the part in money. In use it is paid by the part and the rest, which comes back.
 pub part_funded_paid : (s : CoreState) (o : Opened) (t : Txn) (amount : ℕ) → IsOrderlyState s → Stands s t → amount ≤ o.amount → Paid (4 * amount) o.amount s (part_funded_entries o t amount)
 part_funded_paid s o t amount h stands le =
     let zs : List Entry = entry.Usage (rest_given_back o t amount) ∷ [] in

@@ -72,7 +72,7 @@ and_then {s} {xs} {ys} h k =
       orderly = subst IsOrderlyState (sym same) k.orderly;
     }
 
--- the same effect with other numbers
+-- an effect within these numbers is within wider ones
 pub comes_to : {s : CoreState} {es : List Entry} {m u a b : ℕ} (n v c d : ℕ) → Effect s es m u a b → m ≤ n → u ≤ v → a + d ≤ b + c → Effect s es n v c d
 comes_to n v c d h le also stake =
     record {

@@ -33,7 +33,7 @@ none_among (t ∷ ts) token h =
     let both = neither (bytes_eq t.txn.token token) (is_named_in (txn_tokens ts) token) h in
     ap (λ (b : Bool). cond b (Some t) (txn_named token ts)) both.0 ∙ none_among ts token both.1
 
--- and a token that isn't named isn't found
+-- a token that isn't named isn't found
 pub unnamed_missed : (s : CoreState) (token : List ℕ) → is_named_in (txn_tokens s.holdings.txns) token ≡ false → txn_named token s.holdings.txns ≡ None
 unnamed_missed s token h = none_among s.holdings.txns token h
 

@@ -22,7 +22,7 @@ use Rattle.iss_state.proofs.effects.Parts.{part_less, part_same}
 
 -- ---- what is left out if it comes to nothing
 
--- Entries that are left out if an amount is 0 have their effect anyway, if at 0 no more is taken from what is at stake than is put there.
+-- Entries that are left out if an amount is 0 have their effect anyway. At 0 no more may be taken from what is at stake than is put there.
 pub only_where_effect : {s : CoreState} {es : List Entry} {m u a b : ℕ} (amount : ℕ) → IsOrderlyState s → (amount ≡ 0 → b ≤ a) → Effect s es m u a b → Effect s (only_where amount es) m u a b
 only_where_effect {s} {es} {m} {u} {a} {b} amount h none effect = by (nat_eq amount 0) refl
   where
@@ -92,7 +92,7 @@ unhold_same s t p m same le = by (nat_eq m 0) refl
     by true e = omega (arith, number_is m 0 e)
     by false e = part_less s.holdings.parts (part_key t.token p) m t.token p same le
 
--- and leaves the calls as they are
+-- a hold of less leaves the calls as they are
 pub unhold_calls : (s : CoreState) (t : Txn) (p : Part) (m : ℕ) → (fold after_entry s (unhold_entries t p m)).calls ≡ s.calls
 unhold_calls s t p m = by (nat_eq m 0)
   where

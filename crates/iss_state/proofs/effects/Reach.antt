@@ -257,7 +257,7 @@ entry_within m u s (entry.Stood set product user amount at) h =
     }
 entry_within m u s _ h = same_sums m u s _ refl refl refl refl refl h.controls h
 
--- and so do entries one after the other
+-- entries one after the other move sums no further than they say together
 pub entries_within : (m u : ℕ) (s : CoreState) (es : List Entry) → SumsAreWithin m u s → SumsAreWithin (m + total_of moved_money es) (u + total_of moved_use es) (fold after_entry s es)
 entries_within m u s [] h = sums_within_more m (m + 0) u (u + 0) s (omega arith) (omega arith) h
 entries_within m u s (e ∷ es) h =

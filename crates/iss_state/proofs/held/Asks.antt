@@ -100,7 +100,7 @@ closed_settles known s n c t how well held now stands =
       nothing = λ first. subst (HoldsNothing s.holdings.parts) (sym its) (held.pending n c now first);
     }
 
--- and its transaction is paid by the gateway
+-- the transaction of an asked call is paid by the gateway
 pub asked_gateway : (s : CoreState) (n : ℕ) (c : CallNow) (t : TxnNow) → IsHeldWell s → IsAsked s.calls n c → txn_named c.opened.txn s.holdings.txns ≡ Some t → is_account_funded t.txn.funding ≡ false
 asked_gateway s n c t held now stands = turned (is_account_funded t.txn.funding) (ap (is_some_with (λ (t : TxnNow). is_part_of part.G t.txn.funding)) (sym stands) ∙ held.asked n c now)
   where

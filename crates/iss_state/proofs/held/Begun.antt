@@ -47,7 +47,7 @@ begun_stands txns t none =
     ∙ ap (λ (o : Option TxnNow). option_or o (cond (bytes_eq t.token t.token) (Some x) None)) none
     ∙ ap (λ (b : Bool). option_or None (cond b (Some x) None)) (its_name t.token)
 
--- and begins live
+-- a transaction of a new token begins live
 pub begun_live : (txns : List TxnNow) (t : Txn) → txn_named t.token txns ≡ None → has_live (txns ++ record { txn = t; live = is_live txns t.token } ∷ []) t.token ≡ true
 begun_live txns t none =
     let x : TxnNow = record { txn = t; live = is_live txns t.token } in

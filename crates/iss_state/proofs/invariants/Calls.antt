@@ -38,7 +38,7 @@ entry_numbered s (entry.Opened o) fit h = numbered_with_last 1 s.calls (record {
 entry_numbered s (entry.Closed call how) fit h = numbered_after_close 1 call.0 how s.calls h
 entry_numbered s _ fit h = h
 
--- and so do entries one after the other
+-- entries that fit, one after the other, leave calls numbered
 pub entries_numbered : (s : CoreState) (es : List Entry) → AllFit s es → CallsNumberedFrom 1 s.calls → CallsNumberedFrom 1 (fold after_entry s es).calls
 entries_numbered s [] fit h = h
 entries_numbered s (e ∷ es) fit h = entries_numbered (after_entry s e) es fit.1 (entry_numbered s e fit.0 h)
@@ -50,7 +50,7 @@ items_numbered n at g (item ∷ items) h numbered =
     items_numbered n at (settle core_keeper at g item) items (thing_settled n g.world item.thing at h).sound
     (entries_numbered g.world (thing_entries item.thing at (core_facts g.world)) (thing_enters n g.world item.thing at h).fit numbered)
 
--- and so does a step
+-- a step leaves calls numbered
 pub step_numbered : (n : ℕ) (s : CoreState) (r : Record) → IsSoundAt n s → is_in_form r.input ≡ true → IsNewEvent s r.input → CallsNumberedFrom 1 s.calls → CallsNumberedFrom 1 (step core_keeper s r).world.calls
 unfolding step
 step_numbered n s r h form new numbered =

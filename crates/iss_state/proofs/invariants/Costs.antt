@@ -270,7 +270,7 @@ module _ (by : Cause) (at : ℕ) (s : CoreState) (h : IsOrderlyState s) where
       (e.orderly, stands_then t e (known_at q made.from.0 known).1)
   known_next g q a made none known = (act_spends g q a made none known).effect.orderly
 
-  -- and so all that comes of a cause that begins none
+  -- no act of a cause that begins no transaction begins one
   begins_nothing : (g : Stage) (a : Act) → IsMade (core_facts s) by at g a → ((ask : Ask) → IsFirstAsk (core_facts s) by at ask → ⊥) → may_begin a ≡ false
   begins_nothing g (Begins ask) made none = absurd (none ask made.from.1)
   begins_nothing g _ made none = refl
@@ -300,7 +300,7 @@ module _ (by : Cause) (at : ℕ) (s : CoreState) (h : IsOrderlyState s) where
 pub thing_paid : (s : CoreState) (thing : DueThing) (at : ℕ) → IsOrderlyState s → Paid 0 0 s (thing_entries thing at (core_facts s))
 thing_paid s thing at h = row_paid FallsDue at s h (due_goes (core_facts s) thing at s (all_paid FallsDue at s h (λ ask first. let bad = first.its_input in cc)) (start_known FallsDue at s h))
 
--- and an input that begins no transaction by what it brings
+-- an input that begins no transaction is paid by what it brings
 pub input_paid : (s : CoreState) (i : Input) (at : ℕ) → IsOrderlyState s → begins_none i ≡ true → Paid (input_money i) (input_use i) s (entries_of i at (core_facts s))
 input_paid s i at h none = row_paid (ComesOf i) at s h (own_goes (core_facts s) i at s (all_paid (ComesOf i) at s h other) (start_known (ComesOf i) at s h))
   where

@@ -64,7 +64,7 @@ ready_with_record n s r h new =
 
 -- ---- what is due is settled
 
--- and stays so while what is due is settled
+-- a state that is ready for an input stays so while what is due is settled
 ready_settled : (n : ℕ) (s t : CoreState) (i : Input) → IsReady n s i → Settled n s t → IsReady n t i
 ready_settled n s t i h due =
     record {
