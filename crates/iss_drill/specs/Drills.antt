@@ -65,7 +65,7 @@ tells_repeat (judged.Told a) = is_repeat a
 tells_repeat (judged.New r) = false
 tells_repeat (judged.Clock r) = false
 
--- the same if the record of a time may go before the answer
+-- judging came to an answer that tells a repeat, if the record of a time may go before it
 abbrev pub tells_repeat_as : History → Input → ℕ → Judged → Bool
 tells_repeat_as h i stamp (judged.New r) = false
 tells_repeat_as h i stamp (judged.Clock r) = tells_repeat (judge history_keeper (step history_keeper h r).world i stamp)

@@ -310,7 +310,7 @@ calls_ended k token txns (c ∷ cs) =
 pub record Within (k : Counting) (s : CoreState) (es : List Entry) (more : ℤ) : Type 0 where
   pub le : pos (open_use k (fold after_entry s es)) ≤ℤ ((pos (open_use k s) +ℤ more) +ℤ used k es)
 
--- and not more
+-- what entries open is no more than the use that they count
 abbrev pub Pays : Counting → CoreState → List Entry → Type 0
 Pays k s es = Within k s es (pos 0)
 

@@ -275,7 +275,7 @@ both_hold : (x y z : Bool) → (x && y) ≡ true → (y ≡ true → z ≡ true)
 both_hold true y z h k = k h
 both_hold false y z h k = cc
 
--- in the window of the time
+-- a control counts by user in the window of the time
 counts_on : (groups : List Group) (put : ControlPut) (w : Window) (user : List ℕ) (last : ℕ) (by_amount : Bool) (worth : UsageRow → ℤ) → (w ≡ window.Transaction → ⊥)
     → CountsOn (counting_of groups put w (window_key w put.control.offset user last) by_amount worth) last
 counts_on groups put window.Transaction user last by_amount worth other t a b h k l = absurd (other refl)
@@ -288,7 +288,7 @@ counts_on groups put window.Month user last by_amount worth other t a b h k l =
 counts_on groups put window.Lifetime user last by_amount worth other t a b h k l =
     both_hold (counts groups put (usage_of t (pos 0) (pos 0) a)) (bytes_eq (window_key window.Lifetime put.control.offset t.user a) (window_key window.Lifetime put.control.offset user last)) _ h (window_stays window.Lifetime put.control.offset t.user user a b last k l)
 
--- of a transaction at any time
+-- a control by transaction counts a transaction at any time
 counts_on_txn : (groups : List Group) (put : ControlPut) (key : List ℕ) (last : ℕ) (by_amount : Bool) (worth : UsageRow → ℤ) → CountsOn (counting_of groups put window.Transaction key by_amount worth) last
 counts_on_txn groups put key last by_amount worth t a b h k l = h
 

@@ -26,7 +26,7 @@ abbrev pub records_in : Session → List Record
 records_in s = s.run.history.records
 
 -- On the journal of a device a session went from s to t. What was heard fits, and no wait failed. What was done on channels is just what
--- the session says, each text at its level, and the run goes on from the records of s to those of t.
+-- the session says, each text at its level. The run goes on from the records of s to those of t.
 pub record SessionGoes (read : Readers) (region : Region) (s t : Session) (a b : Outer) : Type 0 where
   pub happenings : List Happening
   pub heard : b.heard ≡ a.heard ++ answers_of happenings

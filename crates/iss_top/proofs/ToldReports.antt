@@ -57,7 +57,7 @@ told_each P S R (Some a) (Some b) told f = f
 abbrev pub IsReportOf : StoreNow → Texts → Type 0
 IsReportOf s t = (rs : List Record) → CoreStandsFor s.core rs → HasAll (report_lines rs) t
 
--- of the report of what the store stands for, all went out, or some
+-- the report of what the store stands for went out, or some of it
 abbrev SaysReport : (List (List ℕ) → World → World → Type 0) → StoreNow → World → World → Type 0
 SaysReport R s b d = (rs : List Record) → CoreStandsFor s.core rs → R (report_lines rs) b d
 
