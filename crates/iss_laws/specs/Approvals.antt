@@ -115,7 +115,7 @@ is_to_be_approved extent f None ask call_is_paid = is_some_with (is_paid_at_once
 abbrev pub agree : Bool → Bool → Bool
 agree a b = if a then b else not b
 
--- The event of a record between the first ones and the rest is approved to this extent exactly if it is to be. An event that is no
+-- The event of a record between the first ones and the rest is approved to this extent exactly if it is to be. An event that isn't an
 -- authorisation or increment passes.
 abbrev pub is_approved_rightly : Extent → History → List Record → Record → List Record → Input → Bool
 is_approved_rightly extent h before r rs (input.Authorization token card currency amount mcc mid partial) =

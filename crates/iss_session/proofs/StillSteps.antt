@@ -161,7 +161,7 @@ levels_rise read s (h ∷ happenings) =
     (rise_still (count s) (count c.session) c.steps (change_grows read s h) (change_still read s h))
     (levels_rise read c.session happenings)
 
--- the levels don't fall as the channels are closed at the end
+-- the closes of the channels at the end are still, at the number of records that stand
 
 still_closings : (n : ℕ) (channels : List Channel) → AreStillAt n (closings n channels)
 still_closings n [] = tt
