@@ -83,7 +83,7 @@ repeats_among s (line ∷ lines) = (if is_told_repeat s line then 1 else 0) + re
 
 -- ---- the lines
 
--- the run of a drill of n events before its first line: a device of 1048576 + 512 n bytes that was formatted with instance 0
+-- the run of a drill of n events before its first line: a device of 1048576 + 512 n bytes, formatted with instance 0
 abbrev pub drill_run : ℕ → Run
 drill_run n = record { instance = 0; room = Some (one_journal (FOR_ALL + FOR_EACH * n)); history = nothing_yet }
 

@@ -41,7 +41,7 @@ use Rattle.iss_agreement.proofs.StepSums.{among_summed}
 
 -- how use is counted at a key ----
 
--- The changes that entries make at a key, the test that tells which stamps of a transaction count there, and whether amounts are counted or times.
+-- The changes that entries make at a key, the test of which of a transaction's stamps count there, and whether amounts or times are counted.
 pub record Counting : Type 0 where
   pub changes : Entry → List Change
   pub key : List ℕ

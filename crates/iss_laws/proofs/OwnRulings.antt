@@ -1,4 +1,4 @@
--- A record's own acts rule what goes with the calls that they close, and then of its own event as the rules of its kind have it.
+-- A record's own acts rule what goes with the calls that they close. Then they rule its own event, as the rules of its kind have it.
 use Rattle.std.proofs.Common.{subst, ◌≡◌, ℕ, min, Bool, true, false, not, cond, ◌&&◌, ◌||◌, nat_eq, nat_le, List, [], ◌∷◌, refl, sym, ap, ◌∙◌}
 use Rattle.std.specs.Prelude.{Option, Some, None, is_some, option_map, option_and_then}
 use Rattle.std.specs.Str.{bytes_eq}

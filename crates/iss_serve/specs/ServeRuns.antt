@@ -87,14 +87,14 @@ pub record ServedWhole (instance : ℕ) (rs : List Record) (s : Session) (happen
   pub stands : DeviceStandsFor instance (records_then rs s happenings) b.device
   pub ends : EndsAtRest instance rs (records_then rs s happenings) actions a b
 
--- What a run with this status did that began with the session s, on a device that stands for these records. It heard what its session called
--- for, and waited at most as often as it has turns. The opening of the device writes to it and syncs it, and no more. What was done
--- on channels after it is what the session says, or a first part of it; and so are the bytes on each channel. Assume that the device stood
--- firmly for its records. Then at whatever moment the run stops, the device stands for them and a first part of those that the session
--- makes. These are a history, and at least as many as the level of each text of which a byte went out. Within the opening the record that was
--- left behind may stand too. The same holds of a device with unsynced writes, once a sync of the opening has succeeded. The next run may begin with what a stop
--- leaves. At 0 all of it was done. Unless a call on the device failed, nothing was done but maybe a sync, or the run ended where the next
--- one begins.
+-- What a run with this status did that began with the session s, on a device that stands for these records. It heard what its session
+-- called for, and waited at most as often as it has turns. The opening of the device writes to it and syncs it, and no more. What was
+-- done on channels after it is what the session says, or a first part of it. So are the bytes on each channel. Assume that the device
+-- stood firmly for its records. Then at whatever moment the run stops, the device stands for them and a first part of those that the
+-- session makes. These are a history, and at least as many as the level of each text of which a byte went out. Within the opening the
+-- record that was left behind may stand too. The same holds of a device with unsynced writes, once a sync of the opening has succeeded.
+-- The next run may begin with what a stop leaves. At 0 all of it was done. Unless a call on the device failed, nothing was done but maybe
+-- a sync, or the run ended where the next one begins.
 pub record ServeOn (turns status instance : ℕ) (rs : List Record) (s : Session) (a b : Outer) : Type 0 where
   pub happenings : List Happening
   pub heard : b.heard ≡ a.heard ++ answers_of happenings

@@ -1,4 +1,4 @@
--- A run on a region of a device goes on from some records to more: what was done on it and on channels, and what a stop leaves.
+-- A run on a region of a device goes on from some records to more. It tells what was done on it and on channels, and what a stop leaves.
 use Rattle.std.specs.Prelude.{◌≡◌, List, ◌++◌, filter, length}
 use Rattle.iss_edge.specs.World.{World}
 use Rattle.iss_edge.specs.Disk.{Disk, after_actions}
