@@ -1,4 +1,4 @@
--- The same of what an edge tells: texts, one after another.
+-- What an edge tells of texts that go out, one after another.
 use Rattle.std.proofs.Common.{◌≡◌, ℕ, List, [], ◌∷◌, Option, Ok, Err, subst}
 use Rattle.std.specs.Prelude.{Result, OnOk, OnErr, is_ok}
 use Rattle.iss_edge.specs.declared.outside.Answered.{Answered}

@@ -1,4 +1,4 @@
--- The same of what an edge tells: a report at each of its ends.
+-- What an edge tells of a report, at each of its ends.
 use Rattle.std.proofs.Common.{◌≡◌, ℕ, inl, inr, List, [], Option, Some, None, Ok, Err, refl, arith}
 use Rattle.std.specs.Prelude.{◌⊎◌, Result}
 use Rattle.iss_edge.specs.World.{World, Told, Faults, Later}

@@ -1,4 +1,4 @@
--- The same of what an edge tells: a dry run's way, and each of its ends.
+-- What an edge tells of a dry run's way, and of each of its ends.
 use Rattle.std.proofs.Common.{◌≡◌, ◌⊎◌, inl, inr, ℕ, ◌+◌, ◌*◌, ◌≤◌, true, false, List, length, Option, Err, refl, ap, arith}
 use Rattle.iss_edge.specs.World.{World, Told, Faults}
 use Rattle.iss_edge.proofs.Tolds.{told_then, told_self}
