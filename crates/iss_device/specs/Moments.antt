@@ -51,7 +51,7 @@ pub record AsBefore (opening before : List Step) (d : Disk) (image : List ℕ) :
   pub unsynced : syncs_after 0 (actions_of before) ≡ 0
   pub is_image : IsImage d image
 
--- The same of a run that begins on a device with unsynced writes. Until a sync of the opening has succeeded, nothing is worse than before
+-- Each moment of a run that begins on a device with unsynced writes. Until a sync of the opening has succeeded, nothing is worse than before
 -- the run. From then on all is as on a device at rest.
 abbrev pub EachMomentUnsynced : ℕ → List Record → List Record → List Step → List Step → List ℕ → Type 0
 EachMomentUnsynced instance rs all opening later device =

@@ -25,7 +25,7 @@ pub fn read_line(alloc: Global, line: &[u8], mode: Mode) -> Result<Line, LineFau
     read_line_in(&mut scratch, alloc, line, mode)
 }
 
-/// The same over a scratch that is kept from line to line.
+/// What a line spells, read over a scratch that is kept from line to line.
 #[tactic(auto, using(crate::proofs::LeastLine::read_least, crate::proofs::LinesInForm::read_input_in_form, crate::proofs::LinesInForm::read_stamp_in_form), unfolding(crate::specs::Readings::line_read))]
 pub fn read_line_in(
     scratch: &mut Scratch,

@@ -35,7 +35,7 @@ pub record SessionGoes (read : Readers) (region : Region) (s t : Session) (a b :
   pub ends : session_after read s happenings ≡ t
   pub goes : StepsGo region (records_in s) (records_in t) (session_steps read s happenings) a.world b.world
 
--- The same if a fault ended it: the last steps of the session may not have been done. It might have gone on from there, unless this failed.
+-- A fault ended a run that serves: the last steps of the session may not have been done. It might have gone on from there, unless this failed.
 pub record SessionGoesPart (failed : Type 0) (read : Readers) (region : Region) (s : Session) (a b : Outer) : Type 0 where
   pub happenings : List Happening
   pub heard : b.heard ≡ a.heard ++ answers_of happenings

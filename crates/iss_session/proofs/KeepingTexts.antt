@@ -1,4 +1,4 @@
--- The same when texts go out, and when inputs are judged.
+-- Channels stay held as texts go out, and as inputs are judged.
 use Rattle.std.proofs.Common.{◌≡◌, refl, sym, ap, subst, ◌∙◌, ℕ, Bool, true, false, not, List, [], ◌∷◌, ◌++◌, map, Option, Some, None}
 use Rattle.std.specs.Prelude.{◌==◌, ◌||◌, ◌&&◌}
 use Rattle.std.specs.List.{flat_map}

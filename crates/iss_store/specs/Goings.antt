@@ -33,7 +33,7 @@ pub record StepsGo (region : Region) (rs rs' : List Record) (said : List Step) (
   pub leaves : LeavesDevice steps a b
   pub history : AreHistory rs → AreHistory rs'
 
--- The same of a run that ended in it: the stretch is good.
+-- A run that ended on its way from some records to more: the stretch is good.
 pub record StepsGoPart (region : Region) (rs rs' : List Record) (said : List Step) (a b : World) : Type 0 where
   pub more : AreFirstOf rs rs'
   pub steps : List Step

@@ -77,7 +77,7 @@ step_levels steps = map (λ step. step.level) steps
 abbrev pub TextsGo : StoreNow → List Record → List Record → List Text → World → World → Type 0
 TextsGo s rs rs' texts a b = StepsGo (region_under s) rs rs' (text_steps texts) a b
 
--- The same in part: some of these texts went out, of the last one maybe a prefix, and the run ended. It might have gone on from there,
+-- Some of these texts went out, of the last one maybe a prefix, and the run ended. It might have gone on from there,
 -- unless this failed.
 pub record TextsGoPart (failed : Type 0) (s : StoreNow) (rs rs' : List Record) (texts : List Text) (a b : World) : Type 0 where
   pub said : List Step
