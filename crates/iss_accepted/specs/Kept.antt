@@ -47,7 +47,7 @@ pub record IsSpelledIn (bytes : List ℕ) (row : EventRow) : Type 0 where
   pub form : IsTrue (is_record (record_of (event_of bytes row)))
   pub named : IsNamed (standing_of bytes row)
 
--- The answer of an input by the row of its token. If the row's bytes spell it, it's the reply again. Otherwise it's the number of the row's record.
+-- The answer of an input by its token's row. If the row's bytes spell it, it is the reply again. Otherwise it is the number of the row's record.
 abbrev pub row_answer : List ℕ → EventRow → List ℕ → Input → Answer
 row_answer bytes row token i =
     if bytes_eq (bytes_of bytes row) (spelling (record { at = row.at; input = i })) then answer.Repeat token (reply_of_verdict row.verdict)

@@ -69,8 +69,8 @@ impl Events {
         }
     }
 
-    /// The answer of an input if it is an event that stands. If all its fields are the same, it's the reply again.
-    /// Otherwise it's the number of its first record.
+    /// The answer of an input if it is an event that stands. If all its fields are the same, it is the reply again.
+    /// Otherwise it is the number of its first record.
     pub fn answer(&self, alloc: Global, input: &Input) -> Result<Option<Answer>, AllocError>
         requires form { IsTrue (is_in_form input.now) }
         ensures { IfOk result (λ told. told ≡ answer_in (events_facts self.now) input.now) }

@@ -1,5 +1,5 @@
-//! The law that a core's state and the book of its records agree. No rule tells apart cores that are alike, and further
-//! laws hold of every run. Each law is the contract of a function with an empty body.
+//! Laws of every run: a core's state and the book of its records agree, and no rule tells apart cores that are alike.
+//! Each law is the contract of a function with an empty body.
 //!
 //! It may cite `iss_model`.
 //! It must not cite any body: its laws are of definitions.

@@ -10,7 +10,8 @@ use crate::digits::{number_after, number_in};
 use iss_model::Currency;
 use iss_model::limits::{GREATEST_AMOUNT, GREATEST_LIMIT, LEAST_AMOUNT};
 
-/// The minor units of an event's amount such as `10.00`: `None` if the text isn't well formed in the currency, or they aren't 1 to 10^9.
+/// The minor units of an event's amount such as `10.00`. It is `None` if the text isn't well formed in the currency, or
+/// they aren't 1 to 10^9.
 #[tactic(auto, using(crate::proofs::RoundTrips::amount_written_again))]
 pub fn read(text: &[u8], currency: Currency) -> Option<u64>
     ensures number { result ≡ amount_read text.now currency }

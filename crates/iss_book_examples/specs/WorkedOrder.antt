@@ -12,7 +12,8 @@ use Rattle.iss_model.specs.rules.Histories.{nothing_yet}
 use Rattle.iss_model.specs.run.Sayings.{timed}
 use Rattle.iss_book_examples.specs.Scripts.{Script, step, step_at, dollars, owes, tally, history_after, new_user, card_of, card_for, gateway_product, product_of, connection_set, switch_on, load, purchase, purchase_by, increment, clearing, refund, card_move, user_move, call_number, gateway_answer, done_reply, approved_reply, declined_reply, request, request_by, notice, conflict_reply}
 
--- of two calls that time out at once the one with the earlier deadline is first, though it was asked later: its product has a second for an answer
+-- Of two calls that time out at once, the one with the earlier deadline is first, though it was asked later. Its product has a second for
+-- an answer.
 abbrev pub earlier_deadline_first : Script
 earlier_deadline_first =
     record {

@@ -26,7 +26,8 @@ purchase_in_euros token amount = input.Authorization (codes token) (codes "c1") 
 abbrev pub control_in_euros : Input
 control_in_euros = input.Control (codes "t4") (codes "v1") Eur window.Day (Some 100) None association.Anybody scope.All (pos 0) true
 
--- a purchase is declined for its card, its card's state, its user's, the currency, a control and the funds, in this order: each reason is taken away in turn
+-- A purchase is declined for its card, its card's state, its user's, the currency, a control and the funds, in this order. Each reason is
+-- taken away in turn.
 abbrev pub purchase_with_every_reason : Script
 purchase_with_every_reason =
     record {

@@ -145,7 +145,7 @@ drill_of_three =
       repeats = 0;
     }
 
--- and their line
+-- the line of the totals of a drill of three events
 abbrev pub line_of_three : List ℕ
 line_of_three =
     report_line "{\"approved\":1,\"declined\":2,\"gateway\":\"-1.14\",\"held\":\"1.14\",\"lines\":27,\"network\":\"0.00\",\"notices\":0,\"programme\":\"0.00\",\"records\":27,\"repeats\":0}"

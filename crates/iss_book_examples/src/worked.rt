@@ -107,7 +107,8 @@ pub fn worked_amounts()
     ensures numeric_code { option_map iso_number (currency_of (codes "AUD")) ≡ Some 36 }
 {}
 
-/// In which order a clearing and a release take the parts of what is held: 12 of 20 by the gateway, 5 by the programme, 3 of the user's own.
+/// The order in which a clearing and a release take the parts of what is held. The gateway has 12 of 20, the programme 5,
+/// and the user's own are 3.
 pub fn worked_parts()
     ensures cleared_of_the_gateway { taken_to_clear funded_by_all 12 ≡ three_parts 12 0 0 }
     ensures cleared_of_the_programme { taken_to_clear funded_by_all 16 ≡ three_parts 12 4 0 }

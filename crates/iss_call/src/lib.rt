@@ -1,5 +1,4 @@
-//! The calls to the customer's gateway, each with its number. Those that are still asked are also kept in the order in
-//! which they fall due, and by transaction.
+//! The calls to the customer's gateway, each with its number, and the asked ones as they fall due and by transaction.
 //!
 //! It may cite `iss_model`.
 //! It must not cite the other parts of the core.

@@ -20,11 +20,11 @@ module _ {T : Type 0} (test : T → Bool) where
     pub was_found : find test before ≡ Some changes.was
     was_found = ap (find test) changes.found ∙ found_by changes.front changes.rest changes.was changes.others changes.own
 
-    -- and is what is found then
+    -- what was found, with its change, is what is found then
     pub is_found : find test after ≡ Some changes.is
     is_found = ap (find test) changes.then ∙ found_by changes.front changes.rest changes.is changes.others changes.still
 
-    -- and those that don't pass are the same
+    -- the things that don't pass are the same
     pub others_same : filter (λ x. not (test x)) after ≡ filter (λ x. not (test x)) before
     others_same =
         ap (filter (λ x. not (test x))) changes.then ∙ others_by changes.front changes.rest changes.was changes.is changes.own changes.still

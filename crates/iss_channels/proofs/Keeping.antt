@@ -152,7 +152,7 @@ module _ {T : Type 0} (test : T → Bool) (before after : Placed T) where
   others_then (Some taken) takes same =
       ap (λ (es : List (ℕ × T)). filter (λ x. not (test x)) (values_of es)) takes.entries ∙ others_stay test before.entries taken.0 taken.1 takes.own takes.at
 
-  -- and all that stand if none is left
+  -- all things stand as before if none is found
   pub none_left : (o : Option (ℕ × T)) → is_some o ≡ false → IfNone o (AllByRecursion (λ x. test x ≡ false) (things_of before)) → IfNone o (after ≡ before)
       → things_of after ≡ filter (λ x. not (test x)) (things_of before)
   none_left None e none same = ap (λ (p : Placed T). things_of p) same ∙ sym (all_stay test (things_of before) none)

@@ -1,4 +1,4 @@
--- Things by their places: which thing stands at a key's first place, and the list with one more, with one less, and after one has changed.
+-- Things by their places: which thing stands at a key's first place, and the list with one more, one less, or one changed.
 use Rattle.std.proofs.Common.{◌≡◌, ℕ, ◌<◌, ◌≤◌, nat_lt, ◌==◌, Bool, true, false, cond, not, ◌&&◌, List, [], ◌∷◌, ◌++◌, find, filter, refl, sym, ap, ◌∙◌, subst, true≢false, arith}
 use Rattle.std.proofs.lemmas.Bool.Decides.{nat_tests}
 use Rattle.std.specs.Prelude.{Option, Some, None}
@@ -179,7 +179,7 @@ module _ {T : Type 0} where
   none_above n (x ∷ es) above =
       ap (λ (r : Ordering). cond (is_eq r) (Some x.1) (lookup (is_at (nat_cmp n)) es)) above.0 ∙ none_above n es above.1
 
-  -- nor at a place above all
+  -- nothing stands at a place that is above all
   pub none_below : (n : ℕ) (es : List (ℕ × T)) → AllByRecursion (λ k. k < n) (keys_of es) → lookup (is_at (nat_cmp n)) es ≡ None
   none_below n [] below = refl
   none_below n (x ∷ es) below =

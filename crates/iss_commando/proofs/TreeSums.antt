@@ -42,7 +42,7 @@ put_in m n key sum u =
     ∙ ap (λ (o : Option ℤ). cond (eq_by_cmp order k key) (Some sum) o) (sym (get_in m k))
     ∙ sym (finite.get-insert nat_list_cmp_total (kept_in m) key sum k))
 
--- the sums of a tree in which the sum at a key has grown
+-- the sums of a tree in which the sum at a key has changed by an amount
 pub changed_by : (m n : BTreeMap (List ℕ) ℤ) (key : List ℕ) (by sum was : ℤ) → tree.Updates order m n key (Some sum)
     → was ≡ kept_at (kept_in m) key → sum ≡ was +ℤ by → kept_in n ≡ after_change (kept_in m) (record { key = key; by = by })
 changed_by m n key by sum was u e f =

@@ -14,7 +14,7 @@ abbrev pub asked_with : Option CallNow → Facts → Option (Opened × Txn)
 asked_with None f = None
 asked_with (Some c) f = if is_asked c then option_map (λ t. (c.opened, t.txn)) (txn_in f c.opened.txn) else None
 
--- the entries of a call that is asked, with its transaction; of none there are none
+-- the entries of a call that is asked, with its transaction; if there is none, there are no entries
 abbrev pub entries_with : (Opened → Txn → List Entry) → Option (Opened × Txn) → List Entry
 entries_with make None = []
 entries_with make (Some x) = make x.0 x.1

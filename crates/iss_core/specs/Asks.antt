@@ -17,7 +17,7 @@ use Rattle.iss_core.specs.declared.asks.Ask.{Ask}
 abbrev pub ask_of : Ask → rule.Ask
 ask_of ask = record { event = ask.event; txn = ask.txn; amount = ask.amount; is_first = ask.first; partial = ask.partial; at = ask.at }
 
--- an ask is declined by the control that it breaches, and else if the user's own balance lacks the funds
+-- an ask is declined by the control that it breaches, or else because the user's own balance lacks the funds
 abbrev pub ask_reason : Facts → rule.Ask → Option Reason
 ask_reason f ask = first_reason (control_breach (breach f ask) ∷ (lacks_funds f ask, reason.InsufficientFunds) ∷ [])
 

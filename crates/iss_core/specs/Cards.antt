@@ -67,15 +67,15 @@ increment_on f o known =
     let ask = option_map (λ now. further_ask o.token o.amount o.at now.txn) known in
     acts_unless (increment_reason f known o.currency ask) o.token (increment_acts f ask)
 
--- the acts of its reversal
+-- the acts of a reversal of a transaction
 abbrev pub reversal_on : Facts → Operation → Option TxnNow → List Act
 reversal_on f o known = acts_unless (reversal_reason known o.currency) o.token (reversal_acts f o.token o.amount known)
 
--- the acts of its clearing
+-- the acts of a clearing of a transaction
 abbrev pub clearing_on : Facts → Operation → Option TxnNow → List Act
 clearing_on f o known = acts_unless (clearing_reason known o.currency) o.token (clearing_acts f o.token o.amount o.last o.at known)
 
--- the acts of its refund
+-- the acts of a refund of a transaction
 abbrev pub refund_on : Facts → Operation → Option TxnNow → List Act
 refund_on f o known = acts_unless (refund_reason f known o.currency o.amount) o.token (refund_acts f o.token o.amount known)
 

@@ -15,7 +15,7 @@ pub record MayEnter (s : CoreState) (e : Entry) : Type 0 where
   pub formed : is_entry_in_form e ≡ true
   pub decides : decides_accepted s.accepted e ≡ true
 
--- each of these entries may, on the state after those before it
+-- each of these entries may be entered, on the state after those before it
 abbrev pub MayAllEnter : CoreState → List Entry → Type 0
 MayAllEnter s [] = Unit {0}
 MayAllEnter s (e ∷ es) = MayEnter s e × MayAllEnter (after_entry s e) es

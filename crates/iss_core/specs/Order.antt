@@ -1,4 +1,4 @@
--- What whoever makes entries may rely on: numbers and amounts within bounds.
+-- What a maker of entries may rely on: numbers and amounts within bounds.
 use Rattle.std.specs.Prelude.{◌≡◌, ◌+◌, ◌^◌, ◌<◌, true, nat_lt, not, Bool, ◌||◌, length, filter}
 use Rattle.std.specs.List.{list_all}
 use Rattle.iss_model.specs.rules.Activity.{CallNow, is_asked}

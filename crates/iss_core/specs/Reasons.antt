@@ -1,4 +1,4 @@
--- Why a control or a set is declined whose name is new.
+-- Why a control or a set of a new name is declined.
 use Rattle.std.specs.Prelude.{ℕ, pos, List, Option, None}
 use Rattle.iss_model.specs.declared.currency.Currency.{Currency}
 use Rattle.iss_model.specs.declared.currency.Currency.TheVariants.{Usd}

@@ -35,17 +35,17 @@ pub record HasOwnNames (s : CoreState) : Type 0 where
   pub tokens : HaveOwnTokens s.holdings.txns
   pub numbers : CallsNumberedFrom 1 s.calls
 
--- the deadline of a call, 0 of none
+-- the deadline of a call, or 0 if there is none
 abbrev pub deadline_of : Option CallNow → ℕ
 deadline_of None = 0
 deadline_of (Some c) = c.opened.deadline
 
--- the expiry of a transaction, 0 of none
+-- the expiry of a transaction, or 0 if there is none
 abbrev pub expiry_of : Option TxnNow → ℕ
 expiry_of None = 0
 expiry_of (Some t) = t.txn.expires
 
--- the number of a transaction's authorisation, 0 of none
+-- the number of a transaction's authorisation, or 0 if there is none
 abbrev pub origin_of : Option TxnNow → ℕ
 origin_of None = 0
 origin_of (Some t) = t.txn.origin
@@ -92,7 +92,7 @@ calls_until calls until [] = []
 calls_until calls until (id ∷ ids) =
     if nat_le (deadline_of (call_numbered id.0 calls)) until then id ∷ calls_until calls until ids else []
 
--- the calls from the first one on whose deadline is later than a moment
+-- the calls from the first one that has a deadline later than a moment
 abbrev pub calls_after : List CallNow → ℕ → List CallId → List CallId
 calls_after calls until [] = []
 calls_after calls until (id ∷ ids) =

@@ -42,7 +42,7 @@ pub record Steps (before after : CoreNow) (r : Record) (made : List Entry) : Typ
   pub state : after.state ≡ (step core_keeper before.state r).world
   pub entries : made ≡ (step core_keeper before.state r).entries
 
--- The same on the book: the core after the record stands for one record more, and these are its entries.
+-- A record was taken up on the book: the core after the record stands for one record more, and these are its entries.
 pub record StepsOnBook (after : CoreNow) (rs : List Record) (r : Record) (made : List Entry) : Type 0 where
   pub stands : CoreStandsFor after (rs ++ r ∷ [])
   pub entries : made ≡ (step history_keeper (history_of rs) r).entries

@@ -52,7 +52,7 @@ impl Ask {
         }
     }
 
-    /// The use that it adds: an authorisation counts once, an increment doesn't count.
+    /// The use that it adds: an authorisation counts once, and an increment doesn't count.
     pub(crate) fn usage(&self) -> UsageRow
         requires { self.now.amount < 2 ^ 63 }
         ensures { result ≡ ask_usage (ask_of self.now) }
@@ -176,7 +176,7 @@ impl State {
         }
     }
 
-    /// The gateway is asked, save while the product's switch is on: then the programme stands in.
+    /// The gateway is asked, unless the product's switch is on. Then the programme stands in.
     fn put_gateway_ask(&self, out: &mut Vec<Entry>, ask: &Ask) -> Result<(), AllocError>
         requires order { IsInOrder (kept_state self.now) }
         requires amount { IsTrue (is_amount ask.now.amount) }

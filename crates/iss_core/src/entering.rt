@@ -62,7 +62,7 @@ impl State {
     fn acknowledge(&mut self, notice: u32)
         ensures { self.new ≡ record self.old { notices = with_acked self.old.notices notice } }
     {
-        // So does a notice that is acknowledged.
+        // A notice that is already acknowledged stays as it is.
         let _acknowledged = self.notices.acknowledge(notice);
     }
 }

@@ -70,7 +70,7 @@ impl State {
         CallId(self.calls.count() + 1)
     }
 
-    /// Whether a user can't spend this amount: the balance, less what is held, is less.
+    /// Whether a user can't spend this amount: the balance, less what is held, is smaller.
     pub(crate) fn is_short(&self, user: &Token, currency: Currency, amount: u64) -> bool
         ensures { result ≡ int_lt (available_in (facts_of self.now) user.now currency) (pos amount) }
     {

@@ -74,7 +74,7 @@ impl State {
         }
     }
 
-    /// The same on a transaction that is known.
+    /// An increment of a known transaction is declined, or counts as use and seeks funding.
     fn put_further_ask(
         &self,
         alloc: Global,

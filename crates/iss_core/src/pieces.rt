@@ -56,7 +56,7 @@ pub(crate) fn put_notice(
     }
 }
 
-/// The same, if the amount isn't 0.
+/// A notice that is of no call, if the amount isn't 0.
 pub(crate) fn put_notice_of_some(
     out: &mut Vec<Entry>,
     number: u32,

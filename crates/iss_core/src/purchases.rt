@@ -51,7 +51,7 @@ impl State {
         }
     }
 
-    /// The same on a card that is known.
+    /// An authorisation on a known card is declined, or begins its transaction, counts as use, and seeks funding.
     fn put_purchase(
         &self,
         out: &mut Vec<Entry>,

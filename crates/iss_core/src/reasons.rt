@@ -1,4 +1,4 @@
-//! Why settings and loads are declined: of each the first reason that holds.
+//! Why settings and loads are declined: for each the first reason that holds.
 ghost use Rattle.std.specs.Prelude.{◌≡◌};
 ghost use Rattle.iss_model.specs.rules.Reasons.{user_reason, card_reason, move_reason, card_move_reason, user_move_reason, product_reason, group_reason, control_reason, set_reason, switch_reason, load_reason, lacks_user, lacks_product, lacks_group};
 ghost use Rattle.iss_core.specs.Reasons.{new_control_reason, new_set_reason};

@@ -71,7 +71,7 @@ shows_stands instance size rs device sized small history shows =
       shows = subst (λ (n : ℕ). Shows (region_of instance n) (bodies_of rs) device) (sym whole) shows;
     }
 
--- and so does a device that rests with all of these records and an end gate of 0
+-- a device that rests with all of these records and an end gate of 0 stands for them
 pub rests_stands : (instance size : ℕ) (rs : List Record) (device : List ℕ) → IsSize size → instance < 2 ^ 48 → AreHistory rs → RestsFirst (region_of instance size) (bodies_of rs) device (length rs) → DeviceStandsFor instance rs device
 rests_stands instance size rs device sized small history rests =
     let all : take (length rs) (bodies_of rs) ≡ bodies_of rs = take_all (length rs) (bodies_of rs) (omega (arith, length-map rs spelling)) in

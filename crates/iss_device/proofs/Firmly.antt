@@ -41,7 +41,7 @@ history_taken i rs history = history_first (take i rs) (drop i rs) (subst AreHis
 
 -- ---- the record that comes next
 
--- of these records the first n and one more, if its body is this one
+-- the first n of these records and one more, if its body is this one
 record NextSpelled (rs : List Record) (n : ℕ) (body : List ℕ) : Type 0 where
   pub r : Record
   pub next : take (n + 1) rs ≡ take n rs ++ r ∷ []

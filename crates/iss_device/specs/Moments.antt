@@ -51,8 +51,8 @@ pub record AsBefore (opening before : List Step) (d : Disk) (image : List ℕ) :
   pub unsynced : syncs_after 0 (actions_of before) ≡ 0
   pub is_image : IsImage d image
 
--- The same of a run that begins on a device with unsynced writes: until a sync of the opening has succeeded nothing is worse than before
--- the run, and from then on all is as on a device at rest.
+-- Each moment of a run that begins on a device with unsynced writes. Until a sync of the opening has succeeded, nothing is worse than before
+-- the run. From then on all is as on a device at rest.
 abbrev pub EachMomentUnsynced : ℕ → List Record → List Record → List Step → List Step → List ℕ → Type 0
 EachMomentUnsynced instance rs all opening later device =
     (d : Disk) → BeginsUnsynced instance rs device d
@@ -83,7 +83,7 @@ EachStopStands instance rs made steps device =
     → (image : List ℕ) → IsImage (after_actions d (actions_of before)) image
     → StopStands instance rs made before image
 
--- A run that did this and began at rest ends where the next one begins: on a device at rest, which reads so and stands for these records
+-- A run that did this and began at rest ends where the next one begins. The device is at rest, reads so, and stands for these records
 -- with an end gate of 0.
 pub record EndsAtRest (instance : ℕ) (rs now : List Record) (actions : List Action) (a b : World) : Type 0 where
   pub closed : ShowsClosed (region_of instance (length b.device)) (bodies_of now) b.device

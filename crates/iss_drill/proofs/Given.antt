@@ -225,7 +225,7 @@ one_at_most : (b : Bool) → one_if b ≤ 1
 one_at_most true = omega arith
 one_at_most false = omega arith
 
--- an answer is one repeat at most
+-- an answer is at most one repeat
 pub told_few : (told : Bool) (lines : ℕ) (t u : Tally) → IsFew lines t → TellsAnswer told t u → IsFew (lines + 1) u
 told_few told lines t u few tells =
     record {
@@ -238,7 +238,7 @@ told_few told lines t u few tells =
     once : (lines t u one : ℕ) → one ≤ 1 → t ≤ lines → u ≡ t + one → u ≤ lines + 1
     once lines t u one le few is = omega (arith, le, few, is)
 
--- so it is after the record of a time
+-- an answer is at most one repeat after the record of a time too
 pub clock_few : (lines : ℕ) (t m u : Tally) → IsFew lines t → IsFew (lines + 1) m → m.repeats ≡ t.repeats → ((told : Bool) × TellsAnswer told m u) → IsFew (lines + 1) u
 clock_few lines t m u few kept same told =
     record {

@@ -31,7 +31,7 @@ use Rattle.iss_drill.specs.Giving.{HasGiven}
 use Rattle.iss_drill.specs.Names.{named}
 use Rattle.iss_drill.specs.Reports.{HoldsAreFew}
 
--- ---- a line makes a record at most
+-- ---- a line makes at most one record
 
 one_record : (s : Run) (i : Input) (stamp : ℕ) (j : Judged) → length (response_as s i stamp j).run.history.records ≤ length s.history.records + 1
 one_record s i stamp (judged.New r) =

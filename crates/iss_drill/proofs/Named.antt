@@ -31,7 +31,7 @@ token_named letter n is small =
     (both (nat_le 1 (length (letter ∷ decimal n))) (nat_le (length (letter ∷ decimal n)) 36) (grind (arith, nat_tests)) (grind (arith, nat_tests)))
     (both (is_token_byte letter) (list_all is_token_byte (decimal n)) is (token_bytes n (omega (arith, small))))
 
--- so is a text that begins with them
+-- a text of a letter and digits is a token
 pub token_of_text : (letter n : ℕ) (text digits : List ℕ) → IsTrue (is_token_byte letter) → n < 2 ^ 32 → text ≡ letter ∷ digits → digits ≡ decimal n → IsTrue (is_token text)
 token_of_text letter n text digits is small e h =
     subst (λ (t : List ℕ). IsTrue (is_token t)) (sym (e ∙ ap (λ (t : List ℕ). letter ∷ t) h)) (token_named letter n is small)

@@ -65,7 +65,7 @@ tells_repeat (judged.Told a) = is_repeat a
 tells_repeat (judged.New r) = false
 tells_repeat (judged.Clock r) = false
 
--- the same if the record of a time may go before the answer
+-- judging came to an answer that tells a repeat, if the record of a time may go before it
 abbrev pub tells_repeat_as : History → Input → ℕ → Judged → Bool
 tells_repeat_as h i stamp (judged.New r) = false
 tells_repeat_as h i stamp (judged.Clock r) = tells_repeat (judge history_keeper (step history_keeper h r).world i stamp)
@@ -83,7 +83,7 @@ repeats_among s (line ∷ lines) = (if is_told_repeat s line then 1 else 0) + re
 
 -- ---- the lines
 
--- the run of a drill of n events before its first line: a device of 1048576 + 512 n bytes that was formatted with instance 0
+-- the run of a drill of n events before its first line: a device of 1048576 + 512 n bytes, formatted with instance 0
 abbrev pub drill_run : ℕ → Run
 drill_run n = record { instance = 0; room = Some (one_journal (FOR_ALL + FOR_EACH * n)); history = nothing_yet }
 

@@ -88,7 +88,8 @@ abbrev pub GivesSetup : {F : Type 0} → ℕ → Tally → Tally → StoreNow �
 GivesSetup number before after store result =
     (start : Run) → (lines : List Reading) → Gives start lines (lines ++ sound (setup_input number) None ∷ []) before after store result
 
--- If the call succeeded, the store was given the event of this number and what it draws, and the answer of its call, whichever lines came before.
+-- If the call succeeded, the store was given the event of this number and what it draws. The answer of its call was given too, whichever
+-- lines came before.
 abbrev pub GivesEvent : {F : Type 0} → ℕ → Input → ℕ → Tally → Tally → StoreNow → Result StoreNow F → Type 0
 GivesEvent number event y before after store result =
     (start : Run) → (lines : List Reading) → event ≡ event_input number → y ≡ drawn number

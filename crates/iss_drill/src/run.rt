@@ -34,8 +34,9 @@ const FOR_EACH: u32 = 512;
 /// The time from one event to the next, in milliseconds.
 const MINUTE: u64 = 60_000;
 
-/// Runs a drill of `n` events, 1 to 100000, and writes its line on channel 0, by one emit: a line of JSON (RFC 8259) of what was
-/// approved and declined, what then stands, and how many lines, notices, records and repeats there were.
+/// Runs a drill of `n` events, 1 to 100000, and writes its line on channel 0, by one emit. It is a line of JSON (RFC
+/// 8259). It tells what was approved and declined, what then stands, and how many lines, notices, records and repeats
+/// there were.
 #[tactic(auto, using(crate::proofs::Sending::told_drilled, crate::proofs::Sending::told_undrilled, iss_texts::proofs::ToldSaying::told_none))]
 pub fn drill<E: Edge>(alloc: Global, n: u32, edge: &mut E) -> Result<(), DrillFault>
     requires least { 1 ≤ n }

@@ -1,5 +1,5 @@
-//! What a drill sets up before its events: a product that the gateway funds, a Commando Mode set and a control of it, and ten users
-//! with a card each.
+//! What a drill sets up before its events: a product that the gateway funds, and a Commando Mode set and a control of it.
+//! Ten users come next, with a card each.
 ghost use Rattle.std.specs.Prelude.{◌≡◌, ◌<◌, ◌≤◌, IsTrue};
 ghost use Rattle.iss_model.specs.Forms.{is_in_form};
 ghost use Rattle.iss_drill.specs.Setup.{product_input, set_input, control_input, user_input, card_input, setup_input};

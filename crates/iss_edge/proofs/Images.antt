@@ -23,7 +23,7 @@ take_settled d image n is le calm =
     let below : k < n = omega (arith, length-take n image) in
     get_or-take n image k 0 below ∙ is.settled k (omega (arith, below, le)) (calm k below) ∙ sym (get_or-take n d.bytes k 0 below))
 
--- and so an end of settled places
+-- a stop leaves an end of settled places as it stands
 drop_settled : (d : Disk) (image : List ℕ) (n : ℕ) → IsImage d image → ((p : ℕ) → n ≤ p → is_settled d p ≡ true) → drop n image ≡ drop n d.bytes
 drop_settled d image n is calm =
     same_number_lists (drop n image) (drop n d.bytes) (omega (arith, is.size, length-drop n image, length-drop n d.bytes)) (λ k lt.

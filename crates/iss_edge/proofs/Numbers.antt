@@ -106,7 +106,7 @@ client_unused ch clients dialled ready script items dials come next high =
       not_open = rw (not_true (is_among clients ch.0) inner.1) (none_dialled ch.0 dials dialled (leb-true ch.0 1000000 within.1) high);
     }
 
--- and so is the number of a dial
+-- a dial opens a number that is unused
 pub dial_unused : (ch : Channel) (clients dialled : List ℕ) (ready : Option ℕ) (dials : ℕ) → ch.0 ≡ dials + 1000001 → list_all is_client_number clients ≡ true → list_all (is_dialled_number dials) dialled ≡ true
     → IsUnused (record { clients = clients; dialled = dialled; ready = ready }) ch
 dial_unused ch clients dialled ready dials is low high =

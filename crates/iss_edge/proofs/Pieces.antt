@@ -49,7 +49,7 @@ left_on-take ch count (p ∷ pieces) = first (has_more_on ch p) refl (left_on-ta
         let here : (p.ch.0 == ch) ≡ true = (and_parts (p.ch.0 == ch) (not (is_none_left p.rest)) e).0 in
         rw e (rw here (ap (λ (l : List ℕ). l ++ left_on pieces ch) (sym (take-append-drop count p.rest)) ∙ append_assoc (take count p.rest) (drop count p.rest) (left_on pieces ch)))
 
--- and nothing of other channels is taken
+-- nothing is taken from other channels
 pub left_on-other : (ch count c : ℕ) (pieces : List Piece) → (c ≡ ch → ⊥) → left_on (after_take ch count pieces) c ≡ left_on pieces c
 left_on-other ch count c [] other = refl
 left_on-other ch count c (p ∷ pieces) other = first (has_more_on ch p) refl (left_on-other ch count c pieces other)

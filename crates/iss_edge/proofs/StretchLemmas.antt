@@ -78,7 +78,7 @@ parts (s ∷ ss) (a ∷ x) y e =
       second_is = p.second_is;
     }
 
--- a stretch that goes on, and a good one from its end
+-- a stretch that goes on, and a good one from its end, are a good one together
 pub join : (starts stands mids : List ℕ → ℕ → Type 0) → StretchesJoin starts stands mids
 join starts stands mids j k l a b first second =
     record {
@@ -106,7 +106,7 @@ join starts stands mids j k l a b first second =
           ];
     }
 
--- and two that both go on
+-- two stretches that both go on are together one that goes on
 pub join_on : (starts stands mids ends : List ℕ → ℕ → Type 0) → StretchesGoOn starts stands mids ends
 join_on starts stands mids ends j k l a b first second =
     record {
@@ -117,7 +117,7 @@ join_on starts stands mids ends j k l a b first second =
           subst (λ (x : Disk). ends x.bytes l) (sym (after_both d a b)) (second.rest (after_actions d (actions_of a)) (first.at_rest d rest start) (first.rest d rest start));
     }
 
--- more may stand, and for more records
+-- a stretch stays good if more may stand, and for more records
 pub good_weaker : (starts stands wider : List ℕ → ℕ → Type 0) (j k : ℕ) (steps : List Step) → ((image : List ℕ) (i : ℕ) → stands image i → wider image i) → IsGood starts stands j k steps → IsGood starts wider j k steps
 good_weaker starts stands wider j k steps widens good =
     record {
@@ -134,7 +134,7 @@ good_up starts stands j k l steps le good =
           record { i = shows.i; low = shows.low; high = omega (arith, shows.high); stand = shows.stand; told = shows.told };
     }
 
--- at the start less may stand
+-- a stretch stays good if less may stand at its start
 pub good_from : (starts narrower stands : List ℕ → ℕ → Type 0) (j k : ℕ) (steps : List Step) → ((bytes : List ℕ) → narrower bytes j → starts bytes j) → IsGood starts stands j k steps → IsGood narrower stands j k steps
 good_from starts narrower stands j k steps narrows good =
     record { each = λ d rest start before after cut image is. good.each d rest (narrows d.bytes start) before after cut image is }
@@ -185,7 +185,7 @@ silent_none : (i : ℕ) (steps : List Step) → actions_of steps ≡ [] → Sent
 silent_none i [] e = tt
 silent_none i (s ∷ steps) e = absurd cc
 
--- no step at all
+-- a stretch without a step goes on
 pub none_goes_on : (starts stands : List ℕ → ℕ → Type 0) (j : ℕ) (steps : List Step) → ((bytes : List ℕ) → starts bytes j → stands bytes j) → actions_of steps ≡ [] → GoesOn starts stands starts j j steps
 none_goes_on starts stands j steps shows none =
     still_goes_on starts stands j steps shows (subst (λ (l : List Action). AreStill l) (sym none) tt) (silent_none j steps none)
@@ -242,7 +242,7 @@ emit_failed_still ch bytes a b part =
           record { device = part.device; left = part.left; added = Emit ch sends.prefix false ∷ []; grew = sends.added; still = (refl, tt) }
     ]
 
--- nothing was done, and what is still one after the other
+-- doing nothing is still, and so are still calls one after the other
 pub still_self : (a : World) → AddsStill a a
 still_self a = record { device = refl; left = refl; added = []; grew = sym (append-nil a.trace); still = tt }
 

@@ -8,8 +8,8 @@ use Rattle.iss_edge.specs.declared.counts.Fault.{Fault}
 use Rattle.iss_edge.specs.declared.counts.Fault.TheVariants.{Disk, Input, Output, Peer, Link}
 use Rattle.iss_edge.specs.World.{Faults}
 
--- The channels of an edge, by number: those that clients came on and those that were dialled, without those that were closed
--- since, and the channel that was last said to be ready.
+-- The channels of an edge, by number. They are those that clients came on and those that were dialled, without those that were closed
+-- since. With them is the channel that was last said to be ready.
 pub record Channels : Type 0 where
   pub clients : List ℕ
   pub dialled : List ℕ
@@ -70,7 +70,7 @@ count_of Output = λ faults. faults.output
 count_of Peer = λ faults. faults.peer
 count_of Link = λ faults. faults.link
 
--- how a call on a channel fails that is not the standard one
+-- how a call fails on a channel that isn't the standard one
 abbrev pub far_fault : Channels → Channel → Fault
 far_fault channels ch = if is_among channels.dialled ch.0 then Link else Peer
 

@@ -43,7 +43,7 @@ pub record ShowsUpTo (stands : List ℕ → ℕ → Type 0) (j k : ℕ) (sent : 
   pub stand : stands image i
   pub told : SentUpTo i sent
 
--- Good from j records to k: begun at rest with j, each image of each moment stands for j to k, and for all that was sent by then.
+-- Good from j records to k. If it begins at rest with j, each image of each moment stands for j to k, and for all sent by then.
 pub record IsGood (starts stands : List ℕ → ℕ → Type 0) (j k : ℕ) (steps : List Step) : Type 0 where
   pub each : (d : Disk) → IsAtRest d → starts d.bytes j → (before rest : List Step) → steps ≡ before ++ rest
       → (image : List ℕ) → IsImage (after_actions d (actions_of before)) image → ShowsUpTo stands j k before image
@@ -64,7 +64,7 @@ abbrev pub StretchesGoOn : (starts stands mids ends : List ℕ → ℕ → Type 
 StretchesGoOn starts stands mids ends =
     (j k l : ℕ) (a b : List Step) → GoesOn starts stands mids j k a → GoesOn mids stands ends k l b → GoesOn starts stands ends j l (a ++ b)
 
--- neither a write nor a sync
+-- an action is neither a write nor a sync
 abbrev pub is_still : Action → Bool
 is_still (Write at bytes ok) = false
 is_still (Sync ok) = false

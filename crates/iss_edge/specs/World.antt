@@ -3,8 +3,8 @@ use Rattle.iss_edge.specs.declared.outside.Action.{Action}
 use Rattle.iss_edge.specs.declared.outside.Action.TheVariants.{Write, Sync, Emit, Dial, Close}
 use Rattle.iss_edge.specs.declared.outside.Script.{Script}
 
--- What an edge may tell: the device's bytes, the bytes that can still be taken from each channel, what waits are still to bring,
--- and all that was done so far.
+-- What an edge may tell: the device's bytes, and the bytes that can still be taken from each channel. It may also tell what waits are
+-- still to bring, and all that was done so far.
 pub record World : Type 0 where
   pub device : List ℕ
   pub left : ℕ → List ℕ

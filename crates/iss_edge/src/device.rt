@@ -23,8 +23,8 @@ pub fn put<E: Edge>(edge: &mut E, at: u64, bytes: &[u8]) -> Result<(), Failed>
     edge.sync()
 }
 
-/// What a device shows of a number of records: where a stretch starts, at each stop within two stretches, where the first
-/// ends and the second starts, and where the second ends.
+/// What a device shows of a number of records: at the start of a stretch, at each stop within it, and at its end. There
+/// are two stretches, and the second starts where the first ends.
 pub trait Showing {
     ghost starts: { List ℕ → ℕ → Type 0 };
 

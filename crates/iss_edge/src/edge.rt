@@ -12,8 +12,8 @@ use crate::{Arrival, Channel, Failed};
 
 /// All that the processor reads and does outside of its memory.
 ///
-/// An implementation tells what it knows of the outside, or nothing. A call's clauses speak of what is told after it,
-/// which was then told before it too.
+/// An implementation tells what it knows of the outside, or nothing. A call's clauses speak of what is told after it. If
+/// anything is, it was told before the call too.
 pub trait Edge {
     /// The device, what is still to come, and all that was done so far.
     ghost told: { Self → Option World };
@@ -100,7 +100,7 @@ pub trait Edge {
         ensures kept { Stays extent self.old self.new }
         ensures channels { Stays channels self.old self.new };
 
-    /// Opens a channel to the gateway, which was not open.
+    /// Opens a channel to the gateway that was not open before.
     fn dial(&mut self) -> Result<Channel, Failed>
         ensures dialled { IfOk result (λ ch. Told (Dials ch) (told self.old) (told self.new)) }
         ensures unchanged { OnErr result (Told Same (told self.old) (told self.new)) }

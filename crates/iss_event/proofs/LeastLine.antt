@@ -29,7 +29,7 @@ then_always : {A B F : Type 0} (r : Result A F) (f : A → Result B F) (P : Type
 then_always (Ok x) f P h = always (f x) P h
 then_always (Err fault) f P h = tt
 
--- and it holds if a bad field is called a fault
+-- what holds if something is found holds if a bad field is called a fault
 fault_always : {A : Type 0} (r : Result A Name) (P : Type 0) → IfOk r (λ found. P) → IfOk (as_fault r) (λ found. P)
 fault_always (Ok x) P h = h
 fault_always (Err name) P h = tt

@@ -35,7 +35,7 @@ user_input d = do
   user ← required_field token_of name.User d
   Ok (input.User token user)
 
--- a card is made, of the product `default` and active if the line doesn't tell otherwise
+-- a card is made, of the product `default` and active unless the line says otherwise
 unfoldable pub card_input : Data → Result Input Name
 card_input d = do
   token ← required_field token_of name.Token d
@@ -73,7 +73,7 @@ move_input d = do
   who ← whose_move card (is_some (field name.User d)) d
   Ok (input.Move token who)
 
--- a product is made, with three seconds for an answer and seven days for a hold if the line doesn't tell otherwise
+-- a product is made, with three seconds for an answer and seven days for a hold unless the line says otherwise
 unfoldable pub product_input : Data → Result Input Name
 product_input d = do
   token ← required_field token_of name.Token d
@@ -100,7 +100,7 @@ counts_purchases window.Week = true
 counts_purchases window.Month = true
 counts_purchases window.Lifetime = true
 
--- how much a control lets through, and how often: one of them at least
+-- how much a control lets through, and how often: at least one of them
 unfoldable pub limits_said : Currency → Window → Data → Result (Option ℕ × Option ℕ) Name
 limits_said currency window d = do
   amount_limit ← required_field_unless (is_some (field name.UsageLimit d)) (limit_of currency) name.AmountLimit d
@@ -127,7 +127,7 @@ scope_named None (Some group) mid = scope.Group group
 scope_named None None (Some mid) = scope.Mid mid
 scope_named None None None = scope.All
 
--- where a control counts: a line names one scope at most
+-- where a control counts: a line names at most one scope
 unfoldable pub scope_said : Data → Result Scope Name
 scope_said d = do
   mcc ← optional_field mcc_of name.Mcc d
@@ -135,7 +135,7 @@ scope_said d = do
   mid ← optional_field (form_if (is_none mcc && is_none group) token_of) name.Mid d
   Ok (scope_named mcc group mid)
 
--- a control is made, or changes its limits; it is in UTC, and active, if the line doesn't tell otherwise
+-- a control is made, or changes its limits; it is in UTC, and active, unless the line says otherwise
 unfoldable pub control_input : Data → Result Input Name
 control_input d = do
   token ← required_field token_of name.Token d
@@ -149,7 +149,7 @@ control_input d = do
   active ← optional_field_or as_bool true name.Active d
   Ok (input.Control token control currency window limits.0 limits.1 association scope offset active)
 
--- a Commando Mode set is made, or changed; it covers nothing, and is active, if the line doesn't tell otherwise
+-- a Commando Mode set is made, or changed; it covers nothing, and is active, unless the line says otherwise
 unfoldable pub set_input : Data → Result Input Name
 set_input d = do
   token ← required_field token_of name.Token d
@@ -183,7 +183,7 @@ load_input d = do
   amount ← required_field (amount_of currency) name.Amount d
   Ok (input.Load token user currency amount)
 
--- a merchant asks whether a card may pay; no part will do if the line doesn't tell otherwise
+-- a merchant asks whether a card may pay; a part won't do unless the line says so
 unfoldable pub authorization_input : Data → Result Input Name
 authorization_input d = do
   token ← required_field token_of name.Token d
@@ -216,7 +216,7 @@ reversal_input d = do
   o ← operation_said d
   Ok (input.Reversal o.token o.txn o.currency o.amount)
 
--- a merchant collects; further clearings may come if the line doesn't tell that this is the last
+-- a merchant collects; further clearings may come unless the line says that this is the last
 unfoldable pub clearing_input : Data → Result Input Name
 clearing_input d = do
   o ← operation_said d

@@ -58,7 +58,7 @@ said_line opened = do
   said ← input_of_kind opened.kind opened.object
   Ok (record { input = said; at = at })
 
--- What a line spells, or its first fault: too long, no JSON object, no such type, a bad stamp, or the first bad field of its kind.
+-- What a line spells, or its first fault. It is too long, is no JSON object, has no such type or a bad stamp, or has a first bad field.
 unfoldable pub line_read : Mode → List ℕ → Result Line FormFault
 line_read mode line = do
   opened ← opened_line mode line

@@ -13,8 +13,8 @@ use iss_field::{Name, Object, Scratch, WholeForm};
 use iss_model::limits::{LAST_STAMP, LONGEST_LINE};
 use std::alloc::Global;
 
-/// What a line spells, without the line feed that ends it, or its first fault: `Long`, `Json`, or the first bad field in the
-/// order `type`, `at` and then that of its type. A line is one JSON object (RFC 8259).
+/// What a line spells, without the line feed that ends it, or its first fault. That is `Long`, `Json`, or the first bad
+/// field in the order `type`, `at` and then that of its type. A line is one JSON object (RFC 8259).
 pub fn read_line(alloc: Global, line: &[u8], mode: Mode) -> Result<Line, LineFault>
     ensures read { IsReadAsLine (line_read mode line.now) result }
     ensures input_form { IfOk result (λ said. IsTrue (is_in_form said.input)) }
@@ -25,7 +25,7 @@ pub fn read_line(alloc: Global, line: &[u8], mode: Mode) -> Result<Line, LineFau
     read_line_in(&mut scratch, alloc, line, mode)
 }
 
-/// The same over a scratch that is kept from line to line.
+/// What a line spells, read over a scratch that is kept from line to line.
 #[tactic(auto, using(crate::proofs::LeastLine::read_least, crate::proofs::LinesInForm::read_input_in_form, crate::proofs::LinesInForm::read_stamp_in_form))]
 pub fn read_line_in(
     scratch: &mut Scratch,

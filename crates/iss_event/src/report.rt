@@ -10,8 +10,8 @@ use iss_model::Account;
 use itoa::Buffer;
 use std::alloc::{AllocError, Global};
 
-/// The line of an account with its balance and, if it is a user's, what is held of it, in minor units, with its line
-/// feed.
+/// The line of an account with its balance, in minor units, with its line feed. If it is a user's, the line also tells
+/// what is held of it.
 pub fn balance_line(
     alloc: Global,
     account: &Account,

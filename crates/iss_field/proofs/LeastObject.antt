@@ -41,12 +41,12 @@ abbrev good : List Token → ℕ
 good [] = 0
 good (t ∷ ts) = one_more (is_good t) (good ts)
 
--- it is one more at most
+-- it is at most one more
 one_more-above : (b : Bool) (n m : ℕ) → n ≤ m → one_more b n ≤ suc m
 one_more-above true n m h = omega arith
 one_more-above false n m h = omega arith
 
--- what comes before other tokens, if it is allowed, is one good token at most
+-- what comes before other tokens, if it is allowed, is at most one good token
 allowed-good : (b : Bool) (t : Token) (k : Place → List Token) (next : Place) (n : ℕ) → good (k next) ≤ n → good (if_allowed b t k next) ≤ suc n
 allowed-good true t k next n h = one_more-above (is_good t) (good (k next)) n h
 allowed-good false t k next n h = omega arith
@@ -100,7 +100,7 @@ value-good (json.array js) ts = omega (arith, rest-good (items_tokens js) ts)
 value-good (json.object ms) ts = omega (arith, rest-good (members_tokens ms) ts)
 value-good _ ts = omega arith
 
--- and so has what closes an object
+-- the members of an object have a good token
 members-good : (ms : json.Members) → 1 ≤ good (members_tokens ms)
 members-good json.no_members = omega arith
 members-good (json.member k j ms) = omega arith

@@ -28,7 +28,7 @@ fit_item (Some d) (Some e) j js ds one others is more =
     let same : item d e ≡ ds = cc in
     ap (λ (x : Data). item x (data_items js)) (of_some j d one) ∙ ap (item d) (more e others) ∙ same
 
--- and so are all
+-- all items that fit are seen by themselves
 fit_items : (js : json.Items) (ds : Items) → of_items js ≡ Some ds → data_items js ≡ ds
 fit_items json.no_items ds is = let same : no_items ≡ ds = cc in same
 fit_items (json.item j js) ds is = fit_item (of_json j) (of_items js) j js ds refl refl is (λ e. fit_items js e)
@@ -37,7 +37,7 @@ then_none : {A B : Type 0} (o : Option A) (f : A → Option B) → ((x : A) → 
 then_none None f h = refl
 then_none (Some x) f h = h x
 
--- what doesn't fit is no code
+-- what doesn't fit isn't a code
 no_code : (j : Json) → of_json j ≡ None → mcc_of (data_of j) ≡ None
 unfolding mcc_of data_of
 no_code j none = ap (λ (o : Option Data). mcc_of (if_fit o)) none
@@ -118,7 +118,7 @@ still_rising low k [] rising least code = three (nat_le low k) (is_mcc k) true (
 still_rising low k (x ∷ xs) rising least code =
     placed (nat_lt k x) (k == x) low x k xs refl refl rising least code (λ above. still_rising (x + 1) k xs (rises low x xs rising).rest above code)
 
--- and they are one more at most, none less, and some
+-- codes with one more are at most one more, not fewer, and not none
 record IsOneMore (ks more : List ℕ) : Type 0 where
   pub some : 1 ≤ length more
   pub least : length ks ≤ length more

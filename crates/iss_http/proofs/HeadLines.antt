@@ -128,7 +128,7 @@ start_more bytes k l s =
       fields = ap (λ (x : Lines). x.fields) s.same;
     }
 
--- by the first line
+-- the lines of a head, by its first line
 by_first : (bytes : List ℕ) (k : Behind bytes) (parts : List (List ℕ)) → ended_lines k.rest ≡ parts
     → ((m : Lines) → head_lines parts ≡ Some m → all_there (map header_of m.fields) ≡ true → IsMessage k.rest m)
     → (t : Bool) → is_empty (without_return k.part) ≡ t → (o p : Option Lines) → head_lines parts ≡ o → field_lines parts ≡ p → (l : Lines)

@@ -56,7 +56,7 @@ header_of_field f is =
         ∙ ap (λ (x : List ℕ). header_if name x t) er
         ∙ ap (λ (x : Bool). if x then Some (header_with name raw) else None) (both (is_token name && t) (list_all is_value_byte raw) (both (is_token name) t token et) good)
 
--- and so are all of them
+-- all field lines are read as their headers
 pub headers_of_fields : (fs : List Field) → AllByRecursion IsField fs → all_of (map header_of (map field_text fs)) ≡ Some (map header_in fs)
 headers_of_fields [] all = refl
 headers_of_fields (f ∷ fs) all =

@@ -50,7 +50,7 @@ lines_return (b ∷ line) rest e =
     ap (λ (t : Bool). cond t ([] ∷ lines) (in_front b lines)) off
     ∙ ap (in_front b) (lines_return line rest (and_right (is_clean b) (list_all is_clean line) e))
 
--- the carriage return is no part of the line
+-- the carriage return isn't a part of the line
 same_clean : (line : List ℕ) → list_all is_clean line ≡ true → without_return line ≡ line
 same_clean [] e = refl
 same_clean (b ∷ []) e =

@@ -24,7 +24,7 @@ answer_within status rest over size =
 abbrev pub open_body : ℕ → List ℕ → Bool → AnswerReading
 open_body status rest over = if nat_lt MOST_BODY (length rest) then garbled else if over then whole status rest else more
 
--- by the length of the body
+-- what the bytes of an answer are, by the length of the body
 abbrev pub answer_sized : ℕ → List ℕ → Bool → ContentLength → AnswerReading
 answer_sized status rest over Absent = open_body status rest over
 answer_sized status rest over Bad = garbled
@@ -38,7 +38,7 @@ answer_coded h sized = if has (codes "transfer-encoding") h.headers then garbled
 unfoldable pub answer_headed : List ℕ → Bool → ResponseHead → AnswerReading
 answer_headed bytes over h = answer_coded h (answer_sized h.status (drop h.size bytes) over (content_length h.headers))
 
--- by the head, if there is one in the first 8192 bytes
+-- what the bytes of an answer are by their head, if there is one in the first 8192 bytes
 abbrev pub answer_by_head : List ℕ → Bool → Option ResponseHead → AnswerReading
 answer_by_head bytes over None = if nat_le MOST_HEAD (length bytes) then garbled else unless_over over
 answer_by_head bytes over (Some h) = answer_headed bytes over h

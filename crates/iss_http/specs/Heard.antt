@@ -17,7 +17,7 @@ abbrev pub heard : Option Answer → AnswerReading
 heard None = more
 heard (Some a) = reading_of a
 
--- the same over borrowed bytes
+-- an answer over borrowed bytes, or none yet
 abbrev pub came_as : Came → AnswerReading
 came_as came.More = more
 came_as came.Ended = ended

@@ -16,18 +16,18 @@ pub data Request : Type 0 where
   body : List ℕ → Request
   faulty : HttpFault → Request
 
--- a body of this length, after it came
+-- what the bytes after a head are, if the body has this length
 abbrev pub request_within : List ℕ → ℕ → Request
 request_within rest size =
     if nat_lt MOST_BODY size then faulty BodyLong else if nat_le size (length rest) then body (take size rest) else more
 
--- by the length of the body, if there is a good one
+-- what the bytes after a head are, by the length of the body, if there is a good one
 abbrev pub request_sized : List ℕ → ContentLength → Request
 request_sized rest Absent = faulty NoLength
 request_sized rest Bad = faulty NoLength
 request_sized rest (Good size) = request_within rest size
 
--- a POST to this path, with no coding, is what its body is
+-- a POST to this path, with no coding, is what its body makes it
 abbrev pub request_coded : List ℕ → RequestHead → Request → Request
 request_coded path h sized =
     if not (bytes_eq h.method (codes "POST")) then faulty Method
@@ -39,12 +39,12 @@ request_coded path h sized =
 unfoldable pub request_headed : List ℕ → List ℕ → RequestHead → Request
 request_headed path bytes h = request_coded path h (request_sized (drop h.size bytes) (content_length h.headers))
 
--- by the head, if there is one in the first 8192 bytes
+-- what the bytes are by their head, if there is one in the first 8192 bytes
 abbrev pub request_by_head : List ℕ → List ℕ → Option RequestHead → Request
 request_by_head path bytes None = if nat_le MOST_HEAD (length bytes) then faulty HeadLong else more
 request_by_head path bytes (Some h) = request_headed path bytes h
 
--- what the bytes are as a request to this path, if a bad head is told as late as may be
+-- what the bytes are as a request to this path, if a bad head is told as late as possible
 abbrev pub request_at : List ℕ → List ℕ → Request
 request_at path bytes = request_by_head path bytes (request_head (take MOST_HEAD bytes))
 
@@ -61,7 +61,7 @@ abbrev pub answered : Option (List ℕ) → Request
 answered None = more
 answered (Some text) = body text
 
--- what the bytes are by an answer
+-- what the bytes are, by what a reader answers
 abbrev pub told : {A : Type 0} → (A → List ℕ) → Result (Option A) HttpFault → Request
 told text (Ok said) = answered (option_map text said)
 told text (Err f) = faulty f
@@ -84,6 +84,6 @@ HasFault bytes f = HasFaultAs request bytes f
 abbrev pub IsCause : List ℕ → FeedFault → Type 0
 IsCause bytes f = IsCauseAs request bytes f
 
--- what bytes are that no head of a request begins with: refused once they are as long as a head may be
+-- bytes that no head of a request begins with are refused once they are as long as a head may be
 abbrev pub hopeless_request : List ℕ → Request
 hopeless_request bytes = if nat_le MOST_HEAD (length bytes) then faulty HeadLong else more

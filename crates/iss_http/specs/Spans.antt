@@ -35,7 +35,7 @@ request_from bytes headers r = record {
 abbrev pub request_head_at : List ℕ → List HeaderSpan → RequestSpans → RequestHead
 request_head_at bytes headers r = request_from bytes (take r.headers headers) r
 
--- the same for a response
+-- the head of a response that the spans cover
 abbrev pub response_from : List ℕ → List HeaderSpan → ResponseSpans → ResponseHead
 response_from bytes headers r = record { status = r.code; headers = headers_at bytes headers; size = r.len }
 
@@ -48,7 +48,7 @@ IsRequestFound bytes headers (Whole r) = (r.headers ≤ length headers) × (requ
 IsRequestFound bytes headers Part = request_head bytes ≡ None
 IsRequestFound bytes headers Hopeless = IsHopelessRequest bytes
 
--- the same for a response
+-- what is found is the head of a response, or that there is none yet, or none whatever comes
 abbrev pub IsResponseFound : List ℕ → List HeaderSpan → Found ResponseSpans → Type 0
 IsResponseFound bytes headers (Whole r) = (r.headers ≤ length headers) × (response_head bytes ≡ Some (response_head_at bytes headers r))
 IsResponseFound bytes headers Part = response_head bytes ≡ None

@@ -17,7 +17,7 @@ use std::marker::Model;
 pub enum Answer {
     /// A response of this status with this body.
     Whole(u16, Vec<u8>),
-    /// The bytes are no response, or one with a transfer coding, a bad length or a body of more than 16384 bytes.
+    /// The bytes aren't a response, or are one with a transfer coding, a bad length or a body of more than 16384 bytes.
     Garbled,
     /// The bytes ended before an answer was whole.
     Ended,
@@ -53,8 +53,8 @@ impl AnswerReader {
     /// Takes the next bytes, and returns the answer when it is whole; what comes after it is ignored.
     ///
     /// It returns `None` if the bytes that came aren't yet an answer, and `Garbled` if they never become one. After a bad
-    /// head it may return `Garbled` as soon as no further bytes can mend that. At most 24577 bytes are kept. After another
-    /// result than `None` the reader isn't fed again.
+    /// head it may return `Garbled` as soon as no further bytes can mend that. At most 24577 bytes are kept. Once it has
+    /// returned anything but `None`, the reader isn't fed again.
     pub fn feed(&mut self, alloc: Global, piece: &[u8]) -> Result<Option<Answer>, AllocError>
         ensures answer { IfOk result (λ said. IsReadAs (self.old ++ piece.now) false (heard said)) }
         ensures kept { IfOk result (λ said. IfNone said (self.new ≡ self.old ++ piece.now)) }

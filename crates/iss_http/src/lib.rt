@@ -1,5 +1,5 @@
-//! HTTP/1.1 messages (RFC 9110, RFC 9112): a client's request and the gateway's answer, read in any pieces, and the texts
-//! of responses and of requests to the gateway.
+//! HTTP/1.1 messages (RFC 9110, RFC 9112): clients' requests and gateways' answers, read in any pieces, and the texts of
+//! responses and requests.
 //!
 //! It may cite `httparse` and `http`.
 //! It must not cite channels, JSON or the model: it knows no events and sends nothing.

@@ -15,5 +15,6 @@ pub(crate) const MOST_BODY: u64 = 16384;
 /// The most bytes of a request that are kept: a head and a body.
 pub(crate) const MOST_REQUEST: usize = MOST_HEAD + MOST_BODY as usize;
 
-/// The most bytes of an answer that are kept: a head, a body, and a byte more, by which a body without a length is too long.
+/// The most bytes of an answer that are kept: a head, a body, and one byte more. By that byte a body without a length is
+/// too long.
 pub(crate) const MOST_ANSWER: usize = MOST_REQUEST + 1;

@@ -70,7 +70,7 @@ impl Names {
         self.places.find(&self.names, name)
     }
 
-    /// The same, for a name that is likely to be the last one.
+    /// The place of a name that is likely to be the last one, or `None` if it wasn't added.
     pub fn find_last(&self, name: &Token) -> Option<u32>
         ensures value { result ≡ place_of name.now self.now }
         ensures apart { IsDistinct bytes_eq self.now }

@@ -1,4 +1,4 @@
--- The object of a text, member after member.
+-- The object of a text, member by member.
 use Rattle.std.proofs.Common.{◌≡◌, ℕ, pos, List, [], ◌∷◌, ◌++◌, map, codes, decimal, Result, Ok, Err, is_ok, cond, OnOk, sym, ap, ◌∙◌, append_assoc, append-nil}
 use Rattle.std.specs.List.{flat_map, join_with_byte}
 use Rattle.iss_model.specs.declared.call.Opened.{Opened}
@@ -45,7 +45,7 @@ joined : (m : Member) (ms : List Member) → member_text m ++ flat_map next ms �
 joined m [] = append-nil (member_text m)
 joined m (n ∷ ms) = ap (λ (t : List ℕ). member_text m ++ (44 ∷ t)) (joined n ms)
 
--- the first member after a brace, the others after commas, and a brace
+-- an object is its first member after a brace, the others after commas, and a closing brace
 pub object_is : (m : Member) (ms : List Member) → (123 ∷ member_text m) ++ flat_map next ms ++ (125 ∷ []) ≡ object_text (m ∷ ms)
 object_is m ms = ap (λ (t : List ℕ). 123 ∷ (t ++ (125 ∷ []))) (joined m ms)
 
@@ -58,7 +58,7 @@ after-is : (text : List ℕ) (ms : List Member) → after text ms ≡ text ++ fl
 after-is text [] = sym (append-nil text)
 after-is text (m ∷ ms) = after-is (text ++ next m) ms ∙ append_assoc text (next m) (flat_map next ms)
 
--- several that were put as one text
+-- members that were put as one text are as if they were put one by one
 between : (text : List ℕ) (ms ns : List Member) → after (text ++ flat_map next ms) ns ≡ after text (ms ++ ns)
 between text [] ns = ap (λ (t : List ℕ). after t ns) (append-nil text)
 between text (m ∷ ms) ns =
@@ -126,11 +126,11 @@ notice_after old instance n =
 
 -- ---- steps
 
--- one more piece after others
+-- one more piece is put after others
 pub and_then : {before was now : List ℕ} (piece : List ℕ) → now ≡ was ++ piece → was ≡ before → now ≡ before ++ piece
 and_then piece put so_far = put ∙ ap (λ (t : List ℕ). t ++ piece) so_far
 
--- what the last piece makes of the pieces before it
+-- if the last piece is put, the text is whole
 pub ended : {T E : Type 0} (r : Result T E) (mid more new text : List ℕ) → new ≡ cond (is_ok r) (mid ++ more) mid → mid ++ more ≡ text → OnOk r (new ≡ text)
 ended (Ok done) mid more new text is whole = is ∙ whole
 ended (Err failed) mid more new text is whole = tt

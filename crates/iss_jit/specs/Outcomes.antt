@@ -56,7 +56,7 @@ outcome_of_amount o (Some amount) =
 unfoldable pub outcome_of_value : ℕ → Opened → Data → Outcome
 outcome_of_value instance o d = if has_token instance o d then outcome_of_amount o (amount_said o.currency d) else Application
 
--- the same of a body, if it is JSON
+-- what a body of a gateway that funds comes to, if it is JSON
 abbrev pub outcome_of_json : ℕ → Opened → Option Data → Outcome
 outcome_of_json instance o None = Application
 outcome_of_json instance o (Some d) = outcome_of_value instance o d

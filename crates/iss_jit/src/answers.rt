@@ -23,9 +23,9 @@ pub const REFUSED: u16 = 402;
 
 /// What an HTTP answer with this status and body to the request of a call comes to.
 ///
-/// `Funded` exactly if the status is 200 and the body is a JSON object of RFC 8259 with the call's token, a UUID of
-/// RFC 9562 in any spelling, and its amount; `Partial` exactly if it has a smaller amount, and the call permits a part;
-/// `Refused` exactly if the status is 402; else `Application`. Of members of one name the last counts.
+/// `Funded` exactly if the status is 200 and the body is a JSON object of RFC 8259 with the call's token and its amount.
+/// The token is a UUID of RFC 9562 in any spelling. `Partial` exactly if it has a smaller amount, and the call permits a
+/// part. `Refused` exactly if the status is 402, and else `Application`. Of members of one name the last counts.
 #[tactic(auto, using(crate::proofs::Echoes::echo))]
 pub fn answer(
     alloc: Global,

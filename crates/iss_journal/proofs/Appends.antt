@@ -73,7 +73,7 @@ module _ (region : Region) (bodies : List (List ℕ)) (j : ℕ) (body : List ℕ
         ),
       )
 
-  -- and after them
+  -- after the puts, the device rests with the new record too
   append_ends : (image : List ℕ) → place.gate + length (append_bytes body) < place.to → ShowsClosed region (take j bodies) image → RestsFirst region bodies (after_puts image (append_puts place.gate (append_bytes body))) (j + 1)
   unfolding append_puts
   append_ends image room closed =
@@ -103,7 +103,7 @@ append_part place frame a b within fits part =
           subst (λ (f : List ℕ). Holds (λ n image. StandsUpTo (StandsFirst region bodies) j (j + 1) image) 0 bytes (append_puts place.gate f)) (sym is) (append_holds region bodies j body place comes bytes (fitting place frame body within fits is) start)) (subst (λ (l : List Action). Ran (append_puts place.gate frame) l) (sym all) part.ran);
     }
 
--- and made whole
+-- the two puts made whole
 pub append_whole : (place : Place) (frame : List ℕ) (a b : World) → place.gate < place.to → length frame ≤ free_at place → Puts (append_puts place.gate frame) a b → AppendsGoing place frame a b
 append_whole place frame a b within fits made =
     record {
@@ -127,7 +127,7 @@ append_none place frame a =
           good_up (RestsFirst region bodies) (StandsFirst region bodies) j j (j + 1) steps (omega arith) still.good;
     }
 
--- the same by what an edge tells, at each end of an append
+-- what an append does, by what an edge tells at each of its ends
 pub append_refused : (place : Place) (frame : List ℕ) (x : Option World) → Told (AppendsGood place frame) x x
 append_refused place frame x = told_self (AppendsGood place frame) x (append_none place frame)
 

@@ -201,7 +201,7 @@ close_partly place gate a b c other read part =
           puts_good (OpensFirst region bodies a.device) (OpenedOrOneMore region bodies a.device) j j (one_put place.gate (0 ∷ [])) steps (close_holds region bodies j place is_end a.device (λ none. other (sym read.there ∙ none))) (subst (λ (l : List Action). Ran (one_put place.gate (0 ∷ [])) l) (sym all) part.ran);
     }
 
--- and made whole
+-- the gate was another, and the put made whole
 close_wholly : (place : Place) (gate : ℕ) (a b c : World) → (gate ≡ 0 → ⊥) → ReadsGate place.gate gate a b → Puts (one_put place.gate (0 ∷ [])) b c → ClosesGoing place a c
 close_wholly place gate a b c other read made =
     record {
@@ -222,7 +222,7 @@ close_wholly place gate a b c other read made =
           ∙ sym made.device;
     }
 
--- the same by what an edge tells, at each end of the call
+-- what closing does, by what an edge tells at each end of the call
 pub close_unread : (place : Place) (x y : Option World) → Told Same x y → Told (ClosesGood place) x y
 close_unread place x y = told_map Same (ClosesGood place) x y (close_none place)
 

@@ -18,7 +18,7 @@ use Rattle.iss_journal.specs.Formatting.{whole_device, tail_of, format_puts, For
 use Rattle.iss_journal.specs.Region.{ShowsClosed}
 use Rattle.iss_journal.proofs.Gates.{one_byte}
 
--- a device whose first byte is another is not formatted
+-- a device whose first byte isn't 1 is not formatted
 first_byte : (instance first : ℕ) (rest : List ℕ) → take 16 (first ∷ rest) ≡ header instance → first ≡ 1
 unfolding header
 first_byte instance first rest e = ap (λ (l : List ℕ). get_or l 0 0) e
@@ -40,7 +40,7 @@ headed : (instance : ℕ) (rest : List ℕ) → 1 ∷ (tail_of instance ++ rest)
 unfolding header tail_of
 headed instance rest = refl
 
--- a byte over the first one, and bytes after it
+-- a byte is written over the first one, and bytes over those after it
 over_first : (byte : ℕ) (bytes : List ℕ) → splice 0 (byte ∷ []) bytes ≡ byte ∷ drop 1 bytes
 over_first byte bytes = refl
 
@@ -67,7 +67,7 @@ length-headed : (byte : ℕ) (instance : ℕ) (start : List ℕ) → 17 ≤ leng
 length-headed byte instance start least =
     omega (arith, least, length-append (tail_of instance) (drop 16 (drop 1 start)), length-tail instance, length-drop 16 (drop 1 start), length-drop 1 start)
 
--- with this byte in the first place, after it the tail
+-- formatting may leave this byte in the first place, with the tail after it
 first_gate : (instance : ℕ) (start : List ℕ) (syncs byte : ℕ) (image : List ℕ) → 17 ≤ length start → image ≡ byte ∷ (tail_of instance ++ drop 16 (drop 1 start)) → FormatLeaves instance start (suc syncs) image
 first_gate instance start syncs zero image least is =
     inl (unformatted zero (tail_of instance ++ drop 16 (drop 1 start)) image is (λ one. omega (arith, one)))
@@ -76,7 +76,7 @@ first_gate instance start syncs (suc zero) image least is =
 first_gate instance start syncs (suc (suc byte)) image least is =
     inl (unformatted (suc (suc byte)) (tail_of instance ++ drop 16 (drop 1 start)) image is (λ one. omega (arith, one)))
 
--- the bytes after the tail stands after a closed first byte
+-- the device's bytes once the tail stands after a first byte of 0
 abbrev closed_first : ℕ → List ℕ → List ℕ
 closed_first instance start = splice 1 (tail_of instance) (splice 0 (0 ∷ []) start)
 
@@ -90,7 +90,7 @@ gate_over instance start byte =
     over_first byte (closed_first instance start)
     ∙ ap (λ (l : List ℕ). byte ∷ drop 1 l) (closed_first_is instance start)
 
--- at each moment of the three puts
+-- at each moment of the three puts, a stop leaves what formatting may leave
 pub format_holds : (instance : ℕ) (start : List ℕ) → 17 ≤ length start → Holds (FormatLeaves instance start) 0 start (format_puts instance)
 unfolding format_puts
 format_holds instance start least =
@@ -117,7 +117,7 @@ format_holds instance start least =
       ),
     )
 
--- and after them
+-- after the three puts the tail stands after a first byte of 1
 after_format : (instance : ℕ) (start : List ℕ) → after_puts start (format_puts instance) ≡ 1 ∷ (tail_of instance ++ drop 16 (drop 1 start))
 unfolding format_puts
 after_format instance start = gate_over instance start 1
@@ -126,7 +126,7 @@ header_first : (instance : ℕ) (rest : List ℕ) → take 16 (1 ∷ (tail_of in
 header_first instance rest =
     ap (λ (l : List ℕ). take 16 l) (headed instance rest) ∙ take_at (header instance) (0 ∷ rest) 16 (length-header instance)
 
--- the puts made in part
+-- if the puts were made in part, formatting has gone well so far
 pub format_part : (instance : ℕ) (a b : World) → 17 ≤ length a.device → PutsPart (format_puts instance) a b → FormatsGood instance a b
 format_part instance a b least part =
     record {
@@ -136,7 +136,7 @@ format_part instance a b least part =
           put_moments (FormatLeaves instance a.device) 0 (format_puts instance) d before rest (subst (λ (l : List ℕ). Holds (FormatLeaves instance a.device) 0 l (format_puts instance)) (sym same) (format_holds instance a.device least)) ran image is;
     }
 
--- and made whole
+-- if the puts were made whole, the device is formatted
 pub format_whole : (instance : ℕ) (a b : World) → IsSize (length a.device) → instance < 2 ^ 48 → Puts (format_puts instance) a b → Formats instance a b
 format_whole instance a b size small made =
     let start = a.device in
@@ -169,7 +169,7 @@ told_sized size R S (Some a) None sized f p = tt
 told_sized size R S None (Some b) sized f p = absurd p
 told_sized size R S (Some a) (Some b) sized f p = f a b sized p
 
--- the same by what an edge tells, at each end of formatting
+-- what formatting does, by what an edge tells at each of its ends
 module _ (instance size : ℕ) (least : 17 ≤ size) where
   part_told : (x y : Option World) → Sized size x → Told (PutsPart (format_puts instance)) x y → Told (FormatsGood instance) x y
   part_told x y sized =
@@ -218,7 +218,7 @@ top_bytes instance small =
     let next : instance / 256 ^ 6 % 256 ≡ 0 = omega arith in
     ap (λ (n : ℕ). n ∷ drop 1 (to_be_bytes w64 instance)) high ∙ ap (λ (n : ℕ). 0 ∷ n ∷ instance_bytes instance) next
 
--- the six last bytes of a header, read as a number, are its instance
+-- the last six bytes of a header, read as a number, are its instance
 pub instance_back : (instance : ℕ) (bytes : List ℕ) → instance < 2 ^ 48 → bytes ≡ header instance → from_be_bytes w64 (0 ∷ 0 ∷ get_or bytes 10 0 ∷ get_or bytes 11 0 ∷ get_or bytes 12 0 ∷ get_or bytes 13 0 ∷ get_or bytes 14 0 ∷ get_or bytes 15 0 ∷ []) ≡ instance
 unfolding header
 instance_back instance bytes small is =
@@ -226,7 +226,7 @@ instance_back instance bytes small is =
     ∙ ap (λ (l : List ℕ). from_be_bytes w64 l) (sym (top_bytes instance small))
     ∙ from_be_bytes-to_be_bytes_8 instance (omega arith)
 
--- what a read of the header tells, and a size that is no device's
+-- what a read of the header tells, and a size that no device has
 read_front : (buf : List ℕ) (device : List ℕ) → length buf ≡ 16 → buf ≡ take (length buf) (drop 0 device) → buf ≡ take 16 device
 read_front buf device size read = read ∙ ap (λ (n : ℕ). take n device) size
 

@@ -26,8 +26,8 @@ pub record AppendsGood (place : Place) (frame : List ℕ) (a b : World) : Type 0
       → ComesNext region bodies j body place → frame ≡ append_bytes body → actions_of steps ≡ part.actions
       → IsGood (RestsFirst region bodies) (StandsFirst region bodies) j (j + 1) steps
 
--- All of these puts were made, and the run may go on after them: the device is then at rest and shows the new record, with an end
--- gate of 0. So it does as it reads.
+-- All of these puts were made, and the run may go on after them. The device is then at rest and shows the new record, with an end gate of
+-- 0. So it does as it reads.
 pub record AppendsGoing (place : Place) (frame : List ℕ) (a b : World) : Type 0 where
   pub made : Puts (append_puts place.gate frame) a b
   pub goes_on : (region : Region) (bodies : List (List ℕ)) (j : ℕ) (body : List ℕ) (steps : List Step)

@@ -60,7 +60,7 @@ pub record ShowsClosed (region : Region) (bodies : List (List ℕ)) (image : Lis
   pub rest : List ℕ
   pub ends : EndsWith region bodies 0 rest image
 
--- The image shows these records, and this one is left behind: with the end gate made 1 it would show it too, with an end gate of 0.
+-- The image shows these records, and this one is left behind. With the end gate made 1 it would show it too, with an end gate of 0.
 pub record LeavesBehind (region : Region) (bodies : List (List ℕ)) (body image : List ℕ) : Type 0 where
   pub shows : Shows region bodies image
   pub opened : ShowsClosed region (bodies ++ body ∷ []) (slice_set image (length (bytes_before_gate region bodies)) 1)
@@ -78,7 +78,7 @@ ShowsOnce = (region : Region) (xs ys : List (List ℕ)) (image : List ℕ) → S
 abbrev pub RestsFirst : Region → List (List ℕ) → List ℕ → ℕ → Type 0
 RestsFirst region bodies image i = ShowsClosed region (take i bodies) image
 
--- What a stop may leave within a stretch: the first i of these records with an end gate of 0, or with the next of them left behind.
+-- What a stop may leave within a stretch. It is the first i of these records with an end gate of 0, or with the next of them left behind.
 abbrev pub StandsFirst : Region → List (List ℕ) → List ℕ → ℕ → Type 0
 StandsFirst region bodies image i =
     ShowsClosed region (take i bodies) image

@@ -101,9 +101,9 @@ impl Journal {
         self.to - GATE - self.gate
     }
 
-    /// Adds the frame's record. It makes the frame last after the end gate, and then opens the gate, so that a stop at any
-    /// moment leaves the old records or also the new one. Once it succeeds a stop leaves the new one. After a fault of the
-    /// disk the journal is not to be used again.
+    /// Adds the frame's record. It makes the frame last after the end gate, and then opens the gate. So a stop at any
+    /// moment leaves the old records or also the new one. Once it succeeds a stop leaves the new one. After a fault of
+    /// the disk the journal is not to be used again.
     #[tactic(auto, using(crate::proofs::Appends::append_refused, crate::proofs::Appends::append_unwritten, crate::proofs::Appends::append_unopened, crate::proofs::Appends::append_done, crate::proofs::Appends::append_done_good, iss_edge::proofs::ToldPuts::hears_nothing))]
     pub fn append<E: Edge>(&mut self, edge: &mut E, frame: &Frame) -> Result<(), JournalFault>
         requires { self.old.to ≤ E.extent edge.old }

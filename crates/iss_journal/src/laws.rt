@@ -8,8 +8,8 @@ pub fn shows_once()
     ensures { ShowsOnce }
 {}
 
-/// What a scan reads from a region's first gate on, until it comes to an end, is what the device shows; at a bad record the
-/// device shows no list of records.
+/// What a scan reads from a region's first gate on, until it comes to an end, is what the device shows. At a bad record
+/// the device shows no list of records.
 pub fn reads_what_is_shown()
     ensures begins { BeginsToRead }
     ensures on { ReadsOn }

@@ -1,4 +1,5 @@
--- Each authorisation and increment of a legal list of records is approved to each extent exactly if it is to be: its rulings are those that the rules want, and it is decided once.
+-- Each authorisation and increment of a legal list of records is approved to each extent exactly if it is to be. Its rulings are those
+-- that the rules want, and it is decided once.
 use Rattle.std.proofs.Common.{◌≡◌, ℕ, ◌+◌, ◌≤◌, Bool, true, false, not, cond, ◌&&◌, ◌||◌, List, [], ◌∷◌, ◌++◌, length, filter, refl, sym, ap, ap₂, ◌∙◌, arith}
 use Rattle.std.specs.Prelude.{Option, Some, None, find, option_map, option_and_then}
 use Rattle.std.specs.List.{list_any, filter_map, cons_option}
@@ -112,7 +113,7 @@ only_approves : (extent : Extent) (event its : List ℕ) (b : Bool) (v : Verdict
 only_approves extent event its true v = refl
 only_approves extent event its false v = sym (and_false (bytes_eq its event))
 
--- a verdict that doesn't approve so, if it is given
+-- a verdict that doesn't approve to this extent, if it is given, approves nothing
 only_declines : (extent : Extent) (event its : List ℕ) (b : Bool) (v : Verdict) → is_approval extent v ≡ false
     → option_approves extent event (option_map (decided_as its) (only_if b v)) ≡ (bytes_eq its event && false)
 only_declines extent event its b v none =
@@ -187,7 +188,7 @@ one_other extent event token v h = ap (λ (b : Bool). (b && is_approval extent v
 abbrev funding_by : Bool → Bool → Ask → Verdict → Ruling
 funding_by own switched ask v = cond own (decided_as ask.event verdict.Approved) (cond switched (decided_as ask.event v) (asked_about ask.event))
 
--- a funding rules on its ask's event
+-- a funding rules on its own ask's event alone
 funding_other : (extent : Extent) (event : List ℕ) (f : Facts) (ask : Ask) → bytes_eq ask.event event ≡ false → approves extent event (funding_ruling f ask) ≡ false
 funding_other extent event f ask h = by (is_account_funded ask.txn.funding) (is_named_in f.switched ask.txn.product)
   where

@@ -226,7 +226,7 @@ item_opens_none a none _ may = refl
 pub act_opens_none : (a : Act) → may_open_call a ≡ false → list_all opens_none (act_entries a) ≡ true
 act_opens_none a none = (act_passes a (item_opens_none a none)).all
 
--- nor does one whose cause doesn't seek funding
+-- an act whose cause doesn't seek funding opens no call
 pub all_open_none : {f : Facts} {at : ℕ} (by : Cause) → may_seek by ≡ false → Holds f by at (EachPasses opens_none)
 all_open_none by other =
     each_item (λ g a made. item_opens_none a (false_from_ne_true (may_open_call a) (λ opens. not_both (may_seek by) (may_open_as_made by a made.cause opens) other)))

@@ -1,4 +1,4 @@
--- What a step leaves of calls: each is closed as often as it was asked and is asked no more, each that failed or was abandoned has its
+-- What a step leaves of calls. Each is closed as often as it was asked and is asked no more. Each that failed or was abandoned has its
 -- notice, and each that is funded its post.
 use Rattle.std.proofs.Common.{◌≡◌, ℕ, ◌+◌, true, false, List, ◌++◌, fold, refl, ap, ◌∙◌, arith}
 use Rattle.std.specs.List.{list_all}
@@ -65,7 +65,7 @@ counts_through i at =
 pub step_counts : (s : CoreState) (r : Record) → IsNewEvent s r.input → IsWell s → Counts (with_record s r) (step core_keeper s r).entries (step core_keeper s r).world
 step_counts s r new well = step_leads s r (counts_through r.input r.at) (ready_taken s r well new)
 
--- and a number has as many void notices as closings that want one
+-- after a step a number has as many void notices as closings that want one
 pub step_voids : (n : ℕ) (s : CoreState) (r : Record) → Voids n (step core_keeper s r).entries
 step_voids n s r = step_holds core_keeper s r (λ f. all_void) (λ f. all_void)
 

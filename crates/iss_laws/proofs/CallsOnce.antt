@@ -1,4 +1,4 @@
--- On the book of every legal list of records each call is opened once and closed at most once, and has its notices; no other call is
+-- On the book of every legal list of records each call is opened once and closed at most once, and has its notices. No other call is
 -- closed or named.
 use Rattle.std.proofs.Common.{◌≡◌, ℕ, ◌+◌, ◌≤◌, Bool, true, false, cond, ◌&&◌, ◌||◌, nat_eq, nat_le, List, [], ◌∷◌, ◌++◌, length, map, filter, refl, sym, ap, ap₂, subst, ◌∙◌, arith}
 use Rattle.std.specs.Prelude.{Option, Some, None, is_some, is_none, find, slice_get}
@@ -142,7 +142,7 @@ void_alike n (entry.Closed call how) hows closed voided few less rest = by (nat_
     by false b e few = omega (arith, rest (omega (arith, few)))
 void_alike n _ hows closed voided few less rest = omega (arith, rest (omega (arith, few)))
 
--- if a number is closed once at most, it is closed as void as its first closing says
+-- if a number is closed at most once, it is closed as void as its first closing says
 void_times : (n : ℕ) (rows : List Row) → times (closes n) rows ≤ 1 → times (closes_void n) rows ≡ one_of (is_void (how_closed n rows))
 void_times n [] few = refl
 void_times n (row ∷ rows) few =
@@ -176,7 +176,7 @@ named_rows n (row ∷ rows) told =
 
 -- the law ----
 
--- a row among others: whatever it passes, they pass once at least
+-- a row among others: whatever test it passes, they pass at least once
 abbrev IsAmong : List Row → Row → Type 0
 IsAmong rows row = (test : Entry → Bool) → test row.entry ≡ true → 1 ≤ times test rows
 
@@ -229,7 +229,7 @@ module _ (rows : List Row) (numbers : CallsNumberedFrom 1 (calls_of rows)) (all 
       by true e = refl
       by false e = absurd (omega (arith, h, all.counted n, e))
 
-  -- and so does a call that is voided
+  -- a call that is voided stands
   voided_stands : (n : ℕ) → 1 ≤ times (voids n) rows → is_some (call_numbered n (calls_of rows)) ≡ true
   voided_stands n h =
       closed_stands n (omega (arith, h, all.voided n, times_weaker (closes_void n) (closes n) (closed_first n) rows))

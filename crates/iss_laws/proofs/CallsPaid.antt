@@ -1,4 +1,4 @@
--- On the book of every legal list of records in form each closing that funds has its post, and no other post comes from the gateway.
+-- On the book of every legal list of records in form each closing that funds has its post. No other post comes from the gateway.
 use Rattle.std.proofs.Common.{◌≡◌, ℕ, true, ◌&&◌, List, [], ◌∷◌, ◌++◌, fold, refl, sym, ap, subst, ◌∙◌}
 use Rattle.std.specs.List.{list_all}
 use Rattle.std.proofs.lemmas.Bool.{and_parts}

@@ -1,4 +1,5 @@
--- The rulings that go with calls which a record closes, and what acts rule in a row: one call failed or was answered, those of a transaction are abandoned.
+-- The rulings that go with calls which a record closes, and what acts rule in a row. One call failed or was answered, and those of a
+-- transaction are abandoned.
 use Rattle.std.proofs.Common.{◌-◌, ◌≡◌, ℕ, ◌+◌, Bool, true, false, cond, nat_eq, List, [], ◌∷◌, ◌++◌, append-nil, refl, subst, sym, ap, ◌∙◌}
 use Rattle.std.specs.Prelude.{Option, Some, None, option_map, option_and_then, find}
 use Rattle.std.specs.List.{filter_map, cons_option}

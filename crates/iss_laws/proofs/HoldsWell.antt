@@ -1,4 +1,4 @@
--- On the book of every legal list of records no part of a hold is negative, and a transaction ends once at most and then holds nothing.
+-- On the book of every legal list of records no part of a hold is negative. A transaction ends at most once, and then holds nothing.
 use Rattle.std.proofs.Common.{◌≡◌, ℕ, ◌+◌, ◌≤◌, Bool, true, false, cond, ◌&&◌, ◌||◌, nat_le, List, [], ◌∷◌, ◌++◌, refl, sym, ap, subst, ◌∙◌, arith}
 use Rattle.std.proofs.lemmas.Int.{ints}
 use Rattle.std.proofs.lemmas.Bool.Decides.{nat_tests, Decides-int_eq}

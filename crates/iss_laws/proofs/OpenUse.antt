@@ -41,7 +41,7 @@ use Rattle.iss_agreement.proofs.StepSums.{among_summed}
 
 -- how use is counted at a key ----
 
--- The changes that entries make at a key, the test that tells which stamps of a transaction count there, and whether amounts are counted or times.
+-- The changes that entries make at a key, the test of which of a transaction's stamps count there, and whether amounts or times are counted.
 pub record Counting : Type 0 where
   pub changes : Entry → List Change
   pub key : List ℕ
@@ -260,7 +260,7 @@ calls_ended k token txns (c ∷ cs) =
 pub record Within (k : Counting) (s : CoreState) (es : List Entry) (more : ℤ) : Type 0 where
   pub le : pos (open_use k (fold after_entry s es)) ≤ℤ ((pos (open_use k s) +ℤ more) +ℤ used k es)
 
--- and not more
+-- what entries open is no more than the use that they count
 abbrev pub Pays : Counting → CoreState → List Entry → Type 0
 Pays k s es = Within k s es (pos 0)
 

@@ -97,7 +97,7 @@ its_funding s t its =
     (ap (funding_of s.holdings.txns) (its_token s.holdings.txns its.token its.now its.stands) ∙ ap (option_map (λ (t : TxnNow). t.txn.funding)) its.stands)
 
 module _ (own : List ℕ → Bool) (key : List ℕ) where
-  -- and what it holds is such as its funding makes it
+  -- what a transaction of the facts holds is such as its funding makes it
   parts_of_funding : (s : CoreState) (t : Txn) → IsHeldWell s → IsTxnOf (core_facts s) t → own t.token ≡ is_account_funded t.funding → AreOfFunding own key t (parts_held (core_facts s) t)
   parts_of_funding s t held of_facts its =
       record {

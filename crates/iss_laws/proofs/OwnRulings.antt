@@ -1,4 +1,4 @@
--- A record's own acts rule what goes with the calls that they close, and then of its own event as the rules of its kind have it.
+-- A record's own acts rule what goes with the calls that they close. Then they rule its own event, as the rules of its kind have it.
 use Rattle.std.proofs.Common.{subst, ◌≡◌, ℕ, min, Bool, true, false, not, cond, ◌&&◌, ◌||◌, nat_eq, nat_le, List, [], ◌∷◌, refl, sym, ap, ◌∙◌}
 use Rattle.std.specs.Prelude.{Option, Some, None, is_some, option_map, option_and_then}
 use Rattle.std.specs.Str.{bytes_eq}
@@ -127,7 +127,7 @@ increment_product h i token txn amount at ready (Some now) e =
 own_reason : (r : Record) (f : Facts) (t : Txn) (why : Reason) → nat_le t.expires r.at ≡ false → abandoned_by t.token r.input ≡ Some why → abandonment_reason r t ≡ Some why
 own_reason r f t why later by_input = ap (λ (b : Bool). cond b (Some reason.Expired) (abandoned_by t.token r.input)) later ∙ by_input
 
--- those that are asked of a transaction when what is due is settled are abandoned by the input
+-- the calls asked of a transaction once what is due is settled are abandoned by the input
 settled_abandoned : (r : Record) (h : History) (token : List ℕ) (now : TxnNow) (why : Reason) → IsReady h r.input → IsSettled (history_facts h) r.at → txn_in (history_facts h) token ≡ Some now
     → abandoned_by now.txn.token r.input ≡ Some why → Each (IsAbandoned r h now.txn why) (asked_calls_of (history_facts h) now.txn.token)
 settled_abandoned r h token now why ready settled stands by_input =
@@ -182,7 +182,7 @@ refund_rules f token currency amount (Some now) =
 its_answer : (call : CallId) (n : ℕ) (what : Outcome) → n ≡ call.0 → is_answer n what (input.Answer call what) ≡ true
 its_answer call n what same = both_so (nat_eq call.0 n) (nat_eq (outcome_number what) (outcome_number what)) (ap (nat_eq call.0) same ∙ same_number call.0) (same_number (outcome_number what))
 
--- so it is in a record whose input it is
+-- the answer to a call, as a record's input, is the answer of its number
 input_answer : (r : Record) (call : CallId) (n : ℕ) (what : Outcome) → r.input ≡ input.Answer call what → n ≡ call.0 → is_answer n what r.input ≡ true
 input_answer r call n what is same = ap (is_answer n what) is ∙ its_answer call n what same
 

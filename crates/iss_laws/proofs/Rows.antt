@@ -42,7 +42,7 @@ times_numbered test n (e ∷ es) = by (test e) (times_numbered test n es)
     by true h = omega (arith, h)
     by false h = omega (arith, h)
 
--- so it is with a step
+-- a step adds the counts of its entries
 pub step_counted : (test : Entry → Bool) (h : History) (r : Record) → times test (step history_keeper h r).world.rows ≡ times test h.rows + times_among test (step history_keeper h r).entries
 step_counted test h r =
     let es : List Entry = (step history_keeper h r).entries in

@@ -1,4 +1,5 @@
--- Each record of the book of a legal list rules what the rules have it rule: the rows of a record are what its step made, and those before it the book that it was made on.
+-- Each record of the book of a legal list rules what the rules have it rule. The rows of a record are what its step made, and those
+-- before it the book that it was made on.
 use Rattle.std.proofs.Common.{◌≡◌, ℕ, ◌+◌, Bool, true, false, not, cond, ◌&&◌, nat_eq, nat_le, nat_lt, List, [], ◌∷◌, ◌++◌, length, map, filter, fold, refl, sym, ap, ap₂, subst, ◌∙◌, arith, append_assoc}
 use Rattle.std.specs.List.{list_all}
 use Rattle.std.proofs.lemmas.Bool.{and_parts}

@@ -256,7 +256,7 @@ counts_on groups put window.Month user last by_amount worth timed t a b h k l =
 counts_on groups put window.Lifetime user last by_amount worth timed t a b h k l =
     both_hold (counts groups put (usage_of t (pos 0) (pos 0) a)) (bytes_eq (window_key window.Lifetime put.control.offset t.user a) (window_key window.Lifetime put.control.offset user last)) _ h (window_stays window.Lifetime put.control.offset t.user user a b last k l)
 
--- of a transaction at any time
+-- a control by transaction counts a transaction at any time
 counts_on_txn : (groups : List Group) (put : ControlPut) (key : List ℕ) (last : ℕ) (by_amount : Bool) (worth : UsageRow → ℤ) → CountsOn (counting_of groups put window.Transaction key by_amount worth) last
 counts_on_txn groups put key last by_amount worth t a b h k l = h
 

@@ -1,5 +1,6 @@
--- An authorisation or increment is approved in full exactly if the rules gave no reason, and the user's own balance pays, its call was
--- funded, or a set stood in. It is approved for a part exactly if they gave none, and its call was partly funded with just that part.
+-- An authorisation or increment is approved in full exactly if the rules gave no reason, and it is paid. Its user's own balance pays, its
+-- call was funded, or a set stood in. It is approved for a part exactly if they gave none, and its call was partly funded with just that
+-- part.
 use Rattle.std.specs.Prelude.{ℕ, ◌+◌, Bool, true, false, not, ◌&&◌, ◌||◌, ◌==◌, List, [], ◌∷◌, ◌++◌, length, Option, Some, None, if◌then◌else◌}
 use Rattle.std.specs.Str.{bytes_eq}
 use Rattle.iss_model.specs.declared.call.Failure.TheVariants as failure
@@ -65,8 +66,8 @@ is_paid_at_once (in_part currency amount) f ask = false
 is_paid_at_once in_full f ask =
     is_account_funded ask.txn.funding || is_named_in f.switched ask.txn.product && stands_in (stand f ask failure.Switch ask.at)
 
--- A call that a record closes in this way is paid in full, if the record is the answer that funds it, or it failed and a set stands in. Just
--- this part of it is paid, if it is partly funded and the record is the answer with that part.
+-- A call that a record closes in this way is paid in full, if the record is the answer that funds it. It is too if it failed and a set
+-- stands in. Just this part of it is paid, if it is partly funded and the record is the answer with that part.
 abbrev pub is_paid_closing : Extent → Record → Facts → Opened → Txn → How → Bool
 is_paid_closing in_full r f o t how.Funded = is_answer o.call.0 outcome.Funded r.input
 is_paid_closing in_full r f o t (how.Partial part) = false
@@ -87,13 +88,13 @@ pays_for extent event r f (entry.Closed call how) =
     (opened_in f call.0)
 pays_for extent event r f _ = false
 
--- one of a record's entries does, on the book as it stands before the entry
+-- one of a record's entries pays for the event, on the book as it stands before that entry
 abbrev pub entries_pay_for : Extent → List ℕ → Record → History → List Entry → Bool
 entries_pay_for extent event r h [] = false
 entries_pay_for extent event r h (e ∷ es) =
     pays_for extent event r (history_facts h) e || entries_pay_for extent event r (with_entries h (e ∷ [])) es
 
--- a record after the first ones does, in the rows of the book
+-- a record after the first ones pays for the event, in the rows of the book
 abbrev pub records_pay_for : Extent → List ℕ → List Record → List Record → List Row → Bool
 records_pay_for extent event before [] rows = false
 records_pay_for extent event before (r ∷ rs) rows =
@@ -114,8 +115,8 @@ is_to_be_approved extent f None ask call_is_paid = is_some_with (is_paid_at_once
 abbrev pub agree : Bool → Bool → Bool
 agree a b = if a then b else not b
 
--- the event of a record that comes after the first ones and before the rest, if it is an authorisation or increment, is approved to
--- this extent exactly if it is to be
+-- The event of a record between the first ones and the rest is approved to this extent exactly if it is to be. An event that isn't an
+-- authorisation or increment passes.
 abbrev pub is_approved_rightly : Extent → History → List Record → Record → List Record → Input → Bool
 is_approved_rightly extent h before r rs (input.Authorization token card currency amount mcc mid partial) =
     let f = facts_at_turn before r h.rows in
@@ -129,7 +130,7 @@ is_approved_rightly extent h before r rs (input.Increment token txn currency amo
     (is_to_be_approved extent f (increment_reason f (txn_in f txn) currency ask) ask (records_pay_for extent token before (r ∷ rs) h.rows))
 is_approved_rightly extent h before r rs _ = true
 
--- each of them is like that
+-- each record after the first ones is approved rightly
 abbrev pub are_approved_rightly : Extent → History → List Record → List Record → Bool
 are_approved_rightly extent h before [] = true
 are_approved_rightly extent h before (r ∷ rs) =
@@ -139,6 +140,6 @@ are_approved_rightly extent h before (r ∷ rs) =
 abbrev pub approved_rightly : History → Bool
 approved_rightly h = are_approved_rightly in_full h [] h.records
 
--- each is approved for a part of this currency and amount exactly if it is to be
+-- each authorisation and increment is approved for a part of this currency and amount exactly if it is to be
 abbrev pub partly_approved_rightly : Currency → ℕ → History → Bool
 partly_approved_rightly currency amount h = are_approved_rightly (in_part currency amount) h [] h.records

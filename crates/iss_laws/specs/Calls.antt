@@ -1,7 +1,7 @@
 -- Each call to the gateway is opened once and closed at most once. It has one notice of the method void exactly if it failed or was
--- abandoned, and no other notice names it; nothing closes or names a call that wasn't opened, and a void notice names one. Each closing as
--- funded or partly funded has a post of its own, the first after it and in its record, of the call's amount or of the part from the gateway
--- to its user; and no other post comes from the gateway. A part is less than its call's amount, and its call permits one.
+-- abandoned, and no other notice names it. Nothing closes or names a call that wasn't opened, and a void notice names one. Each closing
+-- as funded or partly funded has a post of its own, the first after it and in its record. It pays the call's amount or the part from the
+-- gateway to its user. No other post comes from the gateway. A part is less than its call's amount, and its call permits one.
 use Rattle.std.specs.Prelude.{ℕ, Bool, true, false, ◌&&◌, ◌==◌, nat_le, List, fold, Option, Some, None, is_none, is_some, if◌then◌else◌}
 use Rattle.std.specs.List.{list_all}
 use Rattle.iss_model.specs.declared.call.CallId.{CallId}

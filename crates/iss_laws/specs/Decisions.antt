@@ -1,10 +1,11 @@
 -- What each record decides is what the rules have it decide.
 --
--- A record's own event is ruled by `own_rulings`: it is declined with the first reason that holds (`event_reason`) on the book at
--- the record's stamp, what is due being settled. Without one it is done, or the user's own balance pays and it is approved, or the gateway
--- is asked, or, while the product's switch is on, the sets decide. The event of a call that a record closes is decided in that record
--- (`closing_verdict`): approved if the call was funded, declined as the gateway's if it was refused, as the sets stand if it
--- failed, and with what ended or reversed its transaction if it was abandoned. Nothing else is decided, and nobody else is asked.
+-- A record's own event is ruled by `own_rulings`. It is declined with the first reason that holds (`event_reason`) on the book at the
+-- record's stamp, once what is due is settled. Without one it is done, or approved if the user's own balance pays, or the gateway is
+-- asked. While the product's switch is on, the sets decide instead. The event of a call that a record closes is decided in that record
+-- (`closing_verdict`). It is approved if the call was funded, declined as the gateway's if it was refused, and as the sets stand if it
+-- failed. If the call was abandoned, it is declined with what ended or reversed its transaction. Nothing else is decided, and nobody else
+-- is asked.
 use Rattle.std.specs.Prelude.{◌≡◌, ℕ, ◌+◌, ◌==◌, nat_le, List, [], ◌∷◌, ◌++◌, length, map, filter}
 use Rattle.iss_model.specs.declared.entry.Entry.{Entry}
 use Rattle.iss_model.specs.declared.entry.Row.{Row}

@@ -21,7 +21,7 @@ is_held_on f rows now =
     && nat_le (times (ends_txn now.txn.token) rows) 1
     && (now.live || list_all (λ part. int_eq part (pos 0)) (parts_by_facts f now.txn.token))
 
--- by those of the book
+-- a transaction is held well by the facts and rows of the book
 abbrev pub is_held_well : History → TxnNow → Bool
 is_held_well h now = is_held_on (history_facts h) h.rows now
 

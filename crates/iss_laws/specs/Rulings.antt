@@ -161,7 +161,7 @@ abandonment_reason r t = if nat_le t.expires r.at then Some reason.Expired else 
 abbrev pub only_if : Bool → Verdict → Option Verdict
 only_if b v = if b then Some v else None
 
--- The verdict on the event of a call that a record closes, on the facts of that moment; none if the record has no cause for it.
+-- The verdict on the event of a call that a record closes, on the facts of that moment. There is none if the record has no cause for it.
 abbrev pub closing_verdict : Record → Facts → Opened → Txn → How → Option Verdict
 closing_verdict r f o t how.Funded = only_if (is_answer o.call.0 outcome.Funded r.input) verdict.Approved
 closing_verdict r f o t (how.Partial amount) = only_if (is_part_answer o amount r.input) (verdict.Partial t.currency amount)
@@ -188,8 +188,8 @@ abbrev pub closing_rulings : Record → History → List Entry → List Ruling
 closing_rulings r h [] = []
 closing_rulings r h (e ∷ es) = cons_option (closing_ruling r (history_facts h) e) (closing_rulings r (with_entries h (e ∷ [])) es)
 
--- What the rules have a record rule that makes these entries on this book: of the event of each call that it closes, in their order,
--- and then of its own event, on what stands when all that is due at its stamp is settled.
+-- What the rules have a record rule that makes these entries on this book. First comes the event of each call that it closes, in their
+-- order. Then comes its own event, on what stands when all that is due at its stamp is settled.
 abbrev pub rulings_due : History → Record → List Entry → List Ruling
 rulings_due before r entries =
     let up = history_keeper.take_up before r in

@@ -23,8 +23,8 @@ IsVoidedAsClosed s r n = times_among (voids n) (core_entries s r) ≡ times_amon
 abbrev pub OpensNone : CoreState → Record → Type 0
 OpensNone s r = list_all opens_none (core_entries s r) ≡ true
 
--- If calls can be paid, and by facts whose calls go on from a record's, each closing in its entries that funds a call or a part of it has
--- its post, and no other post comes from the gateway.
+-- If calls can be paid, each closing in a record's entries that funds a call or a part of it has its post. That is so by facts whose
+-- calls go on from the record's. No other post comes from the gateway.
 abbrev pub ArePaid : Facts → ℕ → CoreState → Record → Type 0
 ArePaid f number s r =
     ArePayable s → CallsStand (core_after s r).calls f.calls → fold (pairing_after f number) paired (core_entries s r) ≡ paired

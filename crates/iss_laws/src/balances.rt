@@ -13,8 +13,9 @@ pub fn balances_add_up()
     ensures sums { (rs : List Record) → BalancesAddUp (history_of rs) }
 {}
 
-/// On the book of every legal list of records each user's balance in each currency is what was loaded, less what account transactions
-/// cleared, plus what they refunded, plus what gateway transactions hold. So the test of it passes for each account, transaction and hold.
+/// On the book of every legal list of records each user's balance in each currency is a sum. It is what was loaded, less
+/// what account transactions cleared, plus what they refunded, plus what gateway transactions hold. So the test of it
+/// passes for each account, transaction and hold.
 #[tactic(auto, using(crate::proofs::OwnBalances::law_owned, crate::proofs::OwnBalances::law_balances))]
 pub fn balances_are_owned()
     ensures each { (rs : List Record) → IsLegal rs → EachBalanceIsOwn (history_of rs) }

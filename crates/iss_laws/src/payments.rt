@@ -24,16 +24,16 @@ pub fn only_purchases_open_calls()
     ensures { (s : CoreState) (r : Record) → may_open r.input ≡ false → IfNewAndWell s r (OpensNone s r) }
 {}
 
-/// A step with an input in form leaves each call as it was opened, asking for an amount, with a transaction that stands and is of its
-/// user and currency. So it is without a record.
+/// A step with an input in form leaves each call as it was opened. Each call asks for an amount, with a transaction that
+/// stands and is of its user and currency. So it is without a record.
 pub fn calls_stay_payable()
     ensures begins { ArePayable no_core }
     ensures steps { (s : CoreState) (r : Record) → IfNewInForm s r (IsWell s → ArePayable s → ArePayable (core_after s r)) }
     ensures lasting { (s : CoreState) (r : Record) → IfNewInForm s r (IsWell s → CallsStand s.calls (core_after s r).calls) }
 {}
 
-/// In the entries of a step each closing that funds a call or a part of it has its post, by the facts of any later time, and no other post
-/// comes from the gateway.
+/// Each closing in a step's entries that funds a call or a part of it has its post, by the facts of any later time. No
+/// other post comes from the gateway.
 pub fn funded_calls_are_paid()
     ensures { (f : Facts) (number : ℕ) (s : CoreState) (r : Record)
         → IfNewInForm s r (IsWell s → ArePaid f number s r) }

@@ -19,8 +19,8 @@ pub fn asks_are_paid()
         → IfStands s ask.txn (ArePaidByAsk ask s (stand_acts x number ask why at)) }
 {}
 
-/// A reversal costs nothing beyond what was at stake, a clearing twice its amount and once in use, and a refund twice its
-/// amount: of any transaction that stands.
+/// A reversal of any transaction that stands costs nothing beyond what was at stake. A clearing costs twice its amount
+/// and once in use, and a refund twice its amount.
 #[tactic(auto, using(crate::proofs::PricesOfActs::reversal_paid, crate::proofs::PricesOfActs::clearing_paid, crate::proofs::PricesOfActs::refund_paid))]
 pub fn operations_are_paid()
     ensures reversal { (s : CoreState) (token : List ℕ) (amount : ℕ) (o : Option TxnNow)

@@ -72,14 +72,14 @@ pub record Listens {E : Type 0} (before after : LinksNow) (ch : Channel) (result
   pub told : IfOk result (λ said. Told (Adds (closing ch (heard_of said)) (Took ch got ∷ [])) x y)
   pub untold : OnErr result (Told (Adds [] (Took ch got ∷ [])) x y)
 
--- the same, by what an edge tells before the take and after it
+-- what listening to a link does, by what an edge tells before the take and after it
 abbrev pub ListensOn : {E F : Type 0} → (E → Channels) → (E → Faults) → (E → Option World) → (E → Option (List Answered)) → E → E
     → LinksNow → LinksNow → Channel → Result Heard F → Type 0
 ListensOn channels faults told heard old new before after ch result =
     Listens before after ch result (channels old) (faults old) (faults new) (outer told heard old) (outer told heard new)
 
--- What is done when any answer is heard is good from j records to j, and the run may go on after it, if a device that starts with
--- some records stands for them.
+-- When any answer is heard, what is done is good from j records to j, and the run may go on after it. That is so if a device that starts
+-- with some records stands for them.
 abbrev pub ClosingsAreGood : (starts stands : List ℕ → ℕ → Type 0) → Type 0
 ClosingsAreGood starts stands =
     (ch : Channel) → (said : LinkHeard) → (j level : ℕ) → ((bytes : List ℕ) → starts bytes j → stands bytes j)

@@ -17,8 +17,8 @@ pub fn answers_are_caused()
     ensures dropped { DroppedExactly }
 {}
 
-/// What is done when a link is listened to is a stretch that is good from j to j: a stop within it leaves a device that shows the j
-/// records, and the run may go on.
+/// What is done when a link is listened to is a stretch that is good from j to j. A stop within it leaves a device that
+/// shows the j records, and the run may go on.
 pub fn answers_are_good_stretches<S: Showing>()
     ensures { ClosingsAreGood S.starts S.stands }
 {}

@@ -71,9 +71,9 @@ impl Links {
 
     /// Takes once from a watched channel that is ready, and returns what was heard.
     ///
-    /// It returns `Nothing` only if bytes came and the answer isn't whole, and `Connection` only if the take failed or the bytes
-    /// ended before a whole answer. After each answer but `Nothing` the channel is closed and watched no longer. If an allocation fails, the
-    /// take was made, and what is watched is open.
+    /// It returns `Nothing` only if bytes came and the answer isn't whole. It returns `Connection` only if the take
+    /// failed or the bytes ended before a whole answer. After each answer but `Nothing` the channel is closed and watched
+    /// no longer. If an allocation fails, the take was made, and what is watched is open.
     pub fn ready<E: Edge>(
         &mut self,
         alloc: Global,

@@ -170,7 +170,7 @@ goes_last (e ∷ es) key w none = at (bytes_eq key e.0) refl (goes_last es key w
         let later : lookup (bytes_eq key) es ≡ None = rw is at none in
         rw is (ap (λ (xs : List (List ℕ × Listed)). e ∷ xs) (rest later))
 
--- The same for what contracts see, by the name that a call was given.
+-- What is listed, as contracts see it, by the name that a call was given.
 module _ (es : List (List ℕ × Listed)) (ps : List ProductNow) (name key : List ℕ) (listed : IsListed es) (shown : listed_in es ≡ ps) (same : key ≡ name) where
   pub product_is : (got : Option Listed) → got ≡ lookup (bytes_eq key) es → product_of got ≡ product_named name (products_in ps)
   product_is got is =

@@ -116,14 +116,14 @@ up_to_next last number (n ∷ numbers) is all =
     let parts = and_parts (is_up_to last n) (list_all (is_up_to last) numbers) all in
     and_from (is_up_to number n) (list_all (is_up_to number) numbers) (le-leb n number (omega (arith, is, leb-true n last parts.0))) (up_to_next last number numbers is parts.1)
 
--- and so it is with one more
+-- all are up to the greatest number with one more too
 pub up_to_opened : (last number : ℕ) (numbers now : List ℕ) → number ≡ last + 1 → now ≡ numbers ++ number ∷ [] → list_all (is_up_to last) numbers ≡ true → list_all (is_up_to number) now ≡ true
 up_to_opened last number numbers now is opened all =
     let itself : is_up_to number number ≡ true = le-leb number number (omega arith) in
     rw opened (list_all-append (is_up_to number) numbers (number ∷ [])
     ∙ and_from (list_all (is_up_to number) numbers) (is_up_to number number && true) (up_to_next last number numbers is all) (rw itself refl))
 
--- and all are below the next number
+-- all numbers are below the next one
 pub below_next : (last number : ℕ) (numbers : List ℕ) → number ≡ last + 1 → list_all (is_up_to last) numbers ≡ true → list_all (is_below number) numbers ≡ true
 below_next last number [] is all = refl
 below_next last number (n ∷ numbers) is all =

@@ -16,7 +16,7 @@ const BELIEVED: u64 = 10_000;
 /// What is known of the clocks, by default nothing. A jump ahead that doesn't last is never told, since what it expires stays expired.
 #[derive(Default, Drop)]
 pub struct Clocks {
-    /// How many milliseconds the times that were told were ahead of the monotonic clock at most.
+    /// How many milliseconds the times that were told were at most ahead of the monotonic clock.
     offset: Option<u64>,
     /// When the system's time was first seen to be further ahead than that, by the monotonic clock, and by how much at least since.
     jumped: Option<(u64, u64)>,
@@ -30,8 +30,9 @@ impl Clocks {
         Ok(self.time_at(monotonic(clock)?, time))
     }
 
-    /// The time to tell when the monotonic clock and the system's time read so: the system's time, or while that is ahead by a jump, the time
-    /// that has passed since by the monotonic clock. Once the jump has lasted, the least that it was ahead by is believed.
+    /// The time to tell when the monotonic clock and the system's time read so. It is the system's time. While that is
+    /// ahead by a jump, it is the time that has passed since by the monotonic clock. Once the jump has lasted, the least
+    /// that it was ahead by is believed.
     fn time_at(&mut self, elapsed: u64, time: u64) -> u64
         ensures first { self.old.offset ≡ None → IsTold time (time - elapsed) None result self.new.offset self.new.jumped }
         ensures steady { TellsSteady AHEAD self.old self.new elapsed time result }

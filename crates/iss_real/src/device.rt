@@ -53,7 +53,8 @@ impl Device {
         made
     }
 
-    /// The file of this name. If it is one to be made, its name lasts then, and it gets its size if it has no bytes: a stop left it so.
+    /// The file of this name. If it is one to be made, its name lasts then. If it has no bytes, as a stop left it, it
+    /// gets its size.
     fn open<R: Files<File = File>>(files: &R, name: &str, made: Option<u64>) -> io::Result<Device> {
         let file = apart(OpenOptions::new().read(true).write(true).open(files, name)?)?;
         // Another program that writes it would break what is known of the file.

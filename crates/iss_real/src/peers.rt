@@ -19,7 +19,7 @@ use std::net::{Net, Shutdown, TcpStream};
 /// How often what came and wasn't taken is read at a close.
 const LAST_READS: u32 = 16;
 
-/// How many bytes one such read takes at most.
+/// The most bytes that one such read takes.
 const LAST_PIECE: usize = 4096;
 
 /// A channel, and its socket once that is connected. The socket doesn't block.

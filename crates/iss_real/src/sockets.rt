@@ -17,7 +17,7 @@ use std::net::{Net, TcpStream};
 use std::time::{Clock, Duration};
 use std::{io, thread};
 
-/// How many writes an emit makes at most, with a pause of a millisecond after each that could write nothing.
+/// The most writes that an emit makes, with a pause of a millisecond after each that could write nothing.
 const WRITES: u32 = 100;
 
 /// Channels over loopback sockets, seen as their numbers and the one that was last ready. Moments are milliseconds of the monotonic clock.

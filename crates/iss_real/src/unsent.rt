@@ -1,7 +1,7 @@
 //! Texts for the gateway whose channels aren't connected yet.
 //!
-//! The edge keeps such a text until a socket takes it. By then it counts as gone out: its record lasts already, and if it is lost with the
-//! program, the next run sends it again, as it does with one that is lost in a socket.
+//! The edge keeps such a text until a socket takes it. By then it counts as gone out, as its record lasts already. If it
+//! is lost with the program, the next run sends it again, as it does with one that is lost in a socket.
 
 ghost use Rattle.std.specs.Prelude.{◌≡◌};
 

@@ -36,7 +36,7 @@ module _ (f : Facts) (accounts : List Account) (before middle after : Texts) (no
   pub whole_lines : AreWhole after
   whole_lines = record { lines = lines_by f accounts; all = all_lines }
 
--- of the book they are the report
+-- what a core tells of these accounts is the report of the book
 pub reported : (c : CoreNow) (rs : List Record) (accounts : List Account) (before middle after : Texts) → CoreStandsFor c rs → map account_key accounts ≡ map account_key (accounts_of (history_of rs).rows) → HasNone before
     → Gains (map (account_line (core_facts c.state)) accounts) before middle → Gains (count_line (core_facts c.state) ∷ []) middle after → HasAll (balance_lines (history_of rs)) after
 reported c rs accounts before middle after stands keys none first last =

@@ -14,9 +14,9 @@ use iss_model::Account;
 use iss_texts::Texts;
 use std::alloc::{AllocError, Global};
 
-/// The report of what a core stands for, a text a line: of each account that money was moved to or from its balance, and of a user's
-/// also what is held of it, in the order of `Core::accounts`; and then how many calls are open, how many notices aren't acknowledged,
-/// and how many records there are.
+/// The report of what a core stands for, a text a line. Each account that money was moved to or from has a line, in the
+/// order of `Core::accounts`. It tells the account's balance, and of a user's also what is held. Then comes how many
+/// calls are open, how many notices aren't acknowledged, and how many records there are.
 pub fn report(alloc: Global, core: &Core) -> Result<Texts, AllocError>
     ensures on_book { (rs : List Record) → CoreStandsFor core.now rs
         → IfOk result (HasAll (balance_lines (history_of rs))) }

@@ -50,8 +50,8 @@ const REFUSED: Run = Run {
     ..OPENING
 };
 
-/// Runs that leave no records, and runs on devices whose end gate was torn: an image of these may have one record more, which was
-/// left behind.
+/// Runs that leave no records, and runs on devices whose end gate was torn. An image of these may have one record more,
+/// which was left behind.
 static PLAIN: [Run; 10] = [
     Run {
         what: "a dry run of nothing is one take",

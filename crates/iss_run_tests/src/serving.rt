@@ -9,7 +9,7 @@ const SETTINGS: &str =
 {"type":"card","token":"t2","card":"c1","user":"u1","product":"g"}
 "#;
 
-/// The same, and a purchase that waits for the gateway.
+/// A product that a gateway funds, a user and a card, and a purchase that waits for the gateway.
 const ONE_ASKED: &str =
     r#"{"type":"product","token":"p1","product":"g","currency":"USD","funding":"GATEWAY"}
 {"type":"user","token":"t1","user":"u1"}
@@ -17,7 +17,7 @@ const ONE_ASKED: &str =
 {"type":"authorization","token":"a1","card":"c1","currency":"USD","amount":"60.00","mcc":"5411","mid":"m1"}
 "#;
 
-/// The same, and one more.
+/// A product, a user and a card, and two purchases that wait for the gateway.
 const TWO_ASKED: &str =
     r#"{"type":"product","token":"p1","product":"g","currency":"USD","funding":"GATEWAY"}
 {"type":"user","token":"t1","user":"u1"}

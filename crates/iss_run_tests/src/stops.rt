@@ -24,8 +24,8 @@ fn opened(
     Ok(if stands { Some(opened) } else { None })
 }
 
-/// Whether each of three images after these actions has the records that stood at the start, and that of each text of which a
-/// byte went out, all of them first ones of this device. A run that has no levels is on no device with records.
+/// Whether each of three images after these actions has the records that stood first, and those of texts of which a byte
+/// went out. All of them are first ones of this device. A run that has no levels is on no device with records.
 pub(crate) fn stands_after(
     alloc: Global,
     row: &Run,
@@ -132,8 +132,8 @@ fn are_sent(actions: &[Action], there: &[Action], to_gateway: bool) -> bool {
     })
 }
 
-/// Whether the next run on an image goes on: it ends well, first sends what waits, with the bytes that the whole run sent or would
-/// have sent, and answers again what these actions answered.
+/// Whether the next run on an image goes on. It ends well, and first sends what waits, with the bytes that the whole run
+/// sent or would have sent. Then it answers again what these actions answered.
 fn goes_on(
     alloc: Global,
     row: &Run,

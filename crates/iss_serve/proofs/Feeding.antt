@@ -27,7 +27,7 @@ reads_as ch clients found e = by found ∙ ap is_some e ∙ some_reads ch client
     by None = refl
     by (Some r) = refl
 
--- and nobody does if none is on it
+-- nobody reads on a channel if no client is on it
 pub none_reads : (ch : Channel) (clients : List OpenRequest) → AllByRecursion (λ r. (r.ch.0 == ch.0) ≡ false) clients → is_reading ch clients ≡ true → ⊥
 none_reads ch [] none reading = true≢false (sym reading)
 none_reads ch (r ∷ clients) none reading = none_reads ch clients none.1 (sym (ap (λ (b : Bool). b || is_reading ch clients) none.0) ∙ reading)

@@ -5,7 +5,7 @@ use Rattle.iss_edge.specs.World.{World, Told}
 use Rattle.iss_edge.specs.Calls.{HearsNothing}
 use Rattle.iss_edge.specs.Outer.{Outer, outer_of}
 
--- of the world this holds, and nothing was heard
+-- this holds of the world, and nothing was heard
 pub record Quietly (R : World → World → Type 0) (a b : Outer) : Type 0 where
   pub world : R a.world b.world
   pub heard : b.heard ≡ a.heard

@@ -1,4 +1,4 @@
--- A run that serves from the device's side: what was heard and done, what a stop leaves, and what the device stands for at the end.
+-- A run that serves, from the device's side: what was heard and done, what a stop leaves, and what the device stands for.
 use Rattle.std.proofs.Common.{◌≡◌, ℕ, ◌+◌, ◌≤◌, inl, inr, zero, suc, Bool, true, false, cond, List, [], ◌∷◌, ◌++◌, length, map, refl, sym, ap, subst, ◌∙◌, append-nil, append_assoc, arith}
 use Rattle.iss_edge.specs.declared.outside.Channel.{Channel}
 use Rattle.iss_edge.specs.declared.outside.Action.{Action}
@@ -110,7 +110,7 @@ closed_at_end run turns happenings fits over =
 
 -- ---- the records of a session
 
--- those that stood, and those that it made
+-- the records that stood, and those that the session made
 records_are : (run : Run) (turns : ℕ) (rs : List Record) (happenings : List Happening) → run.history ≡ history_of rs
     → records_in (session_then (session_of run turns) happenings) ≡ records_then rs (session_of run turns) happenings
 records_are run turns rs happenings is =

@@ -206,7 +206,7 @@ heard_on store x y item actions a b xs ys next came leads does adds =
           };
     }
 
--- the same if a fault keeps the session's steps from being done
+-- an answer that was called for, if a fault keeps the session's steps from being done
 pub heard_some : (failed : Type 0) (x : Stage) (item : HeardItem) (a b : Outer) → ((rs : List Record) → IsNext (session_at x rs) item) → Adds [] (item.answer ∷ []) a b → ServesSome failed x a b
 heard_some failed x item a b next adds =
     record { on_book = λ rs stands. heard_goes_part failed program_readers (region_under x.store) (session_at x rs) item a b (next rs) adds }
@@ -231,7 +231,7 @@ sends_on store x y e gone a b xs ys leads sends =
           };
     }
 
--- and what it did in part
+-- what a desk did in part for its texts
 pub sends_some : (failed : Type 0) (x : Stage) (e : Desk) (gone : List TextFate) (a b : Outer) → Sends x.store.core.state.count (desk_with x.tasks x.held.served) e gone a b → ServesSome failed x a b
 sends_some failed x e gone a b sends =
     record {

@@ -30,7 +30,7 @@ use Rattle.iss_serve.proofs.Stages.{heard_on, heard_some, sends_on}
 abbrev took : Channel → Option (List ℕ) → Bool → HeardItem
 took ch got early = record { answer = Took ch got; early = early; torn = None }
 
--- bytes that aren't answered early may always be so
+-- what a take brings may always be answered late
 late_request : (s : Session) (ch : Channel) (got : Option (List ℕ)) → MayAnswerEarly s ch got false
 late_request s ch None = tt
 late_request s ch (Some []) = tt
@@ -59,7 +59,7 @@ same_store store h ch (Bad text) = refl
 abbrev pub IsInstance : StoreNow → HeldNow → Type 0
 IsInstance store h = h.links.instance ≡ store.core.instance
 
--- the first of some bytes
+-- some bytes, cut after the first one
 pub record IsSome_of (piece : List ℕ) : Type 0 where
   pub first : ℕ
   pub rest : List ℕ
@@ -108,7 +108,7 @@ module _ (store : StoreNow) (h : HeldNow) (ch : Channel) (settled : h.unreached 
   pub took_some : (failed : Type 0) (got : Option (List ℕ)) (a b : Outer) → is_piece got ≡ true → Adds [] (Took ch got ∷ []) a b → ServesSome failed (taking store h ch) a b
   took_some failed got a b fits adds = heard_some failed (taking store h ch) (took ch got false) a b (is_next got false fits (late got)) adds
 
-  -- what the session is by a take
+  -- the session after a take
   abbrev after : Option (List ℕ) → Bool → List Record → Change
   after got early rs = after_take program_readers (record (session_at (taking store h ch) rs) { ready = None }) ch got early
 
@@ -129,7 +129,7 @@ module _ (store : StoreNow) (h : HeldNow) (ch : Channel) (settled : h.unreached 
         (cond (is_waiting ch h.served) (after_waiting (record (session_at (taking store h ch) rs) { ready = None }) ch got)
         (after_link program_readers (record (session_at (taking store h ch) rs) { ready = None }) ch got early (link_at ch h.links.links)))) reading
 
-    -- it fails or ends
+    -- the take from the client fails, or the client's bytes end
     pub client_failed : (now : HeldNow) (a b : Outer) → now ≡ record h { clients = readers_without ch h.clients } → Adds (Close ch ∷ []) (Took ch None ∷ []) a b
         → ServesOn (taking store h ch) (idle store now) a b
     client_failed now a b is adds =

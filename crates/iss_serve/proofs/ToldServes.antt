@@ -1,4 +1,4 @@
--- The same of what an edge tells: a run that serves at each of its ends.
+-- What an edge tells of a run that serves, at each of its ends.
 use Rattle.std.proofs.Common.{◌≡◌, ℕ, inl, inr, List, Option, Ok, Err, refl, arith}
 use Rattle.std.specs.Prelude.{Result, OnOk, IfErr}
 use Rattle.iss_edge.specs.declared.outside.Answered.{Answered}

@@ -26,7 +26,7 @@ abbrev pub records_in : Session → List Record
 records_in s = s.run.history.records
 
 -- On the journal of a device a session went from s to t. What was heard fits, and no wait failed. What was done on channels is just what
--- the session says, each text at its level, and the run goes on from the records of s to those of t.
+-- the session says, each text at its level. The run goes on from the records of s to those of t.
 pub record SessionGoes (read : Readers) (region : Region) (s t : Session) (a b : Outer) : Type 0 where
   pub happenings : List Happening
   pub heard : b.heard ≡ a.heard ++ answers_of happenings
@@ -35,7 +35,7 @@ pub record SessionGoes (read : Readers) (region : Region) (s t : Session) (a b :
   pub ends : session_after read s happenings ≡ t
   pub goes : StepsGo region (records_in s) (records_in t) (session_steps read s happenings) a.world b.world
 
--- The same if a fault ended it: the last steps of the session may not have been done. It might have gone on from there, unless this failed.
+-- A fault ended a run that serves: the last steps of the session may not have been done. It might have gone on from there, unless this failed.
 pub record SessionGoesPart (failed : Type 0) (read : Readers) (region : Region) (s : Session) (a b : Outer) : Type 0 where
   pub happenings : List Happening
   pub heard : b.heard ≡ a.heard ++ answers_of happenings

@@ -23,8 +23,8 @@ use Rattle.iss_store.specs.Serving.{all_gone}
 use Rattle.iss_serve.specs.declared.held.Held.{Held}
 use Rattle.iss_serve.specs.declared.held.QueuedInput.{QueuedInput}
 
--- what is held: clients whose requests aren't whole, clients that wait, links, calls that weren't reached, the time that came last, and how many
--- waits are left
+-- What is held: clients whose requests aren't whole, clients that wait, links, and calls that weren't reached. Then the time that came
+-- last, and how many waits are left.
 pub record HeldNow : Type 0 where
   pub clients : List OpenRequest
   pub served : List Waiter
@@ -58,8 +58,8 @@ answer_unreached call = unasked (input.Answer call Connection)
 abbrev pub answers_unreached : List CallId → List Queued
 answers_unreached calls = map answer_unreached calls
 
--- what stands while a run serves: the store, what is held, the channel that is to be taken from, the inputs that are judged before the answers
--- of calls that weren't reached, and the texts that are to go out
+-- What stands while a run serves: the store, what is held, and the channel that is to be taken from. Then come the inputs that are judged
+-- before the answers of calls that weren't reached, and the texts that are to go out.
 pub record Stage : Type 0 where
   pub store : StoreNow
   pub held : HeldNow
@@ -107,7 +107,7 @@ listens_to h ch = is_reading ch h.clients || is_waiting ch h.served || is_linked
 abbrev pub arrived : StoreNow → HeldNow → Channel → Stage
 arrived s h ch = record { store = s; held = h; ready = (if listens_to h ch then Some ch else None); first = []; tasks = [] }
 
--- the same on each store, with what is held
+-- what a channel that is ready leads to on each store, with what is held
 abbrev pub arrived_on : Held → Channel → StoreNow → Stage
 arrived_on h ch = λ s. arrived s (seen_held h) ch
 

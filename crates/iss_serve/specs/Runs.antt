@@ -103,7 +103,7 @@ abbrev pub HearsFrom : {E F : Type 0} → (E → Option World) → (E → Option
 HearsFrom told heard a b before after from result =
     (store : StoreNow) → IsOf store before → ServesTo told heard a b (from store) result (judging_heard store after)
 
--- The same for a channel that is taken from, and any store.
+-- What a call goes on to on a channel that is taken from, whichever store the links belong to.
 abbrev pub HearsOfAny : {E F : Type 0} → (E → Option World) → (E → Option (List Answered)) → E → E
     → Held → Held → Channel → Result (Option QueuedInput) F → Type 0
 HearsOfAny told heard a b before after ch result =

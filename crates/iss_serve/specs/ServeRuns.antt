@@ -46,7 +46,7 @@ session_then s happenings = session_after program_readers s happenings
 abbrev pub steps_said : Session → List Happening → List Step
 steps_said s happenings = session_steps program_readers s happenings
 
--- the same, and then the closes of all channels that are still open
+-- what the session does, and then the closes of all channels that are still open
 abbrev pub all_steps_said : Session → List Happening → List Step
 all_steps_said s happenings = steps_said s happenings ++ last_steps (session_then s happenings)
 
@@ -59,7 +59,8 @@ pub record IsDoneInPart (said done : List Step) : Type 0 where
   pub undone : List Step
   pub cut : said ≡ done ++ undone
 
--- What was done on channels by a run with this status: at 0 all that its session says, and then the last closes; else that, or a first part of it.
+-- What was done on channels by a run with this status. At 0 it is all that its session says, and then the last closes. Otherwise it is
+-- that, or a first part of it.
 abbrev pub DoneAt : ℕ → Session → List Happening → List Step → Type 0
 DoneAt zero s happenings done = done ≡ all_steps_said s happenings
 DoneAt (suc status) s happenings done = IsDoneInPart (steps_said s happenings) done
@@ -69,7 +70,7 @@ pub record SentInPart (ch : ℕ) (said : List Step) (a b : World) : Type 0 where
   pub unsent : List ℕ
   pub sent : sent_on ch a.trace ++ sent_on ch (actions_of said) ≡ sent_on ch b.trace ++ unsent
 
--- No channel is left open that was dialled or sent on, and none that a client came on: each was closed, and after that nothing was sent on it.
+-- No channel is left open that was dialled or sent on, and none that a client came on. Each was closed, and after that nothing was sent on it.
 pub record AllClosed (s : Session) (happenings : List Happening) : Type 0 where
   pub dialled : (n : ℕ) → left_open n false (actions_of (all_steps_said s happenings)) ≡ false
   pub clients : (before after : List Happening) (item : HeardItem) (ch : Channel) → item.answer ≡ Waited (Some (Client ch)) → happenings ≡ before ++ hears item ∷ after
@@ -86,14 +87,14 @@ pub record ServedWhole (instance : ℕ) (rs : List Record) (s : Session) (happen
   pub stands : DeviceStandsFor instance (records_then rs s happenings) b.device
   pub ends : EndsAtRest instance rs (records_then rs s happenings) actions a b
 
--- What a run with this status did that began with the session s, on a device that stands for these records. It heard what its session called
--- for, and waited at most as often as it has turns. The opening of the device writes to it and syncs it, and no more. What was done
--- on channels after it is what the session says, or a first part of it; and so are the bytes on each channel. Assume that the device stood
--- firmly for its records. Then at whatever moment the run stops, the device stands for them and a first part of those that the session
--- makes. These are a history, and at least as many as the level of each text of which a byte went out. Within the opening the record that was
--- left behind may stand too. The same holds of a device with unsynced writes, once a sync of the opening has succeeded. The next run may begin with what a stop
--- leaves. At 0 all of it was done. Unless a call on the device failed, nothing was done but maybe a sync, or the run ended where the next
--- one begins.
+-- What a run with this status did that began with the session s, on a device that stands for these records. It heard what its session
+-- called for, and waited at most as often as it has turns. The opening of the device writes to it and syncs it, and no more. What was
+-- done on channels after it is what the session says, or a first part of it. So are the bytes on each channel. Assume that the device
+-- stood firmly for its records. Then at whatever moment the run stops, the device stands for them and a first part of those that the
+-- session makes. These are a history, and at least as many as the level of each text of which a byte went out. Within the opening the
+-- record that was left behind may stand too. The same holds of a device with unsynced writes, once a sync of the opening has succeeded.
+-- The next run may begin with what a stop leaves. At 0 all of it was done. Unless a call on the device failed, nothing was done but maybe
+-- a sync, or the run ended where the next one begins.
 pub record ServeOn (turns status instance : ℕ) (rs : List Record) (s : Session) (a b : Outer) : Type 0 where
   pub happenings : List Happening
   pub heard : b.heard ≡ a.heard ++ answers_of happenings
@@ -136,13 +137,13 @@ pub record EndsCaused {A : Type 0} (before now : Faults) (result : Result A Serv
   pub later : Later before now
   pub cause : IfErr result (EndingCause before now)
 
--- if no count on the device or on input rose, and the device stands for records, the status is 0 or 7; peers and links may fail
+-- If no count on the device or on input rose, and the device stands for records, the status is 0 or 7. Peers and links may fail.
 abbrev pub ServeEndsWell : Faults → Faults → ℕ → World → World → Type 0
 ServeEndsWell before now status a b =
     (instance : ℕ) (rs : List Record) → DeviceStandsFor instance rs a.device
     → (Rose before.disk now.disk → ⊥) → (Rose before.input now.input → ⊥)
     → (status ≡ DONE) ⊎ (status ≡ OUT_OF_MEMORY)
 
--- the same, by what an edge tells before the run and after it
+-- how a run that serves ends well, by what an edge tells before it and after it
 abbrev pub ServeEndsWellOn : {E : Type 0} → (E → Faults) → (E → Option World) → (E → Option (List Answered)) → E → E → ℕ → Type 0
 ServeEndsWellOn faults told heard a b status = ToldBoth told heard (OfWorlds (ServeEndsWell (faults a) (faults b) status)) a b

@@ -18,8 +18,8 @@ use iss_edge::Edge;
 use iss_store::Store;
 use std::alloc::Global;
 
-/// Opens the device, sends again what still waits for the gateway, and then waits at most `turns` times for what comes next: a client, a
-/// channel that is ready, or the time. In the end every channel that is still open is closed.
+/// Opens the device, and sends again what still waits for the gateway. Then it waits at most `turns` times for what comes
+/// next: a client, a channel that is ready, or the time. In the end every channel that is still open is closed.
 ///
 /// A client or a channel to the gateway that fails ends nothing but itself.
 ///

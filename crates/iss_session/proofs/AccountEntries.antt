@@ -77,7 +77,7 @@ due_asks : {f : Facts} {at : ℕ} → AreOwn f FallsDue at
 due_asks ask (inl first) = let none = first.its_input in cc
 due_asks ask (inr more) = let none = more.its_input in cc
 
--- and what they make
+-- what asks of accounts' transactions make
 
 -- an act that begins no transaction, asks the gateway nothing and tells it nothing
 quiet : (a : Act) → may_begin a ≡ false → may_open_call a ≡ false → may_void a ≡ false → may_tell a ≡ false → may_tell_stand_in a ≡ false → AreAccounts (act_entries a)

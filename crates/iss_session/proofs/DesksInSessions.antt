@@ -21,7 +21,7 @@ nothing_answers (Took ch got) = refl
 nothing_answers (Dialled ch) = refl
 nothing_answers (Emitted ch ok) = refl
 
--- nothing is no call that an item could answer
+-- nothing isn't a call that an item could answer
 pub unanswerable : {A : Type 0} → (a : Answered) → is_answer_to nothing a ≡ true → A
 unanswerable a e = absurd (false≢true (sym (nothing_answers a) ∙ e))
 

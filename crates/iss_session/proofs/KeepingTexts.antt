@@ -1,4 +1,4 @@
--- The same when texts go out, and when inputs are judged.
+-- Channels stay held as texts go out, and as inputs are judged.
 use Rattle.std.proofs.Common.{◌≡◌, refl, sym, ap, subst, ◌∙◌, ℕ, Bool, true, false, not, List, [], ◌∷◌, ◌++◌, map, Option, Some, None}
 use Rattle.std.specs.Prelude.{◌==◌, ◌||◌, ◌&&◌}
 use Rattle.std.specs.List.{flat_map}
@@ -47,7 +47,7 @@ emit_other : (n : ℕ) (was : Bool) (level : ℕ) (ch : Channel) (text : List �
 emit_other n was level ch text true torn e = torn_other n was level ch (Some text) e
 emit_other n was level ch text false torn e = torn_other n was level ch torn e
 
--- and it opens none at all
+-- what was torn off opens no channel at all
 torn_shut : {A : Type 0} (n : ℕ) (level : ℕ) (ch : Channel) (torn : Option (List ℕ))
     → left_open n false (actions_of (with_levels level (torn_actions ch torn) ++ leveled level (Close ch) ∷ [])) ≡ true → A
 torn_shut n level ch None e = absurd (false≢true e)

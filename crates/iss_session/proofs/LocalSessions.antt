@@ -221,7 +221,7 @@ own_start run turns is =
       book = is;
     }
 
--- A run that begins on the book of some records, and whose book has no product of the gateway in the end, dials nothing and watches nothing.
+-- A run begins on the book of some records, and its book has no product of the gateway in the end. Then it dials nothing and watches nothing.
 pub stays_local : (read : Readers) (run : Run) (turns : ℕ) (rs : List Record) (hs : List Happening) → run.history ≡ history_of rs
     → has_no_gateway (session_after read (session_of run turns) hs).run.history.rows ≡ true → IsLocal (session_after read (session_of run turns) hs)
 stays_local read run turns rs hs is no_product =

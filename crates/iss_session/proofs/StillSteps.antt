@@ -1,4 +1,4 @@
--- What a session does is neither a write nor a sync, and goes out at the number of records that stand: so it is a good stretch.
+-- What a session does is neither a write nor a sync, and goes out at the number of records that stand. So it is a good stretch.
 use Rattle.std.proofs.Common.{ℕ, ◌≤◌, Bool, true, false, cond, List, [], ◌∷◌, ◌++◌, map, Option, Some, None, refl, sym, subst, arith}
 use Rattle.iss_edge.specs.declared.outside.Channel.{Channel}
 use Rattle.iss_edge.specs.declared.outside.Action.{Action}
@@ -161,7 +161,7 @@ levels_rise read s (h ∷ happenings) =
     (rise_still (count s) (count c.session) c.steps (change_grows read s h) (change_still read s h))
     (levels_rise read c.session happenings)
 
--- and so it is of the channels that are closed at the end
+-- the closes of the channels at the end are still, at the number of records that stand
 
 still_closings : (n : ℕ) (channels : List Channel) → AreStillAt n (closings n channels)
 still_closings n [] = tt

@@ -1,4 +1,5 @@
--- A desk: texts that are to go out one after the other, to the gateway each on a channel of its own, and to clients, whose channels they close.
+-- A desk: texts that are to go out one after the other. Each to the gateway goes on a channel of its own, and those to clients close
+-- their channels.
 use Rattle.std.specs.Prelude.{◌≡◌, ℕ, true, false, not, List, [], ◌∷◌, ◌++◌, filter, Some, None}
 use Rattle.iss_edge.specs.declared.outside.Channel.{Channel}
 use Rattle.iss_edge.specs.declared.outside.Action.TheVariants.{Dial, Close}
@@ -84,7 +85,7 @@ task_change level d (to_reply ch text) item (Emitted to ok) =
     desk_change_to (desk_with d.tasks (waiters_without ch d.waiting)) [] (emit_steps level ch text ok item.torn ++ leveled level (Close ch) ∷ [])
 task_change level d _ item _ = desk_change_to d [] []
 
--- the same, by the tasks
+-- what becomes of a desk that has heard an answer, by its tasks
 abbrev pub desk_change_by : ℕ → Desk → List Task → HeardItem → DeskChange
 desk_change_by level d [] item = desk_change_to d [] []
 desk_change_by level d (task ∷ tasks) item = task_change level (desk_with tasks d.waiting) task item item.answer

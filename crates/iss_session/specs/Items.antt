@@ -9,14 +9,14 @@ use Rattle.iss_session.specs.declared.piece.TheConstants.{LONGEST_PIECE}
 use Rattle.iss_edge.specs.Outer.{torn_actions, IsTornFrom}
 use Rattle.iss_edge.specs.Stretches.{Step, with_levels}
 
--- One answer of the outside. If bytes were taken that no head begins with, `early` tells whether they are answered at once;
--- if an emit failed, `torn` is the prefix of its text that went out, if an action was added for it.
+-- One answer of the outside. If bytes were taken that no head begins with, `early` tells whether they are answered at once. If an emit
+-- failed and an action was added for it, `torn` is the prefix of its text that went out.
 pub record HeardItem : Type 0 where
   pub answer : Answered
   pub early : Bool
   pub torn : Option (List ℕ)
 
--- What a session goes through: it hears an answer of the outside, or judges the first input of its queue, for which no channel is asked.
+-- What a session goes through. It hears an answer of the outside, or judges the first input of its queue, for which no channel is asked.
 pub data Happening : Type 0 where
   hears : HeardItem → Happening
   judges : Happening

@@ -59,7 +59,7 @@ judged_so s q queue (New r) = session_with s r (s.desk.waiting ++ waiters_of q.c
 judged_so s q queue (Clock r) = session_with s r s.desk.waiting (q ∷ queue)
 judged_so s q queue (Told a) = with_tasks (record s { queue = queue }) (answer_tasks q.client a)
 
--- an input is judged at the later of the time that came last and the time of the book; its record is made only if it fits
+-- An input is judged at the later of the time that came last and the time of the book. Its record is made only if it fits.
 unfoldable pub judged_input : Session → Queued → List Queued → Session
 judged_input s q queue = judged_so s q queue (judgement_in s.run q.input s.clock)
 

@@ -22,7 +22,7 @@ pub record Serves (read : Readers) (s t : Session) (a b : Outer) : Type 0 where
   pub grew : b.world.trace ≡ a.world.trace ++ added
   pub done : channel_actions added ≡ actions_of (session_steps read s happenings)
 
--- The same if a fault ended it: the last actions of the session may not have been done.
+-- A fault ended the session on its way: the last actions of the session may not have been done.
 pub record ServesPart (read : Readers) (s : Session) (a b : Outer) : Type 0 where
   pub happenings : List Happening
   pub heard : b.heard ≡ a.heard ++ answers_of happenings

@@ -17,7 +17,8 @@ use Rattle.iss_session.specs.Items.{Next, waits, takes, judging, nothing}
 use Rattle.iss_session.specs.Desks.{of_call, of_notice, Task, to_dial, to_reply, Waiter, Desk, desk_with, next_for}
 use Rattle.iss_session.specs.Links.{Link}
 
--- How texts are read: a client's line as an input, or as the line that tells its fault, and a whole answer to a call, at an instance, as an outcome.
+-- How texts are read. A client's line is read as an input, or as the line that tells its fault. A whole answer to a call, at an instance,
+-- is read as an outcome.
 pub record Readers : Type 0 where
   pub line : List ℕ → Result Input (List ℕ)
   pub outcome : ℕ → Opened → ℕ → List ℕ → Outcome
@@ -32,8 +33,9 @@ pub record Queued : Type 0 where
   pub input : Input
   pub client : Option Channel
 
--- What stands: the run, the time that came last, how many waits are left, the channel that is to be taken from, the clients whose requests
--- aren't whole, the links to the gateway, the inputs that are to be judged, and the texts that are to go out, with the clients that wait.
+-- What stands: the run, the time that came last, how many waits are left, and the channel that is to be taken from. Then the clients
+-- whose requests aren't whole, the links to the gateway, and the inputs that are to be judged. At last the texts that are to go out, with
+-- the clients that wait.
 pub record Session : Type 0 where
   pub run : Run
   pub clock : ℕ
@@ -71,7 +73,7 @@ response_to (Some w) line = to_reply w.ch (respond OK line) ∷ []
 abbrev pub waiter_for : List ℕ → List Waiter → Option Waiter
 waiter_for event waiting = find (λ w. bytes_eq w.event event) waiting
 
--- The texts that go out for what is said of a record: a decision to the client that waits for it, a request or a notice to the gateway.
+-- The texts that go out for what is said of a record. A decision goes to the client that waits for it, and a request or a notice to the gateway.
 abbrev pub tasks_of : ℕ → List Waiter → Said → List Task
 tasks_of instance waiting (decided event verdict) = response_to (waiter_for event waiting) (reply_line event (Decided verdict))
 tasks_of instance waiting (asked o) = to_dial (of_call o) (request_text instance o) ∷ []
@@ -114,6 +116,7 @@ abbrev pub next_by : Session → List Task → Next
 next_by s [] = next_idle s s.queue
 next_by s (task ∷ tasks) = next_for task
 
--- Texts go out first, then inputs are judged in their order, then a channel that is ready is taken from, and then the next arrival is waited for.
+-- Texts go out first, and then inputs are judged in their order. Then a channel that is ready is taken from, and then the next arrival is
+-- waited for.
 abbrev pub next_of : Session → Next
 next_of s = next_by s s.desk.tasks

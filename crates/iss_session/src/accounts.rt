@@ -7,8 +7,8 @@ ghost use Rattle.iss_session.specs.Items.{Happening};
 ghost use Rattle.iss_session.specs.Sessions.{Readers};
 ghost use Rattle.iss_session.specs.Courses.{IsLocalWithNoGateway, run_session};
 
-/// A run that begins on the book of some records, and whose book has no product of the gateway in the end, sends the gateway nothing
-/// and awaits nothing of it.
+/// A run begins on the book of some records, and its book has no product of the gateway in the end. Then it sends the
+/// gateway nothing and awaits nothing of it.
 pub fn accounts_stay_local()
     ensures { (read : Readers) (run : Run) (turns : ℕ) (rs : List Record) (happenings : List Happening)
         → run.history ≡ history_of rs → IsLocalWithNoGateway (run_session read run turns happenings) }

@@ -7,8 +7,8 @@ ghost use Rattle.iss_session.specs.Sessions.{Readers};
 ghost use Rattle.iss_session.specs.Openings.{ReadsEvents};
 ghost use Rattle.iss_session.specs.Courses.{ClientIsClosed, DialledIsClosed};
 
-/// When a run that serves is over, no channel is left open that was dialled or sent on, and none that a client came on: each
-/// was closed, and after that nothing was sent on it.
+/// When a run that serves is over, no channel is left open that was dialled or sent on, and none that a client came on.
+/// Each was closed, and after that nothing was sent on it.
 pub fn channels_are_closed()
     ensures dialled { (read : Readers) (run : Run) (turns : ℕ) (happenings : List Happening) (n : ℕ) → ReadsEvents read
         → DialledIsClosed read run turns happenings n }

@@ -34,8 +34,8 @@ pub fn heard_decides_happenings()
         → HeardIsAll read s a b }
 {}
 
-/// A session makes the records that lines would make, at the times at which its inputs are judged: they come after those that stand,
-/// each follows on those before it, and what stands is the book of them all.
+/// A session makes the records that lines would make, at the times at which its inputs are judged. They come after those
+/// that stand, and each follows on those before it. What stands is the book of them all.
 #[tactic(auto, using(crate::proofs::JudgedLines::run_of_lines, crate::proofs::JudgedLines::records_of_session, crate::proofs::JudgedLines::legal_session, crate::proofs::JudgedLines::history_of_session))]
 pub fn sessions_judge_lines()
     ensures run { (read : Readers) (s : Session) (happenings : List Happening)
@@ -60,8 +60,8 @@ pub fn waits_are_turns()
     ensures { (read : Readers) (s : Session) (happenings : List Happening) → WaitsTakeTurns read s happenings }
 {}
 
-/// What a session does up to j records, and the closes at its end, are stretches that are good from j to j: a stop within them
-/// leaves a device that shows the j records, and no text went out before its record stood.
+/// What a session does up to j records, and the closes at its end, are stretches that are good from j to j. A stop within
+/// them leaves a device that shows the j records, and no text went out before its record stood.
 pub fn sessions_are_good_stretches<S: Showing>()
     ensures steps { (read : Readers) (s : Session) (happenings : List Happening) (j : ℕ)
         → StartsStand S.starts S.stands j → StaysGoodUpTo S.starts S.stands j read s happenings }

@@ -1,5 +1,5 @@
-//! What holds of every state that records make: what each entry does to its sums, their bounds, and the numbers that it
-//! gives. Also its docket of transactions, calls and decisions, and what transactions hold.
+//! What holds of every state that records make: what entries do to its sums, their bounds, its numbers, its docket, and
+//! what transactions hold. The docket is of transactions, calls and decisions.
 //!
 //! It may cite `iss_model`, `iss_acts`, and `iss_agreement` for what legal records are on a core.
 //! It must not cite any body: its laws are of definitions.

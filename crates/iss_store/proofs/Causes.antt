@@ -31,7 +31,7 @@ caused_by_next place moved before now OutOfMemory finds cause = record { later =
 caused_by_next place moved before now NotFormatted finds cause = absurd finds
 caused_by_next place moved before now (Full free need) finds cause = absurd finds
 
--- of its read of the header
+-- a fault of the journal's read of the header
 pub caused_by_header : {S T : Type 0} (before now : Faults) (fault : JournalFault) → DiskOrUnformatted {T = S} (Err fault) → DiskCause {T = S} before now (Err fault) → OpenCause {T = T} before now (Err (fault_of_reading fault))
 caused_by_header before now Disk only cause = record { later = cause.later; disk = λ e. cause.disk refl }
 caused_by_header before now NotFormatted only cause = record { later = cause.later; disk = λ e. absurd cc }
@@ -39,7 +39,7 @@ caused_by_header before now (BadRecord gate) only cause = absurd only
 caused_by_header before now (Full free need) only cause = absurd only
 caused_by_header before now OutOfMemory only cause = absurd only
 
--- and of one of its calls that fails by the disk alone
+-- a fault of a call of the journal that fails by the disk alone
 pub caused_by_disk : {S T : Type 0} (before now : Faults) (fault : JournalFault) → DiskAlone {T = S} (Err fault) → DiskCause {T = S} before now (Err fault) → OpenCause {T = T} before now (Err (fault_of_reading fault))
 caused_by_disk before now Disk only cause = record { later = cause.later; disk = λ e. cause.disk refl }
 caused_by_disk before now NotFormatted only cause = absurd only
@@ -52,7 +52,7 @@ pub caused_by_record : {T : Type 0} (c : CoreNow) (gate : ℕ) (body : List ℕ)
 caused_by_record c gate body before now open_fault.Disk takes later = absurd takes
 caused_by_record c gate body before now fault takes later = record { later = later; disk = λ e. absurd cc }
 
--- and the same after calls that went well
+-- the cause of an opening's fault stays one if calls came before that counted no fault down
 pub caused_after : {T : Type 0} (before between now : Faults) (result : Result T OpenFault) → Later before between → OpenCause between now result → OpenCause before now result
 caused_after before between now result first cause =
     record {

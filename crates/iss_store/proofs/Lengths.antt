@@ -199,7 +199,7 @@ spelled_body r f h =
     omega (arith, length-append {A = ℕ} (number_bytes 8 r.at) (field_bytes r.input), wide_8.size r.at) in
     record { some = omega (arith, whole); most = omega (arith, whole, fields_length r.input f h) }
 
--- the same of a list that is spelled so
+-- a list that is spelled so is a record's body in the journal
 pub body_of_spelling : (r : Record) (body : List ℕ) → is_in_form r.input ≡ true → list_all is_token (tokens_of r.input) ≡ true → body ≡ spelling r → IsBody body
 body_of_spelling r body f h is = subst IsBody (sym is) (spelled_body r f h)
 

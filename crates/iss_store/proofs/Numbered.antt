@@ -39,11 +39,11 @@ use Rattle.iss_store.specs.Serving.{HaveNumbers, has_number}
 
 -- ---- numbers
 
--- what comes next is 1 at least
+-- what comes next is at least 1
 next_from_one : (n : ℕ) → is_from_one (n + 1) ≡ true
 next_from_one n = grind (arith, nat_tests)
 
--- and so is what comes later
+-- what comes later is at least 1
 later_from_one : (n k : ℕ) → is_from_one n ≡ true → is_from_one (n + k) ≡ true
 later_from_one n k h = grind (arith, nat_tests)
 

@@ -74,7 +74,7 @@ too_early c r now told early rs stands follows =
     let time : time_of (history_of rs).records ≡ now = ap time_of (records_history rs) ∙ sym (told rs stands) in
     below_itself (time_of (history_of rs).records) r.at now follows.stamp time early
 
--- and so does a record that isn't judged new
+-- a record that isn't judged new follows on nothing that the core stands for
 pub not_judged_new : (c : CoreNow) (r : Record) (j : Judged) → j ≡ judge core_keeper c.state r.input r.at → ((x : Record) → j ≡ judged.New x → ⊥)
     → (rs : List Record) → CoreStandsFor c rs → Follows (history_of rs) r → ⊥
 not_judged_new c r j is not_new rs stands follows = not_new r (judged_on_book c rs r.input r.at j stands is ∙ follows.is_new)

@@ -78,7 +78,7 @@ pending_row s calls notices t u v none is are requests others =
 pub pending_on_book : (s : StoreNow) (rs : List Record) → StandsFor s rs → texts_pending s ≡ texts_pending_on_book s.core.instance rs
 pending_on_book s rs stands = ap (λ (f : Facts). said_texts s.core.instance (said_first f)) (facts_on_book s.core rs stands.core)
 
--- the same of the row that a store makes of its core's answers
+-- the row that a store makes of its core's answers is all that waits
 pub pending_all : (s : StoreNow) (core : CoreNow) (m n : ℕ) (listed calls : List Opened) (pending notices : List Notice) (t u v : Texts) → core ≡ s.core → m ≡ core.instance → n ≡ core.instance
     → listed ≡ asked_openings (core_facts core.state) → calls ≡ listed → pending ≡ (core_facts core.state).pending → notices ≡ pending → HasNone t
     → Gains (flat_map (request_texts m) calls) t u → Gains (flat_map (notice_texts n) notices) u v → HasAll (texts_pending s) v

@@ -311,7 +311,7 @@ pub text_in_part : (subject : Subject) (text : List ℕ) (sent : Option Channel)
 text_in_part subject text sent x y sends =
     told_all_of_some (to_dial subject text ∷ []) (gone_on subject sent) [] x y (one_sent (to_dial subject text) (gone_on subject sent) [] x y sends)
 
--- the same, by whether the note of it was made
+-- what a text came to, by whether the note of it was made
 pub notes_text_if : {A E : Type 0} (r : Result A E) (subject : Subject) (text : List ℕ) (sent : Option Channel) (more before after : List link.Gone) (ended : List Channel) (f g : Faults) (x y : Option Outer)
     → OnOk r (after ≡ before ++ more) → gone_on subject sent ≡ all_gone more → CausesGone f g more
     → ((level : ℕ) (tasks : List Task) (waiting : List Waiter) → Told (Sends level (desk_with (to_dial subject text ∷ tasks) waiting) (desk_with tasks waiting) (gone_on subject sent)) x y)

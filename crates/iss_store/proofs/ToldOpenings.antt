@@ -1,4 +1,4 @@
--- The same of what an edge tells: an opening, exit by exit.
+-- What an edge tells of an opening, exit by exit.
 use Rattle.std.proofs.Common.{◌≡◌, ℕ, true, false, inl, inr, List, [], ◌∷◌, ◌++◌, length, sym, ap, subst, ◌∙◌}
 use Rattle.std.specs.Prelude.{Option, Ok, Err}
 use Rattle.iss_edge.specs.declared.outside.Action.{Action}

@@ -1,4 +1,4 @@
--- The same of what an edge tells: reading all records, exit by exit.
+-- What an edge tells of reading all records, exit by exit.
 use Rattle.std.proofs.Common.{◌≡◌, ℕ, ◌+◌, ◌*◌, ◌<◌, ◌≤◌, List, sym, ap, subst, ◌∙◌, arith}
 use Rattle.std.specs.Prelude.{Option, Some, None, Ok, Err}
 use Rattle.iss_edge.specs.World.{World, Told}

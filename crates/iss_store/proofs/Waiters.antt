@@ -82,7 +82,7 @@ module _ (events : List (List ℕ × ℕ)) (p : Placed Waiting) (kept : AreWaite
         → Some w.ch ≡ option_map (λ waiter. waiter.ch) (waiter_for event (map waiter_of (things_of p)))
     channel_at place w first at = ap (option_map (λ (x : Waiting). x.ch)) (at ∙ first_at place first) ∙ channel_as event (things_of p)
 
-    -- and one stands there
+    -- one waiter stands at the event's first place
     pub one_there : (place : ℕ) → IsFirst (slice_cmp nat_cmp) events event place → None ≡ thing_at p place
         → None ≡ option_map (λ waiter. waiter.ch) (waiter_for event (map waiter_of (things_of p)))
     one_there place first at = ap (option_map (λ (x : Waiting). x.ch)) (at ∙ first_at place first) ∙ channel_as event (things_of p)
@@ -135,7 +135,7 @@ pub others_wait : (ch : Channel) (place : ℕ) (w : Waiting) (before after : Pla
 others_wait ch place w before after takes =
     ap (λ (es : List (ℕ × Waiting)). filter (λ x. not (x.ch.0 == ch.0)) (values_of es)) takes.entries ∙ others_stay (λ x. x.ch.0 == ch.0) before.entries place w takes.own takes.at
 
--- and all are left if none is on it
+-- all waiters are left if none is on the channel
 pub all_wait : (ch : Channel) (before after : Placed Waiting) (old : List Waiting) → AllByRecursion (λ x. (x.ch.0 == ch.0) ≡ false) (things_of before) → after ≡ before
     → filter (λ x. not (x.ch.0 == ch.0)) (things_of before) ≡ filter (λ x. not (x.ch.0 == ch.0)) old → map waiter_of (things_of after) ≡ waiters_without ch (map waiter_of old)
 all_wait ch before after old none same left =

@@ -23,13 +23,13 @@ pub record Commits (before : StoreNow) (p : Plan) (after : StoreNow) (d : Durabl
   pub few : after.core.state.count ≤ MOST_RECORDS
   pub is_time : d.is_time ≡ is_told_time p
 
--- What a record has to say by the book: what its entries say, and that a time was taken, unless it only goes before an answer.
+-- What a record has to say by the book: what its entries say. It also says that a time was taken, unless it only goes before an answer.
 abbrev pub said_on_book : List Record → Plan → List Said
 said_on_book rs p =
     (reaction_to_record history_keeper (history_of rs) p.accepted).said
     ++ (if p.is_clock then [] else said_of_time p.accepted.input)
 
--- the same on the book: the store stands for one record more, and these are its entries, and what it has to say
+-- a commit on the book: the store stands for one record more, and these are its entries, and what it has to say
 pub record CommitsOnBook (after : StoreNow) (rs : List Record) (p : Plan) (d : DurableNow) : Type 0 where
   pub stands : StandsFor after (rs ++ p.accepted ∷ [])
   pub number : d.number ≡ length rs + 1

@@ -1,4 +1,4 @@
--- A run on a region of a device goes on from some records to more: what was done on it and on channels, and what a stop leaves.
+-- A run on a region of a device goes on from some records to more. It tells what was done on it and on channels, and what a stop leaves.
 use Rattle.std.specs.Prelude.{◌≡◌, List, ◌++◌, filter, length}
 use Rattle.iss_edge.specs.World.{World}
 use Rattle.iss_edge.specs.Disk.{Disk, after_actions}
@@ -33,7 +33,7 @@ pub record StepsGo (region : Region) (rs rs' : List Record) (said : List Step) (
   pub leaves : LeavesDevice steps a b
   pub history : AreHistory rs → AreHistory rs'
 
--- The same of a run that ended in it: the stretch is good.
+-- A run that ended on its way from some records to more: the stretch is good.
 pub record StepsGoPart (region : Region) (rs rs' : List Record) (said : List Step) (a b : World) : Type 0 where
   pub more : AreFirstOf rs rs'
   pub steps : List Step

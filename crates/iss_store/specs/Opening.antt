@@ -64,7 +64,7 @@ pub record OpensStore (s : StoreNow) (device : List ℕ) : Type 0 where
   pub device_stands : DeviceStandsFor s.core.instance rs device
   pub stands : StandsFor s rs
 
--- What opening comes to on a device: a store that stands for what the device stands for, or the first fault that is there, by its gate.
+-- What opening comes to on a device. It is a store that stands for what the device stands for, or the first fault there, by its gate.
 abbrev pub Opens : Result StoreNow OpenFault → World → World → Type 0
 Opens (Ok s) a b = OpensStore s a.device
 Opens (Err NotFormatted) a b = IsUnformatted a.device

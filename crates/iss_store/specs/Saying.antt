@@ -37,7 +37,7 @@ notice_texts instance notice = said_texts instance (noticed notice ∷ [])
 abbrev pub texts_pending : StoreNow → List (List ℕ)
 texts_pending s = said_texts s.core.instance (said_first (core_facts s.core.state))
 
--- the same by the book: the texts with which a run on these records begins
+-- by the book, the texts with which a run on these records begins
 abbrev pub texts_pending_on_book : ℕ → List Record → List (List ℕ)
 texts_pending_on_book instance rs = said_texts instance (said_first (history_facts (history_of rs)))
 

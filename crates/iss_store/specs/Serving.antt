@@ -64,7 +64,7 @@ tasks_of_record s d waiting = flat_map (tasks_of s.core.instance waiting) (said_
 abbrev pub tasks_pending : StoreNow → List Task
 tasks_pending s = flat_map (tasks_of s.core.instance []) (said_first (core_facts s.core.state))
 
--- the same by the book
+-- the texts with which a run that serves begins, by the book
 abbrev pub tasks_pending_on_book : ℕ → List Record → List Task
 tasks_pending_on_book instance rs = flat_map (tasks_of instance []) (said_first (history_facts (history_of rs)))
 
@@ -93,7 +93,7 @@ pub record SendsPart (level : ℕ) (d : Desk) (a b : Outer) : Type 0 where
   pub gone : List TextFate
   pub sends : Sends level d left gone a b
 
--- of these texts some went out, at any level, whatever comes after them and whoever waits
+-- some of these texts went out, at any level, whatever comes after them and whoever waits
 pub record SendsSomeOf (tasks : List Task) (a b : Outer) : Type 0 where
   pub part : (level : ℕ) (rest : List Task) (waiting : List Waiter) → SendsPart level (desk_with (tasks ++ rest) waiting) a b
 
@@ -131,7 +131,7 @@ SendsPendingPart s waiting = SendsPart s.core.state.count (desk_with (tasks_pend
 abbrev pub ResumesPart : {E T F : Type 0} → (E → Option World) → (E → Option (List Answered)) → E → E → StoreNow → Result T F → Type 0
 ResumesPart told heard a b s result = (waiting : List Waiter) → OnErr result (ToldBoth told heard (SendsPendingPart s waiting) a b)
 
--- This text went out on a channel of its own, or didn't, as the result says, at any level, whatever comes after it and whoever waits.
+-- This text went out on a channel of its own, or didn't, as the result says. That is so at any level, whatever comes after it and whoever waits.
 abbrev pub SendsDialled : {E : Type 0} → (E → Option World) → (E → Option (List Answered)) → E → E → List ℕ → Option Channel → Type 0
 SendsDialled told heard a b bytes result =
     (level : ℕ) → (subject : Subject) → (text : List ℕ) → (tasks : List Task) → (waiting : List Waiter) → bytes ≡ ask text
@@ -169,7 +169,7 @@ pub record NotesSent (tasks : List Task) (before after : List link.Gone) (ended 
   pub told : Told (SendsOn tasks (all_gone more) closed) x y
   pub caused : CausesGone f g more
 
--- the same, by what an edge tells before the texts go out and after that
+-- what some texts came to, by what an edge tells before they go out and after that
 abbrev pub NotesOn : {E : Type 0} → (E → Faults) → (E → Option World) → (E → Option (List Answered)) → E → E
     → List Task → List link.Gone → List link.Gone → List Channel → List Channel → Type 0
 NotesOn faults told heard a b tasks before after ended answered =
@@ -187,7 +187,7 @@ abbrev pub NotesAnswered : {E T F : Type 0} → (E → Faults) → (E → Option
 NotesAnswered faults told heard a b tasks ended answered result =
     (gone : List link.Gone) → OnOk result (NotesOn faults told heard a b tasks gone gone ended answered)
 
--- The first of all texts went out and were noted, and these are left.
+-- The first texts of all went out and were noted, and these are left.
 pub record SentFirst (all rest : List Task) (gone : List link.Gone) (answered : List Channel) (f g : Faults) (x y : Option Outer) : Type 0 where
   pub front : List Task
   pub cut : all ≡ front ++ rest

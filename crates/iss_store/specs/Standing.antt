@@ -27,7 +27,7 @@ pub record AreHistory (rs : List Record) : Type 0 where
   pub legal : IsLegal rs
   pub spelled : IsTrue (list_all is_record rs)
 
--- A store stands for these records: they are a history, its core's state is like the one that they make, and they end at its gate.
+-- A store stands for these records. They are a history, its core's state is like the one that they make, and they end at its gate.
 pub record StandsFor (s : StoreNow) (rs : List Record) : Type 0 where
   pub history : AreHistory rs
   pub core : CoreStandsFor s.core rs
@@ -43,11 +43,11 @@ pub record DeviceStandsFor (instance : ℕ) (rs : List Record) (device : List �
 abbrev pub RestsIn : Region → List Record → List ℕ → ℕ → Type 0
 RestsIn region rs image i = RestsFirst region (bodies_of rs) image i
 
--- what a stop may leave within a stretch on a region: the first i of these records, with nothing or the next of them left behind
+-- What a stop may leave within a stretch on a region. It is the first i of these records, with nothing or the next of them left behind.
 abbrev pub StandsIn : Region → List Record → List ℕ → ℕ → Type 0
 StandsIn region rs image i = StandsFirst region (bodies_of rs) image i
 
--- the same on a store's device
+-- where a stretch on a store's device starts and ends
 abbrev pub RestsAt : StoreNow → List Record → List ℕ → ℕ → Type 0
 RestsAt s = RestsIn (region_under s)
 

@@ -35,7 +35,7 @@ pub record DurableNow : Type 0 where
 abbrev pub room_of : StoreNow → Option Room
 room_of s = Some (one_journal s.place.to)
 
--- What holds of every store: its gate is within a device, with at least the bytes of a shortest record before it for each of its records.
+-- What holds of every store. Its gate is within a device, with at least the bytes of a shortest record before it for each of its records.
 -- A header can spell its instance, and its calls and notices are numbered from 1.
 pub record IsStore (s : StoreNow) : Type 0 where
   pub within : s.place.gate < s.place.to

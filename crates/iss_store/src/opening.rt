@@ -18,13 +18,14 @@ use iss_model::Judged;
 use std::alloc::Global;
 
 impl Store {
-    /// Opens the device: its records are read in order, each is decoded, judged and taken up, and an end gate other than 0
-    /// is made 0, so that a record which a stop has left after it never stands.
+    /// Opens the device. Its records are read in order, and each is decoded, judged and taken up. An end gate other than
+    /// 0 is made 0, so that a record which a stop has left after it never stands.
     ///
     /// # Errors
     ///
-    /// `NotFormatted` if the size or the header is wrong. `BadRecord`, `BadSpelling` and `BadHistory`, with the place of the
-    /// first bad gate, if no record follows it, no spelling, or a record that isn't new or goes back in time.
+    /// `NotFormatted` if the size or the header is wrong. `BadRecord`, `BadSpelling` and `BadHistory` have the place of
+    /// the first bad gate. That is if no record follows it, if what follows spells none, and if the record isn't new or
+    /// goes back in time.
     #[tactic(auto, using(crate::proofs::ToldOpenings::told_unopened, crate::proofs::ToldOpenings::told_unsynced, crate::proofs::ToldOpenings::told_refused_header, crate::proofs::ToldOpenings::told_refused_records, crate::proofs::ToldOpenings::told_unread, crate::proofs::ToldOpenings::told_unclosed, crate::proofs::ToldOpenings::told_closed, crate::proofs::ToldOpenings::told_opens, crate::proofs::ToldOpenings::told_opens_fault, crate::proofs::ToldOpenings::told_header_fault, crate::proofs::ToldOpenings::told_opens_disk, crate::proofs::Causes::caused_well, crate::proofs::Causes::caused_by_header, crate::proofs::Causes::caused_by_disk, crate::proofs::Causes::caused_after))]
     pub fn open<E: Edge>(alloc: Global, edge: &mut E) -> Result<Store, OpenFault>
         ensures opens { Told (Opens result) (E.told edge.old) (E.told edge.new) }

@@ -21,8 +21,9 @@ use iss_texts::Texts;
 use std::alloc::{AllocError, Global};
 
 impl Store {
-    /// Sends what the record of this store's last commit says: the decisions, requests, notices and acknowledgements of its
-    /// entries in their order, and then that a time was taken, each by one emit. Over lines nothing is watched for afterwards.
+    /// Sends what the record of this store's last commit says, each text by one emit. First come the decisions, requests,
+    /// notices and acknowledgements of its entries in their order, and then that a time was taken. Over lines nothing is
+    /// watched for afterwards.
     #[tactic(auto, using(crate::proofs::Stays::told_some_stay, crate::proofs::Stays::told_all_stay, crate::proofs::Stays::told_nothing_stays, crate::proofs::ServedTexts::told_unchanged, iss_texts::proofs::Rows::gained_all, iss_texts::proofs::Rows::all_end))]
     pub fn release<E: Edge>(
         &self,
@@ -51,8 +52,8 @@ impl Store {
         Ok(Vec::new(alloc))
     }
 
-    /// Sends what still waits for the gateway: the request of each call that is asked, by number, and then each notice that
-    /// isn't acknowledged, by number. The bytes are those that went out before, since they follow from what stands.
+    /// Sends what still waits for the gateway, by number. First comes the request of each call that is asked, and then
+    /// each notice that isn't acknowledged. The bytes are those that went out before, since they follow from what stands.
     #[tactic(auto, using(crate::proofs::Stays::told_some_stay, crate::proofs::Stays::told_all_stay, crate::proofs::Stays::told_nothing_stays, crate::proofs::ServedTexts::told_unchanged, crate::proofs::Said::pending_on_book, iss_texts::proofs::Rows::all_end))]
     pub fn resume<E: Edge>(
         &self,

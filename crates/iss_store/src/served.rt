@@ -26,8 +26,9 @@ impl OnChannel for Waiting {
     }
 }
 
-/// Where what is said goes out while clients are served: a request or a notice on a channel of its own, which is dialled for it, and a
-/// decision on the channel of the client that waits for it. Contracts see the clients that wait, in the order in which they came.
+/// Where what is said goes out while clients are served. A request or a notice goes on a channel of its own, which is
+/// dialled for it. A decision goes on the channel of the client that waits for it. Contracts see the clients that wait,
+/// in the order in which they came.
 #[derive(Drop)]
 pub struct Served {
     waiting: ByChannel<Waiting>,

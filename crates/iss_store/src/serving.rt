@@ -22,9 +22,10 @@ use iss_model::{Answer, Entry, Notice, Opened};
 use std::alloc::{AllocError, Global};
 
 impl Store {
-    /// Sends what the record of this store's last commit says while clients are served: each decision to the client that waits for it,
-    /// whose channel is closed by it, and each request and notice to the gateway, in the order of the record's entries. Returns
-    /// what became of those: the channels on which they went out, and the calls that weren't reached.
+    /// Sends what the record of this store's last commit says while clients are served, in the order of its entries. Each
+    /// decision goes to the client that waits for it, and closes that client's channel. Each request and notice goes to
+    /// the gateway. Returns what became of those: the channels on which they went out, and the calls that weren't
+    /// reached.
     #[tactic(auto, using(crate::proofs::ServedTexts::told_whole_desk, crate::proofs::ServedTexts::told_part_desk, crate::proofs::ServedTexts::record_tasks))]
     pub fn release_served<E: Edge>(
         &self,
@@ -53,8 +54,8 @@ impl Store {
         Ok(gone)
     }
 
-    /// Sends what still waits for the gateway, as a run that serves begins: the request of each call that is asked, by number, and then
-    /// each notice that isn't acknowledged, by number, each on a channel of its own.
+    /// Sends what still waits for the gateway, as a run that serves begins, each text on a channel of its own. First
+    /// comes the request of each call that is asked, and then each notice that isn't acknowledged, by number.
     #[tactic(auto, using(crate::proofs::ServedTexts::told_whole_desk, crate::proofs::ServedTexts::told_part_desk, crate::proofs::ServedTexts::tasks_on_book, crate::proofs::Resumed::told_resumed, crate::proofs::ServedTexts::told_none_of, crate::proofs::Stays::told_nothing_stays))]
     pub fn resume_served<E: Edge>(
         &self,

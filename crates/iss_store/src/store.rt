@@ -23,8 +23,8 @@ use iss_model::{Answer, Input, Judged, Record};
 use std::alloc::{AllocError, Global};
 use std::marker::Model;
 
-/// The records on a device, and what they make. Contracts see its core, the place of the end gate, and the place where the
-/// device ends; a store *stands for* records if its core does and they end at that gate.
+/// The records on a device, and what they make. Contracts see its core, the place of the end gate, and the place where
+/// the device ends. A store *stands for* records if its core does and they end at that gate.
 #[derive(Drop)]
 pub struct Store {
     pub(crate) core: Core,
@@ -55,9 +55,9 @@ impl Store {
         &self.core
     }
 
-    /// The record that an input makes at a stamp, if it makes one: its own if it is new, else that of a time if something is
-    /// due before its answer. An input that makes none is told why. If the record doesn't fit, the input is told how many
-    /// bytes are free, and how many it needs. Nothing is changed.
+    /// The record that an input makes at a stamp, if it makes one. It is its own if it is new, else that of a time if
+    /// something is due before its answer. An input that makes none is told why. If the record doesn't fit, the input is
+    /// told how many bytes are free, and how many it needs. Nothing is changed.
     #[tactic(auto, using(crate::proofs::Plans::plans_new, crate::proofs::Plans::plans_clock, crate::proofs::Plans::planned_on_book))]
     pub fn plan(&self, alloc: Global, input: &Input, at: u64) -> Result<Planned, PlanFault>
         requires input_form { IsTrue (is_in_form input.now) }
@@ -102,8 +102,8 @@ impl Store {
     }
 
     /// Makes the record of a plan last, and takes it up. The device has the size that it had when it was opened. After a
-    /// fault the store is gone, and the device may be opened again: it stands for the old records or also for the new one,
-    /// and surely for the new one if only an allocation failed.
+    /// fault the store is gone, and the device may be opened again. It stands for the old records or also for the new
+    /// one, and surely for the new one if only an allocation failed.
     pub fn commit<E: Edge>(
         self,
         alloc: Global,

@@ -182,7 +182,7 @@ sent_then xs ys a b c p q =
 
 -- ---- one after the other
 
--- of these texts all but the rest went out, in the sense of this relation
+-- all of these texts but the rest went out, in the sense of this relation
 pub record UpTo {W : Type 0} (R : List (List ℕ) → W → W → Type 0) (texts rest : List (List ℕ)) (a b : W) : Type 0 where
   pub first : List (List ℕ)
   pub went : R first a b

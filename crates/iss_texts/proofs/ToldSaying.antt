@@ -1,4 +1,4 @@
--- The same of what an edge tells: texts, one after another.
+-- What an edge tells of texts that go out, one after another.
 use Rattle.std.proofs.Common.{◌≡◌, ℕ, List, [], ◌∷◌, Option, Ok, Err, subst}
 use Rattle.std.specs.Prelude.{Result, OnOk, OnErr, is_ok}
 use Rattle.iss_edge.specs.declared.outside.Answered.{Answered}
@@ -44,7 +44,7 @@ told_upto_begins texts x = told_self (UpTo Says texts texts) x (upto_begins Says
 pub sent_upto_begins : (texts : List (List ℕ)) (x : Option Outer) → Told (UpTo SentEach texts texts) x x
 sent_upto_begins texts x = told_self (UpTo SentEach texts texts) x (upto_begins SentEach sent_nothing texts)
 
--- of what is left the first one comes, and then the rest
+-- the first text that is left comes, and then the rest
 first_left : {W : Type 0} (R : List (List ℕ) → W → W → Type 0) (texts rest left : List (List ℕ)) (text : List ℕ) (x y : Option W) → left ≡ text ∷ rest → Told (UpTo R texts left) x y → Told (UpTo R texts (text ∷ rest)) x y
 first_left R texts rest left text x y is p = subst (λ (l : List (List ℕ)). Told (UpTo R texts l) x y) is p
 

@@ -21,7 +21,7 @@ pub record FailsAt (texts : List (List ℕ)) (actions : List Action) : Type 0 wh
   pub cut : text ≡ prefix ++ back
   pub action : actions ≡ Emit (record { 0 = 0 }) prefix false ∷ []
 
--- What was done is an emit on channel 0 for each of some first texts, and then nothing, or a failed emit of a prefix of the next.
+-- What was done is an emit on channel 0 for each of some first texts. After them nothing was done, or an emit of a prefix of the next failed.
 pub record GoOut (texts : List (List ℕ)) (actions : List Action) : Type 0 where
   pub whole : List (List ℕ)
   pub rest : List (List ℕ)
@@ -62,7 +62,7 @@ emitted texts = map (λ text. Emitted (record { 0 = 0 }) true) texts
 abbrev pub SentEach : List (List ℕ) → Outer → Outer → Type 0
 SentEach texts = Adds (emits texts) (emitted texts)
 
--- Of these texts some first ones went out, each by an emit that was heard to succeed, and the emit of the next one was heard to fail.
+-- Some first ones of these texts went out, each by an emit that was heard to succeed. The emit of the next one was heard to fail.
 pub record StopsAt (texts : List (List ℕ)) (a b : Outer) : Type 0 where
   pub whole : List (List ℕ)
   pub text : List ℕ

@@ -36,7 +36,7 @@ outputs_behind [] others on = refl
 outputs_behind (x ∷ xs) others on =
     ap (λ (sends : Bool). cond sends (x ∷ outputs_of (xs ++ others)) (outputs_of (xs ++ others))) (on_device_silent x on.0) ∙ outputs_behind xs others on.1
 
--- and is what a run may do
+-- what is done on the device is what a run may do
 of_run : (action : Action) → is_on_device action ≡ true → is_of_run action ≡ true
 of_run (Write at bytes ok) on = refl
 of_run (Sync ok) on = refl

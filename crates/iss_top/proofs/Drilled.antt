@@ -13,7 +13,7 @@ told_drilled n status x y says =
     told_map (Says (drill_text n ∷ [])) (DrillRun n status) x y
     (λ a b h. record { part = says_all (drill_text n ∷ []) a b h; whole = λ e. h }) says
 
--- or not
+-- if the status isn't 0, some of its line went out, or none
 pub told_undrilled : (n status : ℕ) (x y : Option World) → (status ≡ 0 → ⊥) → Told (SaysSome (drill_text n ∷ [])) x y → Told (DrillRun n status) x y
 told_undrilled n status x y not_done says =
     told_map (SaysSome (drill_text n ∷ [])) (DrillRun n status) x y

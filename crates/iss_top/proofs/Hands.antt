@@ -19,7 +19,7 @@ line_slice bytes next filled at end is fits =
     let size : end - next ≡ at = omega (arith, is) in
     ap (λ (n : ℕ). take n (drop next bytes)) size ∙ sym (take-take at (filled - next) (drop next bytes) (omega (arith, fits)))
 
--- and those after them and one more
+-- the bytes after the first ones and one more
 rest_slice : (bytes : List ℕ) (next filled at from : ℕ) → from ≡ next + (at + 1) → next + at < filled → slice_of bytes from filled ≡ drop (at + 1) (slice_of bytes next filled)
 rest_slice bytes next filled at from is fits =
     let more : filled - next ≡ (at + 1) + (filled - from) = omega (arith, is, fits) in

@@ -46,7 +46,8 @@ sound_count : (h : CoreState) (i : Input) (at : Option ℕ) → (after_line core
 unfolding reaction
 sound_count h i at = judged_count h i (unwrap_or at 0) (judgement_after h.count (judge core_keeper h i (unwrap_or at 0)))
 
--- Five times the records, and the bytes of the line, are at most the bytes that came: a line that makes a record has four bytes at least, and a line feed or the end.
+-- Five times the records, and the bytes of the line, are at most the bytes that came. A line that makes a record has at least four bytes,
+-- and a line feed or the end.
 read_room : (h : CoreState) (line : List ℕ) (r : Result Line FormFault) → line_read Lines line ≡ r → 5 * (after_line core_keeper h (as_reading r)).world.count ≤ 5 * h.count + length line + 1
 read_room h line (Ok said) e = omega (arith, sound_count h said.input said.at, least_line Lines line said e)
 read_room h line (Err fault) e = omega arith

@@ -16,8 +16,8 @@ use Rattle.iss_top.proofs.Finding.{found_before, found_around}
 use Rattle.iss_top.proofs.Takes.{none_in_both, only_then, only_none}
 use Rattle.iss_top.proofs.ToldAs.{kept_told, line_told_as}
 
--- Since a line was begun, with these bytes unread and this many taken: this many are taken by now, what came of the line so far ends no line
--- and is kept so, and these bytes aren't read yet.
+-- Since a line was begun, with these bytes unread and this many taken: this many are taken by now. What came of the line so far ends no
+-- line and is kept so, and these bytes aren't read yet.
 pub record ReadSoFar (unread : List ℕ) (taken : ℕ) (unread' kept : List ℕ) (taken' : ℕ) (a b : World) : Type 0 where
   pub took : List ℕ
   pub takes : OnlyTakesIn took a b

@@ -34,7 +34,7 @@ use Rattle.iss_texts.proofs.Rows.{gains_then, gained_all}
 
 -- ---- texts
 
--- a level is no part of a text's bytes
+-- a level isn't a part of a text's bytes
 each-at_level : (level : ℕ) (texts : List (List ℕ)) → each_bytes (at_level level texts) ≡ texts
 each-at_level level [] = refl
 each-at_level level (t ∷ ts) = ap (λ (rest : List (List ℕ)). t ∷ rest) (each-at_level level ts)

@@ -59,7 +59,7 @@ module _ {W : Type 0} (k : Keeper W) where
       let at : ℕ = max stamp (k.facts w).now in
       new_as (answer_at w i at) (is_quiet (due_items (k.facts w) at)) i at r h
 
--- and so it is in any room
+-- what is judged new in any room is the input itself
 if_new : (may : Bool) (made : Judged) (a : Answer) (r : Record) → cond may made (judged.Told a) ≡ judged.New r → made ≡ judged.New r
 if_new true made a r h = h
 if_new false made a r h = absurd cc

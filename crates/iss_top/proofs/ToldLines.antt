@@ -71,7 +71,7 @@ pub told_records : (s : Run) (parts : List (List ℕ)) → (told_lines s parts).
 told_records s parts =
     ap (λ (r : Response). r.run.history.records) (told_readings s parts) ∙ records_after s (readings_of parts)
 
--- those of the first lines come first
+-- the records of the first lines come first
 pub records_first : (s : Run) (parts : List (List ℕ)) → AreFirstOf s.history.records (told_lines s parts).run.history.records
 records_first s parts = record { later = accepted_records s (readings_of parts); cut = told_records s parts }
 

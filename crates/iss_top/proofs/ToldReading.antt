@@ -1,4 +1,4 @@
--- The same of what an edge tells: taking pieces, and reading on to the next line.
+-- What an edge tells of taking pieces, and of reading on to the next line.
 use Rattle.std.proofs.Common.{◌≡◌, ℕ, ◌+◌, ◌<◌, ◌≤◌, Bool, true, false, List, [], length, fold, Option, Some, refl, ◌∙◌}
 use Rattle.memchr.specs.Find.{IsFirstByte, is_byte}
 use Rattle.iss_edge.specs.World.{World, Told}

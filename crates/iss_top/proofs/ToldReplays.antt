@@ -1,4 +1,4 @@
--- The same of what an edge tells: a run on a device at each of its ends.
+-- What an edge tells of a run on a device, at each of its ends.
 use Rattle.std.proofs.Common.{◌≡◌, ℕ, ◌≤◌, inl, inr, List, [], length, Option, Ok, Err, refl, sym, ap, subst, ◌∙◌, arith, length-append}
 use Rattle.std.specs.Prelude.{◌⊎◌, Result}
 use Rattle.iss_edge.specs.World.{World, Told, Faults, Later}

@@ -1,4 +1,4 @@
--- The same of what an edge tells: a report at each of its ends.
+-- What an edge tells of a report, at each of its ends.
 use Rattle.std.proofs.Common.{◌≡◌, ℕ, inl, inr, List, [], Option, Some, None, Ok, Err, refl, arith}
 use Rattle.std.specs.Prelude.{◌⊎◌, Result}
 use Rattle.iss_edge.specs.World.{World, Told, Faults, Later}
@@ -57,7 +57,7 @@ told_each P S R (Some a) (Some b) told f = f
 abbrev pub IsReportOf : StoreNow → Texts → Type 0
 IsReportOf s t = (rs : List Record) → CoreStandsFor s.core rs → HasAll (report_lines rs) t
 
--- of the report of what the store stands for, all went out, or some
+-- the report of what the store stands for went out, or some of it
 abbrev SaysReport : (List (List ℕ) → World → World → Type 0) → StoreNow → World → World → Type 0
 SaysReport R s b d = (rs : List Record) → CoreStandsFor s.core rs → R (report_lines rs) b d
 

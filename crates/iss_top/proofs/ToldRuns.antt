@@ -1,4 +1,4 @@
--- The same of what an edge tells: a dry run's way, and each of its ends.
+-- What an edge tells of a dry run's way, and of each of its ends.
 use Rattle.std.proofs.Common.{◌≡◌, ◌⊎◌, inl, inr, ℕ, ◌+◌, ◌*◌, ◌≤◌, true, false, List, length, Option, Err, refl, ap, arith}
 use Rattle.iss_edge.specs.World.{World, Told, Faults}
 use Rattle.iss_edge.proofs.Tolds.{told_then, told_self}
@@ -75,8 +75,8 @@ told_run_ends s before now x y z limit p q =
 
 -- ---- room for the records
 
--- Five times the records, and the bytes that aren't read yet, are at most the bytes that were taken: a line that makes a record has four
--- bytes at least, and a line feed or the end.
+-- Five times the records, and the bytes that aren't read yet, are at most the bytes that were taken. A line that makes a record has at
+-- least four bytes, and a line feed or the end.
 abbrev pub HasRoom : CoreState → ReaderNow → Type 0
 HasRoom s now = 5 * s.count + length now.unread + may_come now ≤ now.taken + 1
 

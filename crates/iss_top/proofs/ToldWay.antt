@@ -1,4 +1,4 @@
--- The same of what an edge tells: the lines of a run on a device, and each of its ends.
+-- What an edge tells of the lines of a run on a device, and of each of its ends.
 use Rattle.std.proofs.Common.{◌≡◌, ℕ, ◌≤◌, true, false, List, Option, refl, subst}
 use Rattle.iss_edge.specs.World.{World, Told, Faults}
 use Rattle.iss_edge.proofs.Tolds.{told_then, told_self}

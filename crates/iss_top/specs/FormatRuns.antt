@@ -17,7 +17,7 @@ pub record FormatRun (size instance extent status : ℕ) (before now : Faults) (
   pub later : Later before now
   pub complete : extent ≡ size → (Rose before.disk now.disk → ⊥) → status ≡ DONE
 
--- the same, by what an edge tells before the run and after it
+-- what a run of formatting does, by what an edge tells before it and after it
 abbrev pub FormatRunOn : {E : Type 0} → (E → ℕ) → (E → Faults) → (E → Option World) → E → E → ℕ → ℕ → ℕ → Type 0
 FormatRunOn extent faults told a b size instance status =
     FormatRun size instance (extent a) status (faults a) (faults b) (told a) (told b)

@@ -38,8 +38,8 @@ all_but_last (part ∷ next ∷ parts) = part ∷ all_but_last (next ∷ parts)
 abbrev pub ended_lines : List ℕ → List (List ℕ)
 ended_lines bytes = filter (λ part. not (is_blank part)) (all_but_last (line_parts bytes))
 
--- What a buffer keeps of a line with one more byte. A line of more than 16384 bytes is told the same whatever it holds, so once it has more,
--- a blank is left out and any other byte takes the place of the last.
+-- What a buffer keeps of a line with one more byte. A line of more than 16384 bytes is told the same whatever it holds. So once it has
+-- more, a blank is left out and any other byte takes the place of the last.
 abbrev pub kept_with : List ℕ → ℕ → List ℕ
 kept_with line b =
     if nat_lt (length line) KEPT then line ++ b ∷ []

@@ -32,7 +32,7 @@ pub record TakesMore (more : Bool) (before now : Pieces) (a b : World) : Type 0 
   pub count : now.taken ≡ before.taken + length (unread_of now)
   pub over : more ≡ false → (unread_of now ≡ []) × (b.left 0 ≡ [])
 
--- No byte was taken that the input may have after this many: the take failed, or the one byte came that makes the input too long.
+-- No byte was taken that the input may have after this many. The take failed, or the one byte came that makes the input too long.
 pub record TakesNoMore (taken : ℕ) (why : Stop) (a b : World) : Type 0 where
   pub took : List ℕ
   pub takes : OnlyTakesIn took a b

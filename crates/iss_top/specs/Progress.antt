@@ -46,8 +46,8 @@ pub record Sends (text : List ℕ) (a b : World) : Type 0 where
   pub outputs : IsTrue (list_all is_output actions)
   pub sent : sent_on 0 actions ≡ text
 
--- These parts of the input were read: the bytes that were taken, whatever comes after them, begin with these parts, and the rest is what
--- isn't read yet; or the input has ended, and these are all its parts.
+-- These parts of the input were read. The bytes that were taken, whatever comes after them, begin with these parts, and the rest is what
+-- isn't read yet. Or the input has ended, and these are all its parts.
 pub record HasRead (parts : List (List ℕ)) (now : ReaderNow) (a b : World) : Type 0 where
   pub took : List ℕ
   pub takes : TakesIn took a b

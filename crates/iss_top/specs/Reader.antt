@@ -42,7 +42,7 @@ pub record TakesIn (took : List ℕ) (a b : World) : Type 0 where
   pub bytes : a.left 0 ≡ took ++ b.left 0
   pub others : (c : ℕ) → (c ≡ 0 → ⊥) → b.left c ≡ a.left c
 
--- and nothing else was done
+-- these bytes were taken from channel 0, and nothing else was done
 pub record OnlyTakesIn (took : List ℕ) (a b : World) : Type 0 where
   pub takes : TakesIn took a b
   pub device : b.device ≡ a.device

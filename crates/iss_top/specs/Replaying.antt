@@ -1,4 +1,4 @@
--- A run on a device on its way: what each line is told on what stands, what was done for it, and what the rest of the input will be told.
+-- A run on a device on its way: what each line is told on what stands, and what was done for it. Then what the rest of the input will be told.
 use Rattle.std.specs.Prelude.{◌≡◌, ℕ, ◌+◌, ◌≤◌, ◌==◌, ◌↔◌, ◌⊎◌, Bool, true, false, List, [], ◌∷◌, ◌++◌, length, map, filter, take, Option, Some, IfOk, IfErr, Result, if◌then◌else◌}
 use Rattle.iss_edge.specs.declared.status.TheConstants.{DONE, INPUT_FAULT, DISK_FAULT, INPUT_TOO_LONG}
 use Rattle.iss_edge.specs.declared.outside.Action.{Action}
@@ -64,7 +64,7 @@ levels_of texts = map (λ text. text.level) texts
 abbrev pub text_step : Text → Step
 text_step text = record { action = Emit (record { 0 = 0 }) text.bytes true; level = text.level }
 
--- those of texts in a row
+-- the steps by which texts in a row go out on channel 0
 abbrev pub text_steps : List Text → List Step
 text_steps texts = map text_step texts
 
@@ -72,12 +72,12 @@ text_steps texts = map text_step texts
 abbrev pub step_levels : List Step → List ℕ
 step_levels steps = map (λ step. step.level) steps
 
--- From these records of a store up to those, each of these texts went out by an emit of its own at its level, and nothing else was done but
+-- From these records of a store up to those, each of these texts went out by an emit of its own at its level. Nothing else was done but
 -- on the device.
 abbrev pub TextsGo : StoreNow → List Record → List Record → List Text → World → World → Type 0
 TextsGo s rs rs' texts a b = StepsGo (region_under s) rs rs' (text_steps texts) a b
 
--- The same in part: some of these texts went out, of the last one maybe a prefix, and the run ended. It might have gone on from there,
+-- Some of these texts went out, of the last one maybe a prefix, and the run ended. It might have gone on from there,
 -- unless this failed.
 pub record TextsGoPart (failed : Type 0) (s : StoreNow) (rs rs' : List Record) (texts : List Text) (a b : World) : Type 0 where
   pub said : List Step
@@ -92,7 +92,7 @@ pub record GoesSome (failed : Type 0) (s : StoreNow) (rs : List Record) (told : 
   pub records : AreFirstOf rs' told.run.history.records
   pub goes : TextsGoPart failed s rs rs' told.texts a b
 
--- the same for what lines in a row are told
+-- some of what lines in a row are told was done, up to some first ones of their records
 abbrev pub GoesFor : StoreNow → List Record → List (List ℕ) → World → World → Type 0
 GoesFor s rs lines a b = TextsGo s rs (told_lines (run_at s rs) lines).run.history.records (told_lines (run_at s rs) lines).texts a b
 
@@ -176,11 +176,11 @@ pub record RunsAs (tell : List (List ℕ) → Response) (status : ℕ) (opened :
   pub whole : status ≡ DONE → (b.left 0 ≡ []) × GoesWhole opened rs (tell (line_parts (a.left 0))) a b
   pub stopped : (status ≡ INPUT_FAULT) ⊎ (status ≡ INPUT_TOO_LONG) → GoesWhole opened rs (tell (all_but_last (line_parts (take MOST_INPUT took)))) a b
 
--- the same, since its store was opened on these records
+-- what a run did since its store was opened on these records
 abbrev pub RunsOnBook : ℕ → StoreNow → List Record → List ℕ → World → World → Type 0
 RunsOnBook status opened rs took a b = RunsAs (told_lines (run_at opened rs)) status opened rs took a b
 
--- the same, whatever records the store stood for
+-- what a run did, whatever records its store stood for when it was opened
 pub record RunsFrom (status : ℕ) (opened : StoreNow) (a b : World) : Type 0 where
   pub took : List ℕ
   pub takes : TakesIn took a b

@@ -29,8 +29,8 @@ texts_for s lines = transcript_of s (map reading_of lines)
 abbrev pub records_for : Run → List Record → List (List ℕ) → List Record
 records_for s rs lines = rs ++ accepted_records s (map reading_of lines)
 
--- What was done for exactly these lines: the texts with which the run begins and those of each line went out, each by an emit of its
--- own, and the device stands for the records that stood and those that the lines made. If the run began at rest, the next one begins there.
+-- What was done for exactly these lines. The texts with which the run begins and those of each line went out, each by an emit of its own.
+-- The device stands for the records that stood and those that the lines made. If the run began at rest, the next one begins there.
 pub record Replayed (instance : ℕ) (rs : List Record) (lines : List (List ℕ)) (actions : List Action) (a b : World) : Type 0 where
   pub out : outputs_of actions ≡ emits (each_bytes (texts_for (run_on_device instance rs a.device) lines))
   pub stands : DeviceStandsFor instance (records_for (run_on_device instance rs a.device) rs lines) b.device
@@ -86,7 +86,7 @@ pub record MomentsOf (instance : ℕ) (rs all : List Record) (texts : List Text)
   -- the next run may begin with what a stop leaves
   pub stops : EachStopStands instance rs made (opening ++ later) a.device
 
--- the same of a run that takes lines
+-- every moment of a run that takes lines, on a device that stands firmly for these records
 abbrev pub EveryMoment : ℕ → List Record → World → World → Type 0
 EveryMoment instance rs a b =
     MomentsOf instance rs (records_for (run_on_device instance rs a.device) rs (lines_of (a.left 0)))
@@ -96,8 +96,8 @@ EveryMoment instance rs a b =
 abbrev pub EveryMomentStands : World → World → Type 0
 EveryMomentStands a b = (instance : ℕ) (rs : List Record) → DeviceStandsFor instance rs a.device → EveryMoment instance rs a b
 
--- The transcript of two inputs in a row is that of the first, and then, on what it left, that of the second without the texts with
--- which a run begins.
+-- The transcript of two inputs in a row is that of the first and then that of the second, on what the first left. The second's is without
+-- the texts with which a run begins.
 abbrev pub TranscriptsContinue : Type 0
 TranscriptsContinue =
     (instance size : ℕ) (rs : List Record) (xs ys : List Reading)
@@ -105,7 +105,8 @@ TranscriptsContinue =
     ≡ transcript_of (run_on instance size rs) xs
     ++ line_texts (run_on instance size (rs ++ accepted_records (run_on instance size rs) xs)) ys
 
--- if no count on the device, input or output rose, the input has at most 4294967296 bytes and the device stands for records, the status is 0 or 7
+-- Assume that no count on the device, input or output rose, the input has at most 4294967296 bytes, and the device stands for records.
+-- Then the status is 0 or 7.
 abbrev pub ReplayEndsWell : Faults → Faults → ℕ → World → World → Type 0
 ReplayEndsWell before now status a b =
     (instance : ℕ) (rs : List Record) → DeviceStandsFor instance rs a.device

@@ -24,9 +24,9 @@ abbrev pub report_texts : List Record → List Text
 report_texts rs = at_level (length rs) (report_lines rs)
 
 -- What a run with this status did on a device that stands for these records. Nothing was taken. First there was an opening, which is on
--- the device alone, and then the lines of the report went out, each by an emit of its own, and at 0 all of them. If the run ended
--- early, the first of them did, and maybe a prefix of the next. At 0, and if the output failed, the device stands for the records. Then,
--- if the run began at rest, the next one begins there. The same holds at 7, unless nothing was done but maybe a sync.
+-- the device alone. Then the lines of the report went out, each by an emit of its own, and at 0 all of them. If the run ended early, the
+-- first of them did, and maybe a prefix of the next. At 0, and if the output failed, the device stands for the records. Then, if the run
+-- began at rest, the next one begins there. The same holds at 7, unless nothing was done but maybe a sync.
 pub record ReportOn (status : ℕ) (instance : ℕ) (rs : List Record) (a b : World) : Type 0 where
   pub left : b.left ≡ a.left
   pub opening : List Action

@@ -29,8 +29,8 @@ pub record DryRun (status : ℕ) (a b : World) : Type 0 where
   pub long : (status ≡ INPUT_TOO_LONG) ↔ (length took ≡ MOST_INPUT + 1)
   pub bound : length took ≤ MOST_INPUT + 1
 
--- What a dry run with this status emitted: the texts that its input is to be told, in order, each by an emit of its own, and at 0 all of them.
--- If it ended early, the last emit may have failed, and a prefix of its text went out.
+-- What a dry run with this status emitted: the texts that its input is to be told, in order, each by its own emit. At 0 it emitted all of
+-- them. If it ended early, the last emit may have failed, and a prefix of its text went out.
 pub record EmitsTexts (status : ℕ) (a b : World) : Type 0 where
   pub actions : List Action
   pub grew : b.trace ≡ a.trace ++ actions

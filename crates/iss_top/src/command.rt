@@ -27,18 +27,19 @@ use std::alloc::Global;
 
 /// Does all that the program does, by the words after the program's name, and returns the exit status.
 ///
-/// The one word `dry` reads event lines from channel 0 to its end and writes what they are told: lines of JSON (RFC 8259),
-/// each by one emit. `format DEVICE SIZE INSTANCE` makes the device, of SIZE bytes, one of this instance that stands for
-/// no records. `replay DEVICE` opens the device, writes the requests and notices that still wait for the gateway, and then takes
-/// event lines as `dry` does; what a line makes lasts on the device before any of its texts goes out. `balances DEVICE` opens
-/// the device and writes what stands on it: for each account that money was moved to or from its balance, and for a user's what is
-/// held of it, and then a line of counts. `serve DEVICE PORT GATEWAYPORT TURNS` opens the device, sends again what still waits
-/// for the gateway, and takes event lines from clients over HTTP (RFC 9112), in at most TURNS waits; the ports are the outside's.
-/// `drill N` makes N events, takes them on a device in memory, and writes a line of what they came to.
+/// The one word `dry` reads event lines from channel 0 to its end, and writes what they are told. These are lines of JSON
+/// (RFC 8259), each by one emit. `format DEVICE SIZE INSTANCE` makes the device, of SIZE bytes, one of this instance that
+/// stands for no records. `replay DEVICE` opens the device, writes the requests and notices that still wait for the
+/// gateway, and then takes event lines as `dry` does. What a line makes lasts on the device before any of its texts goes
+/// out. `balances DEVICE` opens the device and writes what stands on it. Each account that money was moved to or from has
+/// its balance, and a user's also what is held of it. A line of counts comes last. `serve DEVICE PORT GATEWAYPORT TURNS`
+/// opens the device, and sends again what still waits for the gateway. Then it takes event lines from clients over HTTP
+/// (RFC 9112), in at most TURNS waits. The ports are the outside's. `drill N` makes N events, takes them on a device in
+/// memory, and writes a line of what they came to.
 ///
-/// The statuses are 0 for a run that came to its end, 2 for words that are no command, 3 if the input or a wait failed, 4 if
-/// the device has another size or stands for no records, 5 if the output failed, 6 if a call on the device failed, 7 if an
-/// allocation failed, and 8 if the input has more than 4294967296 bytes.
+/// The status is 0 for a run that came to its end, and 2 for words that are no command. It is 3 if the input or a wait
+/// failed, and 4 if the device has another size or stands for no records. It is 5 if the output failed, 6 if a call on
+/// the device failed, and 7 if an allocation failed. It is 8 if the input has more than 4294967296 bytes.
 #[tactic(auto, using(crate::proofs::RunBytes::told_run, crate::proofs::RunBytes::told_emits, crate::proofs::RunBytes::told_stops, crate::proofs::Commands::told_ends_well, crate::proofs::ToldReplays::told_replay_ends_well, crate::proofs::ToldReports::told_report_ends_well, crate::proofs::Continues::transcripts_continue))]
 pub fn run<E: Edge>(alloc: Global, words: &[String], edge: &mut E) -> u8
     // By the words there is no other status.
@@ -73,29 +74,30 @@ pub fn run<E: Edge>(alloc: Global, words: &[String], edge: &mut E) -> u8
     ensures stopped { OnDry (command_in words.now)
         (Told (StopsAtLines result) (E.told edge.old) (E.told edge.new)) }
 
-    // A run on a device that stands for records: what went out is the transcript of its lines on them, or a prefix of it, and the
-    // device then stands for those records and the ones that the lines made.
+    // A run on a device that stands for records. What went out is the transcript of its lines on them, or a prefix of it.
+    // The device then stands for those records and the ones that the lines made.
     ensures replaying { OnReplay (command_in words.now)
         (Told (ReplayRun result) (E.told edge.old) (E.told edge.new)) }
 
-    // At whatever moment it stops, the device stands for the old records and a prefix of the accepted inputs that holds every one
-    // of which a byte went out, if it stood firmly for the old ones. Within the opening a record that was left behind may stand too.
+    // If the device stood firmly, then at each stop it stands for the old records and a prefix of the accepted inputs.
+    // That prefix holds every input of which a byte went out. Within the opening a record that was left behind may stand
+    // too.
     ensures moments { OnReplay (command_in words.now)
         (Told EveryMomentStands (E.told edge.old) (E.told edge.new)) }
 
-    // A second run on the device continues the first: what two inputs in a row are told is what the first is told, and then, on the
-    // records that it left, what the second is told, without the texts with which a run begins.
+    // A second run on the device continues the first. Two inputs in a row are told what the first is told, and then what
+    // the second is told on the records left. The second's is without the texts with which a run begins.
     ensures continues { OnReplay (command_in words.now) TranscriptsContinue }
 
-    // The status is 4 exactly if the device stands for no records. If the outside isn't at fault, the input isn't too long and the
-    // device stands for records, the run comes to its end, or an allocation fails.
+    // The status is 4 exactly if the device stands for no records. If the outside isn't at fault, the input isn't too
+    // long and the device stands for records, the run ends, or an allocation fails.
     ensures refused { OnReplay (command_in words.now)
         (Told (RefusesExactly result) (E.told edge.old) (E.told edge.new)) }
     ensures replay_complete { OnReplay (command_in words.now)
         (ToldByFaults E.faults E.told ReplayEndsWell edge.old edge.new result) }
 
-    // A report of a device that stands for records: what went out are its lines, each by an emit of its own, or the first of them,
-    // and the device stands for the records, as it does at every moment. Nothing is taken.
+    // A report of a device that stands for records. What went out are its lines, each by an emit of its own, or the first
+    // of them. The device stands for the records, as it does at every moment. Nothing is taken.
     ensures reporting { OnBalances (command_in words.now)
         (Told (ReportRun result) (E.told edge.old) (E.told edge.new)) }
     ensures report_moments { OnBalances (command_in words.now)
@@ -105,10 +107,10 @@ pub fn run<E: Edge>(alloc: Global, words: &[String], edge: &mut E) -> u8
     ensures report_complete { OnBalances (command_in words.now)
         (ToldByFaults E.faults E.told ReportEndsWell edge.old edge.new result) }
 
-    // A run that serves: what was heard and done is what the session of the device's records says, and at whatever moment it stops, the
-    // device stands for the old records and a prefix of the accepted inputs that holds every one of which a byte went out, as above. At 0 no
-    // wait failed. The status is 4 exactly if the device stands for no records. If device and input aren't at fault, it comes to its end,
-    // or an allocation fails.
+    // A run that serves. What was heard and done is what the session of the device's records says. At whatever moment it
+    // stops, the device stands for the old records and a prefix of the accepted inputs, as above. At 0 no wait failed.
+    // The status is 4 exactly if the device stands for no records. If device and input aren't at fault, it comes to its
+    // end, or an allocation fails.
     ensures serving { OnServe (command_in words.now) (λ turns.
         ToldBoth E.told E.heard (ServeRun turns result) edge.old edge.new) }
     ensures serve_refused { OnServe (command_in words.now) (λ turns.

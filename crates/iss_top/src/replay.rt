@@ -1,4 +1,5 @@
-//! A run on a device: what waits for the gateway goes out, and then each line is taken, so that what it is told lasts first.
+//! A run on a device. What waits for the gateway goes out, and then each line is taken, so that what it is told lasts
+//! first.
 ghost use Rattle.std.specs.Prelude.{◌≡◌};
 ghost use Rattle.iss_edge.specs.declared.status.TheConstants.{BAD_DEVICE};
 ghost use Rattle.iss_edge.specs.World.{Told};

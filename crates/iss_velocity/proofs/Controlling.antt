@@ -80,7 +80,7 @@ from_alike users after past past' f g place (s ∷ ss) each =
     next : (n i : ℕ) → n + suc i ≡ suc n + i
     next n i = omega arith
 
--- a map of all elements gives the same, from the first place on
+-- the controls at all places are mapped alike, from the first place on
 pub from_start : (users after : Users) (past past' : Past) (f : Standing → Standing) (g : ControlKept → ControlKept) (ss : List Standing)
     → ((i : ℕ) (s : Standing) → slice_get ss i ≡ Some s → control_at after past' i (f s) ≡ g (control_at users past i s))
     → controls_from after past' 0 (map f ss) ≡ map g (controls_from users past 0 ss)

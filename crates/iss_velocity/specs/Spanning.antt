@@ -16,7 +16,7 @@ is_single window.Week = false
 is_single window.Month = false
 is_single window.Lifetime = false
 
--- The number of the span for a window at an offset. For a single transaction it's that of its authorisation's record, and a lifetime is one span.
+-- The number of the span for a window at an offset. For a single transaction it is that of its authorisation's record, and a lifetime is one span.
 unfoldable pub number_in : Window → ℤ → ℕ → ℕ → ℤ
 number_in window.Transaction offset at origin = pos origin
 number_in window.Day offset at origin = window_at window.Day at offset

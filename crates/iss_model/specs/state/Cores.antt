@@ -202,7 +202,7 @@ after_setting s (input.Set token set product currency connection timeout applica
 after_setting s (input.Switch token product on) = record s { products = with_switch s.products product on }
 after_setting s _ = s
 
--- a transaction begins live, save if one of its token has ended: a token names one transaction for good
+-- a transaction begins live, unless one of its token has ended: a token names one transaction for good
 abbrev pub is_live : List TxnNow → List ℕ → Bool
 is_live txns token = not (list_any (λ t. bytes_eq t.txn.token token && not t.live) txns)
 

@@ -162,7 +162,7 @@ other_ended token k txns other =
     txn_ended token k txns
     ∙ as_before token (txn_named k txns) (λ t e. ap (bytes_eq token) (one_name t.txn.token k (found_passes (λ (t : TxnNow). bytes_eq t.txn.token k) txns t e)) ∙ other)
 
--- after an end each transaction has the parts that its funding gives, as before
+-- after an end, a part is of a transaction's funding as before
 same_funding : (token : List ℕ) (p : Part) (o : Option TxnNow) → is_some_with (λ t. is_part_of p t.txn.funding) (option_map (txn_after_end token) o) ≡ is_some_with (λ t. is_part_of p t.txn.funding) o
 same_funding token p None = refl
 same_funding token p (Some t) = ap (λ (x : Txn). is_part_of p x.funding) (same_txn token t)
