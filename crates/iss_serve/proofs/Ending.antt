@@ -15,7 +15,7 @@ use Rattle.iss_store.specs.Standing.{region_under, StandsFor, AreHistory}
 use Rattle.iss_store.specs.Serving.{tasks_pending, tasks_pending_on_book}
 use Rattle.iss_serve.specs.Closings.{open_channels}
 use Rattle.iss_serve.specs.Goings.{SessionGoesPart, GoesToEnd}
-use Rattle.iss_serve.specs.Held.{HeldNow, Stage, idle, sending, session_at}
+use Rattle.iss_serve.specs.Held.{HeldNow, first_stage, idle, session_at}
 use Rattle.iss_serve.specs.Runs.{ServesOn, ServesSome, ServesToEnd, ServesUpTo, session_on}
 use Rattle.iss_serve.proofs.Going.{goes_self, goes_part, goes_to_end}
 use Rattle.iss_serve.proofs.Waiting.{is_over}
@@ -38,10 +38,6 @@ told_not_begun failed store turns x = told_self (ServesUpTo failed store turns) 
 abbrev pub fresh : StoreNow → ℕ → HeldNow
 fresh store turns =
     record { clients = []; served = []; links = record { instance = store.core.instance; links = [] }; unreached = []; clock = 0; turns = turns }
-
--- what a run begins with
-abbrev pub first_stage : StoreNow → HeldNow → Stage
-first_stage store h = sending store h [] (tasks_pending store)
 
 module _ (store : StoreNow) (turns : ℕ) (h : HeldNow) (is : h ≡ fresh store turns)
     (on_book : (rs : List Record) → StandsFor store rs → tasks_pending store ≡ tasks_pending_on_book store.core.instance rs) where

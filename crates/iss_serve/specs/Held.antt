@@ -19,7 +19,7 @@ use Rattle.iss_link.specs.declared.gone.Gone as link
 use Rattle.iss_link.specs.declared.gone.Gone.TheVariants.{Asked, Noted, Unreached}
 use Rattle.iss_store.specs.Numbers.{is_from_one}
 use Rattle.iss_store.specs.Values.{StoreNow, room_of}
-use Rattle.iss_store.specs.Serving.{all_gone}
+use Rattle.iss_store.specs.Serving.{all_gone, tasks_pending}
 use Rattle.iss_serve.specs.declared.held.Held.{Held}
 use Rattle.iss_serve.specs.declared.held.QueuedInput.{QueuedInput}
 
@@ -78,6 +78,10 @@ idle s h = to_judge s h []
 -- these texts are to go out, and then these inputs are to be judged first
 abbrev pub sending : StoreNow → HeldNow → List Queued → List Task → Stage
 sending s h first tasks = record { store = s; held = h; ready = None; first = first; tasks = tasks }
+
+-- a run begins with the texts that still wait for the gateway
+abbrev pub first_stage : StoreNow → HeldNow → Stage
+first_stage s h = sending s h [] (tasks_pending s)
 
 -- with what is held, this input is to be judged next, and then the others
 abbrev pub judging_first : StoreNow → Held → QueuedInput → List Queued → Stage

@@ -1,10 +1,9 @@
 //! A run that serves.
-ghost use Rattle.std.specs.Prelude.{◌≡◌, ◌<◌, [], IfOk, IfErr, OnOk};
+ghost use Rattle.std.specs.Prelude.{◌≡◌, ◌<◌, IfOk, IfErr, OnOk};
 ghost use Rattle.iss_edge.specs.World.{Stays};
 ghost use Rattle.iss_edge.specs.Outer.{ToldBoth};
-ghost use Rattle.iss_store.specs.Serving.{tasks_pending};
 ghost use Rattle.iss_serve.specs.Causes.{IsServeCaused, IsOfDisk};
-ghost use Rattle.iss_serve.specs.Held.{seen_held, resting, sending, IsHeld, IsOf};
+ghost use Rattle.iss_serve.specs.Held.{seen_held, resting, first_stage, IsHeld, IsOf};
 ghost use Rattle.iss_serve.specs.Judged.{Settles};
 ghost use Rattle.iss_device.specs.Refusals.{RefusesExactly};
 ghost use Rattle.iss_serve.specs.Runs.{ServesTo, ServesInPart, ServesToEnd, ServesUpTo};
@@ -68,8 +67,8 @@ fn resume<E: Edge>(
     requires held { IsHeld held.old }
     requires instance { IsOf store held.old }
     ensures resumed { ServesTo E.told E.heard edge.old edge.new
-        (sending store (seen_held held.old) [] (tasks_pending store)) result (resting held.new) }
-    ensures part { ServesInPart E.told E.heard edge.old edge.new (sending store (seen_held held.old) [] (tasks_pending store)) result }
+        (first_stage store (seen_held held.old)) result (resting held.new) }
+    ensures part { ServesInPart E.told E.heard edge.old edge.new (first_stage store (seen_held held.old)) result }
     ensures settles { IfOk result (λ next. Settles store next held.old held.new) }
     ensures caused { IsServeCaused (E.faults edge.old) (E.faults edge.new) result }
     ensures kept { Stays E.extent edge.old edge.new }

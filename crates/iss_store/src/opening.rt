@@ -24,8 +24,8 @@ impl Store {
     /// # Errors
     ///
     /// `NotFormatted` if the size or the header is wrong. `BadRecord`, `BadSpelling` and `BadHistory` have the place of
-    /// the first bad gate. That is if no record follows it, if what follows spells none, and if the record isn't new or
-    /// goes back in time.
+    /// the first bad gate: no record follows it, what follows spells no record, or that record isn't new or goes back in
+    /// time.
     #[tactic(auto, using(crate::proofs::ToldOpenings::told_unopened, crate::proofs::ToldOpenings::told_unsynced, crate::proofs::ToldOpenings::told_refused_header, crate::proofs::ToldOpenings::told_refused_records, crate::proofs::ToldOpenings::told_unread, crate::proofs::ToldOpenings::told_unclosed, crate::proofs::ToldOpenings::told_closed, crate::proofs::ToldOpenings::told_opens, crate::proofs::ToldOpenings::told_opens_fault, crate::proofs::ToldOpenings::told_header_fault, crate::proofs::ToldOpenings::told_opens_disk, crate::proofs::Causes::caused_well, crate::proofs::Causes::caused_by_header, crate::proofs::Causes::caused_by_disk, crate::proofs::Causes::caused_after))]
     pub fn open<E: Edge>(alloc: Global, edge: &mut E) -> Result<Store, OpenFault>
         ensures opens { Told (Opens result) (E.told edge.old) (E.told edge.new) }

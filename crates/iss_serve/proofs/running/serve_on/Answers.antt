@@ -3,10 +3,10 @@ use Rattle.iss_edge.specs.Outer.{outer_of}
 use Rattle.iss_edge.specs.World.{Told}
 use Rattle.iss_store.proofs.ServedTexts.{tasks_on_book}
 use Rattle.iss_serve.specs.Causes.{IsOfDisk}
-use Rattle.iss_serve.specs.Held.{seen_held, idle}
+use Rattle.iss_serve.specs.Held.{first_stage, seen_held, idle}
 use Rattle.iss_serve.specs.Runs.{ServesUpTo}
 use Rattle.iss_serve.proofs.Causings.{anyhow}
-use Rattle.iss_serve.proofs.Ending.{fresh, first_stage, told_not_begun, told_up_to, told_to_end}
+use Rattle.iss_serve.proofs.Ending.{fresh, told_not_begun, told_up_to, told_to_end}
 use Rattle.iss_serve.proofs.Keeps.{told_nothing_some}
 use Rattle.iss_serve.proofs.Stages.{told_on_then, told_on_then_some}
 use Rattle.iss_serve.proofs.running.serve_on.Goals as goal
