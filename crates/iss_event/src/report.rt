@@ -4,8 +4,8 @@ ghost use Rattle.iss_model.specs.rules.Facts.{Facts};
 ghost use Rattle.iss_model.specs.texts.BalanceLines.{account_line, count_line};
 ghost use Rattle.iss_event.specs.ReportLines.{balance_text, counts_text, IsShown, AreCounts, start_piece, holder_piece, account_piece, counts_piece};
 
-use crate::writing::{put_between, put_number};
-use iss_amount::{code, write};
+use crate::writing::put_between;
+use iss_amount::{code, put_decimal, write};
 use iss_model::Account;
 use itoa::Buffer;
 use std::alloc::{AllocError, Global};
@@ -112,7 +112,7 @@ fn put_counts(out: &mut Vec<u8>, calls: u64, notices: u64, records: u64) -> Resu
     ensures { OnOk result (out.new.items ≡ out.old.items ++ counts_piece calls notices records) }
 {
     put_counted(out, b"{\"calls\":", calls, b",\"notices\":")?;
-    put_number(out, notices)?;
+    put_decimal(out, notices)?;
     put_counted(out, b",\"records\":", records, b"}\n")
 }
 

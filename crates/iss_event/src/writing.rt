@@ -9,7 +9,7 @@ ghost use Rattle.iss_event.specs.Replies.{reply_start, part_start, reply_end, de
 
 use crate::FormFault;
 use crate::reason::put_reason;
-use iss_amount::put_amount_text;
+use iss_amount::{put_amount_text, put_decimal};
 use iss_field::Name;
 use iss_model::{Answer, CallId, Currency, Failure, How, Reason, Reply, Token, Verdict};
 use itoa::Buffer;
@@ -187,7 +187,7 @@ fn put_conflict(out: &mut Vec<u8>, event: &Token, number: u32) -> Result<(), All
         ≡ out.old.items ++ answer_text (answer.Conflict event.now number)) }
 {
     put_between(out, b"{\"event\":\"", event.text(), b"\",\"record\":")?;
-    put_number(out, u64::from(number))?;
+    put_decimal(out, u64::from(number))?;
     out.extend_from_slice(b",\"reply\":\"conflict\"}\n")
 }
 
@@ -210,9 +210,9 @@ fn put_full(out: &mut Vec<u8>, free: u64, need: u64) -> Result<(), AllocError>
     ensures { OnOk result (out.new.items ≡ out.old.items ++ answer_text (answer.Full free need)) }
 {
     out.extend_from_slice(b"{\"free\":")?;
-    put_number(out, free)?;
+    put_decimal(out, free)?;
     out.extend_from_slice(b",\"need\":")?;
-    put_number(out, need)?;
+    put_decimal(out, need)?;
     out.extend_from_slice(b",\"reply\":\"full\"}\n")
 }
 
@@ -228,12 +228,6 @@ fn put_spent(out: &mut Vec<u8>) -> Result<(), AllocError>
     ensures { OnOk result (out.new.items ≡ out.old.items ++ answer_text answer.Spent) }
 {
     out.extend_from_slice(b"{\"reply\":\"spent\"}\n")
-}
-
-pub(crate) fn put_number(out: &mut Vec<u8>, number: u64) -> Result<(), AllocError>
-    ensures { OnOk result (out.new.items ≡ out.old.items ++ decimal number) }
-{
-    out.extend_from_slice(Buffer::new().format(number).as_bytes())
 }
 
 fn put_numbered(
