@@ -5,3 +5,4 @@ pub mod Lines
 pub mod LinesInForm
 pub mod ClientLines
 pub mod ReportTexts
+mod OpenedLines

@@ -26,7 +26,6 @@ pub fn read_line(alloc: Global, line: &[u8], mode: Mode) -> Result<Line, LineFau
 }
 
 /// What a line spells, read over a scratch that is kept from line to line.
-#[tactic(auto, using(crate::proofs::LeastLine::read_least, crate::proofs::LinesInForm::read_input_in_form, crate::proofs::LinesInForm::read_stamp_in_form))]
 pub fn read_line_in(
     scratch: &mut Scratch,
     alloc: Global,
@@ -37,13 +36,6 @@ pub fn read_line_in(
     ensures input_form { IfOk result (λ said. IsTrue (is_in_form said.input)) }
     ensures stamp_form { IfOk result (λ said. IsTrue (is_stamp_or_none said.at)) }
     ensures least { IfOk result (λ said. 4 ≤ length line.now) }
-{
-    read(scratch, alloc, line, mode)
-}
-
-#[tactic(auto, unfolding(crate::specs::Readings::line_read))]
-fn read(scratch: &mut Scratch, alloc: Global, line: &[u8], mode: Mode) -> Result<Line, LineFault>
-    ensures { IsReadAsLine (line_read mode line.now) result }
 {
     match open_line(scratch, alloc, line, mode) {
         Ok(open) => open.read(alloc),

@@ -1,6 +1,7 @@
 //! What is found in a line, as far as fields ask.
 ghost use Rattle.std.specs.Prelude.{◌≡◌, true, is_some, option_map, option_and_then};
-ghost use Rattle.json.specs.Value.{value_view};
+ghost use Rattle.json.specs.Find.{get as get_named, get_member};
+ghost use Rattle.json.specs.Value.{value_view, members_view};
 ghost use Rattle.serde_json.specs.Find.{get, as_null, as_str, as_bool, as_number, as_u64};
 ghost use Rattle.iss_field.specs.Seen.{seen, fits};
 
@@ -12,7 +13,28 @@ pub(crate) fn member<'v, 'a>(line: &'v Value<'a>, name: &str) -> Option<&'v Valu
     requires { fits (value_view line.now) ≡ true }
     ensures { option_map (λ found. seen found.now) result ≡ get name.now (seen line.now) }
 {
-    line.get(name)
+    last_member(line, name)
+}
+
+fn last_member<'v, 'a>(line: &'v Value<'a>, name: &str) -> Option<&'v Value<'a>>
+    ensures { option_map (λ found. value_view found.now) result ≡ get_named name.now (value_view line.now) }
+{
+    match line {
+        Value::Object(members) => last_named(members, name),
+        _ => None,
+    }
+}
+
+/// The last member of that name. Most names differ in length already, which is quicker to see.
+fn last_named<'v, 'a>(members: &'v [(&'a str, Value<'a>)], name: &str) -> Option<&'v Value<'a>>
+    ensures { option_map (λ found. value_view found.now) result ≡ get_member name.now (members_view members.now) }
+{
+    for (spelled, value) in members.iter().rev() {
+        if spelled.len() == name.len() && *spelled == name {
+            return Some(value);
+        }
+    }
+    None
 }
 
 /// Whether the value is `null`.
