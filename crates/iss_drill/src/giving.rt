@@ -109,7 +109,7 @@ fn keep<E: Edge>(
     };
     tally.count(durable.entries());
     let opened = call_opened(durable.entries());
-    match next.release(alloc, device, durable, &mut Routes::lines()) {
+    match next.release(alloc, device, durable, &mut Routes::lines(alloc)) {
         Ok(_) => Ok((next, opened)),
         Err(_) => Err(AllocError),
     }
@@ -151,7 +151,7 @@ fn tell<E: Edge>(
     ensures kept { E.extent device.new ≡ E.extent device.old }
 {
     tally.count_answer(answer);
-    match store.tell(alloc, device, &Routes::lines(), Channel(0), answer) {
+    match store.tell(alloc, device, &Routes::lines(alloc), Channel(0), answer) {
         Ok(()) => Ok(()),
         Err(_) => Err(AllocError),
     }

@@ -6,3 +6,4 @@ pub mod Formats
 mod Scans
 pub mod Closings
 pub mod ReadLemmas
+mod Frames

@@ -23,6 +23,10 @@ AreBodies (body ∷ bodies) = IsBody body × AreBodies bodies
 abbrev pub body_with_length : List ℕ → List ℕ
 body_with_length body = to_be_bytes w32 (length body) ++ body
 
+-- the room that a length takes before its body is known
+abbrev pub no_length : List ℕ
+no_length = 0 ∷ 0 ∷ 0 ∷ 0 ∷ []
+
 -- what one write puts after the end gate: a record's length and body, and a closed gate after them
 abbrev pub append_bytes : List ℕ → List ℕ
 append_bytes body = body_with_length body ++ 0 ∷ []

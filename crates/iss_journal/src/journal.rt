@@ -121,7 +121,7 @@ impl Journal {
         ensures channels { Stays E.channels edge.old edge.new }
     {
         let free = self.free();
-        let need = frame.as_slice().len() as u64;
+        let need = frame.size();
         if free < need {
             return Err(JournalFault::Full { free, need });
         }

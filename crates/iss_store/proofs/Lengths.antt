@@ -1,5 +1,5 @@
 -- A record's spelling has 1 to 8192 bytes.
-use Rattle.std.proofs.Common.{◌≡◌, ℕ, ℤ, ◌+◌, ◌*◌, ◌≤◌, Bool, true, false, cond, ◌&&◌, List, [], ◌∷◌, ◌++◌, length, refl, sym, subst, ◌∙◌, arith, length-append}
+use Rattle.std.proofs.Common.{◌≡◌, ℕ, ℤ, ◌+◌, ◌*◌, ◌≤◌, Bool, true, false, cond, ◌&&◌, List, [], ◌∷◌, ◌++◌, length, refl, sym, ◌∙◌, arith, length-append}
 use Rattle.std.specs.Prelude.{Option, Some, None, nat_le}
 use Rattle.std.specs.Int.{w16, cast_unsigned}
 use Rattle.std.specs.List.{list_all, flat_map}
@@ -198,10 +198,6 @@ spelled_body r f h =
     let whole : length (spelling r) ≡ 9 + length (field_bytes r.input) =
     omega (arith, length-append {A = ℕ} (number_bytes 8 r.at) (field_bytes r.input), wide_8.size r.at) in
     record { some = omega (arith, whole); most = omega (arith, whole, fields_length r.input f h) }
-
--- a list that is spelled so is a record's body in the journal
-pub body_of_spelling : (r : Record) (body : List ℕ) → is_in_form r.input ≡ true → list_all is_token (tokens_of r.input) ≡ true → body ≡ spelling r → IsBody body
-body_of_spelling r body f h is = subst IsBody (sym is) (spelled_body r f h)
 
 -- the form and the names of a record that is spelled
 pub record SpelledParts (r : Record) : Type 0 where

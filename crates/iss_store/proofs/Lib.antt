@@ -1,5 +1,6 @@
 pub mod Numbered
 pub mod Lengths
+pub mod Framing
 pub mod Regions
 pub mod Histories
 pub mod NextRecords

@@ -1,16 +1,16 @@
 -- Clients that wait, as contracts see them: by their channels, and by their events.
-use Rattle.std.proofs.Common.{◌≡◌, ℕ, ◌+◌, ◌<◌, ◌^◌, ◌==◌, Bool, true, false, cond, not, ◌||◌, List, [], ◌∷◌, ◌++◌, map, filter, find, Bor, Option, Some, None, refl, sym, ap, ◌∙◌, subst, true≢false, arith}
+use Rattle.std.proofs.Common.{◌≡◌, ℕ, ◌<◌, ◌^◌, ◌==◌, Bool, true, false, cond, not, ◌||◌, List, [], ◌∷◌, ◌++◌, map, filter, find, Bor, Option, Some, None, refl, sym, ap, ◌∙◌, subst, arith}
 use Rattle.std.specs.Prelude.{option_map, option_copied, bytes_eq, is_some}
-use Rattle.std.specs.List.{list_any, AllByRecursion}
+use Rattle.std.specs.List.{AllByRecursion}
 use Rattle.std.specs.Ordering.{nat_cmp, is_eq}
 use Rattle.std.specs.Cmp.Lexicographic.{slice_cmp}
 use Rattle.std.specs.BTreeMap.{is_at}
-use Rattle.std.specs.Map.{values_of, lookup, remove_entry}
+use Rattle.std.specs.Map.{values_of, remove_entry}
 use Rattle.std.proofs.lemmas.Map.Text.{is_eq-slice_cmp}
 use Rattle.iss_edge.specs.declared.outside.Channel.{Channel}
-use Rattle.iss_channels.specs.Places.{Puts, IsFirst, has, passes, AreFound}
+use Rattle.iss_channels.specs.Places.{Puts, IsFirst, has, AreFound}
 use Rattle.iss_channels.specs.Placed.{Placed, ArePlaced, Takes, things_of, thing_at, one_more}
-use Rattle.iss_channels.proofs.Lookups.{more_found, less_found, back_found, more_looks, less_looks, none_below, stands_first, none_stands, looked, first_found, none_found, all_stay, others_stay, values_push}
+use Rattle.iss_channels.proofs.Lookups.{more_found, less_found, back_found, more_looks, less_looks, none_below, stands_first, none_stands, looked, first_found, none_found, all_stay, others_stay}
 use Rattle.iss_session.specs.Desks.{Waiter, waiters_without}
 use Rattle.iss_session.specs.Hearings.{is_waiting}
 use Rattle.iss_session.specs.Sessions.{waiter_for}

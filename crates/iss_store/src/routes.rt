@@ -1,9 +1,13 @@
 //! Where what is said goes out.
 
-/// Where what is said goes out.
-#[derive(Debug, Drop)]
+use iss_texts::Texts;
+use std::alloc::Global;
+
+/// Where what is said goes out, and the row in which its texts are written: it is kept from one record to the next.
+#[derive(Drop)]
 pub struct Routes {
     pub(crate) kind: Kind,
+    pub(crate) texts: Texts,
 }
 
 #[derive(Debug, Clone, Copy)]
@@ -14,7 +18,10 @@ pub(crate) enum Kind {
 
 impl Routes {
     /// All that is said goes out as lines on channel 0.
-    pub fn lines() -> Routes {
-        Routes { kind: Kind::Lines }
+    pub fn lines(alloc: Global) -> Routes {
+        Routes {
+            kind: Kind::Lines,
+            texts: Texts::new(alloc),
+        }
     }
 }

@@ -44,10 +44,10 @@ impl Store {
         ensures unsent { IsErrOf result OutOfMemory → ToldBoth E.told E.heard (Adds [] []) edge.old edge.new }
         ensures channels { Stays E.channels edge.old edge.new }
     {
-        let mut texts = Texts::new(alloc);
-        put_record(&mut texts, &durable, self.core.instance())?;
+        routes.texts.clear();
+        put_record(&mut routes.texts, &durable, self.core.instance())?;
         match routes.kind {
-            Kind::Lines => texts.send(edge)?,
+            Kind::Lines => routes.texts.send(edge)?,
         }
         Ok(Vec::new(alloc))
     }

@@ -1,15 +1,14 @@
 //! A store: planning, committing, and what stands.
-ghost use Rattle.std.specs.Prelude.{◌≡◌, List, IfOk, IsTrue};
-ghost use Rattle.std.specs.List.{list_all};
+ghost use Rattle.std.specs.Prelude.{◌≡◌, List, length, IfOk, IsTrue};
 ghost use Rattle.iss_edge.specs.World.{Told, Stays};
 ghost use Rattle.iss_edge.specs.Calls.{HearsNothing};
 ghost use Rattle.iss_model.specs.declared.input.Record.{Record};
 ghost use Rattle.iss_model.specs.Forms.{is_in_form, is_stamp};
-ghost use Rattle.iss_model.specs.Tokens.{is_token};
-ghost use Rattle.iss_model.specs.texts.Spelling.{spelling, tokens_of};
 ghost use Rattle.iss_model.specs.rules.Judging.{judge};
+ghost use Rattle.iss_model.specs.run.Rooms.{need_of};
 ghost use Rattle.iss_core.specs.Values.{IsNext};
 ghost use Rattle.iss_store.specs.Standing.{StandsFor};
+ghost use Rattle.iss_store.specs.Values.{IsFramed};
 ghost use Rattle.iss_store.specs.Planning.{IsPlanOf, judged_at, Plans, PlansOnBook, made_of};
 ghost use Rattle.iss_store.specs.Committing.{Commits, CommitsOnBook, Keeps, KeepsPart, WhereItLasts, CommitCause};
 
@@ -17,7 +16,6 @@ use crate::{Durable, PlanFault, Planned, StoreFault};
 use iss_codec::put_record;
 use iss_core::Core;
 use iss_edge::Edge;
-use iss_journal::layout::HEAD;
 use iss_journal::{Frame, Journal};
 use iss_model::{Answer, Input, Judged, Record};
 use std::alloc::{AllocError, Global};
@@ -74,7 +72,7 @@ impl Store {
     }
 
     /// The plan of a record that is next, if it fits.
-    #[tactic(auto, using(crate::proofs::Plans::has_room, crate::proofs::Plans::has_no_room, crate::proofs::Lengths::body_of_spelling))]
+    #[tactic(auto, using(crate::proofs::Plans::has_room, crate::proofs::Plans::has_no_room))]
     fn plan_record(
         &self,
         alloc: Global,
@@ -87,13 +85,12 @@ impl Store {
         ensures planned { Plans (made_of self.now.place (record { accepted = accepted; is_clock = is_clock })) result }
         ensures plan_of { IfOk result (IsPlanOf self.now) }
     {
-        let body = body_of(alloc, &accepted)?;
+        let frame = frame_of(alloc, &accepted)?;
         let free = self.journal.free();
-        let need = HEAD + body.len() as u64;
+        let need = frame.size();
         if free < need {
             return Err(PlanFault::Told(Answer::Full { free, need }));
         }
-        let frame = Frame::of(alloc, &body)?;
         Ok(Planned {
             accepted,
             is_clock,
@@ -138,13 +135,15 @@ impl Store {
     }
 }
 
-/// A record's body in the journal.
-#[tactic(auto, unfolding(iss_model::specs::texts::Spelling::spelling))]
-fn body_of(alloc: Global, accepted: &Record) -> Result<Vec<u8>, AllocError>
-    ensures spelled { IfOk result (λ body. body.items ≡ spelling accepted.now) }
-    ensures tokens { IfOk result (λ body. IsTrue (list_all is_token (tokens_of accepted.now.input))) }
+/// A record's frame in the journal.
+#[tactic(auto, using(crate::proofs::Framing::framed_so, crate::proofs::Framing::framed_need))]
+fn frame_of(alloc: Global, accepted: &Record) -> Result<Frame, AllocError>
+    requires input_form { IsTrue (is_in_form accepted.now.input) }
+    requires stamp { IsTrue (is_stamp accepted.now.at) }
+    ensures framed { IfOk result (IsFramed accepted.now) }
+    ensures need { IfOk result (λ frame. length frame ≡ need_of accepted.now) }
 {
-    let mut body = Vec::new(alloc);
-    put_record(&mut body, accepted.at, &accepted.input)?;
-    Ok(body)
+    let mut bytes = Frame::begin(alloc)?;
+    put_record(&mut bytes, accepted.at, &accepted.input)?;
+    Frame::close(bytes)
 }

@@ -24,7 +24,7 @@ pub(crate) fn replay<E: Edge>(alloc: Global, edge: &mut E) -> Result<(), Stop>
     ensures caused { IsReplayCaused (E.faults edge.old) (E.faults edge.new) result }
 {
     let store = Store::open(alloc, edge)?;
-    store.resume(alloc, edge, &mut Routes::lines())?;
+    store.resume(alloc, edge, &mut Routes::lines(alloc))?;
     take_lines(alloc, store, edge)
 }
 
@@ -38,8 +38,10 @@ fn take_lines<E: Edge>(alloc: Global, opened: Store, edge: &mut E) -> Result<(),
     let mut reader = LineReader::new(alloc)?;
     let mut store = opened;
     let mut workspace = Workspace::new(alloc);
+    let mut routes = Routes::lines(alloc);
     'lines: while reader.read_line(edge)? {
-        store = take_line(alloc, store, reader.line(), &mut workspace, edge)?;
+        let line = reader.line();
+        store = take_line(alloc, store, line, &mut workspace, &mut routes, edge)?;
     }
     Ok(())
 }

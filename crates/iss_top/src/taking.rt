@@ -23,6 +23,7 @@ pub(crate) fn take_line<E: Edge>(
     store: Store,
     line: &[u8],
     workspace: &mut Workspace,
+    routes: &mut Routes,
     edge: &mut E,
 ) -> Result<Store, Stop>
     requires size { E.extent edge.old ≡ store.place.to }
@@ -37,7 +38,7 @@ pub(crate) fn take_line<E: Edge>(
     }
     let Workspace { scratch, texts } = workspace;
     match read_line_in(scratch, alloc, line, Mode::Lines) {
-        Ok(said) => take_input(alloc, store, &said, edge),
+        Ok(said) => take_input(alloc, store, &said, routes, edge),
         Err(LineFault::Form(fault)) => {
             tell_fault(texts, &fault, edge)?;
             Ok(store)
@@ -66,6 +67,7 @@ fn take_input<E: Edge>(
     alloc: Global,
     store: Store,
     said: &Line,
+    routes: &mut Routes,
     edge: &mut E,
 ) -> Result<Store, Stop>
     requires size { E.extent edge.old ≡ store.place.to }
@@ -81,15 +83,15 @@ fn take_input<E: Edge>(
     match store.plan(alloc, &said.input, at) {
         Ok(planned) => {
             let more = planned.more();
-            let next = keep(alloc, store, planned, edge)?;
+            let next = keep(alloc, store, planned, routes, edge)?;
             if !more {
                 return Ok(next);
             }
-            tell_answer_left(alloc, &next, &said.input, at, edge)?;
+            tell_answer_left(alloc, &next, &said.input, at, routes, edge)?;
             Ok(next)
         }
         Err(PlanFault::Told(answer)) => {
-            store.tell(alloc, edge, &Routes::lines(), Channel(0), &answer)?;
+            store.tell(alloc, edge, routes, Channel(0), &answer)?;
             Ok(store)
         }
         Err(PlanFault::OutOfMemory) => Err(Stop::Memory),
@@ -97,7 +99,13 @@ fn take_input<E: Edge>(
 }
 
 /// Makes the record of a plan last, and then sends what it says.
-fn keep<E: Edge>(alloc: Global, store: Store, planned: Planned, edge: &mut E) -> Result<Store, Stop>
+fn keep<E: Edge>(
+    alloc: Global,
+    store: Store,
+    planned: Planned,
+    routes: &mut Routes,
+    edge: &mut E,
+) -> Result<Store, Stop>
     requires size { E.extent edge.old ≡ store.place.to }
     requires plan { IsPlanOf store planned }
     ensures taken { TakesTo E.told edge.old edge.new (response_to_plan planned) store result }
@@ -107,7 +115,7 @@ fn keep<E: Edge>(alloc: Global, store: Store, planned: Planned, edge: &mut E) ->
     ensures size { IfOk result (λ next. next.place.to ≡ store.place.to) }
 {
     let (next, durable) = store.commit(alloc, edge, planned)?;
-    next.release(alloc, edge, durable, &mut Routes::lines())?;
+    next.release(alloc, edge, durable, routes)?;
     Ok(next)
 }
 
@@ -117,6 +125,7 @@ fn tell_answer_left<E: Edge>(
     store: &Store,
     input: &Input,
     at: u64,
+    routes: &Routes,
     edge: &mut E,
 ) -> Result<(), Stop>
     requires input_form { IsTrue (is_in_form input.now) }
@@ -128,7 +137,7 @@ fn tell_answer_left<E: Edge>(
 {
     match store.core().judge(alloc, input, at)? {
         Judged::Told(answer) => {
-            store.tell(alloc, edge, &Routes::lines(), Channel(0), &answer)?;
+            store.tell(alloc, edge, routes, Channel(0), &answer)?;
             Ok(())
         }
         Judged::New(_) => Ok(()),

@@ -43,9 +43,9 @@ returns-in_err-store-clause-ran g c =
     let failed : c.from_residual-in_err-store.result ≡ Err c.in_err-store.field-0.0 = search rules in
     rw failed (
     told_line_fails c.in_err-store.field-0.0 (g.E.Edge.faults c.read_line.new.edge) (g.E.Edge.faults c.take_line.new.edge)
-    c.args.opened c.lines.store c.lines.reader c.read_line.new.self c.line.result.now
+    c.args.opened c.lines.store c.lines.reader c.read_line.new.self c.line-line.result.now
     (g.E.Edge.told c.args.edge.now) (g.E.Edge.told c.lines.edge) (g.E.Edge.told c.read_line.new.edge) (g.E.Edge.told c.take_line.new.edge)
-    c.in_err-store.ensures.taking.cause c.line.ensures told (rw more at c.in_ok-read_line.ensures.reads) c.in_err-store.ensures.part
+    c.in_err-store.ensures.taking.cause c.line-line.ensures told (rw more at c.in_ok-read_line.ensures.reads) c.in_err-store.ensures.part
     )
 
 pub lines-preserved : goal.lines-preserved
@@ -56,9 +56,9 @@ lines-preserved g c =
     record {
       limit = advances.limit;
       told =
-          told_way_goes_on start c.lines.store c.in_ok-store.store c.lines.reader c.read_line.new.self c.line.result.now
+          told_way_goes_on start c.lines.store c.in_ok-store.store c.lines.reader c.read_line.new.self c.line-line.result.now
           (g.E.Edge.told c.args.edge.now) (g.E.Edge.told c.lines.edge) (g.E.Edge.told c.read_line.new.edge) (g.E.Edge.told c.take_line.new.edge)
-          c.line.ensures c.lines.invariant.told (rw more at c.in_ok-read_line.ensures.reads) c.in_ok-store.ensures.taken;
+          c.line-line.ensures c.lines.invariant.told (rw more at c.in_ok-read_line.ensures.reads) c.in_ok-store.ensures.taken;
       size = c.in_ok-store.ensures.kept ∙ c.in_ok-read_line.ensures.kept ∙ c.lines.invariant.size ∙ sym c.in_ok-store.ensures.size;
       later = later_then _ _ _ c.lines.invariant.later (later_then _ _ _ c.in_ok-read_line.ensures.reading.later c.in_ok-store.ensures.taking.later);
     }

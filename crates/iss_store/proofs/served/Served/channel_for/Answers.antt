@@ -1,6 +1,5 @@
-use Rattle.std.proofs.Common.{ap, sym, ◌∙◌}
-use Rattle.std.specs.Option.{option_copied}
-use Rattle.iss_store.proofs.Waiters.{channel_at, one_there, no_channel}
+use Rattle.std.proofs.Common.{◌∙◌}
+use Rattle.iss_store.proofs.Waiters.{channel_at, no_channel}
 use Rattle.iss_store.proofs.served.Served.channel_for.Goals as goal
 
 pub returns-in_err-place : goal.returns-in_err-place
