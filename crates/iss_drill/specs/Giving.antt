@@ -1,5 +1,5 @@
 -- What giving a line to a store comes to, in a run at which the store stands.
-use Rattle.std.specs.Prelude.{◌≡◌, ℕ, ◌×◌, ◌+◌, Bool, true, List, [], ◌∷◌, ◌++◌, length, Option, Some, None, Result, IfOk, OnOk, if◌then◌else◌}
+use Rattle.std.specs.Prelude.{◌≡◌, ℕ, ◌+◌, Bool, true, List, [], ◌∷◌, ◌++◌, length, Option, Some, None, Result, IfOk, OnOk, if◌then◌else◌}
 use Rattle.iss_model.specs.declared.call.CallId.{CallId}
 use Rattle.iss_model.specs.declared.input.Input.{Input}
 use Rattle.iss_model.specs.declared.input.Record.{Record}

@@ -1,6 +1,6 @@
 //! The events of a drill: purchases, and clearings and reversals of any of the transactions so far.
 ghost use Rattle.std.specs.Prelude.{◌≡◌, ◌<◌, ◌≤◌, ◌%◌, ◌==◌, ◌&&◌, nat_lt, IsTrue, if◌then◌else◌};
-ghost use Rattle.iss_model.specs.Forms.{is_in_form};
+ghost use Rattle.iss_model.specs.Forms.{is_in_form, is_outcome};
 ghost use Rattle.iss_drill.specs.Events.{amount_of, past_event, purchase, clearing, reversal, own_event, outcome_of};
 
 use crate::names::named;
@@ -99,7 +99,8 @@ fn past_event(number: u32, drawn: u32) -> Token
 /// How the gateway answers the call of an event.
 #[tactic(auto, unfolding(crate::specs::Events::outcome_of))]
 pub(crate) fn outcome_of(drawn: u32) -> Outcome
-    ensures { result ≡ outcome_of drawn }
+    ensures value { result ≡ outcome_of drawn }
+    ensures form { IsTrue (is_outcome result) }
 {
     match drawn % 11 {
         0 => Outcome::Connection,

@@ -1,4 +1,4 @@
--- What is held numbers its calls and notices from 1.
+-- What is held numbers its calls and notices from 1, and what is heard is in form.
 use Rattle.std.proofs.Common.{◌≡◌, ℕ, suc, zero, ◌<◌, Bool, true, false, cond, not, ◌&&◌, List, [], ◌∷◌, ◌++◌, length, get_or, refl, sym, ap, ap₂, subst, ◌∙◌, arith}
 use Rattle.std.specs.Prelude.{Option, ◌==◌}
 use Rattle.std.specs.List.{list_all}
@@ -6,11 +6,11 @@ use Rattle.std.proofs.lemmas.Bool.{and_parts}
 use Rattle.std.proofs.lemmas.List.Folds.{list_all-append}
 use Rattle.iss_edge.specs.declared.outside.Channel.{Channel}
 use Rattle.iss_model.specs.declared.call.CallId.{CallId}
-use Rattle.iss_model.specs.declared.call.Opened.{Opened}
-use Rattle.iss_model.specs.declared.input.Outcome.{Outcome}
 use Rattle.iss_model.proofs.Lists.{find_passes}
 use Rattle.iss_http.specs.Answers.{AnswerReading, more, ended, garbled, whole}
+use Rattle.iss_http.specs.declared.statuses.TheConstants.{OK}
 use Rattle.iss_jit.specs.Outcomes.{outcome_of}
+use Rattle.iss_jit.proofs.EachOutcome.{in_form}
 use Rattle.iss_session.specs.Desks.{Subject, of_call, of_notice}
 use Rattle.iss_session.specs.Hearings.{links_of}
 use Rattle.iss_session.specs.Items.{same_channel}
@@ -21,7 +21,7 @@ use Rattle.iss_link.specs.Hearing.{Answers}
 use Rattle.iss_link.specs.Values.{LinksNow, gone_as}
 use Rattle.iss_store.specs.Numbers.{is_from_one}
 use Rattle.iss_store.specs.Serving.{has_number}
-use Rattle.iss_serve.specs.Held.{CallsNumbered, LinksNumbered, is_about_number, is_heard_numbered}
+use Rattle.iss_serve.specs.Held.{CallsNumbered, LinksNumbered, is_about_number, is_heard_in_form}
 
 -- ---- lists
 
@@ -54,24 +54,24 @@ watched_numbered before after g e h links =
 
 -- ---- what is heard
 
-heard_numbered : (read : Opened → ℕ → List ℕ → Outcome) (subject : Subject) (reading : AnswerReading) → is_about_number subject ≡ true → is_heard_numbered (heard_as read subject reading) ≡ true
-heard_numbered read (of_call o) more h = refl
-heard_numbered read (of_call o) ended h = h
-heard_numbered read (of_call o) garbled h = h
-heard_numbered read (of_call o) (whole status body) h = h
-heard_numbered read (of_notice n) more h = refl
-heard_numbered read (of_notice n) ended h = refl
-heard_numbered read (of_notice n) garbled h = refl
-heard_numbered read (of_notice n) (whole status body) h = by (status == 200)
+heard_in_form : (instance : ℕ) (subject : Subject) (reading : AnswerReading) → is_about_number subject ≡ true → is_heard_in_form (heard_as (outcome_of instance) subject reading) ≡ true
+heard_in_form instance (of_call o) more h = refl
+heard_in_form instance (of_call o) ended h = ap (λ (b : Bool). b && true) h
+heard_in_form instance (of_call o) garbled h = ap (λ (b : Bool). b && true) h
+heard_in_form instance (of_call o) (whole status body) h = ap₂ (λ (a b : Bool). a && b) h (in_form instance o status body)
+heard_in_form instance (of_notice n) more h = refl
+heard_in_form instance (of_notice n) ended h = refl
+heard_in_form instance (of_notice n) garbled h = refl
+heard_in_form instance (of_notice n) (whole status body) h = by (status == OK)
   where
-    by : (b : Bool) → is_heard_numbered (cond b (acknowledged n) (dropped n)) ≡ true
+    by : (b : Bool) → is_heard_in_form (cond b (acknowledged n) (dropped n)) ≡ true
     by true = h
     by false = refl
 
-pub answer_numbered : (before after : LinksNow) (ch : Channel) (got : Option (List ℕ)) (said : LinkHeard) → Answers before after ch got said → LinksNumbered before.links → is_heard_numbered said ≡ true
-answer_numbered before after ch got said answers links =
-    ap is_heard_numbered answers.answer
-    ∙ heard_numbered (outcome_of before.instance) answers.link.subject (link_reading answers.link got answers.early)
+pub answer_in_form : (before after : LinksNow) (ch : Channel) (got : Option (List ℕ)) (said : LinkHeard) → Answers before after ch got said → LinksNumbered before.links → is_heard_in_form said ≡ true
+answer_in_form before after ch got said answers links =
+    ap is_heard_in_form answers.answer
+    ∙ heard_in_form before.instance answers.link.subject (link_reading answers.link got answers.early)
     (find_passes (λ (l : Link). same_channel l.ch ch) (λ (l : Link). is_about_number l.subject) before.links answers.link links answers.found)
 
 with_numbered : (ch : Channel) (piece : List ℕ) (links : List Link) → LinksNumbered links → LinksNumbered (links_with ch piece links)

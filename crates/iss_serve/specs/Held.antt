@@ -1,5 +1,5 @@
 -- What is held while a run serves, as a session of the definitions of serving.
-use Rattle.std.specs.Prelude.{◌≡◌, ◌-◌, ◌||◌, ℕ, Bool, true, List, [], ◌∷◌, ◌++◌, map, length, Option, Some, None, IsTrue, if◌then◌else◌}
+use Rattle.std.specs.Prelude.{◌≡◌, ◌-◌, ◌&&◌, ◌||◌, ℕ, Bool, true, List, [], ◌∷◌, ◌++◌, map, length, Option, Some, None, IsTrue, if◌then◌else◌}
 use Rattle.std.specs.List.{flat_map, list_all}
 use Rattle.iss_edge.specs.declared.outside.Channel.{Channel}
 use Rattle.iss_model.specs.declared.call.CallId.{CallId}
@@ -7,11 +7,11 @@ use Rattle.iss_model.specs.declared.limits.TheConstants.{MOST_RECORDS}
 use Rattle.iss_model.specs.declared.input.Input.TheVariants as input
 use Rattle.iss_model.specs.declared.input.Outcome.TheVariants.{Connection}
 use Rattle.iss_model.specs.declared.input.Record.{Record}
-use Rattle.iss_model.specs.Forms.{is_in_form, is_stamp}
+use Rattle.iss_model.specs.Forms.{is_in_form, is_outcome, is_stamp}
 use Rattle.iss_model.specs.rules.Histories.{history_of}
 use Rattle.iss_session.specs.declared.piece.TheConstants.{LONGEST_PIECE}
 use Rattle.iss_session.specs.Desks.{Subject, of_call, of_notice, Task, Waiter, desk_with}
-use Rattle.iss_session.specs.Links.{Link, LinkHeard, outcome, acknowledged}
+use Rattle.iss_session.specs.Links.{Link, LinkHeard, unfinished, outcome, acknowledged, dropped}
 use Rattle.iss_session.specs.Sessions.{Session, Queued, OpenRequest, unasked}
 use Rattle.iss_session.specs.Hearings.{is_reading, is_waiting, is_linked, links_of}
 use Rattle.iss_link.specs.Values.{LinksNow}
@@ -156,11 +156,12 @@ is_about_number (of_notice number) = is_from_one number
 abbrev pub LinksNumbered : List Link → Type 0
 LinksNumbered links = list_all (λ link. is_about_number link.subject) links ≡ true
 
--- the call that has its answer, or the notice that is acknowledged, is numbered from 1
-abbrev pub is_heard_numbered : LinkHeard → Bool
-is_heard_numbered (outcome call said) = is_from_one call.0
-is_heard_numbered (acknowledged number) = is_from_one number
-is_heard_numbered _ = true
+-- the call that has its answer, or the notice that is acknowledged, is numbered from 1, and the answer is of its form
+abbrev pub is_heard_in_form : LinkHeard → Bool
+is_heard_in_form (outcome call said) = is_from_one call.0 && is_outcome said
+is_heard_in_form (acknowledged number) = is_from_one number
+is_heard_in_form unfinished = true
+is_heard_in_form (dropped number) = true
 
 -- The time is a stamp, and there is room for what a take brings. The calls that weren't reached, and the calls and notices whose answers
 -- are awaited, are numbered from 1.

@@ -1,9 +1,10 @@
 //! What a wait brings: a client, a channel that is ready, the time, or nothing.
-ghost use Rattle.std.specs.Prelude.{◌≡◌, ◌<◌, ◌≤◌, [], ◌∷◌, Some, None, true, false, length, IfOk, IfSome, IsSome};
+ghost use Rattle.std.specs.Prelude.{◌≡◌, ◌<◌, ◌≤◌, [], ◌∷◌, Some, None, true, false, length, IfOk, IfSome, IsSome, IsTrue};
 ghost use Rattle.iss_edge.specs.declared.outside.Action.TheVariants.{Close};
 ghost use Rattle.iss_edge.specs.declared.outside.Answered.TheVariants.{Took};
 ghost use Rattle.iss_edge.specs.World.{Later, Stays};
 ghost use Rattle.iss_edge.specs.Outer.{Adds, ToldBoth};
+ghost use Rattle.iss_model.specs.Forms.{is_outcome};
 ghost use Rattle.iss_model.specs.declared.input.Input.TheVariants as input_of;
 ghost use Rattle.iss_session.specs.declared.piece.TheConstants.{LONGEST_PIECE};
 ghost use Rattle.iss_session.specs.Desks.{waiters_without};
@@ -15,7 +16,7 @@ ghost use Rattle.iss_store.specs.Numbers.{is_from_one};
 ghost use Rattle.iss_store.specs.Serving.{SendsReply};
 ghost use Rattle.iss_store.specs.Values.{StoreNow};
 ghost use Rattle.iss_serve.specs.Causes.{IsServeCaused};
-ghost use Rattle.iss_serve.specs.Held.{seen_held, queued_maybe, queued_as, IsQueuedInForm, resting, taking, arrived_on, is_heard_numbered, IsHeld, IsStillHeld, IsOf};
+ghost use Rattle.iss_serve.specs.Held.{seen_held, queued_maybe, queued_as, IsQueuedInForm, resting, taking, arrived_on, is_heard_in_form, IsHeld, IsStillHeld, IsOf};
 ghost use Rattle.iss_serve.specs.Runs.{HearsFrom, HearsOfAny, HearsShort, PassesOver, ServesInPart, ServesShort};
 
 use crate::ServeFault;
@@ -244,7 +245,7 @@ fn take_piece<E: Edge>(edge: &mut E, ch: Channel, buffer: &mut [u8]) -> Option<u
 
 /// What is to be judged once a link heard this.
 fn queued_of(heard: &Heard) -> Option<QueuedInput>
-    requires numbered { is_heard_numbered (heard_of heard.now) ≡ true }
+    requires form { is_heard_in_form (heard_of heard.now) ≡ true }
     ensures queued { queued_maybe result ≡ inputs_of (heard_of heard.now) }
     ensures forms { IfSome result IsQueuedInForm }
 {
@@ -268,7 +269,8 @@ fn unasked(input: Input) -> QueuedInput
 
 /// The answer of a call. Calls are numbered from 1.
 pub(crate) fn answer(call: CallId, outcome: Outcome) -> QueuedInput
-    requires { is_from_one call.0 ≡ true }
+    requires numbered { is_from_one call.0 ≡ true }
+    requires form { IsTrue (is_outcome outcome) }
     ensures said { queued_as result ≡ unasked (input_of.Answer call outcome) }
     ensures forms { IsQueuedInForm result }
 {

@@ -11,6 +11,6 @@ returns-clause-given c =
     let at : ℕ = 60000 * c.from-at.result in
     event_answered start lines c.args.number c.args.event.now at c.in-Some.call c.outcome_of-outcome.result c.in_ok-next.opened c.give-2.new.tally c.in_ok-answered.answered
     event (ap (λ (n : ℕ). 60000 * n) c.from-at.ensures) (c.in_ok-next.ensures.opened start lines given) c.in-Some.is
-    (c.outcome_of-outcome.ensures ∙ ap (λ (y : ℕ). outcome_of y) drawn)
+    (c.outcome_of-outcome.ensures.value ∙ ap (λ (y : ℕ). outcome_of y) drawn)
     (c.in_ok-answered.ensures.given start (lines ++ sound c.args.event.now (Some at) ∷ []) (Some at) refl
     (c.in_ok-next.ensures.given start lines (Some at) refl given))

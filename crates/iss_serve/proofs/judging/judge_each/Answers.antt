@@ -23,7 +23,10 @@ loop-call-init g c = record {
 }
 
 pub answer-queued-requires : goal.answer-queued-requires
-answer-queued-requires g c = all_at (λ (call : CallId). is_from_one call.0) c.args.calls.now c.loop-call.call-index _ c.loop-call-test.true c.requires.numbered
+answer-queued-requires g c = record {
+  numbered = all_at (λ (call : CallId). is_from_one call.0) c.args.calls.now c.loop-call.call-index _ c.loop-call-test.true c.requires.numbered;
+  form = refl;
+}
 
 pub returns-in_err-next-clause-part : goal.returns-in_err-next-clause-part
 returns-in_err-next-clause-part g c =

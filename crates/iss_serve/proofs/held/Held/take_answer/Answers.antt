@@ -5,7 +5,7 @@ use Rattle.iss_link.specs.Values.{heard_of}
 use Rattle.iss_serve.specs.Held.{HeldNow, seen_held, queued_maybe, taking}
 use Rattle.iss_serve.specs.Runs.{ServesSome}
 use Rattle.iss_serve.proofs.Causings.{anyway}
-use Rattle.iss_serve.proofs.Numbering.{answer_numbered, left_numbered}
+use Rattle.iss_serve.proofs.Numbering.{answer_in_form, left_numbered}
 use Rattle.iss_serve.proofs.Hears.{told_link_heard, told_link_some}
 use Rattle.iss_serve.proofs.held.Held.take_answer.Goals as goal
 
@@ -18,8 +18,8 @@ returns-in_err-heard-clause-part g c = λ store own.
 
 pub queued_of-requires : goal.queued_of-requires
 queued_of-requires g c = record {
-  numbered =
-      answer_numbered c.args.self.now.links c.ready.new.self c.args.ch c.in_ok-heard.ensures.listens.got (heard_of c.in_ok-heard.heard) c.in_ok-heard.ensures.listens.answers
+  form =
+      answer_in_form c.args.self.now.links c.ready.new.self c.args.ch c.in_ok-heard.ensures.listens.got (heard_of c.in_ok-heard.heard) c.in_ok-heard.ensures.listens.answers
       c.requires.held.links;
 }
 
