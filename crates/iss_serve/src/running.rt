@@ -1,5 +1,5 @@
 //! A run that serves.
-ghost use Rattle.std.specs.Prelude.{◌≡◌, ◌<◌, IfOk, IfErr, OnOk};
+ghost use Rattle.std.specs.Prelude.{◌≡◌, ◌<◌, [], IfOk, IfErr, OnOk};
 ghost use Rattle.iss_edge.specs.World.{Stays};
 ghost use Rattle.iss_edge.specs.Outer.{ToldBoth};
 ghost use Rattle.iss_serve.specs.Causes.{IsServeCaused, IsOfDisk};
