@@ -1,0 +1,5 @@
+pub mod Keys
+pub mod Showing
+pub mod Rebuilding
+pub mod Settled
+pub mod Again

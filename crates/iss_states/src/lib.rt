@@ -1,0 +1,9 @@
+//! The state of a core, as lists: what a core shows, and what is made again from it.
+//!
+//! It may cite `iss_model`, `iss_acts`, `iss_agreement` and `iss_state`.
+//! It must not cite any body: its laws are of definitions.
+#![tactic(auto)]
+
+mod showing;
+
+pub use showing::{a_state_without_a_record, keys_are_read_again};
