@@ -4,6 +4,8 @@
 //! It must not cite any body: its laws are of definitions.
 #![tactic(auto)]
 
+mod settings;
 mod showing;
 
+pub use settings::settings_are_made_again;
 pub use showing::{a_state_without_a_record, keys_are_read_again};
