@@ -1,16 +1,14 @@
 -- How one more decision is found, and what entries leave of decisions, of events and of the number of records.
-use Rattle.std.proofs.Common.{◌≡◌, ℕ, ◌+◌, Bool, true, false, cond, List, [], ◌∷◌, ◌++◌, find, fold, refl, ◌∙◌}
-use Rattle.std.specs.Prelude.{Option, Some, None, option_map}
+use Rattle.std.proofs.Common.{◌≡◌, ℕ, Bool, true, false, cond, List, [], ◌∷◌, ◌++◌, find, fold, refl, ◌∙◌}
+use Rattle.std.specs.Prelude.{Some, None, option_map}
 use Rattle.std.specs.Option.{option_or}
 use Rattle.std.specs.Str.{bytes_eq}
-use Rattle.iss_model.specs.declared.decision.Verdict.{Verdict}
-use Rattle.iss_model.specs.declared.entry.Entry.{Entry}
 use Rattle.iss_model.specs.declared.input.Input.{Input}
 use Rattle.iss_model.specs.declared.input.Input.TheVariants as input
 use Rattle.iss_model.specs.declared.input.Record.{Record}
 use Rattle.iss_model.specs.declared.setting.Moved.TheVariants as moved
 use Rattle.iss_model.specs.rules.Due.{DueItem, due_items, thing_entries}
-use Rattle.iss_model.specs.rules.Facts.{Accepted, Decision, verdict_in}
+use Rattle.iss_model.specs.rules.Facts.{Decision, verdict_in}
 use Rattle.iss_model.specs.rules.Keeper.{Growth}
 use Rattle.iss_model.specs.rules.Stepping.{after_due, own_entries, settle, step}
 use Rattle.iss_model.specs.state.Cores.{CoreState, after_setting, core_facts, core_keeper, with_record}

@@ -5,3 +5,7 @@ pub mod Quiet
 pub mod SetAgain
 pub mod SetSteps
 pub mod Judged
+pub mod Found
+pub mod Again
+pub mod Purchases
+pub mod AgainSteps

@@ -4,8 +4,10 @@
 //! It must not cite any body: its laws are of definitions.
 #![tactic(auto)]
 
+mod calls;
 mod settings;
 mod showing;
 
+pub use calls::{calls_are_made_again, transactions_are_made_again};
 pub use settings::settings_are_made_again;
 pub use showing::{a_state_without_a_record, keys_are_read_again};
