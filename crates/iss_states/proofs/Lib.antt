@@ -9,3 +9,5 @@ pub mod Found
 pub mod Again
 pub mod Purchases
 pub mod AgainSteps
+pub mod Marks
+pub mod Shown

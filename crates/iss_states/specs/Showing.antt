@@ -1,5 +1,5 @@
 -- The state that a core shows.
-use Rattle.std.specs.Prelude.{ℕ, ℤ, ◌==◌, List, [], map, find, Option, Some, None, option_map, unwrap_or}
+use Rattle.std.specs.Prelude.{ℕ, ℤ, Bool, true, false, ◌==◌, List, [], map, find, Option, Some, None, option_map, unwrap_or}
 use Rattle.std.specs.List.{flat_map}
 use Rattle.std.specs.FinMap as finite
 use Rattle.std.specs.Str.{bytes_eq}
@@ -37,6 +37,11 @@ mark_of (Some how) = call_state.Closed how
 -- how the call of an event stands, if it has one
 abbrev pub mark_in : List CallNow → List ℕ → Option CallState
 mark_in calls event = option_map (λ c. mark_of c.how) (find (λ c. bytes_eq c.opened.event event) calls)
+
+-- a call with this mark is asked
+abbrev pub is_asked_mark : Option CallState → Bool
+is_asked_mark (Some call_state.Asked) = true
+is_asked_mark _ = false
 
 -- an accepted event as it stands
 abbrev pub seen_in : CoreState → Accepted → Seen
@@ -123,3 +128,7 @@ shown c =
 -- the state without a record
 abbrev pub no_state : State
 no_state = record { records = 0; now = 0; events = []; txns = []; balances = []; counters = []; sums = []; made = 0; notices = [] }
+
+-- a shown event as it was accepted
+abbrev pub accepted_of_seen : Seen → Accepted
+accepted_of_seen e = record { number = e.number; at = e.body.at; input = e.body.input }

@@ -10,4 +10,4 @@ mod showing;
 
 pub use calls::{calls_are_made_again, transactions_are_made_again};
 pub use settings::settings_are_made_again;
-pub use showing::{a_state_without_a_record, keys_are_read_again};
+pub use showing::{a_state_without_a_record, keys_are_read_again, states_show_their_cores};
