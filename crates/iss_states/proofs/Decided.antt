@@ -1,8 +1,10 @@
 -- How one more decision is found, and what entries leave of decisions, of events and of the number of records.
-use Rattle.std.proofs.Common.{◌≡◌, ℕ, Bool, true, false, cond, List, [], ◌∷◌, ◌++◌, find, fold, refl, ◌∙◌}
+use Rattle.std.proofs.Common.{◌≡◌, ◌+◌, ℕ, Bool, true, false, cond, List, [], ◌∷◌, ◌++◌, find, fold, refl, ◌∙◌, max}
 use Rattle.std.specs.Prelude.{Some, None, option_map}
 use Rattle.std.specs.Option.{option_or}
 use Rattle.std.specs.Str.{bytes_eq}
+use Rattle.iss_model.specs.declared.entry.Entry.{Entry}
+use Rattle.iss_model.specs.declared.entry.Entry.TheVariants as entry
 use Rattle.iss_model.specs.declared.input.Input.{Input}
 use Rattle.iss_model.specs.declared.input.Input.TheVariants as input
 use Rattle.iss_model.specs.declared.input.Record.{Record}
@@ -11,7 +13,7 @@ use Rattle.iss_model.specs.rules.Due.{DueItem, due_items, thing_entries}
 use Rattle.iss_model.specs.rules.Facts.{Decision, verdict_in}
 use Rattle.iss_model.specs.rules.Keeper.{Growth}
 use Rattle.iss_model.specs.rules.Stepping.{after_due, own_entries, settle, step}
-use Rattle.iss_model.specs.state.Cores.{CoreState, after_setting, core_facts, core_keeper, with_record}
+use Rattle.iss_model.specs.state.Cores.{CoreState, after_entry, after_setting, core_facts, core_keeper, with_record}
 use Rattle.iss_state.proofs.invariants.Kept.{due_accepted, entries_accepted, entries_count}
 
 -- one decision more is found after all others
@@ -39,10 +41,39 @@ pub due_count : (at : ℕ) (g : Growth CoreState) (items : List DueItem) → (fo
 due_count at g [] = refl
 due_count at g (item ∷ items) = due_count at (settle core_keeper at g item) items ∙ entries_count g.world (thing_entries item.thing at (core_facts g.world))
 
--- a step accepts what taking up its record does
-pub step_accepted : (c : CoreState) (r : Record) → (step core_keeper c r).world.accepted ≡ (with_record c r).accepted
+setting_now : (s : CoreState) (i : Input) → (after_setting s i).now ≡ s.now
+setting_now s (input.Move token (moved.Card card to)) = refl
+setting_now s (input.Move token (moved.User user to)) = refl
+setting_now s _ = refl
+
+entry_now : (s : CoreState) (e : Entry) → (after_entry s e).now ≡ s.now
+entry_now s (entry.Conf i) = setting_now s i
+entry_now s _ = refl
+
+entries_now : (s : CoreState) (es : List Entry) → (fold after_entry s es).now ≡ s.now
+entries_now s [] = refl
+entries_now s (e ∷ es) = entries_now (after_entry s e) es ∙ entry_now s e
+
+due_now : (at : ℕ) (g : Growth CoreState) (items : List DueItem) → (fold (settle core_keeper at) g items).world.now ≡ g.world.now
+due_now at g [] = refl
+due_now at g (item ∷ items) = due_now at (settle core_keeper at g item) items ∙ entries_now g.world (thing_entries item.thing at (core_facts g.world))
+
+-- A step leaves the events, the time and the number of records as taking up its record does.
+pub record TakesUp (c : CoreState) (r : Record) (w : CoreState) : Type 0 where
+  pub accepted : w.accepted ≡ (with_record c r).accepted
+  pub now : w.now ≡ max c.now r.at
+  pub count : w.count ≡ c.count + 1
+
+pub step_takes_up : (c : CoreState) (r : Record) → TakesUp c r (step core_keeper c r).world
 unfolding step
-step_accepted c r =
+step_takes_up c r =
     let up : CoreState = with_record c r in
+    let start : Growth CoreState = record { world = up; entries = [] } in
+    let items : List DueItem = due_items (core_facts up) r.at in
     let due : CoreState = (after_due core_keeper up r.at).world in
-    entries_accepted due (own_entries r (core_facts due)) ∙ due_accepted r.at (record { world = up; entries = [] }) (due_items (core_facts up) r.at)
+    let own : List Entry = own_entries r (core_facts due) in
+    record {
+      accepted = entries_accepted due own ∙ due_accepted r.at start items;
+      now = entries_now due own ∙ due_now r.at start items;
+      count = entries_count due own ∙ due_count r.at start items;
+    }

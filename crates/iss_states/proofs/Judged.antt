@@ -40,7 +40,7 @@ use Rattle.iss_state.proofs.calls.Steps.{ready_taken, step_well}
 use Rattle.iss_states.specs.Rebuilding.{is_done}
 use Rattle.iss_states.specs.Settled.{IsJudged, WereJudged, reason_before, sets_something, set_again, set_part, uncounted, verdict_by, with_done}
 use Rattle.iss_states.specs.Showing.{token_of_event}
-use Rattle.iss_states.proofs.Decided.{found_last, setting_decisions, step_accepted}
+use Rattle.iss_states.proofs.Decided.{found_last, setting_decisions, step_takes_up}
 use Rattle.iss_states.proofs.SetSteps.{StandsSet, step_set, swept, undecided}
 
 -- one more decision ----
@@ -235,7 +235,7 @@ step_judged c r new well same judged =
     let before : WereJudged due.decisions no_core c.accepted = due_judged r.at start items no_core c.accepted judged in
     let kept : WereJudged w.decisions no_core c.accepted = entries_judged due es no_core c.accepted before in
     let again : set_part due ≡ set_again w.decisions c.accepted = now.set ∙ sym (entries_again due es no_core c.accepted before) in
-    subst (WereJudged w.decisions no_core) (sym (step_accepted c r))
+    subst (WereJudged w.decisions no_core) (sym (step_takes_up c r).accepted)
     (last_judged (event_token r.input) r.input w.decisions due (c.count + 1) r.at c.accepted refl kept again (λ token f. own_judged due r.input r.at (ap (λ (o : Option (List ℕ)). verdict_in due.decisions (unwrap_or o [])) f ∙ undecided r.input due now.ready token f)))
 
 -- all records ----

@@ -11,3 +11,4 @@ pub mod Purchases
 pub mod AgainSteps
 pub mod Marks
 pub mod Shown
+pub mod EventOrder

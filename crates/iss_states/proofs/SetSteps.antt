@@ -33,7 +33,7 @@ use Rattle.iss_states.specs.Settled.{sets_something, set_again, set_part, with_d
 use Rattle.iss_states.specs.Showing.{token_of_event}
 use Rattle.iss_acts.specs.Causes.{ComesOf, FallsDue}
 use Rattle.iss_acts.proofs.Stepping.{settled_stays}
-use Rattle.iss_states.proofs.Decided.{due_count, found_last, setting_decisions, step_accepted}
+use Rattle.iss_states.proofs.Decided.{due_count, found_last, setting_decisions, step_takes_up}
 use Rattle.iss_states.proofs.Quiet.{Settles, declines, due_quiet, is_quiet_entry, own_settles, quietly, sets}
 use Rattle.iss_states.proofs.SetAgain.{IsNewTo, before_done, before_undone, quiet_set, setting_part, unset}
 
@@ -168,7 +168,7 @@ step_set c r new well same =
     in
     after
     ∙ ap (λ (n : ℕ). set_again w.decisions (c.accepted ++ cond (is_some (event_token r.input)) (record { number = n; at = r.at; input = r.input } ∷ []) [])) (due_count r.at start items)
-    ∙ ap (set_again w.decisions) (sym (step_accepted c r))
+    ∙ ap (set_again w.decisions) (sym (step_takes_up c r).accepted)
 
 -- all records ----
 

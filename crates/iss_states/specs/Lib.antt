@@ -3,3 +3,4 @@ pub mod Showing
 pub mod Rebuilding
 pub mod Settled
 pub mod Again
+pub mod Order
