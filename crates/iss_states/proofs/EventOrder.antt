@@ -7,13 +7,11 @@ use Rattle.std.proofs.lemmas.Bool.{and_parts}
 use Rattle.std.proofs.lemmas.Bool.Decides.{nat_tests}
 use Rattle.iss_model.specs.declared.input.Input.{Input}
 use Rattle.iss_model.specs.declared.input.Record.{Record}
-use Rattle.iss_model.specs.declared.decision.Judged.TheVariants as judged
 use Rattle.iss_model.specs.declared.limits.TheConstants.{MOST_RECORDS}
 use Rattle.iss_model.specs.Forms.{is_stamp}
 use Rattle.iss_model.specs.Inputs.{event_token, is_event}
 use Rattle.iss_model.specs.texts.Spelling.{has_spelling, is_record}
 use Rattle.iss_model.specs.rules.Facts.{Accepted}
-use Rattle.iss_model.specs.rules.Judging.{judge}
 use Rattle.iss_model.specs.rules.Stepping.{step}
 use Rattle.iss_model.specs.state.Cores.{CoreState, core_keeper, with_record}
 use Rattle.iss_model.proofs.Names.{name-sym}
@@ -24,7 +22,7 @@ use Rattle.iss_model.specs.declared.state.Seen.{Seen}
 use Rattle.iss_model.specs.declared.state.State.{State}
 use Rattle.iss_states.specs.Showing.{accepted_of_seen, shown, token_of_event}
 use Rattle.iss_states.specs.Rebuilding.{rebuilt, state_after}
-use Rattle.iss_states.specs.Order.{AreInOrder, do_numbers_rise, do_stamps_rise, has_event_token, have_tokens_of_their_own, is_event_record}
+use Rattle.iss_states.specs.Order.{AreInOrder, IsNewOnState, do_numbers_rise, do_stamps_rise, has_event_token, have_tokens_of_their_own, is_event_record}
 use Rattle.iss_states.proofs.Shown.{accepted_again, events_shown}
 use Rattle.iss_states.proofs.Decided.{step_takes_up}
 
@@ -228,13 +226,13 @@ taken_in_order c r h room up form new =
     next : (m n : ℕ) → nat_lt m n ≡ true → nat_le (m + 1) n ≡ true
     next m n h = grind (arith, nat_tests)
 
-pub order_after : (s : State) (r : Record) → AreInOrder s → nat_lt s.records MOST_RECORDS ≡ true → s.now ≤ r.at → is_record r ≡ true → judge core_keeper (rebuilt s) r.input r.at ≡ judged.New r → AreInOrder (state_after s r)
-order_after s r h room up form new =
+pub order_after : (s : State) (r : Record) → AreInOrder s → IsNewOnState s r → AreInOrder (state_after s r)
+order_after s r h now =
     let c : CoreState = rebuilt s in
     let w : CoreState = (step core_keeper c r).world in
     let takes = step_takes_up c r in
     let first : InOrder s.records s.now c.accepted = subst (InOrder s.records s.now) (sym (accepted_again s)) (in_order s h) in
-    let taken : InOrder (s.records + 1) (max s.now r.at) (with_record c r).accepted = taken_in_order c r first room up form (judged_new c r new) in
+    let taken : InOrder (s.records + 1) (max s.now r.at) (with_record c r).accepted = taken_in_order c r first now.room now.later now.form (judged_new c r now.new) in
     let numbered : InOrder w.count (max s.now r.at) (with_record c r).accepted = subst (λ (n : ℕ). InOrder n (max s.now r.at) (with_record c r).accepted) (sym takes.count) taken in
     let timed : InOrder w.count w.now (with_record c r).accepted = subst (λ (n : ℕ). InOrder w.count n (with_record c r).accepted) (sym takes.now) numbered in
     let of_world : InOrder w.count w.now w.accepted = subst (InOrder w.count w.now) (sym takes.accepted) timed in

@@ -1,12 +1,17 @@
 -- Events in order: numbers rise, stamps don't fall, and tokens are their own.
-use Rattle.std.specs.Prelude.{◌≡◌, ℕ, Bool, true, not, ◌&&◌, nat_le, nat_lt, List, [], ◌∷◌, is_some, unwrap_or}
+use Rattle.std.specs.Prelude.{◌≡◌, ◌≤◌, ℕ, Bool, true, not, ◌&&◌, nat_le, nat_lt, List, [], ◌∷◌, is_some, unwrap_or}
 use Rattle.std.specs.List.{list_all, list_any}
+use Rattle.iss_model.specs.declared.decision.Judged.TheVariants.{New}
+use Rattle.iss_model.specs.declared.input.Record.{Record}
 use Rattle.iss_model.specs.declared.limits.TheConstants.{MOST_RECORDS}
 use Rattle.iss_model.specs.declared.state.Seen.{Seen}
 use Rattle.iss_model.specs.declared.state.State.{State}
 use Rattle.iss_model.specs.Forms.{is_stamp}
 use Rattle.iss_model.specs.Inputs.{event_token, is_event}
+use Rattle.iss_model.specs.rules.Judging.{judge}
+use Rattle.iss_model.specs.state.Cores.{core_keeper}
 use Rattle.iss_model.specs.texts.Spelling.{is_record}
+use Rattle.iss_states.specs.Rebuilding.{rebuilt}
 
 -- the numbers of events rise from above this one, up to the number of records
 abbrev pub do_numbers_rise : ℕ → ℕ → List Seen → Bool
@@ -40,3 +45,10 @@ pub record AreInOrder (s : State) : Type 0 where
   pub stamps : do_stamps_rise 0 s.now s.events ≡ true
   pub tokens : have_tokens_of_their_own s.events ≡ true
   pub records : list_all is_event_record s.events ≡ true
+
+-- A record is new on a state: records are left, its stamp isn't before the time, it is in form, and a core that is made again judges it as new.
+pub record IsNewOnState (s : State) (r : Record) : Type 0 where
+  pub room : nat_lt s.records MOST_RECORDS ≡ true
+  pub later : s.now ≤ r.at
+  pub form : is_record r ≡ true
+  pub new : judge core_keeper (rebuilt s) r.input r.at ≡ New r

@@ -1,5 +1,5 @@
 -- The state that a core shows.
-use Rattle.std.specs.Prelude.{ℕ, ℤ, Bool, true, false, ◌==◌, List, [], map, find, Option, Some, None, option_map, unwrap_or}
+use Rattle.std.specs.Prelude.{◌≡◌, ℕ, ℤ, Bool, true, false, ◌==◌, List, [], map, find, Option, Some, None, is_none, option_map, unwrap_or}
 use Rattle.std.specs.List.{flat_map}
 use Rattle.std.specs.FinMap as finite
 use Rattle.std.specs.Str.{bytes_eq}
@@ -132,3 +132,11 @@ no_state = record { records = 0; now = 0; events = []; txns = []; balances = [];
 -- a shown event as it was accepted
 abbrev pub accepted_of_seen : Seen → Accepted
 accepted_of_seen e = record { number = e.number; at = e.body.at; input = e.body.input }
+
+-- the mark of a call's event is how the call stands
+abbrev pub IsMarked : CoreState → CallNow → Type 0
+IsMarked c x = mark_in c.calls x.opened.event ≡ Some (mark_of x.how)
+
+-- an event isn't decided exactly if its call is asked
+abbrev pub IsPendingIfAsked : CoreState → List ℕ → Type 0
+IsPendingIfAsked c event = is_none (verdict_in c.decisions event) ≡ is_asked_mark (mark_in c.calls event)

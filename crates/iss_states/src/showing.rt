@@ -1,17 +1,16 @@
 //! What a core shows.
-ghost use Rattle.std.specs.Prelude.{◌≡◌, ℕ, ℤ, true, List, Some, length, map, is_none};
+ghost use Rattle.std.specs.Prelude.{◌≡◌, ℕ, ℤ, true, List, Some, length, map};
 ghost use Rattle.std.specs.FinMap as finite;
 ghost use Rattle.iss_model.specs.declared.account.Account.{Account};
 ghost use Rattle.iss_model.specs.Sums.{account_key};
 ghost use Rattle.iss_model.specs.rules.Activity.{CallNow, TxnNow, call_numbered};
 ghost use Rattle.iss_model.specs.rules.Controls.{counter_key};
-ghost use Rattle.iss_model.specs.rules.Facts.{verdict_in};
 ghost use Rattle.iss_model.specs.state.Cores.{ControlKept, CoreState, no_core};
 ghost use Rattle.iss_state.specs.Pending.{IsWell};
 ghost use Rattle.iss_state.specs.Sound.{is_accepted};
 ghost use Rattle.iss_state.specs.Stakes.{txn_tokens};
 ghost use Rattle.iss_states.specs.Keys.{account_of_key, after_token, first_token, has_no_zero, int_of_key, is_named_by_token};
-ghost use Rattle.iss_states.specs.Showing.{accepted_of_seen, counters_of, is_asked_mark, mark_in, mark_of, no_state, shown};
+ghost use Rattle.iss_states.specs.Showing.{IsMarked, IsPendingIfAsked, accepted_of_seen, counters_of, no_state, shown};
 
 /// A core without a record shows nothing.
 #[tactic(auto, using(crate::proofs::Nothing::nothing_shown))]
@@ -27,10 +26,8 @@ pub fn states_show_their_cores()
     ensures events { (c : CoreState) → map accepted_of_seen (shown c).events ≡ c.accepted }
     ensures transactions { (c : CoreState) → map (λ t. t.txn) (shown c).txns ≡ txn_tokens c.holdings.txns }
     ensures counters { (txns : List TxnNow) → (k : ControlKept) → length (counters_of txns k) ≡ finite.len k.amounts }
-    ensures marks { (c : CoreState) → (n : ℕ) → (x : CallNow) → IsWell c → call_numbered n c.calls ≡ Some x
-        → mark_in c.calls x.opened.event ≡ Some (mark_of x.how) }
-    ensures pending { (c : CoreState) → (event : List ℕ) → IsWell c → is_accepted c.accepted event ≡ true
-        → is_none (verdict_in c.decisions event) ≡ is_asked_mark (mark_in c.calls event) }
+    ensures marks { (c : CoreState) → (n : ℕ) → (x : CallNow) → IsWell c → call_numbered n c.calls ≡ Some x → IsMarked c x }
+    ensures pending { (c : CoreState) → (event : List ℕ) → IsWell c → is_accepted c.accepted event ≡ true → IsPendingIfAsked c event }
 {}
 
 /// The key of an account is read again if its user's name is a token. So is the key of a counter: its user, and its number.
