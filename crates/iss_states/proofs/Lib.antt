@@ -12,3 +12,7 @@ pub mod AgainSteps
 pub mod Marks
 pub mod Shown
 pub mod EventOrder
+pub mod FairSums
+pub mod FairActs
+pub mod FairRefunds
+pub mod FairSteps

@@ -4,3 +4,4 @@ pub mod Rebuilding
 pub mod Settled
 pub mod Again
 pub mod Order
+pub mod Fairness

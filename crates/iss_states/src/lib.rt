@@ -5,11 +5,13 @@
 #![tactic(auto)]
 
 mod calls;
+mod fairness;
 mod order;
 mod settings;
 mod showing;
 
 pub use calls::{calls_are_made_again, transactions_are_made_again};
+pub use fairness::sums_stay_fair;
 pub use order::states_stay_in_order;
 pub use settings::settings_are_made_again;
 pub use showing::{a_state_without_a_record, keys_are_read_again, states_show_their_cores};
