@@ -11,10 +11,10 @@ use Rattle.iss_model.specs.rules.Due.{DueItem, DueThing, due_items, thing_entrie
 use Rattle.iss_model.specs.rules.Facts.{Accepted}
 use Rattle.iss_model.specs.rules.Histories.{IsLegal}
 use Rattle.iss_model.specs.rules.Keeper.{Growth}
-use Rattle.iss_model.specs.rules.Stepping.{after_due, entries_of, settle, step}
+use Rattle.iss_model.specs.rules.Stepping.{after_due, entries_of, step}
 use Rattle.iss_model.specs.state.Cores.{CoreState, after_entry, core_facts, core_keeper, core_of, no_core, with_record}
 use Rattle.iss_model.proofs.Names.{its_name}
-use Rattle.iss_acts.proofs.Stepping.{settled_stays}
+use Rattle.iss_acts.proofs.Stepping.{due_stays}
 use Rattle.iss_state.specs.Pending.{HasTakenUp, IsWell}
 use Rattle.iss_state.specs.Sound.{IsNewEvent, is_accepted}
 use Rattle.iss_state.proofs.calls.Legal.{nothing_well}
@@ -44,17 +44,21 @@ own_found c r new token e =
     ∙ ap₂ (λ (o : Option Accepted) (b : Bool). option_or o (cond b (Some row) None)) (not_found c.accepted token (new token e)) (ap (is_text token) e ∙ its_name token)
 
 -- what stands while what is due is settled
-record Stays (i : Input) (c : CoreState) : Type 0 where
-  ready : HasTakenUp c i
-  again : AreMadeAgain c
+pub record Stays (i : Input) (c : CoreState) : Type 0 where
+  pub ready : HasTakenUp c i
+  pub again : AreMadeAgain c
 
-swept : (i : Input) (at : ℕ) (g : Growth CoreState) (items : List DueItem) → Stays i g.world → Stays i (fold (settle core_keeper at) g items).world
-swept i at g items now = settled_stays (Stays i) at stays g items now
-  where
-    stays : (c : CoreState) (thing : DueThing) → Stays i c → Stays i (fold after_entry c (thing_entries thing at (core_facts c)))
-    stays c thing now =
-        let es : List Entry = thing_entries thing at (core_facts c) in
-        record { ready = ready_settled c i thing at now.ready; again = entries_again c es (none_made c es (due_makes_none (core_facts c) thing at).all) now.again }
+pub taken_again : (c : CoreState) (r : Record) → IsNewEvent c r.input → IsWell c → AreMadeAgain c → Stays r.input (with_record c r)
+taken_again c r new well again =
+    record {
+      ready = ready_taken c r well new;
+      again = record { calls = λ n x e. call_stays x.opened (record_keeps c r) (again.calls n x e); txns = λ token x e. txn_stays x.txn (record_keeps c r) (again.txns token x e) };
+    }
+
+pub stays_again : (i : Input) (at : ℕ) (c : CoreState) (thing : DueThing) → Stays i c → Stays i (fold after_entry c (thing_entries thing at (core_facts c)))
+stays_again i at c thing now =
+    let es : List Entry = thing_entries thing at (core_facts c) in
+    record { ready = ready_settled c i thing at now.ready; again = entries_again c es (none_made c es (due_makes_none (core_facts c) thing at).all) now.again }
 
 pub step_again : (c : CoreState) (r : Record) → IsNewEvent c r.input → IsWell c → AreMadeAgain c → AreMadeAgain (step core_keeper c r).world
 unfolding step
@@ -63,10 +67,7 @@ step_again c r new well again =
     let start : Growth CoreState = record { world = up; entries = [] } in
     let items : List DueItem = due_items (core_facts up) r.at in
     let due : CoreState = (after_due core_keeper up r.at).world in
-    let taken : AreMadeAgain up =
-    record { calls = λ n x e. call_stays x.opened (record_keeps c r) (again.calls n x e); txns = λ token x e. txn_stays x.txn (record_keeps c r) (again.txns token x e) }
-    in
-    let now : Stays r.input due = swept r.input r.at start items (record { ready = ready_taken c r well new; again = taken }) in
+    let now : Stays r.input due = due_stays (Stays r.input) r.at (stays_again r.input r.at) up (taken_again c r new well again) in
     entries_again due (entries_of r.input r.at (core_facts due))
     (own_again due r.at r.input now.ready
     (λ token e. ap (λ (xs : List Accepted). find (λ a. is_event token a.input) xs) (due_accepted r.at start items)
@@ -79,7 +80,7 @@ record IsAgainWell (rs : List Record) (c : CoreState) : Type 0 where
   well : IsWell c
   again : AreMadeAgain c
 
-nothing_again : AreMadeAgain no_core
+pub nothing_again : AreMadeAgain no_core
 nothing_again = record { calls = λ n x e. cc; txns = λ token x e. cc }
 
 legal_again : (rs : List Record) → IsLegal rs → AreMadeAgain (core_of rs)

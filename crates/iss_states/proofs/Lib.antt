@@ -16,3 +16,5 @@ pub mod FairSums
 pub mod FairActs
 pub mod FairRefunds
 pub mod FairSteps
+pub mod Parts
+pub mod PartSteps

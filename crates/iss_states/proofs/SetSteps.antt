@@ -38,7 +38,7 @@ use Rattle.iss_states.proofs.Quiet.{Settles, declines, due_quiet, is_quiet_entry
 use Rattle.iss_states.proofs.SetAgain.{IsNewTo, before_done, before_undone, quiet_set, setting_part, unset}
 
 -- an event that isn't decided has no verdict
-undecided_verdict : (ds : List Decision) (event : List ℕ) → is_decided ds event ≡ false → verdict_in ds event ≡ None
+pub undecided_verdict : (ds : List Decision) (event : List ℕ) → is_decided ds event ≡ false → verdict_in ds event ≡ None
 undecided_verdict [] event h = refl
 undecided_verdict (d ∷ ds) event h = by (bytes_eq d.event event) h (undecided_verdict ds event)
   where

@@ -5,3 +5,4 @@ pub mod Settled
 pub mod Again
 pub mod Order
 pub mod Fairness
+pub mod Parts
