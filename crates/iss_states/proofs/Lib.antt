@@ -18,3 +18,6 @@ pub mod FairRefunds
 pub mod FairSteps
 pub mod Parts
 pub mod PartSteps
+pub mod KeptKeys
+pub mod StateOfBook
+pub mod AlikeShown

@@ -6,3 +6,4 @@ pub mod Again
 pub mod Order
 pub mod Fairness
 pub mod Parts
+pub mod OverBook

@@ -4,12 +4,14 @@
 //! It must not cite any body: its laws are of definitions.
 #![tactic(auto)]
 
+mod books;
 mod calls;
 mod fairness;
 mod order;
 mod settings;
 mod showing;
 
+pub use books::states_are_of_their_books;
 pub use calls::{calls_are_made_again, transactions_are_made_again};
 pub use fairness::sums_stay_fair;
 pub use order::states_stay_in_order;
