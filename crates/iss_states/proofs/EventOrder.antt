@@ -1,5 +1,5 @@
 -- A step with a record that is new keeps the events in order.
-use Rattle.std.proofs.Common.{◌≡◌, ℕ, ◌+◌, ◌≤◌, max, Bool, true, false, not, cond, ◌&&◌, ◌||◌, nat_le, nat_lt, List, [], ◌∷◌, ◌++◌, map, find, refl, sym, ap, ap₂, subst, ◌∙◌, arith, append-nil}
+use Rattle.std.proofs.Common.{◌≡◌, ℕ, ◌+◌, ◌≤◌, max, Bool, true, false, not, cond, ◌&&◌, ◌||◌, nat_le, nat_lt, List, [], ◌∷◌, ◌++◌, map, refl, sym, ap, ap₂, subst, ◌∙◌, arith, append-nil}
 use Rattle.std.specs.Prelude.{Option, Some, None, is_some, unwrap_or}
 use Rattle.std.specs.List.{list_all, list_any}
 use Rattle.std.specs.Str.{bytes_eq}
@@ -25,6 +25,7 @@ use Rattle.iss_states.specs.Rebuilding.{rebuilt, state_after}
 use Rattle.iss_states.specs.Order.{AreInOrder, IsNewOnState, do_numbers_rise, do_stamps_rise, has_event_token, have_tokens_of_their_own, is_event_record}
 use Rattle.iss_states.proofs.Shown.{accepted_again, events_shown}
 use Rattle.iss_states.proofs.Decided.{step_takes_up}
+use Rattle.iss_states.proofs.SetAgain.{unaccepted_any}
 
 -- the same of events as they were accepted ----
 
@@ -107,14 +108,6 @@ stamps_more last now later (x ∷ xs) a b le up e h =
     within : (m n : ℕ) → nat_le m n ≡ true → m ≤ n
     within m n h = grind (arith, nat_tests)
 
-none_found : (p : Accepted → Bool) (xs : List Accepted) → is_some (find p xs) ≡ false → list_any p xs ≡ false
-none_found p [] h = refl
-none_found p (a ∷ xs) h = by (p a) refl h (none_found p xs)
-  where
-    by : (b : Bool) → p a ≡ b → is_some (cond b (Some a) (find p xs)) ≡ false → (is_some (find p xs) ≡ false → list_any p xs ≡ false) → (p a || list_any p xs) ≡ false
-    by true e h rest = cc
-    by false e h rest = ap (λ (b : Bool). b || list_any p xs) e ∙ rest h
-
 any_more : (p : Accepted → Bool) (xs : List Accepted) (a : Accepted) → list_any p xs ≡ false → p a ≡ false → list_any p (xs ++ a ∷ []) ≡ false
 any_more p [] a h k = ap (λ (b : Bool). b || false) k
 any_more p (x ∷ xs) a h k = by (p x) (list_any p xs) refl refl h (λ rest. any_more p xs a rest k)
@@ -165,7 +158,7 @@ records_more (x ∷ xs) a b h k =
 tokens_kept : (xs : List Accepted) (a : Accepted) (o : Option (List ℕ)) → event_token a.input ≡ o → ((token : List ℕ) → event_token a.input ≡ Some token → is_accepted xs token ≡ false)
     → list_all is_of_record xs ≡ true → own_tokens xs ≡ true → own_tokens (xs ++ cond (is_some o) (a ∷ []) []) ≡ true
 tokens_kept xs a None e new all h = ap own_tokens (append-nil xs) ∙ h
-tokens_kept xs a (Some token) e new all h = tokens_more xs a token e (none_found (λ b. is_event token b.input) xs (new token e)) all h
+tokens_kept xs a (Some token) e new all h = tokens_more xs a token e (unaccepted_any xs token (new token e)) all h
 
 -- the sentence, of accepted events
 record InOrder (records now : ℕ) (xs : List Accepted) : Type 0 where

@@ -1,5 +1,5 @@
 -- Each setting and load was decided by what the events before it had set, and stays so.
-use Rattle.std.proofs.Common.{◌≡◌, ℕ, ℤ, suc, ◌+◌, Bool, true, false, cond, ◌&&◌, nat_le, List, [], ◌∷◌, ◌++◌, map, length, fold, refl, sym, ap, ap₂, subst, ◌∙◌, append-nil}
+use Rattle.std.proofs.Common.{◌≡◌, ℕ, ℤ, suc, ◌+◌, Bool, true, false, cond, ◌&&◌, nat_le, List, [], ◌∷◌, ◌++◌, map, length, fold, refl, sym, ap, subst, ◌∙◌, append-nil}
 use Rattle.std.specs.Prelude.{Option, Some, None, is_some, unwrap_or}
 use Rattle.std.specs.Option.{option_or}
 use Rattle.std.specs.Str.{bytes_eq}
@@ -31,7 +31,6 @@ use Rattle.iss_model.specs.rules.Keeper.{Growth}
 use Rattle.iss_model.specs.rules.Reasons.{first_reason, is_full, lacks_group, lacks_product, lacks_user, card_reason, control_reason, group_reason, load_reason, move_reason, product_reason, put_control_reason, put_set_reason, set_reason, switch_reason, user_reason}
 use Rattle.iss_model.specs.rules.Stepping.{acts_unless, after_due, entries_of, own_entries, settle, step}
 use Rattle.iss_model.specs.state.Cores.{ControlKept, CoreState, after_entry, after_setting, control_facts, core_facts, core_keeper, core_of, no_core, with_record}
-use Rattle.iss_model.proofs.Names.{its_name}
 use Rattle.iss_state.specs.Sound.{IsNewEvent}
 use Rattle.iss_state.proofs.invariants.Legal.{legal_induction}
 use Rattle.iss_state.specs.Pending.{IsWell}
@@ -41,7 +40,7 @@ use Rattle.iss_states.specs.Rebuilding.{is_done}
 use Rattle.iss_states.specs.Settled.{IsJudged, WereJudged, reason_before, sets_something, set_again, set_part, uncounted, verdict_by, with_done}
 use Rattle.iss_states.specs.Showing.{token_of_event}
 use Rattle.iss_states.proofs.Decided.{found_last, setting_decisions, step_takes_up}
-use Rattle.iss_states.proofs.SetSteps.{StandsSet, step_set, swept, undecided}
+use Rattle.iss_states.proofs.SetSteps.{StandsSet, now_decided, step_set, swept, undecided}
 
 -- one more decision ----
 
@@ -159,21 +158,16 @@ same_controls c _ = refl
 
 -- the record's own event ----
 
-decided_now : (ds : List Decision) (token : List ℕ) (v : Verdict) → verdict_in ds token ≡ None → verdict_in (ds ++ record { event = token; verdict = v } ∷ []) token ≡ Some v
-decided_now ds token v none =
-    found_last ds (record { event = token; verdict = v }) token
-    ∙ ap₂ (λ (o : Option Verdict) (b : Bool). option_or o (cond b (Some v) None)) none (its_name token)
-
 setting_judged : (c : CoreState) (i : Input) (token : List ℕ) (why : Option Reason) → verdict_in c.decisions token ≡ None
     → verdict_in (fold after_entry c (entries_of_acts (acts_unless why token (Sets i token ∷ [])))).decisions token ≡ Some (verdict_by why)
-setting_judged c i token (Some why) none = decided_now c.decisions token (verdict.Declined why) none
+setting_judged c i token (Some why) none = now_decided c.decisions token (verdict.Declined why) none
 setting_judged c i token None none =
-    decided_now (after_setting c i).decisions token verdict.Done (ap (λ (ds : List Decision). verdict_in ds token) (setting_decisions c i) ∙ none)
+    now_decided (after_setting c i).decisions token verdict.Done (ap (λ (ds : List Decision). verdict_in ds token) (setting_decisions c i) ∙ none)
 
 load_judged : (c : CoreState) (token user : List ℕ) (currency : Currency) (amount : ℕ) (why : Option Reason) → verdict_in c.decisions token ≡ None
     → verdict_in (fold after_entry c (entries_of_acts (acts_unless why token (Loads token user currency amount ∷ [])))).decisions token ≡ Some (verdict_by why)
-load_judged c token user currency amount (Some why) none = decided_now c.decisions token (verdict.Declined why) none
-load_judged c token user currency amount None none = decided_now c.decisions token verdict.Done none
+load_judged c token user currency amount (Some why) none = now_decided c.decisions token (verdict.Declined why) none
+load_judged c token user currency amount None none = now_decided c.decisions token verdict.Done none
 
 own_judged : (c : CoreState) (i : Input) (at : ℕ) → verdict_in c.decisions (unwrap_or (event_token i) []) ≡ None
     → IsJudged (reason_before (core_facts c) i) (verdict_in (fold after_entry c (entries_of i at (core_facts c))).decisions (unwrap_or (event_token i) []))

@@ -21,3 +21,4 @@ pub mod PartSteps
 pub mod KeptKeys
 pub mod StateOfBook
 pub mod AlikeShown
+pub mod Rebuilt

@@ -189,7 +189,7 @@ unset c _ h = refl
 
 -- quiet entries ----
 
-unaccepted_any : (xs : List Accepted) (token : List ℕ) → is_accepted xs token ≡ false → list_any (λ a. is_event token a.input) xs ≡ false
+pub unaccepted_any : (xs : List Accepted) (token : List ℕ) → is_accepted xs token ≡ false → list_any (λ a. is_event token a.input) xs ≡ false
 unaccepted_any [] token h = refl
 unaccepted_any (a ∷ xs) token h = by (is_event token a.input) refl h (unaccepted_any xs token)
   where

@@ -91,7 +91,7 @@ done_last ds before a h k =
     ∙ ap₂ (λ (p q : Bool). cond (p && q) (set_part (after_setting (record (set_again ds before) { count = a.number }) a.input)) (set_again ds before)) h k
 
 -- the verdict of an event that was decided just now
-now_decided : (ds : List Decision) (token : List ℕ) (v : Verdict) → verdict_in ds token ≡ None → verdict_in (ds ++ record { event = token; verdict = v } ∷ []) token ≡ Some v
+pub now_decided : (ds : List Decision) (token : List ℕ) (v : Verdict) → verdict_in ds token ≡ None → verdict_in (ds ++ record { event = token; verdict = v } ∷ []) token ≡ Some v
 now_decided ds token v none =
     found_last ds (record { event = token; verdict = v }) token
     ∙ ap₂ (λ (o : Option Verdict) (b : Bool). option_or o (cond b (Some v) None)) none (its_name token)
