@@ -1,7 +1,9 @@
 -- What a core shows is the state of its history.
-use Rattle.std.proofs.Common.{◌≡◌, ◌∙◌, ◌++◌, ◌∷◌, ℕ, ℤ, ap, ap₂, List, [], map, refl, sym}
-use Rattle.std.specs.List.{flat_map}
+use Rattle.std.proofs.Common.{◌≡◌, ◌∙◌, ◌++◌, ◌∷◌, ℕ, ℤ, ap, ap₂, List, [], map, refl, sym, true}
+use Rattle.std.specs.List.{flat_map, list_all}
 use Rattle.std.specs.FinMap as finite
+use Rattle.iss_model.specs.declared.state.Saldo.{Saldo}
+use Rattle.iss_model.specs.declared.account.Account.{Account}
 use Rattle.iss_model.specs.declared.input.Record.{Record}
 use Rattle.iss_model.specs.Sums.{account_key, stood_changes, sum_at}
 use Rattle.iss_model.specs.rules.Activity.{TxnNow}
@@ -12,12 +14,16 @@ use Rattle.iss_model.specs.state.Cores.{ControlKept, CoreState, core_of}
 use Rattle.iss_model.specs.state.Kept.{kept_at}
 use Rattle.iss_model.specs.texts.BalanceLines.{accounts_of}
 use Rattle.iss_model.proofs.KeptSums.{sum_kept}
-use Rattle.iss_model.proofs.Lists.{map-alike, map-map}
+use Rattle.iss_model.proofs.Lists.{map-alike, map-map, map-where}
 use Rattle.iss_agreement.specs.Shown.{shown_control, shown_state}
 use Rattle.iss_agreement.proofs.CoreOfBook.{core_history, facts_history}
 use Rattle.iss_agreement.proofs.ReportedAccounts.{accounts_history}
 use Rattle.iss_states.specs.OverBook.{carried_by, counter_by, counters_by, keys_changed, saldo_by, seen_by, state_of, stood_by}
 use Rattle.iss_states.specs.Showing.{counter_at, counters_of, saldo_at, shown, stood_at}
+use Rattle.iss_states.specs.Keys.{is_named_by_token}
+use Rattle.iss_states.specs.Rebuilding.{rebuilt}
+use Rattle.iss_states.proofs.Keys.{account_again}
+use Rattle.iss_states.proofs.Rebuilt.{kept_again}
 use Rattle.iss_states.proofs.KeptKeys.{entries_at_keys, entries_left}
 
 flat_alike : {A B C : Type 0} (f : A → B) (g : B → List C) (h : A → List C) → ((x : A) → g (f x) ≡ h x) → (xs : List A) → flat_map g (map f xs) ≡ flat_map h xs
@@ -81,3 +87,34 @@ state_shown rs =
       made = (facts_history rs i).notices_made;
       notices = (facts_history rs i).pending;
     }
+
+-- balances made again ----
+
+-- an account with its balance, at its key
+abbrev with_key : Saldo → List ℕ × ℤ
+with_key b = (account_key b.account, b.amount)
+
+-- what an account has, at its key
+abbrev at_account : CoreState → Account → List ℕ × ℤ
+at_account c a = (account_key a, kept_at c.balances (account_key a))
+
+balances_listed : (rs : List Record) → finite.entries (core_of rs).balances ≡ map (at_account (core_of rs)) (accounts_of (history_of rs).rows)
+balances_listed rs =
+    let c : CoreState = core_of rs in
+    let at : List ℕ → List ℕ × ℤ = λ (k : List ℕ). (k, kept_at c.balances k) in
+    sym (entries_at_keys c.balances)
+    ∙ ap (λ (ks : List (List ℕ)). map at ks) (accounts_history rs)
+    ∙ map-map account_key at (accounts_of (history_of rs).rows)
+
+pub balances_again : (rs : List Record) → list_all is_named_by_token (accounts_of (history_of rs).rows) ≡ true → (rebuilt (shown (core_of rs))).balances ≡ (core_of rs).balances
+balances_again rs named =
+    let c : CoreState = core_of rs in
+    let accounts : List Account = accounts_of (history_of rs).rows in
+    let read : List ℕ × ℤ → List ℕ × ℤ = λ (e : List ℕ × ℤ). with_key (saldo_at e) in
+    ap finite.from_entries
+    (map-map saldo_at with_key (finite.entries c.balances)
+    ∙ ap (λ (es : List (List ℕ × ℤ)). map read es) (balances_listed rs)
+    ∙ map-map (at_account c) read accounts
+    ∙ map-where is_named_by_token (λ (a : Account). read (at_account c a)) (at_account c) (λ a h. ap (λ (b : Account). (account_key b, kept_at c.balances (account_key a))) (account_again a h)) accounts named
+    ∙ sym (balances_listed rs))
+    ∙ kept_again c.balances

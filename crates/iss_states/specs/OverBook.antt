@@ -1,6 +1,6 @@
 -- The state of a history, told over its whole book: each list by filters, each sum over all rows.
-use Rattle.std.specs.Prelude.{ℕ, List, [], ◌∷◌, map, fold, if◌then◌else◌}
-use Rattle.std.specs.List.{flat_map}
+use Rattle.std.specs.Prelude.{ℕ, Bool, List, [], ◌∷◌, map, fold, if◌then◌else◌}
+use Rattle.std.specs.List.{flat_map, list_all}
 use Rattle.std.specs.Cmp.Lexicographic.{slice_cmp}
 use Rattle.std.specs.Ordering.{is_eq, is_lt, nat_cmp}
 use Rattle.iss_model.specs.declared.account.Account.{Account}
@@ -19,7 +19,7 @@ use Rattle.iss_model.specs.rules.Controls.{ControlNow, ControlPut, control_puts_
 use Rattle.iss_model.specs.rules.Facts.{Accepted, Facts, balance_in, not_below, part_in}
 use Rattle.iss_model.specs.rules.Histories.{History, history_facts}
 use Rattle.iss_model.specs.texts.BalanceLines.{accounts_of}
-use Rattle.iss_states.specs.Keys.{account_of_key, after_token, first_token, int_of_key}
+use Rattle.iss_states.specs.Keys.{account_of_key, after_token, first_token, int_of_key, is_named_by_token}
 use Rattle.iss_states.specs.Showing.{mark_in, span_at, token_of_event}
 
 -- ---- keys
@@ -107,3 +107,7 @@ state_of h =
       made = f.notices_made;
       notices = f.pending;
     }
+
+-- the user of each account of a book has a token for a name
+abbrev pub has_named_accounts : List Row → Bool
+has_named_accounts rows = list_all is_named_by_token (accounts_of rows)

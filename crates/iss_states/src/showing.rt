@@ -21,8 +21,8 @@ pub fn a_state_without_a_record()
 {}
 
 /// A core shows each event that it accepted and each transaction that began, in their order, and a counter of a control for each span in
-/// which something was counted. A core that is made again from that has the same events. If the core is well, the mark of an event is how its call stands, and an accepted event isn't decided
-/// exactly if its call is asked.
+/// which something was counted. A core that is made again from that has the same events. If the core is well, the mark of an event is how
+/// its call stands, and an accepted event isn't decided exactly if its call is asked.
 #[tactic(auto, using(crate::proofs::Shown::events_shown, crate::proofs::Rebuilt::events_rebuilt, crate::proofs::Shown::txns_shown, crate::proofs::Shown::counters_shown, crate::proofs::Marks::call_mark, crate::proofs::Marks::pending_asked))]
 pub fn states_show_their_cores()
     ensures events { (c : CoreState) → map accepted_of_seen (shown c).events ≡ c.accepted }
