@@ -1,5 +1,5 @@
 -- A core that is made again from a state: settings from the events that are done, transactions and calls from theirs, and then the sums.
-use Rattle.std.specs.Prelude.{ℕ, ◌+◌, ℤ, pos, Bool, true, false, List, [], ◌∷◌, ◌++◌, map, filter, fold, find, Option, Some, None, option_map, unwrap_or, if◌then◌else◌}
+use Rattle.std.specs.Prelude.{◌≡◌, ℕ, ◌+◌, ℤ, pos, Bool, true, false, List, [], ◌∷◌, ◌++◌, map, filter, fold, find, Option, Some, None, option_map, unwrap_or, if◌then◌else◌}
 use Rattle.std.specs.List.{flat_map}
 use Rattle.std.specs.Str.{bytes_eq}
 use Rattle.std.specs.FinMap as finite
@@ -162,3 +162,7 @@ rebuilt s =
 -- The state after a record: what a core shows that is made from the state before it, and takes the record up.
 abbrev pub state_after : State → Record → State
 state_after s r = shown (core_after (rebuilt s) r)
+
+-- a core that is made again from what is shown has the same balances
+abbrev pub HasBalancesAgain : CoreState → Type 0
+HasBalancesAgain c = (rebuilt (shown c)).balances ≡ c.balances

@@ -6,7 +6,7 @@ ghost use Rattle.iss_model.specs.state.Cores.{CoreState, core_of};
 ghost use Rattle.iss_agreement.specs.Likeness.{AreAlike};
 ghost use Rattle.iss_agreement.specs.Stepped.{book_rows};
 ghost use Rattle.iss_states.specs.OverBook.{has_named_accounts, state_of};
-ghost use Rattle.iss_states.specs.Rebuilding.{rebuilt};
+ghost use Rattle.iss_states.specs.Rebuilding.{HasBalancesAgain};
 ghost use Rattle.iss_states.specs.Showing.{shown};
 
 /// What a core shows is the state of its history, told over the whole book: each list by filters, each sum over all rows. Cores that are
@@ -16,6 +16,5 @@ ghost use Rattle.iss_states.specs.Showing.{shown};
 pub fn states_are_of_their_books()
     ensures book { (rs : List Record) → shown (core_of rs) ≡ state_of (history_of rs) }
     ensures alike { (c d : CoreState) → AreAlike c d → shown c ≡ shown d }
-    ensures balances { (rs : List Record) → has_named_accounts (book_rows rs) ≡ true
-        → (rebuilt (shown (core_of rs))).balances ≡ (core_of rs).balances }
+    ensures balances { (rs : List Record) → has_named_accounts (book_rows rs) ≡ true → HasBalancesAgain (core_of rs) }
 {}
