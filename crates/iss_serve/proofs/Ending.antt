@@ -15,7 +15,7 @@ use Rattle.iss_store.specs.Standing.{region_under, StandsFor, AreHistory}
 use Rattle.iss_store.specs.Serving.{tasks_pending, tasks_pending_on_book}
 use Rattle.iss_serve.specs.Closings.{open_channels}
 use Rattle.iss_serve.specs.Goings.{SessionGoesPart, GoesToEnd}
-use Rattle.iss_serve.specs.Held.{HeldNow, first_stage, idle, session_at}
+use Rattle.iss_serve.specs.Held.{HeldNow, first_stage, idle, sending, session_at}
 use Rattle.iss_serve.specs.Runs.{ServesOn, ServesSome, ServesToEnd, ServesUpTo, session_on}
 use Rattle.iss_serve.proofs.Going.{goes_self, goes_part, goes_to_end}
 use Rattle.iss_serve.proofs.Waiting.{is_over}
