@@ -9,7 +9,7 @@ use Rattle.iss_model.specs.declared.currency.Currency.{Currency}
 use Rattle.iss_model.specs.declared.currency.Currency.TheVariants as currency
 use Rattle.iss_model.specs.declared.input.Outcome.{Outcome}
 use Rattle.iss_model.specs.declared.input.Outcome.TheVariants.{Funded, Refused, Connection, Application, Partial}
-use Rattle.iss_model.specs.Amounts.{digits_value, if_form, is_amount_text, amount_digits, amount_read}
+use Rattle.iss_model.specs.Amounts.{digits_value, if_form, is_amount_text, amount_digits}
 use Rattle.iss_model.specs.Currencies.{decimals_of, unit_of, same_currency}
 use Rattle.iss_model.specs.Forms.{is_amount, is_outcome}
 use Rattle.iss_model.specs.rules.CardActs.{counts_as_part}

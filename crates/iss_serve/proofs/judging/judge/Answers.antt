@@ -5,7 +5,7 @@ use Rattle.iss_edge.proofs.Tolds.{later_self, later_then}
 use Rattle.iss_serve.specs.Causes.{IsOfDisk}
 use Rattle.iss_serve.specs.Held.{seen_held, queued_as, to_judge}
 use Rattle.iss_serve.specs.Judged.{judged_again}
-use Rattle.iss_serve.specs.Runs.{ServesOn, ServesSome}
+use Rattle.iss_serve.specs.Runs.{ServesOn}
 use Rattle.iss_serve.proofs.Loops.{judges_self, judges_then}
 use Rattle.iss_serve.proofs.Stages.{told_on_self, told_on_then, told_on_then_some}
 use Rattle.iss_serve.proofs.judging.judge.Goals as goal

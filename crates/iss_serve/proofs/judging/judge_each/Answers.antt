@@ -7,7 +7,7 @@ use Rattle.iss_session.specs.Sessions.{Queued}
 use Rattle.iss_store.specs.Numbers.{is_from_one}
 use Rattle.iss_serve.specs.Causes.{IsOfDisk}
 use Rattle.iss_serve.specs.Held.{seen_held, queued_as, to_judge, answers_unreached}
-use Rattle.iss_serve.specs.Runs.{ServesOn, ServesSome}
+use Rattle.iss_serve.specs.Runs.{ServesOn}
 use Rattle.iss_serve.proofs.Loops.{judges_self, judges_then, next_call}
 use Rattle.iss_serve.proofs.Numbering.{all_at}
 use Rattle.iss_serve.proofs.Stages.{told_on_self, told_on_then, told_on_then_some}

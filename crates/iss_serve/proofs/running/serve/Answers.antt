@@ -1,4 +1,4 @@
-use Rattle.std.proofs.Common.{◌≡◌, Err, ◌∙◌, rules}
+use Rattle.std.proofs.Common.{◌≡◌, Err, rules}
 use Rattle.iss_serve.specs.Causes.{fault_of_opening}
 use Rattle.iss_serve.proofs.ToldServes.{told_unopened_serve, told_served, told_served_refuses, caused_by_opening, told_ends_well}
 use Rattle.iss_serve.proofs.running.serve.Goals as goal

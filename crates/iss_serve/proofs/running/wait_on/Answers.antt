@@ -1,10 +1,8 @@
 use Rattle.std.proofs.Common.{sym, ◌∙◌, ◌≡◌, Err, rules}
 use Rattle.iss_edge.specs.Outer.{outer_of}
-use Rattle.iss_edge.specs.World.{Told}
 use Rattle.iss_edge.proofs.Tolds.{later_self, later_then}
 use Rattle.iss_serve.specs.Causes.{IsOfDisk}
 use Rattle.iss_serve.specs.Held.{seen_held, idle}
-use Rattle.iss_serve.specs.Runs.{ServesSome}
 use Rattle.iss_serve.proofs.Stages.{told_on_self, told_on_then, told_on_then_some}
 use Rattle.iss_serve.proofs.running.wait_on.Goals as goal
 
