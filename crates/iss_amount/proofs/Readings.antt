@@ -3,6 +3,7 @@ use Rattle.std.proofs.Common.{◌≡◌, ℕ, nat_eq, ◌+◌, ◌-◌, ◌*◌,
 use Rattle.std.specs.List.{list_all}
 use Rattle.std.proofs.lemmas.Bool.Decides.{nat_tests}
 use Rattle.std.proofs.lemmas.Grind.{fold-append}
+use Rattle.iss_model.specs.declared.limits.TheConstants.{GREATEST_LIMIT}
 use Rattle.iss_model.specs.declared.currency.Currency.{Currency}
 use Rattle.iss_model.specs.Forms.{is_limit, is_amount}
 use Rattle.iss_model.specs.Currencies.{decimals_of}
@@ -13,13 +14,13 @@ use Rattle.iss_amount.specs.Reading.{limit_of_units}
 abbrev pub limit_in : List ℕ → ℕ → Option ℕ
 limit_in text places = cond (is_amount_text text places) (if_form is_limit (digits_value (amount_digits text places))) None
 
-above : (n : ℕ) → 1000000000000 < n → if_form is_limit n ≡ None
+above : (n : ℕ) → GREATEST_LIMIT < n → if_form is_limit n ≡ None
 above n h = grind (arith, nat_tests)
 
-is_above : (n : ℕ) → if_form is_limit n ≡ None → 1000000000000 < n
+is_above : (n : ℕ) → if_form is_limit n ≡ None → GREATEST_LIMIT < n
 is_above n e = grind (arith, nat_tests)
 
-value_above : (n : ℕ) (ds : List ℕ) → 1000000000000 < n → if_form is_limit (value_after n ds) ≡ None
+value_above : (n : ℕ) (ds : List ℕ) → GREATEST_LIMIT < n → if_form is_limit (value_after n ds) ≡ None
 value_above n [] h = above n h
 value_above n (d ∷ ds) h = value_above (10 * n + (d - 48)) ds (omega arith)
 
@@ -27,7 +28,7 @@ either : (b : Bool) (o : Option ℕ) → o ≡ None → cond b o None ≡ None
 either true o h = h
 either false o h = refl
 
-more_digits : (units : List ℕ) (ds : List ℕ) → 1000000000000 < digits_value units → if_form is_limit (digits_value (units ++ ds)) ≡ None
+more_digits : (units : List ℕ) (ds : List ℕ) → GREATEST_LIMIT < digits_value units → if_form is_limit (digits_value (units ++ ds)) ≡ None
 more_digits units ds h = ap (if_form is_limit) (fold-append _ 0 units ds) ∙ value_above (digits_value units) ds h
 
 no_units : (whole point rest : Bool) (units ds : List ℕ) → cond whole (if_form is_limit (digits_value units)) None ≡ None → cond (whole && point && rest) (if_form is_limit (digits_value (units ++ ds))) None ≡ None

@@ -5,6 +5,7 @@ use Rattle.std.proofs.lemmas.List.{take_all, length-map}
 use Rattle.std.proofs.Math.Seq.{take-append_seam}
 use Rattle.iss_edge.specs.World.{World, Told}
 use Rattle.iss_edge.proofs.Tolds.{told_then}
+use Rattle.iss_journal.specs.declared.layout.TheConstants.{HEADER}
 use Rattle.iss_journal.specs.Region.{Region, frames, Shows, ShowsClosed, RestsFirst}
 use Rattle.iss_journal.specs.Header.{header, IsSize, HasInstance}
 use Rattle.iss_journal.proofs.Records.{one_list}
@@ -25,7 +26,7 @@ use Rattle.iss_device.specs.Opened.{IsOpenedOn}
 
 one_instance : (i j : ℕ) (device : List ℕ) → HasInstance device i → HasInstance device j → i ≡ j
 one_instance i j device p q =
-    sym (instance_back i (take 16 device) p.small p.is) ∙ instance_back j (take 16 device) q.small q.is
+    sym (instance_back i (take HEADER device) p.small p.is) ∙ instance_back j (take HEADER device) q.small q.is
 
 -- a store that was opened on a device is on it, and stands for what it stood for
 pub opened_on : (instance : ℕ) (rs : List Record) (s : StoreNow) (device : List ℕ) → s.place.to ≡ length device → DeviceStandsFor instance rs device → OpensStore s device → IsOpenedOn instance (length device) rs s
@@ -50,9 +51,9 @@ run_opened instance rs s device opened =
 
 -- ---- at the end
 
-header_first : (instance : ℕ) (device others rest : List ℕ) → device ≡ (header instance ++ others) ++ rest → take 16 device ≡ header instance
+header_first : (instance : ℕ) (device others rest : List ℕ) → device ≡ (header instance ++ others) ++ rest → take HEADER device ≡ header instance
 header_first instance device others rest is =
-    ap (λ (l : List ℕ). take 16 l) (is ∙ append_assoc (header instance) others rest)
+    ap (λ (l : List ℕ). take HEADER l) (is ∙ append_assoc (header instance) others rest)
     ∙ ap (λ (n : ℕ). take n (header instance ++ (others ++ rest))) (sym (length-header instance))
     ∙ take-append_seam (header instance) (others ++ rest)
 

@@ -5,6 +5,7 @@ use Rattle.std.proofs.lemmas.Bool.{false≢true, cases_lt, leb-true, leb-false, 
 use Rattle.std.proofs.lemmas.List.{length-append, length-take, take-append-drop, take-append-le, drop-append-le, take_all}
 use Rattle.std.proofs.Math.Seq.{take-append-add}
 use Rattle.httparse.specs.Grammar.{print_request, print_response}
+use Rattle.iss_http.specs.declared.limits.TheConstants.{MOST_HEAD, MOST_BODY}
 use Rattle.iss_http.specs.declared.lengths.ContentLength.{ContentLength}
 use Rattle.iss_http.specs.declared.lengths.ContentLength.TheVariants.{Absent, Bad, Good}
 use Rattle.iss_http.specs.declared.faults.HttpFault.TheVariants.{HeadLong, Method, Path, Coding, BodyLong}
@@ -55,15 +56,15 @@ response_stays buf more h is =
     (k.reads.0, ap (λ (xs : List ℕ). xs ++ more) k.reads.1 ∙ append_assoc (print_response k.head) k.rest more) k.few
     ∙ sym (response_read buf k.head k.rest k.reads k.few) ∙ is
 
-front_head : (bytes rest : List ℕ) (h : RequestHead) → request_head (take 8192 bytes) ≡ Some h → request_head (take 8192 (bytes ++ rest)) ≡ Some h
+front_head : (bytes rest : List ℕ) (h : RequestHead) → request_head (take MOST_HEAD bytes) ≡ Some h → request_head (take MOST_HEAD (bytes ++ rest)) ≡ Some h
 front_head bytes rest h is =
-    let f = joined_front 8192 bytes rest in
-    ap request_head f.is ∙ head_stays (take 8192 bytes) f.more h is
+    let f = joined_front MOST_HEAD bytes rest in
+    ap request_head f.is ∙ head_stays (take MOST_HEAD bytes) f.more h is
 
-front_response : (bytes rest : List ℕ) (h : ResponseHead) → response_head (take 8192 bytes) ≡ Some h → response_head (take 8192 (bytes ++ rest)) ≡ Some h
+front_response : (bytes rest : List ℕ) (h : ResponseHead) → response_head (take MOST_HEAD bytes) ≡ Some h → response_head (take MOST_HEAD (bytes ++ rest)) ≡ Some h
 front_response bytes rest h is =
-    let f = joined_front 8192 bytes rest in
-    ap response_head f.is ∙ response_stays (take 8192 bytes) f.more h is
+    let f = joined_front MOST_HEAD bytes rest in
+    ap response_head f.is ∙ response_stays (take MOST_HEAD bytes) f.more h is
 
 -- Requests.
 
@@ -72,7 +73,7 @@ abbrev IsLater : Request → Request → Type 0
 IsLater now later = (now ≡ asks.more) ⊎ (later ≡ now)
 
 body_later : (size : ℕ) (bytes rest : List ℕ) → IsLater (request_within bytes size) (request_within (bytes ++ rest) size)
-body_later size bytes rest = by (nat_lt 16384 size) (nat_le size (length bytes)) (nat_le size (length (bytes ++ rest))) refl refl
+body_later size bytes rest = by (nat_lt MOST_BODY size) (nat_le size (length bytes)) (nat_le size (length (bytes ++ rest))) refl refl
   where
     by : (s t u : Bool) → nat_le size (length bytes) ≡ t → nat_le size (length (bytes ++ rest)) ≡ u
         → IsLater (if s then faulty BodyLong else if t then body (take size bytes) else asks.more)
@@ -109,23 +110,23 @@ headed_later path bytes rest h fits =
     subst (λ (xs : List ℕ). IsLater (request_coded path h now) (request_coded path h (request_sized xs size))) (sym (drop-append-le h.size bytes rest fits))
     (with_later path h now (request_sized (drop h.size bytes ++ rest) size) (sized_later size (drop h.size bytes) rest))
 
-long_later : (path bytes rest : List ℕ) → request_head (take 8192 bytes) ≡ None → (t : Bool) → nat_le 8192 (length bytes) ≡ t
+long_later : (path bytes rest : List ℕ) → request_head (take MOST_HEAD bytes) ≡ None → (t : Bool) → nat_le MOST_HEAD (length bytes) ≡ t
     → IsLater (if t then faulty HeadLong else asks.more) (request_at path (bytes ++ rest))
 long_later path bytes rest none false et = inl refl
 long_later path bytes rest none true et =
-    let long = leb-true 8192 (length bytes) et in
-    inr (ap (request_by_head path (bytes ++ rest)) (ap request_head (take-append-le 8192 bytes rest long) ∙ none)
-    ∙ ap (λ (t : Bool). if t then faulty HeadLong else asks.more) (le-leb 8192 (length (bytes ++ rest)) (omega (arith, long, length-append bytes rest))))
+    let long = leb-true MOST_HEAD (length bytes) et in
+    inr (ap (request_by_head path (bytes ++ rest)) (ap request_head (take-append-le MOST_HEAD bytes rest long) ∙ none)
+    ∙ ap (λ (t : Bool). if t then faulty HeadLong else asks.more) (le-leb MOST_HEAD (length (bytes ++ rest)) (omega (arith, long, length-append bytes rest))))
 
 -- to any path
 pub later_at : (path bytes rest : List ℕ) → IsLater (request_at path bytes) (request_at path (bytes ++ rest))
-later_at path bytes rest = by (request_head (take 8192 bytes)) refl
+later_at path bytes rest = by (request_head (take MOST_HEAD bytes)) refl
   where
-    by : (o : Option RequestHead) → request_head (take 8192 bytes) ≡ o → IsLater (request_by_head path bytes o) (request_at path (bytes ++ rest))
-    by None is = long_later path bytes rest is (nat_le 8192 (length bytes)) refl
+    by : (o : Option RequestHead) → request_head (take MOST_HEAD bytes) ≡ o → IsLater (request_by_head path bytes o) (request_at path (bytes ++ rest))
+    by None is = long_later path bytes rest is (nat_le MOST_HEAD (length bytes)) refl
     by (Some h) is =
         subst (λ (o : Option RequestHead). IsLater (request_headed path bytes h) (request_by_head path (bytes ++ rest) o)) (sym (front_head bytes rest h is))
-        (headed_later path bytes rest h (omega (arith, requests.small_head (take 8192 bytes) h is, length-take 8192 bytes)))
+        (headed_later path bytes rest h (omega (arith, requests.small_head (take MOST_HEAD bytes) h is, length-take MOST_HEAD bytes)))
 
 pub request_later : (bytes rest : List ℕ) → IsLater (request bytes) (request (bytes ++ rest))
 unfolding request
@@ -138,7 +139,7 @@ IsHeardLater now later = (now ≡ answers.more) ⊎ (later ≡ now)
 
 text_later : (status size : ℕ) (bytes rest : List ℕ) (over : Bool)
     → IsHeardLater (answer_within status bytes false size) (answer_within status (bytes ++ rest) over size)
-text_later status size bytes rest over = by (nat_lt 16384 size) (nat_le size (length bytes)) (nat_le size (length (bytes ++ rest))) refl refl
+text_later status size bytes rest over = by (nat_lt MOST_BODY size) (nat_le size (length bytes)) (nat_le size (length (bytes ++ rest))) refl refl
   where
     by : (s t u : Bool) → nat_le size (length bytes) ≡ t → nat_le size (length (bytes ++ rest)) ≡ u
         → IsHeardLater (if s then garbled else if t then whole status (take size bytes) else answers.more)
@@ -150,13 +151,13 @@ text_later status size bytes rest over = by (nat_lt 16384 size) (nat_le size (le
         absurd (omega (arith, leb-true size (length bytes) et, leb-false size (length (bytes ++ rest)) eu, length-append bytes rest))
 
 open_later : (status : ℕ) (bytes rest : List ℕ) (over : Bool) → IsHeardLater (answers.open_body status bytes false) (answers.open_body status (bytes ++ rest) over)
-open_later status bytes rest over = by (nat_lt 16384 (length bytes)) refl
+open_later status bytes rest over = by (nat_lt MOST_BODY (length bytes)) refl
   where
-    by : (t : Bool) → nat_lt 16384 (length bytes) ≡ t → IsHeardLater (if t then garbled else answers.more) (answers.open_body status (bytes ++ rest) over)
+    by : (t : Bool) → nat_lt MOST_BODY (length bytes) ≡ t → IsHeardLater (if t then garbled else answers.more) (answers.open_body status (bytes ++ rest) over)
     by false et = inl refl
     by true et =
         inr (ap (λ (t : Bool). if t then garbled else if over then whole status (bytes ++ rest) else answers.more)
-        (lt-ltb 16384 (length (bytes ++ rest)) (omega (arith, ltb-true 16384 (length bytes) et, length-append bytes rest))))
+        (lt-ltb MOST_BODY (length (bytes ++ rest)) (omega (arith, ltb-true MOST_BODY (length bytes) et, length-append bytes rest))))
 
 measured_later : (status : ℕ) (size : ContentLength) (bytes rest : List ℕ) (over : Bool)
     → IsHeardLater (answer_sized status bytes false size) (answer_sized status (bytes ++ rest) over size)
@@ -180,55 +181,55 @@ answered_later bytes rest over h fits =
     subst (λ (xs : List ℕ). IsHeardLater (answer_coded h now) (answer_coded h (answer_sized h.status xs over size))) (sym (drop-append-le h.size bytes rest fits))
     (coded_later h now (answer_sized h.status (drop h.size bytes ++ rest) over size) (measured_later h.status size (drop h.size bytes) rest over))
 
-endless_later : (bytes rest : List ℕ) (over : Bool) → response_head (take 8192 bytes) ≡ None → (t : Bool) → nat_le 8192 (length bytes) ≡ t
-    → IsHeardLater (if t then garbled else answers.more) (answer_by_head (bytes ++ rest) over (response_head (take 8192 (bytes ++ rest))))
+endless_later : (bytes rest : List ℕ) (over : Bool) → response_head (take MOST_HEAD bytes) ≡ None → (t : Bool) → nat_le MOST_HEAD (length bytes) ≡ t
+    → IsHeardLater (if t then garbled else answers.more) (answer_by_head (bytes ++ rest) over (response_head (take MOST_HEAD (bytes ++ rest))))
 endless_later bytes rest over none false et = inl refl
 endless_later bytes rest over none true et =
-    let long = leb-true 8192 (length bytes) et in
-    inr (ap (answer_by_head (bytes ++ rest) over) (ap response_head (take-append-le 8192 bytes rest long) ∙ none)
-    ∙ ap (λ (t : Bool). if t then garbled else unless_over over) (le-leb 8192 (length (bytes ++ rest)) (omega (arith, long, length-append bytes rest))))
+    let long = leb-true MOST_HEAD (length bytes) et in
+    inr (ap (answer_by_head (bytes ++ rest) over) (ap response_head (take-append-le MOST_HEAD bytes rest long) ∙ none)
+    ∙ ap (λ (t : Bool). if t then garbled else unless_over over) (le-leb MOST_HEAD (length (bytes ++ rest)) (omega (arith, long, length-append bytes rest))))
 
 pub answer_later : (bytes rest : List ℕ) (over : Bool) → IsHeardLater (answer_read bytes false) (answer_read (bytes ++ rest) over)
 unfolding answer_read
-answer_later bytes rest over = by (response_head (take 8192 bytes)) refl
+answer_later bytes rest over = by (response_head (take MOST_HEAD bytes)) refl
   where
-    by : (o : Option ResponseHead) → response_head (take 8192 bytes) ≡ o
-        → IsHeardLater (answer_by_head bytes false o) (answer_by_head (bytes ++ rest) over (response_head (take 8192 (bytes ++ rest))))
-    by None is = endless_later bytes rest over is (nat_le 8192 (length bytes)) refl
+    by : (o : Option ResponseHead) → response_head (take MOST_HEAD bytes) ≡ o
+        → IsHeardLater (answer_by_head bytes false o) (answer_by_head (bytes ++ rest) over (response_head (take MOST_HEAD (bytes ++ rest))))
+    by None is = endless_later bytes rest over is (nat_le MOST_HEAD (length bytes)) refl
     by (Some h) is =
         subst (λ (o : Option ResponseHead). IsHeardLater (answer_headed bytes false h) (answer_by_head (bytes ++ rest) over o)) (sym (front_response bytes rest h is))
-        (answered_later bytes rest over h (omega (arith, readings.small_head (take 8192 bytes) h is, length-take 8192 bytes)))
+        (answered_later bytes rest over h (omega (arith, readings.small_head (take MOST_HEAD bytes) h is, length-take MOST_HEAD bytes)))
 
 -- Bytes that no head begins with.
 
-behind_front : (bytes : List ℕ) → bytes ++ [] ≡ take 8192 bytes ++ (drop 8192 bytes ++ [])
-behind_front bytes = ap (λ (xs : List ℕ). xs ++ []) (sym (take-append-drop 8192 bytes)) ∙ append_assoc (take 8192 bytes) (drop 8192 bytes) []
+behind_front : (bytes : List ℕ) → bytes ++ [] ≡ take MOST_HEAD bytes ++ (drop MOST_HEAD bytes ++ [])
+behind_front bytes = ap (λ (xs : List ℕ). xs ++ []) (sym (take-append-drop MOST_HEAD bytes)) ∙ append_assoc (take MOST_HEAD bytes) (drop MOST_HEAD bytes) []
 
-no_front : (bytes : List ℕ) → IsHopelessRequest bytes → request_head (take 8192 bytes) ≡ None
+no_front : (bytes : List ℕ) → IsHopelessRequest bytes → request_head (take MOST_HEAD bytes) ≡ None
 unfolding IsHopelessRequest
-no_front bytes none = by (request_head (take 8192 bytes)) refl
+no_front bytes none = by (request_head (take MOST_HEAD bytes)) refl
   where
-    by : (o : Option RequestHead) → request_head (take 8192 bytes) ≡ o → o ≡ None
+    by : (o : Option RequestHead) → request_head (take MOST_HEAD bytes) ≡ o → o ≡ None
     by None is = refl
     by (Some h) is =
-        absurd (false≢true (ap is_there (sym (none []) ∙ ap request_head (behind_front bytes) ∙ head_stays (take 8192 bytes) (drop 8192 bytes ++ []) h is)))
+        absurd (false≢true (ap is_there (sym (none []) ∙ ap request_head (behind_front bytes) ∙ head_stays (take MOST_HEAD bytes) (drop MOST_HEAD bytes ++ []) h is)))
 
-pub waits_at : (path bytes : List ℕ) → IsHopelessRequest bytes → request_at path bytes ≡ (if nat_le 8192 (length bytes) then faulty HeadLong else asks.more)
+pub waits_at : (path bytes : List ℕ) → IsHopelessRequest bytes → request_at path bytes ≡ (if nat_le MOST_HEAD (length bytes) then faulty HeadLong else asks.more)
 waits_at path bytes none = ap (request_by_head path bytes) (no_front bytes none)
 
-pub hopeless_waits : (bytes : List ℕ) → IsHopelessRequest bytes → request bytes ≡ (if nat_le 8192 (length bytes) then faulty HeadLong else asks.more)
+pub hopeless_waits : (bytes : List ℕ) → IsHopelessRequest bytes → request bytes ≡ (if nat_le MOST_HEAD (length bytes) then faulty HeadLong else asks.more)
 unfolding request
 hopeless_waits bytes none = waits_at (codes "/events") bytes none
 
-no_response : (bytes : List ℕ) → IsHopelessAnswer bytes → response_head (take 8192 bytes) ≡ None
+no_response : (bytes : List ℕ) → IsHopelessAnswer bytes → response_head (take MOST_HEAD bytes) ≡ None
 unfolding IsHopelessAnswer
-no_response bytes none = by (response_head (take 8192 bytes)) refl
+no_response bytes none = by (response_head (take MOST_HEAD bytes)) refl
   where
-    by : (o : Option ResponseHead) → response_head (take 8192 bytes) ≡ o → o ≡ None
+    by : (o : Option ResponseHead) → response_head (take MOST_HEAD bytes) ≡ o → o ≡ None
     by None is = refl
     by (Some h) is =
-        absurd (false≢true (ap is_there (sym (none []) ∙ ap response_head (behind_front bytes) ∙ response_stays (take 8192 bytes) (drop 8192 bytes ++ []) h is)))
+        absurd (false≢true (ap is_there (sym (none []) ∙ ap response_head (behind_front bytes) ∙ response_stays (take MOST_HEAD bytes) (drop MOST_HEAD bytes ++ []) h is)))
 
-pub hopeless_ends : (bytes : List ℕ) (over : Bool) → IsHopelessAnswer bytes → answer_read bytes over ≡ (if nat_le 8192 (length bytes) then garbled else unless_over over)
+pub hopeless_ends : (bytes : List ℕ) (over : Bool) → IsHopelessAnswer bytes → answer_read bytes over ≡ (if nat_le MOST_HEAD (length bytes) then garbled else unless_over over)
 unfolding answer_read
 hopeless_ends bytes over none = ap (answer_by_head bytes over) (no_response bytes none)

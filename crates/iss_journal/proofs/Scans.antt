@@ -6,6 +6,7 @@ use Rattle.std.proofs.lemmas.Bool.{cases_lt, false≢true}
 use Rattle.iss_edge.specs.World.{World, Told}
 use Rattle.iss_edge.specs.Calls.{Same, Reads}
 use Rattle.iss_edge.proofs.Tolds.{told_map, told_then, same_then}
+use Rattle.iss_journal.specs.declared.layout.TheConstants.{LONGEST_BODY, HEAD}
 use Rattle.iss_journal.specs.declared.fault.JournalFault.TheVariants.{Disk, BadRecord, OutOfMemory}
 use Rattle.iss_journal.specs.Place.{Place}
 use Rattle.iss_journal.specs.Region.{IsBody, body_with_length, frame_size}
@@ -31,12 +32,12 @@ finds_shut place gate n x y shut =
     told_map (ReadsHead place gate n) (Finds place (Ok None)) x y (λ a b head one. shut (sym head.there ∙ one))
 
 -- a length that no body here may have
-wrong_length : (place : Place) (n : ℕ) → ((0 < n) × (n ≤ 8192) × (5 + n < place.to - place.gate) → ⊥) → (n ≡ 0) ⊎ (8192 < n) ⊎ (place.to ≤ place.gate + 5 + n)
+wrong_length : (place : Place) (n : ℕ) → ((0 < n) × (n ≤ LONGEST_BODY) × (HEAD + n < place.to - place.gate) → ⊥) → (n ≡ 0) ⊎ (LONGEST_BODY < n) ⊎ (place.to ≤ place.gate + HEAD + n)
 wrong_length place n wrong =
     elim (cases_lt 0 n) [
-      | inl some ↦ elim (cases_lt 8192 n) [
+      | inl some ↦ elim (cases_lt LONGEST_BODY n) [
         | inl over ↦ inr (inl over)
-        | inr most ↦ elim (cases_lt (5 + n) (place.to - place.gate)) [
+        | inr most ↦ elim (cases_lt (HEAD + n) (place.to - place.gate)) [
           | inl room ↦ absurd (wrong (some, most, room))
           | inr past ↦ inr (inr (omega (arith, past)))
         ]
@@ -44,7 +45,7 @@ wrong_length place n wrong =
       | inr none ↦ inl (omega (arith, none))
     ]
 
-bad_at : (place : Place) (n : ℕ) (a b : World) → ((0 < n) × (n ≤ 8192) × (5 + n < place.to - place.gate) → ⊥) → ReadsHead place 1 n a b → BadAt place a.device
+bad_at : (place : Place) (n : ℕ) (a b : World) → ((0 < n) × (n ≤ LONGEST_BODY) × (HEAD + n < place.to - place.gate) → ⊥) → ReadsHead place 1 n a b → BadAt place a.device
 bad_at place n a b wrong head =
     record {
       open_gate = head.there;
@@ -54,15 +55,15 @@ bad_at place n a b wrong head =
       ];
     }
 
-pub finds_wrong : (place : Place) (gate n at : ℕ) (fits : Bool) (x y : Option World) → gate ≡ 1 → fits ≡ false → IsTrue fits ↔ ((0 < n) × (n ≤ 8192) × (5 + n < place.to - place.gate)) → Told (ReadsHead place gate n) x y → Told (Finds place (Err (BadRecord at))) x y
+pub finds_wrong : (place : Place) (gate n at : ℕ) (fits : Bool) (x y : Option World) → gate ≡ 1 → fits ≡ false → IsTrue fits ↔ ((0 < n) × (n ≤ LONGEST_BODY) × (HEAD + n < place.to - place.gate)) → Told (ReadsHead place gate n) x y → Told (Finds place (Err (BadRecord at))) x y
 finds_wrong place gate n at fits x y one no_fit test head =
     told_map (ReadsHead place 1 n) (Finds place (Err (BadRecord at))) x y (λ a b h. bad_at place n a b (none fits no_fit test) h) (subst (λ (g : ℕ). Told (ReadsHead place g n) x y) one head)
   where
-    none : (fits : Bool) → fits ≡ false → IsTrue fits ↔ ((0 < n) × (n ≤ 8192) × (5 + n < place.to - place.gate)) → (0 < n) × (n ≤ 8192) × (5 + n < place.to - place.gate) → ⊥
+    none : (fits : Bool) → fits ≡ false → IsTrue fits ↔ ((0 < n) × (n ≤ LONGEST_BODY) × (HEAD + n < place.to - place.gate)) → (0 < n) × (n ≤ LONGEST_BODY) × (HEAD + n < place.to - place.gate) → ⊥
     none fits e t good = false≢true (sym e ∙ t.1 good)
 
 -- a body after its head
-record_at : (place : Place) (n : ℕ) (body : List ℕ) (device : List ℕ) → IsBody body → length body ≡ n → 5 + n < place.to - place.gate → get_or device place.gate 0 ≡ 1 → take 4 (drop (place.gate + 1) device) ≡ to_be_bytes w32 n → body ≡ take (length body) (drop (place.gate + 5) device) → RecordAt place body device
+record_at : (place : Place) (n : ℕ) (body : List ℕ) (device : List ℕ) → IsBody body → length body ≡ n → HEAD + n < place.to - place.gate → get_or device place.gate 0 ≡ 1 → take 4 (drop (place.gate + 1) device) ≡ to_be_bytes w32 n → body ≡ take (length body) (drop (place.gate + 5) device) → RecordAt place body device
 record_at place n body device is_body size room open_gate four read =
     let gate = place.gate in
     let here : gate < length device =
@@ -90,14 +91,14 @@ record_at place n body device is_body size room open_gate four read =
           ∙ ap (λ (l : List ℕ). 1 ∷ l) rest;
     }
 
-body_found : (place : Place) (n : ℕ) (body : List ℕ) (a b c : World) → IsBody body → length body ≡ n → 5 + n < place.to - place.gate → ReadsHead place 1 n a b → Reads (place.gate + 5) body b c → RecordAt place body a.device
+body_found : (place : Place) (n : ℕ) (body : List ℕ) (a b c : World) → IsBody body → length body ≡ n → HEAD + n < place.to - place.gate → ReadsHead place 1 n a b → Reads (place.gate + 5) body b c → RecordAt place body a.device
 body_found place n body a b c is_body size room head read =
     elim head.length_there [
       | inl short ↦ absurd (omega (arith, short.0, room))
       | inr four ↦ record_at place n body a.device is_body size room head.there four (read.bytes_there ∙ ap (λ (l : List ℕ). take (length body) (drop (place.gate + 5) l)) head.same.device)
     ]
 
-pub finds_body : (place : Place) (gate n : ℕ) (body : List ℕ) (x y z : Option World) → gate ≡ 1 → 0 < n → n ≤ 8192 → 5 + n < place.to - place.gate → length body ≡ n → Told (ReadsHead place gate n) x y → Told (Reads (place.gate + 5) body) y z → Told (Finds place (Ok (Some body))) x z
+pub finds_body : (place : Place) (gate n : ℕ) (body : List ℕ) (x y z : Option World) → gate ≡ 1 → 0 < n → n ≤ LONGEST_BODY → HEAD + n < place.to - place.gate → length body ≡ n → Told (ReadsHead place gate n) x y → Told (Reads (place.gate + 5) body) y z → Told (Finds place (Ok (Some body))) x z
 finds_body place gate n body x y z one some most room size head =
     told_then (ReadsHead place 1 n) (Reads (place.gate + 5) body) (Finds place (Ok (Some body))) x y z (λ a b c h r.
     body_found place n body a b c (record { some = omega (arith, some, size); most = omega (arith, most, size) }) size room h r) (subst (λ (g : ℕ). Told (ReadsHead place g n) x y) one head)
@@ -106,7 +107,7 @@ abbrev at_place : ℕ → ℕ → Place
 at_place gate to = record { gate = gate; to = to }
 
 -- the place after a record
-pub moved_on : (place now : Place) (gate to n : ℕ) (body : List ℕ) → place ≡ record { gate = gate; to = to } → now ≡ record { gate = gate + (5 + n); to = to } → length body ≡ n → now ≡ record { gate = place.gate + frame_size body; to = place.to }
+pub moved_on : (place now : Place) (gate to n : ℕ) (body : List ℕ) → place ≡ record { gate = gate; to = to } → now ≡ record { gate = gate + (HEAD + n); to = to } → length body ≡ n → now ≡ record { gate = place.gate + frame_size body; to = place.to }
 moved_on place now gate to n body from is size =
     is
     ∙ ap (λ (k : ℕ). at_place (gate + (5 + k)) to) (sym size)

@@ -28,6 +28,7 @@ use Rattle.iss_http.specs.Heard as came
 use Rattle.iss_http.specs.Heads.{is_empty}
 use Rattle.iss_http.specs.Answers.{AnswerReading, more, ended, garbled, whole, IsReadAs}
 use Rattle.iss_jit.specs.Outcomes.{outcome_of}
+use Rattle.iss_session.specs.declared.piece.TheConstants.{LONGEST_PIECE}
 use Rattle.iss_session.specs.Items.{is_piece}
 use Rattle.iss_session.specs.Desks.{Subject, of_call, of_notice}
 use Rattle.iss_session.specs.Links.{Link, LinkHeard, unfinished, outcome, acknowledged, dropped, link_reading, heard_as, piece_of, links_with, links_without, links_after, MayReadEarly}
@@ -153,11 +154,11 @@ no_bytes buffer (Some n) e = absurd (none_some (take n buffer) e)
     none_some : (bytes : List ℕ) → Some bytes ≡ None → ⊥
     none_some bytes e = cc
 
-pub one_piece : (buffer : List ℕ) (count : Option ℕ) → length buffer ≡ 4096 → IfSome count (λ n. n ≤ length buffer) → is_piece (got_in buffer count) ≡ true
+pub one_piece : (buffer : List ℕ) (count : Option ℕ) → length buffer ≡ LONGEST_PIECE → IfSome count (λ n. n ≤ length buffer) → is_piece (got_in buffer count) ≡ true
 one_piece buffer None room bound = refl
 one_piece buffer (Some n) room bound = within (length (take n buffer)) (let size = length-take n buffer in omega (arith, size, room, bound))
   where
-    within : (n : ℕ) → n ≤ 4096 → nat_le n 4096 ≡ true
+    within : (n : ℕ) → n ≤ LONGEST_PIECE → nat_le n LONGEST_PIECE ≡ true
     within n h = grind (arith, nat_tests)
 
 -- ---- what is done is a stretch
@@ -187,7 +188,7 @@ rose_on kind f g h first second rose =
 
 -- an allocation failed after the take
 pub listens_err : {E : Type 0} (before after : LinksNow) (ch : Channel) (result : Result rust.Heard E) (e : E) (channels : Channels) (f g : Faults) (x y : Option Outer) (buffer : List ℕ) (count : Option ℕ)
-    → result ≡ Err e → length buffer ≡ 4096 → IfSome count (λ n. n ≤ length buffer) → (count ≡ None → Rose (count_of (take_fault channels ch) f) (count_of (take_fault channels ch) g))
+    → result ≡ Err e → length buffer ≡ LONGEST_PIECE → IfSome count (λ n. n ≤ length buffer) → (count ≡ None → Rose (count_of (take_fault channels ch) f) (count_of (take_fault channels ch) g))
     → Told (Adds [] (Took ch (got_in buffer count) ∷ [])) x y → Listens before after ch result channels f g x y
 listens_err before after ch result e channels f g x y buffer count is room bound failed told =
     subst (λ r. Listens before after ch r channels f g x y) (sym is)
@@ -202,7 +203,7 @@ listens_err before after ch result e channels f g x y buffer count is room bound
 
 -- no answer is whole yet
 pub listens_on : {E : Type 0} (instance : ℕ) (before after : List Link) (ch : Channel) (channels : Channels) (f g : Faults) (x y : Option Outer) (buffer : List ℕ) (count : Option ℕ)
-    → length buffer ≡ 4096 → IfSome count (λ n. n ≤ length buffer) → (count ≡ None → Rose (count_of (take_fault channels ch) f) (count_of (take_fault channels ch) g))
+    → length buffer ≡ LONGEST_PIECE → IfSome count (λ n. n ≤ length buffer) → (count ≡ None → Rose (count_of (take_fault channels ch) f) (count_of (take_fault channels ch) g))
     → Told (Adds [] (Took ch (got_in buffer count) ∷ [])) x y → ReadsLink ch (got_in buffer count) before after None
     → Listens {E = E} (record { instance = instance; links = before }) (record { instance = instance; links = after }) ch (Ok variant.Nothing) channels f g x y
 listens_on instance before after ch channels f g x y buffer count room bound failed told reads =
@@ -218,7 +219,7 @@ listens_on instance before after ch channels f g x y buffer count room bound fai
 -- the answer was heard, and the channel closed
 pub listens_ok : {E : Type 0} (instance : ℕ) (before between after : List Link) (ch : Channel) (said : rust.Heard) (a : Answer) (subject : Subject) (channels : Channels) (f g h : Faults)
     (x y z : Option World) (i j k : Option (List Answered)) (buffer : List ℕ) (count : Option ℕ)
-    → length buffer ≡ 4096 → IfSome count (λ n. n ≤ length buffer) → (count ≡ None → Rose (count_of (take_fault channels ch) f) (count_of (take_fault channels ch) g)) → Later f g → Later g h
+    → length buffer ≡ LONGEST_PIECE → IfSome count (λ n. n ≤ length buffer) → (count ≡ None → Rose (count_of (take_fault channels ch) f) (count_of (take_fault channels ch) g)) → Later f g → Later g h
     → Told (Adds [] (Took ch (got_in buffer count) ∷ [])) (outer_of x i) (outer_of y j) → (IsSome k → Told (Closes ch) y z) → Told HearsNothing j k
     → ReadsLink ch (got_in buffer count) before between (Some a) → IfSome (link_at ch before) (λ link. subject ≡ link.subject) → heard_of said ≡ heard_as (outcome_of instance) subject (came.reading_of a)
     → after ≡ links_without ch between

@@ -12,6 +12,7 @@ use Rattle.iss_edge.specs.World.{Told, Faults}
 use Rattle.iss_edge.specs.Channels.{Channels}
 use Rattle.iss_edge.proofs.Outers.{adds_then}
 use Rattle.iss_edge.proofs.Tolds.{told_map, told_then}
+use Rattle.iss_session.specs.declared.piece.TheConstants.{LONGEST_PIECE}
 use Rattle.iss_session.specs.Desks.{to_reply, desk_with, waiters_without}
 use Rattle.iss_session.specs.Links.{Link}
 use Rattle.iss_session.specs.Sessions.{Queued}
@@ -28,10 +29,10 @@ use Rattle.iss_serve.specs.Held.{HeldNow, idle, to_judge, sending, taking, arriv
 use Rattle.iss_serve.specs.Runs.{ServesOn, ServesSome}
 use Rattle.iss_serve.proofs.Taking.{IsInstance, came_to, took_some, client_failed, client_ended, request_on, waiter_failed, waiter_passed, link_heard, replied_on}
 
-within_piece : (n : ℕ) → n ≤ 4096 → nat_le n 4096 ≡ true
+within_piece : (n : ℕ) → n ≤ LONGEST_PIECE → nat_le n LONGEST_PIECE ≡ true
 within_piece n h = grind (arith, nat_tests)
 
-pub piece_fits : (buffer : List ℕ) (count : ℕ) → length buffer ≡ 4096 → count ≤ length buffer → nat_le (length (take count buffer)) 4096 ≡ true
+pub piece_fits : (buffer : List ℕ) (count : ℕ) → length buffer ≡ LONGEST_PIECE → count ≤ length buffer → nat_le (length (take count buffer)) LONGEST_PIECE ≡ true
 piece_fits buffer count room bound = let size = length-take count buffer in within_piece (length (take count buffer)) (omega (arith, size, room, bound))
 
 some_came : (buffer : List ℕ) (count : ℕ) → (count ≡ 0 → ⊥) → count ≤ length buffer → 0 < length (take count buffer)
@@ -47,7 +48,7 @@ closed_then ch answer x y z p q = told_then (Adds [] (answer ∷ [])) (Adds (Clo
 
 module _ (store : StoreNow) (h : HeldNow) (ch : Channel) (settled : h.unreached ≡ []) (x y : Option Outer) where
   -- a take was made, and what it brought isn't read
-  pub told_took_some : (buffer : List ℕ) (count : ℕ) → length buffer ≡ 4096 → count ≤ length buffer → Told (Adds [] (Took ch (Some (take count buffer)) ∷ [])) x y → Told (ServesSome ⊥ (taking store h ch)) x y
+  pub told_took_some : (buffer : List ℕ) (count : ℕ) → length buffer ≡ LONGEST_PIECE → count ≤ length buffer → Told (Adds [] (Took ch (Some (take count buffer)) ∷ [])) x y → Told (ServesSome ⊥ (taking store h ch)) x y
   told_took_some buffer count room bound p =
       told_map (Adds [] (Took ch (Some (take count buffer)) ∷ [])) (ServesSome ⊥ (taking store h ch)) x y
       (λ a b adds. took_some store h ch settled ⊥ (Some (take count buffer)) a b (piece_fits buffer count room bound) adds) p
@@ -67,7 +68,7 @@ module _ (store : StoreNow) (h : HeldNow) (ch : Channel) (settled : h.unreached 
       (λ a b adds. client_ended store h ch settled reading now a b is adds)
       (closed_then ch (Took ch (Some [])) x y z (subst (λ (n : ℕ). Told (Adds [] (Took ch (Some (take n buffer)) ∷ [])) x y) none p) q)
 
-  pub told_request : (now : HeldNow) (buffer : List ℕ) (count : ℕ) (piece : List ℕ) (said : Request) → is_reading ch h.clients ≡ true → length buffer ≡ 4096 → count ≤ length buffer → (count ≡ 0 → ⊥)
+  pub told_request : (now : HeldNow) (buffer : List ℕ) (count : ℕ) (piece : List ℕ) (said : Request) → is_reading ch h.clients ≡ true → length buffer ≡ LONGEST_PIECE → count ≤ length buffer → (count ≡ 0 → ⊥)
       → piece ≡ take count buffer → ReadsOn ch piece h.clients now.clients said → now ≡ record h { clients = now.clients }
       → Told (Adds [] (Took ch (Some (take count buffer)) ∷ [])) x y → Told (ServesOn (taking store h ch) (came_to store now ch said)) x y
   told_request now buffer count piece said reading room bound more same read is p =
@@ -84,7 +85,7 @@ module _ (store : StoreNow) (h : HeldNow) (ch : Channel) (settled : h.unreached 
       told_map (Adds (Close ch ∷ []) (Took ch None ∷ [])) (ServesOn (taking store h ch) (idle store now)) x z
       (λ a b adds. waiter_failed store h ch settled other waiting now a b is adds) (closed_then ch (Took ch None) x y z p q)
 
-  pub told_waiter_passed : (buffer : List ℕ) (count : ℕ) → is_reading ch h.clients ≡ false → is_waiting ch h.served ≡ true → length buffer ≡ 4096 → count ≤ length buffer
+  pub told_waiter_passed : (buffer : List ℕ) (count : ℕ) → is_reading ch h.clients ≡ false → is_waiting ch h.served ≡ true → length buffer ≡ LONGEST_PIECE → count ≤ length buffer
       → Told (Adds [] (Took ch (Some (take count buffer)) ∷ [])) x y → Told (ServesOn (taking store h ch) (idle store h)) x y
   told_waiter_passed buffer count other waiting room bound p =
       told_map (Adds [] (Took ch (Some (take count buffer)) ∷ [])) (ServesOn (taking store h ch) (idle store h)) x y

@@ -10,6 +10,7 @@ use Rattle.iss_http.specs.Requests.{request, IsHopelessRequest}
 use Rattle.iss_model.specs.declared.call.CallId.{CallId}
 use Rattle.iss_model.specs.declared.input.Record.{Record}
 use Rattle.iss_jit.specs.Outcomes.{outcome_of}
+use Rattle.iss_session.specs.declared.piece.TheConstants.{LONGEST_PIECE}
 use Rattle.iss_session.specs.Items.{HeardItem, Next, takes, is_piece, is_answer_to, IsTornEmit}
 use Rattle.iss_session.specs.Desks.{to_reply, desk_with, waiters_without}
 use Rattle.iss_session.specs.Links.{Link, LinkHeard, unfinished, outcome, acknowledged, dropped, link_reading, heard_as, piece_of, links_after, MayReadEarly}
@@ -145,7 +146,7 @@ module _ (store : StoreNow) (h : HeldNow) (ch : Channel) (settled : h.unreached 
         (λ rs. ap (λ (c : Change). actions_of c.steps) (reads (Some []) false rs)) adds
 
     -- some bytes came, and this is what they come to
-    module _ (piece : List ℕ) (more : 0 < length piece) (fits : nat_le (length piece) 4096 ≡ true)
+    module _ (piece : List ℕ) (more : 0 < length piece) (fits : nat_le (length piece) LONGEST_PIECE ≡ true)
         (now : HeldNow) (said : Request) (read : ReadsOn ch piece h.clients now.clients said) (is : now ≡ record h { clients = now.clients }) (a b : Outer)
         (adds : Adds [] (Took ch (Some piece) ∷ []) a b) where
       bytes : IsSome_of piece
@@ -219,7 +220,7 @@ module _ (store : StoreNow) (h : HeldNow) (ch : Channel) (settled : h.unreached 
         (λ rs. ap (λ (c : Change). c.session) (waits None rs) ∙ ap (λ (n : HeldNow). session_at (idle store n) rs) (sym is))
         (λ rs. ap (λ (c : Change). actions_of c.steps) (waits None rs)) adds
 
-    pub waiter_passed : (piece : List ℕ) (a b : Outer) → nat_le (length piece) 4096 ≡ true → Adds [] (Took ch (Some piece) ∷ []) a b
+    pub waiter_passed : (piece : List ℕ) (a b : Outer) → nat_le (length piece) LONGEST_PIECE ≡ true → Adds [] (Took ch (Some piece) ∷ []) a b
         → ServesOn (taking store h ch) (idle store h) a b
     waiter_passed piece a b fits adds =
         took_on (Some piece) false (idle store h) [] a b fits (late (Some piece)) refl

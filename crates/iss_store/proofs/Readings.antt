@@ -5,6 +5,7 @@ use Rattle.std.proofs.lemmas.Bool.Decides.{nat_tests}
 use Rattle.iss_edge.specs.World.{World}
 use Rattle.iss_edge.specs.Calls.{Same}
 use Rattle.iss_edge.proofs.Tolds.{same_self, same_then}
+use Rattle.iss_journal.specs.declared.layout.TheConstants.{FIRST_GATE}
 use Rattle.iss_journal.specs.Place.{Place}
 use Rattle.iss_journal.specs.Header.{header, HasInstance}
 use Rattle.iss_journal.specs.Region.{frame_size}
@@ -123,7 +124,7 @@ pub record ReadSoFar (place : Place) (c : CoreNow) (a b : World) : Type 0 where
   pub history : AreHistory rs
   pub read : (instance : ℕ) → HasInstance a.device instance → place.to ≡ length a.device → ReadUpTo (region_of instance (length a.device)) (bodies_of rs) place a.device
 
-pub read_nothing : (place : Place) (c : CoreNow) (a : World) → place.gate ≡ 16 → place.gate < place.to → c.state ≡ no_core → ReadSoFar place c a a
+pub read_nothing : (place : Place) (c : CoreNow) (a : World) → place.gate ≡ FIRST_GATE → place.gate < place.to → c.state ≡ no_core → ReadSoFar place c a a
 read_nothing place c a first within none =
     record {
       same = same_self a;

@@ -2,6 +2,7 @@
 use Rattle.std.proofs.Common.{◌≡◌, ℕ, ◌+◌, List, [], ◌∷◌, ◌++◌, length, fold, take, refl, ◌∙◌, arith, length-append}
 use Rattle.std.proofs.lemmas.List.{take-map, map-append}
 use Rattle.std.proofs.lemmas.List.Sums.{fold-append}
+use Rattle.iss_journal.specs.declared.layout.TheConstants.{FIRST_GATE}
 use Rattle.iss_journal.specs.Header.{header}
 use Rattle.iss_journal.specs.Region.{body_with_length, frames, bytes_before_gate}
 use Rattle.iss_journal.proofs.Records.{length-spelled}
@@ -10,7 +11,7 @@ use Rattle.iss_model.specs.texts.Spelling.{spelling}
 use Rattle.iss_model.specs.run.Rooms.{need_of, end_gate}
 use Rattle.iss_store.specs.Standing.{region_of, bodies_of}
 
-pub length-header : (instance : ℕ) → length (header instance) ≡ 16
+pub length-header : (instance : ℕ) → length (header instance) ≡ FIRST_GATE
 unfolding header
 length-header instance = refl
 
@@ -24,13 +25,13 @@ frames_end (r ∷ rs) place =
 
 pub bodies_end : (instance size : ℕ) (rs : List Record) → length (bytes_before_gate (region_of instance size) (bodies_of rs)) ≡ end_gate rs
 bodies_end instance size rs =
-    let both : length (bytes_before_gate (region_of instance size) (bodies_of rs)) ≡ 16 + length (frames (bodies_of rs)) =
+    let both : length (bytes_before_gate (region_of instance size) (bodies_of rs)) ≡ FIRST_GATE + length (frames (bodies_of rs)) =
     omega (arith, length-append {A = ℕ} (header instance) (frames (bodies_of rs)), length-header instance) in
-    both ∙ frames_end rs 16
+    both ∙ frames_end rs FIRST_GATE
 
 -- one more record
 pub end_more : (rs : List Record) (r : Record) → end_gate (rs ++ r ∷ []) ≡ end_gate rs + need_of r
-end_more rs r = fold-append (λ (at : ℕ) (x : Record). at + need_of x) 16 rs (r ∷ [])
+end_more rs r = fold-append (λ (at : ℕ) (x : Record). at + need_of x) FIRST_GATE rs (r ∷ [])
 
 pub take_bodies : (j : ℕ) (rs : List Record) → take j (bodies_of rs) ≡ bodies_of (take j rs)
 take_bodies j rs = take-map spelling j rs

@@ -4,6 +4,7 @@ use Rattle.std.specs.Prelude.{Option, Some, None, Ok, Err}
 use Rattle.iss_edge.specs.World.{World, Told}
 use Rattle.iss_edge.specs.Calls.{Same}
 use Rattle.iss_edge.proofs.Tolds.{told_then, told_self, same_self, same_then}
+use Rattle.iss_journal.specs.declared.layout.TheConstants.{FIRST_GATE}
 use Rattle.iss_journal.specs.Place.{Place}
 use Rattle.iss_journal.specs.Opening.{Finds, MovesOn}
 use Rattle.iss_journal.specs.declared.fault.JournalFault.{JournalFault}
@@ -25,7 +26,7 @@ told_both R S (Some a) (Some b) p q = (p, q)
 
 -- ---- before the first record
 
-pub told_nothing_read : (place : Place) (c : CoreNow) (x : Option World) → place.gate ≡ 16 → place.gate < place.to → c.state ≡ no_core → Told (ReadSoFar place c) x x
+pub told_nothing_read : (place : Place) (c : CoreNow) (x : Option World) → place.gate ≡ FIRST_GATE → place.gate < place.to → c.state ≡ no_core → Told (ReadSoFar place c) x x
 told_nothing_read place c x first within none =
     told_self (ReadSoFar place c) x (λ a. read_nothing place c a first within none)
 
@@ -99,5 +100,5 @@ told_take_fault instance gate place now c next body taken fault x y z is same he
     (λ a b e r f. take_fault instance gate place now c body fault a b e here moved_on takes_so r f) read found_so
 
 -- no record counts in a core without one
-pub none_counted : (c : CoreNow) → c.state ≡ no_core → 16 + 6 * c.state.count ≤ 16
+pub none_counted : (c : CoreNow) → c.state ≡ no_core → FIRST_GATE + 6 * c.state.count ≤ FIRST_GATE
 none_counted c none = let count : c.state.count ≡ 0 = ap (λ (s : CoreState). s.count) none in omega arith

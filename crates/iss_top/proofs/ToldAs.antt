@@ -5,6 +5,7 @@ use Rattle.std.proofs.lemmas.List.{length-take}
 use Rattle.std.proofs.lemmas.List.Folds.{list_all-append}
 use Rattle.std.proofs.lemmas.List.Sums.{fold-append}
 use Rattle.std.proofs.lemmas.Bool.Decides.{nat_tests}
+use Rattle.iss_model.specs.declared.limits.TheConstants.{LONGEST_LINE}
 use Rattle.iss_model.specs.run.Runs.{Run, Response, response}
 use Rattle.iss_model.specs.run.Transcripts.{after_line}
 use Rattle.iss_model.specs.state.Cores.{CoreState, core_keeper}
@@ -46,13 +47,13 @@ same_told s line part like =
 -- Two lines of more than 16384 bytes, both blank or neither, are told the same.
 record IsAlike (line other : List ℕ) : Type 0 where
   pub blank : is_blank line ≡ is_blank other
-  pub long : 16384 < length line
-  pub other_long : 16384 < length other
+  pub long : LONGEST_LINE < length line
+  pub other_long : LONGEST_LINE < length other
 
-long_reading : (line : List ℕ) → 16384 < length line → line_read Lines line ≡ Err Long
+long_reading : (line : List ℕ) → LONGEST_LINE < length line → line_read Lines line ≡ Err Long
 unfolding line_read opened_line
 long_reading line h =
-    let is_long : nat_lt 16384 (length line) ≡ true = grind (arith, nat_tests) in
+    let is_long : nat_lt LONGEST_LINE (length line) ≡ true = grind (arith, nat_tests) in
     rw is_long refl
 
 alike_reading : (line other : List ℕ) → IsAlike line other → reading_of line ≡ reading_of other
@@ -85,7 +86,7 @@ not_blank : (line : List ℕ) (b : ℕ) → is_blank_byte b ≡ false → is_bla
 not_blank line b e = list_all-append is_blank_byte line (b ∷ []) ∙ rw e (and_false (is_blank line))
 
 -- what is kept of a long line is like the line: another byte that isn't blank shows that it isn't
-kept_long : (line : List ℕ) (b : ℕ) → 16384 < length line → (t : Bool) → is_blank_byte b ≡ t
+kept_long : (line : List ℕ) (b : ℕ) → LONGEST_LINE < length line → (t : Bool) → is_blank_byte b ≡ t
     → IsAlike (cond t line (take (length line - 1) line ++ b ∷ [])) (line ++ b ∷ [])
 kept_long line b h true e =
     record {
@@ -116,7 +117,7 @@ kept_byte line part b true e (inr alike) =
     let short : length line < 16385 = grind (arith, nat_tests) in
     absurd (omega (arith, short, alike.long))
 kept_byte line part b false e (inl same) =
-    let long : 16384 < length line = grind (arith, nat_tests) in
+    let long : LONGEST_LINE < length line = grind (arith, nat_tests) in
     inr (subst (λ (p : List ℕ). IsAlike (kept_where false line b) (p ++ b ∷ [])) same (kept_long line b long (is_blank_byte b) refl))
 kept_byte line part b false e (inr alike) =
     inr (alike_then (kept_where false line b) (line ++ b ∷ []) (part ++ b ∷ []) (kept_long line b alike.long (is_blank_byte b) refl) (alike_more line part (b ∷ []) alike))

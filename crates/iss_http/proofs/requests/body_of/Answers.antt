@@ -1,4 +1,5 @@
 use Rattle.std.proofs.Common.{sym, ap, subst, ◌∙◌, Bor, List, ℕ}
+use Rattle.iss_http.specs.declared.limits.TheConstants.{MOST_HEAD}
 use Rattle.iss_http.specs.Heads.{request_head}
 use Rattle.iss_http.specs.Requests.{IsHopelessRequest}
 use Rattle.iss_http.proofs.Kept.{whole_fault, hopeless_cut}
@@ -10,4 +11,4 @@ returns-in-Whole-clause-fault c =
     (ap request_head (sym c.front-start.ensures) ∙ c.in-Whole.ensures.1) c.body_behind.ensures
 
 pub returns-in-Hopeless-clause-fault : goal.returns-in-Hopeless-clause-fault
-returns-in-Hopeless-clause-fault c = hopeless_cut 8192 c.args.bytes.now (subst IsHopelessRequest c.front-start.ensures c.in-Hopeless.ensures)
+returns-in-Hopeless-clause-fault c = hopeless_cut MOST_HEAD c.args.bytes.now (subst IsHopelessRequest c.front-start.ensures c.in-Hopeless.ensures)

@@ -1,4 +1,5 @@
 use Rattle.std.proofs.Common.{◌≡◌, ◌+◌, ◌-◌, ◌<◌, ◌≤◌, length, refl, sym, ◌∙◌, rules, arith}
+use Rattle.iss_journal.specs.declared.layout.TheConstants.{LONGEST_BODY}
 use Rattle.iss_journal.proofs.Scans.{finds_body, moved_on}
 use Rattle.iss_journal.proofs.scan.Scan.next.Goals as goal
 
@@ -9,7 +10,7 @@ returns-clause-finds g c =
     let place = c.args.self.now in
     let one : head.gate ≡ 1 = search rules in
     let some : 0 < head.length = search rules in
-    let most : head.length ≤ 8192 = search rules in
+    let most : head.length ≤ LONGEST_BODY = search rules in
     let room : 5 + head.length < place.to - place.gate = search rules in
     finds_body place head.gate head.length body (g.E.Edge.told c.args.edge.now) (g.E.Edge.told c.read_head.new.edge) (g.E.Edge.told c.read_body.new.edge) one some most room (search rules) (search rules) (search rules)
 
@@ -18,7 +19,7 @@ returns-clause-moves g c =
     let head = c.in_ok-head.head in
     let place = c.args.self.now in
     let some : 0 < head.length = search rules in
-    let most : head.length ≤ 8192 = search rules in
+    let most : head.length ≤ LONGEST_BODY = search rules in
     let room : 5 + head.length < place.to - place.gate = search rules in
     let size : length c.in_ok-body.body ≡ head.length = search rules in
     let moved : c.from.result ≡ head.length = search rules in (
