@@ -1,6 +1,6 @@
--- An authorisation or increment is approved in full exactly if the rules gave no reason, and it is paid. Its user's own balance pays, its
--- call was funded, or a set stood in. It is approved for a part exactly if they gave none, and its call was partly funded with just that
--- part.
+-- An authorisation or increment is approved in full exactly if the rules gave no reason, and it is paid: by its user's own balance, by its
+-- funded call, or by a set that stood in. It is approved for a part exactly if they gave no reason, and its call was partly funded with just
+-- that part.
 use Rattle.std.specs.Prelude.{ℕ, ◌+◌, Bool, true, false, not, ◌&&◌, ◌||◌, ◌==◌, List, [], ◌∷◌, ◌++◌, length, Option, Some, None, if◌then◌else◌}
 use Rattle.std.specs.Str.{bytes_eq}
 use Rattle.iss_model.specs.declared.call.Failure.TheVariants as failure
@@ -66,8 +66,8 @@ is_paid_at_once (in_part currency amount) f ask = false
 is_paid_at_once in_full f ask =
     is_account_funded ask.txn.funding || is_named_in f.switched ask.txn.product && stands_in (stand f ask failure.Switch ask.at)
 
--- A call that a record closes in this way is paid in full, if the record is the answer that funds it. It is too if it failed and a set
--- stands in. Just this part of it is paid, if it is partly funded and the record is the answer with that part.
+-- A call that a record closes in this way is paid in full if the record is the answer that funds it, or if the call failed and a set stands
+-- in. It is paid in this part if it is partly funded with the part, and the record is the answer of that part.
 abbrev pub is_paid_closing : Extent → Record → Facts → Opened → Txn → How → Bool
 is_paid_closing in_full r f o t how.Funded = is_answer o.call.0 outcome.Funded r.input
 is_paid_closing in_full r f o t (how.Partial part) = false
