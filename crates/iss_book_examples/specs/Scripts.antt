@@ -165,8 +165,8 @@ abbrev pub purchase : String → ℕ → Input
 purchase token amount = purchase_at 5411 token amount
 
 -- a purchase with card c1 at the grocer m1, of which the gateway may fund a part
-abbrev pub divisible_purchase : String → ℕ → Input
-divisible_purchase token amount = input.Authorization (codes token) (codes "c1") Usd amount 5411 (codes "m1") true
+abbrev pub partial_purchase : String → ℕ → Input
+partial_purchase token amount = input.Authorization (codes token) (codes "c1") Usd amount 5411 (codes "m1") true
 
 -- an increment of a transaction in US dollars
 abbrev pub increment : String → String → ℕ → Input
@@ -251,8 +251,8 @@ declined_reply token why = decided (codes token) (verdict.Declined why) ∷ []
 
 -- The gateway is asked at a stamp about a purchase of user u1 with a card, and has this many milliseconds to answer. It may fund a part, or
 -- it may not.
-abbrev pub request_permitting : Bool → String → ℕ → Method → ℕ → String → String → ℕ → ℕ → List Said
-request_permitting partial card timeout_ms method number event txn amount at =
+abbrev pub request_with_partial : Bool → String → ℕ → Method → ℕ → String → String → ℕ → ℕ → List Said
+request_with_partial partial card timeout_ms method number event txn amount at =
     asked (record {
       call = call_number number;
       event = codes event;
@@ -272,16 +272,16 @@ request_permitting partial card timeout_ms method number event txn amount at =
 -- the gateway is asked so about all of a purchase
 abbrev pub request_by : String → ℕ → Method → ℕ → String → String → ℕ → ℕ → List Said
 request_by card timeout_ms method number event txn amount at =
-    request_permitting false card timeout_ms method number event txn amount at
+    request_with_partial false card timeout_ms method number event txn amount at
 
 -- the gateway is asked at a stamp about a purchase with card c1, and has 3 seconds to answer
 abbrev pub request : Method → ℕ → String → String → ℕ → ℕ → List Said
 request method number event txn amount at = request_by "c1" 3000 method number event txn amount at
 
 -- the gateway is asked so about an authorisation, and may fund a part
-abbrev pub divisible_request : ℕ → String → String → ℕ → ℕ → List Said
-divisible_request number event txn amount at =
-    request_permitting true "c1" 3000 method.Authorization number event txn amount at
+abbrev pub partial_request : ℕ → String → String → ℕ → ℕ → List Said
+partial_request number event txn amount at =
+    request_with_partial true "c1" 3000 method.Authorization number event txn amount at
 
 -- the gateway is sent a notice about a user: its amount, and the part that goes back to the gateway
 abbrev pub notice_about : String → ℕ → Method → String → Option CallId → ℕ → ℕ → List Said

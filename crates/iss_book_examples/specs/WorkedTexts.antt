@@ -8,7 +8,7 @@ use Rattle.iss_model.specs.declared.decision.Reason.TheVariants as reason
 use Rattle.iss_model.specs.declared.decision.Answer.TheVariants as answer
 use Rattle.iss_model.specs.run.Sayings.{Said, acked, timed, answered}
 use Rattle.iss_model.specs.run.Transcripts.{said_text}
-use Rattle.iss_book_examples.specs.Scripts.{request, divisible_request, notice, call_number, done_reply, approved_reply, partial_reply, declined_reply, late_reply}
+use Rattle.iss_book_examples.specs.Scripts.{request, partial_request, notice, call_number, done_reply, approved_reply, partial_reply, declined_reply, late_reply}
 use Prim.Native.String.{String}
 pub use Rattle.std.specs.Fmt.{digits}
 
@@ -23,9 +23,9 @@ RequestLine =
     "{\"amount\":\"60.00\",\"card\":\"c1\",\"currency\":\"USD\",\"event\":\"a1\",\"mcc\":\"5411\",\"method\":\"pgfs.authorization\",\"mid\":\"m1\",\"number\":1,\"token\":\"00000000-0000-8000-8000-000000000001\",\"txn\":\"a1\",\"user\":\"u1\"}"
 
 -- the request for a purchase of which the gateway may fund a part
-abbrev pub DivisibleRequestLine : Type 0
-DivisibleRequestLine =
-    IsWorded (divisible_request 1 "a1" "a1" 6000 1000)
+abbrev pub PartialRequestLine : Type 0
+PartialRequestLine =
+    IsWorded (partial_request 1 "a1" "a1" 6000 1000)
     "{\"amount\":\"60.00\",\"card\":\"c1\",\"currency\":\"USD\",\"event\":\"a1\",\"mcc\":\"5411\",\"method\":\"pgfs.authorization\",\"mid\":\"m1\",\"number\":1,\"partial\":true,\"token\":\"00000000-0000-8000-8000-000000000001\",\"txn\":\"a1\",\"user\":\"u1\"}"
 
 -- the request for an increment

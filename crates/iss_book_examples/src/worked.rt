@@ -11,11 +11,11 @@ ghost use Rattle.iss_model.specs.rules.Reasons.{is_full};
 ghost use Rattle.iss_model.specs.rules.Pieces.{taken_to_clear, taken_to_release};
 ghost use Rattle.iss_book_examples.specs.WorkedParts.{three_parts, funded_by_all};
 ghost use Rattle.iss_book_examples.specs.Scripts.{Plays, used_after};
-ghost use Rattle.iss_book_examples.specs.WorkedTexts.{RequestLine, DivisibleRequestLine, IncrementRequestLine, VoidLine, StandInNoticeLine, CaptureNoticeLine, RefundNoticeLine, DoneEventLine, ApprovedEventLine, PartialEventLine, DeclinedByAControlLine, DeclinedMoveLine, LateAnswerLine, LatePartLine, TimedOutCallLine, AbandonedCallLine, UnknownCallLine, AcknowledgedLine, AcknowledgedBeforeLine, IdleLine, SpentLine, TimeLine};
+ghost use Rattle.iss_book_examples.specs.WorkedTexts.{RequestLine, PartialRequestLine, IncrementRequestLine, VoidLine, StandInNoticeLine, CaptureNoticeLine, RefundNoticeLine, DoneEventLine, ApprovedEventLine, PartialEventLine, DeclinedByAControlLine, DeclinedMoveLine, LateAnswerLine, LatePartLine, TimedOutCallLine, AbandonedCallLine, UnknownCallLine, AcknowledgedLine, AcknowledgedBeforeLine, IdleLine, SpentLine, TimeLine};
 ghost use Rattle.iss_book_examples.specs.WorkedPurchases.{purchase_of_all, purchase_of_more, repeated_purchase, changed_purchase, raised_reversed_cleared, refunded_once, before_expiry, after_expiry, cleared_after_expiry, states_of_a_card, loads_in_three_currencies, greatest_load};
 ghost use Rattle.iss_book_examples.specs.WorkedControls.{limit_of_a_day, next_day, next_week, next_month, next_day_in_india, next_week_in_new_york, next_month_in_the_west, offset_that_is_fixed, lifetime, group_of_merchants, purchase_before_the_control, limit_of_a_transaction};
 ghost use Rattle.iss_book_examples.specs.WorkedCalls.{funded_by_the_gateway, refused_by_the_gateway, open_call, refused_call, answer_in_time, answer_too_late, reversed_while_pending, cleared_in_parts, refund_of_too_much, cleared_for_less, cleared_the_next_day};
-ghost use Rattle.iss_book_examples.specs.WorkedFundedParts.{funded_in_part, part_without_leave, part_of_the_whole, part_in_another_currency, leave_is_of_the_contents, cleared_beyond_its_part};
+ghost use Rattle.iss_book_examples.specs.WorkedFundedParts.{funded_in_part, part_not_permitted, part_of_the_whole, part_in_another_currency, permission_is_of_the_contents, cleared_beyond_its_part};
 ghost use Rattle.iss_book_examples.specs.WorkedStandIns.{stand_in, gateway_switched_off};
 ghost use Rattle.iss_book_examples.specs.WorkedDay.{a_day};
 ghost use Rattle.iss_book_examples.specs.WorkedDue.{clearing_of_a_pending_purchase, repeat_at_the_deadline, early_acknowledgement, two_timeouts_and_an_expiry, expired_call, raised_by_the_gateway};
@@ -61,10 +61,10 @@ pub fn worked_scripts()
     ensures cleared_for_less { Plays cleared_for_less }
     ensures cleared_the_next_day { Plays cleared_the_next_day }
     ensures funded_in_part { Plays funded_in_part }
-    ensures part_without_leave { Plays part_without_leave }
+    ensures part_not_permitted { Plays part_not_permitted }
     ensures part_of_the_whole { Plays part_of_the_whole }
     ensures part_in_another_currency { Plays part_in_another_currency }
-    ensures leave_is_of_the_contents { Plays leave_is_of_the_contents }
+    ensures permission_is_of_the_contents { Plays permission_is_of_the_contents }
     ensures cleared_beyond_its_part { Plays cleared_beyond_its_part }
     ensures stand_in { Plays stand_in }
     ensures gateway_switched_off { Plays gateway_switched_off }
@@ -155,7 +155,7 @@ pub fn worked_windows()
 pub fn worked_texts()
     ensures call_token { uuid_text (call_uuid 7 1) ≡ codes "00000000-0007-8000-8000-000000000001" }
     ensures request { RequestLine }
-    ensures divisible_request { DivisibleRequestLine }
+    ensures partial_request { PartialRequestLine }
     ensures increment_request { IncrementRequestLine }
     ensures void { VoidLine }
     ensures stand_in_notice { StandInNoticeLine }

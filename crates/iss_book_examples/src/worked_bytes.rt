@@ -4,7 +4,7 @@ ghost use Rattle.iss_model.specs.declared.input.Input.TheVariants.{Ack, Time};
 ghost use Rattle.iss_model.specs.declared.input.Outcome.TheVariants.{Connection};
 ghost use Rattle.iss_model.specs.declared.currency.Currency.TheVariants.{Usd, Eur};
 ghost use Rattle.iss_model.specs.declared.setting.Window.TheVariants.{Week};
-ghost use Rattle.iss_book_examples.specs.Scripts.{new_user, card_of, gateway_product, connection_set, switch_on, purchase, divisible_purchase, load, increment, reversal, final_clearing, refund, amount_control, local_control, gateway_answer, part_answer};
+ghost use Rattle.iss_book_examples.specs.Scripts.{new_user, card_of, gateway_product, connection_set, switch_on, purchase, partial_purchase, load, increment, reversal, final_clearing, refund, amount_control, local_control, gateway_answer, part_answer};
 ghost use Rattle.iss_model.specs.texts.Spelling.{spelling};
 ghost use Rattle.iss_book_examples.specs.WorkedSpellings.{IsSpelled, IsNone, recorded, user_spelled, full_control, control_of_nothing, count_of_one, group_of_two, activation, closing};
 
@@ -25,7 +25,7 @@ pub fn worked_spellings()
     ensures switch { IsSpelled 0 switch_on "080000000000000000027436016701" }
     ensures load { IsSpelled 0 (load "l1" Eur 6000) "090000000000000000026c3102753103d20000000000001770" }
     ensures purchase { IsSpelled 1000 (purchase "a1" 6000) "0a00000000000003e8026131026331034800000000000017701523026d31" }
-    ensures divisible { IsSpelled 1000 (divisible_purchase "a1" 6000) "1400000000000003e8026131026331034800000000000017701523026d31" }
+    ensures partial { IsSpelled 1000 (partial_purchase "a1" 6000) "1400000000000003e8026131026331034800000000000017701523026d31" }
     ensures increment { IsSpelled 0 (increment "i1" "a1" 100) "0b000000000000000002693102613103480000000000000064" }
     ensures reversal { IsSpelled 0 (reversal "r1" "a1" 100) "0c000000000000000002723102613103480000000000000064" }
     ensures clearing { IsSpelled 0 (final_clearing "k1" "a1" 3820) "0d0000000000000000026b3102613103480000000000000eec01" }

@@ -8,6 +8,7 @@ use Rattle.std.specs.List.{flat_map, list_all}
 use Rattle.std.proofs.lemmas.Bool.{leb-true, lt-ltb, ltb-true, eqb-true, and_parts}
 use Rattle.std.proofs.lemmas.Option.{same_Some}
 use Rattle.std.proofs.lemmas.List.Concat.{flat_map-cons}
+use Rattle.iss_model.specs.declared.limits.TheConstants.{LEAST_AMOUNT, GREATEST_AMOUNT, MOST_MCCS, SHORTEST_TIMEOUT, LONGEST_TIMEOUT, SHORTEST_HOLD, LONGEST_HOLD, FIRST_NUMBER, GREATEST_NUMBER}
 use Rattle.iss_model.specs.declared.currency.Currency.{Currency}
 use Rattle.iss_model.specs.declared.currency.Currency.TheVariants as currency
 use Rattle.iss_model.specs.declared.setting.Funding.{Funding}
@@ -36,7 +37,7 @@ pub stamp_field : IsField take_stamp (number_bytes 8) is_stamp
 stamp_field = formed 8 _ is_stamp wide_8 (λ n h. omega (arith, leb-true _ _ h))
 
 pub amount_field : IsField take_amount (number_bytes 8) is_amount
-amount_field = formed 8 _ is_amount wide_8 (λ n h. omega (arith, leb-true _ _ (and_parts (nat_le 1 n) (nat_le n 1000000000) h).1))
+amount_field = formed 8 _ is_amount wide_8 (λ n h. omega (arith, leb-true _ _ (and_parts (nat_le LEAST_AMOUNT n) (nat_le n GREATEST_AMOUNT) h).1))
 
 pub limit_field : IsField take_limit (number_bytes 8) is_limit
 limit_field = formed 8 _ is_limit wide_8 (λ n h. omega (arith, leb-true _ _ h))
@@ -45,13 +46,13 @@ pub mcc_field : IsField take_mcc mcc_bytes is_mcc
 mcc_field = formed 2 _ is_mcc wide_2 (λ n h. omega (arith, leb-true _ _ h))
 
 pub id_field : IsField take_id (number_bytes 4) is_number
-id_field = formed 4 _ is_number wide_4 (λ n h. omega (arith, leb-true _ _ (and_parts (nat_le 1 n) (nat_le n 4294967295) h).1))
+id_field = formed 4 _ is_number wide_4 (λ n h. omega (arith, leb-true _ _ (and_parts (nat_le FIRST_NUMBER n) (nat_le n GREATEST_NUMBER) h).1))
 
 pub timeout_field : IsField (take_formed 4 is_timeout) (number_bytes 4) is_timeout
-timeout_field = formed 4 _ is_timeout wide_4 (λ n h. omega (arith, leb-true _ _ (and_parts (nat_le 1 n) (nat_le n 60000) h).1))
+timeout_field = formed 4 _ is_timeout wide_4 (λ n h. omega (arith, leb-true _ _ (and_parts (nat_le SHORTEST_TIMEOUT n) (nat_le n LONGEST_TIMEOUT) h).1))
 
 pub hold_time_field : IsField (take_formed 4 is_hold_time) (number_bytes 4) is_hold_time
-hold_time_field = formed 4 _ is_hold_time wide_4 (λ n h. omega (arith, leb-true _ _ (and_parts (nat_le 86400000 n) (nat_le n 2678400000) h).1))
+hold_time_field = formed 4 _ is_hold_time wide_4 (λ n h. omega (arith, leb-true _ _ (and_parts (nat_le SHORTEST_HOLD n) (nat_le n LONGEST_HOLD) h).1))
 
 -- things by their numbers
 
@@ -360,8 +361,8 @@ mccs_field =
           let whole : IsSplit bytes (mccs_bytes c.0.0) c.0.1 = subst (λ (k : ℕ). IsSplit bytes (number_bytes 2 k ++ flat_map mcc_bytes c.0.0) c.0.1) (sym tc.1) both in
           subst (λ y. IsSplit bytes (mccs_bytes y.0) y.1 × (are_mccs y.0 ≡ true)) g.1 (whole, g.0);
       again = λ x rest h.
-          let p = and_parts (nat_le 1 (length x) && nat_le (length x) 1000) (are_rising 0 x) h in
-          let q = and_parts (nat_le 1 (length x)) (nat_le (length x) 1000) p.0 in
+          let p = and_parts (nat_le 1 (length x) && nat_le (length x) MOST_MCCS) (are_rising 0 x) h in
+          let q = and_parts (nat_le 1 (length x)) (nat_le (length x) MOST_MCCS) p.0 in
           let small : length x < 65536 = omega (arith, leb-true _ _ q.1) in
           ap take_mccs (append_assoc (number_bytes 2 (length x)) (flat_map mcc_bytes x) rest)
           ∙ rw (number_again 2 _ wide_2 (length x) (flat_map mcc_bytes x ++ rest) small, codes_again 0 x rest p.1, h) refl;

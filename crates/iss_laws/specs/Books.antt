@@ -6,7 +6,7 @@ use Rattle.iss_book_examples.specs.Scripts.{Script, history_after}
 use Rattle.iss_book_examples.specs.WorkedPurchases.{repeated_purchase, raised_reversed_cleared, refunded_once, after_expiry, cleared_after_expiry, states_of_a_card, loads_in_three_currencies}
 use Rattle.iss_book_examples.specs.WorkedControls.{limit_of_a_day, limit_of_a_transaction}
 use Rattle.iss_book_examples.specs.WorkedCalls.{funded_by_the_gateway, refused_by_the_gateway, open_call, answer_too_late, reversed_while_pending, cleared_in_parts, cleared_for_less}
-use Rattle.iss_book_examples.specs.WorkedFundedParts.{funded_in_part, part_without_leave, part_of_the_whole, cleared_beyond_its_part}
+use Rattle.iss_book_examples.specs.WorkedFundedParts.{funded_in_part, part_not_permitted, part_of_the_whole, cleared_beyond_its_part}
 use Rattle.iss_book_examples.specs.WorkedStandIns.{stand_in, gateway_switched_off}
 use Rattle.iss_book_examples.specs.WorkedDay.{a_day}
 use Rattle.iss_book_examples.specs.WorkedDue.{clearing_of_a_pending_purchase, two_timeouts_and_an_expiry, expired_call, raised_by_the_gateway}
@@ -34,7 +34,7 @@ scripts =
     ∷ cleared_in_parts
     ∷ cleared_for_less
     ∷ funded_in_part
-    ∷ part_without_leave
+    ∷ part_not_permitted
     ∷ part_of_the_whole
     ∷ cleared_beyond_its_part
     ∷ stand_in

@@ -1,6 +1,5 @@
 //! Money is moved, and never made or lost, and each user's balance comes from what happened to it.
 ghost use Rattle.std.specs.Prelude.{◌≡◌, true, List};
-ghost use Rattle.iss_model.specs.declared.currency.Currency.{Currency};
 ghost use Rattle.iss_model.specs.declared.input.Record.{Record};
 ghost use Rattle.iss_model.specs.rules.Histories.{history_of, IsLegal};
 ghost use Rattle.iss_laws.specs.Balances.{BalancesAddUp, PostsStay};
