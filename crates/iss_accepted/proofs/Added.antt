@@ -1,13 +1,14 @@
 -- What is kept if an event is added.
 use Rattle.std.proofs.Common.{◌≡◌, ℕ, true, cond, List, [], ◌∷◌, ◌++◌, length, map, find, Option, Some, None, refl, sym, ap, ap₂, subst, ◌∙◌}
 use Rattle.std.specs.Prelude.{IsSome, option_map, is_some}
-use Rattle.std.specs.List.{AllByRecursion}
+use Rattle.std.specs.List.{AllByRecursion, IsDistinct}
+use Rattle.std.specs.Str.{bytes_eq}
 use Rattle.std.proofs.lemmas.List.{map-append}
 use Rattle.iss_model.specs.declared.input.Input.{Input}
 use Rattle.iss_model.specs.Inputs.{event_token, is_event}
 use Rattle.iss_model.specs.texts.Spelling.{spelling, is_record}
 use Rattle.iss_model.specs.rules.Facts.{Accepted}
-use Rattle.iss_index.proofs.Placed.{names-last}
+use Rattle.iss_index.proofs.Placed.{apart-last, names-last}
 use Rattle.iss_accepted.specs.declared.row.EventRow.{EventRow}
 use Rattle.iss_accepted.specs.Values.{EventsNow}
 use Rattle.iss_accepted.specs.Standing.{Standing, name_of, token_or_none, standing_named, AreDecided}
@@ -15,7 +16,7 @@ use Rattle.iss_accepted.specs.Kept.{standing_of, standings_of, events_now, IsSpe
 use Rattle.iss_accepted.proofs.Spans.{standings_stay, all_stay, all_last, record_with, standing_new, new_standing, new_spelled}
 use Rattle.iss_accepted.proofs.Decided.{decisions_last, decided_last}
 use Rattle.iss_accepted.proofs.Found.{event_in, event_found}
-use Rattle.iss_accepted.proofs.Steps.{all_named}
+use Rattle.iss_accepted.proofs.Steps.{all_named, new_unplaced}
 
 -- what is kept agrees, and shows these events
 pub record Shows (bytes : List ℕ) (rows : List EventRow) (names : List (List ℕ)) (decided : List ℕ) (value : EventsNow) : Type 0 where
@@ -41,6 +42,7 @@ module _ (bytes : List ℕ) (rows : List EventRow) (names : List (List ℕ)) (de
               subst (λ (bs : List ℕ). AllByRecursion (IsSpelledIn bs) rows_now) (sym grown)
               (subst (λ (rs : List EventRow). AllByRecursion (IsSpelledIn (bytes ++ more)) rs) (sym same) (all_stay bytes more rows kept.spelled));
           placed = unchanged ∙ kept.placed ∙ ap (λ (ss : List Standing). map name_of ss) (sym standings_same);
+          apart = subst (IsDistinct bytes_eq) (sym unchanged) kept.apart;
           verdicts = subst (λ (ss : List Standing). AreDecided ss decided) (sym standings_same) kept.verdicts;
         }
 
@@ -100,6 +102,9 @@ module _ (bytes : List ℕ) (rows : List EventRow) (names : List (List ℕ)) (de
               noted
               ∙ ap₂ (λ (ns : List (List ℕ)) (n : List ℕ). ns ++ n ∷ []) kept.placed (sym name_is)
               ∙ sym (ap (λ (ss : List Standing). map name_of ss) standings_now ∙ names-last name_of (standings_of bytes rows) newest);
+          apart =
+              subst (IsDistinct bytes_eq) (sym noted)
+              (apart-last token names kept.apart (new_unplaced bytes rows names decided value token kept view unknown));
           verdicts =
               subst (λ (ss : List Standing). AreDecided ss decided) (sym standings_now)
               (decided_last (standings_of bytes rows) newest decided kept.verdicts pending);

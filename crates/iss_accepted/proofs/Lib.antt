@@ -3,3 +3,4 @@ pub mod Decided
 pub mod Found
 pub mod Steps
 pub mod Added
+mod Seen

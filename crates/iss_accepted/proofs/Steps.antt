@@ -1,7 +1,7 @@
 -- What each call finds and leaves, by what is kept.
 use Rattle.std.proofs.Common.{◌≡◌, ℕ, zero, suc, ◌<◌, Bool, true, false, cond, List, [], ◌∷◌, ◌++◌, ◌&&◌, length, map, find, Option, Some, None, slice_get, get_or, set, refl, sym, ap, ap₂, subst, ◌∙◌, arith}
 use Rattle.std.specs.Prelude.{IsSome, option_map, is_some}
-use Rattle.std.specs.List.{AllByRecursion, list_all}
+use Rattle.std.specs.List.{AllByRecursion, IsDistinct, list_all}
 use Rattle.std.specs.Option.{option_and_then}
 use Rattle.std.specs.Str.{bytes_eq}
 use Rattle.std.proofs.lemmas.List.{get_or-map, get_or-set_same, length-map}
@@ -24,7 +24,7 @@ use Rattle.iss_codec.specs.TakingRecords.{record_spelled}
 use Rattle.iss_codec.proofs.TakenRecords.{spelled_again}
 use Rattle.iss_codec.proofs.EqualInputs.{same_exactly}
 use Rattle.iss_index.specs.Places.{place_of}
-use Rattle.iss_index.proofs.Placed.{found-within, found-named, none-named, found-names}
+use Rattle.iss_index.proofs.Placed.{none_apart, found-within, found-named, none-named, found-names}
 use Rattle.iss_accepted.specs.declared.row.EventRow.{EventRow}
 use Rattle.iss_model.specs.rules.Judging.{token_answer}
 use Rattle.iss_accepted.specs.Values.{EventsNow, events_facts, answer_in}
@@ -108,6 +108,7 @@ kept_none bytes rows names decided none empty undecided =
     record {
       spelled = subst (λ (rs : List EventRow). AllByRecursion (IsSpelledIn bytes) rs) (sym none) tt;
       placed = empty ∙ sym (ap (λ (rs : List EventRow). map name_of (standings_of bytes rs)) none);
+      apart = subst (IsDistinct bytes_eq) (sym empty) none_apart;
       verdicts = nothing_decided (standings_of bytes rows) decided (ap (λ (rs : List EventRow). standings_of bytes rs) none) undecided;
     }
 
@@ -303,6 +304,7 @@ module _ (bytes : List ℕ) (rows : List EventRow) (names : List (List ℕ)) (de
             record {
               spelled = subst (λ (rs : List EventRow). AllByRecursion (IsSpelledIn bytes) rs) (sym set_so) (spelled_after rows place kept.spelled);
               placed = placed_after ∙ ap (λ (ss : List Standing). map name_of ss) (sym standings_now);
+              apart = kept.apart;
               verdicts =
                   subst (λ (ss : List Standing). AreDecided ss decided_now) (sym standings_now)
                   (subst (λ (ps : List ℕ). AreDecided standing_after ps) (sym pushed)

@@ -1,12 +1,17 @@
 -- How the accepted events are kept: rows, and the bytes that spell their records.
 use Rattle.std.specs.Prelude.{◌≡◌, ℕ, ◌≤◌, List, map, length, Option, Some, None, IsTrue, if◌then◌else◌}
-use Rattle.std.specs.List.{AllByRecursion, slice_range}
+use Rattle.std.specs.List.{AllByRecursion, IsDistinct, slice_range}
 use Rattle.std.specs.Str.{bytes_eq}
+use Rattle.std.specs.BTreeMap.{BTreeMap, get}
+use Rattle.std.specs.Cmp.Lexicographic.{slice_cmp}
+use Rattle.std.specs.Ordering.{nat_cmp}
+use Rattle.iss_model.specs.declared.call.CallState.{CallState}
 use Rattle.iss_model.specs.declared.decision.Answer.{Answer}
 use Rattle.iss_model.specs.declared.decision.Answer.TheVariants as answer
 use Rattle.iss_model.specs.declared.input.Input.{Input}
 use Rattle.iss_model.specs.declared.input.Input.TheVariants as input
 use Rattle.iss_model.specs.declared.input.Record.{Record}
+use Rattle.iss_model.specs.declared.state.Seen.{Seen}
 use Rattle.iss_model.specs.texts.Spelling.{spelling, is_record}
 use Rattle.iss_model.specs.rules.Facts.{Accepted, reply_of_verdict}
 use Rattle.iss_codec.specs.TakingRecords.{record_spelled}
@@ -53,12 +58,23 @@ row_answer bytes row token i =
     if bytes_eq (bytes_of bytes row) (spelling (record { at = row.at; input = i })) then answer.Repeat token (reply_of_verdict row.verdict)
     else answer.Conflict token row.number
 
+-- a row's event as it stands, with the mark of its call among these
+abbrev pub row_seen : List ℕ → BTreeMap (List ℕ) CallState → EventRow → Seen
+row_seen bytes marks row =
+    record {
+      number = row.number;
+      body = record_of (event_of bytes row);
+      verdict = row.verdict;
+      mark = get (slice_cmp nat_cmp) marks (name_of (standing_of bytes row));
+    }
+
 -- what the rows tell
 abbrev pub events_now : List Standing → List ℕ → EventsNow
 events_now ss decided = record { accepted = map (λ s. s.event) ss; decisions = decisions_at ss decided }
 
--- Each row is spelled in the buffer, the names are those of the rows, and the decided rows are known.
+-- Each row is spelled in the buffer, the names are those of the rows, no two alike, and the decided rows are known.
 pub record IsKept (bytes : List ℕ) (rows : List EventRow) (names : List (List ℕ)) (decided : List ℕ) : Type 0 where
   pub spelled : AllByRecursion (IsSpelledIn bytes) rows
   pub placed : names ≡ map name_of (standings_of bytes rows)
+  pub apart : IsDistinct bytes_eq names
   pub verdicts : AreDecided (standings_of bytes rows) decided

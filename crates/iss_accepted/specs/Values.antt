@@ -1,10 +1,15 @@
 -- What the accepted events are to a caller, and what they tell.
-use Rattle.std.specs.Prelude.{◌≡◌, ℕ, List, [], ◌∷◌, ◌++◌, find, is_some, Option, Some, None, if◌then◌else◌}
+use Rattle.std.specs.Prelude.{◌≡◌, ℕ, List, [], ◌∷◌, ◌++◌, find, is_some, Option, Some, None, unwrap_or, if◌then◌else◌}
+use Rattle.std.specs.BTreeMap.{BTreeMap, get}
+use Rattle.std.specs.Cmp.Lexicographic.{slice_cmp}
+use Rattle.std.specs.Ordering.{nat_cmp}
+use Rattle.iss_model.specs.declared.call.CallState.{CallState}
 use Rattle.iss_model.specs.declared.decision.Answer.{Answer}
 use Rattle.iss_model.specs.declared.decision.Verdict.{Verdict}
 use Rattle.iss_model.specs.declared.input.Input.{Input}
+use Rattle.iss_model.specs.declared.state.Seen.{Seen}
 use Rattle.iss_model.specs.Inputs.{event_token, is_event}
-use Rattle.iss_model.specs.rules.Facts.{Facts, Accepted, Decision}
+use Rattle.iss_model.specs.rules.Facts.{Facts, Accepted, Decision, verdict_in}
 use Rattle.iss_model.specs.rules.Judging.{token_answer}
 use Rattle.iss_model.specs.state.Cores.{no_core, core_facts}
 
@@ -39,3 +44,13 @@ events_facts e = core_facts (record no_core { accepted = e.accepted; decisions =
 -- the answer of an input if it is an event that stands
 abbrev pub answer_in : Facts → Input → Option Answer
 answer_in f i = token_answer f i (event_token i)
+
+-- an accepted event as it stands, with the mark of its call among these
+abbrev pub seen_among : EventsNow → BTreeMap (List ℕ) CallState → Accepted → Seen
+seen_among e marks a =
+    record {
+      number = a.number;
+      body = record { at = a.at; input = a.input };
+      verdict = verdict_in e.decisions (unwrap_or (event_token a.input) []);
+      mark = get (slice_cmp nat_cmp) marks (unwrap_or (event_token a.input) []);
+    }

@@ -1,16 +1,17 @@
 //! The accepted events.
-ghost use Rattle.std.specs.Prelude.{◌≡◌, Some, None, IsTrue, IsSome, IfOk, OnOk, OnErr, is_some, find};
+ghost use Rattle.std.specs.Prelude.{◌≡◌, Some, None, IsTrue, IsSome, IfOk, OnOk, OnErr, is_some, find, map};
 ghost use Rattle.std.specs.Str.{bytes_eq};
 ghost use Rattle.iss_model.specs.Forms.{is_stamp, is_in_form};
 ghost use Rattle.iss_model.specs.Inputs.{is_event};
 ghost use Rattle.iss_model.specs.rules.Facts.{event_reply};
-ghost use Rattle.iss_accepted.specs.Values.{IsUnknown, no_events, events_facts, answer_in, with_decision, with_input};
+ghost use Rattle.iss_accepted.specs.Values.{IsUnknown, no_events, events_facts, answer_in, seen_among, with_decision, with_input};
 
-use crate::row::{EventRow, push};
+use crate::row::{EventRow, push, seen_rows};
 use iss_codec::put_record;
 use iss_index::Names;
-use iss_model::{Answer, Input, Reply, Token, Verdict};
+use iss_model::{Answer, CallState, Input, Reply, Seen, Token, Verdict};
 use std::alloc::{AllocError, Global};
+use std::collections::BTreeMap;
 use std::marker::Model;
 
 /// Accepted events in the order of their records, each with its input and its decision. Contracts see the list of the
@@ -83,6 +84,17 @@ impl Events {
         };
         let told = self.rows[place as usize].answer(alloc, &self.bytes, &token, input)?;
         Ok(Some(told))
+    }
+
+    /// The events as they stand, in the order of their records, each with the mark of its call among `marks`.
+    pub fn seen(
+        &self,
+        alloc: Global,
+        marks: &BTreeMap<Token, CallState>,
+    ) -> Result<Vec<Seen>, AllocError>
+        ensures { IfOk result (λ v. v.items ≡ map (seen_among self.now marks.now) self.now.accepted) }
+    {
+        seen_rows(alloc, &self.rows, &self.bytes, marks)
     }
 
     /// Adds the input of a record, if it is an event. If an allocation fails, all stays as it was, and so if

@@ -1,16 +1,22 @@
 //! The row of an accepted event.
-ghost use Rattle.std.specs.Prelude.{◌≡◌, ◌++◌, ◌∷◌, [], ◌≤◌, IsTrue, IfOk, OnOk, OnErr, length};
-ghost use Rattle.std.specs.List.{list_all};
+ghost use Rattle.std.specs.Prelude.{◌≡◌, ◌++◌, ◌∷◌, [], ◌≤◌, IsTrue, IfOk, OnOk, OnErr, length, map};
+ghost use Rattle.std.specs.BTreeMap.{get};
+ghost use Rattle.std.specs.Cmp.Lexicographic.{slice_cmp};
+ghost use Rattle.std.specs.List.{AllByRecursion, list_all};
+ghost use Rattle.std.specs.Option.{option_and_then};
+ghost use Rattle.std.specs.Ordering.{nat_cmp};
 ghost use Rattle.std.specs.Str.{bytes_eq};
 ghost use Rattle.std.specs.Vec.{vec_len, vec_capacity};
+ghost use Rattle.iss_model.specs.Inputs.{event_token};
 ghost use Rattle.iss_model.specs.Tokens.{is_token};
 ghost use Rattle.iss_model.specs.rules.Facts.{reply_of_verdict};
 ghost use Rattle.iss_model.specs.texts.Spelling.{spelling, tokens_of};
-ghost use Rattle.iss_accepted.specs.Kept.{row_answer};
+ghost use Rattle.iss_accepted.specs.Kept.{IsSpelledIn, row_answer, row_seen};
 
-use iss_codec::put_record;
-use iss_model::{Answer, Input, Reply, Token, Verdict};
+use iss_codec::{decode, put_record};
+use iss_model::{Answer, CallState, Input, Reply, Seen, Token, Verdict};
 use std::alloc::{AllocError, Global};
+use std::collections::BTreeMap;
 
 /// An accepted event: its record's number and stamp, where its record's bytes begin and end, and its verdict if it is
 /// decided.
@@ -53,6 +59,53 @@ impl EventRow {
             Ok(Answer::Conflict(*token, self.number))
         }
     }
+
+    /// The event as it stands, with the mark of its call among `marks`.
+    fn seen(
+        &self,
+        alloc: Global,
+        bytes: &[u8],
+        marks: &BTreeMap<Token, CallState>,
+    ) -> Result<Seen, AllocError>
+        requires { IsSpelledIn bytes.now self.now }
+        ensures { IfOk result (λ seen. seen ≡ row_seen bytes.now marks.now self.now) }
+    {
+        let Some(body) = decode(alloc, &bytes[self.start..self.end])? else {
+            unreachable!()
+        };
+        let mark = mark_of(marks, &body.input);
+        Ok(Seen {
+            number: self.number,
+            body,
+            verdict: self.verdict,
+            mark,
+        })
+    }
+}
+
+/// The mark of an input's event among `marks`, if it is an event that has one.
+fn mark_of(marks: &BTreeMap<Token, CallState>, input: &Input) -> Option<CallState>
+    ensures { result ≡ option_and_then (get (slice_cmp nat_cmp) marks.now) (event_token input.now) }
+{
+    let event = input.event()?;
+    marks.get(&event).copied()
+}
+
+/// The events of rows as they stand, each with the mark of its call among `marks`.
+pub(crate) fn seen_rows(
+    alloc: Global,
+    rows: &[EventRow],
+    bytes: &[u8],
+    marks: &BTreeMap<Token, CallState>,
+) -> Result<Vec<Seen>, AllocError>
+    requires { AllByRecursion (IsSpelledIn bytes.now) rows.now }
+    ensures { IfOk result (λ v. v.items ≡ map (row_seen bytes.now marks.now) rows.now) }
+{
+    let mut seen = Vec::new(alloc);
+    for row in rows {
+        seen.push(row.seen(alloc, bytes, marks)?)?;
+    }
+    Ok(seen)
 }
 
 /// Whether these bytes are the spelling of the record of that stamp and input.

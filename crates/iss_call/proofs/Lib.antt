@@ -6,3 +6,4 @@ pub mod TxnOrder
 pub mod ByNumber
 pub mod Closing
 pub mod Found
+mod Marks

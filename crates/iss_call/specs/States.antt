@@ -1,6 +1,9 @@
 -- Calls as they stand, the state of one, those that are due and those of a transaction.
-use Rattle.std.specs.Prelude.{ℕ, nat_le, ◌&&◌, List, [], ◌∷◌, ◌++◌, map, filter, fold, Option, Some, None, option_to_list}
+use Rattle.std.specs.Prelude.{◌≡◌, ℕ, nat_le, ◌&&◌, List, [], ◌∷◌, ◌++◌, map, filter, find, fold, Option, Some, None, option_to_list}
+use Rattle.std.specs.BTreeMap.{BTreeMap, get}
+use Rattle.std.specs.Cmp.Lexicographic.{slice_cmp}
 use Rattle.std.specs.Option.{option_map}
+use Rattle.std.specs.Ordering.{nat_cmp}
 use Rattle.std.specs.Str.{bytes_eq}
 use Rattle.iss_model.specs.declared.call.CallId.{CallId}
 use Rattle.iss_model.specs.declared.call.How.{How}
@@ -41,3 +44,11 @@ asked_of calls txn = filter (λ c. is_asked c && bytes_eq c.opened.txn txn) call
 abbrev pub looked_up : List CallNow → List CallId → List Opened
 looked_up calls [] = []
 looked_up calls (id ∷ ids) = option_to_list (option_map (λ (c : CallNow). c.opened) (call_numbered id.0 calls)) ++ looked_up calls ids
+
+-- how the first call of an event stands, if it has one
+abbrev pub mark_among : List CallNow → List ℕ → Option CallState
+mark_among calls event = option_map (λ c. state_by c.how) (find (λ c. bytes_eq c.opened.event event) calls)
+
+-- the mark of each event is how its first call stands
+abbrev pub AreMarks : List CallNow → BTreeMap (List ℕ) CallState → Type 0
+AreMarks calls marks = (event : List ℕ) → get (slice_cmp nat_cmp) marks event ≡ mark_among calls event

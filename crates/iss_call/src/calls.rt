@@ -6,13 +6,13 @@ ghost use Rattle.iss_model.specs.declared.call.CallState.TheVariants as call_sta
 ghost use Rattle.iss_model.specs.rules.Activity.{call_numbered, is_asked};
 ghost use Rattle.iss_model.specs.rules.Due.{call_due, is_quiet};
 ghost use Rattle.iss_model.specs.state.Cores.{with_closed};
-ghost use Rattle.iss_call.specs.States.{seen_call, state_in, calls_due, asked_of, looked_up};
+ghost use Rattle.iss_call.specs.States.{seen_call, state_in, calls_due, asked_of, looked_up, AreMarks};
 
 use crate::call::{Call, NotOpen};
 use crate::orders::Orders;
 use iss_model::{CallId, CallState, How, Opened, Token};
 use std::alloc::{AllocError, Global};
-use std::collections::BTreeSet;
+use std::collections::{BTreeMap, BTreeSet};
 use std::marker::Model;
 
 /// The calls in the order of their numbers. Contracts see their list.
@@ -185,6 +185,13 @@ impl Calls {
         self.opened_of(alloc, &ids)
     }
 
+    /// How the call of each event stands, by event. If an event has more than one, it is the first.
+    pub fn marks(&self, alloc: Global) -> Result<BTreeMap<Token, CallState>, AllocError>
+        ensures { IfOk result (AreMarks self.now) }
+    {
+        marks_of(alloc, &self.calls)
+    }
+
     /// The calls of these numbers as they were opened, if there are such.
     fn opened_of(&self, alloc: Global, ids: &[CallId]) -> Result<Vec<Opened>, AllocError>
         ensures { IfOk result (λ v. v.items ≡ looked_up self.now ids.now) }
@@ -208,4 +215,15 @@ impl Calls {
         let opened = &call.opened;
         self.orders.leave(id.0, opened.deadline, &opened.txn);
     }
+}
+
+/// How the first call of each event stands. Later calls go in first, so that earlier ones take their place.
+fn marks_of(alloc: Global, calls: &[Call]) -> Result<BTreeMap<Token, CallState>, AllocError>
+    ensures { IfOk result (AreMarks (map seen_call calls.now)) }
+{
+    let mut marks = BTreeMap::new(alloc);
+    for call in calls.iter().rev() {
+        marks.insert(call.opened.event, call.state())?;
+    }
+    Ok(marks)
 }

@@ -8,3 +8,6 @@ pub mod Entered
 pub mod Made
 pub mod InCore
 pub mod AmongRules
+pub mod Carried
+pub mod Balances
+pub mod Restored

@@ -28,7 +28,8 @@ use Rattle.iss_chain.specs.Rows.{no_sums, row_sums, sums_after, IsSmallRow, row_
 same_item : {A : Type 0} {x y : A} → Some x ≡ Some y → x ≡ y
 same_item e = cc
 
-from_nothing : (w : ℤ) → pos 0 +ℤ w ≡ w
+-- an amount is itself after nothing
+pub from_nothing : (w : ℤ) → pos 0 +ℤ w ≡ w
 from_nothing w = omega (arith, ints)
 
 one_change : (m : Kept) (x n : List ℕ) (a w : ℤ) → x ≡ n → a ≡ w → after_change m (record { key = x; by = a }) ≡ after_change m (record { key = n; by = w })
@@ -108,7 +109,8 @@ row_at sum none (x ∷ ns) (Some r ∷ rows) (suc i) n s d e f =
     no_change (changed_at n (row_changes sum ns rows)) (bytes_eq x n) (sum r) (all_at x ns i n (IsDistinct-head bytes_eq x ns d) e)
     ∙ row_at sum none ns rows i n s (IsDistinct-tail bytes_eq x ns d) e f
 
-nothing_at : (key : List ℕ) → kept_at nothing_kept key ≡ pos 0
+-- nothing is kept at first
+pub nothing_at : (key : List ℕ) → kept_at nothing_kept key ≡ pos 0
 nothing_at key = ap (λ (o : Option ℤ). unwrap_or o (pos 0)) (finite.get-empty (slice_cmp nat_cmp) key)
 
 -- the sum that is kept of a transaction is that of its row

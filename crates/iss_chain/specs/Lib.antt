@@ -4,3 +4,5 @@ pub mod Entering
 pub mod Rows
 pub mod Among
 pub mod OfTheRules
+pub mod Carrying
+pub mod Restoring

@@ -1,10 +1,11 @@
 //! The chain: transactions over the holds and the ledger.
-ghost use Rattle.std.specs.Prelude.{◌≡◌, ◌<◌, ◌^◌, [], ◌∷◌, not, length, map, fold, IfOk, OnOk, OnErr, IsSome, IfSome};
+ghost use Rattle.std.specs.Prelude.{◌≡◌, ◌<◌, ◌^◌, [], ◌∷◌, true, not, length, map, fold, IfOk, OnOk, OnErr, IsSome, IfSome};
+ghost use Rattle.std.specs.List.{list_all};
 ghost use Rattle.std.specs.Option.{option_map};
 ghost use Rattle.std.specs.FinMap as finite;
 ghost use Rattle.iss_model.specs.declared.entry.Entry.TheVariants as entry;
 ghost use Rattle.iss_model.specs.Sums.{account_key, part_key};
-ghost use Rattle.iss_model.specs.state.Kept.{kept_at};
+ghost use Rattle.iss_model.specs.state.Kept.{IsSmall, kept_at};
 ghost use Rattle.iss_model.specs.rules.Activity.{txn_named};
 ghost use Rattle.iss_model.specs.rules.Facts.{balance_in, held_in, available_in};
 ghost use Rattle.iss_model.specs.rules.Reasons.{is_some_with};
@@ -13,14 +14,17 @@ ghost use Rattle.iss_model.specs.rules.Due.{txn_due, is_quiet};
 ghost use Rattle.iss_model.specs.rules.Pieces.{parts_held, owed_to_programme};
 ghost use Rattle.iss_hold.specs.Holdings.{txn_of_hold, parts_of_hold, whole_of};
 ghost use Rattle.iss_hold.specs.Expiries.{txns_due};
+ghost use Rattle.iss_ledger.specs.Saldos.{saldo_entry, is_named};
+ghost use Rattle.iss_chain.specs.Carrying.{carried_of, with_balance};
 ghost use Rattle.iss_chain.specs.Values.{no_chain, chain_after_entry, chain_facts, txn_state};
 ghost use Rattle.iss_chain.specs.Calls.{load_money_entries, entries_of_fund, entries_of_reverse, entries_before_end, entries_of_clear, entries_of_refund, entries_of_end};
 ghost use Rattle.iss_chain.specs.Entering.{IsNewTxn, StaysSmall, AreFit, IsChainEnterable};
+ghost use Rattle.iss_chain.specs.Restoring.{with_restored, IsRestorable};
 
 use crate::books::Books;
 use crate::state::TxnState;
 use iss_hold::Hold;
-use iss_model::{Account, Currency, Entry, Part, Token, Txn};
+use iss_model::{Account, Carried, Currency, Entry, Part, Saldo, Token, Txn, TxnSums};
 use std::alloc::{AllocError, Global};
 use std::marker::Model;
 
@@ -191,6 +195,26 @@ impl Chain {
         self.books.enter_all(entries)
     }
 
+    /// Sets the balance of an account, in minor units. An account with a balance of 0 is one too. If an allocation fails,
+    /// all stays as it was.
+    pub fn set_balance(&mut self, account: &Account, balance: i64) -> Result<(), AllocError>
+        requires { IsSmall balance }
+        ensures set { OnOk result (self.new ≡ with_balance self.old account.now balance) }
+        ensures unchanged { OnErr result (self.new ≡ self.old) }
+    {
+        self.books.set_balance(account, balance)
+    }
+
+    /// Takes a transaction up again with its sums, in minor units. It is new, and each sum that the chain then keeps is
+    /// below 2^62.
+    pub fn restore(mut self, txn: &Txn, sums: &TxnSums) -> Result<Chain, AllocError>
+        requires { IsRestorable self txn.now sums.now }
+        ensures { IfOk result (λ chain. chain ≡ with_restored self txn.now sums.now) }
+    {
+        self.books.restore(txn, sums)?;
+        Ok(self)
+    }
+
     /// A transaction with what it holds, `None` exactly if it is unknown.
     pub fn hold(&self, txn: &Token) -> Option<Hold>
         ensures txn { option_map txn_of_hold result ≡ txn_named txn.now self.now.holdings.txns }
@@ -254,6 +278,28 @@ impl Chain {
         ensures { IfOk result (λ v. map account_key v.items ≡ finite.keys self.now.balances) }
     {
         self.books.ledger.accounts(alloc)
+    }
+
+    /// The accounts that a post was made from or to, with their balances in minor units, in the order of `accounts`.
+    pub fn balances(&self, alloc: Global) -> Result<Vec<Saldo>, AllocError>
+        ensures balances { IfOk result (λ v. map saldo_entry v.items ≡ finite.entries self.now.balances) }
+        ensures named { IfOk result (λ v. list_all is_named v.items ≡ true) }
+    {
+        self.books.ledger.balances(alloc)
+    }
+
+    /// The sums of a transaction, in minor units, `None` exactly if it is unknown.
+    pub fn sums(&self, txn: &Token) -> Option<TxnSums>
+        ensures { result ≡ option_map (λ t. (carried_of self.now t).sums) (txn_named txn.now self.now.holdings.txns) }
+    {
+        self.books.txn_sums(txn)
+    }
+
+    /// Each transaction with its sums, in minor units, in the order in which they began.
+    pub fn carried(&self, alloc: Global) -> Result<Vec<Carried>, AllocError>
+        ensures { IfOk result (λ v. v.items ≡ map (carried_of self.now) self.now.holdings.txns) }
+    {
+        self.books.carried(alloc)
     }
 
     /// What all transactions of a user hold in a currency, in minor units.

@@ -7,6 +7,7 @@
 #![tactic(auto)]
 
 mod books;
+mod carrying;
 mod chain;
 mod laws;
 mod making;

@@ -1,8 +1,12 @@
 //! What was cleared of a transaction, refunded of it and paid for it.
-ghost use Rattle.std.specs.Prelude.{◌≡◌, ◌+ℤ◌, pos, int_lt};
+ghost use Rattle.std.specs.Prelude.{◌≡◌, ◌<◌, ◌^◌, ◌+ℤ◌, pos, int_lt};
+ghost use Rattle.iss_model.specs.rules.Facts.{not_below};
+ghost use Rattle.iss_chain.specs.Carrying.{sums_with};
+ghost use Rattle.iss_chain.specs.Restoring.{post_sums};
 ghost use Rattle.iss_chain.specs.Rows.{no_sums, sums_after, IsSmallRow};
 
-use iss_model::Account;
+use iss_hold::Hold;
+use iss_model::{Account, TxnSums};
 
 /// The sums of a transaction, in minor units.
 #[derive(Clone, Copy)]
@@ -23,6 +27,20 @@ impl PostSums {
             cleared: 0,
             refunded: 0,
             paid: 0,
+        }
+    }
+
+    /// The sums of a transaction that is taken up again.
+    pub(crate) fn of(sums: &TxnSums) -> PostSums
+        requires cleared { sums.now.cleared < 2 ^ 62 }
+        requires refunded { sums.now.refunded < 2 ^ 62 }
+        requires paid { sums.now.paid < 2 ^ 62 }
+        ensures { result ≡ post_sums sums.now }
+    {
+        PostSums {
+            cleared: sums.cleared as i64,
+            refunded: sums.refunded as i64,
+            paid: sums.paid as i64,
         }
     }
 
@@ -58,4 +76,26 @@ impl PostSums {
     {
         i128::from(self.cleared) < i128::from(self.refunded) + i128::from(amount)
     }
+
+    /// These sums of a transaction, with what it holds. A sum below 0 is given as 0.
+    pub(crate) fn with_hold(self, hold: &Hold) -> TxnSums
+        ensures { result ≡ sums_with hold.now self }
+    {
+        TxnSums {
+            live: hold.live,
+            g: hold.g,
+            p: hold.p,
+            s: hold.s,
+            cleared: not_below(self.cleared),
+            refunded: not_below(self.refunded),
+            paid: not_below(self.paid),
+        }
+    }
+}
+
+/// A sum, or 0 if it is below 0.
+fn not_below(sum: i64) -> u64
+    ensures { result ≡ not_below sum }
+{
+    if sum < 0 { 0 } else { sum as u64 }
 }

@@ -1,5 +1,5 @@
 -- Keys compare as their parts do, one after the other.
-use Rattle.std.proofs.Common.{◌≡◌, ℕ, pos, true, ◌&&◌, nat_le, List, [], ◌∷◌, ◌++◌, length, refl, sym, ap, ap₂, ◌∙◌, arith}
+use Rattle.std.proofs.Common.{◌≡◌, ℕ, pos, Bool, true, ◌&&◌, nat_lt, nat_le, List, [], ◌∷◌, ◌++◌, length, refl, sym, ap, ap₂, ◌∙◌, arith}
 use Rattle.std.proofs.lemmas.List.{append_assoc}
 use Rattle.std.proofs.lemmas.Bool.{and_parts}
 use Rattle.std.proofs.lemmas.Bool.Decides.{nat_tests}
@@ -12,6 +12,7 @@ use Rattle.std.specs.Cmp.Lexicographic.{slice_cmp}
 use Rattle.iss_model.specs.Tokens.{is_token, is_token_byte}
 use Rattle.iss_model.specs.Sums.{int_key}
 use Rattle.iss_commando.specs.Days.{day_key}
+use Rattle.iss_commando.specs.Sums.{has_no_zero}
 
 zero_before : (b : ℕ) → is_token_byte b ≡ true → nat_cmp 0 b ≡ Less
 zero_before b h = grind (arith, nat_tests)
@@ -59,3 +60,17 @@ by_parts p q u v m n tp tq tu tv =
     (by_token u v (int_key (pos m)) (int_key (pos n)) (all_allowed u tu) (all_allowed v tv)
     ∙ ap (ordering_then (slice_cmp nat_cmp u v)) (by_day m n))
     ∙ sym (regrouped (slice_cmp nat_cmp p q) (slice_cmp nat_cmp u v) (nat_cmp m n))
+
+above_zero : (b : ℕ) → is_token_byte b ≡ true → nat_lt 0 b ≡ true
+above_zero b h = grind (arith, nat_tests)
+
+all_above : (bs : List ℕ) → list_all is_token_byte bs ≡ true → has_no_zero bs ≡ true
+all_above [] h = refl
+all_above (b ∷ bs) h =
+    let parts = and_parts (is_token_byte b) (list_all is_token_byte bs) h in
+    ap (λ (x : Bool). x && has_no_zero bs) (above_zero b parts.0) ∙ all_above bs parts.1
+
+-- neither of two names has a byte 0
+pub both_plain : (p u : List ℕ) → IsTrue (is_token p) → IsTrue (is_token u) → (has_no_zero p && has_no_zero u) ≡ true
+both_plain p u tp tu =
+    ap (λ (b : Bool). b && has_no_zero u) (all_above p (all_allowed p tp)) ∙ all_above u (all_allowed u tu)

@@ -1,4 +1,5 @@
 pub mod Days
+pub mod Sums
 pub mod Trees
 pub mod Puts
 pub mod Stands

@@ -1,5 +1,5 @@
 //! The key of what stood in: a product's user on a day.
-ghost use Rattle.std.specs.Prelude.{◌≡◌, pos, refl, IsTrue};
+ghost use Rattle.std.specs.Prelude.{◌≡◌, pos, refl, true, IsTrue};
 ghost use Rattle.std.specs.Ordering.{nat_cmp, as_partial_cmp};
 ghost use Rattle.std.specs.Cmp.Lexicographic.{slice_cmp, nat_list_cmp_total, nat_list_eq_equiv, texts_po, texts_ties};
 ghost use Rattle.std.specs.Cmp.{partial_equiv_from_equiv};
@@ -8,8 +8,9 @@ ghost use Rattle.iss_model.specs.declared.setting.Window.TheVariants as window;
 ghost use Rattle.iss_model.specs.Calendar.{window_at};
 ghost use Rattle.iss_model.specs.Forms.{is_stamp};
 ghost use Rattle.iss_model.specs.Sums.{stood_key};
+ghost use Rattle.iss_commando.specs.Sums.{stood_entry, is_plain};
 
-use iss_model::{Token, Window};
+use iss_model::{Stood, Token, Window};
 use iss_time::window;
 use std::cmp::Ordering;
 use std::marker::Model;
@@ -20,7 +21,7 @@ pub(crate) struct DayKey {
     product: Token,
     user: Token,
     /// Counted from 1 January 1970.
-    day: u64,
+    day: u32,
 }
 
 impl Model for DayKey {
@@ -44,14 +45,31 @@ impl DayKey {
             day: day(at),
         }
     }
+
+    /// What stood in for the user on that day, if it was this amount.
+    #[tactic(auto, using(crate::proofs::KeyOrder::both_plain))]
+    pub(crate) fn stood(&self, amount: u64) -> Stood
+        ensures entry { stood_entry result ≡ (self.now, pos amount) }
+        ensures plain { is_plain result ≡ true }
+    {
+        // A name has no byte 0, so a key tells where it ends.
+        let _product = self.product.text();
+        let _user = self.user.text();
+        Stood {
+            product: self.product,
+            user: self.user,
+            day: i64::from(self.day),
+            amount,
+        }
+    }
 }
 
 /// The number of a stamp's day.
-fn day(at: u64) -> u64
+fn day(at: u64) -> u32
     requires { IsTrue (is_stamp at) }
     ensures { pos result ≡ window_at window.Day at (pos 0) }
 {
-    window(Window::Day, at, 0) as u64
+    window(Window::Day, at, 0) as u32
 }
 
 impl PartialEq for DayKey {

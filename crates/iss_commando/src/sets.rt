@@ -1,5 +1,6 @@
 //! The sets of a programme, and what it stood in for by them.
-ghost use Rattle.std.specs.Prelude.{◌≡◌, ◌↔◌, ◌&&◌, [], map, find, None, IsTrue, IfOk, OnOk, OnErr, IsErrOf};
+ghost use Rattle.std.specs.Prelude.{◌≡◌, ◌↔◌, ◌&&◌, [], map, find, true, None, IsTrue, IfOk, OnOk, OnErr, IsErrOf};
+ghost use Rattle.std.specs.List.{list_all};
 ghost use Rattle.std.specs.Option.{option_map, is_none};
 ghost use Rattle.std.specs.FinMap as finite;
 ghost use Rattle.iss_model.specs.Sums.{stood_key};
@@ -13,13 +14,14 @@ ghost use Rattle.iss_model.specs.state.Kept.{nothing_kept, kept_at, AreSmall};
 ghost use Rattle.iss_model.specs.state.Cores.{with_set, set_after_put};
 ghost use Rattle.iss_commando.specs.Trees.{after_stood};
 ghost use Rattle.iss_commando.specs.Puts.{is_fixed};
+ghost use Rattle.iss_commando.specs.Sums.{stood_entry, is_plain};
 ghost use Rattle.iss_commando.specs.Stands.{IfAsks, is_for, stand_on, stand_named};
 
 use crate::day::DayKey;
 use crate::stand::{SetStand, is_for, stand_by};
-use crate::sums::{add_to, sum_at};
+use crate::sums::{add_to, list, sum_at};
 use iss_model::limits::MOST_OF_A_KIND;
-use iss_model::{Failure, Set, Token};
+use iss_model::{Failure, Set, Stood, Token};
 use std::alloc::{AllocError, Global};
 use std::collections::BTreeMap;
 use std::marker::Model;
@@ -40,7 +42,7 @@ pub enum SetFault {
 #[derive(Drop)]
 pub struct Sets {
     sets: Vec<Set>,
-    stood: BTreeMap<DayKey, i64>,
+    stood: BTreeMap<DayKey, u64>,
 }
 
 impl Model for Sets {
@@ -140,6 +142,15 @@ impl Sets {
         };
         let stood = sum_at(&self.stood, &DayKey::new(product, user, at));
         stand_by(set, stood, amount)
+    }
+
+    /// All that stood in: one sum for each product, user and day of which anything was noted, in this order. Their names
+    /// have no byte 0, so a key is read again.
+    pub fn sums(&self, alloc: Global) -> Result<Vec<Stood>, AllocError>
+        ensures sums { IfOk result (λ v. map stood_entry v.items ≡ finite.entries self.now.stood) }
+        ensures named { IfOk result (λ v. list_all is_plain v.items ≡ true) }
+    {
+        list(&self.stood, alloc)
     }
 
     /// Adds a set of a new name after the others.

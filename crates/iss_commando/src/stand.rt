@@ -1,5 +1,5 @@
 //! What a set decides of an amount.
-ghost use Rattle.std.specs.Prelude.{◌≡◌, Some};
+ghost use Rattle.std.specs.Prelude.{◌≡◌, pos, Some};
 ghost use Rattle.iss_model.specs.rules.StandIns.{covers_failure};
 ghost use Rattle.iss_commando.specs.Stands.{is_for, stand_by, stand_named};
 
@@ -36,11 +36,11 @@ fn covers(set: &Set, failure: Failure) -> bool
 }
 
 /// What a set that was found decides of an amount, if `stood` stood in on that day.
-pub(crate) fn stand_by(set: &Set, stood: i64, amount: u64) -> SetStand
-    ensures { result ≡ stand_named (stand_by stood amount (Some set.now)) }
+pub(crate) fn stand_by(set: &Set, stood: u64, amount: u64) -> SetStand
+    ensures { result ≡ stand_named (stand_by (pos stood) amount (Some set.now)) }
 {
-    let total = i128::from(stood) + i128::from(amount);
-    if amount <= set.max && total <= i128::from(set.day_limit) {
+    let total = u128::from(stood) + u128::from(amount);
+    if amount <= set.max && total <= u128::from(set.day_limit) {
         SetStand::Yes(set.name)
     } else {
         SetStand::Limit(set.name)

@@ -12,3 +12,4 @@ pub mod HoldCalls
 pub mod NamedExpiries
 pub mod Named
 pub mod Earliest
+pub mod Restored

@@ -6,3 +6,4 @@ pub mod Sums
 pub mod Codes
 pub mod Bounds
 pub mod Named
+pub mod Restoring

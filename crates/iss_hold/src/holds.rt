@@ -1,5 +1,5 @@
 //! All transactions with what they hold.
-ghost use Rattle.std.specs.Prelude.{◌≡◌, ◌≤◌, ◌<◌, ◌^◌, ◌-◌, ◌==◌, [], false, not, length, map, slice_get, IsSome, IfSome, Some, None, IfOk, OnOk, OnErr};
+ghost use Rattle.std.specs.Prelude.{◌≡◌, ◌≤◌, ◌<◌, ◌^◌, ◌==◌, [], false, not, length, map, slice_get, IsSome, IfSome, Some, None, IfOk, OnOk, OnErr};
 ghost use Rattle.std.specs.List.{list_any, IsDistinct};
 ghost use Rattle.std.specs.Str.{bytes_eq};
 ghost use Rattle.std.specs.Option.{option_map};
@@ -15,15 +15,15 @@ ghost use Rattle.iss_hold.specs.Holdings.{txn_of_hold, tokens, parts_of_hold, wh
 ghost use Rattle.iss_hold.specs.Indexes.{place_in};
 ghost use Rattle.iss_hold.specs.Entries.{live_now, after_holds, change_entries, IsHoldCovered, parts_in, cleared_parts, released_parts, taken_in_all, clearing_unhold_entries, release_unhold_entries};
 ghost use Rattle.iss_hold.specs.Expiries.{txns_due};
+ghost use Rattle.iss_hold.specs.Restoring.{with_carried};
 
 use crate::hold::{Hold, Taken};
-use crate::indexes::{begin_sum, enter, place_after, sum_of, user_key};
+use crate::indexes::{sum_of, user_key};
 use crate::list::HoldList;
 use crate::table::Table;
 use iss_index::Names;
-use iss_model::{Currency, Part, Token, Txn};
+use iss_model::{Currency, Part, Token, Txn, TxnSums};
 use std::alloc::{AllocError, Global};
-use std::cmp::Reverse;
 use std::collections::BTreeMap;
 use std::marker::Model;
 
@@ -66,6 +66,13 @@ impl Holds {
         })
     }
 
+    /// How many transactions were started.
+    pub fn len(&self) -> usize
+        ensures { result ≡ length self.now.txns }
+    {
+        self.table.holds.len()
+    }
+
     /// A transaction with what it holds, `None` exactly if it wasn't started.
     pub fn get(&self, txn: &Token) -> Option<Hold>
         ensures txn { option_map (λ hold. txn_of_hold hold) result ≡ txn_named txn.now self.now.txns }
@@ -91,6 +98,7 @@ impl Holds {
         ensures txn { slice_get self.now.txns place ≡ Some (txn_of_hold result) }
         ensures parts { parts_of_hold result ≡ parts_in self.now result.txn.token }
         ensures small { whole_of result < 2 ^ 62 }
+        ensures once { IsDistinct bytes_eq (tokens self.now.txns) }
     {
         self.table.holds.at(place)
     }
@@ -117,16 +125,19 @@ impl Holds {
         ensures started { OnOk result (self.new ≡ with_txn self.old txn.now) }
         ensures unchanged { OnErr result (self.new ≡ self.old) }
     {
-        let place = place_after(self.table.holds.len())?;
-        begin_sum(&mut self.table.sums, user_key(&txn.user, txn.currency))?;
-        self.table.holds.add(txn)?;
-        match enter(&mut self.table.places, &mut self.table.order, txn, place) {
-            Ok(()) => Ok(()),
-            Err(refused) => {
-                self.table.holds.shorten(place as usize);
-                Err(refused)
-            }
-        }
+        self.table.start(txn)
+    }
+
+    /// Takes a transaction up again with what it holds. If an allocation fails, all stays as it was, and so if 2^32 - 1
+    /// transactions stand.
+    pub fn restore(&mut self, txn: &Txn, sums: &TxnSums) -> Result<(), AllocError>
+        requires unknown { txn_named txn.now.token self.old.txns ≡ None }
+        requires origin { list_any (λ t. txn.now.origin == t.txn.origin) self.old.txns ≡ false }
+        requires small { AreLow (with_carried self.old txn.now sums.now).held }
+        ensures restored { OnOk result (self.new ≡ with_carried self.old txn.now sums.now) }
+        ensures unchanged { OnErr result (self.new ≡ self.old) }
+    {
+        self.table.restore(txn, sums)
     }
 
     /// Holds more in a part of a transaction.
@@ -197,9 +208,7 @@ impl Holds {
         ensures { self.new ≡ with_end self.old txn.now }
     {
         let (place, hold) = self.table.hold_of(txn);
-        let expiry = Reverse((hold.txn.expires, hold.txn.origin));
-        self.table.order.remove(&expiry);
-        self.table.holds.put(place, &hold.ended());
+        self.table.end(place, &hold);
     }
 
     /// What a transaction holds in a part, in minor units.

@@ -1,18 +1,20 @@
 //! The holds with the indexes beside them.
-ghost use Rattle.std.specs.Prelude.{◌≡◌, ◌<◌, ◌^◌, map, set, slice_get, Some, IsSome, IfOk};
+ghost use Rattle.std.specs.Prelude.{◌≡◌, ◌<◌, ◌^◌, ◌==◌, [], ◌∷◌, ◌++◌, false, map, set, slice_get, Some, None, IsSome, IfOk, OnOk, OnErr};
+ghost use Rattle.std.specs.List.{list_any};
 ghost use Rattle.std.specs.Option.{option_map};
 ghost use Rattle.iss_model.specs.Currencies.{iso_number};
 ghost use Rattle.iss_model.specs.rules.Activity.{txn_named};
 ghost use Rattle.iss_model.specs.rules.Due.{txn_due};
 ghost use Rattle.iss_hold.specs.Expiries.{txns_due};
-ghost use Rattle.iss_hold.specs.Holdings.{txn_of_hold, holdings_of};
+ghost use Rattle.iss_hold.specs.Holdings.{begun, txn_of_hold, holdings_of};
 ghost use Rattle.iss_hold.specs.Indexes.{total_of, IsAt, IsIndexed};
+ghost use Rattle.iss_hold.specs.Restoring.{hold_with, live_with};
 
 use crate::hold::Hold;
-use crate::indexes::{set_sum, sum_of, user_key};
+use crate::indexes::{begin_sum, enter, place_after, set_sum, sum_of, user_key};
 use crate::list::HoldList;
 use iss_index::Names;
-use iss_model::Token;
+use iss_model::{Token, Txn, TxnSums};
 use std::alloc::{AllocError, Global};
 use std::cmp::Reverse;
 use std::collections::BTreeMap;
@@ -54,6 +56,60 @@ impl Table {
         self.holds.put(place, &hold);
     }
 
+    /// Begins a transaction. If an allocation fails, the holds stay as they were.
+    pub(crate) fn start(&mut self, txn: &Txn) -> Result<(), AllocError>
+        requires indexed { IsIndexed self.old }
+        requires unknown { txn_named txn.now.token (map txn_of_hold self.old.holds) ≡ None }
+        requires origin { list_any (λ t. txn.now.origin == t.txn.origin) (map txn_of_hold self.old.holds) ≡ false }
+        ensures started { OnOk result (self.new.holds ≡ self.old.holds ++ begun txn.now ∷ []) }
+        ensures unchanged { OnErr result (self.new.holds ≡ self.old.holds) }
+        ensures indexed { IsIndexed self.new }
+    {
+        let place = place_after(self.holds.len())?;
+        begin_sum(&mut self.sums, user_key(&txn.user, txn.currency))?;
+        self.holds.add(txn)?;
+        match enter(&mut self.places, &mut self.order, txn, place) {
+            Ok(()) => Ok(()),
+            Err(refused) => {
+                self.holds.shorten(place as usize);
+                Err(refused)
+            }
+        }
+    }
+
+    /// Ends the transaction at a place.
+    pub(crate) fn end(&mut self, place: usize, hold: &Hold)
+        requires indexed { IsIndexed self.old }
+        requires there { slice_get self.old.holds place ≡ Some hold.now }
+        ensures indexed { IsIndexed self.new }
+        ensures ended { self.new.holds ≡ set self.old.holds place (record (hold.now) { live = false }) }
+    {
+        let expiry = Reverse((hold.txn.expires, hold.txn.origin));
+        self.order.remove(&expiry);
+        self.holds.put(place, &hold.ended());
+    }
+
+    /// Takes a transaction up again with what it holds. If an allocation fails, the holds stay as they were.
+    pub(crate) fn restore(&mut self, txn: &Txn, sums: &TxnSums) -> Result<(), AllocError>
+        requires indexed { IsIndexed self.old }
+        requires unknown { txn_named txn.now.token (map txn_of_hold self.old.holds) ≡ None }
+        requires origin { list_any (λ t. txn.now.origin == t.txn.origin) (map txn_of_hold self.old.holds) ≡ false }
+        requires low { total_of txn.now.user (iso_number txn.now.currency) (self.old.holds ++ hold_with txn.now sums.now ∷ []) < 2 ^ 62 }
+        ensures restored { OnOk result (self.new.holds ≡ self.old.holds ++ hold_with txn.now sums.now ∷ []) }
+        ensures unchanged { OnErr result (self.new.holds ≡ self.old.holds) }
+        ensures indexed { IsIndexed self.new }
+    {
+        let place = self.holds.len();
+        self.start(txn)?;
+        let hold = live_hold(txn, sums);
+        self.change(place, hold);
+        if sums.live {
+            return Ok(());
+        }
+        self.end(place, &hold);
+        Ok(())
+    }
+
     /// The live transactions whose expiry has come, by expiry and then by the number of the authorisation's record.
     pub(crate) fn due(&self, alloc: Global, now: u64) -> Result<Vec<Token>, AllocError>
         requires { IsIndexed self.now }
@@ -67,5 +123,18 @@ impl Table {
             due.push(self.holds.at(*place as usize).txn.token)?;
         }
         Ok(due)
+    }
+}
+
+/// What a transaction with these sums holds while it is live.
+fn live_hold(txn: &Txn, sums: &TxnSums) -> Hold
+    ensures { result ≡ live_with txn.now sums.now }
+{
+    Hold {
+        txn: *txn,
+        live: true,
+        g: sums.g,
+        p: sums.p,
+        s: sums.s,
     }
 }

@@ -1,3 +1,4 @@
 pub mod KeyOrder
 pub mod TreeSums
 pub mod PostSums
+pub mod Listed

@@ -1,10 +1,10 @@
 -- The balances after a post, in its two steps.
 use Rattle.std.proofs.Common.{◌≡◌, ℕ, ◌^◌, ℤ, pos, neg_ℤ, ◌+ℤ◌, ◌<◌, Bool, true, false, cond, List, refl, sym, ap, ap₂, ◌∙◌, subst, arith}
 use Rattle.std.proofs.lemmas.Int.{ints}
-use Rattle.std.specs.Prelude.{Result, Ok, Err, OnOk, OnErr, is_err, Option, unwrap_or}
+use Rattle.std.specs.Prelude.{Result, Ok, Err, OnOk, OnErr, is_err, Option, Some, unwrap_or}
 use Rattle.std.specs.Str.{bytes_eq}
-use Rattle.std.specs.Ordering.{nat_cmp}
-use Rattle.std.specs.Cmp.Lexicographic.{slice_cmp}
+use Rattle.std.specs.Ordering.{nat_cmp, eq_by_cmp}
+use Rattle.std.specs.Cmp.Lexicographic.{slice_cmp, nat_list_cmp_total}
 use Rattle.std.specs.FinMap as map
 use Rattle.iss_model.specs.declared.account.Account.{Account}
 use Rattle.iss_model.specs.Sums.{Change, account_key}
@@ -150,3 +150,16 @@ nothing_small key = subst (λ (z : ℤ). IsSmall z) (sym (ap (λ (o : Option ℤ
 -- no sum is small
 pub none_small : (m : Kept) → m ≡ nothing_kept → AreSmall m
 none_small m e = small_sums nothing_kept m e nothing_small
+
+put_by : (b : Bool) (sum : ℤ) (o : Option ℤ) → IsSmall sum → IsSmall (unwrap_or o (pos 0)) → IsSmall (unwrap_or (cond b (Some sum) o) (pos 0))
+put_by true sum o new old = new
+put_by false sum o new old = old
+
+put_small : (m : Kept) (key : List ℕ) (sum : ℤ) → AreSmall m → IsSmall sum → AreSmall (map.insert m key sum)
+put_small m key sum h small = λ k.
+    subst (λ (o : Option ℤ). IsSmall (unwrap_or o (pos 0))) (sym (map.get-insert nat_list_cmp_total m key sum k))
+    (put_by (eq_by_cmp (slice_cmp nat_cmp) k key) sum (map.get m k) small (h k))
+
+-- a small sum that is put leaves all sums small
+pub put_small_in : (m n : Kept) (key : List ℕ) (sum : ℤ) → n ≡ map.insert m key sum → AreSmall m → IsSmall sum → AreSmall n
+put_small_in m n key sum e h small = small_sums (map.insert m key sum) n e (put_small m key sum h small)

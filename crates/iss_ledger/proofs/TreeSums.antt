@@ -74,6 +74,9 @@ sums_taken m n key p q u =
 pub keys_in : (m : BTreeMap (List ℕ) ℤ) → IsInOrder m → finite.keys (kept_in m) ≡ keys_of m.entries
 keys_in m o = ap (λ (es : List (List ℕ × ℤ)). keys_of es) (finite.entries-from_sorted order m.entries (in_order m.entries o))
 
+pub entries_in : (m : BTreeMap (List ℕ) ℤ) → IsInOrder m → finite.entries (kept_in m) ≡ m.entries
+entries_in m o = finite.entries-from_sorted order m.entries (in_order m.entries o)
+
 either_way : (b : Bool) (x o : Option ℤ) (sum : ℤ) → (b ≡ true → x ≡ o) → cond b o (cond b (Some sum) x) ≡ x
 either_way true x o sum h = sym (h refl)
 either_way false x o sum h = refl

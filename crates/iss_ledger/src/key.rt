@@ -7,8 +7,9 @@ ghost use Rattle.std.specs.Str.{bytes_eq};
 ghost use Rattle.std.specs.List.{list_all};
 ghost use Rattle.iss_model.specs.Sums.{account_key};
 ghost use Rattle.iss_ledger.specs.Keys.{kind_of, user_of, number_of, is_above_zero};
+ghost use Rattle.iss_ledger.specs.Saldos.{saldo_entry, is_named};
 
-use iss_model::Account;
+use iss_model::{Account, Saldo};
 use std::cmp::Ordering;
 use std::marker::Model;
 
@@ -38,6 +39,18 @@ impl AccountKey {
         ensures { account_key result ≡ self.now }
     {
         self.account
+    }
+
+    /// The account with its balance.
+    pub(crate) fn with_balance(&self, amount: i64) -> Saldo
+        ensures entry { saldo_entry result ≡ (self.now, amount) }
+        ensures named { is_named result ≡ true }
+    {
+        let _user = user(&self.account);
+        Saldo {
+            account: self.account,
+            amount,
+        }
     }
 }
 

@@ -1,14 +1,16 @@
 //! The balances of all accounts.
-ghost use Rattle.std.specs.Prelude.{◌≡◌, map, IfOk, OnOk, OnErr};
+ghost use Rattle.std.specs.Prelude.{◌≡◌, true, map, IfOk, OnOk, OnErr};
+ghost use Rattle.std.specs.List.{list_all};
 ghost use Rattle.std.specs.FinMap as finite;
 ghost use Rattle.iss_model.specs.Sums.{account_key};
 ghost use Rattle.iss_model.specs.state.Kept.{nothing_kept, kept_at};
-ghost use Rattle.iss_model.specs.state.Kept.{AreSmall};
+ghost use Rattle.iss_model.specs.state.Kept.{IsSmall, AreSmall};
 ghost use Rattle.iss_ledger.specs.Posts.{after_post};
+ghost use Rattle.iss_ledger.specs.Saldos.{saldo_entry, is_named};
 
 use crate::key::AccountKey;
-use crate::sums::{post, sum_at};
-use iss_model::Account;
+use crate::sums::{post, put, sum_at};
+use iss_model::{Account, Saldo};
 use std::alloc::{AllocError, Global};
 use std::collections::BTreeMap;
 use std::marker::Model;
@@ -52,6 +54,16 @@ impl Ledger {
         post(&mut self.balances, from, to, amount)
     }
 
+    /// Sets the balance of an account, in minor units. An account with a balance of 0 is one too. If an allocation fails,
+    /// all stays as it was.
+    pub fn put(&mut self, account: &Account, balance: i64) -> Result<(), AllocError>
+        requires { IsSmall balance }
+        ensures put { OnOk result (self.new ≡ finite.insert self.old (account_key account.now) balance) }
+        ensures unchanged { OnErr result (self.new ≡ self.old) }
+    {
+        put(&mut self.balances, account, balance)
+    }
+
     /// What an account has, in minor units: 0 if no post was made.
     pub fn balance(&self, account: &Account) -> i64
         ensures { result ≡ kept_at self.now (account_key account.now) }
@@ -70,5 +82,17 @@ impl Ledger {
             accounts.push(key.account())?;
         }
         Ok(accounts)
+    }
+
+    /// The accounts that a post was made from or to, with their balances in minor units, in the order of `accounts`.
+    pub fn balances(&self, alloc: Global) -> Result<Vec<Saldo>, AllocError>
+        ensures balances { IfOk result (λ v. map saldo_entry v.items ≡ finite.entries self.now) }
+        ensures named { IfOk result (λ v. list_all is_named v.items ≡ true) }
+    {
+        let mut balances = Vec::new(alloc);
+        for (key, amount) in self.balances.iter() {
+            balances.push(key.with_balance(*amount))?;
+        }
+        Ok(balances)
     }
 }

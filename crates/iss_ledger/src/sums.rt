@@ -3,6 +3,8 @@ ghost use Rattle.std.specs.Prelude.{◌≡◌, ◌<◌, ◌^◌, ◌+ℤ◌, pos
 ghost use Rattle.std.specs.BTreeMap as tree;
 ghost use Rattle.std.specs.Ordering.{nat_cmp};
 ghost use Rattle.std.specs.Cmp.Lexicographic.{slice_cmp};
+ghost use Rattle.std.specs.FinMap as finite;
+ghost use Rattle.iss_model.specs.Sums.{account_key};
 ghost use Rattle.iss_model.specs.state.Kept.{kept_at, after_change};
 ghost use Rattle.iss_ledger.specs.Trees.{kept_in, IsInOrder, with_sum};
 ghost use Rattle.iss_model.specs.state.Kept.{IsSmall, AreSmall};
@@ -45,6 +47,25 @@ pub(crate) fn post(
         put_back(sums, &credited, before);
     }
     debited
+}
+
+/// Sets the sum of an account. If an allocation fails, the sums stay as they were.
+#[tactic(auto, using(crate::proofs::TreeSums::sums_put, crate::proofs::TreeSums::same_sums))]
+pub(crate) fn put(
+    sums: &mut BTreeMap<AccountKey, i64>,
+    account: &Account,
+    balance: i64,
+) -> Result<(), AllocError>
+    requires order { IsInOrder sums.old }
+    requires before { AreSmall (kept_in sums.old) }
+    requires small { IsSmall balance }
+    ensures put { OnOk result (kept_in sums.new ≡ finite.insert (kept_in sums.old) (account_key account.now) balance) }
+    ensures unchanged { OnErr result (kept_in sums.new ≡ kept_in sums.old) }
+    ensures order { IsInOrder sums.new }
+    ensures small { AreSmall (kept_in sums.new) }
+{
+    sums.insert(AccountKey::new(account), balance)?;
+    Ok(())
 }
 
 /// What a post moves: nothing if both accounts are one.

@@ -1,1 +1,2 @@
 pub mod PendingNotices
+pub mod Restoring

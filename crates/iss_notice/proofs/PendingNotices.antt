@@ -1,5 +1,5 @@
 -- The notices by number: one more, one less, and a notice that is found.
-use Rattle.std.proofs.Common.{◌≡◌, ℕ, suc, ◌+◌, ◌<◌, ◌≤◌, nat_lt, nat_le, ◌==◌, Bool, true, false, cond, not, ◌&&◌, ◌||◌, List, [], ◌∷◌, ◌++◌, map, filter, length, refl, sym, ap, ◌∙◌, subst, true≢false, arith}
+use Rattle.std.proofs.Common.{◌≡◌, ℕ, suc, ◌<◌, ◌≤◌, nat_lt, nat_le, ◌==◌, Bool, true, false, cond, not, ◌&&◌, ◌||◌, List, [], ◌∷◌, ◌++◌, map, filter, length, refl, sym, ap, ◌∙◌, subst, true≢false, arith}
 use Rattle.std.proofs.lemmas.Bool.Decides.{nat_tests}
 use Rattle.std.specs.Prelude.{Option, Some, Ok, Err, IsTrue, IsErrOf, is_some, is_ok, find}
 use Rattle.std.specs.List.{AllByRecursion, list_any}
@@ -32,8 +32,8 @@ above n m h =
     not_equal : (n m : ℕ) → m < n → (n == m) ≡ false
     not_equal n m h = grind (arith, nat_tests)
 
--- a notice of the next number goes after the others
-pub goes_last : (made : ℕ) (es : List Entry) (n : ℕ) (notice : Notice) → n ≡ made + 1 → AllByRecursion (IsAtNumber made) es → insert_entry nat_cmp es n notice ≡ es ++ (n, notice) ∷ []
+-- a notice of a later number goes after the others
+pub goes_last : (made : ℕ) (es : List Entry) (n : ℕ) (notice : Notice) → made < n → AllByRecursion (IsAtNumber made) es → insert_entry nat_cmp es n notice ≡ es ++ (n, notice) ∷ []
 goes_last made [] n notice e all = refl
 goes_last made (x ∷ es) n notice e all =
     ap (λ (r : Ordering). match_ordering r ((n, notice) ∷ x ∷ es) ((x.0, notice) ∷ es) (x ∷ insert_entry nat_cmp es n notice)) (above n x.0 (let last = all.0.last in omega arith))
@@ -43,20 +43,20 @@ values_push : (es : List Entry) (n : ℕ) (notice : Notice) → values_of (es ++
 values_push [] n notice = refl
 values_push (x ∷ es) n notice = ap (λ (rest : List Notice). x.1 ∷ rest) (values_push es n notice)
 
-kept_push : (made : ℕ) (es : List Entry) (n : ℕ) (notice : Notice) → n ≡ made + 1 → notice.number ≡ n → AllByRecursion (IsAtNumber made) es → AllByRecursion (IsAtNumber n) (es ++ (n, notice) ∷ [])
+kept_push : (made : ℕ) (es : List Entry) (n : ℕ) (notice : Notice) → made < n → notice.number ≡ n → AllByRecursion (IsAtNumber made) es → AllByRecursion (IsAtNumber n) (es ++ (n, notice) ∷ [])
 kept_push made [] n notice e own all = (record { own = own; first = omega arith; last = omega arith }, tt)
 kept_push made (x ∷ es) n notice e own all =
     (record { own = all.0.own; first = all.0.first; last = let last = all.0.last in omega arith }, kept_push made es n notice e own all.1)
 
 -- one more notice
-pub kept_more : (made n : ℕ) (old new : BTreeMap ℕ Notice) (notice : Notice) → AreNoticesKept made old → n ≡ made + 1 → notice.number ≡ n
+pub kept_more : (made n : ℕ) (old new : BTreeMap ℕ Notice) (notice : Notice) → AreNoticesKept made old → made < n → notice.number ≡ n
     → new.entries ≡ insert_entry nat_cmp old.entries n notice → tree.IsOrdered nat_cmp new → AreNoticesKept n new
 kept_more made n old new notice a e own entries rising = record {
   each = subst (λ (es : List Entry). AllByRecursion (IsAtNumber n) es) (sym (entries ∙ goes_last made old.entries n notice e a.each)) (kept_push made old.entries n notice e own a.each);
   rising = rising;
 }
 
-pub values_more : (made n : ℕ) (old new : BTreeMap ℕ Notice) (notice : Notice) → AreNoticesKept made old → n ≡ made + 1 → new.entries ≡ insert_entry nat_cmp old.entries n notice
+pub values_more : (made n : ℕ) (old new : BTreeMap ℕ Notice) (notice : Notice) → AreNoticesKept made old → made < n → new.entries ≡ insert_entry nat_cmp old.entries n notice
     → values new ≡ values old ++ notice ∷ []
 values_more made n old new notice a e entries = ap (λ (es : List Entry). values_of es) (entries ∙ goes_last made old.entries n notice e a.each) ∙ values_push old.entries n notice
 

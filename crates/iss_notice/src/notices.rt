@@ -2,7 +2,7 @@
 ghost use Rattle.std.specs.Prelude.{◌≡◌, ◌↔◌, ◌+◌, ◌&&◌, [], not, map, length, IfOk, IsOk, IsTrue, IsErrOf, OnOk, OnErr};
 ghost use Rattle.std.specs.Option.{option_copied};
 ghost use Rattle.iss_model.specs.state.Cores.{with_notice, with_acked};
-ghost use Rattle.iss_notice.specs.Pending.{is_made, is_pending, pending_notice};
+ghost use Rattle.iss_notice.specs.Pending.{is_made, is_pending, pending_notice, are_numbered};
 
 use iss_model::Notice;
 use std::alloc::{AllocError, Global};
@@ -47,6 +47,18 @@ impl Notices {
             made: 0,
             pending: BTreeMap::new(alloc),
         })
+    }
+
+    /// The notices as they stood: how many were made, and those that weren't acknowledged yet in the order of their numbers.
+    pub fn restore(alloc: Global, made: u32, list: &[Notice]) -> Result<Notices, AllocError>
+        requires numbered { IsTrue (are_numbered made list.now) }
+        ensures { IfOk result (λ notices. notices ≡ record { made = made; pending = list.now }) }
+    {
+        let mut pending = BTreeMap::new(alloc);
+        for notice in list {
+            pending.insert(notice.number, *notice)?;
+        }
+        Ok(Notices { made, pending })
     }
 
     /// Adds a notice of the next number. If an allocation fails, all stays as it was.

@@ -88,7 +88,7 @@ from_start users after past past' f g ss each =
     from_alike users after past past' f g 0 ss
     (λ i s e. (let same : i ≡ 0 + i = omega arith in subst (λ (n : ℕ). control_at after past' n (f s) ≡ g (control_at users past n s)) same (each i s e)))
 
-mapped_same : (ss : List Standing) → map (λ (s : Standing). s) ss ≡ ss
+pub mapped_same : (ss : List Standing) → map (λ (s : Standing). s) ss ≡ ss
 mapped_same [] = refl
 mapped_same (s ∷ ss) = ap (λ (ts : List Standing). s ∷ ts) (mapped_same ss)
 

@@ -9,3 +9,6 @@ pub mod Controlling
 pub mod NotedSums
 pub mod Putting
 pub mod Noting
+pub mod Gathering
+pub mod Listed
+pub mod Restoring

@@ -48,8 +48,30 @@ pub nothing_else : {A : Type 0} (o : Option A) → or_else o None ≡ o
 nothing_else None = refl
 nothing_else (Some x) = refl
 
-int-sym : (m n : ℤ) → int_eq m n ≡ int_eq n m
+pub int-sym : (m n : ℤ) → int_eq m n ≡ int_eq n m
 int-sym m n = int_eq_equiv.symm m n
+
+-- tests by parts
+pub both_equal : (r s : Ordering) → is_eq (ordering_then r s) ≡ (is_eq r && is_eq s)
+both_equal Less s = refl
+both_equal Equal s = refl
+both_equal Greater s = refl
+
+pub place_test : (a b : ℕ) → is_eq (nat_cmp a b) ≡ (b == a)
+place_test a b = by_tests (nat_lt a b) (a == b) (b == a) (λ h. grind (arith, nat_tests)) (grind (arith, nat_tests))
+  where
+    by_tests : (l e s : Bool) → (l ≡ true → s ≡ false) → e ≡ s → is_eq (cond l Less (cond e Equal Greater)) ≡ s
+    by_tests true e s p q = sym (p refl)
+    by_tests false true s p q = q
+    by_tests false false s p q = q
+
+-- the test of a span
+pub span_test : (place : ℕ) (user : List ℕ) (number : ℤ) (k : List ℕ × (ℕ × ℤ)) → is_at (by_span (user, (place, number))) k ≡ (bytes_eq user k.0 && ((k.1.0 == place) && int_eq k.1.1 number))
+span_test place user number k =
+    both_equal (slice_cmp nat_cmp user k.0) (ordering_then (nat_cmp place k.1.0) (int_cmp number k.1.1))
+    ∙ ap₂ (λ (x y : Bool). x && y) (is_eq-slice_cmp user k.0)
+    (both_equal (nat_cmp place k.1.0) (int_cmp number k.1.1)
+    ∙ ap₂ (λ (x y : Bool). x && y) (place_test place k.1.0) (int-sym number k.1.1))
 
 module _ (worth : Used → ℤ) (place : ℕ) (user : List ℕ) (number : ℤ) (plain : has_no_zero user ≡ true) where
   -- one counter before the others
@@ -120,33 +142,12 @@ module _ (worth : Used → ℤ) (place : ℕ) (user : List ℕ) (number : ℤ) (
           ∙ nothing_else (option_map worth (in_span number (at_place place e.1)))
       at false t rest = rest
 
-  -- the test of a span by its parts
-  pub span_test : (k : List ℕ × (ℕ × ℤ)) → is_at (by_span (user, (place, number))) k ≡ (bytes_eq user k.0 && ((k.1.0 == place) && int_eq k.1.1 number))
-  span_test k =
-      both_equal (slice_cmp nat_cmp user k.0) (ordering_then (nat_cmp place k.1.0) (int_cmp number k.1.1))
-      ∙ ap₂ (λ (x y : Bool). x && y) (is_eq-slice_cmp user k.0)
-      (both_equal (nat_cmp place k.1.0) (int_cmp number k.1.1)
-      ∙ ap₂ (λ (x y : Bool). x && y) (place_test place k.1.0) (int-sym number k.1.1))
-    where
-      both_equal : (r s : Ordering) → is_eq (ordering_then r s) ≡ (is_eq r && is_eq s)
-      both_equal Less s = refl
-      both_equal Equal s = refl
-      both_equal Greater s = refl
-
-      by_tests : (l e s : Bool) → (l ≡ true → s ≡ false) → e ≡ s → is_eq (cond l Less (cond e Equal Greater)) ≡ s
-      by_tests true e s p q = sym (p refl)
-      by_tests false true s p q = q
-      by_tests false false s p q = q
-
-      place_test : (a b : ℕ) → is_eq (nat_cmp a b) ≡ (b == a)
-      place_test a b = by_tests (nat_lt a b) (a == b) (b == a) (λ h. grind (arith, nat_tests)) (grind (arith, nat_tests))
-
   past_part : (es : List ((List ℕ × (ℕ × ℤ)) × Used)) → list_all (λ (k : List ℕ × (ℕ × ℤ)). has_no_zero k.0) (keys_of es) ≡ true
       → finite.find order (counter_key user number) (filter_map (past_sum worth place) es) ≡ option_map worth (lookup (is_at (by_span (user, (place, number)))) es)
   past_part [] p = refl
   past_part (e ∷ es) p =
       at (e.0.1.0 == place) (past_part es parts.1)
-      ∙ ap (λ (b : Bool). option_map worth (cond b (Some e.1) (lookup (is_at (by_span (user, (place, number)))) es))) (sym (span_test e.0))
+      ∙ ap (λ (b : Bool). option_map worth (cond b (Some e.1) (lookup (is_at (by_span (user, (place, number)))) es))) (sym (span_test place user number e.0))
     where
       parts : (has_no_zero e.0.0 ≡ true) × (list_all (λ (k : List ℕ × (ℕ × ℤ)). has_no_zero k.0) (keys_of es) ≡ true)
       parts = and_parts (has_no_zero e.0.0) (list_all (λ (k : List ℕ × (ℕ × ℤ)). has_no_zero k.0) (keys_of es)) p

@@ -4,6 +4,7 @@ use Rattle.std.specs.Option.{option_map}
 use Rattle.std.specs.List.{list_any}
 use Rattle.std.specs.Str.{bytes_eq}
 use Rattle.std.proofs.lemmas.Bool.Decides.{nat_tests}
+use Rattle.iss_model.specs.declared.limits.TheConstants.{MOST_OF_A_KIND}
 use Rattle.iss_model.specs.declared.setting.Control.{Control}
 use Rattle.iss_model.specs.declared.txn.UsageRow.{UsageRow}
 use Rattle.iss_model.specs.declared.txn.Used.{Used}
@@ -187,16 +188,16 @@ no_more xs n e = ap (λ (k : ℕ). drop k xs) e ∙ all xs
     all (x ∷ xs) = all xs
 
 -- as many controls are kept as stand
-pub full_so : (users : Users) (past : Past) (ss : List Standing) → 256 ≤ length ss → is_full (controls_from users past 0 ss) ≡ true
+pub full_so : (users : Users) (past : Past) (ss : List Standing) → MOST_OF_A_KIND ≤ length ss → is_full (controls_from users past 0 ss) ≡ true
 full_so users past ss h =
-    ap (λ (n : ℕ). nat_le 256 n) (as_many_kept users past 0 ss) ∙ grind (arith, nat_tests)
+    ap (λ (n : ℕ). nat_le MOST_OF_A_KIND n) (as_many_kept users past 0 ss) ∙ grind (arith, nat_tests)
 
-pub not_full_so : (users : Users) (past : Past) (ss : List Standing) → length ss < 256 → is_full (controls_from users past 0 ss) ≡ false
+pub not_full_so : (users : Users) (past : Past) (ss : List Standing) → length ss < MOST_OF_A_KIND → is_full (controls_from users past 0 ss) ≡ false
 not_full_so users past ss h =
-    ap (λ (n : ℕ). nat_le 256 n) (as_many_kept users past 0 ss) ∙ grind (arith, nat_tests)
+    ap (λ (n : ℕ). nat_le MOST_OF_A_KIND n) (as_many_kept users past 0 ss) ∙ grind (arith, nat_tests)
 
-pub full_is : (users : Users) (past : Past) (ss : List Standing) → nat_le 256 (length ss) ≡ is_full (controls_from users past 0 ss)
-full_is users past ss = ap (λ (n : ℕ). nat_le 256 n) (sym (as_many_kept users past 0 ss))
+pub full_is : (users : Users) (past : Past) (ss : List Standing) → nat_le MOST_OF_A_KIND (length ss) ≡ is_full (controls_from users past 0 ss)
+full_is users past ss = ap (λ (n : ℕ). nat_le MOST_OF_A_KIND n) (sym (as_many_kept users past 0 ss))
 
 -- a table with one more control, or with others of as many places
 pub table_more : (users : Users) (past : Past) (ss after : List Standing) (s : Standing)

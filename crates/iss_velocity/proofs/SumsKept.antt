@@ -1,5 +1,5 @@
 -- The sums of a control after a row, or if nothing was counted.
-use Rattle.std.proofs.Common.{◌≡◌, ℕ, ℤ, pos, ◌+ℤ◌, Bool, true, false, cond, ◌&&◌, List, Option, Some, None, refl, sym, ap, ap₂, ◌∙◌, subst}
+use Rattle.std.proofs.Common.{◌≡◌, ℕ, ℤ, pos, ◌+ℤ◌, Bool, true, false, cond, ◌&&◌, List, Option, Some, None, refl, sym, ap, ◌∙◌, subst}
 use Rattle.std.specs.Prelude.{unwrap_or}
 use Rattle.std.specs.Option.{option_map}
 use Rattle.std.specs.Str.{bytes_eq}
@@ -17,7 +17,7 @@ use Rattle.iss_velocity.proofs.KeyOrder.{same_key}
 use Rattle.iss_velocity.proofs.Lookups.{IsKey, get_sums, sums_keys}
 
 -- sums that have keys of counters alone are equal if they are at each of them
-same_sums : (m n : Kept) → ((q : List ℕ) (z : ℤ) → finite.get m q ≡ Some z → IsKey q) → ((q : List ℕ) (z : ℤ) → finite.get n q ≡ Some z → IsKey q)
+pub same_sums : (m n : Kept) → ((q : List ℕ) (z : ℤ) → finite.get m q ≡ Some z → IsKey q) → ((q : List ℕ) (z : ℤ) → finite.get n q ≡ Some z → IsKey q)
     → ((user : List ℕ) (number : ℤ) → has_no_zero user ≡ true → finite.get m (counter_key user number) ≡ finite.get n (counter_key user number)) → m ≡ n
 same_sums m n of_m of_n alike =
     finite.same_map nat_list_cmp_total (finite.slice_cmp-IsAntisymmetric finite.nat_cmp-IsAntisymmetric) m n (λ q. at q (finite.get m q) (finite.get n q) refl refl)
@@ -40,6 +40,28 @@ unchanged_sums worth place users after past past' k l same =
     (λ user number p.
     get_sums worth place user number p after past' l ∙ ap (option_map worth) (same user number p) ∙ sym (get_sums worth place user number p users past k))
 
+-- the sums if one is put at a key
+pub put_sums : (worth : Used → ℤ) (place : ℕ) (users after : Users) (past past' : Past) (user : List ℕ) (number sum : ℤ) → AreKeyed users past → AreKeyed after past'
+    → has_no_zero user ≡ true
+    → ((u : List ℕ) (n : ℤ) → has_no_zero u ≡ true → option_map worth (used_at after past' u place n)
+    ≡ cond (bytes_eq u user && int_eq n number) (Some sum) (option_map worth (used_at users past u place n)))
+    → sums_in worth after past' place ≡ finite.insert (sums_in worth users past place) (counter_key user number) sum
+put_sums worth place users after past past' user number sum k l plain counted =
+    same_sums (sums_in worth after past' place) (finite.insert (sums_in worth users past place) (counter_key user number) sum)
+    (λ q z e. sums_keys worth place q after past' l z e)
+    (λ q z e. new_key q z (eq_by_cmp (slice_cmp nat_cmp) q (counter_key user number)) refl (sym (finite.get-insert nat_list_cmp_total (sums_in worth users past place) (counter_key user number) sum q) ∙ e))
+    (λ u n p.
+    get_sums worth place u n p after past' l ∙ counted u n p
+    ∙ ap (λ (b : Bool). cond b (Some sum) (option_map worth (used_at users past u place n))) (sym (same_key u user n number p plain))
+    ∙ ap (λ (o : Option ℤ). cond (eq_by_cmp (slice_cmp nat_cmp) (counter_key u n) (counter_key user number)) (Some sum) o) (sym (get_sums worth place u n p users past k))
+    ∙ sym (finite.get-insert nat_list_cmp_total (sums_in worth users past place) (counter_key user number) sum (counter_key u n)))
+  where
+    new_key : (q : List ℕ) (z : ℤ) (b : Bool) → eq_by_cmp (slice_cmp nat_cmp) q (counter_key user number) ≡ b
+        → cond b (Some sum) (finite.get (sums_in worth users past place) q) ≡ Some z → IsKey q
+    new_key q z true e f =
+        record { user = user; number = number; plain = plain; is = one_name q (counter_key user number) (sym (is_eq-slice_cmp q (counter_key user number)) ∙ e) }
+    new_key q z false e f = sums_keys worth place q users past k z f
+
 -- the sums after a row that is counted
 pub changed_sums : (worth : Used → ℤ) (place : ℕ) (users after : Users) (past past' : Past) (user : List ℕ) (number : ℤ) (by : ℤ) → AreKeyed users past → AreKeyed after past'
     → has_no_zero user ≡ true
@@ -48,22 +70,10 @@ pub changed_sums : (worth : Used → ℤ) (place : ℕ) (users after : Users) (p
     → sums_in worth after past' place
     ≡ finite.insert (sums_in worth users past place) (counter_key user number) (kept_at (sums_in worth users past place) (counter_key user number) +ℤ by)
 changed_sums worth place users after past past' user number by k l plain counted =
-    same_sums (sums_in worth after past' place) (finite.insert (sums_in worth users past place) (counter_key user number) (kept_at (sums_in worth users past place) (counter_key user number) +ℤ by))
-    (λ q z e. sums_keys worth place q after past' l z e)
-    (λ q z e. new_key q z (eq_by_cmp (slice_cmp nat_cmp) q (counter_key user number)) refl (sym (finite.get-insert nat_list_cmp_total (sums_in worth users past place) (counter_key user number) (kept_at (sums_in worth users past place) (counter_key user number) +ℤ by) q) ∙ e))
-    (λ u n p.
-    get_sums worth place u n p after past' l ∙ counted u n p
-    ∙ ap₂ (λ (b : Bool) (z : ℤ). cond b (Some (z +ℤ by)) (option_map worth (used_at users past u place n)))
-    (sym (same_key u user n number p plain)) (ap (λ (o : Option ℤ). unwrap_or o (pos 0)) (sym (get_sums worth place user number plain users past k)))
-    ∙ ap (λ (o : Option ℤ). cond (eq_by_cmp (slice_cmp nat_cmp) (counter_key u n) (counter_key user number)) (Some (kept_at (sums_in worth users past place) (counter_key user number) +ℤ by)) o)
-    (sym (get_sums worth place u n p users past k))
-    ∙ sym (finite.get-insert nat_list_cmp_total (sums_in worth users past place) (counter_key user number) (kept_at (sums_in worth users past place) (counter_key user number) +ℤ by) (counter_key u n)))
-  where
-    new_key : (q : List ℕ) (z : ℤ) (b : Bool) → eq_by_cmp (slice_cmp nat_cmp) q (counter_key user number) ≡ b
-        → cond b (Some (kept_at (sums_in worth users past place) (counter_key user number) +ℤ by)) (finite.get (sums_in worth users past place) q) ≡ Some z → IsKey q
-    new_key q z true e f =
-        record { user = user; number = number; plain = plain; is = one_name q (counter_key user number) (sym (is_eq-slice_cmp q (counter_key user number)) ∙ e) }
-    new_key q z false e f = sums_keys worth place q users past k z f
+    put_sums worth place users after past past' user number (kept_at (sums_in worth users past place) (counter_key user number) +ℤ by) k l plain
+    (λ u n p. counted u n p
+    ∙ ap (λ (o : Option ℤ). cond (bytes_eq u user && int_eq n number) (Some (unwrap_or o (pos 0) +ℤ by)) (option_map worth (used_at users past u place n)))
+    (sym (get_sums worth place user number plain users past k)))
 
 -- there are no sums if nothing is counted
 pub no_sums : (worth : Used → ℤ) (place : ℕ) (users : Users) (past : Past) → AreKeyed users past

@@ -26,13 +26,13 @@ use Rattle.iss_velocity.proofs.Lookups.{span_test}
 use Rattle.iss_velocity.proofs.Walks.{stands_here, put_split, put_at, new_split, new_at}
 
 -- numbers that pass the test are one
-one_number : (m n : ℤ) → int_eq m n ≡ true → m ≡ n
+pub one_number : (m n : ℤ) → int_eq m n ≡ true → m ≡ n
 one_number m n h = (signed_Decides m n).0 h
 
-same_number : (n : ℤ) → int_eq n n ≡ true
+pub same_number : (n : ℤ) → int_eq n n ≡ true
 same_number n = (signed_Decides n n).1 refl
 
-itself : (n : ℕ) → (n == n) ≡ true
+pub itself : (n : ℕ) → (n == n) ≡ true
 itself n = grind (arith, nat_tests)
 
 twice : {A : Type 0} (o : Option A) → or_else o o ≡ o
@@ -146,7 +146,7 @@ turned_over user number c t used past after plain e f updates entries d =
     passed : (u : List ℕ) (p : ℕ) (n : ℤ) → past_at after u p n ≡ cond (bytes_eq user u && ((p == c.place) && int_eq n c.number)) (Some used) (past_at past u p n)
     passed u p n =
         updates.0 (u, (p, n))
-        ∙ ap (λ (b : Bool). cond b (Some used) (past_at past u p n)) (span_test (λ (x : Used). x.amount) c.place user c.number plain (u, (p, n)))
+        ∙ ap (λ (b : Bool). cond b (Some used) (past_at past u p n)) (span_test c.place user c.number (u, (p, n)))
 
     here : (n : ℤ) → past_at after user c.place n ≡ cond (int_eq n c.number) (Some used) (past_at past user c.place n)
     here n =

@@ -12,7 +12,7 @@ both : (a b : Bool) → a ≡ true → b ≡ true → (a && b) ≡ true
 both a b p q = ap₂ (λ (x y : Bool). x && y) p q
 
 -- places that rise from a place rise from a lower one
-lower : (low next : ℕ) (cs : List Counter) → nat_le low next ≡ true → rising_from next cs ≡ true → rising_from low cs ≡ true
+pub lower : (low next : ℕ) (cs : List Counter) → nat_le low next ≡ true → rising_from next cs ≡ true → rising_from low cs ≡ true
 lower low next [] h r = refl
 lower low next (c ∷ cs) h r =
     let parts = and_parts (nat_le next c.place) (rising_from (c.place + 1) cs) r in
@@ -57,7 +57,7 @@ none_above low high place (x ∷ xs) h p =
     ap (λ (b : Bool). cond b (Some x) (at_place place xs)) other ∙ none_above (x.place + 1) high place xs parts.1 p
 
 -- no counter is that of a place below all
-none_below : (low place : ℕ) (xs : List Counter) → rising_from low xs ≡ true → nat_lt place low ≡ true → at_place place xs ≡ None
+pub none_below : (low place : ℕ) (xs : List Counter) → rising_from low xs ≡ true → nat_lt place low ≡ true → at_place place xs ≡ None
 none_below low place [] h p = refl
 none_below low place (x ∷ xs) h p =
     let parts = and_parts (nat_le low x.place) (rising_from (x.place + 1) xs) h in

@@ -132,7 +132,13 @@ pub record IsCounted (controls : List Standing) (groups : List Group) (row : Usa
 abbrev pub controls_in : Table → List ControlKept
 controls_in t = controls_from t.users t.past 0 t.controls.items
 
--- a table's keys are those of users and spans, and nothing is counted if no control stands
+-- no two controls have one name
+abbrev pub AreApart : List Standing → Type 0
+AreApart controls =
+    (i j : ℕ) (a b : Standing) → slice_get controls i ≡ Some a → slice_get controls j ≡ Some b → bytes_eq a.control.name b.control.name ≡ true → i ≡ j
+
+-- A table's keys are those of users and spans, and its controls have names of their own. Nothing is counted if no control stands.
 pub record IsTable (t : Table) : Type 0 where
   pub keyed : AreKeyed t.users t.past
+  pub apart : AreApart t.controls.items
   pub beyond : (user : List ℕ) (place : ℕ) (number : ℤ) → slice_get t.controls.items place ≡ None → used_at t.users t.past user place number ≡ None

@@ -5,4 +5,5 @@ pub mod Counting
 pub mod Lists
 pub mod Keeping
 pub mod Noted
+pub mod Showing
 pub mod Codes

@@ -1,5 +1,6 @@
 //! Velocity controls.
-ghost use Rattle.std.specs.Prelude.{◌≡◌, [], IsTrue, is_some, map, option_map, OnOk, OnErr};
+ghost use Rattle.std.specs.Prelude.{◌≡◌, [], true, IsTrue, is_some, map, option_map, IfOk, OnOk, OnErr};
+ghost use Rattle.std.specs.List.{flat_map, list_all};
 ghost use Rattle.std.specs.Option.{option_copied};
 ghost use Rattle.iss_model.specs.Forms.{is_stamp, is_amount};
 ghost use Rattle.iss_model.specs.declared.entry.Entry.TheVariants as entry;
@@ -7,9 +8,11 @@ ghost use Rattle.iss_model.specs.rules.Reasons.{is_full};
 ghost use Rattle.iss_model.specs.state.Cores.{with_control, control_after_use, control_facts};
 ghost use Rattle.iss_velocity.specs.Words.{asked_use, breach_of, used_of};
 ghost use Rattle.iss_velocity.specs.Puts.{kept_named, put_reason, control_after_limits, control_after_activity, control_result_reason};
-ghost use Rattle.iss_velocity.specs.Keeping.{HaveSmallSums};
+ghost use Rattle.iss_velocity.specs.Keeping.{has_no_zero, HaveSmallSums};
+ghost use Rattle.iss_velocity.specs.Showing.{counted_entry, entries_of_control, kept_after_restore, may_restore};
 
 use crate::ask::Spending;
+use crate::counted::Counted;
 use crate::standing::{Change, Limits};
 use crate::table::Table;
 use iss_model::{Control, Token, UsageRow, Used};
@@ -147,6 +150,31 @@ impl Controls {
         ensures { result ≡ used_of (map control_facts self.now) name.now user.now at }
     {
         self.table.used(name, user, at)
+    }
+
+    /// What each control has counted, in the order of the controls, then of the bytes of the user's token, then of the
+    /// number of the span. A span in which nothing was counted isn't shown.
+    pub fn counters(&self, alloc: Global) -> Result<Vec<Counted>, AllocError>
+        ensures counters { IfOk result (λ v. map counted_entry v.items ≡ flat_map entries_of_control self.now) }
+        ensures named { IfOk result (λ v. list_all (λ c. has_no_zero c.user) v.items ≡ true) }
+    {
+        self.table.counters(alloc)
+    }
+
+    /// Takes up again what the control of a name has counted of a user in the span of a number. If an allocation fails, all
+    /// stays as it was.
+    pub fn restore(
+        &mut self,
+        name: &Token,
+        user: &Token,
+        number: i64,
+        used: Used,
+    ) -> Result<(), AllocError>
+        requires { may_restore user.now number (kept_named name.now self.old) ≡ true }
+        ensures restored { OnOk result (self.new ≡ map (kept_after_restore name.now user.now number used) self.old) }
+        ensures refused { OnErr result (self.new ≡ self.old) }
+    {
+        self.table.restore(name, user, number, used)
     }
 }
 

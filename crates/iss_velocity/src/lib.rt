@@ -6,15 +6,18 @@
 
 mod ask;
 mod controls;
+mod counted;
 mod counters;
 mod laws;
 mod past;
+mod rows;
 mod spans;
 mod standing;
 mod table;
 
 pub use ask::Spending;
 pub use controls::{ControlFault, Controls};
+pub use counted::Counted;
 pub use laws::{
     breach_looks_at_use, control_that_is_put_counts_no_earlier_use,
     controls_that_stay_count_the_same, counters_are_sums_of_noted_use,

@@ -1,5 +1,7 @@
 //! The controls, with what they have counted.
-ghost use Rattle.std.specs.Prelude.{◌≡◌, ◌∷◌, ◌++◌, [], true, None, IsTrue, map, OnOk, OnErr, IsSome, List, ℕ};
+ghost use Rattle.std.specs.Prelude.{◌≡◌, ◌∷◌, ◌++◌, [], true, None, IsTrue, map, IfOk, OnOk, OnErr, IsSome, List, ℕ};
+ghost use Rattle.std.specs.List.{flat_map, list_all, position};
+ghost use Rattle.std.specs.Str.{bytes_eq};
 ghost use Rattle.std.specs.Option.{option_copied};
 ghost use Rattle.std.specs.BTreeMap as tree;
 ghost use Rattle.iss_model.specs.Forms.{is_stamp};
@@ -12,10 +14,13 @@ ghost use Rattle.iss_velocity.specs.Puts.{first_put, kept_named, put_reason, con
 ghost use Rattle.iss_velocity.specs.Lists.{rising_from};
 ghost use Rattle.iss_velocity.specs.Counting.{counters_at, by_name};
 ghost use Rattle.iss_velocity.specs.Keeping.{has_no_zero, used_on, controls_in, IsTable, HaveSmallSums, is_users_plain};
+ghost use Rattle.iss_velocity.specs.Showing.{counted_entry, entries_of_control, kept_after_restore, may_restore};
 
 use crate::controls::ControlFault;
+use crate::counted::Counted;
 use crate::counters::{Counter, Counters, counter_at, find_at, next_after, used_by};
-use crate::past::Past;
+use crate::past::{Past, put_past};
+use crate::rows::{rows_of, shown};
 use crate::spans::{Spans, is_single};
 use crate::standing::{Change, Limits, Standing};
 use iss_model::limits::MOST_OF_A_KIND;
@@ -111,6 +116,37 @@ impl Table {
         used_by(counter, &self.past, user, place, number).unwrap_or(unused)
     }
 
+    /// What each control has counted.
+    pub(crate) fn counters(&self, alloc: Global) -> Result<Vec<Counted>, AllocError>
+        requires keyed { IsTable self.now }
+        ensures counters { IfOk result (λ v. map counted_entry v.items ≡ flat_map entries_of_control (controls_in self.now)) }
+        ensures named { IfOk result (λ v. list_all (λ c. has_no_zero c.user) v.items ≡ true) }
+    {
+        let rows = rows_of(&self.users, &self.past, alloc)?;
+        shown(&self.controls, &rows, alloc)
+    }
+
+    /// Takes up again what the control of a name has counted of a user in the span of a number.
+    pub(crate) fn restore(
+        &mut self,
+        name: &Token,
+        user: &Token,
+        number: i64,
+        used: Used,
+    ) -> Result<(), AllocError>
+        requires keyed { IsTable self.old }
+        requires new { may_restore user.now number (kept_named name.now (controls_in self.old)) ≡ true }
+        ensures keyed { IsTable self.new }
+        ensures restored { OnOk result (controls_in self.new ≡ map (kept_after_restore name.now user.now number used) (controls_in self.old)) }
+        ensures refused { OnErr result (controls_in self.new ≡ controls_in self.old) }
+    {
+        let Some(place) = place_of(&self.controls, name) else {
+            unreachable!()
+        };
+        put_past(&mut self.past, user, place, number, used)?;
+        Ok(())
+    }
+
     /// The control of a name.
     pub(crate) fn standing(&self, name: &Token) -> Option<&Standing>
         ensures { option_copied result ≡ standing_named name.now self.now.controls.items }
@@ -202,7 +238,7 @@ impl Table {
 }
 
 /// Adds a thing after the others.
-fn push<T: Copy + Drop>(things: &mut Vec<T>, thing: &T) -> Result<(), AllocError>
+pub(crate) fn push<T: Copy + Drop>(things: &mut Vec<T>, thing: &T) -> Result<(), AllocError>
     ensures pushed { OnOk result (things.new.items ≡ things.old.items ++ thing.now ∷ []) }
     ensures refused { OnErr result (things.new.items ≡ things.old.items) }
 {
@@ -240,4 +276,13 @@ fn begin(
         users.insert(*user, Counters::new(alloc))?;
     }
     Ok(())
+}
+
+/// The place of the control of a name.
+fn place_of(controls: &[Standing], name: &Token) -> Option<usize>
+    ensures { result ≡ position (λ s. bytes_eq s.control.name name.now) controls.now }
+{
+    controls
+        .iter()
+        .position(|standing| standing.control.name == *name)
 }

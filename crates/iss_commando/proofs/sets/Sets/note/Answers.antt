@@ -5,7 +5,7 @@ use Rattle.iss_commando.specs.Trees.{kept_in}
 use Rattle.iss_commando.proofs.TreeSums.{small_at}
 use Rattle.iss_commando.proofs.sets.Sets.note.Goals as goal
 
-pub add_to-requires-clause-after : goal.add_to-requires-clause-after
-add_to-requires-clause-after c =
+pub add_to-requires : goal.add_to-requires
+add_to-requires c =
     small_at c.args.self.now.stood (kept_in c.self.inside.stood) (stood_key c.args.product.now c.args.user.now c.args.at) c.new.result (pos c.args.amount)
     (ap (λ (s : StandIns). s.stood) c.self.view_is) c.new.ensures c.requires.small

@@ -1,10 +1,13 @@
-use Rattle.std.proofs.Common.{sym, ap, ◌∙◌}
+use Rattle.std.proofs.Common.{ℕ, List, sym, ap, ◌∙◌, subst}
 use Rattle.std.specs.Prelude.{Option, slice_get}
 use Rattle.std.specs.Option.{option_map}
+use Rattle.std.specs.List.{IsDistinct}
+use Rattle.std.specs.Str.{bytes_eq}
 use Rattle.std.proofs.lemmas.Option.{slice_get-map}
 use Rattle.iss_model.specs.state.Cores.{Holdings}
 use Rattle.iss_hold.specs.declared.hold.Hold.{Hold}
 use Rattle.iss_hold.specs.Holdings.{txn_of_hold}
+use Rattle.iss_hold.proofs.Places.{same_names}
 use Rattle.iss_hold.proofs.HoldCalls.{within_holds, parts_at, small_at}
 use Rattle.iss_hold.proofs.holds.Holds.at.Goals as goal
 
@@ -22,3 +25,6 @@ returns-clause-parts c = parts_at c.self.inside.table.holds c.args.place c.at.re
 
 pub returns-clause-small : goal.returns-clause-small
 returns-clause-small c = small_at c.self.inside.table.holds c.args.place c.at.result c.self.invariant.summed c.at.ensures
+
+pub returns-clause-once : goal.returns-clause-once
+returns-clause-once c = subst (λ (ns : List (List ℕ)). IsDistinct bytes_eq ns) (same_names c.self.inside.table.holds c.self.view_is) c.self.invariant.distinct

@@ -27,6 +27,7 @@ returns-in_err-note-clause-keyed c =
     let after = c.get_mut.follows.lender c.note.new.self in
     record {
       keyed = after_keyed c.begin.new.users after c.note.new.past c.in_ok-begin.ensures.plain w.1 w.4 (c.in_err-note.ensures.same.plain c.requires.keyed.keyed.past_plain);
+      apart = c.requires.keyed.apart;
       beyond = beyond_same c.args.self.now.controls.items c.args.self.now.users after c.args.self.now.past c.note.new.past
           (all_same c.args.self.now.users c.begin.new.users after c.args.self.now.past c.note.new.past c.args.row.now.user c.in-Some.counters.now c.note.new.self c.requires.keyed.keyed
           c.in_ok-begin.ensures.same c.in-Some.ensures.value (w.3 c.in_ok-begin.ensures.stands) c.in_err-note.ensures.same) c.requires.keyed.beyond;
@@ -50,6 +51,7 @@ returns-clause-keyed c =
     subst (λ (ss : List Standing). IsCounted ss c.args.groups.now c.args.row.now c.in-Some.counters.now c.args.self.now.past c.note.new.self c.note.new.past) c.deref.ensures.value c.in_ok-note.ensures.counted in
     record {
       keyed = after_keyed c.begin.new.users after c.note.new.past c.in_ok-begin.ensures.plain w.1 w.4 (counted.plain c.requires.keyed.keyed.past_plain);
+      apart = c.requires.keyed.apart;
       beyond = beyond_counted c.args.self.now.controls.items c.args.groups.now c.args.row.now c.args.self.now.users after c.args.self.now.past c.note.new.past
           (all_counted c.args.self.now.users c.begin.new.users after c.args.self.now.past c.note.new.past c.args.row.now.user c.in-Some.counters.now c.note.new.self c.requires.keyed.keyed
           c.in_ok-begin.ensures.same c.in-Some.ensures.value (w.3 c.in_ok-begin.ensures.stands) c.args.self.now.controls.items c.args.groups.now c.args.row.now refl counted) c.requires.keyed.beyond;
