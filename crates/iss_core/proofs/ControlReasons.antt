@@ -2,6 +2,7 @@
 use Rattle.std.proofs.Common.{◌≡◌, ℕ, suc, Bool, true, false, cond, not, nat_le, List, [], ◌∷◌, map, length, refl, sym, ap, ◌∙◌}
 use Rattle.std.specs.Prelude.{Option, Some, None, option_map}
 use Rattle.std.specs.Str.{bytes_eq}
+use Rattle.iss_model.specs.declared.limits.TheConstants.{MOST_OF_A_KIND}
 use Rattle.iss_model.specs.declared.setting.Control.{Control}
 use Rattle.iss_model.specs.declared.decision.Reason.{Reason}
 use Rattle.iss_model.specs.declared.decision.Reason.TheVariants as reason
@@ -68,6 +69,6 @@ put_fits s put none = by (kept_named put.name s.controls) refl
     by : (o : Option ControlKept) → kept_named put.name s.controls ≡ o → put_reason o s.controls put ≡ None
     by (Some c) is = sym (by_kept s put (Some c) is) ∙ none
     by None is =
-        ap (λ (n : ℕ). first_reason ((nat_le 256 n, reason.Limit) ∷ [])) (sym (as_many s.controls))
+        ap (λ (n : ℕ). first_reason ((nat_le MOST_OF_A_KIND n, reason.Limit) ∷ [])) (sym (as_many s.controls))
         ∙ only_last (lacks_user (core_facts s) put.association) (lacks_product (core_facts s) put.association) (lacks_group (core_facts s) put.scope) (is_full (core_facts s).controls)
         reason.UserUnknown reason.ProductUnknown reason.GroupUnknown reason.Limit (sym (by_kept s put None is) ∙ none)

@@ -2,7 +2,6 @@
 use Rattle.std.proofs.Common.{◌≡◌, ℕ, ◌-◌, Bool, true, false, cond, min, nat_eq, List, [], ◌∷◌, ◌++◌, refl, ap, ap₂, sym, ◌∙◌}
 use Rattle.std.specs.Prelude.{None}
 use Rattle.std.proofs.lemmas.List.{append_assoc}
-use Rattle.iss_model.specs.declared.call.Method.{Method}
 use Rattle.iss_model.specs.declared.call.Method.TheVariants as method
 use Rattle.iss_model.specs.declared.decision.Reason.TheVariants as reason
 use Rattle.iss_model.specs.declared.decision.Verdict.TheVariants as verdict
@@ -12,7 +11,7 @@ use Rattle.iss_model.specs.declared.txn.Txn.{Txn}
 use Rattle.iss_model.specs.rules.CardReasons.{is_account_funded}
 use Rattle.iss_model.specs.rules.Facts.{Facts, asked_calls_of, next_notice}
 use Rattle.iss_model.specs.rules.Pieces.{Parts, abandoned_calls_entries, in_all, notice_after_abandonment, notice_entry, only_gateway, only_where, release_entries}
-use Rattle.iss_model.specs.rules.Acts.{Act, Does, Ends, News, Tells, act_entries, entries_of_acts, expired, news_method, reversed}
+use Rattle.iss_model.specs.rules.Acts.{Act, Does, Ends, News, Tells, entries_of_acts, expired, news_method, reversed}
 use Rattle.iss_model.specs.rules.CardActs.{acts_for_gateway, acts_where, reversed_acts}
 use Rattle.iss_model.specs.rules.Due.{expired_acts}
 use Rattle.iss_acts.proofs.Walk.{acts_append}

@@ -10,3 +10,4 @@ pub mod DueNames
 pub mod Stepped
 pub mod Clearings
 pub mod Endings
+mod ShownParts

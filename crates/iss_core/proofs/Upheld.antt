@@ -4,7 +4,7 @@ use Rattle.std.specs.Prelude.{Option, Some, None, Result, Ok, Err, OnOk}
 use Rattle.std.specs.List.{list_all}
 use Rattle.std.proofs.lemmas.Bool.{and_parts}
 use Rattle.std.proofs.lemmas.Bool.Decides.{nat_tests}
-use Rattle.iss_model.specs.declared.limits.TheConstants.{MOST_RECORDS}
+use Rattle.iss_model.specs.declared.limits.TheConstants.{GREATEST_AMOUNT, MOST_RECORDS}
 use Rattle.iss_model.specs.declared.decision.Judged.TheVariants as judged
 use Rattle.iss_model.specs.declared.input.Input.{Input}
 use Rattle.iss_model.specs.declared.input.Record.{Record}
@@ -32,6 +32,8 @@ use Rattle.iss_state.specs.Few.{HasFewNumbers}
 use Rattle.iss_state.proofs.calls.Legal.{nothing_well}
 use Rattle.iss_state.proofs.calls.Steps.{ready_taken, ready_settled, due_allowed, own_allowed, due_decides, own_decides, step_well}
 use Rattle.iss_state.proofs.calls.FewSteps.{none_yet, few_taken, few_due, few_step}
+use Rattle.iss_states.specs.Counted.{CountsTxns}
+use Rattle.iss_states.proofs.CountedTxns.{nothing_counted, counted_all}
 use Rattle.iss_core.specs.Order.{asks_little, IsInOrder}
 use Rattle.iss_core.specs.Entering.{MayAllEnter}
 use Rattle.iss_core.specs.Sound.{IsSound, IsTakenUp}
@@ -50,14 +52,14 @@ gathered s (e ∷ es) enterable allowed formed decides =
           (ap (λ (accepted : List Accepted). list_all (decides_accepted accepted) es) (entries_accepted s (e ∷ [])) ∙ known.1),
     )
 
+below : (a b : ℕ) → a < b → a ≤ b
+below a b h = omega arith
+
 -- the entries of a due thing may be entered
 pub due_may : (i : Input) (s : CoreState) (thing : DueThing) (at : ℕ) → IsTakenUp i s → is_stamp at ≡ true → MayAllEnter s (thing_entries thing at (core_facts s))
 due_may i s thing at up stamp =
     gathered s (thing_entries thing at (core_facts s)) (due_enterable up.before s thing at (below up.before MOST_RECORDS up.room) up.ready.sound) (due_allowed s i thing at up.taken)
     (thing_formed s thing at up.forms stamp) (due_decides s i thing at up.taken)
-  where
-    below : (a b : ℕ) → a < b → a ≤ b
-    below a b h = omega arith
 
 -- the record's own entries may be entered
 pub own_may : (i : Input) (s : CoreState) (at : ℕ) → IsTakenUp i s → is_in_form i ≡ true → is_stamp at ≡ true → MayAllEnter s (entries_of i at (core_facts s))
@@ -77,6 +79,7 @@ taken_up s r sound room new stamp =
       taken = ready_taken s r sound.well new;
       forms = record_form s r stamp sound.forms;
       few = few_taken s.count s r sound.few;
+      counted = sound.counted;
     }
 
 -- a due thing that is settled leaves the record taken up
@@ -89,6 +92,7 @@ stays_taken_up i s thing at up stamp =
       taken = ready_settled s i thing at up.taken;
       forms = entries_form s (thing_entries thing at (core_facts s)) (thing_formed s thing at up.forms stamp) up.forms;
       few = few_due up.before s i thing at up.taken up.few;
+      counted = counted_all s (thing_entries thing at (core_facts s)) (due_enterable up.before s thing at (below up.before MOST_RECORDS up.room) up.ready.sound) up.counted;
     }
 
 -- once the entries of a due thing are entered, the record is still taken up
@@ -126,15 +130,15 @@ in_order i s up =
     let room = up.room in
     record {
       forms = up.forms;
-      amounts = little s.calls (up.before * 2000000000) (half up.before (total_asked s.calls) _ _ stakes) (far up.before room);
+      amounts = little s.calls (up.before * (2 * GREATEST_AMOUNT)) (half up.before (total_asked s.calls) _ _ stakes) (far up.before room);
       notices = left s.outbox.made (length (filter is_asked s.calls)) _ up.before notices room;
       calls = fewer (length s.calls) up.before calls room;
     }
   where
-    half : (n asked held used : ℕ) → used + (held + 2 * asked) ≤ n * (4 * 1000000000) → asked ≤ n * 2000000000
+    half : (n asked held used : ℕ) → used + (held + 2 * asked) ≤ n * (4 * GREATEST_AMOUNT) → asked ≤ n * (2 * GREATEST_AMOUNT)
     half n asked held used h = omega arith
 
-    far : (n : ℕ) → n < MOST_RECORDS → n * 2000000000 < 2 ^ 62
+    far : (n : ℕ) → n < MOST_RECORDS → n * (2 * GREATEST_AMOUNT) < 2 ^ 62
     far n h = omega arith
 
     left : (made asked live n : ℕ) → made + 2 * asked + live ≤ 4 * n → n < MOST_RECORDS → made + asked + 2 < 2 ^ 32
@@ -151,7 +155,7 @@ own_names i s up = record { tokens = up.taken.well.txns.tokens; numbers = up.tak
 
 -- a core without a record
 pub sound_at_first : IsSound no_core
-sound_at_first = record { within = sound_begins; well = nothing_well; forms = nothing_form; few = none_yet }
+sound_at_first = record { within = sound_begins; well = nothing_well; forms = nothing_form; few = none_yet; counted = nothing_counted }
 
 -- a record that is next brings a new event
 pub next_is_new : (s : CoreState) (r : Record) → judge core_keeper s r.input r.at ≡ judged.New r → IsNewEvent s r.input
@@ -170,10 +174,13 @@ next_is_unknown s r token next named = absent (find (λ (a : Accepted). is_event
 pub sound_after : (s settled after : CoreState) (r : Record) → IsSound s → IsNewEvent s r.input → is_in_form r.input ≡ true → is_stamp r.at ≡ true → IsTakenUp r.input settled
     → after ≡ fold after_entry settled (entries_of r.input r.at (core_facts settled)) → after ≡ (step core_keeper s r).world → settled.count ≡ s.count + 1 → IsSound after
 sound_after s settled after r sound new form stamp up made is count =
-    let counted : after.count ≡ s.count + 1 = ap (λ (x : CoreState). x.count) made ∙ entries_count settled (entries_of r.input r.at (core_facts settled)) ∙ count in
+    let one_more : after.count ≡ s.count + 1 = ap (λ (x : CoreState). x.count) made ∙ entries_count settled (entries_of r.input r.at (core_facts settled)) ∙ count in
     record {
-      within = subst (λ (n : ℕ). IsSoundAt n after) (sym counted) (subst (IsSoundAt (s.count + 1)) (sym is) (step_sound s.count s r sound.within form new));
+      within = subst (λ (n : ℕ). IsSoundAt n after) (sym one_more) (subst (IsSoundAt (s.count + 1)) (sym is) (step_sound s.count s r sound.within form new));
       well = subst IsWell (sym is) (step_well s r new sound.well);
       forms = subst IsInForm (sym made) (entries_form settled (entries_of r.input r.at (core_facts settled)) (own_formed settled r.input r.at up.forms form stamp) up.forms);
-      few = subst (λ (n : ℕ). HasFewNumbers n after) (sym counted) (subst (HasFewNumbers (s.count + 1)) (sym is) (few_step s.count s r sound.well new sound.few));
+      few = subst (λ (n : ℕ). HasFewNumbers n after) (sym one_more) (subst (HasFewNumbers (s.count + 1)) (sym is) (few_step s.count s r sound.well new sound.few));
+      counted =
+          subst CountsTxns (sym made)
+          (counted_all settled (entries_of r.input r.at (core_facts settled)) (own_enterable up.before settled r.input r.at up.room form up.ready) up.counted);
     }

@@ -1,23 +1,18 @@
 -- Card events by what is found of them: the card of a purchase, the transaction of what follows it.
-use Rattle.std.specs.Prelude.{◌≡◌, ℕ, ◌-◌, min, ◌==◌, ◌^◌, ◌<◌, Bool, not, ◌&&◌, ◌||◌, List, [], ◌∷◌, Option, Some, None, is_none, if◌then◌else◌}
+use Rattle.std.specs.Prelude.{◌≡◌, ℕ, ◌==◌, ◌^◌, ◌<◌, Bool, not, ◌&&◌, ◌||◌, List, [], ◌∷◌, Option, Some, is_none}
 use Rattle.std.specs.Option.{option_map, option_and_then}
 use Rattle.iss_model.specs.declared.currency.Currency.{Currency}
 use Rattle.iss_model.specs.declared.setting.Card.{Card}
 use Rattle.iss_model.specs.declared.setting.Product.{Product}
-use Rattle.iss_model.specs.declared.call.Method.TheVariants as method
-use Rattle.iss_model.specs.declared.txn.Txn.{Txn}
-use Rattle.iss_model.specs.declared.decision.Verdict.TheVariants as verdict
 use Rattle.iss_model.specs.declared.decision.Reason.{Reason}
 use Rattle.iss_model.specs.declared.decision.Reason.TheVariants as reason
-use Rattle.iss_model.specs.declared.entry.Entry.{Entry}
-use Rattle.iss_model.specs.declared.entry.Entry.TheVariants as entry
 use Rattle.iss_model.specs.rules.Settings.{product_named, is_active_user, is_active_card}
 use Rattle.iss_model.specs.rules.Activity.{TxnNow}
-use Rattle.iss_model.specs.rules.Facts.{Facts, next_notice}
+use Rattle.iss_model.specs.rules.Facts.{Facts}
 use Rattle.iss_model.specs.rules.Asks.{Ask, txn_begun, breach}
 use Rattle.iss_model.specs.rules.Reasons.{first_reason, is_some_with, user_is}
 use Rattle.iss_model.specs.rules.CardReasons.{is_in_currency, lacks_funds, control_breach, first_ask, further_ask, increment_reason, reversal_reason, clearing_reason, refund_reason}
-use Rattle.iss_model.specs.rules.Pieces.{Parts, parts_held, in_all}
+use Rattle.iss_model.specs.rules.Pieces.{parts_held, in_all}
 use Rattle.iss_model.specs.rules.Acts.{Act}
 use Rattle.iss_model.specs.rules.CardActs.{after_clearing_acts, authorization_acts, cleared_acts, clearing_acts, increment_acts, refund_acts, reversal_acts, reversed_acts}
 use Rattle.iss_model.specs.rules.Stepping.{acts_unless}

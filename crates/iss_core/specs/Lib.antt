@@ -11,3 +11,4 @@ pub mod Order
 pub mod Entering
 pub mod Sound
 pub mod Sweeps
+pub mod Showing

@@ -23,6 +23,7 @@ mod pieces;
 mod purchases;
 mod reasons;
 mod settings;
+mod showing;
 mod state;
 mod stepping;
 mod views;

@@ -76,7 +76,7 @@ keys_put key sum (e ∷ es) = by (order key (e.0)) (keys_put key sum es)
     by Equal rest = refl
     by Greater rest = ap (λ (ks : List (List ℕ)). e.0 ∷ ks) rest
 
-keys_after : (m : Kept) (cs : List Change) → finite.keys (after_changes m cs) ≡ fold (λ (ks : List (List ℕ)) (c : Change). keys_with ks c.key) (finite.keys m) cs
+pub keys_after : (m : Kept) (cs : List Change) → finite.keys (after_changes m cs) ≡ fold (λ (ks : List (List ℕ)) (c : Change). keys_with ks c.key) (finite.keys m) cs
 keys_after m [] = refl
 keys_after m (c ∷ cs) =
     keys_after (after_change m c) cs
@@ -92,7 +92,7 @@ keys_from changes m (row ∷ rows) =
     ∙ ap (λ (ks : List (List ℕ)). fold (λ (ks : List (List ℕ)) (row : Row). fold (λ (ks : List (List ℕ)) (c : Change). keys_with ks c.key) ks (changes row.entry)) ks rows)
     (keys_after m (changes row.entry))
 
-no_keys : finite.keys nothing_kept ≡ []
+pub no_keys : finite.keys nothing_kept ≡ []
 no_keys = ap (λ (es : List (List ℕ × ℤ)). map (λ (e : List ℕ × ℤ). e.0) es) (nil_from_length (finite.entries nothing_kept) (sym (finite.len-entries nothing_kept) ∙ finite.len-empty order ℤ))
 
 keys_left : (changes : Entry → List Change) (rows : List Row) → finite.keys (kept_of changes rows) ≡ keys_changed changes rows

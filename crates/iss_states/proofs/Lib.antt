@@ -22,3 +22,4 @@ pub mod KeptKeys
 pub mod StateOfBook
 pub mod AlikeShown
 pub mod Rebuilt
+pub mod CountedTxns

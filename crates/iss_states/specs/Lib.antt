@@ -7,3 +7,4 @@ pub mod Order
 pub mod Fairness
 pub mod Parts
 pub mod OverBook
+pub mod Counted

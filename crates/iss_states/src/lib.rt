@@ -6,6 +6,7 @@
 
 mod books;
 mod calls;
+mod counted;
 mod fairness;
 mod order;
 mod settings;
@@ -13,6 +14,7 @@ mod showing;
 
 pub use books::states_are_of_their_books;
 pub use calls::{calls_are_made_again, transactions_are_made_again};
+pub use counted::counters_are_of_transactions;
 pub use fairness::sums_stay_fair;
 pub use order::states_stay_in_order;
 pub use settings::settings_are_made_again;

@@ -1,0 +1,5 @@
+use Rattle.iss_core.proofs.ShownParts.{sums_told}
+use Rattle.iss_core.proofs.state.State.sums_shown.Goals as goal
+
+pub returns : goal.returns
+returns c = sums_told (λ v. v.items) c.args.self.now.sets.stood c.sums.result c.sums.ensures.sums c.sums.ensures.named

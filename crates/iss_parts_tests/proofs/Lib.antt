@@ -1,0 +1,3 @@
+pub mod First
+pub mod Small
+pub mod Uncounted

@@ -1,0 +1,17 @@
+pub mod Counts
+pub mod DecidedAgain
+pub mod Tokens
+pub mod TokenActs
+pub mod TokenBooks
+pub mod BalancesAgain
+pub mod KeptAgain
+pub mod StoodAgain
+pub mod SpansAgain
+pub mod ControlsAgain
+pub mod Made
+pub mod MadeShown
+pub mod MadeEntries
+pub mod MadeSteps
+pub mod AlikeAgain
+pub mod HeldKept
+pub mod HeldAgain
