@@ -13,8 +13,8 @@ use iss_model::{Entry, Input, Judged, Record};
 use std::alloc::{AllocError, Global};
 use std::marker::Model;
 
-/// How many entries a record usually makes at most.
-const USUAL_ENTRIES: usize = 8;
+/// How many entries a purchase makes that the user's own balance pays.
+const PURCHASE_ENTRIES: usize = 4;
 
 /// The decision engine of one instance. Contracts see its instance, and the state that the model keeps in place of the
 /// book. A core *stands for* records if its state is like the one that they make. Each call then also answers as the book
@@ -87,7 +87,7 @@ impl Core {
         ensures on_book { (rs : List Record) → CoreStandsFor self rs
             → IfOk result (λ x. StepsOnBook x.0 rs accepted.now x.1.items) }
     {
-        let mut entries = Vec::with_capacity(alloc, USUAL_ENTRIES)?;
+        let mut entries = Vec::with_capacity(alloc, PURCHASE_ENTRIES)?;
         self.state.take_up(accepted)?;
         self.state.settle_due(alloc, &mut entries, accepted)?;
         self.state.make(alloc, &mut entries, accepted)?;

@@ -1,5 +1,5 @@
 -- What fields ask of a value of JSON and of the data that it stands for is the same.
-use Rattle.std.proofs.Common.{◌≡◌, ℕ, List, length, Bool, true, false, cond, is_some, bytes_eq, Option, Some, None, option_map, option_and_then, refl, sym, ap, ◌∙◌}
+use Rattle.std.proofs.Common.{◌≡◌, ℕ, List, Bool, true, false, cond, is_some, bytes_eq, Option, Some, None, option_map, option_and_then, refl, sym, ap, ◌∙◌}
 use Rattle.std.proofs.lemmas.Slice.Eq.{bytes_eq-Decides}
 use Rattle.json.specs.Json as json
 use Rattle.json.specs.Json.{Json}
@@ -104,14 +104,6 @@ whole_seen (json.array js) = whole_array (of_items js)
 whole_seen (json.object ms) = whole_object (of_members ms no_members)
 
 -- ---- members
-
-unless_same : (b : Bool) → (b ≡ true → ⊥) → b ≡ false
-unless_same true other = absurd (other refl)
-unless_same false other = refl
-
--- names of two lengths differ
-pub other_length : (k name : List ℕ) → (length k ≡ length name → ⊥) → bytes_eq k name ≡ false
-other_length k name differ = unless_same (bytes_eq k name) (λ same. differ (ap length ((bytes_eq-Decides k name).0 same)))
 
 abbrev or : Option Data → Option Data → Option Data
 or None earlier = earlier

@@ -1,5 +1,6 @@
 //! What is found in a line, as far as fields ask.
 ghost use Rattle.std.specs.Prelude.{◌≡◌, true, is_some, option_map, option_and_then};
+ghost use Rattle.std.specs.Str.{bytes_eq};
 ghost use Rattle.json.specs.Find.{get as get_named, get_member};
 ghost use Rattle.json.specs.Value.{value_view, members_view};
 ghost use Rattle.serde_json.specs.Find.{get, as_null, as_str, as_bool, as_number, as_u64};
@@ -25,16 +26,32 @@ fn last_member<'v, 'a>(line: &'v Value<'a>, name: &str) -> Option<&'v Value<'a>>
     }
 }
 
-/// The last member of that name. Most names differ in length already, which is quicker to see.
+/// The last member of that name.
 fn last_named<'v, 'a>(members: &'v [(&'a str, Value<'a>)], name: &str) -> Option<&'v Value<'a>>
     ensures { option_map (λ found. value_view found.now) result ≡ get_member name.now (members_view members.now) }
 {
     for (spelled, value) in members.iter().rev() {
-        if spelled.len() == name.len() && *spelled == name {
+        if is_named(spelled.as_bytes(), name.as_bytes()) {
             return Some(value);
         }
     }
     None
+}
+
+/// Whether a member is spelled as that name. A name is short, and known where it is looked up, so it costs least to compare
+/// its bytes one by one.
+fn is_named(spelled: &[u8], name: &[u8]) -> bool
+    ensures { result ≡ bytes_eq spelled.now name.now }
+{
+    if spelled.len() != name.len() {
+        return false;
+    }
+    for i in 0..name.len() {
+        if spelled[i] != name[i] {
+            return false;
+        }
+    }
+    true
 }
 
 /// Whether the value is `null`.

@@ -26,7 +26,8 @@ pub(crate) fn put_amount(
     put_name(out, before, name)?;
     out.push(b'"')?;
     put_amount_text(out, amount, currency)?;
-    out.extend_from_slice(b"\"")
+    out.push(b'"')?;
+    Ok(())
 }
 
 pub(crate) fn put_token(out: &mut Vec<u8>, name: &str, token: &Token) -> Result<(), AllocError>
@@ -119,7 +120,8 @@ pub fn put_name(out: &mut Vec<u8>, before: u8, name: &str) -> Result<(), AllocEr
 {
     out.push(before)?;
     put_quoted(out, name.as_bytes())?;
-    out.extend_from_slice(b":")
+    out.push(b':')?;
+    Ok(())
 }
 
 /// Adds a text in quotes, which has no byte that needs an escape.
@@ -128,7 +130,8 @@ pub fn put_quoted(out: &mut Vec<u8>, text: &[u8]) -> Result<(), AllocError>
 {
     out.push(b'"')?;
     out.extend_from_slice(text)?;
-    out.extend_from_slice(b"\"")
+    out.push(b'"')?;
+    Ok(())
 }
 
 /// The last four digits of a merchant category code.
